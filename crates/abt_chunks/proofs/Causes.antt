@@ -1,9 +1,7 @@
 -- Whose fault a part and an answer are, and how much is read at a turn.
-use Rattle.std.proofs.Common.{Result, Ok, Err, OnOk}
+use Rattle.std.proofs.Common.{Result}
 use Rattle.std.proofs.Common.{◌≡◌, ℕ, ◌<◌, ◌≤◌, ◌+◌, ◌-◌, ◌∙◌, Bool, true, false, refl, arith, ap, eq-eqb, ne_eqb}
 use Rattle.std.proofs.Common.{lt-ltb, le-ltb, ◌==◌, nat_lt, inl, inr, eqb-true, if◌then◌else◌, ◌&&◌}
-use Rattle.std.specs.Prelude.{IfErr}
-use Rattle.abt_io.specs.Count.{full_in}
 use Rattle.abt_sparse.specs.Cause.{full_in_fault, full_answered}
 use Rattle.abt_sparse.specs.declared.fault.SparseFault.{SparseFault}
 use Rattle.abt_sparse.specs.declared.fault.SparseFault.TheVariants as faults
@@ -17,22 +15,14 @@ use Rattle.abt_chunks.specs.declared.walk.Part.{Part}
 use Rattle.abt_chunks.specs.declared.walk.Part.TheVariants as parts
 use Rattle.abt_chunks.specs.declared.walk.Turn.{Turn}
 use Rattle.abt_chunks.specs.declared.walk.Turn.TheVariants as turns
-use Rattle.abt_chunks.specs.Cause.{Clean, CleanPart, full_in_part, full_since, UnlessCut}
+use Rattle.abt_chunks.specs.Cause.{full_in_part, full_since, UnlessCut}
 use Rattle.abt_chunks.specs.Cause.{wanted, wanted_in, head_wanted, data_wanted}
-use Rattle.abt_chunks.specs.Expanding.{IsGoing, IsQuiet, ExpandingRises, answer_of}
+use Rattle.abt_chunks.specs.Expanding.{IsGoing, answer_of}
 use Rattle.abt_chunks.specs.Turns.{AtTurn, ask_of, IsWalkOver, SpentBy}
-use Rattle.abt_chunks.specs.Parts.{Caused, PartLeaves}
-use Rattle.abt_chunks.specs.ListingAhead.{Closes, at_end, is_between, is_spent}
+use Rattle.abt_chunks.specs.Parts.{Caused}
+use Rattle.abt_chunks.specs.ListingAhead.{at_end, is_between, is_spent}
 use Rattle.abt_chunks.specs.Ahead.{due_of}
 use Rattle.std.proofs.lemmas.Bool.{cases_Bool}
-
-clean_fault : (f : SparseFault) (r r' : ℕ) → r' ≡ r → CleanPart (parts.Fault f) r r'
-clean_fault (faults.Read d) r r' e = tt
-clean_fault f r r' e = e
-
-pub clean_part : (q : Part) (r r' : ℕ) → r' ≡ r → CleanPart q r r'
-clean_part (parts.Fault f) r r' e = clean_fault f r r' e
-clean_part q r r' e = e
 
 own_fault : (f : SparseFault) → Caused (parts.Fault f) phases.Header 1 0 → full_in_fault f ≡ 0
 own_fault (faults.Read d) h = absurd (omega (arith, h))
@@ -55,16 +45,6 @@ pub own_part : (q : Part) (p : Phase) → IsGoing p → Caused q p 1 0 → full_
 own_part (parts.Fault f) p going h = own_here f p going h
 own_part q p going h = refl
 
--- what a step answers to a clean part
-answer_fault : (f : SparseFault) (r r' w w' : ℕ) → CleanPart (parts.Fault f) r r' → w' ≡ w → Clean (answer_of (parts.Fault f)) r r' w w'
-answer_fault (faults.Read d) r r' w w' h e = e
-answer_fault (faults.Write d) r r' w w' h e = h
-answer_fault f r r' w w' h e = (h, e)
-
-pub answer_clean : (q : Part) (r r' w w' : ℕ) → CleanPart q r r' → w' ≡ w → Clean (answer_of q) r r' w w'
-answer_clean (parts.Fault f) r r' w w' h e = answer_fault f r r' w w' h e
-answer_clean q r r' w w' h e = (h, e)
-
 pub answer_full : (q : Part) → full_answered (answer_of q) ≡ full_in_part q
 answer_full (parts.Fault f) = refl
 answer_full q = refl
@@ -76,53 +56,11 @@ none_since phases.Body q none = answer_full q ∙ none tt
 none_since phases.Done q none = refl
 none_since (phases.Failed f) q none = refl
 
-pub written_since : (X : Type 0) (p : Phase) (d : DeviceFault) → (IsWalkOver p → ⊥)
-    → full_since {X = X} p (Err (faults.Write d)) ≡ full_in d
-written_since X phases.Header d going = refl
-written_since X phases.Body d going = refl
-written_since X phases.Done d going = absurd (going tt)
-written_since X (phases.Failed f) d going = absurd (going tt)
-
 pub since_going : {X : Type 0} (p : Phase) (r : Result X SparseFault) → IsGoing p → full_since p r ≡ full_answered r
 since_going phases.Header r going = refl
 since_going phases.Body r going = refl
 since_going phases.Done r going = absurd going
 since_going (phases.Failed f) r going = absurd going
-
-pub any_ok : {X E P : Type 0} (r : Result X E) → P → OnOk r P
-any_ok (Ok x) h = h
-any_ok (Err e) h = tt
-
--- the device that a step's answer blames has failed
-rises_header : (f : SparseFault) (r r' w w' : ℕ) → Caused (parts.Fault f) phases.Header r r' → ExpandingRises (answer_of (parts.Fault f)) r r' w w'
-rises_header (faults.Read d) r r' w w' h = h
-rises_header (faults.Write d) r r' w w' h = absurd h
-rises_header f r r' w w' h = tt
-
-rises_body : (f : SparseFault) (r r' w w' : ℕ) → Caused (parts.Fault f) phases.Body r r' → ExpandingRises (answer_of (parts.Fault f)) r r' w w'
-rises_body (faults.Read d) r r' w w' h = h
-rises_body (faults.Write d) r r' w w' h = absurd h
-rises_body f r r' w w' h = tt
-
-rises_here : (f : SparseFault) (p : Phase) (r r' w w' : ℕ) → IsGoing p → Caused (parts.Fault f) p r r' → ExpandingRises (answer_of (parts.Fault f)) r r' w w'
-rises_here f phases.Header r r' w w' going h = rises_header f r r' w w' h
-rises_here f phases.Body r r' w w' going h = rises_body f r r' w w' h
-rises_here f phases.Done r r' w w' going h = absurd going
-rises_here f (phases.Failed g) r r' w w' going h = absurd going
-
-pub answer_rises : (q : Part) (p : Phase) (r r' w w' : ℕ) → IsGoing p → Caused q p r r' → ExpandingRises (answer_of q) r r' w w'
-answer_rises (parts.Fault f) p r r' w w' going h = rises_here f p r r' w w' going h
-answer_rises q p r r' w w' going h = tt
-
--- a walk that is over gives nothing to write
-over_quiet : (q : Part) (p : Phase) → PartLeaves q p → IsWalkOver p → IsQuiet q
-over_quiet (parts.Raw n) p e over = rw e at over
-over_quiet (parts.Words word n) p e over = rw e at over
-over_quiet (parts.Skip n) p e over = rw e at over
-over_quiet q p e over = tt
-
-pub quiet_over : (q : Part) (s s1 : Walk) → PartLeaves q s1.phase → s1 ≡ s → IsWalkOver s.phase → IsQuiet q
-quiet_over q s s1 e same over = over_quiet q s.phase (rw same at e) over
 
 -- a fault of the image blames no device, whatever it did
 caused_header : (f : SparseFault) (r r' : ℕ) → Caused (parts.Fault f) phases.Header 1 0 → Caused (parts.Fault f) phases.Header r r'
@@ -168,11 +106,6 @@ asks_none turns.Chunk s h over = absurd (rw h.0 at over)
 asks_none turns.End s h over = refl
 asks_none turns.Over s h over = refl
 
--- where the output fails, the input has not
-pub written_clean : (q : Part) (r r' w w' : ℕ) → CleanPart q r r' → (IsQuiet q → w' ≡ w) → w < w' → r' ≡ r
-written_clean (parts.Fault f) r r' w w' h quiet more = absurd (omega (arith, quiet tt))
-written_clean q r r' w w' h quiet more = h
-
 -- ---- refusals within a chunk
 
 pub cut_of : (f : SparseFault) (P : Type 0) → P → UnlessCut f P
@@ -186,12 +119,6 @@ cut_map (faults.Truncated at) P Q g h = tt
 cut_map (faults.Read d) P Q g h = tt
 cut_map (faults.Write d) P Q g h = tt
 cut_map f P Q g h = g h
-
-pub read_closes : (d : DeviceFault) (p : Phase) (s : Walk) → Closes (parts.Fault (faults.Read d)) p s
-read_closes d phases.Header s = tt
-read_closes d phases.Body s = tt
-read_closes d phases.Done s = tt
-read_closes d (phases.Failed f) s = tt
 
 -- ---- how much is read
 
@@ -267,11 +194,6 @@ wanted_between s p e =
     let x : s.extra ≡ 0 = eqb-true _ _ (both_left (s.extra == 0) (is_spent s.kind s.due s.raw s.words) e) in
     let q : wanted s ≡ head_wanted s = body_wanted s p x ∙ data_spent s.kind s.due s.raw s.words (head_wanted s) (spent_by s.kind s.due s.raw s.words (both_right (s.extra == 0) (is_spent s.kind s.due s.raw s.words) e)) in
     omega (arith, q, at_most_head s)
-
--- a part that refuses the image, as a step answers it
-pub refuse_part : (q : Part) (p : Phase) (s : Walk) → Closes q p s → IfErr (answer_of q) (λ f. p ≡ phases.Body → UnlessCut f (at_end s ≡ true))
-refuse_part (parts.Fault f) p s h = λ e. rw e at h
-refuse_part q p s h = tt
 
 -- a listing that is refused between two chunks, for what the next one says
 pub bounded_next : (f : SparseFault) (p : Phase) (s : Walk) (a b : ℕ) → s.phase ≡ p → is_between p s ≡ true → (s.phase ≡ phases.Body → UnlessCut f (at_end s ≡ true)) → (IsWalkOver p → b ≡ a) → b - a ≤ wanted s

@@ -8,4 +8,3 @@ pub mod Finishing
 pub mod Showing
 pub mod Repeated
 pub mod Needed
-pub mod PullMoved

@@ -1,10 +1,14 @@
 -- What calls cost, in the bytes that were moved.
-use Rattle.std.specs.Prelude.{◌≡◌, ℕ, ◌+◌, ◌-◌, ◌*◌, ◌<◌, ◌≤◌, Result, OnOk, length, max}
+use Rattle.std.specs.Prelude.{◌≡◌, ℕ, ◌+◌, ◌-◌, ◌*◌, ◌<◌, ◌≤◌, Result, OnOk, List, length, max, replicate}
+use Rattle.std.specs.List.{concat}
 use Rattle.abt_sparse.specs.declared.fault.SparseFault.{SparseFault}
+use Rattle.abt_io.specs.Count.{full_of}
+use Rattle.abt_io.specs.Lent.{OnlyWrites}
+use Rattle.abt_io.specs.declared.device.DeviceFault.{DeviceFault}
 use Rattle.abt_io.specs.declared.device.Output as outputs
 use Rattle.abt_io.specs.declared.meter.Meter.{Meter}
 use Rattle.abt_chunks.specs.declared.progress.Progress.{Progress}
-use Rattle.abt_chunks.specs.Expanding.{OnMoreExpanding}
+use Rattle.abt_chunks.specs.Expanding.{OnMoreExpanding, WritesOn}
 use Rattle.abt_chunks.specs.Taking.{InputState}
 
 -- only turns of loops are counted, and at most n of them
@@ -27,6 +31,14 @@ pub record WritingCosts {X E : Type 0} (r : Result X E) (more : ℕ) {B : Type 0
   pub few : OnOk r (m'.turns.number + 2 * length (o.written old) ≤ m.turns.number + 2 * length (o.written new) + more)
   pub steps : m'.steps.number ≡ m.steps.number
   pub greatest : m'.greatest.number ≡ m.greatest.number
+
+-- A word is written so many times, or a front of that and the write has failed.
+pub record LaysWords {X : Type 0} (r : Result X DeviceFault) (word : List ℕ) (n : ℕ) {B : Type 0} (o : outputs.Ghosts B)
+    (old new : B) (m m' : Meter) : Type 0 where
+  pub front : WritesOn r (concat (replicate n word)) o old new
+  pub all : OnOk r (length (o.written new) ≡ length (o.written old) + 4 * n)
+  pub writes : OnlyWrites r (full_of r) o old new
+  pub costs : WritingCosts r 0 o old new m m'
 
 -- a step of an expander that received so many bytes, by the bytes that it wrote
 pub record ExpandCosts (r : Result Progress SparseFault) (received : ℕ) {B : Type 0} (o : outputs.Ghosts B)

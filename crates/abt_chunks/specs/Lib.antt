@@ -12,3 +12,4 @@ pub mod Whole
 pub mod Showing
 pub mod Feeding
 pub mod Pulling
+pub mod Stepping

@@ -5,11 +5,12 @@ use Rattle.abt_chunks.specs.declared.feed.Pull.TheVariants as pulls
 use Rattle.abt_chunks.specs.declared.feed.Puller.{Puller}
 use Rattle.abt_chunks.specs.declared.walk.Part.TheVariants as parts
 use Rattle.abt_chunks.specs.declared.feed.Pulled.{Pulled}
+use Rattle.abt_chunks.specs.declared.walk.Turn.{Turn}
 use Rattle.abt_chunks.specs.declared.walk.Walk.{Walk}
 use Rattle.abt_chunks.specs.ListingAhead.{at_end}
 use Rattle.abt_chunks.specs.Parts.{Says, PartLeaves, given_by, goes_on}
 use Rattle.abt_chunks.specs.Places.{place_of, upto_of}
-use Rattle.abt_chunks.specs.Turns.{todo}
+use Rattle.abt_chunks.specs.Turns.{AtTurn, IsWalkOver, todo}
 
 -- the bytes that it holds
 abbrev pub pulled_front : Puller → List ℕ
@@ -60,6 +61,12 @@ abbrev pub PullFalls : Pull → Walk → Walk → Type 0
 PullFalls (pulls.Gives q) s s' = goes_on q ≡ true → todo s' < todo s
 PullFalls q s s' = Unit {0}
 
+-- where the image has ended or was refused, a pull uses nothing, changes nothing, and asks for nothing more
+pub record IsAgain (r : Pulled) (p p' : Puller) : Type 0 where
+  pub same : p' ≡ p
+  pub unused : r.used ≡ 0
+  pub given : r.pull ≡ pulls.Need → ⊥
+
 -- what a pull that is given these bytes answers, and what it leaves
 pub record Pulls (r : Pulled) (p p' : Puller) (bytes : List ℕ) : Type 0 where
   pub used : r.used ≤ length bytes
@@ -71,9 +78,9 @@ pub record Pulls (r : Pulled) (p p' : Puller) (bytes : List ℕ) : Type 0 where
   pub inside : place_of p.walk + pulled_by r.pull ≤ upto_of p.walk
   pub moves : PullMoves r.pull p.walk p'.walk r.used (length bytes)
   pub falls : PullFalls r.pull p.walk p'.walk
+  pub again : IsWalkOver p.walk.phase → IsAgain r p p'
 
--- where the image has ended or was refused, a pull uses nothing, changes nothing, and asks for nothing more
-pub record IsAgain (r : Pulled) (p p' : Puller) : Type 0 where
-  pub same : p' ≡ p
-  pub unused : r.used ≡ 0
-  pub given : r.pull ≡ pulls.Need → ⊥
+-- a walk is at this turn, and nothing is held
+pub record ReadyAt (turn : Turn) (p : Puller) : Type 0 where
+  pub here : AtTurn turn p.walk
+  pub none : p.count ≡ 0

@@ -49,6 +49,18 @@ pub record TurnTells (q : Part) (s s' : Walk) (c : List ℕ) (n : ℕ) : Type 0 
   pub lists : (t : List ℕ) → (length c < n → t ≡ []) → ShowsPart q s s' c t
   pub short : length c < n → is_fault q ≡ true
 
+-- A turn that takes a header or a word, n bytes of it, or refuses it.
+pub record TakesHead (q : Part) (s s' : Walk) (c : List ℕ) (n : ℕ) : Type 0 where
+  pub read : ReadsHead q
+  pub told : TurnTells q s s' c n
+  pub turn : OwnTurn q s s' (length c)
+
+-- A turn that gives words of a fill or of a gap, for which nothing is read.
+pub record GivesWords (q : Part) (s s' : Walk) : Type 0 where
+  pub told : TurnTells q s s' [] 0
+  pub turn : TurnTaken q s s' 0
+  pub cause : Caused q phases.Body 1 0
+
 -- The same of a step: whatever bytes follow, and at a fault what is really left.
 pub record StepTells (q : Part) (s s' : Walk) (c left : List ℕ) : Type 0 where
   pub says : (t : List ℕ) → (is_fault q ≡ true → t ≡ left) → SaysUnlessDevice q s s' c t

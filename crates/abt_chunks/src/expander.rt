@@ -6,12 +6,13 @@ ghost use Rattle.abt_sparse.specs.Block.{laid};
 ghost use Rattle.abt_sparse.specs.Cause.{full_answered};
 ghost use Rattle.abt_chunks.specs.Ahead.{finish};
 ghost use Rattle.abt_chunks.specs.Cause.{Blamed, full_since};
-ghost use Rattle.abt_chunks.specs.Costs.{ExpandCosts, StepsWithin};
+ghost use Rattle.abt_chunks.specs.Costs.{ExpandCosts};
 ghost use Rattle.abt_chunks.specs.Expanding.{IsFrontOf, IsGoing, OnMoreExpanding, ExpandingLeaves, UnlessExpanding};
 ghost use Rattle.abt_chunks.specs.Expanding.{answer_of};
 ghost use Rattle.abt_chunks.specs.Parts.{ahead};
 ghost use Rattle.abt_chunks.specs.Places.{owed};
-ghost use Rattle.abt_chunks.specs.Taking.{ReadStep, ReadsOn, input_state};
+ghost use Rattle.abt_chunks.specs.Stepping.{WalksOn};
+ghost use Rattle.abt_chunks.specs.Taking.{ReadStep, input_state};
 ghost use Rattle.abt_chunks.specs.Turns.{IsWalkOver, todo};
 ghost use Rattle.abt_chunks.specs.Whole.{AllNeeded, Begun, Expands};
 ghost use Rattle.abt_chunks.specs.declared.progress.Progress.TheVariants.{More};
@@ -112,7 +113,7 @@ pub fn expand<I: Input, O: Output>(
     w: &mut Window,
     m: &mut Meter,
 ) -> Result<Expanded, SparseFault>
-    ensures input { ReadsOn I.tells (input_state I.Input input.old) (input_state I.Input input.new) }
+    ensures walks { WalksOn I.Input 65580 input.old input.new m.old m.new }
     // An image is expanded, and anything else is refused with its own fault, behind what came before it.
     ensures expands { IsTrue I.tells → Expands result (O.written output.old) (O.written output.new)
         (I.remaining input.old) (I.remaining input.new) }
@@ -130,7 +131,6 @@ pub fn expand<I: Input, O: Output>(
     ensures turns { m.new.turns.number ≤ m.old.turns.number + 8 *
         ((I.given input.new - I.given input.old) + (length (O.written output.new) - length (O.written output.old))) +
         512 }
-    ensures steps { StepsWithin 65580 (I.given input.old) (I.given input.new) m.old m.new }
 {
     let mut machine = Expander::open();
     'steps: loop {

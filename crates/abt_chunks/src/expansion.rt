@@ -1,10 +1,9 @@
 //! What an expander writes of each part of an image.
 
-ghost use Rattle.std.specs.Prelude.{◌≡◌, ◌<◌, ◌+◌, ◌*◌, ◌^◌, OnOk, length, replicate};
-ghost use Rattle.std.specs.List.{concat};
+ghost use Rattle.std.specs.Prelude.{◌≡◌, ◌<◌, ◌*◌, ◌^◌, OnOk, length};
 ghost use Rattle.abt_io.specs.Count.{full_of};
 ghost use Rattle.abt_io.specs.Lent.{OnlyWrites};
-ghost use Rattle.abt_chunks.specs.Costs.{WritingCosts};
+ghost use Rattle.abt_chunks.specs.Costs.{LaysWords, WritingCosts};
 ghost use Rattle.abt_chunks.specs.Expanding.{IsQuiet, IsWords, IsWritable, WritesOn, laid_by};
 ghost use Rattle.abt_chunks.specs.Parts.{given_by};
 
@@ -46,10 +45,7 @@ fn write_fill<O: Output>(
 ) -> Result<(), DeviceFault>
     requires some { 0 < n }
     requires fits { 4 * n < 2 ^ 64 }
-    ensures front { WritesOn result (concat (replicate n word)) O.Output output.old output.new }
-    ensures all { OnOk result (length (O.written output.new) ≡ length (O.written output.old) + 4 * n) }
-    ensures writes { OnlyWrites result (full_of result) O.Output output.old output.new }
-    ensures costs { WritingCosts result 0 O.Output output.old output.new m.old m.new }
+    ensures lays { LaysWords result word n O.Output output.old output.new m.old m.new }
 {
     if word == [0; 4] {
         write_zeros(output, 4 * n, w, m)
@@ -67,10 +63,7 @@ fn write_words<O: Output>(
     m: &mut Meter,
 ) -> Result<(), DeviceFault>
     requires { 0 < n }
-    ensures front { WritesOn result (concat (replicate n word)) O.Output output.old output.new }
-    ensures all { OnOk result (length (O.written output.new) ≡ length (O.written output.old) + 4 * n) }
-    ensures writes { OnlyWrites result (full_of result) O.Output output.old output.new }
-    ensures costs { WritingCosts result 0 O.Output output.old output.new m.old m.new }
+    ensures lays { LaysWords result word n O.Output output.old output.new m.old m.new }
 {
     let most = n.min(WORDS as u64) as usize;
     lay_word(w, word, most, m);

@@ -1,16 +1,15 @@
 //! The chunks of a sparse image, one after the other.
 
-ghost use Rattle.std.specs.Prelude.{◌≡◌, ◌<◌, ◌≤◌, ◌+◌, ◌-◌, ◌*◌, ℕ, IsTrue, IfErr, IfOk, MatchResult, OnOk, List};
-ghost use Rattle.std.specs.Prelude.{true, false, take};
+ghost use Rattle.std.specs.Prelude.{◌≡◌, ◌<◌, ◌≤◌, ◌+◌, ◌-◌, ◌*◌, ℕ, IsTrue, IfErr, IfOk, MatchResult, OnOk};
+ghost use Rattle.std.specs.Prelude.{true, false};
 ghost use Rattle.abt_io.specs.Lent.{OneStep};
-ghost use Rattle.abt_chunks.specs.Cause.{InputBlamed, PartBlamed, UnlessCut};
-ghost use Rattle.abt_chunks.specs.Costs.{ListCosts, StepsWithin, TurnsOnly};
+ghost use Rattle.abt_chunks.specs.Cause.{InputBlamed, UnlessCut};
 ghost use Rattle.abt_chunks.specs.Expanding.{IsGoing, OnDone, OnMoreExpanding, ExpandingLeaves, UnlessExpandingDevice};
 ghost use Rattle.abt_chunks.specs.Listing.{headless, listing_of};
-ghost use Rattle.abt_chunks.specs.ListingAhead.{Lists, MayEnd, Numbers, at_end, info_at, is_between};
-ghost use Rattle.abt_chunks.specs.Parts.{is_fault};
+ghost use Rattle.abt_chunks.specs.ListingAhead.{MayEnd, Numbers, at_end, info_at, is_between};
 ghost use Rattle.abt_chunks.specs.Showing.{IsFew, ListsTo, Lists_next, Opens, Passes, SettlesWalk, Stands_next};
-ghost use Rattle.abt_chunks.specs.Taking.{ReadStep, ReadsOn, TurnTaken, WithinWords, input_state};
+ghost use Rattle.abt_chunks.specs.Stepping.{ListReads, ListTaken, WalksOn};
+ghost use Rattle.abt_chunks.specs.Taking.{ReadStep, WithinWords, input_state};
 ghost use Rattle.abt_chunks.specs.Turns.{AtTurn, IsWalkOver, todo};
 
 use crate::expander::answer;
@@ -32,15 +31,8 @@ pub struct Chunks {
 #[inline(always)]
 fn pass_raw<I: Input>(walk: &mut Walk, input: &mut I, w: &mut Window, m: &mut Meter) -> Taken
     requires { AtTurn Turn.Raw walk.old }
-    ensures input { ReadStep result.received 65536 walk.old I.tells (input_state I.Input input.old)
-        (input_state I.Input input.new) }
-    ensures lists { IsTrue I.tells → (t : List ℕ) → (is_fault result.part ≡ true → t ≡ I.remaining input.new) →
-        Lists result.part walk.old walk.new (take result.received (I.remaining input.old)) t }
-    ensures turn { TurnTaken result.part walk.old walk.new result.received }
+    ensures taken { ListTaken I.Input result walk.old walk.new input.old input.new m.old m.new }
     ensures words { (n : ℕ) → WithinWords result.part walk.old walk.new n n }
-    ensures blame { PartBlamed result.part walk.old (I.read_faults input.old) (I.read_faults input.new) }
-    ensures over { IsWalkOver walk.old.phase → (walk.new ≡ walk.old) × (input.new ≡ input.old) }
-    ensures meter { TurnsOnly (result.received + 1) m.old m.new }
 {
     let ask = walk.ask(Turn::Raw);
     w.is_whole();
@@ -66,15 +58,8 @@ fn next_part<I: Input>(
     m: &mut Meter,
 ) -> Taken
     requires { 0 < most }
-    ensures input { ReadStep result.received 65536 walk.old I.tells (input_state I.Input input.old)
-        (input_state I.Input input.new) }
-    ensures lists { IsTrue I.tells → (t : List ℕ) → (is_fault result.part ≡ true → t ≡ I.remaining input.new) →
-        Lists result.part walk.old walk.new (take result.received (I.remaining input.old)) t }
-    ensures turn { TurnTaken result.part walk.old walk.new result.received }
+    ensures taken { ListTaken I.Input result walk.old walk.new input.old input.new m.old m.new }
     ensures words { WithinWords result.part walk.old walk.new most most }
-    ensures blame { PartBlamed result.part walk.old (I.read_faults input.old) (I.read_faults input.new) }
-    ensures over { IsWalkOver walk.old.phase → (walk.new ≡ walk.old) × (input.new ≡ input.old) }
-    ensures meter { TurnsOnly (result.received + 1) m.old m.new }
 {
     match walk.turn() {
         Turn::Raw => pass_raw(walk, input, w, m),
@@ -121,7 +106,7 @@ fn pass<I: Input>(
     m: &mut Meter,
 ) -> Result<(), SparseFault>
     requires { walk.old.phase ≡ Phase.Body }
-    ensures input { ReadsOn I.tells (input_state I.Input input.old) (input_state I.Input input.new) }
+    ensures walks { WalksOn I.Input 65536 input.old input.new m.old m.new }
     ensures passes { IsTrue I.tells → Passes result walk.old walk.new (I.remaining input.old) (I.remaining input.new) }
     ensures settles { SettlesWalk result walk.new }
     ensures index { OnOk result (walk.new.index ≡ walk.old.index) }
@@ -130,7 +115,6 @@ fn pass<I: Input>(
     ensures blame { InputBlamed result (I.read_faults input.old) (I.read_faults input.new) }
     ensures reads { I.reads input.new ≤ I.reads input.old + 2 * (I.given input.new - I.given input.old) + 1 }
     ensures turns { m.new.turns.number ≤ m.old.turns.number + 3 * (I.given input.new - I.given input.old) + 2 }
-    ensures steps { StepsWithin 65536 (I.given input.old) (I.given input.new) m.old m.new }
 {
     'steps: while !walk.is_at_end() {
         m.tick();
@@ -168,7 +152,7 @@ impl Chunks {
         w: &mut Window,
         m: &mut Meter,
     ) -> Result<Chunks, SparseFault>
-        ensures input { ReadsOn I.tells (input_state I.Input input.old) (input_state I.Input input.new) }
+        ensures reads { ListReads I.Input input.old input.new m.old m.new }
         ensures opens { IsTrue I.tells → MatchResult result (λ chunks. Opens chunks.walk (I.remaining input.old)
             (I.remaining input.new)) (λ fault. UnlessExpandingDevice fault
             (listing_of (I.remaining input.old) ≡ headless fault)) }
@@ -176,8 +160,6 @@ impl Chunks {
         // A header that is refused for what it says is known once its 28 bytes have been read, and no more are.
         ensures bounded { IfErr result (λ f. UnlessCut f (I.given input.new ≤ I.given input.old + 28)) }
         ensures blame { InputBlamed result (I.read_faults input.old) (I.read_faults input.new) }
-        ensures costs { ListCosts (input_state I.Input input.old) (input_state I.Input input.new) m.old m.new }
-        ensures steps { StepsWithin 65536 (I.given input.old) (I.given input.new) m.old m.new }
     {
         let mut walk = Walk::new();
         m.tick();
@@ -208,7 +190,7 @@ impl Chunks {
         w: &mut Window,
         m: &mut Meter,
     ) -> Result<Option<ChunkInfo>, SparseFault>
-        ensures input { ReadsOn I.tells (input_state I.Input input.old) (input_state I.Input input.new) }
+        ensures reads { ListReads I.Input input.old input.new m.old m.new }
         ensures lists { IsTrue I.tells → Lists_next result self.old.walk self.new.walk (I.remaining input.old)
             (I.remaining input.new) }
         ensures stands { Stands_next result self.new.walk.phase }
@@ -218,10 +200,8 @@ impl Chunks {
         ensures blame { IsGoing self.old.walk.phase → InputBlamed result (I.read_faults input.old)
             (I.read_faults input.new) }
         ensures again { IsWalkOver self.old.walk.phase → (self.new.walk ≡ self.old.walk) × (input.new ≡ input.old) }
-        ensures costs { ListCosts (input_state I.Input input.old) (input_state I.Input input.new) m.old m.new }
         ensures few { IsFew result (I.given input.new - I.given input.old) (I.reads input.new - I.reads input.old)
             (m.new.turns.number - m.old.turns.number) }
-        ensures steps { StepsWithin 65536 (I.given input.old) (I.given input.new) m.old m.new }
     {
         m.tick();
         match step(&mut self.walk, input, w, m) {

@@ -1,17 +1,15 @@
 //! One step of a walk: the bytes for its turn are gathered in the window, and taken as a part of the image.
 //!
-//! Each function that takes a turn has the same clauses. `told`: what lies ahead is what the part gives, and then what
-//! lies ahead behind it, whatever bytes follow; the same of what a listing shows; and too few bytes are a fault.
+//! Each function that takes a turn says the same. `told`: what lies ahead is what the part gives, and then what lies
+//! ahead behind it, whatever bytes follow; the same of what a listing shows; and too few bytes are a fault.
 //! `turn`: what every turn leaves, and whose fault it is. `words`: how much is given of a fill or of a gap.
 
-ghost use Rattle.std.specs.Prelude.{◌≡◌, ◌≤◌, ◌<◌, ◌+◌, ℕ, List, [], length, IsTrue, false, ◌-◌, take};
+ghost use Rattle.std.specs.Prelude.{◌≡◌, ◌≤◌, ◌<◌, ◌-◌, ℕ, List, [], length, false};
 ghost use Rattle.abt_sparse.specs.Reading.{kind_at, number_at};
-ghost use Rattle.abt_chunks.specs.Cause.{PartBlamed};
-ghost use Rattle.abt_chunks.specs.Costs.{TurnsOnly};
 ghost use Rattle.abt_chunks.specs.Feeding.{TakesWhole};
 ghost use Rattle.abt_chunks.specs.Parts.{Caused, IsRawPart, goes_on};
-ghost use Rattle.abt_chunks.specs.Taking.{OwnTurn, ReadStep, ReadsHead, StepTells, TurnTaken, TurnTells, WithinWords};
-ghost use Rattle.abt_chunks.specs.Taking.{input_state};
+ghost use Rattle.abt_chunks.specs.Stepping.{GivesPart, StepTaken};
+ghost use Rattle.abt_chunks.specs.Taking.{GivesWords, OwnTurn, ReadsHead, TakesHead, TurnTaken, TurnTells, WithinWords};
 ghost use Rattle.abt_chunks.specs.Turns.{AtTurn, IsWalkOver, ask_of, needed_of};
 
 use crate::kinds::{has_word, laid_words, raw_bytes};
@@ -34,9 +32,7 @@ impl Walk {
     fn take_header(&mut self, got: &[u8]) -> Part
         requires here { AtTurn Turn.Header self.old }
         requires asked { length got.now ≤ 28 }
-        ensures read { ReadsHead result }
-        ensures told { TurnTells result self.old self.new got.now 28 }
-        ensures turn { OwnTurn result self.old self.new (length got.now) }
+        ensures head { TakesHead result self.old self.new got.now 28 }
     {
         if got.len() < 28 {
             return self.fail(SparseFault::Truncated {
@@ -70,9 +66,7 @@ impl Walk {
     pub(crate) fn take_extra(&mut self, got: &[u8]) -> Part
         requires here { AtTurn Turn.Extra self.old }
         requires asked { length got.now ≤ self.old.extra }
-        ensures read { ReadsHead result }
-        ensures told { TurnTells result self.old self.new got.now 1 }
-        ensures turn { OwnTurn result self.old self.new (length got.now) }
+        ensures head { TakesHead result self.old self.new got.now 1 }
     {
         if got.is_empty() {
             return self.fail(SparseFault::Truncated { at: self.position });
@@ -105,9 +99,7 @@ impl Walk {
     fn take_word(&mut self, got: &[u8]) -> Part
         requires here { AtTurn Turn.Word self.old }
         requires asked { length got.now ≤ 4 }
-        ensures read { ReadsHead result }
-        ensures told { TurnTells result self.old self.new got.now 4 }
-        ensures turn { OwnTurn result self.old self.new (length got.now) }
+        ensures head { TakesHead result self.old self.new got.now 4 }
     {
         if got.len() < 4 {
             let at = self.position + got.len() as u64;
@@ -124,9 +116,7 @@ impl Walk {
     fn take_chunk(&mut self, got: &[u8]) -> Part
         requires here { AtTurn Turn.Chunk self.old }
         requires asked { length got.now ≤ 12 }
-        ensures read { ReadsHead result }
-        ensures told { TurnTells result self.old self.new got.now 12 }
-        ensures turn { OwnTurn result self.old self.new (length got.now) }
+        ensures head { TakesHead result self.old self.new got.now 12 }
     {
         if got.len() < 12 {
             let end = self.position + got.len() as u64;
@@ -144,9 +134,7 @@ impl Walk {
         requires here { AtTurn Turn.Chunk self.old }
         requires whole { length got.now ≡ 12 }
         requires known { kind_at (number_at 0 2 got.now) ≡ Some kind }
-        ensures read { ReadsHead result }
-        ensures told { TurnTells result self.old self.new got.now 0 }
-        ensures turn { OwnTurn result self.old self.new (length got.now) }
+        ensures head { TakesHead result self.old self.new got.now 0 }
     {
         let blocks = u32_at(got, 4);
         let total = u32_at(got, 8);
@@ -182,10 +170,8 @@ impl Walk {
         requires here { AtTurn Turn.Fill self.old }
         requires some { 0 < most }
         ensures fill { Part.Words self.old.word (self.old.words - self.new.words) ≡ result }
-        ensures told { TurnTells result self.old self.new [] 0 }
-        ensures turn { TurnTaken result self.old self.new 0 }
+        ensures gives { GivesWords result self.old self.new }
         ensures words { (skips : ℕ) → WithinWords result self.old self.new most skips }
-        ensures cause { Caused result Phase.Body 1 0 }
     {
         let n = self.words.min(most);
         self.words -= n;
@@ -198,10 +184,8 @@ impl Walk {
         requires here { AtTurn Turn.Gap self.old }
         requires some { 0 < most }
         ensures gap { Part.Skip (self.old.words - self.new.words) ≡ result }
-        ensures told { TurnTells result self.old self.new [] 0 }
-        ensures turn { TurnTaken result self.old self.new 0 }
+        ensures gives { GivesWords result self.old self.new }
         ensures words { (fills : ℕ) → WithinWords result self.old self.new fills most }
-        ensures cause { Caused result Phase.Body 1 0 }
     {
         let n = self.words.min(most);
         self.words -= n;
@@ -274,19 +258,9 @@ impl Walk {
         m: &mut Meter,
     ) -> Taken
         requires words { 0 < fills × 0 < skips }
-        // What was received, and what is left of the input.
-        ensures input { ReadStep result.received 65536 self.old I.tells (input_state I.Input input.old)
-            (input_state I.Input input.new) }
-        ensures window { IsTrue I.tells → take result.received w.new.bytes
-            ≡ take result.received (I.remaining input.old) }
-        // What it says of the image.
-        ensures told { IsTrue I.tells → StepTells result.part self.old self.new
-            (take result.received (I.remaining input.old)) (I.remaining input.new) }
-        ensures turn { TurnTaken result.part self.old self.new result.received }
-        ensures words { WithinWords result.part self.old self.new fills skips }
-        ensures blame { PartBlamed result.part self.old (I.read_faults input.old) (I.read_faults input.new) }
-        ensures over { IsWalkOver self.old.phase → (self.new ≡ self.old) × (input.new ≡ input.old) }
-        ensures meter { TurnsOnly (result.received + 1) m.old m.new }
+        ensures step { StepTaken I.Input result 65536 self.old self.new input.old input.new m.old m.new }
+        ensures gives { GivesPart I.tells result fills skips self.old self.new (I.remaining input.old)
+            (I.remaining input.new) w.new.bytes }
     {
         self.part_within(fills, skips, WINDOW, input, w, m)
     }
@@ -305,19 +279,9 @@ impl Walk {
         requires words { 0 < fills × 0 < skips }
         requires least { 28 ≤ most }
         requires most { most ≤ 65536 }
-        // What was received, and what is left of the input.
-        ensures input { ReadStep result.received most self.old I.tells (input_state I.Input input.old)
-            (input_state I.Input input.new) }
-        ensures window { IsTrue I.tells → take result.received w.new.bytes
-            ≡ take result.received (I.remaining input.old) }
-        // What it says of the image.
-        ensures told { IsTrue I.tells → StepTells result.part self.old self.new
-            (take result.received (I.remaining input.old)) (I.remaining input.new) }
-        ensures turn { TurnTaken result.part self.old self.new result.received }
-        ensures words { WithinWords result.part self.old self.new fills skips }
-        ensures blame { PartBlamed result.part self.old (I.read_faults input.old) (I.read_faults input.new) }
-        ensures over { IsWalkOver self.old.phase → (self.new ≡ self.old) × (input.new ≡ input.old) }
-        ensures meter { TurnsOnly (result.received + 1) m.old m.new }
+        ensures step { StepTaken I.Input result most self.old self.new input.old input.new m.old m.new }
+        ensures gives { GivesPart I.tells result fills skips self.old self.new (I.remaining input.old)
+            (I.remaining input.new) w.new.bytes }
     {
         let turn = self.turn();
         let wish = self.ask(turn);

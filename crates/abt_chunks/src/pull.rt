@@ -5,7 +5,7 @@ ghost use Rattle.std.specs.Prelude.{◌≡◌, ◌≤◌, ◌<◌, ◌+◌, ◌+
 ghost use Rattle.abt_chunks.specs.Feeding.{TakesWhole, whole_next, whole_of};
 ghost use Rattle.abt_chunks.specs.Parts.{PartLeaves, Says, given_by};
 ghost use Rattle.abt_chunks.specs.Places.{place_of, upto_of};
-ghost use Rattle.abt_chunks.specs.Pulling.{IsAgain, PullFalls, Pulls, pulled_front};
+ghost use Rattle.abt_chunks.specs.Pulling.{PullFalls, Pulls, ReadyAt, pulled_front};
 ghost use Rattle.abt_chunks.specs.Turns.{AtTurn, IsWalkOver, needed_of};
 
 use crate::feed::{Pull, Pulled, Puller};
@@ -120,8 +120,7 @@ impl Puller {
 
     /// Raw bytes, as many as there are.
     fn pull_raw(&mut self, bytes: &[u8]) -> Pulled
-        requires here { AtTurn Turn.Raw self.old.walk }
-        requires none { self.old.count ≡ 0 }
+        requires ready { ReadyAt Turn.Raw self.old }
         ensures pulls { Pulls result self.old self.new bytes.now }
     {
         let n = self.walk.raw.min(bytes.len() as u64) as usize;
@@ -140,8 +139,7 @@ impl Puller {
 
     /// Extra bytes of a header, as many as there are.
     fn pull_extra(&mut self, bytes: &[u8]) -> Pulled
-        requires here { AtTurn Turn.Extra self.old.walk }
-        requires none { self.old.count ≡ 0 }
+        requires ready { ReadyAt Turn.Extra self.old }
         ensures pulls { Pulls result self.old self.new bytes.now }
     {
         let n = bytes.len().min(self.walk.extra as usize);
@@ -160,11 +158,9 @@ impl Puller {
 
     /// What is given without another byte.
     fn pull_given(&mut self, turn: Turn) -> Pulled
-        requires here { AtTurn turn self.old.walk }
+        requires ready { ReadyAt turn self.old }
         requires nothing { needed_of turn ≡ 0 }
-        requires none { self.old.count ≡ 0 }
         ensures pulls { (bytes : List ℕ) → Pulls result self.old self.new bytes }
-        ensures again { IsWalkOver self.old.walk.phase → IsAgain result self.old self.new }
     {
         let _words = self.walk.words;
         let part = self.walk.take(turn, &[], u64::MAX, u64::MAX);
@@ -177,7 +173,6 @@ impl Puller {
     /// The next part of the image, as far as these bytes go: they are what comes behind those that were used.
     pub fn pull(&mut self, bytes: &[u8]) -> Pulled
         ensures pulls { Pulls result self.old self.new bytes.now }
-        ensures again { IsWalkOver self.old.walk.phase → IsAgain result self.old self.new }
     {
         let turn = next(&self.walk);
         match turn {

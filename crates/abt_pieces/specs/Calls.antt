@@ -1,9 +1,10 @@
 -- What a call that writes an image, or a piece of one, of a source has failed and costs.
-use Rattle.std.specs.Prelude.{◌≡◌, ℕ, ◌+◌, ◌-◌, ◌*◌, ◌≤◌, length, max, Result, OnOk}
-use Rattle.abt_io.specs.Lent.{OneStep}
+use Rattle.std.specs.Prelude.{◌≡◌, ℕ, ◌+◌, ◌-◌, ◌*◌, ◌≤◌, length, max, Result, OnOk, IfErr}
+use Rattle.abt_io.specs.Lent.{OnlyReads, OneStep}
 use Rattle.abt_io.specs.declared.device.Source as sources
 use Rattle.abt_io.specs.declared.device.Output as outputs
 use Rattle.abt_io.specs.declared.meter.Meter.{Meter}
+use Rattle.abt_pieces.specs.Fault.{CutCause}
 use Rattle.abt_pieces.specs.declared.fault.PieceFault.{PieceFault}
 
 -- what is counted of a source and of an output
@@ -26,6 +27,12 @@ devices s o source output = record {
   written = length (o.written output);
   write_faults = o.write_faults output;
 }
+
+-- An image is only read while a piece is planned or written, and refused where its source has failed or has changed.
+pub record ReadsCut {X : Type 0} (r : Result X PieceFault) {A : Type 0} (s : sources.Ghosts A) (old new : A) : Type 0
+  where
+    pub reads : OnlyReads r s old new
+    pub cause : IfErr r (λ e. CutCause e s.tells (s.read_faults old) (s.read_faults new) 0 0)
 
 -- no count of faults falls, and after an Ok none has risen
 pub record Failing {X : Type 0} (r : Result X PieceFault) (a z : Devices) : Type 0 where

@@ -1,23 +1,45 @@
 -- What a call that writes or passes the next piece leaves of its cutter, and what the piece is.
-use Rattle.std.specs.Prelude.{◌≡◌, ℕ, ◌+◌, ◌-◌, ◌*◌, ◌≤◌, false, List, ◌++◌, length}
+use Rattle.std.specs.Prelude.{◌≡◌, ℕ, ◌+◌, ◌-◌, ◌*◌, ◌≤◌, false, List, ◌++◌, length, IsTrue, Result, IfErr}
+use Rattle.abt_io.specs.Lent.{OnlyReads}
+use Rattle.abt_io.specs.declared.device.Source as sources
 use Rattle.abt_io.specs.declared.meter.Meter.{Meter}
 use Rattle.abt_sparse.specs.Block.{Block}
 use Rattle.abt_sparse.specs.Chunk.{piece}
 use Rattle.abt_runs.specs.declared.part.Cursor.{Cursor}
 use Rattle.abt_runs.specs.declared.runs.BlockRuns as images
-use Rattle.abt_pieces.specs.Cutter.{Passed, is_begun, piece_words}
+use Rattle.abt_pieces.specs.Cutter.{ToldCutter, Passed, is_begun, piece_words}
 use Rattle.abt_pieces.specs.Image.{Appended, IsPlainImage}
 use Rattle.abt_pieces.specs.Outline.{IsPieceOf, piece_blocks, piece_at}
 use Rattle.abt_pieces.specs.Plan.{FirstPiece}
 use Rattle.abt_pieces.specs.PlanStep.{Charged}
+use Rattle.abt_pieces.specs.declared.fault.PieceFault.{PieceFault}
 use Rattle.abt_pieces.specs.declared.outline.Piece.{Piece}
 use Rattle.abt_pieces.specs.declared.stage.Stage.{Stage}
+use Rattle.abt_pieces.specs.declared.stage.Stage.TheVariants.{Failed}
 
 -- the cutter is of the same image and limit, and no piece is begun
 pub record SameCutter {R : Type 0} (runs runs' : R) (limit limit' : ℕ) (st : Stage) : Type 0 where
   pub same_image : runs' ≡ runs
   pub same_limit : limit' ≡ limit
   pub unbegun : is_begun st ≡ false
+
+-- A step that plans, or begins, stays at its place, and refuses for good.
+pub record KeepsPlace {X R : Type 0} (r : Result X PieceFault) (image image' : R) (limit limit' : ℕ)
+    (start start' : Cursor) (made made' : ℕ) (st' : Stage) : Type 0 where
+  pub runs : image' ≡ image
+  pub rest : (limit' ≡ limit) × (start' ≡ start) × (made' ≡ made)
+  pub refused : IfErr r (λ e. st' ≡ Failed e)
+
+-- A call that reads for the next piece leaves the cutter so, with what it knows of a source that tells; it refuses for
+-- good.
+pub record LeavesCutter {R A : Type 0} (g : images.Ghosts R) (s : sources.Ghosts A) {X : Type 0}
+    (r : Result X PieceFault) (runs runs' : R) (limit limit' made' : ℕ) (start' : Cursor) (st' : Stage) (old new : A)
+    : Type 0 where
+  pub cutter : SameCutter runs runs' limit limit' st'
+  pub reads : OnlyReads r s old new
+  pub told : IsTrue s.tells → ToldCutter (g.place runs (s.content old)) (g.together runs (s.content old))
+      (g.size runs) (g.list runs (s.content old)) limit' made' start' st'
+  pub refused : IfErr r (λ e. st' ≡ Failed e)
 
 -- The piece p goes from the block where the cutter stood to the one where it stands now, of the n blocks of the image;
 -- one piece more was made.

@@ -1,6 +1,6 @@
 -- Planning a piece from left to right, in numbers.
-use Rattle.std.specs.Prelude.{◌≡◌, ℕ, ◌+◌, ◌-◌, ◌*◌, ◌/◌, ◌≤◌, ◌<◌, nat_lt, nat_le, List, [], ◌∷◌, ◌++◌, length, take}
-use Rattle.std.specs.Prelude.{drop, replicate, bytes_eq, zero, suc, if◌then◌else◌}
+use Rattle.std.specs.Prelude.{◌≡◌, ℕ, ◌+◌, ◌-◌, ◌*◌, ◌/◌, ◌^◌, ◌≤◌, ◌<◌, nat_lt, nat_le, List, [], ◌∷◌, ◌++◌, length}
+use Rattle.std.specs.Prelude.{take, drop, replicate, bytes_eq, zero, suc, if◌then◌else◌}
 use Rattle.abt_sparse.specs.Block.{Block, Raw, Fill, Skip}
 use Rattle.abt_sparse.specs.Runs.{weight, greedy, tail_parts}
 use Rattle.abt_sparse.specs.Gains.{Behind, Fresh, After, behind_all}
@@ -81,6 +81,12 @@ pub record Even (p : Planner) : Type 0 where
   pub written : p.contents.written + p.first ≤ p.at.block
   pub least : 28 ≤ p.contents.bytes
   pub slim : Slim p.tail p.at.block p.contents.bytes p.weight
+
+-- a plan of an image of so many blocks can rest where it stands
+pub record RestsWithin (count : ℕ) (p : Planner) : Type 0 where
+  pub even : Even p
+  pub room : p.weight < 2 ^ 32
+  pub within : p.at.block ≤ count
 
 -- The planner has come so far in these blocks of b bytes.
 pub record Planned (b : ℕ) (l : List Block) (p : Planner) : Type 0 where

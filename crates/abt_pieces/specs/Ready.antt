@@ -1,6 +1,6 @@
 -- What stands before a call that plans, gathers, writes or cuts: the numbers of what goes on fit one another, and what
 -- is known of a source that tells its bytes is so.
-use Rattle.std.specs.Prelude.{◌≡◌, ℕ, ◌≤◌, ◌<◌, IsTrue}
+use Rattle.std.specs.Prelude.{◌≡◌, ℕ, ◌≤◌, ◌<◌, IsTrue, Some}
 use Rattle.abt_io.specs.declared.device.Source as sources
 use Rattle.abt_runs.specs.declared.part.Cursor.{Cursor}
 use Rattle.abt_runs.specs.declared.runs.BlockRuns as images
@@ -10,6 +10,7 @@ use Rattle.abt_pieces.specs.Write.{SoundWriter, ToldWriter}
 use Rattle.abt_pieces.specs.declared.gather.Gatherer.{Gatherer}
 use Rattle.abt_pieces.specs.declared.plan.Planner.{Planner}
 use Rattle.abt_pieces.specs.declared.stage.Stage.{Stage}
+use Rattle.abt_pieces.specs.declared.write.Copying.{Copying}
 use Rattle.abt_pieces.specs.declared.write.Writer.{Writer}
 
 -- a part of the image is to be found at a place, of the piece whose segment goes from block `first` up to `past`
@@ -39,6 +40,13 @@ pub record ReadyWriter {R A : Type 0} (g : images.Ghosts R) (s : sources.Ghosts 
   pub opened : IsTrue s.tells → g.opened image (s.content source)
   pub told : IsTrue s.tells → ToldWriter (g.place image (s.content source)) (g.together image (s.content source))
       (g.list image (s.content source)) w
+
+-- and bytes of the open chunk of a raw run are still to be copied
+pub record ReadyCopying {R A : Type 0} (g : images.Ghosts R) (s : sources.Ghosts A) (image : R) (source : A)
+    (w : Writer) (copying : Copying) : Type 0 where
+  pub ready : ReadyWriter g s image source w
+  pub is : w.copying ≡ Some copying
+  pub remains : 0 < copying.left
 
 -- a piece is being planned
 pub record ReadyPlanner {R A : Type 0} (g : images.Ghosts R) (s : sources.Ghosts A) (image : R) (source : A)

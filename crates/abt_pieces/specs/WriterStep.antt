@@ -1,13 +1,16 @@
 -- What a step of writing a piece promises: what it leaves, what it writes, what it costs, and how it fails.
 use Rattle.std.specs.Prelude.{◌≡◌, ℕ, ◌+◌, ◌-◌, ◌*◌, ◌≤◌, ◌<◌, List, ◌++◌, length, take, drop, IsTrue, Result, OnOk}
-use Rattle.std.specs.Prelude.{IfErr}
-use Rattle.abt_io.specs.Lent.{OnlyReads, OnlyWrites}
+use Rattle.std.specs.Prelude.{OnErr, IfErr, IsErrOf}
+use Rattle.abt_io.specs.Count.{full_of}
+use Rattle.abt_io.specs.Lent.{OnlyReads, OnlyWrites, NoStep}
+use Rattle.abt_io.specs.declared.device.DeviceFault.{DeviceFault}
+use Rattle.abt_io.specs.declared.device.DeviceFault.TheVariants.{Full}
 use Rattle.abt_io.specs.declared.device.Source as sources
 use Rattle.abt_io.specs.declared.device.Output as outputs
 use Rattle.abt_io.specs.declared.meter.Meter.{Meter}
 use Rattle.abt_runs.specs.declared.part.Cursor.{Cursor}
 use Rattle.abt_runs.specs.declared.runs.BlockRuns as images
-use Rattle.abt_pieces.specs.Calls.{devices}
+use Rattle.abt_pieces.specs.Calls.{WriteCosts, devices}
 use Rattle.abt_pieces.specs.Fault.{CutCause, full_cut}
 use Rattle.abt_pieces.specs.Image.{Leads, MayCome}
 use Rattle.abt_pieces.specs.Spent.{Spent}
@@ -21,6 +24,18 @@ pub record PutFront {X E : Type 0} (r : Result X E) (n : ℕ) (x old new : List 
   pub ok : OnOk r (new ≡ old ++ x)
   pub front : new ≡ old ++ take (length new - length old) x
   pub whole : OnOk r (length new ≡ length old + n)
+
+-- The same on an output: what a call that writes these n bytes leaves of it, and costs.
+pub record WrittenFront {X : Type 0} (r : Result X DeviceFault) (n : ℕ) (x : List ℕ) {B : Type 0} (o : outputs.Ghosts B)
+    (old new : B) (m m' : Meter) : Type 0 where
+  pub put : PutFront r n x (o.written old) (o.written new)
+  pub writes : OnlyWrites r (full_of r) o old new
+  pub within : length (o.written new) ≤ length (o.written old) + n
+  pub full : IsErrOf r Full → IsTrue (o.is_full new)
+  pub short : OnErr r (length (o.written new) < length (o.written old) + n)
+  pub cause : OnErr r (o.write_faults old < o.write_faults new)
+  pub costs : WriteCosts o old new m m'
+  pub no_step : NoStep m m'
 
 -- A writer has written the front x of a chunk, n bytes, of no more than are counted.
 pub record ChunkBegun {X : Type 0} (r : Result X PieceFault) (n : ℕ) (x : List ℕ) {B : Type 0} (o : outputs.Ghosts B)

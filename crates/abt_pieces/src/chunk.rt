@@ -1,12 +1,9 @@
 //! What stands in front of a chunk's blocks.
-ghost use Rattle.std.specs.Prelude.{◌≡◌, ◌<◌, ◌≤◌, ◌+◌, ◌-◌, ◌%◌, ◌++◌, OnErr, IsErrOf, IsTrue, length, take};
-ghost use Rattle.abt_io.specs.Count.{full_of};
+ghost use Rattle.std.specs.Prelude.{◌≡◌, ◌<◌, ◌%◌, ◌++◌, take};
 ghost use Rattle.abt_sparse.specs.Chunk.{header_record, plain_header};
 ghost use Rattle.abt_pieces.specs.Contents.{head_len as length_of_head};
 ghost use Rattle.abt_pieces.specs.Write.{front_bytes};
-ghost use Rattle.abt_io.specs.Lent.{OnlyWrites, NoStep};
-ghost use Rattle.abt_pieces.specs.Calls.{WriteCosts};
-ghost use Rattle.abt_pieces.specs.WriterStep.{PutFront};
+ghost use Rattle.abt_pieces.specs.WriterStep.{WrittenFront};
 
 use crate::contents::head_len;
 use abt_io::{DeviceFault, Meter, Output, write_out};
@@ -50,15 +47,8 @@ pub fn write_front<O: Output>(
     total: u32,
     m: &mut Meter,
 ) -> Result<(), DeviceFault>
-    ensures put { PutFront result (length_of_head kind) (front_bytes kind blocks total) (O.written output.old)
-        (O.written output.new) }
-    ensures writes { OnlyWrites result (full_of result) O.Output output.old output.new }
-    ensures within { length (O.written output.new) ≤ length (O.written output.old) + length_of_head kind }
-    ensures full { IsErrOf result DeviceFault.Full → IsTrue (O.is_full output.new) }
-    ensures short { OnErr result (length (O.written output.new) < length (O.written output.old) + length_of_head kind) }
-    ensures cause { OnErr result (O.write_faults output.old < O.write_faults output.new) }
-    ensures costs { WriteCosts O.Output output.old output.new m.old m.new }
-    ensures no_step { NoStep m.old m.new }
+    ensures put { WrittenFront result (length_of_head kind) (front_bytes kind blocks total) O.Output output.old output.new
+        m.old m.new }
 {
     let bytes = chunk_front(kind, blocks, total);
     write_out(output, &bytes[..head_len(kind) as usize], m)
@@ -92,15 +82,8 @@ pub fn write_header<O: Output>(
 ) -> Result<(), DeviceFault>
     requires some { 0 < size }
     requires words { size % 4 ≡ 0 }
-    ensures put { PutFront result 28 (header_record (plain_header size count chunks)) (O.written output.old)
-        (O.written output.new) }
-    ensures writes { OnlyWrites result (full_of result) O.Output output.old output.new }
-    ensures within { length (O.written output.new) ≤ length (O.written output.old) + 28 }
-    ensures full { IsErrOf result DeviceFault.Full → IsTrue (O.is_full output.new) }
-    ensures short { OnErr result (length (O.written output.new) < length (O.written output.old) + 28) }
-    ensures cause { OnErr result (O.write_faults output.old < O.write_faults output.new) }
-    ensures costs { WriteCosts O.Output output.old output.new m.old m.new }
-    ensures no_step { NoStep m.old m.new }
+    ensures put { WrittenFront result 28 (header_record (plain_header size count chunks)) O.Output output.old output.new
+        m.old m.new }
 {
     write_out(output, &image_header(size, count, chunks), m)
 }

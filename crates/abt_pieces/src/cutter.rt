@@ -9,12 +9,12 @@ ghost use Rattle.abt_pieces.specs.Outline.{IsPieceOf};
 ghost use Rattle.abt_pieces.specs.Alike.{SoundCutter-prop};
 ghost use Rattle.abt_pieces.specs.Cutter.{SoundOutline, SoundCutter, ToldCutter, Made, segments_left, coming, has_more};
 ghost use Rattle.abt_pieces.specs.Cutter.{is_begun, has_failed, piece_words, ToldOutline, full_at};
-ghost use Rattle.abt_pieces.specs.Calls.{PieceCosts, PlanCosts, devices};
-ghost use Rattle.abt_pieces.specs.NextPiece.{LaidNext, SameCutter, PieceMade, PiecePassed};
+ghost use Rattle.abt_pieces.specs.Calls.{ReadsCut, PieceCosts, PlanCosts, devices};
+ghost use Rattle.abt_pieces.specs.NextPiece.{LaidNext, LeavesCutter, PieceMade, PiecePassed};
 ghost use Rattle.abt_pieces.specs.SpentStage.{SpentPiece, all_passes};
 ghost use Rattle.abt_pieces.specs.Turn.{NextInTurn};
 ghost use Rattle.abt_pieces.specs.declared.stage.Stage.{Stage};
-ghost use Rattle.abt_io.specs.Lent.{OnlyReads, OnlyWrites};
+ghost use Rattle.abt_io.specs.Lent.{OnlyWrites};
 ghost use Rattle.abt_pieces.specs.Ready.{ReadyCutter};
 ghost use Rattle.abt_pieces.specs.PlanStep.{Charged};
 
@@ -104,7 +104,7 @@ impl<R: BlockRuns + Drop> Cutter<R> {
     ) -> Result<Outline, PieceFault>
         requires told { IsTrue S.tells → R.opened self.now.runs (S.content source.old) ×
             R.place self.now.runs (S.content source.old) self.now.start }
-        ensures reads { OnlyReads result S.Source source.old source.new }
+        ensures source { ReadsCut result S.Source source.old source.new }
         ensures sound { IfOk result (λ o. SoundOutline (R.within self.now.runs) (R.count self.now.runs) self.now.limit
             self.now.start.block o) }
         ensures told { IsTrue S.tells → IfOk result (λ o. ToldOutline (R.place self.now.runs (S.content source.old))
@@ -119,8 +119,6 @@ impl<R: BlockRuns + Drop> Cutter<R> {
         ensures words { IfOk result (λ o. m.new.turns.number
             ≤ m.old.turns.number + 5 * (S.given source.new - S.given source.old) + 2 + piece_words (R.one self.now.runs)
             (R.count self.now.runs) o.piece.past) }
-        ensures cause { IfErr result (λ e. CutCause e S.tells (S.read_faults source.old) (S.read_faults source.new) 0
-            0) }
     {
         let start = self.start;
         let planner = match plan_piece(&self.runs, source, start, self.limit, w, m) {
@@ -150,12 +148,9 @@ impl<R: BlockRuns + Drop> Cutter<R> {
         requires unbegun { is_begun self.old.stage ≡ false }
         requires ready { ReadyCutter R.BlockRuns S.Source self.old.runs source.old self.old.limit self.old.made
             self.old.start self.old.stage }
-        ensures cutter { SameCutter self.old.runs self.new.runs self.old.limit self.new.limit self.new.stage }
-        ensures reads { OnlyReads result S.Source source.old source.new }
+        ensures left { LeavesCutter R.BlockRuns S.Source result self.old.runs self.new.runs self.old.limit
+            self.new.limit self.new.made self.new.start self.new.stage source.old source.new }
         ensures writes { OnlyWrites result (full_at self.old.stage result) O.Output output.old output.new }
-        ensures told { IsTrue S.tells → ToldCutter (R.place self.old.runs (S.content source.old))
-            (R.together self.old.runs (S.content source.old)) (R.size self.old.runs)
-            (R.list self.old.runs (S.content source.old)) self.new.limit self.new.made self.new.start self.new.stage }
         ensures within { length (O.written output.new) ≤ length (O.written output.old) + self.old.limit }
         ensures front { IsTrue S.tells → O.written output.new ≡ O.written output.old ++ take
             (length (O.written output.new) - length (O.written output.old))
@@ -172,7 +167,6 @@ impl<R: BlockRuns + Drop> Cutter<R> {
         ensures after_last { self.old.stage ≡ Stage.Done → IfOk result (λ o. IfSome o (λ p. ⊥)) × OnErr result ⊥ }
         ensures again { (f : PieceFault) → self.old.stage ≡ Stage.Failed f → (result ≡ Err f) ×
             (output.new ≡ output.old) × (source.new ≡ source.old) }
-        ensures refused { IfErr result (λ e. self.new.stage ≡ Stage.Failed e) }
         ensures costs { PieceCosts (R.one self.old.runs) (devices S.Source O.Output source.old output.old)
             (devices S.Source O.Output source.new output.new) m.old m.new }
         ensures spent { IsTrue S.tells → IfOk result (λ o. IfSome o (λ p. SpentPiece (R.charge self.old.runs)
@@ -207,11 +201,8 @@ impl<R: BlockRuns + Drop> Cutter<R> {
         requires unbegun { is_begun self.old.stage ≡ false }
         requires ready { ReadyCutter R.BlockRuns S.Source self.old.runs source.old self.old.limit self.old.made
             self.old.start self.old.stage }
-        ensures cutter { SameCutter self.old.runs self.new.runs self.old.limit self.new.limit self.new.stage }
-        ensures reads { OnlyReads result S.Source source.old source.new }
-        ensures told { IsTrue S.tells → ToldCutter (R.place self.old.runs (S.content source.old))
-            (R.together self.old.runs (S.content source.old)) (R.size self.old.runs)
-            (R.list self.old.runs (S.content source.old)) self.new.limit self.new.made self.new.start self.new.stage }
+        ensures left { LeavesCutter R.BlockRuns S.Source result self.old.runs self.new.runs self.old.limit
+            self.new.limit self.new.made self.new.start self.new.stage source.old source.new }
         ensures passed { IfOk result (λ o. IfSome o (λ p. PiecePassed R.BlockRuns self.old.runs self.old.limit
             self.old.start self.new.start self.old.made self.new.made self.new.stage (S.given source.old)
             (S.given source.new) m.old m.new p)) }
@@ -227,7 +218,6 @@ impl<R: BlockRuns + Drop> Cutter<R> {
             (self.new ≡ self.old))) }
         ensures again { (f : PieceFault) → self.old.stage ≡ Stage.Failed f → (result ≡ Err f) ×
             (source.new ≡ source.old) }
-        ensures refused { IfErr result (λ e. self.new.stage ≡ Stage.Failed e) }
         ensures costs { PlanCosts (R.one self.old.runs) (S.reads source.old) (S.given source.old) (S.reads source.new)
             (S.given source.new) m.old m.new }
         ensures cause { IfErr result (λ e. (self.old.stage ≡ Stage.Failed e) ⊎

@@ -1,13 +1,13 @@
 //! The runs of a piece, each known whole before it is written.
-ghost use Rattle.std.specs.Prelude.{◌≡◌, ℕ, ◌<◌, ◌≤◌, ◌+◌, ◌-◌, ◌*◌, ◌^◌, IsTrue, IfOk, IfErr, IfSome, IfNone, min};
+ghost use Rattle.std.specs.Prelude.{◌≡◌, ℕ, ◌<◌, ◌≤◌, ◌+◌, ◌-◌, ◌*◌, ◌^◌, IsTrue, IfOk, IfSome, IfNone, min};
 ghost use Rattle.std.specs.Prelude.{true, false};
-ghost use Rattle.abt_runs.specs.Part.{RunCaused, is_end as ends};
+ghost use Rattle.abt_runs.specs.Found.{ReadsImage};
+ghost use Rattle.abt_runs.specs.Part.{is_end as ends};
 ghost use Rattle.abt_pieces.specs.Gather.{frame, Closed, ClosedRun, SoundGatherer, ToldGatherer, first_gatherer};
 ghost use Rattle.abt_pieces.specs.Gather.{gathered_on, look_left, silent_left, gathered_to};
 ghost use Rattle.abt_runs.specs.declared.part.Cursor.{Cursor};
 ghost use Rattle.abt_pieces.specs.Plan.{last_words};
 ghost use Rattle.abt_pieces.specs.Spent.{SpentGathering};
-ghost use Rattle.abt_io.specs.Lent.{OnlyReads};
 ghost use Rattle.abt_pieces.specs.Calls.{WordCosts};
 ghost use Rattle.abt_pieces.specs.Ready.{ReadyPart, ReadyGatherer};
 ghost use Rattle.abt_pieces.specs.Framed.{PartFound, PartTold};
@@ -27,7 +27,7 @@ pub fn framed_part<R: BlockRuns, S: Source>(
     m: &mut Meter,
 ) -> Result<Run, RunFault>
     requires ready { ReadyPart R.BlockRuns S.Source runs.now source.old first past at }
-    ensures reads { OnlyReads result S.Source source.old source.new }
+    ensures source { ReadsImage result S.Source source.old source.new }
     ensures found { IfOk result (λ r. PartFound R.BlockRuns runs.now past at (S.given source.old) (S.given source.new)
         r) }
     ensures told { IsTrue S.tells →
@@ -37,7 +37,6 @@ pub fn framed_part<R: BlockRuns, S: Source>(
     ensures words { IfOk result (λ r. m.new.turns.number + last_words (R.one runs.now) (R.count runs.now)
         (min at.block past) ≤ m.old.turns.number + 2 * (S.given source.new - S.given source.old) + 2 + last_words
         (R.one runs.now) (R.count runs.now) (min r.next.block past)) }
-    ensures cause { IfErr result (λ e. RunCaused e S.tells (S.read_faults source.old) (S.read_faults source.new)) }
 {
     let count = runs.blocks();
     if at.block < past {
@@ -169,7 +168,7 @@ impl Gatherer {
         m: &mut Meter,
     ) -> Result<Option<Run>, RunFault>
         requires ready { ReadyGatherer R.BlockRuns S.Source runs.now source.old first past self.old }
-        ensures reads { OnlyReads result S.Source source.old source.new }
+        ensures source { ReadsImage result S.Source source.old source.new }
         ensures sound { SoundGatherer (R.within runs.now) (R.count runs.now) first past self.new }
         ensures told { IsTrue S.tells → ToldGatherer (R.place runs.now (S.content source.old))
             (R.list runs.now (S.content source.old)) first past self.new }
@@ -200,7 +199,6 @@ impl Gatherer {
             (min self.old.at.block past)
             ≤ m.old.turns.number + 2 * (S.given source.new - S.given source.old) + 2 + last_words (R.one runs.now)
             (R.count runs.now) (min self.new.at.block past)) }
-        ensures cause { IfErr result (λ e. RunCaused e S.tells (S.read_faults source.old) (S.read_faults source.new)) }
     {
         let part = match framed_part(runs, source, first, past, self.at, w, m) {
             Ok(part) => part,

@@ -1,8 +1,8 @@
 //! A piece as it is planned: how far it goes, and the numbers that its header needs first.
-ghost use Rattle.std.specs.Prelude.{◌≡◌, ◌<◌, ◌≤◌, ◌+◌, ◌-◌, ◌^◌, ℕ, List, length};
+ghost use Rattle.std.specs.Prelude.{◌≡◌, ◌<◌, ◌≤◌, ◌+◌, ◌-◌, List, length};
 ghost use Rattle.abt_sparse.specs.Block.{Block, AreBlocks};
 ghost use Rattle.abt_pieces.specs.Contents.{with_blocks};
-ghost use Rattle.abt_pieces.specs.Plan.{Planned, Even, last_kind};
+ghost use Rattle.abt_pieces.specs.Plan.{Planned, RestsWithin, last_kind};
 ghost use Rattle.abt_pieces.specs.Outline.{IsOutline};
 
 use crate::contents::Contents;
@@ -33,9 +33,7 @@ pub struct Outline {
 
 /// The piece up to where a planner has come, of an image of so many blocks of `size` bytes.
 pub fn outlined(planner: &Planner, count: u32, size: u32) -> Outline
-    requires even { Even planner.now }
-    requires room { planner.now.weight < 2 ^ 32 }
-    requires within { planner.now.at.block ≤ count }
+    requires rests { RestsWithin count planner.now }
     ensures first { result.piece.first ≡ planner.now.first }
     ensures past { result.piece.past ≡ planner.now.at.block }
     ensures next { result.next ≡ planner.now.at }
@@ -60,9 +58,7 @@ pub fn outlined(planner: &Planner, count: u32, size: u32) -> Outline
 
 /// The numbers of the piece with what is skipped behind its segment.
 fn whole(planner: &Planner, count: u32, size: u32) -> Contents
-    requires even { Even planner.now }
-    requires room { planner.now.weight < 2 ^ 32 }
-    requires within { planner.now.at.block ≤ count }
+    requires rests { RestsWithin count planner.now }
     ensures more { planner.now.at.block < count →
         result ≡ with_blocks planner.now.contents (last_kind planner.now.tail planner.now.at.block) RunKind.Skip
         (count - planner.now.at.block) size }

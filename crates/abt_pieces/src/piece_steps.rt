@@ -11,8 +11,9 @@ ghost use Rattle.abt_pieces.specs.SpentStage.{SpentPlan, SpentStage};
 ghost use Rattle.abt_pieces.specs.Stepped.{Stepped};
 ghost use Rattle.abt_pieces.specs.declared.stage.Stage.{Stage};
 ghost use Rattle.abt_pieces.specs.declared.stage.PieceProgress.{PieceProgress};
-ghost use Rattle.abt_io.specs.Lent.{OnlyReads, OnlyWrites, OneStep};
-ghost use Rattle.abt_pieces.specs.Calls.{WordCosts, WriteCosts};
+ghost use Rattle.abt_io.specs.Lent.{OnlyWrites, OneStep};
+ghost use Rattle.abt_pieces.specs.Calls.{ReadsCut, WordCosts, WriteCosts};
+ghost use Rattle.abt_pieces.specs.NextPiece.{KeepsPlace};
 ghost use Rattle.abt_pieces.specs.Ready.{ReadyPlan, ReadyCutter};
 ghost use Rattle.abt_pieces.specs.PlanStep.{PlanStaged};
 
@@ -103,10 +104,9 @@ impl<R: BlockRuns + Drop> Cutter<R> {
     ) -> Result<(), PieceFault>
         requires ready { ReadyPlan R.BlockRuns S.Source self.old.runs source.old self.old.limit self.old.made
             self.old.start from }
-        ensures runs { self.new.runs ≡ self.old.runs }
-        ensures rest { (self.new.limit ≡ self.old.limit) × (self.new.start ≡ self.old.start) ×
-            (self.new.made ≡ self.old.made) }
-        ensures reads { OnlyReads result S.Source source.old source.new }
+        ensures keeps { KeepsPlace result self.old.runs self.new.runs self.old.limit self.new.limit self.old.start
+            self.new.start self.old.made self.new.made self.new.stage }
+        ensures source { ReadsCut result S.Source source.old source.new }
         ensures goes_on { OnOk result (PlanStaged R.BlockRuns self.old.runs self.old.limit self.old.start from.at
             self.new.stage (S.given source.old) (S.given source.new) m.old m.new) }
         ensures told { IsTrue S.tells →
@@ -117,7 +117,6 @@ impl<R: BlockRuns + Drop> Cutter<R> {
             OnOk result (coming (R.size self.old.runs) self.old.limit (R.list self.old.runs (S.content source.old))
             self.old.start.block self.new.stage ≡ piece_at (R.size self.old.runs) self.old.limit
             (R.list self.old.runs (S.content source.old)) self.old.start.block) }
-        ensures refused { IfErr result (λ e. self.new.stage ≡ Stage.Failed e) }
         ensures spends { (t : ℕ) → SpentPlan (R.charge self.old.runs) (R.copied self.old.runs) (R.size self.old.runs)
             self.old.limit self.old.start t from →
             OnOk result (SpentStage (λ c. R.within self.old.runs c × R.place self.old.runs (S.content source.old) c)
@@ -127,8 +126,6 @@ impl<R: BlockRuns + Drop> Cutter<R> {
         ensures costs { WordCosts (last_words (R.one self.old.runs) (R.count self.old.runs) from.at.block)
             (1 + 3 * R.one self.old.runs) S.Source source.old source.new m.old m.new }
         ensures unwritten { full_cut result ≡ 0 }
-        ensures cause { IfErr result (λ e. CutCause e S.tells (S.read_faults source.old) (S.read_faults source.new) 0
-            0) }
     {
         let mut planner = from;
         let limit = self.limit;
@@ -184,9 +181,8 @@ impl<R: BlockRuns + Drop> Cutter<R> {
         m: &mut Meter,
     ) -> Result<(), PieceFault>
         requires at { self.old.stage ≡ Stage.Begin outline }
-        ensures runs { self.new.runs ≡ self.old.runs }
-        ensures rest { (self.new.limit ≡ self.old.limit) × (self.new.start ≡ self.old.start) ×
-            (self.new.made ≡ self.old.made) }
+        ensures keeps { KeepsPlace result self.old.runs self.new.runs self.old.limit self.new.limit self.old.start
+            self.new.start self.old.made self.new.made self.new.stage }
         ensures small { self.old.limit < 2 ^ 32 }
         ensures fits { (R.size self.old.runs < 2 ^ 32) × (R.count self.old.runs < 2 ^ 32) × (outline.chunks < 2 ^ 32) }
         ensures stage { OnOk result (self.new.stage ≡ Stage.Write outline (first_writer self.old.start outline
@@ -197,7 +193,6 @@ impl<R: BlockRuns + Drop> Cutter<R> {
         ensures front { O.written output.new ≡ O.written output.old ++ take
             (length (O.written output.new) - length (O.written output.old))
             (header_record (plain_header (R.size self.old.runs) (R.count self.old.runs) outline.chunks)) }
-        ensures refused { IfErr result (λ e. self.new.stage ≡ Stage.Failed e) }
         ensures costs { WriteCosts O.Output output.old output.new m.old m.new }
         ensures one_step { OneStep 0 m.old m.new }
         ensures full { full_cut result ≡ 1 → IsTrue (O.is_full output.new) ×

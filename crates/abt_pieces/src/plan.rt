@@ -1,11 +1,9 @@
 //! How far a piece goes.
-ghost use Rattle.std.specs.Prelude.{◌≡◌, ◌<◌, ◌≤◌, ◌+◌, ◌-◌, ◌*◌, ℕ, List, length, IsTrue, IfOk, IfErr, false, true};
-ghost use Rattle.abt_runs.specs.Part.{RunCaused};
+ghost use Rattle.std.specs.Prelude.{◌≡◌, ◌<◌, ◌≤◌, ◌+◌, ◌-◌, ◌*◌, ℕ, List, length, IsTrue, IfOk, false, true};
 ghost use Rattle.abt_sparse.specs.Block.{Block};
 ghost use Rattle.abt_pieces.specs.Contents.{contents_before};
 ghost use Rattle.abt_pieces.specs.Plan.{Planned, Even, PlanEnds, FirstPiece, last_words};
-ghost use Rattle.abt_io.specs.Lent.{OnlyReads};
-ghost use Rattle.abt_runs.specs.Found.{PartCosts};
+ghost use Rattle.abt_runs.specs.Found.{ReadsImage, PartCosts};
 ghost use Rattle.abt_pieces.specs.Calls.{PlanCosts};
 ghost use Rattle.abt_pieces.specs.Ready.{ReadyPlanner};
 ghost use Rattle.abt_pieces.specs.PlanStep.{PlanGoes, PlanRests, Charged};
@@ -57,7 +55,7 @@ impl Planner {
         m: &mut Meter,
     ) -> Result<bool, RunFault>
         requires ready { ReadyPlanner R.BlockRuns S.Source runs.now source.old limit self.old }
-        ensures reads { OnlyReads result S.Source source.old source.new }
+        ensures source { ReadsImage result S.Source source.old source.new }
         ensures sound { SoundPlanner (R.within runs.now) limit self.old.first self.new }
         ensures told { IsTrue S.tells → ToldPlanner (R.place runs.now (S.content source.old)) (R.size runs.now)
             (R.list runs.now (S.content source.old)) self.new }
@@ -73,7 +71,6 @@ impl Planner {
             IfOk result (λ d. d ≡ true) }
         ensures costs { PartCosts (R.padding runs.now self.old.at) (S.reads source.old) (S.given source.old)
             (S.reads source.new) (S.given source.new) m.old m.new }
-        ensures cause { IfErr result (λ e. RunCaused e S.tells (S.read_faults source.old) (S.read_faults source.new)) }
     {
         let size = runs.block_size();
         let room = limit as u64 - self.weight;
@@ -117,7 +114,7 @@ pub fn plan_piece<R: BlockRuns, S: Source>(
     requires told { IsTrue S.tells → R.opened runs.now (S.content source.old) ×
         R.place runs.now (S.content source.old) from }
     requires limit { 64 + R.size runs.now ≤ limit }
-    ensures reads { OnlyReads result S.Source source.old source.new }
+    ensures source { ReadsImage result S.Source source.old source.new }
     ensures sound { IfOk result (λ p. SoundPlanner (R.within runs.now) limit from.block p) }
     ensures told { IsTrue S.tells → IfOk result (λ p. ToldPlanner (R.place runs.now (S.content source.old))
         (R.size runs.now) (R.list runs.now (S.content source.old)) p) }
@@ -135,7 +132,6 @@ pub fn plan_piece<R: BlockRuns, S: Source>(
     ensures words { IfOk result (λ p. m.new.turns.number + last_words (R.one runs.now) (R.count runs.now) from.block
         ≤ m.old.turns.number + 5 * (S.given source.new - S.given source.old) + 2 + last_words (R.one runs.now)
         (R.count runs.now) p.at.block + last_words (R.one runs.now) (R.count runs.now) (p.at.block + 1)) }
-    ensures cause { IfErr result (λ e. RunCaused e S.tells (S.read_faults source.old) (S.read_faults source.new)) }
 {
     let mut planner = Planner::begin(from);
     while !planner.step(runs, source, limit, w, m)? {

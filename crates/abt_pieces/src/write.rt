@@ -2,8 +2,8 @@
 ghost use Rattle.std.specs.Prelude.{◌≡◌, ℕ, [], ◌<◌, ◌≤◌, ◌+◌, ◌-◌, ◌*◌, ◌^◌, IsTrue, IfOk, IfErr, OnOk, length, min};
 ghost use Rattle.std.specs.Prelude.{true, false};
 ghost use Rattle.abt_runs.specs.Part.{is_end as ends};
-ghost use Rattle.abt_pieces.specs.Fault.{CutCause, full_cut};
-ghost use Rattle.abt_pieces.specs.Calls.{WordCosts};
+ghost use Rattle.abt_pieces.specs.Fault.{full_cut};
+ghost use Rattle.abt_pieces.specs.Calls.{ReadsCut, WordCosts};
 ghost use Rattle.abt_pieces.specs.Contents.{head_len as length_of_head};
 ghost use Rattle.abt_pieces.specs.Cutter.{first_writer};
 ghost use Rattle.abt_pieces.specs.Write.{front_bytes, chunk_len, ChunkCause, front_begun, run_begun, run_front};
@@ -13,8 +13,8 @@ ghost use Rattle.abt_pieces.specs.Image.{MayCome};
 ghost use Rattle.abt_runs.specs.declared.part.Cursor.{Cursor};
 ghost use Rattle.abt_pieces.specs.Plan.{last_words};
 ghost use Rattle.abt_pieces.specs.Spent.{Spent};
-ghost use Rattle.abt_io.specs.Lent.{OnlyReads, NoStep, OneStep};
-ghost use Rattle.abt_pieces.specs.Ready.{ReadyWriter};
+ghost use Rattle.abt_io.specs.Lent.{NoStep, OneStep};
+ghost use Rattle.abt_pieces.specs.Ready.{ReadyWriter, ReadyCopying};
 ghost use Rattle.abt_pieces.specs.WriterStep.{ChunkBegun, RawGoes, WriterStepped};
 
 use crate::PieceFault;
@@ -273,11 +273,9 @@ impl Writer {
         w: &mut Window,
         m: &mut Meter,
     ) -> Result<(), PieceFault>
-        requires ready { ReadyWriter R.BlockRuns S.Source runs.now source.old self.old }
-        requires is { self.old.copying ≡ Some copying }
+        requires copies { ReadyCopying R.BlockRuns S.Source runs.now source.old self.old copying }
         requires whole { copying.done ≡ copying.size }
-        requires remains { 0 < copying.left }
-        ensures reads { OnlyReads result S.Source source.old source.new }
+        ensures source { ReadsCut result S.Source source.old source.new }
         ensures told { IsTrue S.tells →
             OnOk result (ToldWriter (R.place runs.now (S.content source.old))
             (R.together runs.now (S.content source.old)) (R.list runs.now (S.content source.old)) self.new) }
@@ -299,8 +297,6 @@ impl Writer {
         ensures costs { WordCosts (last_words (R.one runs.now) (R.count runs.now)
             (min copying.next.block self.old.past)) (R.one runs.now) S.Source source.old source.new m.old m.new }
         ensures unwritten { full_cut result ≡ 0 }
-        ensures cause { IfErr result (λ e. CutCause e S.tells (S.read_faults source.old) (S.read_faults source.new) 0
-            0) }
     {
         let until = self.gatherer.at.block - self.gatherer.count;
         let size = runs.block_size();
@@ -329,10 +325,8 @@ impl Writer {
         w: &mut Window,
         m: &mut Meter,
     ) -> Result<(), PieceFault>
-        requires ready { ReadyWriter R.BlockRuns S.Source runs.now source.old self.old }
-        requires is { self.old.copying ≡ Some copying }
+        requires copies { ReadyCopying R.BlockRuns S.Source runs.now source.old self.old copying }
         requires more { copying.done < copying.size }
-        requires remains { 0 < copying.left }
         ensures stepped { WriterStepped R.BlockRuns S.Source O.Output result (OnOk result) runs.now self.old
             self.new source.old source.new output.old output.new m.old m.new }
         ensures paid { OnOk result (silent_write (R.count runs.now) self.new < silent_write (R.count runs.now)

@@ -7,7 +7,6 @@ pub mod Segments
 pub mod Sourced
 pub mod Spending
 pub mod Pieces
-pub mod Rooms
 pub mod Within
 pub mod Onward
 pub mod Passing

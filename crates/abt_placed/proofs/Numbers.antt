@@ -1,8 +1,6 @@
 -- The numbers of a placer that takes blocks.
 use Rattle.std.proofs.Common.{inl, inr, mul-le-mul_left, ◌≡◌, ℕ, ◌+◌, ◌-◌, ◌*◌, ◌<◌, ◌≤◌, nat_lt, Bool, true, false, List, [], ◌++◌, length, refl, sym, ap, ◌∙◌, arith, append-nil, subst, length-append, ◌&&◌, if◌then◌else◌}
 use Rattle.std.proofs.lemmas.Bool.{cases_Bool, ltb-true, ltb-false}
-use Rattle.std.proofs.Common.{Result, Ok, Err, OnOk, replicate}
-use Rattle.abt_io.specs.declared.device.DeviceFault.{DeviceFault}
 use Rattle.abt_io.specs.Moment.{put_at}
 use Rattle.abt_io.proofs.Overs.{length_put}
 use Rattle.abt_runs.specs.Part.{is_end}
@@ -130,19 +128,6 @@ blocks_fit d c n b le fits =
     omega (arith, m, e, f, fits)
 
 -- ---- what is written
-
--- a raw chunk's header over its place
-pub closes_raw : {X : Type 0} (res : Result X DeviceFault) (s : Placer) (b end : ℕ) (w new : List ℕ) → s.kind ≡ kinds.Raw → end ≡ length w
-    → OnOk res (new ≡ put_at w (end - (12 + s.count * b)) (front_bytes kinds.Raw s.count (12 + s.count * b))) → OnOk res (new ≡ closing s b w)
-closes_raw (Ok y) s b end w new is e h = h ∙ ap (λ (n : ℕ). put_at w (n - (12 + s.count * b)) (front_bytes kinds.Raw s.count (12 + s.count * b))) e ∙ ap (λ (k : RunKind). closing_as k s b w) (sym is)
-closes_raw (Err f) s b end w new is e h = tt
-
--- the place that is kept for it
-pub begins_raw : {X : Type 0} (res : Result X DeviceFault) (s : Placer) (k : RunKind) (b : ℕ) (w mid new : List ℕ) → k ≡ kinds.Raw → goes_on_with s k ≡ false → mid ≡ closing s b w → OnOk res (new ≡ mid ++ replicate 12 0) → OnOk res (new ≡ beginning s k b w)
-begins_raw (Ok y) s k b w mid new is other e h =
-    let z : beginning s k b w ≡ closing s b w ++ kept_for k = rw other refl in
-    h ∙ ap (λ (l : List ℕ). l ++ replicate 12 0) e ∙ ap (λ (j : RunKind). closing s b w ++ kept_for j) (sym is) ∙ sym z
-begins_raw (Err f) s k b w mid new is other e h = tt
 
 -- with skipped blocks more
 pub sound_skipped : (b q : ℕ) (w w' : List ℕ) (s s' : Placer) → 0 < q → length w' + open_len s.kind s.count b ≤ length w + s.count * (b + 16) + 0 → SoundPlacer b (length w) s → s' ≡ with_part s kinds.Skip q → w' ≡ beginning s kinds.Skip b w → SoundPlacer b (length w') s'

@@ -1,12 +1,13 @@
 -- Calls that write, one after another.
 use Rattle.std.proofs.Common.{◌≡◌, ◌∙◌, ℕ, ◌+◌, ◌<◌, ◌≤◌, length, Bool, false, Result, Ok, Err, OnOk, OnErr, refl, arith}
 use Rattle.std.proofs.Math.Nat.{le_refl, le_trans}
-use Rattle.std.specs.Prelude.{IsErrOf, IfErr}
+use Rattle.std.specs.Prelude.{IsErrOf, IfErr, IsTrue}
 use Rattle.abt_io.specs.Count.{full_of}
 use Rattle.abt_io.specs.declared.device.DeviceFault.{DeviceFault}
 use Rattle.abt_io.specs.declared.device.DeviceFault.TheVariants.{Failed, Full}
 use Rattle.abt_io.specs.declared.device.Output as outputs
 use Rattle.abt_io.specs.declared.meter.Meter.{Meter}
+use Rattle.abt_io.specs.Lent.{NoStep, OnlyWrites}
 use Rattle.abt_placed.specs.Calls.{Stand, Writes, stand}
 
 -- nothing is done, or a meter alone goes on
@@ -102,27 +103,51 @@ at_most h calls turns = record {
 pub succeeds : {X Y : Type 0} {x : X} {y : Y} {k j : ℕ} {a z : Stand} → Writes (Ok x) k j a z → Writes (Ok y) k j a z
 succeeds h = at_most (onward h (still {k = 0} {j = 0})) (omega arith) (omega arith)
 
--- bytes that are laid over others
-pub laid_over : {B X : Type 0} {r : Result X DeviceFault} (o : outputs.Ghosts B) (output output' : B) (m m' : Meter) (n k : ℕ) → n ≡ k → length (o.written output') ≡ length (o.written output) → o.write_frame output' ≡ o.write_frame output → o.write_faults output ≤ o.write_faults output' → OnOk r (o.write_faults output' ≡ o.write_faults output)
-    → OnErr r (o.write_faults output < o.write_faults output') → o.full_faults output' ≡ o.full_faults output → IfErr r (λ e. e ≡ Failed) → o.writes output' ≤ o.writes output + n → m'.turns.number ≤ m.turns.number + n → m'.steps.number ≡ m.steps.number → m'.greatest.number ≡ m.greatest.number
-    → Writes r k k (stand o output m) (stand o output' m')
-laid_over {X = X} {r = r} o output output' m m' n k is long frame faults clean cause full_faults failed calls turns steps greatest = record {
-  grown = omega (arith, long);
-  frame = frame;
-  faults = faults;
-  clean = clean;
+-- bytes that are written out
+pub written_out : {B X : Type 0} {r : Result X DeviceFault} {k j : ℕ} {o : outputs.Ghosts B} {output output' : B}
+    {m m' : Meter} → OnlyWrites r (full_of r) o output output'
+    → OnErr r (o.write_faults output < o.write_faults output') → (IsErrOf r Full → IsTrue (o.is_full output'))
+    → o.writes output' + length (o.written output) ≤ o.writes output + length (o.written output') + k
+    → m'.turns.number + length (o.written output) ≤ m.turns.number + length (o.written output') + j → NoStep m m'
+    → Writes r k j (stand o output m) (stand o output' m')
+written_out writes cause full calls turns no_step = record {
+  grown = writes.least;
+  frame = writes.frame;
+  faults = writes.faults;
+  clean = writes.clean;
   cause = cause;
-  full_faults = never_full r failed full_faults;
+  full_faults = writes.full_faults;
+  full = full;
+  calls = calls;
+  turns = turns;
+  steps = no_step.steps;
+  greatest = no_step.greatest;
+}
+
+-- bytes that are laid over others
+pub laid_over : {B X : Type 0} {r : Result X DeviceFault} (o : outputs.Ghosts B) (output output' : B) (m m' : Meter)
+    (n k : ℕ) → n ≡ k → length (o.written output') ≡ length (o.written output) → OnlyWrites r 0 o output output'
+    → OnErr r (o.write_faults output < o.write_faults output') → IfErr r (λ e. e ≡ Failed)
+    → o.writes output' ≤ o.writes output + n → m'.turns.number ≤ m.turns.number + n → NoStep m m'
+    → Writes r k k (stand o output m) (stand o output' m')
+laid_over {X = X} {r = r} o output output' m m' n k is long writes cause failed calls turns no_step = record {
+  grown = writes.least;
+  frame = writes.frame;
+  faults = writes.faults;
+  clean = writes.clean;
+  cause = cause;
+  full_faults = never_full r failed writes.full_faults;
   full = λ says. absurd (not_full r failed says);
   calls = omega (arith, is, long, calls);
   turns = omega (arith, is, long, turns);
-  steps = steps;
-  greatest = greatest;
+  steps = no_step.steps;
+  greatest = no_step.greatest;
 }
   where
-    never_full : (r : Result X DeviceFault) → IfErr r (λ e. e ≡ Failed) → o.full_faults output' ≡ o.full_faults output → o.full_faults output' ≡ o.full_faults output + full_of r
-    never_full (Ok x) f e = omega (arith, e)
-    never_full (Err y) f e = rw f (omega (arith, e))
+    never_full : (r : Result X DeviceFault) → IfErr r (λ e. e ≡ Failed) → o.full_faults output' ≡ o.full_faults output + 0
+        → o.full_faults output' ≡ o.full_faults output + full_of r
+    never_full (Ok x) f e = e
+    never_full (Err y) f e = rw f e
 
     not_full : (r : Result X DeviceFault) → IfErr r (λ e. e ≡ Failed) → IsErrOf r Full → ⊥
     not_full (Ok x) f e = absurd cc

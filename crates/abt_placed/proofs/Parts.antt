@@ -1,7 +1,6 @@
 -- The numbers of a part that is taken, or of which a write fails.
 use Rattle.std.proofs.Common.{◌≡◌, ℕ, ◌+◌, ◌*◌, ◌<◌, ◌≤◌, true, false, List, length, refl, ap, arith, mul-le-mul_right}
-use Rattle.std.proofs.Common.{Bool, Result, Ok, Err, OnErr, ◌^◌, if◌then◌else◌}
-use Rattle.std.specs.Prelude.{IfErr}
+use Rattle.std.proofs.Common.{Bool, Result, Err, ◌^◌, if◌then◌else◌}
 use Rattle.abt_io.specs.Count.{full_in, full_of}
 use Rattle.abt_io.specs.declared.device.DeviceFault.{DeviceFault}
 use Rattle.abt_io.specs.declared.device.DeviceFault.TheVariants.{Failed, Full}
@@ -45,33 +44,8 @@ part_passed b long q s s' k h e = rw e (passed_as (goes_on_with s k) s k q h.chu
 
 -- ---- the open chunk is made whole
 
-pub raw_within : (q b old new : ℕ) → 0 < q → new ≡ old → new + (12 + q * b) ≤ old + q * (b + 16)
-raw_within q b old new some e = let d : q * (b + 16) ≡ q * b + 16 * q = omega arith in omega (arith, d, e, some)
-
-pub head_within : (q b head old new : ℕ) → 0 < q → head ≤ 16 → new ≤ old + head → new + 0 ≤ old + q * (b + 16)
-head_within q b head old new some le e = let d : q * (b + 16) ≡ q * b + 16 * q = omega arith in omega (arith, d, e, le, some)
-
 pub raw_fits : (q most b : ℕ) → q ≤ most → 12 + most * b < 2 ^ 32 → 12 + q * b < 2 ^ 32
 raw_fits q most b le small = let m : q * b ≤ most * b = mul-le-mul_right b le in omega (arith, m, small)
-
--- a device that is full has room for one byte less
-pub full_short : {X : Type 0} (res : Result X DeviceFault) (x y : ℕ) → x ≤ y → OnErr res (x < y) → x + full_of res ≤ y
-full_short (Ok z) x y le h = omega (arith, le)
-full_short (Err Failed) x y le h = omega (arith, le)
-full_short (Err Full) x y le h = omega (arith, h)
-
-pub failed_full : {X : Type 0} (res : Result X DeviceFault) (x y : ℕ) → x ≤ y → IfErr res (λ e. e ≡ Failed) → x + full_of res ≤ y
-failed_full (Ok z) x y le h = omega (arith, le)
-failed_full (Err f) x y le h = rw h (omega (arith, le))
-
-pub stays_within : (k : RunKind) (q b long more : ℕ) → (is_end k ≡ false → 0 < q) → long + open_len k q b ≤ long + q * (b + 16) + more
-stays_within kinds.Raw q b long more some = let z = some refl in let d : q * (b + 16) ≡ q * b + 16 * q = omega arith in omega (arith, z, d)
-stays_within (kinds.Fill w) q b long more some = omega arith
-stays_within kinds.Skip q b long more some = omega arith
-stays_within kinds.End q b long more some = omega arith
-
-pub full_within : {X : Type 0} (res : Result X DeviceFault) (x m y : ℕ) → x ≤ m → OnErr res (x < m) → m ≤ y → x + full_of res ≤ y
-full_within res x m y le short more = omega (arith, full_short res x m le short, more)
 
 -- a fault says at most once that the device is full
 pub full_once : (f : DeviceFault) → full_in f ≤ 1

@@ -1,7 +1,7 @@
 -- What is no image is refused, and what stays as it was.
 use Rattle.std.proofs.Common.{inl, inr, ◌⊎◌, ◌≡◌, ℕ, zero, suc, ◌+◌, ◌-◌, ◌*◌, ◌<◌, ◌≤◌, nat_lt, ◌==◌, not, true, List, ◌∷◌, ◌++◌, length, take, drop, replicate, refl, sym, ap, ◌∙◌, arith, append_assoc, append-nil, length-append, length-drop}
 use Rattle.std.proofs.lemmas.Bool.{cases_Bool, eqb-true}
-use Rattle.std.proofs.lemmas.List.{length-take-le, take_all, take-append-drop, take-append-le, take-take, drop-take, drop-drop}
+use Rattle.std.proofs.lemmas.List.{length-take-le, take_all, take-append-drop, take-take, drop-take, drop-drop}
 use Rattle.abt_sparse.specs.declared.fault.SparseFault.TheVariants.{Magic, Truncated}
 use Rattle.abt_sparse.specs.Reading.{outcome, checked_header}
 use Rattle.abt_sparse.specs.Field.{number_at}
@@ -66,10 +66,7 @@ take_less n at w le = sym (take-take n at w le)
 pub keeps_less : (n k : ℕ) (w w' : List ℕ) → n ≤ k → KeepsFront k w w' → KeepsFront n w w'
 keeps_less n k w w' le h = record { front = take_less n k w' le ∙ ap (take n) h.front ∙ sym (take_less n k w le); long = h.long }
 
--- what is written behind, or laid over what stands behind
-pub keeps_behind : (n : ℕ) (w w' x : List ℕ) → n ≤ length w → w' ≡ w ++ x → KeepsFront n w w'
-keeps_behind n w w' x le e = record { front = ap (take n) e ∙ take-append-le n w x le; long = omega (arith, ap length e, length-append w x) }
-
+-- what is laid over what stands behind
 pub keeps_before : (n at : ℕ) (w w' : List ℕ) → n ≤ at → take at w' ≡ take at w → length w' ≡ length w → KeepsFront n w w'
 keeps_before n at w w' le h long = keeps_less n at w w' le (record { front = h; long = omega (arith, long) })
 

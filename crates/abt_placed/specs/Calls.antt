@@ -4,13 +4,15 @@ use Rattle.std.specs.Prelude.{IsErrOf, IfErr, ◌*◌, max}
 use Rattle.abt_io.specs.Count.{full_of}
 use Rattle.abt_io.specs.Frame.{PartitionFrame, WriteFrame}
 use Rattle.abt_io.specs.declared.device.DeviceFault.{DeviceFault}
-use Rattle.abt_io.specs.declared.device.DeviceFault.TheVariants.{Full}
+use Rattle.abt_io.specs.declared.device.DeviceFault.TheVariants.{Failed, Full}
 use Rattle.abt_io.specs.declared.device.Output as outputs
 use Rattle.abt_io.specs.declared.device.Source as sources
 use Rattle.abt_io.specs.declared.meter.Meter.{Meter}
 use Rattle.abt_pieces.specs.declared.fault.PieceFault.{PieceFault}
 use Rattle.abt_pieces.specs.Fault.{CutCause, full_cut}
-use Rattle.abt_placed.specs.Unfinished.{IsNoImage}
+use Rattle.abt_placed.specs.Placer.{SoundPlacer}
+use Rattle.abt_placed.specs.Unfinished.{IsNoImage, KeepsFront}
+use Rattle.abt_placed.specs.declared.placer.Placer.{Placer}
 
 -- what is known of an output and of a meter, beside the bytes
 pub record Stand : Type 0 where
@@ -95,3 +97,22 @@ pub record OutputGrows {X : Type 0} (r : Result X PieceFault) (old new : List �
   pub grown : length old ≤ length new
   pub before : take (length old) new ≡ old
   pub unfinished : OnErr r ((new ≡ old) ⊎ IsNoImage (drop (length old) new))
+
+-- A call that lays a header of k bytes over what stands at a place, and nothing before it.
+pub record LaysOver {X B : Type 0} (r : Result X DeviceFault) (at k : ℕ) (o : outputs.Ghosts B) (old new : B)
+    (m m' : Meter) : Type 0 where
+  pub before : take at (o.written new) ≡ take at (o.written old)
+  pub long : length (o.written new) ≡ length (o.written old)
+  pub failed : IfErr r (λ e. e ≡ Failed)
+  pub writes : Writes r k k (stand o old m) (stand o new m')
+
+-- A placer of blocks of b bytes takes q of them, with at most k calls of the output beside those of bytes: what stood
+-- before its chunks stays.
+pub record PlacerGoes {X B : Type 0} (b q k : ℕ) (r : Result X DeviceFault) (s s' : Placer) (o : outputs.Ghosts B)
+    (old new : B) (m m' : Meter) : Type 0 where
+  pub kept : KeepsFront (s.front + 28) (o.written old) (o.written new)
+  pub sound : OnOk r (SoundPlacer b (length (o.written new)) s')
+  pub passed : OnOk r (s'.blocks + s'.count ≡ s.blocks + s.count + q)
+  pub same : (s'.most ≡ s.most) × (s'.front ≡ s.front)
+  pub writes : Writes r k k (stand o old m) (stand o new m')
+  pub within : length (o.written new) ≤ s.front + 28 + (s.blocks + s.count + q) * (b + 16)

@@ -28,6 +28,18 @@ pub record SoundPlacer (b long : ℕ) (s : Placer) : Type 0 where
   pub most : 0 < s.most
   pub small : 12 + s.most * b < 2 ^ 32
 
+-- what the open chunk of a placer asks for to be made whole, where `long` bytes are written
+pub record CanClose (b long : ℕ) (s : Placer) : Type 0 where
+  pub raw : s.kind ≡ kinds.Raw → s.count ≤ s.most
+  pub some : is_end s.kind ≡ false → 0 < s.count
+  pub room : s.front + 28 + open_len s.kind s.count b ≤ long
+  pub small : 12 + s.most * b < 2 ^ 32
+
+-- a placer of blocks of b bytes that can take q more
+pub record CanTake (b q long : ℕ) (s : Placer) : Type 0 where
+  pub within : s.blocks + s.count + q < 2 ^ 32
+  pub sound : SoundPlacer b long s
+
 -- ---- a placer that goes on
 
 -- with the open chunk whole

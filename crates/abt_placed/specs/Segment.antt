@@ -17,8 +17,11 @@ use Rattle.abt_placed.specs.declared.segment.Segment.{Segment}
 use Rattle.std.specs.Prelude.{◌%◌, length, Result, OnOk}
 use Rattle.abt_runs.specs.Part.{AllOf, is_end}
 use Rattle.abt_runs.specs.declared.raw.RawRuns.{RawRuns}
+use Rattle.abt_pieces.specs.Fault.{full_cut}
 use Rattle.abt_pieces.specs.Plan.{gain_of}
+use Rattle.abt_pieces.specs.declared.fault.PieceFault.{PieceFault}
 use Rattle.abt_placed.specs.Placed.{classes}
+use Rattle.abt_placed.specs.Calls.{LaysOn, Scene}
 use Rattle.abt_placed.specs.Whole.{read_of}
 use Rattle.abt_placed.specs.Unfinished.{KeepsFront}
 
@@ -128,6 +131,11 @@ pub record SegmentGoes {X E : Type 0} (b n full : ℕ) (r : Result X E) (s s' : 
     pub within : length new ≤ s.placer.front + 28 + n * (b + 16)
     pub long : IsUncut b s.limit s.placer.most → length new + full ≤ s.placer.front + s.limit
 
+-- A segment that can take up to n blocks more.
+pub record CanGoOn (b n long : ℕ) (s : Segment) : Type 0 where
+  pub within : taken s.placer + n < 2 ^ 32
+  pub sound : SoundSegment b long s
+
 -- These blocks don't fit, so the segment ends before them.
 pub record PartOver (b n : ℕ) (k : RunKind) (s : Segment) (unchanged : Type 0) : Type 0 where
   pub still : unchanged
@@ -143,3 +151,12 @@ pub record SegmentReads {X E : Type 0} (r : Result X E) (runs : RawRuns) (s s' :
         ≤ given' + read_of runs.length runs.size (taken s.placer))
     pub last : OnOk r (given' + read_of runs.length runs.size (taken s.placer)
         ≤ given + read_of runs.length runs.size (taken s'.placer) + 65536)
+
+-- A segment takes blocks of its source, which is read for them: what stands is laid, and is told.
+pub record SegmentLays {X : Type 0} (r : Result X PieceFault) (tells : Bool) (runs : RawRuns) (s s' : Segment)
+    (old new : List ℕ) (a z : Scene) : Type 0 where
+  pub lays : LaysOn r tells a z
+  pub told : OnOk r (ToldSegment tells a.content runs.size new s')
+  pub segment : SegmentGoes runs.size runs.blocks (full_cut r) r s s' old new
+  pub inside : OnOk r (taken s'.placer ≤ runs.blocks)
+  pub reads : SegmentReads r runs s s' a.given z.given

@@ -1,13 +1,11 @@
 //! Headers that are laid when what they tell is known.
-ghost use Rattle.std.specs.Prelude.{◌≡◌, ◌<◌, ◌≤◌, ◌+◌, ◌*◌, ◌%◌, ◌^◌, OnOk, OnErr, IfErr, length, drop, take};
-ghost use Rattle.std.specs.Prelude.{replicate, false};
+ghost use Rattle.std.specs.Prelude.{◌≡◌, ◌<◌, ◌≤◌, ◌+◌, ◌*◌, ◌%◌, ◌^◌, OnOk, OnErr, length, drop, take, replicate};
 ghost use Rattle.abt_io.specs.Count.{full_of};
 ghost use Rattle.abt_io.specs.Moment.{put_at};
 ghost use Rattle.abt_sparse.specs.Chunk.{header_record, plain_header};
 ghost use Rattle.abt_pieces.specs.Write.{front_bytes};
-ghost use Rattle.abt_runs.specs.Part.{is_end};
-ghost use Rattle.abt_placed.specs.Placer.{SoundPlacer, open_len, closed, closing, closing_len};
-ghost use Rattle.abt_placed.specs.Calls.{Writes, stand};
+ghost use Rattle.abt_placed.specs.Placer.{CanClose, SoundPlacer, open_len, closed, closing, closing_len};
+ghost use Rattle.abt_placed.specs.Calls.{LaysOver, Writes, stand};
 ghost use Rattle.abt_placed.specs.Unfinished.{IsUnfinished, KeepsFront};
 ghost use Rattle.abt_placed.specs.Segment.{IsWordSize};
 
@@ -28,10 +26,7 @@ pub fn lay_front<O: Overwrite>(
     requires below { at + 12 < 2 ^ 64 }
     ensures ok { OnOk result (O.written output.new ≡ put_at (O.written output.old) at
         (front_bytes RunKind.Raw blocks total)) }
-    ensures before { take at (O.written output.new) ≡ take at (O.written output.old) }
-    ensures long { length (O.written output.new) ≡ length (O.written output.old) }
-    ensures failed { IfErr result (λ e. e ≡ DeviceFault.Failed) }
-    ensures writes { Writes result 12 12 (stand O.Output output.old m.old) (stand O.Output output.new m.new) }
+    ensures over { LaysOver result at 12 O.Output output.old output.new m.old m.new }
 {
     let bytes = chunk_front(RunKind::Raw, blocks, total);
     write_over_all(output, at, &bytes[..12], m)
@@ -54,11 +49,8 @@ pub fn lay_header<O: Overwrite>(
     requires zeros { take 28 (drop at (O.written output.old)) ≡ replicate 28 0 }
     ensures ok { OnOk result (O.written output.new ≡ put_at (O.written output.old) at
         (header_record (plain_header size count chunks))) }
-    ensures before { take at (O.written output.new) ≡ take at (O.written output.old) }
     ensures unfinished { OnErr result (IsUnfinished (drop at (O.written output.new))) }
-    ensures long { length (O.written output.new) ≡ length (O.written output.old) }
-    ensures failed { IfErr result (λ e. e ≡ DeviceFault.Failed) }
-    ensures writes { Writes result 28 28 (stand O.Output output.old m.old) (stand O.Output output.new m.new) }
+    ensures over { LaysOver result at 28 O.Output output.old output.new m.old m.new }
 {
     let bytes = image_header(size, count, chunks);
     match write_over_all(output, at + 4, &bytes[4..], m) {
@@ -80,11 +72,7 @@ impl Placer {
         output: &mut O,
         m: &mut Meter,
     ) -> Result<(), DeviceFault>
-        requires raw { self.now.kind ≡ RunKind.Raw → self.now.count ≤ self.now.most }
-        requires some { is_end self.now.kind ≡ false → 0 < self.now.count }
-        requires room { self.now.front + 28 + open_len self.now.kind self.now.count size
-            ≤ length (O.written output.old) }
-        requires small { 12 + self.now.most * size < 2 ^ 32 }
+        requires can { CanClose size (length (O.written output.old)) self.now }
         ensures kept { KeepsFront (self.now.front + 28) (O.written output.old) (O.written output.new) }
         ensures written { OnOk result (O.written output.new ≡ closing self.now size (O.written output.old)) }
         ensures writes { Writes result 12 12 (stand O.Output output.old m.old) (stand O.Output output.new m.new) }

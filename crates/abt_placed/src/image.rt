@@ -1,14 +1,10 @@
 //! Writing a raw image as a sparse one in one pass.
-ghost use Rattle.std.specs.Prelude.{◌≡◌, ℕ, ◌<◌, ◌≤◌, ◌+◌, ◌-◌, ◌*◌, ◌^◌, ◌++◌, IsTrue, IfOk, IfErr, OnOk, Err};
-ghost use Rattle.std.specs.Prelude.{length};
+ghost use Rattle.std.specs.Prelude.{◌≡◌, ◌<◌, ◌≤◌, ◌+◌, ◌*◌, ◌^◌, ◌++◌, IsTrue, IfOk, OnOk, length};
 ghost use Rattle.abt_sparse.specs.Block.{classify};
 ghost use Rattle.abt_sparse.specs.Chunk.{spelling, chunks_of};
-ghost use Rattle.abt_pieces.specs.Fault.{full_cut};
-ghost use Rattle.abt_sparsify.specs.Sparsify.{SparsifyCause, IsRawSize};
-ghost use Rattle.abt_pieces.specs.Calls.{CallCosts, devices};
+ghost use Rattle.abt_sparsify.specs.Sparsify.{WritesSparse};
 ghost use Rattle.abt_placed.specs.Calls.{OutputGrows};
 ghost use Rattle.abt_placed.specs.Piece.{ImageWritten, ReadsOnce};
-ghost use Rattle.abt_io.specs.Lent.{OnlyReads, OnlyWrites};
 
 use crate::cutting::lay_piece;
 use abt_io::{Meter, Overwrite, Source, Window};
@@ -37,28 +33,17 @@ pub fn sparsify_at<S: Source, O: Overwrite>(
 ) -> Result<Written, PieceFault>
     requires some { 1 ≤ most }
     requires small { 12 + most * block_size < 2 ^ 32 }
-    ensures reads { OnlyReads result S.Source source.old source.new }
-    ensures writes { OnlyWrites result (full_cut result) O.Output output.old output.new }
-    ensures bad_block { (IsRawSize block_size → ⊥) → (result ≡ Err (PieceFault.BadBlock block_size)) ×
-        (output.new ≡ output.old) × (source.new ≡ source.old) }
-    ensures too_large { IsRawSize block_size → (2 ^ 32 - 1) * block_size < S.size source.old →
-        (result ≡ Err PieceFault.TooLarge) × (output.new ≡ output.old) × (source.new ≡ source.old) }
+    ensures does { WritesSparse result block_size S.Source O.Output source.old source.new output.old output.new m.old
+        m.new }
     ensures written { IfOk result (λ a. ImageWritten block_size (S.size source.old) a (O.written output.old)
         (O.written output.new)) }
     ensures chunks { IsTrue S.tells → IfOk result (λ a. (a.blocks ≡ length (classify block_size (S.content source.old)))
         × (a.chunks ≡ length (chunks_of most (classify block_size (S.content source.old))))) }
-    ensures within { (n : ℕ) → S.size source.old ≤ n * block_size → length (O.written output.new)
-        ≤ length (O.written output.old) + (28 + n * (block_size + 16)) }
     ensures grows { OutputGrows result (O.written output.old) (O.written output.new) }
     ensures whole { IsTrue S.tells →
         OnOk result (O.written output.new ≡ O.written output.old ++ spelling block_size most
         (classify block_size (S.content source.old))) }
     ensures takes { ReadsOnce (S.size source.old) result (S.given source.old) (S.given source.new) }
-    ensures costs { CallCosts block_size (devices S.Source O.Output source.old output.old)
-        (devices S.Source O.Output source.new output.new) m.old m.new }
-    ensures full { full_cut result ≡ 1 → IsTrue (O.is_full output.new) }
-    ensures cause { IfErr result (λ e. SparsifyCause e block_size (S.size source.old) S.tells (S.read_faults source.old)
-        (S.read_faults source.new) (O.write_faults output.old) (O.write_faults output.new)) }
 {
     let runs = match RawRuns::open(source, block_size) {
         Ok(runs) => runs,

@@ -4,18 +4,17 @@ ghost use Rattle.std.specs.Prelude.{List, [], length, take, drop, replicate, tru
 ghost use Rattle.abt_io.specs.Count.{full_of};
 ghost use Rattle.abt_sparse.specs.Block.{Block};
 ghost use Rattle.abt_sparse.specs.Runs.{framed};
-ghost use Rattle.abt_pieces.specs.Fault.{full_cut};
 ghost use Rattle.abt_pieces.specs.Plan.{cap_of, gain_of};
 ghost use Rattle.abt_placed.specs.Placer.{room_of};
 ghost use Rattle.abt_placed.specs.Placed.{classes};
 ghost use Rattle.abt_placed.specs.Whole.{taken, read_of, spare};
-ghost use Rattle.abt_placed.specs.Segment.{SoundSegment, LaidSegment, ToldSegment, EndedSegment, OneMoreExceeds};
+ghost use Rattle.abt_placed.specs.Segment.{CanGoOn, SoundSegment, LaidSegment, EndedSegment, OneMoreExceeds};
 ghost use Rattle.abt_placed.specs.Segment.{IsUncut};
 ghost use Rattle.abt_placed.specs.Segment.{tail_of_open};
 ghost use Rattle.abt_placed.specs.Piece.{LaidPiece};
-ghost use Rattle.abt_placed.specs.Calls.{Writes, LaysOn, stand, scene};
+ghost use Rattle.abt_placed.specs.Calls.{Writes, stand, scene};
 ghost use Rattle.abt_placed.specs.Unfinished.{IsUnfinished};
-ghost use Rattle.abt_placed.specs.Segment.{IsWordSize, PartBlocks, ReadySegment, SegmentGoes, PartOver, SegmentReads};
+ghost use Rattle.abt_placed.specs.Segment.{IsWordSize, PartBlocks, ReadySegment, SegmentGoes, PartOver, SegmentLays};
 
 use crate::placer::Placer;
 use abt_io::{DeviceFault, Meter, Overwrite, Source, WINDOW, Window};
@@ -138,10 +137,9 @@ impl Segment {
         m: &mut Meter,
     ) -> Result<bool, DeviceFault>
         requires part { PartBlocks kind blocks size bytes.now }
-        requires within { taken self.old.placer + blocks < 2 ^ 32 }
         requires room { blocks ≤ room_of self.old.placer }
         requires cap { blocks ≤ cap_of (tail_of_open self.old.placer.kind) (self.old.limit - self.old.weight) size }
-        requires sound { SoundSegment size (length (O.written output.old)) self.old }
+        requires can { CanGoOn size blocks (length (O.written output.old)) self.old }
         ensures segment { SegmentGoes size (taken self.old.placer + blocks) (full_of result) result self.old self.new
             (O.written output.old) (O.written output.new) }
         ensures laid { (g : List Block) → LaidSegment size g (O.written output.old) self.old →
@@ -176,8 +174,7 @@ impl Segment {
     ) -> Result<bool, DeviceFault>
         requires size { IsWordSize size }
         requires window { blocks * size ≤ 65536 }
-        requires within { taken self.old.placer + blocks < 2 ^ 32 }
-        requires sound { SoundSegment size (length (O.written output.old)) self.old }
+        requires can { CanGoOn size blocks (length (O.written output.old)) self.old }
         ensures segment { SegmentGoes size (taken self.old.placer + blocks) (full_of result) result self.old self.new
             (O.written output.old) (O.written output.new) }
         ensures laid { (g : List Block) → LaidSegment size g (O.written output.old) self.old →
@@ -229,17 +226,12 @@ impl Segment {
         m: &mut Meter,
     ) -> Result<bool, PieceFault>
         requires ready { ReadySegment S.tells (S.content source.old) runs.now self.old (O.written output.old) }
-        ensures lays { LaysOn result S.tells (scene S.Source O.Output source.old output.old m.old)
+        ensures lays { SegmentLays result S.tells runs.now self.old self.new (O.written output.old)
+            (O.written output.new) (scene S.Source O.Output source.old output.old m.old)
             (scene S.Source O.Output source.new output.new m.new) }
-        ensures told { OnOk result (ToldSegment S.tells (S.content source.old) runs.now.size (O.written output.new)
-            self.new) }
         ensures ended { IfOk result (λ d. d ≡ true → EndedSegment S.tells (S.content source.old) runs.now.size
             runs.now.blocks self.new) }
-        ensures segment { SegmentGoes runs.now.size runs.now.blocks (full_cut result) result self.old self.new
-            (O.written output.old) (O.written output.new) }
         ensures on { IfOk result (λ d. d ≡ false → taken self.old.placer < taken self.new.placer) }
-        ensures inside { OnOk result (taken self.new.placer ≤ runs.now.blocks) }
-        ensures reads { SegmentReads result runs.now self.old self.new (S.given source.old) (S.given source.new) }
         ensures once { IfOk result (λ d. d ≡ false → S.given source.new + read_of runs.now.length runs.now.size
             (taken self.old.placer) ≡ S.given source.old + read_of runs.now.length runs.now.size
             (taken self.new.placer)) }
@@ -295,16 +287,11 @@ impl Segment {
         m: &mut Meter,
     ) -> Result<(), PieceFault>
         requires ready { ReadySegment S.tells (S.content source.old) runs.now self.old (O.written output.old) }
-        ensures lays { LaysOn result S.tells (scene S.Source O.Output source.old output.old m.old)
+        ensures lays { SegmentLays result S.tells runs.now self.old self.new (O.written output.old)
+            (O.written output.new) (scene S.Source O.Output source.old output.old m.old)
             (scene S.Source O.Output source.new output.new m.new) }
-        ensures told { OnOk result (ToldSegment S.tells (S.content source.old) runs.now.size (O.written output.new)
-            self.new) }
         ensures ended { OnOk result (EndedSegment S.tells (S.content source.old) runs.now.size runs.now.blocks
             self.new) }
-        ensures segment { SegmentGoes runs.now.size runs.now.blocks (full_cut result) result self.old self.new
-            (O.written output.old) (O.written output.new) }
-        ensures inside { OnOk result (taken self.new.placer ≤ runs.now.blocks) }
-        ensures reads { SegmentReads result runs.now self.old self.new (S.given source.old) (S.given source.new) }
         ensures calls { S.reads source.new + O.writes output.new + length (O.written output.old)
             ≤ S.reads source.old + O.writes output.old + length (O.written output.new) + 6
             * (S.given source.new - S.given source.old) + 14 }

@@ -1,12 +1,11 @@
 //! Blocks that are taken, class by class, as they stand in the window.
-ghost use Rattle.std.specs.Prelude.{◌≡◌, ◌<◌, ◌≤◌, ◌+◌, ◌-◌, ◌*◌, ◌^◌, ◌++◌, OnOk, List, length, take, false};
+ghost use Rattle.std.specs.Prelude.{◌≡◌, ◌≤◌, ◌+◌, ◌*◌, ◌++◌, OnOk, List, length};
 ghost use Rattle.abt_io.specs.Count.{full_of};
 ghost use Rattle.abt_sparse.specs.Block.{Block};
-ghost use Rattle.abt_runs.specs.Part.{is_end};
-ghost use Rattle.abt_placed.specs.Placer.{SoundPlacer, open_len, beginning, kept_for};
+ghost use Rattle.abt_placed.specs.Placer.{CanClose, CanTake, open_len, beginning, kept_for};
 ghost use Rattle.abt_placed.specs.Placer.{data_for, with_part, room_of, closing_len, beginning_len, taking_len};
 ghost use Rattle.abt_placed.specs.Placed.{Placed, classes, skips};
-ghost use Rattle.abt_placed.specs.Calls.{Writes, stand};
+ghost use Rattle.abt_placed.specs.Calls.{PlacerGoes, Writes, stand};
 ghost use Rattle.abt_placed.specs.Unfinished.{KeepsFront};
 ghost use Rattle.abt_placed.specs.Segment.{PartBlocks};
 
@@ -24,11 +23,7 @@ impl Placer {
         output: &mut O,
         m: &mut Meter,
     ) -> Result<(), DeviceFault>
-        requires raw { self.now.kind ≡ RunKind.Raw → self.now.count ≤ self.now.most }
-        requires some { is_end self.now.kind ≡ false → 0 < self.now.count }
-        requires room { self.now.front + 28 + open_len self.now.kind self.now.count size
-            ≤ length (O.written output.old) }
-        requires small { 12 + self.now.most * size < 2 ^ 32 }
+        requires can { CanClose size (length (O.written output.old)) self.now }
         ensures kept { KeepsFront (self.now.front + 28) (O.written output.old) (O.written output.new) }
         ensures written { OnOk result (O.written output.new ≡ beginning self.now kind size (O.written output.old)) }
         ensures writes { Writes result 13 13 (stand O.Output output.old m.old) (stand O.Output output.new m.new) }
@@ -61,19 +56,12 @@ impl Placer {
         m: &mut Meter,
     ) -> Result<(), DeviceFault>
         requires part { PartBlocks kind blocks size bytes.now }
-        requires within { self.old.blocks + self.old.count + blocks < 2 ^ 32 }
+        requires can { CanTake size blocks (length (O.written output.old)) self.old }
         requires cap { blocks ≤ room_of self.old }
-        requires sound { SoundPlacer size (length (O.written output.old)) self.old }
         ensures ok { OnOk result (self.new ≡ with_part self.old kind blocks) }
-        ensures kept { KeepsFront (self.old.front + 28) (O.written output.old) (O.written output.new) }
-        ensures sound { OnOk result (SoundPlacer size (length (O.written output.new)) self.new) }
+        ensures goes { PlacerGoes size blocks 14 result self.old self.new O.Output output.old output.new m.old m.new }
         ensures laid { (g : List Block) → Placed size g (O.written output.old) self.old →
             OnOk result (Placed size (g ++ classes size blocks bytes.now) (O.written output.new) self.new) }
-        ensures passed { OnOk result (self.new.blocks + self.new.count ≡ self.old.blocks + self.old.count + blocks) }
-        ensures same { (self.new.most ≡ self.old.most) × (self.new.front ≡ self.old.front) }
-        ensures writes { Writes result 14 14 (stand O.Output output.old m.old) (stand O.Output output.new m.new) }
-        ensures within { length (O.written output.new)
-            ≤ self.old.front + 28 + (self.old.blocks + self.old.count + blocks) * (size + 16) }
         ensures adds { length (O.written output.new) + full_of result
             ≤ length (O.written output.old) + taking_len self.old kind blocks size }
     {
@@ -97,17 +85,10 @@ impl Placer {
         output: &mut O,
         m: &mut Meter,
     ) -> Result<(), DeviceFault>
-        requires within { self.old.blocks + self.old.count + blocks < 2 ^ 32 }
-        requires sound { SoundPlacer size (length (O.written output.old)) self.old }
-        ensures kept { KeepsFront (self.old.front + 28) (O.written output.old) (O.written output.new) }
-        ensures sound { OnOk result (SoundPlacer size (length (O.written output.new)) self.new) }
+        requires can { CanTake size blocks (length (O.written output.old)) self.old }
+        ensures goes { PlacerGoes size blocks 13 result self.old self.new O.Output output.old output.new m.old m.new }
         ensures laid { (g : List Block) → Placed size g (O.written output.old) self.old →
             OnOk result (Placed size (g ++ skips blocks) (O.written output.new) self.new) }
-        ensures passed { OnOk result (self.new.blocks + self.new.count ≡ self.old.blocks + self.old.count + blocks) }
-        ensures same { (self.new.most ≡ self.old.most) × (self.new.front ≡ self.old.front) }
-        ensures writes { Writes result 13 13 (stand O.Output output.old m.old) (stand O.Output output.new m.new) }
-        ensures within { length (O.written output.new)
-            ≤ self.old.front + 28 + (self.old.blocks + self.old.count + blocks) * (size + 16) }
         ensures adds { length (O.written output.new) + full_of result
             ≤ length (O.written output.old) + beginning_len self.old RunKind.Skip }
         ensures closes { OnOk result (length (O.written output.new) + closing_len self.new.kind

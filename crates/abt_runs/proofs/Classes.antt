@@ -1,11 +1,15 @@
 -- The classes of blocks that stand together.
-use Rattle.std.proofs.Common.{◌≡◌, ℕ, zero, suc, ◌+◌, ◌-◌, ◌*◌, ◌/◌, ◌≤◌, Bool, false, List, [], ◌∷◌, ◌++◌, length, take, drop, map, replicate, refl, sym, ap, ◌∙◌, arith, inl, inr, bytes_eq, Option, Some, None, min, IsTrue, subst, length-append, length-drop, append-nil, nat_le, leb-true, leb-false, mul-le-mul_right}
-use Rattle.std.specs.Prelude.{slice_range, IfNone, is_some}
+use Rattle.std.proofs.Common.{◌≡◌, ℕ, zero, suc, ◌+◌, ◌-◌, ◌*◌, ◌/◌, ◌≤◌, Bool, false, List, [], ◌∷◌, ◌++◌, length}
+use Rattle.std.proofs.Common.{take, drop, map, replicate, refl, sym, ap, ◌∙◌, arith, inl, inr, bytes_eq, Option, Some}
+use Rattle.std.proofs.Common.{None, min, IsTrue, subst, length-drop, append-nil, nat_le, leb-true, leb-false}
+use Rattle.std.proofs.Common.{mul-le-mul_right}
+use Rattle.std.specs.Prelude.{IfNone, is_some}
 use Rattle.abt_runs.specs.declared.part.RunFault.{RunFault}
 use Rattle.std.specs.List.{list_all, AllByRecursion}
 use Rattle.std.proofs.lemmas.Bool.{cases_Bool}
-use Rattle.std.proofs.lemmas.List.{drop-drop, take_all, length-take-le, length-replicate, take-append-le, drop-append-le, take-map, drop-map, take-replicate}
-use Rattle.std.proofs.Math.Seq.{take-append_seam, take-append-add}
+use Rattle.std.proofs.lemmas.List.{drop-drop, take_all, take-append-le, drop-append-le, take-map, drop-map}
+use Rattle.std.proofs.lemmas.List.{take-replicate}
+use Rattle.std.proofs.Math.Seq.{take-append-add}
 use Rattle.abt_sparse.specs.Block.{Block, Fill, Skip, split, class_of, classify, block_count}
 use Rattle.abt_runs.specs.Words.{word_of, kind_of_word}
 use Rattle.abt_runs.specs.Part.{AllOf, IsRaw, is_end}
@@ -14,7 +18,8 @@ use Rattle.abt_runs.specs.declared.part.RunKind.TheVariants as kinds
 
 -- ---- one block
 
-pub one_class : (bytes : List ℕ) (o : Option (List ℕ)) → o ≡ word_of bytes → AllOf (kind_of_word o) (class_of bytes ∷ [])
+pub one_class : (bytes : List ℕ) (o : Option (List ℕ)) → o ≡ word_of bytes → AllOf (kind_of_word o)
+    (class_of bytes ∷ [])
 one_class bytes o e = elim (cases_Bool (list_all (bytes_eq (take 4 bytes)) (split 4 (length bytes / 4) bytes))) [
   | inl h ↦
       let f : o ≡ Some (take 4 bytes) = rw h at e in
@@ -42,59 +47,54 @@ snoc_length : (xs : List Block) (x : Block) → length (xs ++ x ∷ []) ≡ suc 
 snoc_length [] x = refl
 snoc_length (y ∷ xs) x = ap suc (snoc_length xs x)
 
-pub all_snoc : (k : RunKind) (xs : List Block) (x : Block) → is_end k ≡ false → AllOf k xs → AllOf k (x ∷ []) → AllOf k (xs ++ x ∷ [])
+pub all_snoc : (k : RunKind) (xs : List Block) (x : Block) → is_end k ≡ false → AllOf k xs → AllOf k (x ∷ []) → AllOf k
+    (xs ++ x ∷ [])
 all_snoc kinds.Raw xs x e h k = raws_more xs x h k.0
 all_snoc (kinds.Fill w) xs x e h k =
     let f : x ≡ Fill w = cc in
-    ap (λ (l : List Block). l ++ x ∷ []) h ∙ ap (λ (y : Block). replicate (length xs) (Fill w) ++ y ∷ []) f ∙ fills_more (length xs) (Fill w) ∙ ap (λ (n : ℕ). replicate n (Fill w)) (sym (snoc_length xs x))
+    ap (λ (l : List Block). l ++ x ∷ []) h ∙ ap (λ (y : Block). replicate (length xs) (Fill w) ++ y ∷ []) f ∙ fills_more
+    (length xs) (Fill w) ∙ ap (λ (n : ℕ). replicate n (Fill w)) (sym (snoc_length xs x))
 all_snoc kinds.Skip xs x e h k =
     let f : x ≡ Skip = cc in
-    ap (λ (l : List Block). l ++ x ∷ []) h ∙ ap (λ (y : Block). replicate (length xs) Skip ++ y ∷ []) f ∙ fills_more (length xs) Skip ∙ ap (λ (n : ℕ). replicate n Skip) (sym (snoc_length xs x))
+    ap (λ (l : List Block). l ++ x ∷ []) h ∙ ap (λ (y : Block). replicate (length xs) Skip ++ y ∷ []) f ∙ fills_more
+    (length xs) Skip ∙ ap (λ (n : ℕ). replicate n Skip) (sym (snoc_length xs x))
 all_snoc kinds.End xs x e h k = absurd cc
 
 abbrev pub classes : ℕ → ℕ → List ℕ → List Block
 classes b n bytes = map class_of (split b n bytes)
 
-pub classes-more : (b n : ℕ) (bytes : List ℕ) → classes b (suc n) bytes ≡ classes b n bytes ++ class_of (take b (drop (n * b) bytes)) ∷ []
+pub classes-more : (b n : ℕ) (bytes : List ℕ) → classes b (suc n) bytes ≡ classes b n bytes ++ class_of
+    (take b (drop (n * b) bytes)) ∷ []
 classes-more b zero bytes = ap (λ (k : ℕ). class_of (take b (drop k bytes)) ∷ []) (let z : 0 ≡ 0 * b = omega arith in z)
 classes-more b (suc n) bytes =
-    let e : drop (n * b) (drop b bytes) ≡ drop (suc n * b) bytes = drop-drop (n * b) b bytes ∙ ap (λ (k : ℕ). drop k bytes) (omega arith) in
-    ap (λ (l : List Block). class_of (take b bytes) ∷ l) (classes-more b n (drop b bytes) ∙ ap (λ (l : List ℕ). classes b n (drop b bytes) ++ class_of (take b l) ∷ []) e)
+    let e : drop (n * b) (drop b bytes) ≡ drop (suc n * b) bytes = drop-drop (n * b) b bytes ∙ ap
+    (λ (k : ℕ). drop k bytes) (omega arith) in
+    ap (λ (l : List Block). class_of (take b bytes) ∷ l)
+    (classes-more b n (drop b bytes) ∙ ap (λ (l : List ℕ). classes b n (drop b bytes) ++ class_of (take b l) ∷ [])
+    e)
 
-pub leading_on : (b n at : ℕ) (bytes : List ℕ) (o : Option (List ℕ)) → at ≡ n * b → is_end (kind_of_word o) ≡ false → AllOf (kind_of_word o) (classes b n bytes) → o ≡ word_of (take (at + b - at) (drop at bytes)) → AllOf (kind_of_word o) (classes b (n + 1) bytes)
+pub leading_on : (b n at : ℕ) (bytes : List ℕ) (o : Option (List ℕ)) → at ≡ n * b → is_end (kind_of_word o) ≡ false →
+    AllOf (kind_of_word o) (classes b n bytes) → o ≡ word_of (take (at + b - at) (drop at bytes)) → AllOf
+    (kind_of_word o) (classes b (n + 1) bytes)
 leading_on b n at bytes o e go h same =
     let g : at + b - at ≡ b = omega arith in
     let s : o ≡ word_of (take b (drop (n * b) bytes)) = rw (← e) (rw g at same) in
     let one = one_class (take b (drop (n * b) bytes)) o s in
     let m : n + 1 ≡ suc n = omega arith in
-    rw (m, classes-more b n bytes) (all_snoc (kind_of_word o) (classes b n bytes) (class_of (take b (drop (n * b) bytes))) go h one)
-
--- ---- what was read and filled up
-
-loaded : (out zeros rest : List ℕ) (want room : ℕ) → length out ≡ want → want ≤ room → zeros ≡ replicate (room - want) 0 → slice_range ((out ++ zeros) ++ rest) 0 room ≡ out ++ replicate (room - want) 0
-loaded out zeros rest want room long order e =
-    let n : length (out ++ zeros) ≡ room = omega (arith, length-append out zeros, ap length e, length-replicate {A = ℕ} (room - want) 0) in
-    ap (λ (k : ℕ). take k ((out ++ zeros) ++ rest)) (let z : room - 0 ≡ length (out ++ zeros) = omega arith in z) ∙ take-append_seam (out ++ zeros) rest ∙ ap (λ (l : List ℕ). out ++ l) e
-
--- what a whole load left in the window, with zeros laid behind it
-pub filled_window : (fault : Option RunFault) (bytes zeros space target : List ℕ) (want room : ℕ) → length bytes ≡ 65536 → want ≤ room → room ≤ 65536 → IfNone fault (take want bytes ≡ take want target)
-    → space ≡ take (room - want) (drop want bytes) → zeros ≡ replicate (length space) 0
-    → IfNone fault (slice_range ((take want bytes ++ zeros) ++ drop room bytes) 0 room ≡ take want target ++ replicate (room - want) 0)
-filled_window (Some f) bytes zeros space target want room whole order window read there filled = tt
-filled_window None bytes zeros space target want room whole order window read there filled =
-    let some : length space ≡ room - want = ap length there ∙ length-take-le (room - want) (drop want bytes) (omega (arith, length-drop want bytes)) in
-    loaded (take want bytes) zeros (drop room bytes) want room (length-take-le want bytes (omega arith)) order (filled ∙ ap (λ (k : ℕ). replicate k 0) some)
-    ∙ ap (λ (l : List ℕ). l ++ replicate (room - want) 0) read
+    rw (m, classes-more b n bytes) (all_snoc (kind_of_word o) (classes b n bytes)
+    (class_of (take b (drop (n * b) bytes))) go h one)
 
 -- ---- blocks of the image
 
 drop-split : (b i n : ℕ) (y : List ℕ) → i ≤ n → drop i (split b n y) ≡ split b (n - i) (drop (i * b) y)
-drop-split b zero n y le = ap (λ (k : ℕ). split b n (drop k y)) (let z : 0 ≡ 0 * b = omega arith in z) ∙ ap (λ (k : ℕ). split b k (drop (0 * b) y)) (let z : n ≡ n - 0 = omega arith in z)
+drop-split b zero n y le = ap (λ (k : ℕ). split b n (drop k y)) (let z : 0 ≡ 0 * b = omega arith in z) ∙ ap
+    (λ (k : ℕ). split b k (drop (0 * b) y)) (let z : n ≡ n - 0 = omega arith in z)
 drop-split b (suc i) zero y le = absurd (omega arith)
 drop-split b (suc i) (suc n) y le =
     drop-split b i n (drop b y) (omega arith)
     ∙ ap (λ (k : ℕ). split b k (drop (i * b) (drop b y))) (let z : n - i ≡ suc n - suc i = omega arith in z)
-    ∙ ap (λ (l : List ℕ). split b (suc n - suc i) l) (drop-drop (i * b) b y ∙ ap (λ (k : ℕ). drop k y) (let z : b + i * b ≡ suc i * b = omega arith in z))
+    ∙ ap (λ (l : List ℕ). split b (suc n - suc i) l) (drop-drop (i * b) b y ∙ ap (λ (k : ℕ). drop k y)
+    (let z : b + i * b ≡ suc i * b = omega arith in z))
 
 pub take-split : (b q n : ℕ) (y : List ℕ) → q ≤ n → take q (split b n y) ≡ split b q y
 take-split b zero n y le = refl
@@ -105,7 +105,8 @@ pub drop-take' : (i k : ℕ) (y : List ℕ) → i ≤ k → drop i (take k y) �
 drop-take' zero k y le = ap (λ (j : ℕ). take j y) (let z : k ≡ k - 0 = omega arith in z)
 drop-take' (suc i) zero y le = absurd (omega arith)
 drop-take' (suc i) (suc k) [] le = sym (take_all (suc k - suc i) [] (omega arith))
-drop-take' (suc i) (suc k) (x ∷ y) le = drop-take' i k y (omega arith) ∙ ap (λ (j : ℕ). take j (drop i y)) (let z : k - i ≡ suc k - suc i = omega arith in z)
+drop-take' (suc i) (suc k) (x ∷ y) le = drop-take' i k y (omega arith) ∙ ap (λ (j : ℕ). take j (drop i y))
+    (let z : k - i ≡ suc k - suc i = omega arith in z)
 
 pub split-front : (b q k : ℕ) (y : List ℕ) → q * b ≤ k → split b q (take k y) ≡ split b q y
 split-front b zero k y le = refl
@@ -113,7 +114,8 @@ split-front b (suc q) k y le =
     let one : take b (take k y) ≡ take b y = take-take b k y (omega arith) in
     let rest : drop b (take k y) ≡ take (k - b) (drop b y) = drop-take' b k y (omega arith) in
     ap (λ (l : List ℕ). l ∷ split b q (drop b (take k y))) one
-    ∙ ap (λ (l : List (List ℕ)). take b y ∷ l) (ap (λ (l : List ℕ). split b q l) rest ∙ split-front b q (k - b) (drop b y) (omega arith))
+    ∙ ap (λ (l : List (List ℕ)). take b y ∷ l) (ap (λ (l : List ℕ). split b q l) rest ∙ split-front b q (k - b)
+    (drop b y) (omega arith))
   where
     take-take : (i k : ℕ) (y : List ℕ) → i ≤ k → take i (take k y) ≡ take i y
     take-take zero k y le = refl
@@ -121,19 +123,23 @@ split-front b (suc q) k y le =
     take-take (suc i) (suc k) [] le = refl
     take-take (suc i) (suc k) (x ∷ y) le = ap (λ (l : List ℕ). x ∷ l) (take-take i k y (omega arith))
 
-pub take_drop_classes : (b i q n : ℕ) (y : List ℕ) → i + q ≤ n → take q (drop i (classes b n y)) ≡ classes b q (drop (i * b) y)
+pub take_drop_classes : (b i q n : ℕ) (y : List ℕ) → i + q ≤ n → take q (drop i (classes b n y)) ≡ classes b q
+    (drop (i * b) y)
 take_drop_classes b i q n y le =
-    ap (λ (l : List Block). take q l) (drop-map class_of i (split b n y) ∙ ap (λ (l : List (List ℕ)). map class_of l) (drop-split b i n y (omega arith)))
+    ap (λ (l : List Block). take q l) (drop-map class_of i (split b n y) ∙ ap (λ (l : List (List ℕ)). map class_of l)
+    (drop-split b i n y (omega arith)))
     ∙ take-map class_of q (split b (n - i) (drop (i * b) y))
     ∙ ap (λ (l : List (List ℕ)). map class_of l) (take-split b q (n - i) (drop (i * b) y) (omega arith))
 
 -- bytes with zeros behind them
-padded : (k m want : ℕ) (y : List ℕ) → want ≡ min k (length y) → k ≤ length y + m → take want y ++ replicate (k - want) 0 ≡ take k (y ++ replicate m 0)
+padded : (k m want : ℕ) (y : List ℕ) → want ≡ min k (length y) → k ≤ length y + m → take want y ++ replicate (k - want)
+    0 ≡ take k (y ++ replicate m 0)
 padded k m want y e le = elim (cases_Bool (nat_le k (length y))) [
   | inl h ↦
       let le' = leb-true k (length y) h in
       let w : want ≡ k = omega arith in
-      rw w (ap (λ (j : ℕ). take k y ++ replicate j 0) (let z : k - k ≡ 0 = omega arith in z) ∙ append-nil (take k y) ∙ sym (take-append-le k y (replicate m 0) le'))
+      rw w (ap (λ (j : ℕ). take k y ++ replicate j 0) (let z : k - k ≡ 0 = omega arith in z) ∙ append-nil (take k y) ∙
+      sym (take-append-le k y (replicate m 0) le'))
   | inr h ↦
       let gt = leb-false k (length y) h in
       let w : want ≡ length y = omega arith in
@@ -146,7 +152,8 @@ padded k m want y e le = elim (cases_Bool (nat_le k (length y))) [
 ]
 
 -- The classes of blocks of a raw image, from the bytes that were read of it.
-pub raw_part : (b i q n blocks want : ℕ) (x : List ℕ) → block_count b x ≡ blocks → i + n ≤ blocks → q ≤ n → i * b ≤ length x → length x ≤ blocks * b → want ≡ min (n * b) (length x - i * b)
+pub raw_part : (b i q n blocks want : ℕ) (x : List ℕ) → block_count b x ≡ blocks → i + n ≤ blocks → q ≤ n → i * b ≤
+    length x → length x ≤ blocks * b → want ≡ min (n * b) (length x - i * b)
     → take q (drop i (classify b x)) ≡ classes b q (take want (drop (i * b) x) ++ replicate (n * b - want) 0)
 raw_part b i q n blocks want x count within less at covers e =
     let total : b * block_count b x ≡ blocks * b = rw count (omega arith) in
@@ -155,19 +162,24 @@ raw_part b i q n blocks want x count within less at covers e =
     let room : (i + n) * b ≤ blocks * b = mul-le-mul_right b within in
     let rest : drop (i * b) (x ++ zeros) ≡ drop (i * b) x ++ zeros = drop-append-le (i * b) x zeros at in
     let fill : take want (drop (i * b) x) ++ replicate (n * b - want) 0 ≡ take (n * b) (drop (i * b) x ++ zeros) =
-    padded (n * b) (b * block_count b x - length x) want (drop (i * b) x) (e ∙ ap (λ (k : ℕ). min (n * b) k) (sym (length-drop (i * b) x))) (omega (arith, length-drop (i * b) x)) in
+    padded (n * b) (b * block_count b x - length x) want (drop (i * b) x)
+    (e ∙ ap (λ (k : ℕ). min (n * b) k) (sym (length-drop (i * b) x))) (omega (arith, length-drop (i * b) x)) in
     take_drop_classes b i q (block_count b x) (x ++ zeros) (omega arith)
     ∙ ap (λ (l : List ℕ). classes b q l) rest
     ∙ ap (λ (l : List (List ℕ)). map class_of l) (sym (split-front b q (n * b) (drop (i * b) x ++ zeros) lessb))
     ∙ ap (λ (l : List ℕ). classes b q l) (sym fill)
 
-pub raw_all : (k : RunKind) (b i q n blocks want at room : ℕ) (x window : List ℕ) → block_count b x ≡ blocks → i + n ≤ blocks → q ≤ n → at ≡ i * b → at ≤ length x → length x ≤ blocks * b → room ≡ n * b → want ≡ min (length x - at) room
-    → window ≡ take want (drop at x) ++ replicate (room - want) 0 → AllOf k (classes b q window) → AllOf k (take q (drop i (classify b x)))
+pub raw_all : (k : RunKind) (b i q n blocks want at room : ℕ) (x window : List ℕ) → block_count b x ≡ blocks → i + n ≤
+    blocks → q ≤ n → at ≡ i * b → at ≤ length x → length x ≤ blocks * b → room ≡ n * b → want ≡ min (length x - at) room
+    → window ≡ take want (drop at x) ++ replicate (room - want) 0 → AllOf k (classes b q window) → AllOf k
+    (take q (drop i (classify b x)))
 raw_all k b i q n blocks want at room x window count within less place there covers wide e read h =
     let w : want ≡ min (n * b) (length x - i * b) = omega arith in
     let le : i * b ≤ length x = omega arith in
     let p = raw_part b i q n blocks want x count within less le covers w in
-    let same : window ≡ take want (drop (i * b) x) ++ replicate (n * b - want) 0 = read ∙ ap (λ (j : ℕ). take want (drop j x) ++ replicate (room - want) 0) place ∙ ap (λ (j : ℕ). take want (drop (i * b) x) ++ replicate (j - want) 0) wide in
+    let same : window ≡ take want (drop (i * b) x) ++ replicate (n * b - want) 0 = read ∙ ap
+    (λ (j : ℕ). take want (drop j x) ++ replicate (room - want) 0) place ∙ ap
+    (λ (j : ℕ). take want (drop (i * b) x) ++ replicate (j - want) 0) wide in
     subst (λ (l : List Block). AllOf k l) (ap (λ (l : List ℕ). classes b q l) same ∙ sym p) h
 
 pub never : (b : Bool) (n m : ℕ) → b ≡ false → IsTrue b → n ≡ m

@@ -1,6 +1,8 @@
 -- What a step of an opening leaves and costs.
-use Rattle.std.specs.Prelude.{◌≡◌, ℕ, ◌+◌, ◌-◌, ◌≤◌, ◌<◌, Bool, true, IsTrue, List, length, Result, OnOk, IfErr}
-use Rattle.abt_io.specs.Lent.{OneStep}
+use Rattle.std.specs.Prelude.{◌≡◌, ℕ, ◌+◌, ◌-◌, ◌≤◌, ◌<◌, Bool, true, IsTrue, List, length, take, drop, Result, OnOk}
+use Rattle.std.specs.Prelude.{IfErr}
+use Rattle.abt_io.specs.Lent.{OnlyReads, OneStep}
+use Rattle.abt_io.specs.declared.device.Source as sources
 use Rattle.abt_io.specs.declared.meter.Meter.{Meter}
 use Rattle.abt_sparse.specs.Chunk.{Header}
 use Rattle.abt_sparse.specs.declared.fault.SparseFault.{SparseFault}
@@ -9,7 +11,7 @@ use Rattle.abt_runs.specs.declared.part.RunFault.{RunFault}
 use Rattle.abt_runs.specs.declared.stage.Progress.{Progress}
 use Rattle.abt_runs.specs.declared.stage.Stage.TheVariants.{Chunks}
 use Rattle.abt_runs.specs.Stage.{OpeningLeaves, is_more}
-use Rattle.abt_runs.specs.Verdict.{ComesTo, IsFormat, to_do}
+use Rattle.abt_runs.specs.Verdict.{ComesTo, SameLength, CausedAt, IsFormat, to_do}
 
 -- An opening stands before a chunk whose header is within the source, and has these bytes.
 pub record AtChunk (o : Opening) (bytes : List ℕ) : Type 0 where
@@ -23,6 +25,12 @@ pub record Takes (least : ℕ) (r : Result Progress RunFault) (o o' : Opening) :
   pub leaves : OpeningLeaves r o'.stage
   pub on : OnOk r ((is_more r ≡ true) × (least ≤ o'.at) × (to_do o' < to_do o))
   pub own : IfErr r IsFormat
+
+-- A chunk's header of these bytes was taken, which keeps what all bytes come to that have them there.
+pub record TakesChunk (bytes : List ℕ) (r : Result Progress RunFault) (o o' : Opening) : Type 0 where
+  pub keeps : (x : List ℕ) → bytes ≡ take 12 (drop o.at x) → (v : Result (Header × ℕ) SparseFault) → ComesTo o x v →
+      ComesTo o' x v
+  pub takes : Takes (o.at + 12) r o o'
 
 -- The opening has gone on by what was read, the source having given g bytes before and g' then; what the bytes x of a
 -- source that tells come to stands.
@@ -40,3 +48,14 @@ pub record HeaderCosts (c g c' g' : ℕ) (m m' : Meter) : Type 0 where
   pub calls : c' ≤ c + (g' - g) + 1
   pub turns : m'.turns.number ≤ m.turns.number + (g' - g) + 1
   pub one_step : OneStep (g' - g) m m'
+
+-- One step of an opening, with the source that is lent. Among the chunks a refusal of the bytes is of a source that is
+-- as long as it was.
+pub record StepsOpening (r : Result Progress RunFault) {A : Type 0} (s : sources.Ghosts A) (old new : A)
+    (o o' : Opening) (m m' : Meter) : Type 0 where
+  pub reads : OnlyReads r s old new
+  pub opening : Advances s.tells (s.content old) (s.given old) (s.given new) r o o'
+  pub costs : HeaderCosts (s.reads old) (s.given old) (s.reads new) (s.given new) m m'
+  pub length : o.stage ≡ Chunks → o.index < o.header.total_chunks → IfErr r (λ e. IsFormat e → s.size old ≡ o.length)
+  pub cause : IfErr r (λ e. CausedAt o.stage e (s.read_faults old) (s.read_faults new) (IsTrue s.tells ×
+      SameLength o.stage o.length (s.content old)))

@@ -1,13 +1,29 @@
 -- What is known of a part or a run that was found, and what finding and copying cost.
-use Rattle.std.specs.Prelude.{◌≡◌, ℕ, ◌+◌, ◌-◌, ◌*◌, ◌≤◌, ◌<◌, ◌↔◌, true, false, IsTrue, List, max, min}
-use Rattle.abt_io.specs.Lent.{OneStep}
+use Rattle.std.specs.Prelude.{◌≡◌, ℕ, ◌+◌, ◌-◌, ◌*◌, ◌≤◌, ◌<◌, ◌↔◌, Bool, true, false, IsTrue, List, max, min, Result}
+use Rattle.std.specs.Prelude.{IfOk, IfErr}
+use Rattle.abt_io.specs.Lent.{OnlyReads, OneStep}
+use Rattle.abt_io.specs.declared.device.Source as sources
 use Rattle.abt_io.specs.declared.meter.Meter.{Meter}
 use Rattle.abt_sparse.specs.Block.{Block}
 use Rattle.abt_runs.specs.declared.part.Cursor.{Cursor}
 use Rattle.abt_runs.specs.declared.part.Run.{Run}
+use Rattle.abt_runs.specs.declared.part.RunFault.{RunFault}
 use Rattle.abt_runs.specs.declared.part.RunKind.TheVariants.{Raw}
-use Rattle.abt_runs.specs.Part.{PartOf, MovesOn, Capped, Earliest, afresh, entry, is_end, piece_bytes}
+use Rattle.abt_runs.specs.Part.{RunCaused, PartOf, MovesOn, Capped, Earliest, afresh, entry, is_end, piece_bytes}
 use Rattle.abt_runs.specs.Whole.{RunOf}
+
+-- An image's source is only read. It is refused where the source has failed, or tells nothing and is another.
+pub record ReadsImage {X : Type 0} (r : Result X RunFault) {A : Type 0} (s : sources.Ghosts A) (old new : A) : Type 0
+  where
+    pub reads : OnlyReads r s old new
+    pub cause : IfErr r (λ e. RunCaused e s.tells (s.read_faults old) (s.read_faults new))
+
+-- Some blocks are asked for from a place on, of an image that was opened over the bytes x of the source that is lent.
+pub record AsksPart (W : Cursor → Type 0) (Opened : List ℕ → Type 0) (P : List ℕ → Cursor → Type 0) (tells : Bool)
+    (x : List ℕ) (from : Cursor) (cap : ℕ) : Type 0 where
+  pub some : 0 < cap
+  pub within : W from
+  pub told : IsTrue tells → Opened x × P x from
 
 -- Of whatever source: r, of at most `cap` blocks of `size` bytes where they are raw, was found from a place on in an
 -- image of `count` blocks. The source had given g bytes before, and g' then.
@@ -55,6 +71,18 @@ pub record PartCosts (more c g c' g' : ℕ) (m m' : Meter) : Type 0 where
   pub calls : c' ≤ c + (g' - g) + 2
   pub turns : m'.turns.number ≤ m.turns.number + 2 * (g' - g) + 2 + more
   pub one_step : OneStep (g' - g) m m'
+
+-- A part from a place on was found in an image, with the source that is lent: all that is known of it.
+pub record FindsPart (W : Cursor → Type 0) (size count : ℕ) (lefts charge reach taken copied padding : Cursor → ℕ)
+    (held : Cursor → ℕ → ℕ) (list : List ℕ → List Block) (P : List ℕ → Cursor → Type 0)
+    (together : List ℕ → Cursor → ℕ) (r : Result Run RunFault) {A : Type 0} (s : sources.Ghosts A) (old new : A)
+    (from : Cursor) (cap : ℕ) (m m' : Meter) : Type 0 where
+  pub source : ReadsImage r s old new
+  pub told : IsTrue s.tells → IfOk r (λ q. IsToldRun (list (s.content old)) W (P (s.content old))
+      (together (s.content old)) copied charge from cap q)
+  pub found : IfOk r (λ q. Found W size count lefts charge reach taken copied padding held from cap (s.given old)
+      (s.given new) q)
+  pub costs : PartCosts (padding from) (s.reads old) (s.given old) (s.reads new) (s.given new) m m'
 
 -- What copying n bytes from byte `at` on costs, one step in all: at most one call, and no byte that is not copied.
 pub record CopyCosts (held : ℕ → ℕ) (at n c g c' g' : ℕ) (m m' : Meter) : Type 0 where

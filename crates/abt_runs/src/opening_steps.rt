@@ -1,13 +1,11 @@
 //! The steps of an opening.
-ghost use Rattle.std.specs.Prelude.{◌≡◌, ◌<◌, ◌≤◌, ◌+◌, ℕ, List, IsTrue, IfErr, OnOk, Result, Err, length, take, drop};
-ghost use Rattle.std.specs.Prelude.{false};
-ghost use Rattle.abt_io.specs.Lent.{OnlyReads};
+ghost use Rattle.std.specs.Prelude.{◌≡◌, ◌≤◌, ℕ, List, IfErr, OnOk, Result, Err, length, take, false};
 ghost use Rattle.abt_sparse.specs.Chunk.{Header};
 ghost use Rattle.abt_sparse.specs.Reading.{outcome};
 ghost use Rattle.abt_sparse.specs.declared.fault.SparseFault.{SparseFault as SparseFaults};
 ghost use Rattle.abt_runs.specs.Stage.{OpeningLeaves, IsOpeningOver, is_opening_done, is_more};
-ghost use Rattle.abt_runs.specs.Verdict.{ComesTo, SameLength, CausedAt, IsFormat, ends};
-ghost use Rattle.abt_runs.specs.Advance.{Advances, AtChunk, Takes, HeaderCosts};
+ghost use Rattle.abt_runs.specs.Verdict.{ComesTo, IsFormat, ends};
+ghost use Rattle.abt_runs.specs.Advance.{AtChunk, Takes, TakesChunk, StepsOpening};
 ghost use Rattle.abt_runs.specs.Head.{chunk_header_of};
 
 use crate::head::{CHUNK_HEADER, head_at};
@@ -96,9 +94,7 @@ impl Opening {
     #[inline(always)]
     fn take_chunk(&mut self, bytes: &[u8]) -> Result<Progress, RunFault>
         requires chunk { AtChunk self.old bytes.now }
-        ensures keeps { (x : List ℕ) → bytes.now ≡ take 12 (drop self.old.at x) → (v : Result (Header × ℕ) SparseFaults)
-            → ComesTo self.old x v → ComesTo self.new x v }
-        ensures takes { Takes (self.old.at + 12) result self.old self.new }
+        ensures takes { TakesChunk bytes.now result self.old self.new }
     {
         match head_at(bytes) {
             Some(chunk) => self.take_known(bytes, chunk),
@@ -114,9 +110,7 @@ impl Opening {
     fn take_known(&mut self, bytes: &[u8], chunk: ChunkHeader) -> Result<Progress, RunFault>
         requires chunk { AtChunk self.old bytes.now }
         requires known { chunk_header_of bytes.now ≡ Some chunk }
-        ensures keeps { (x : List ℕ) → bytes.now ≡ take 12 (drop self.old.at x) → (v : Result (Header × ℕ) SparseFaults)
-            → ComesTo self.old x v → ComesTo self.new x v }
-        ensures takes { Takes (self.old.at + 12) result self.old self.new }
+        ensures takes { TakesChunk bytes.now result self.old self.new }
     {
         let header = self.header;
         let data = data_length(header.blk_sz, chunk.kind, chunk.blocks);
@@ -166,14 +160,7 @@ impl Opening {
         m: &mut Meter,
     ) -> Result<Progress, RunFault>
         requires here { self.old.stage ≡ Stage.Header }
-        ensures reads { OnlyReads result S.Source source.old source.new }
-        ensures opening { Advances S.tells (S.content source.old) (S.given source.old) (S.given source.new) result
-            self.old self.new }
-        ensures costs { HeaderCosts (S.reads source.old) (S.given source.old) (S.reads source.new) (S.given source.new)
-            m.old m.new }
-        ensures cause { IfErr result (λ e. CausedAt self.old.stage e (S.read_faults source.old)
-            (S.read_faults source.new) (IsTrue S.tells ×
-            SameLength self.old.stage self.old.length (S.content source.old))) }
+        ensures step { StepsOpening result S.Source source.old source.new self.old self.new m.old m.new }
     {
         let size = source.length();
         if size < FILE_HEADER as u64 {
@@ -198,16 +185,7 @@ impl Opening {
         m: &mut Meter,
     ) -> Result<Progress, RunFault>
         requires here { self.old.stage ≡ Stage.Chunks }
-        ensures reads { OnlyReads result S.Source source.old source.new }
-        ensures opening { Advances S.tells (S.content source.old) (S.given source.old) (S.given source.new) result
-            self.old self.new }
-        ensures costs { HeaderCosts (S.reads source.old) (S.given source.old) (S.reads source.new) (S.given source.new)
-            m.old m.new }
-        ensures length { self.old.stage ≡ Stage.Chunks → self.old.index < self.old.header.total_chunks →
-            IfErr result (λ e. IsFormat e → S.size source.old ≡ self.old.length) }
-        ensures cause { IfErr result (λ e. CausedAt self.old.stage e (S.read_faults source.old)
-            (S.read_faults source.new) (IsTrue S.tells ×
-            SameLength self.old.stage self.old.length (S.content source.old))) }
+        ensures step { StepsOpening result S.Source source.old source.new self.old self.new m.old m.new }
     {
         if self.index == self.header.total_chunks {
             m.close_step(0);
@@ -243,17 +221,8 @@ impl Opening {
         w: &mut Window,
         m: &mut Meter,
     ) -> Result<Progress, RunFault>
-        ensures reads { OnlyReads result S.Source source.old source.new }
-        ensures opening { Advances S.tells (S.content source.old) (S.given source.old) (S.given source.new) result
-            self.old self.new }
-        ensures costs { HeaderCosts (S.reads source.old) (S.given source.old) (S.reads source.new) (S.given source.new)
-            m.old m.new }
-        ensures length { self.old.stage ≡ Stage.Chunks → self.old.index < self.old.header.total_chunks →
-            IfErr result (λ e. IsFormat e → S.size source.old ≡ self.old.length) }
+        ensures step { StepsOpening result S.Source source.old source.new self.old self.new m.old m.new }
         ensures again { IsOpeningOver self.old.stage → (self.new ≡ self.old) × (source.new ≡ source.old) }
-        ensures cause { IfErr result (λ e. CausedAt self.old.stage e (S.read_faults source.old)
-            (S.read_faults source.new) (IsTrue S.tells ×
-            SameLength self.old.stage self.old.length (S.content source.old))) }
     {
         match self.stage {
             Stage::Header => self.read_header(source, w, m),

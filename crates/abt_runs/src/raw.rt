@@ -4,7 +4,7 @@ ghost use Rattle.std.specs.Prelude.{IfNone, length, take, drop, map, replicate, 
 ghost use Rattle.abt_sparse.specs.Block.{split, class_of, classify};
 ghost use Rattle.abt_io.specs.Lent.{NoStep};
 ghost use Rattle.abt_runs.specs.Part.{AllOf, is_end, next_ask};
-ghost use Rattle.abt_runs.specs.Loads.{Loads};
+ghost use Rattle.abt_runs.specs.Loads.{AsksBytes, LoadsWanted};
 ghost use Rattle.abt_runs.specs.Words.{kind_of_word};
 ghost use Rattle.abt_runs.specs.Raw.{RawPlace, RawPlace-prop, raw_charge, raw_padding, raw_before, raw_held};
 ghost use Rattle.abt_runs.specs.Raw.{RefusedRaw};
@@ -91,14 +91,11 @@ pub fn load_filled<S: Source>(
 ) -> Loaded
     requires order { want ≤ room }
     requires window { room ≤ 65536 }
-    requires below { at + want < 2 ^ 64 }
-    requires there { IsTrue S.tells → at + want ≤ length (S.content source.old) }
-    ensures few { result.received ≤ want }
-    ensures whole { IfNone result.fault (result.received ≡ want) }
+    requires asks { AsksBytes S.tells (S.content source.old) at want }
+    ensures wanted { LoadsWanted result.fault result.received want S.Source source.old source.new m.old m.new }
     ensures bytes { IsTrue S.tells →
         IfNone result.fault (slice_range w.new.bytes 0 room ≡ take want (drop at (S.content source.old)) ++ replicate
         (room - want) 0) }
-    ensures loads { Loads result.fault result.received S.Source source.old source.new m.old m.new }
 {
     let loaded = load(source, at, want, w, m);
     w.is_whole();

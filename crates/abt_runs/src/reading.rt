@@ -1,6 +1,6 @@
 //! Reading bytes of the source at a place into the window.
-ghost use Rattle.std.specs.Prelude.{◌≡◌, ◌<◌, ◌≤◌, ◌+◌, ◌^◌, IsTrue, IfNone, length, take, drop};
-ghost use Rattle.abt_runs.specs.Loads.{Loads};
+ghost use Rattle.std.specs.Prelude.{◌≡◌, ◌≤◌, IsTrue, IfNone, take, drop};
+ghost use Rattle.abt_runs.specs.Loads.{AsksBytes, LoadsWanted};
 
 use crate::RunFault;
 use abt_io::{Meter, Source, Window, read_full_at};
@@ -22,13 +22,10 @@ pub fn load<S: Source>(
     m: &mut Meter,
 ) -> Loaded
     requires window { want ≤ 65536 }
-    requires below { at + want < 2 ^ 64 }
-    requires there { IsTrue S.tells → at + want ≤ length (S.content source.old) }
-    ensures few { result.received ≤ want }
-    ensures whole { IfNone result.fault (result.received ≡ want) }
+    requires asks { AsksBytes S.tells (S.content source.old) at want }
+    ensures wanted { LoadsWanted result.fault result.received want S.Source source.old source.new m.old m.new }
     ensures bytes { IsTrue S.tells →
         IfNone result.fault (take want w.new.bytes ≡ take want (drop at (S.content source.old))) }
-    ensures loads { Loads result.fault result.received S.Source source.old source.new m.old m.new }
 {
     w.is_whole();
     let got = read_full_at(source, at, w.part_mut(0, want), m);

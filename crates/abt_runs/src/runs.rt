@@ -1,12 +1,10 @@
 //! The trait of opened images: what is known of one, and how it is read in repeated passes.
-ghost use Rattle.std.specs.Prelude.{◌≡◌, ◌<◌, ◌≤◌, ◌+◌, ◌-◌, ◌*◌, ◌%◌, ◌^◌, ℕ, List, IsTrue, IfOk, IfErr, length, take};
-ghost use Rattle.std.specs.Prelude.{drop};
+ghost use Rattle.std.specs.Prelude.{◌≡◌, ◌<◌, ◌≤◌, ◌+◌, ◌-◌, ◌*◌, ◌%◌, ◌^◌, ℕ, List, IsTrue, IfOk, length, take, drop};
 ghost use Rattle.abt_io.specs.Count.{count_of};
-ghost use Rattle.abt_io.specs.Lent.{OnlyReads};
 ghost use Rattle.abt_sparse.specs.Block.{Block, AreBlocks};
 ghost use Rattle.abt_runs.specs.declared.part.Cursor.{Cursor};
-ghost use Rattle.abt_runs.specs.Part.{AllOf, RunCaused, Afresh, afresh, raw_of};
-ghost use Rattle.abt_runs.specs.Found.{Found, IsToldRun, Asked, PartCosts, CopyCosts, FoundRun, ToldRun, RunCosts};
+ghost use Rattle.abt_runs.specs.Part.{AllOf, Afresh, afresh, raw_of};
+ghost use Rattle.abt_runs.specs.Found.{AsksPart, FindsPart, ReadsImage, Asked, CopyCosts, FoundRun, ToldRun, RunCosts};
 
 use crate::whole::{joined, none_yet, room};
 use crate::{Cursor, Run, RunFault, RunKind};
@@ -111,24 +109,14 @@ pub trait BlockRuns {
         w: &mut Window,
         m: &mut Meter,
     ) -> Result<Run, RunFault>
-        requires some { 0 < cap }
-        requires within { within self.now from }
-        requires told { IsTrue S.tells → opened self.now (S.content source.old) ×
-            place self.now (S.content source.old) from }
-        ensures reads { OnlyReads result S.Source source.old source.new }
-        ensures told { IsTrue S.tells
-            → IfOk result (λ r. IsToldRun (list self.now (S.content source.old)) (within self.now)
-            (place self.now (S.content source.old)) (together self.now (S.content source.old)) (copied self.now)
-            (charge self.now) from cap r) }
-        ensures found { IfOk result (λ r. Found (within self.now) (size self.now) (count self.now) (left self.now)
-            (charge self.now) (reach self.now) (taken self.now) (copied self.now) (padding self.now) (held self.now)
-            from cap (S.given source.old) (S.given source.new) r) }
+        requires asks { AsksPart (within self.now) (opened self.now) (place self.now) S.tells (S.content source.old)
+            from cap }
+        ensures part { FindsPart (within self.now) (size self.now) (count self.now) (left self.now) (charge self.now)
+            (reach self.now) (taken self.now) (copied self.now) (padding self.now) (held self.now) (list self.now)
+            (place self.now) (together self.now) result S.Source source.old source.new from cap m.old m.new }
         ensures asked { IfOk result (λ r. Asked (S.size source.old) (source_size self.now) (S.given source.old)
             (S.given source.new) r) }
-        ensures costs { PartCosts (padding self.now from) (S.reads source.old) (S.given source.old) (S.reads source.new)
-            (S.given source.new) m.old m.new }
-        ensures most { S.given source.new ≤ S.given source.old + 16 + cap * one self.now }
-        ensures cause { IfErr result (λ e. RunCaused e S.tells (S.read_faults source.old) (S.read_faults source.new)) };
+        ensures most { S.given source.new ≤ S.given source.old + 16 + cap * one self.now };
 
     /// The next part of a run that is known to be raw, of the `cap` blocks from a place on. It is
     /// that of `next_part`, or all of them without a read, where the blocks' places need no header.
@@ -143,25 +131,15 @@ pub trait BlockRuns {
         w: &mut Window,
         m: &mut Meter,
     ) -> Result<Run, RunFault>
-        requires some { 0 < cap }
-        requires within { within self.now from }
+        requires asks { AsksPart (within self.now) (opened self.now) (place self.now) S.tells (S.content source.old)
+            from cap }
         requires inside { from.block + cap ≤ count self.now }
-        requires told { IsTrue S.tells → opened self.now (S.content source.old) ×
-            place self.now (S.content source.old) from }
         requires raw { IsTrue S.tells →
             AllOf RunKind.Raw (take cap (drop from.block (list self.now (S.content source.old)))) }
-        ensures reads { OnlyReads result S.Source source.old source.new }
-        ensures told { IsTrue S.tells
-            → IfOk result (λ r. IsToldRun (list self.now (S.content source.old)) (within self.now)
-            (place self.now (S.content source.old)) (together self.now (S.content source.old)) (copied self.now)
-            (charge self.now) from cap r) }
-        ensures found { IfOk result (λ r. Found (within self.now) (size self.now) (count self.now) (left self.now)
-            (charge self.now) (reach self.now) (taken self.now) (copied self.now) (padding self.now) (held self.now)
-            from cap (S.given source.old) (S.given source.new) r) }
-        ensures costs { PartCosts (padding self.now from) (S.reads source.old) (S.given source.old) (S.reads source.new)
-            (S.given source.new) m.old m.new }
-        ensures fetched { IfOk result (λ r. S.given source.new ≡ S.given source.old → r.blocks ≡ cap) }
-        ensures cause { IfErr result (λ e. RunCaused e S.tells (S.read_faults source.old) (S.read_faults source.new)) };
+        ensures part { FindsPart (within self.now) (size self.now) (count self.now) (left self.now) (charge self.now)
+            (reach self.now) (taken self.now) (copied self.now) (padding self.now) (held self.now) (list self.now)
+            (place self.now) (together self.now) result S.Source source.old source.new from cap m.old m.new }
+        ensures fetched { IfOk result (λ r. S.given source.new ≡ S.given source.old → r.blocks ≡ cap) };
 
     /// Bytes of the raw blocks that stand together at a place, from byte `at` of these on, by at
     /// most one read: how many came to the front of `out`, 0 only where `out` is empty. The call is
@@ -182,7 +160,7 @@ pub trait BlockRuns {
         requires room { at + length out.old ≤ reach self.now here }
         requires told { IsTrue S.tells → opened self.now (S.content source.old) ×
             place self.now (S.content source.old) here }
-        ensures reads { OnlyReads result S.Source source.old source.new }
+        ensures source { ReadsImage result S.Source source.old source.new }
         ensures within { count_of result ≤ length out.new }
         ensures some { IfOk result (λ n. 0 < length out.new → 0 < n) }
         ensures bytes { IsTrue S.tells → IfOk result (λ n. (q : ℕ) → q ≤ together self.now (S.content source.old) here →
@@ -192,8 +170,7 @@ pub trait BlockRuns {
             ≡ take n (drop at (raw_of (take q (drop here.block (list self.now (S.content source.old))))))) }
         ensures few { IfOk result (λ n. n ≤ 80 + (S.given source.new - S.given source.old)) }
         ensures costs { CopyCosts (held self.now here) at (count_of result) (S.reads source.old) (S.given source.old)
-            (S.reads source.new) (S.given source.new) m.old m.new }
-        ensures cause { IfErr result (λ e. RunCaused e S.tells (S.read_faults source.old) (S.read_faults source.new)) };
+            (S.reads source.new) (S.given source.new) m.old m.new };
 
     /// The run of blocks of one class that begins at a place: all that stand together, but at most
     /// `cap` of them where they are raw. It is `RunKind::End` exactly where no block is left, of
@@ -208,18 +185,15 @@ pub trait BlockRuns {
         w: &mut Window,
         m: &mut Meter,
     ) -> Result<Run, RunFault>
-        requires some { 0 < cap }
-        requires within { within self.now from }
-        requires told { IsTrue S.tells → opened self.now (S.content source.old) ×
-            place self.now (S.content source.old) from }
-        ensures reads { OnlyReads result S.Source source.old source.new }
+        requires asks { AsksPart (within self.now) (opened self.now) (place self.now) S.tells (S.content source.old)
+            from cap }
+        ensures source { ReadsImage result S.Source source.old source.new }
         ensures told { IsTrue S.tells → IfOk result (λ r. ToldRun (list self.now (S.content source.old))
             (place self.now (S.content source.old)) (together self.now (S.content source.old)) from cap r) }
         ensures found { IfOk result (λ r. FoundRun (within self.now) (size self.now) (count self.now) (one self.now)
             (charge self.now) (reach self.now) from cap (S.given source.old) (S.given source.new) r) }
         ensures costs { RunCosts (one self.now) (S.reads source.old) (S.given source.old) (S.reads source.new)
             (S.given source.new) m.old m.new }
-        ensures cause { IfErr result (λ e. RunCaused e S.tells (S.read_faults source.old) (S.read_faults source.new)) }
     {
         let mut run = none_yet(from);
         'parts: loop {

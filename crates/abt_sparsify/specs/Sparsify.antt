@@ -1,6 +1,7 @@
 -- A sparse image that is counted, and why one is not written.
 use Rattle.std.specs.Prelude.{◌≡◌, ℕ, ◌+◌, ◌-◌, ◌*◌, ◌%◌, ◌^◌, ◌++◌, ◌≤◌, ◌<◌, Bool, false, IsTrue, List, length, take}
-use Rattle.std.specs.Prelude.{drop, max, None, Result, OnOk, IfOk}
+use Rattle.std.specs.Prelude.{drop, max, None, Result, Err, OnOk, IfOk, IfErr}
+use Rattle.abt_io.specs.Lent.{OnlyReads, OnlyWrites}
 use Rattle.abt_io.specs.declared.device.Source as sources
 use Rattle.abt_io.specs.declared.device.Output as outputs
 use Rattle.abt_io.specs.declared.meter.Meter.{Meter}
@@ -9,7 +10,9 @@ use Rattle.abt_sparse.specs.Chunk.{chunks_of, spelling}
 use Rattle.abt_runs.specs.Raw.{raw_charge}
 use Rattle.abt_runs.specs.declared.part.Cursor.{Cursor}
 use Rattle.abt_runs.specs.declared.part.Run.{Run}
+use Rattle.abt_pieces.specs.Calls.{CallCosts, devices}
 use Rattle.abt_pieces.specs.Contents.{head_len, copy_len}
+use Rattle.abt_pieces.specs.Fault.{CutCause, full_cut}
 use Rattle.abt_pieces.specs.Gather.{first_gatherer, gathered_to}
 use Rattle.abt_pieces.specs.Image.{Appended, IsPlainImage}
 use Rattle.abt_io.specs.declared.device.DeviceFault.TheVariants.{Failed}
@@ -66,6 +69,15 @@ pub record ReadyRuns (tells : Bool) (r b len : ℕ) (x : List ℕ) : Type 0 wher
   pub some : 0 < r
   pub small : 12 + r * b < 2 ^ 32
   pub opened : IsTrue tells → len ≡ length x
+
+-- what writing an opened image, or its chunks, leaves of both devices, and why it is refused
+pub record MovesImage {X : Type 0} (r : Result X PieceFault) {A B : Type 0} (s : sources.Ghosts A)
+    (o : outputs.Ghosts B) (source source' : A) (output output' : B) : Type 0 where
+  pub reads : OnlyReads r s source source'
+  pub writes : OnlyWrites r (full_cut r) o output output'
+  pub full : full_cut r ≡ 1 → IsTrue (o.is_full output')
+  pub cause : IfErr r (λ e. CutCause e s.tells (s.read_faults source) (s.read_faults source') (o.write_faults output)
+      (o.write_faults output'))
 
 -- what writing all chunks costs, over all its steps
 pub record ChunkCosts (b : ℕ) {A B : Type 0} (s : sources.Ghosts A) (o : outputs.Ghosts B) (source source' : A)
@@ -131,3 +143,18 @@ SparsifyCause SourceChanged b long tells reads reads' writes writes' = tells ≡
 SparsifyCause TooLarge b long tells reads reads' writes writes' = IsRawSize b × ((2 ^ 32 - 1) * b < long)
 SparsifyCause (BadBlock n) b long tells reads reads' writes writes' = (n ≡ b) × (IsRawSize b → ⊥)
 SparsifyCause (LimitTooSmall n) b long tells reads reads' writes writes' = ⊥
+
+-- What writing a raw image as a sparse one, in blocks of b bytes, leaves of both devices, and when it is refused.
+pub record WritesSparse (r : Result Written PieceFault) (b : ℕ) {A B : Type 0} (s : sources.Ghosts A)
+    (o : outputs.Ghosts B) (source source' : A) (output output' : B) (m m' : Meter) : Type 0 where
+  pub reads : OnlyReads r s source source'
+  pub writes : OnlyWrites r (full_cut r) o output output'
+  pub bad_block : (IsRawSize b → ⊥) → (r ≡ Err (BadBlock b)) × (output' ≡ output) × (source' ≡ source)
+  pub too_large : IsRawSize b → (2 ^ 32 - 1) * b < s.size source → (r ≡ Err TooLarge) × (output' ≡ output)
+      × (source' ≡ source)
+  pub within : (n : ℕ) → s.size source ≤ n * b → length (o.written output')
+      ≤ length (o.written output) + (28 + n * (b + 16))
+  pub costs : CallCosts b (devices s o source output) (devices s o source' output') m m'
+  pub full : full_cut r ≡ 1 → IsTrue (o.is_full output')
+  pub cause : IfErr r (λ e. SparsifyCause e b (s.size source) s.tells (s.read_faults source) (s.read_faults source')
+      (o.write_faults output) (o.write_faults output'))

@@ -1,8 +1,7 @@
 //! The numbers of a sparse image, which its header needs first: a pass that counts runs.
-ghost use Rattle.std.specs.Prelude.{◌≡◌, ◌<◌, ◌≤◌, ◌+◌, ◌*◌, ◌^◌, IsTrue, IfOk, IfErr, length};
-ghost use Rattle.abt_io.specs.Lent.{OnlyReads};
+ghost use Rattle.std.specs.Prelude.{◌≡◌, ◌<◌, ◌≤◌, ◌+◌, ◌*◌, ◌^◌, IsTrue, IfOk, length};
 ghost use Rattle.abt_sparse.specs.Block.{classify};
-ghost use Rattle.abt_pieces.specs.Fault.{CutCause};
+ghost use Rattle.abt_pieces.specs.Calls.{ReadsCut};
 ghost use Rattle.abt_pieces.specs.Write.{chunks_in};
 ghost use Rattle.abt_sparsify.specs.Sparsify.{with_run, no_runs, CountsOf, CountCosts};
 
@@ -72,7 +71,7 @@ pub fn count_runs<S: Source>(
 ) -> Result<Written, PieceFault>
     requires some { 0 < most }
     requires opened { IsTrue S.tells → runs.now.length ≡ length (S.content source.old) }
-    ensures reads { OnlyReads result S.Source source.old source.new }
+    ensures source { ReadsCut result S.Source source.old source.new }
     ensures blocks { IfOk result (λ a. a.blocks ≡ runs.now.blocks) }
     ensures counts { IsTrue S.tells →
         IfOk result (λ a. CountsOf most runs.now.size (classify runs.now.size (S.content source.old)) a) }
@@ -80,7 +79,6 @@ pub fn count_runs<S: Source>(
     ensures economy { IsTrue S.tells →
         IfOk result (λ a. S.given source.new ≤ S.given source.old + 2 * runs.now.length) }
     ensures costs { CountCosts runs.now.size S.Source source.old source.new m.old m.new }
-    ensures cause { IfErr result (λ e. CutCause e S.tells (S.read_faults source.old) (S.read_faults source.new) 0 0) }
 {
     let size = runs.block_size();
     let count = runs.blocks();

@@ -1,10 +1,8 @@
 //! Writing a raw image as a sparse one.
-ghost use Rattle.std.specs.Prelude.{◌≡◌, ℕ, ◌<◌, ◌≤◌, ◌+◌, ◌-◌, ◌*◌, ◌^◌, IsTrue, IfOk, IfErr, Err, length};
-ghost use Rattle.abt_io.specs.Lent.{OnlyReads, OnlyWrites};
+ghost use Rattle.std.specs.Prelude.{◌<◌, ◌≤◌, ◌+◌, ◌*◌, ◌^◌, IsTrue, IfOk, length};
 ghost use Rattle.abt_sparse.specs.Block.{classify};
-ghost use Rattle.abt_pieces.specs.Fault.{CutCause, full_cut};
 ghost use Rattle.abt_pieces.specs.Calls.{CallCosts, devices};
-ghost use Rattle.abt_sparsify.specs.Sparsify.{SparsifyCause, IsRawSize, ReadyRuns, Sparsified, ToldImage};
+ghost use Rattle.abt_sparsify.specs.Sparsify.{MovesImage, WritesSparse, ReadyRuns, Sparsified, ToldImage};
 
 use crate::count::{Written, count_runs};
 use crate::write::write_runs;
@@ -22,8 +20,7 @@ fn write_image<S: Source, O: Output>(
     m: &mut Meter,
 ) -> Result<Written, PieceFault>
     requires ready { ReadyRuns S.tells most runs.now.size runs.now.length (S.content source.old) }
-    ensures reads { OnlyReads result S.Source source.old source.new }
-    ensures writes { OnlyWrites result (full_cut result) O.Output output.old output.new }
+    ensures moves { MovesImage result S.Source O.Output source.old source.new output.old output.new }
     ensures told { IsTrue S.tells → ToldImage result runs.now.size most (classify runs.now.size (S.content source.old))
         (O.written output.old) (O.written output.new) (length (S.content source.old)) (S.given source.old)
         (S.given source.new) }
@@ -33,9 +30,6 @@ fn write_image<S: Source, O: Output>(
         ≤ length (O.written output.old) + (28 + runs.now.blocks * (runs.now.size + 16)) }
     ensures costs { CallCosts runs.now.size (devices S.Source O.Output source.old output.old)
         (devices S.Source O.Output source.new output.new) m.old m.new }
-    ensures full { full_cut result ≡ 1 → IsTrue (O.is_full output.new) }
-    ensures cause { IfErr result (λ e. CutCause e S.tells (S.read_faults source.old) (S.read_faults source.new)
-        (O.write_faults output.old) (O.write_faults output.new)) }
 {
     let counted = match count_runs(runs, source, most, w, m) {
         Ok(counted) => counted,
@@ -74,24 +68,13 @@ pub fn sparsify<S: Source, O: Output>(
 ) -> Result<Written, PieceFault>
     requires some { 1 ≤ most }
     requires small { 12 + most * block_size < 2 ^ 32 }
-    ensures reads { OnlyReads result S.Source source.old source.new }
-    ensures writes { OnlyWrites result (full_cut result) O.Output output.old output.new }
-    ensures bad_block { (IsRawSize block_size → ⊥) → (result ≡ Err (PieceFault.BadBlock block_size)) ×
-        (output.new ≡ output.old) × (source.new ≡ source.old) }
-    ensures too_large { IsRawSize block_size → (2 ^ 32 - 1) * block_size < S.size source.old →
-        (result ≡ Err PieceFault.TooLarge) × (output.new ≡ output.old) × (source.new ≡ source.old) }
+    ensures does { WritesSparse result block_size S.Source O.Output source.old source.new output.old output.new m.old
+        m.new }
     ensures told { IsTrue S.tells → ToldImage result block_size most (classify block_size (S.content source.old))
         (O.written output.old) (O.written output.new) (length (S.content source.old)) (S.given source.old)
         (S.given source.new) }
     ensures sparse { IfOk result (Sparsified block_size (S.size source.old) (O.written output.old)
         (O.written output.new)) }
-    ensures within { (n : ℕ) → S.size source.old ≤ n * block_size → length (O.written output.new)
-        ≤ length (O.written output.old) + (28 + n * (block_size + 16)) }
-    ensures costs { CallCosts block_size (devices S.Source O.Output source.old output.old)
-        (devices S.Source O.Output source.new output.new) m.old m.new }
-    ensures full { full_cut result ≡ 1 → IsTrue (O.is_full output.new) }
-    ensures cause { IfErr result (λ e. SparsifyCause e block_size (S.size source.old) S.tells (S.read_faults source.old)
-        (S.read_faults source.new) (O.write_faults output.old) (O.write_faults output.new)) }
 {
     let runs = match RawRuns::open(source, block_size) {
         Ok(runs) => runs,

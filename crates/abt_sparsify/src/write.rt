@@ -1,11 +1,9 @@
 //! The chunks of a sparse image that was counted, written in steps.
-ghost use Rattle.std.specs.Prelude.{◌≡◌, ◌≤◌, ◌+◌, ◌-◌, ◌*◌, ◌++◌, IsTrue, IfErr, OnOk, length, take};
-ghost use Rattle.abt_io.specs.Lent.{OnlyReads, OnlyWrites};
+ghost use Rattle.std.specs.Prelude.{◌≡◌, ◌≤◌, ◌+◌, ◌-◌, ◌*◌, ◌++◌, IsTrue, OnOk, length, take};
 ghost use Rattle.abt_sparse.specs.Block.{classify};
-ghost use Rattle.abt_pieces.specs.Fault.{CutCause, full_cut};
 ghost use Rattle.abt_pieces.specs.Image.{Appended, AreChunks};
 ghost use Rattle.abt_pieces.specs.Write.{bytes_of};
-ghost use Rattle.abt_sparsify.specs.Sparsify.{writer_at_start, CountsOf, ReadyRuns, ChunkCosts};
+ghost use Rattle.abt_sparsify.specs.Sparsify.{writer_at_start, CountsOf, ReadyRuns, MovesImage, ChunkCosts};
 
 use crate::count::Written;
 use abt_io::{Meter, Output, Source, Window};
@@ -41,8 +39,7 @@ pub fn write_runs<S: Source, O: Output>(
     requires least { 28 ≤ counted.bytes }
     requires counts { IsTrue S.tells →
         CountsOf most runs.now.size (classify runs.now.size (S.content source.old)) counted }
-    ensures reads { OnlyReads result S.Source source.old source.new }
-    ensures writes { OnlyWrites result (full_cut result) O.Output output.old output.new }
+    ensures moves { MovesImage result S.Source O.Output source.old source.new output.old output.new }
     ensures within { length (O.written output.new) + 28 ≤ length (O.written output.old) + counted.bytes }
     ensures long { OnOk result (length (O.written output.new) + 28 ≡ length (O.written output.old) + counted.bytes) }
     ensures front { IsTrue S.tells → O.written output.new ≡ O.written output.old ++ take
@@ -55,9 +52,6 @@ pub fn write_runs<S: Source, O: Output>(
         (O.written output.old) (O.written output.new)) }
     ensures economy { IsTrue S.tells → OnOk result (S.given source.new ≤ S.given source.old + 5 * runs.now.length) }
     ensures costs { ChunkCosts runs.now.size S.Source O.Output source.old source.new output.old output.new m.old m.new }
-    ensures full { full_cut result ≡ 1 → IsTrue (O.is_full output.new) }
-    ensures cause { IfErr result (λ e. CutCause e S.tells (S.read_faults source.old) (S.read_faults source.new)
-        (O.write_faults output.old) (O.write_faults output.new)) }
 {
     let count = runs.blocks();
     let mut writer = writer_of(counted, count, most, runs.start());

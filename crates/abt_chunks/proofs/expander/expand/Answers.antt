@@ -1,7 +1,7 @@
 use Rattle.std.proofs.Common.{◌≡◌, ◌+◌, ◌-◌, ◌++◌, ℕ, List, Result, Ok, take, arith, ap, ◌∙◌}
 use Rattle.std.proofs.Common.{append-nil, refl}
 use Rattle.std.proofs.Common.{take-append-drop, subst}
-use Rattle.abt_io.proofs.Lent.{writes_err, writes_ok, writes_then}
+use Rattle.abt_io.proofs.Lent.{writes_ok, writes_then}
 use Rattle.abt_io.specs.BytesLaws.{bytes_of_take}
 use Rattle.abt_io.specs.Lent.{OnlyWrites}
 use Rattle.abt_sparse.specs.declared.fault.SparseFault.{SparseFault}
@@ -37,34 +37,30 @@ steps-preserved g c =
     let k = g.I.Input.given c.steps.input - g.I.Input.given c.args.input.now in
     let n = g.I.Input.given c.step.new.input - g.I.Input.given c.steps.input in
     let j = g.I.Input.given c.step.new.input - g.I.Input.given c.args.input.now in
-    let sum : j ≡ k + n = omega (arith, i.input.given, e.input.input.given) in
+    let sum : j ≡ k + n = omega (arith, i.walks.input.given, e.input.input.given) in
     record {
-      input = reads_on _ _ _ _ i.input e.input.input;
+      walks = record {
+        input = reads_on _ _ _ _ i.walks.input e.input.input;
+        steps = record {
+          steps = omega (arith, i.walks.steps, e.one_step, e.input, e.input.input);
+          greatest = omega (arith, i.walks.steps, e.one_step, e.input, e.input.input);
+        };
+      };
       writes = writes_ok tt (writes_then i.writes writes);
       told = λ tells t. told_more (g.O.Output.written c.args.output.now) (g.O.Output.written c.steps.output)
           (g.O.Output.written c.step.new.output) rem (g.I.Input.remaining c.steps.input) c.steps.machine.walk
-          c.step.new.self.walk k n j t whole (i.input.rest tells) sum (i.told tells)
+          c.step.new.self.walk k n j t whole (i.walks.input.rest tells) sum (i.told tells)
           (c.in-Ok-More.ensures.told tells t (λ z. absurd cc));
       needed = λ tells. needed_more (g.O.Output.written c.args.output.now) (g.O.Output.written c.steps.output) rem
           (g.I.Input.remaining c.steps.input) c.steps.machine.walk k n j
-          (g.met.I.Input.are_bytes c.args.input.now tells) (i.input.rest tells) sum (e.input.input.present tells)
+          (g.met.I.Input.are_bytes c.args.input.now tells) (i.walks.input.rest tells) sum (e.input.input.present tells)
           e.input.wanted (i.told tells) (i.needed tells);
       going = rw stands tt;
       read_faults = blame.clean.0 ∙ i.read_faults;
       reads = omega (arith, i.reads, e.input, e.input.input, i.writes, writes);
       calls = omega (arith, i.calls, e.input, e.input.input, i.writes, writes, costs);
       turns = omega (arith, i.turns, e.input, e.input.input, i.writes, writes, costs);
-      steps = record {
-        steps = omega (arith, i.steps, e.one_step, e.input, e.input.input);
-        greatest = omega (arith, i.steps, e.one_step, e.input, e.input.input);
-      };
     }
-
-pub returns-in-Ok-Done-clause-input : goal.returns-in-Ok-Done-clause-input
-returns-in-Ok-Done-clause-input g c = reads_on _ _ _ _ c.steps.invariant.input c.step.ensures.input.input
-
-pub returns-in-Err-clause-input : goal.returns-in-Err-clause-input
-returns-in-Err-clause-input g c = reads_on _ _ _ _ c.steps.invariant.input c.step.ensures.input.input
 
 pub returns-in-Ok-Done-clause-needed : goal.returns-in-Ok-Done-clause-needed
 returns-in-Ok-Done-clause-needed g c tells =
@@ -75,8 +71,9 @@ returns-in-Ok-Done-clause-needed g c tells =
     (g.I.Input.given c.steps.input - g.I.Input.given c.args.input.now)
     (g.I.Input.given c.step.new.input - g.I.Input.given c.steps.input)
     (g.I.Input.given c.step.new.input - g.I.Input.given c.args.input.now)
-    (g.met.I.Input.are_bytes c.args.input.now tells) (i.input.rest tells)
-    (omega (arith, i.input.given, e.input.input.given)) (e.input.input.present tells) e.input.wanted (i.told tells)
+    (g.met.I.Input.are_bytes c.args.input.now tells) (i.walks.input.rest tells)
+    (omega (arith, i.walks.input.given, e.input.input.given)) (e.input.input.present tells) e.input.wanted (i.told
+    tells)
     (i.needed tells)
 
 pub returns-in-Err-clause-needed : goal.returns-in-Err-clause-needed
@@ -88,8 +85,9 @@ returns-in-Err-clause-needed g c tells =
     (g.I.Input.given c.steps.input - g.I.Input.given c.args.input.now)
     (g.I.Input.given c.step.new.input - g.I.Input.given c.steps.input)
     (g.I.Input.given c.step.new.input - g.I.Input.given c.args.input.now)
-    (g.met.I.Input.are_bytes c.args.input.now tells) (i.input.rest tells)
-    (omega (arith, i.input.given, e.input.input.given)) (e.input.input.present tells) e.input.wanted (i.told tells)
+    (g.met.I.Input.are_bytes c.args.input.now tells) (i.walks.input.rest tells)
+    (omega (arith, i.walks.input.given, e.input.input.given)) (e.input.input.present tells) e.input.wanted (i.told
+    tells)
     (i.needed tells)
 
 pub returns-in-Ok-Done-clause-begun : goal.returns-in-Ok-Done-clause-begun
@@ -103,8 +101,8 @@ returns-in-Ok-Done-clause-begun g c tells =
     (begun_more (g.O.Output.written c.args.output.now) (g.O.Output.written c.steps.output)
     (g.O.Output.written c.step.new.output) rem (g.I.Input.remaining c.steps.input) c.steps.machine.walk
     (g.I.Input.given c.steps.input - g.I.Input.given c.args.input.now)
-    (g.I.Input.given c.step.new.input - g.I.Input.given c.steps.input) j whole (i.input.rest tells)
-    (omega (arith, i.input.given, e.input.input.given)) (i.told tells) (e.begun tells))
+    (g.I.Input.given c.step.new.input - g.I.Input.given c.steps.input) j whole (i.walks.input.rest tells)
+    (omega (arith, i.walks.input.given, e.input.input.given)) (i.told tells) (e.begun tells))
 
 pub returns-in-Err-clause-begun : goal.returns-in-Err-clause-begun
 returns-in-Err-clause-begun g c tells =
@@ -117,8 +115,8 @@ returns-in-Err-clause-begun g c tells =
     (begun_more (g.O.Output.written c.args.output.now) (g.O.Output.written c.steps.output)
     (g.O.Output.written c.step.new.output) rem (g.I.Input.remaining c.steps.input) c.steps.machine.walk
     (g.I.Input.given c.steps.input - g.I.Input.given c.args.input.now)
-    (g.I.Input.given c.step.new.input - g.I.Input.given c.steps.input) j whole (i.input.rest tells)
-    (omega (arith, i.input.given, e.input.input.given)) (i.told tells) (e.begun tells))
+    (g.I.Input.given c.step.new.input - g.I.Input.given c.steps.input) j whole (i.walks.input.rest tells)
+    (omega (arith, i.walks.input.given, e.input.input.given)) (i.told tells) (e.begun tells))
 
 pub returns-in-Ok-Done-clause-expands : goal.returns-in-Ok-Done-clause-expands
 returns-in-Ok-Done-clause-expands g c tells =
@@ -132,10 +130,10 @@ returns-in-Ok-Done-clause-expands g c tells =
     let left = g.I.Input.remaining c.step.new.input in
     let old = g.O.Output.written c.args.output.now in
     let new = g.O.Output.written c.step.new.output in
-    let all = (reads_on _ _ (input_state g.I.Input c.steps.input) _ i.input e.input.input).rest tells in
+    let all = (reads_on _ _ (input_state g.I.Input c.steps.input) _ i.walks.input e.input.input).rest tells in
     let told = told_more old (g.O.Output.written c.steps.output) new rem (g.I.Input.remaining c.steps.input)
-    c.steps.machine.walk c.step.new.self.walk k n j left whole (i.input.rest tells)
-    (omega (arith, i.input.given, e.input.input.given)) (i.told tells) (e.told tells left (λ z. refl)) in
+    c.steps.machine.walk c.step.new.self.walk k n j left whole (i.walks.input.rest tells)
+    (omega (arith, i.walks.input.given, e.input.input.given)) (i.told tells) (e.told tells left (λ z. refl)) in
     let joined : take j rem ++ left ≡ rem = ap (λ (l : List ℕ). take j rem ++ l) all ∙ take-append-drop j rem in
     let done = rw (joined, stands, append-nil) at told in
     expansion_found rem (outcome rem) _ old new left (is_so rem (g.met.I.Input.are_bytes c.args.input.now tells))
@@ -152,36 +150,13 @@ returns-in-Err-clause-expands g c tells =
     let left = g.I.Input.remaining c.step.new.input in
     let old = g.O.Output.written c.args.output.now in
     let new = g.O.Output.written c.step.new.output in
-    let all = (reads_on _ _ (input_state g.I.Input c.steps.input) _ i.input e.input.input).rest tells in
-    let sum : j ≡ k + n = omega (arith, i.input.given, e.input.input.given) in
+    let all = (reads_on _ _ (input_state g.I.Input c.steps.input) _ i.walks.input e.input.input).rest tells in
+    let sum : j ≡ k + n = omega (arith, i.walks.input.given, e.input.input.given) in
     let joined : take j rem ++ left ≡ rem = ap (λ (l : List ℕ). take j rem ++ l) all ∙ take-append-drop j rem in
     refused_found rem (outcome rem) c.in-Err.fault old new
     (is_so rem (g.met.I.Input.are_bytes c.args.input.now tells))
     (refusal (outcome rem) c.in-Err.fault old new (unless_map c.in-Err.fault _ _
     (λ step. rw (joined, e.stands, append-nil) at (told_more old (g.O.Output.written c.steps.output) new rem
-    (g.I.Input.remaining c.steps.input) c.steps.machine.walk c.step.new.self.walk k n j left whole (i.input.rest tells)
+    (g.I.Input.remaining c.steps.input) c.steps.machine.walk c.step.new.self.walk k n j left whole (i.walks.input.rest
+    tells)
     sum (i.told tells) step)) (e.told tells left (λ z. refl))))
-
-pub returns-in-Ok-Done-clause-blame : goal.returns-in-Ok-Done-clause-blame
-returns-in-Ok-Done-clause-blame g c =
-    let i = c.steps.invariant in
-    let clean = (c.in-Ok-Done.ensures.blame i.going).clean in
-    record { cause = tt; clean = (clean.0 ∙ i.read_faults, clean.1 ∙ i.writes.clean) }
-
-pub returns-in-Err-clause-blame : goal.returns-in-Err-clause-blame
-returns-in-Err-clause-blame g c =
-    let i = c.steps.invariant in
-    let b = rw (i.read_faults, i.writes.clean) at (c.in-Err.ensures.blame i.going) in
-    record { cause = b.cause; clean = b.clean }
-
-pub returns-in-Ok-Done-clause-writes : goal.returns-in-Ok-Done-clause-writes
-returns-in-Ok-Done-clause-writes g c =
-    let i = c.steps.invariant in
-    let e = c.in-Ok-Done.ensures in
-    writes_ok _ (writes_then i.writes (rw (since_going c.steps.machine.walk.phase _ i.going) at e.writes))
-
-pub returns-in-Err-clause-writes : goal.returns-in-Err-clause-writes
-returns-in-Err-clause-writes g c =
-    let i = c.steps.invariant in
-    let e = c.in-Err.ensures in
-    writes_err _ (writes_then i.writes (rw (since_going c.steps.machine.walk.phase _ i.going) at e.writes))

@@ -2,8 +2,7 @@ use Rattle.std.proofs.Common.{length, ◌-◌, ◌≡◌, ◌≤◌, ◌+◌, �
 use Rattle.std.specs.Prelude.{IsTrue}
 use Rattle.abt_io.specs.Lent.{OnlyWrites}
 use Rattle.abt_sparse.specs.Reading.{outcome}
-use Rattle.abt_chunks.specs.Costs.{StepsWithin}
-use Rattle.abt_chunks.specs.Taking.{ReadsOn, input_state}
+use Rattle.abt_chunks.specs.Stepping.{WalksOn}
 use Rattle.abt_chunks.specs.Ahead.{finish, seen}
 use Rattle.abt_chunks.specs.Turns.{todo}
 use Rattle.abt_chunks.specs.Parts.{ahead}
@@ -18,7 +17,7 @@ invariant-steps g l =
     let got = i.given in
     let written = o.written in
     record {
-      input : ReadsOn i.tells (input_state i l.fn.input) (input_state i l.input);
+      walks : WalksOn i 65580 l.fn.input l.input l.fn.m l.m;
       writes : OnlyWrites {X = Unit {0}} {E = Unit {0}} (Ok tt) 0 o l.fn.output l.output;
       told : IsTrue i.tells → (t : List ℕ) → finish (written l.fn.output)
           (seen (outcome (take (got l.input - got l.fn.input) (i.remaining l.fn.input) ++ t)))
@@ -32,7 +31,6 @@ invariant-steps g l =
           ≤ o.writes l.fn.output + 4 * got l.input + 4 * length (written l.output);
       turns : l.m.turns.number + 8 * got l.fn.input + 8 * length (written l.fn.output)
           ≤ l.fn.m.turns.number + 8 * got l.input + 8 * length (written l.output);
-      steps : StepsWithin 65580 (got l.fn.input) (got l.input) l.fn.m l.m;
     }
 
 abbrev pub decreases-steps : goal.decreases-steps

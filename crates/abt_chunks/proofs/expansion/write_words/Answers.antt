@@ -1,4 +1,4 @@
-use Rattle.std.proofs.Common.{arith, ◌≡◌, ◌≤◌, ◌<◌, ◌+◌, ◌-◌, ◌*◌, length, replicate, min, ◌∙◌}
+use Rattle.std.proofs.Common.{rules, arith, ◌≡◌, ◌≤◌, ◌<◌, ◌+◌, ◌-◌, ◌*◌, length, replicate, min, ◌∙◌}
 use Rattle.std.specs.List.{concat}
 use Rattle.abt_chunks.proofs.Repeated.{some_of_window, words_on, words_front}
 use Rattle.abt_chunks.proofs.expansion.write_words.Goals as goal
@@ -21,18 +21,18 @@ writes-preserved g c =
       long = omega arith;
       written = words_on _ _ _ c.part.result.now c.args.word c.writes.done some i.written part e.ok;
       word = i.word;
-      frame = e.frame ∙ i.frame;
-      faults = e.clean ∙ i.faults;
-      full = omega (arith, e.full_faults, i.full);
+      frame = e.writes.frame ∙ i.frame;
+      faults = e.writes.clean ∙ i.faults;
+      full = omega (arith, e.writes.full_faults, i.full);
       calls = omega (arith, e.calls, i.calls);
       turns = omega (arith, e.turns, i.turns);
       few = omega (arith, e.turns, i.few);
-      steps = omega (arith, e.steps, i.steps);
-      greatest = omega (arith, e.greatest, i.greatest);
+      steps = omega (arith, e.no_step.steps, i.steps);
+      greatest = omega (arith, e.no_step.greatest, i.greatest);
     }
 
-pub returns-in-Err-clause-front : goal.returns-in-Err-clause-front
-returns-in-Err-clause-front g c =
+pub returns-in-Err : goal.returns-in-Err
+returns-in-Err g c =
     let i = c.writes.invariant in
     let e = c.in-Err.ensures in
     let some = c.min-some.result in
@@ -46,8 +46,15 @@ returns-in-Err-clause-front g c =
     ≤ length (g.O.Output.written c.writes.output) + length c.part.result.now = e.within in
     let k = length (g.O.Output.written c.write_out.new.output) - length (g.O.Output.written c.writes.output) in
     record {
-      ok = tt;
-      front = words_front _ _ _ c.part.result.now c.args.word c.writes.done some c.args.n k _ i.word i.written part
-          e.front (omega arith) (omega arith) (omega (arith, i.long, e.grown));
-      cause = omega (arith, e.cause, i.faults);
+      lays = record {
+        front = record {
+          ok = tt;
+          front = words_front _ _ _ c.part.result.now c.args.word c.writes.done some c.args.n k _ i.word i.written part
+              e.front (omega arith) (omega arith) (omega (arith, i.long, e.writes.least));
+          cause = omega (arith, e.cause, i.faults);
+        };
+        all = search rules;
+        writes = search rules;
+        costs = search rules;
+      };
     }

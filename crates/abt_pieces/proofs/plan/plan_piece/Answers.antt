@@ -1,8 +1,7 @@
-use Rattle.std.proofs.lemmas.Bool.{true≢false}
-use Rattle.std.proofs.Common.{rules, arith, sym, ap, ◌+◌, ◌∙◌, refl, ◌≡◌, inl, inr}
+use Rattle.std.proofs.Common.{arith, ap, ◌+◌, ◌∙◌, refl, ◌≡◌, inr}
 use Rattle.abt_io.proofs.Lent.{reads_none, reads_ok, reads_then}
 use Rattle.abt_pieces.proofs.Fronts.{as_many, max_most}
-use Rattle.abt_pieces.proofs.Planning.{first_piece, charged_on}
+use Rattle.abt_pieces.proofs.Planning.{first_piece}
 use Rattle.abt_pieces.proofs.Counts.{begin_bytes, words_most, words_on}
 use Rattle.abt_pieces.specs.declared.plan.Planner.{Planner}
 use Rattle.abt_pieces.proofs.plan.plan_piece.Goals as goal
@@ -37,50 +36,6 @@ loop-m-init g c =
       turns = rw e.at (omega arith);
     }
 
-pub step-requires : goal.step-requires
-step-requires g c =
-    let i = c.loop-m.invariant in
-    let s = i.sound in
-    record {
-      ready = record {
-        sound = record { first = refl; within = s.within; room = s.room; even = s.even };
-        opened = λ tells. rw (i.reads.content tells) (c.requires.told tells).0;
-        told = λ tells. rw (i.reads.content tells) (i.told tells);
-      };
-    }
-
-pub loop-m-preserved : goal.loop-m-preserved
-loop-m-preserved g c =
-    let e = c.in_ok-step.ensures in
-    let test = c.if-not-branch.true in
-    let i = c.loop-m.invariant in
-    let on = e.goes_on test in
-    let stuck = e.stuck in
-    let costs = e.costs in
-    let s = e.sound in
-    record {
-      reads = reads_ok tt (reads_then i.reads e.reads);
-      sound = record { first = s.first ∙ i.sound.first; within = s.within; room = s.room; even = s.even };
-      told = λ tells. rw (i.reads.content tells) at (e.told tells);
-      charged = charged_on _ _ _ _ _ _ c.loop-m.planner.at _ on.charged i.charged i.inside
-          (λ u s. let t = stuck u s.0 in true≢false (sym (t s.1) ∙ test));
-      inside = λ u. inl (on.inside u);
-      taken = charged_on _ _ _ _ _ _ c.loop-m.planner.at _ on.takes i.taken i.inside_taken
-          (λ u s. let t = stuck u s.0 in true≢false (sym (t s.1) ∙ test));
-      inside_taken = λ u. inl (on.inside u);
-      given = omega (arith, i.given, costs.given);
-      received = let a = i.received in let d = c.tick.ensures.steps in
-          omega (arith, a, costs.received, d, costs.one_step.steps);
-      most = let d = c.tick.ensures.greatest in omega (arith, i.most, costs.one_step.greatest, d, costs.received);
-      calls = let a = i.calls in let b = costs.calls in omega (arith, a, b, on.fetched, i.given);
-      turns =
-          let a = i.turns in
-          let b = costs.turns in
-          let w = on.words in
-          let d = c.tick.ensures.turns in
-          omega (arith, a, b, w, on.fetched, d, i.given);
-    }
-
 -- the plan goes no further
 pub returns : goal.returns
 returns g c =
@@ -100,7 +55,7 @@ returns g c =
     let most = words_most one count at in
     let on = words_on _ one count at (at + 1) 1 p.0 p.1 (λ h. omega arith) refl in
     record {
-      reads = reads_ok _ (reads_then i.reads e.reads);
+      source = record { reads = reads_ok _ (reads_then i.reads e.source.reads); cause = tt };
       sound = record { first = first; within = s.within; room = s.room; even = s.even };
       told = λ tells. rw (i.reads.content tells) at (e.told tells);
       greatest = λ tells.
@@ -128,34 +83,4 @@ returns g c =
         turns = omega (arith, i.turns, turns, p.0, most, i.given, costs.given);
       };
       words = rw there (omega (arith, i.turns, turns, on, i.given, costs.given));
-      cause = tt;
-    }
-
--- the source has failed
-pub returns-in_err-step-clause-reads : goal.returns-in_err-step-clause-reads
-returns-in_err-step-clause-reads g c =
-    let i = c.loop-m.invariant.reads in
-    let e = c.step.ensures.reads in
-    record {
-      content = λ tells. e.content tells ∙ i.content tells;
-      size = λ tells. e.size tells ∙ i.size tells;
-      frame = e.frame ∙ i.frame;
-      faults = omega (arith, i.faults, e.faults);
-      clean = search rules;
-    }
-
-pub returns-in_err-step-clause-costs : goal.returns-in_err-step-clause-costs
-returns-in_err-step-clause-costs g c =
-    let i = c.loop-m.invariant in
-    let costs = c.step.ensures.costs in
-    let turns = costs.turns in
-    let p = (g.met.R.BlockRuns.padded c.args.runs.now c.loop-m.planner.at).0 in
-    let most = words_most (g.R.BlockRuns.one c.args.runs.now) (g.R.BlockRuns.count c.args.runs.now)
-    c.loop-m.planner.at.block in
-    record {
-      given = omega (arith, i.given, costs.given);
-      steps = omega (arith, i.received, costs.received, costs.one_step.steps);
-      greatest = omega (arith, i.most, costs.one_step.greatest, costs.received);
-      calls = let calls = costs.calls in omega (arith, calls, i.calls, i.given, costs.given);
-      turns = omega (arith, i.turns, turns, p, most, i.given, costs.given);
     }

@@ -14,11 +14,13 @@ returns-in-Err g c =
     let long = header_parts c.image_header-bytes.result (ap length c.image_header-bytes.ensures) in
     record {
       ok = tt;
-      before = (keeps_before at (at + 4) w w' (omega arith) a.before a.long).front;
       unfinished = unfinished_by 4 (drop at w') (omega arith) (four_kept at w w' a.before (four_zeros at w c.requires.zeros));
-      long = a.long;
-      failed = e.failed;
-      writes = at_most (laid_over g.O.Output c.args.output.now c.write_over_all.new.output c.args.m.now c.write_over_all.new.m _ 24 long.0 a.long a.frame a.faults e.clean e.cause a.full_faults e.failed a.calls a.turns a.steps a.greatest) (omega arith) (omega arith);
+      over = record {
+        before = (keeps_before at (at + 4) w w' (omega arith) a.before a.long).front;
+        long = a.long;
+        failed = e.failed;
+        writes = at_most (laid_over g.O.Output c.args.output.now c.write_over_all.new.output c.args.m.now c.write_over_all.new.m _ 24 long.0 a.long e.writes e.cause e.failed a.calls a.turns a.no_step) (omega arith) (omega arith);
+      };
     }
 
 -- the header is laid
@@ -36,11 +38,13 @@ returns-in-Ok-write_over_all g c =
     let long = header_parts h (ap length c.image_header-bytes.ensures) in
     record {
       ok = header_laid w w' w'' h _ at c.image_header-bytes.ensures (ap length c.image_header-bytes.ensures) c.requires.stands all.ok e.ok;
-      before = b.before ∙ (keeps_before at (at + 4) w w' (omega arith) a.before a.long).front;
       unfinished = tt;
-      long = b.long ∙ a.long;
-      failed = tt;
-      writes = onward {X = Unit {0}} {x = tt} (laid_over g.O.Output c.args.output.now c.write_over_all.new.output c.args.m.now c.write_over_all.new.m _ 24 long.0 a.long a.frame a.faults all.clean all.cause a.full_faults all.failed a.calls a.turns a.steps a.greatest) (laid_over g.O.Output c.write_over_all.new.output c.write_over_all-2.new.output c.write_over_all.new.m c.write_over_all-2.new.m _ 4 long.1 b.long b.frame b.faults e.clean e.cause b.full_faults e.failed b.calls b.turns b.steps b.greatest);
+      over = record {
+        before = b.before ∙ (keeps_before at (at + 4) w w' (omega arith) a.before a.long).front;
+        long = b.long ∙ a.long;
+        failed = tt;
+        writes = onward {X = Unit {0}} {x = tt} (laid_over g.O.Output c.args.output.now c.write_over_all.new.output c.args.m.now c.write_over_all.new.m _ 24 long.0 a.long all.writes all.cause all.failed a.calls a.turns a.no_step) (laid_over g.O.Output c.write_over_all.new.output c.write_over_all-2.new.output c.write_over_all.new.m c.write_over_all-2.new.m _ 4 long.1 b.long e.writes e.cause e.failed b.calls b.turns b.no_step);
+      };
     }
 
 -- the magic number is not laid, or not all of it
@@ -59,9 +63,11 @@ returns-in-Err-write_over_all g c =
     let long = header_parts h (ap length c.image_header-bytes.ensures) in
     record {
       ok = tt;
-      before = b.before ∙ (keeps_before at (at + 4) w w' (omega arith) a.before a.long).front;
       unfinished = magic_last w' w'' (take 4 h) at f.count (ap (take 4) c.image_header-bytes.ensures) f.short (omega (arith, a.long)) (four_kept at w w' a.before (four_zeros at w c.requires.zeros)) f.written;
-      long = b.long ∙ a.long;
-      failed = e.failed;
-      writes = onward {X = Unit {0}} {x = tt} (laid_over g.O.Output c.args.output.now c.write_over_all.new.output c.args.m.now c.write_over_all.new.m _ 24 long.0 a.long a.frame a.faults all.clean all.cause a.full_faults all.failed a.calls a.turns a.steps a.greatest) (laid_over g.O.Output c.write_over_all.new.output c.write_over_all-2.new.output c.write_over_all.new.m c.write_over_all-2.new.m _ 4 long.1 b.long b.frame b.faults e.clean e.cause b.full_faults e.failed b.calls b.turns b.steps b.greatest);
+      over = record {
+        before = b.before ∙ (keeps_before at (at + 4) w w' (omega arith) a.before a.long).front;
+        long = b.long ∙ a.long;
+        failed = e.failed;
+        writes = onward {X = Unit {0}} {x = tt} (laid_over g.O.Output c.args.output.now c.write_over_all.new.output c.args.m.now c.write_over_all.new.m _ 24 long.0 a.long all.writes all.cause all.failed a.calls a.turns a.no_step) (laid_over g.O.Output c.write_over_all.new.output c.write_over_all-2.new.output c.write_over_all.new.m c.write_over_all-2.new.m _ 4 long.1 b.long e.writes e.cause e.failed b.calls b.turns b.no_step);
+      };
     }

@@ -3,7 +3,9 @@ use Rattle.abt_io.proofs.Lent.{reads_none, reads_then, reads_err, reads_ok}
 use Rattle.abt_pieces.proofs.Fronts.{as_many, max_most, run_causes}
 use Rattle.abt_pieces.proofs.Counts.{silent_most, words_most}
 use Rattle.abt_sparsify.specs.Sparsify.{end_place}
-use Rattle.abt_sparsify.proofs.SparseSteps.{is_end_place, granted, granted_end, raw_blocks, counted_on, counted_still, counted_whole, counted_first, sound_count_on, sound_count_still, few_bytes, first_count, gatherer_sound, gatherer_told, bounded_whole}
+use Rattle.abt_sparsify.proofs.SparseSteps.{is_end_place, granted, granted_end, raw_blocks, counted_on, counted_still}
+use Rattle.abt_sparsify.proofs.SparseSteps.{counted_whole, counted_first, sound_count_on, sound_count_still, few_bytes}
+use Rattle.abt_sparsify.proofs.SparseSteps.{first_count, gatherer_sound, gatherer_told, bounded_whole}
 use Rattle.abt_sparsify.proofs.count.count_runs.Goals as goal
 
 -- before the first block
@@ -29,7 +31,8 @@ loop-gatherer-init g c =
       greatest = max_most _ _;
       calls = omega arith;
       turns = omega arith;
-      reads_to = λ tells. rw begun (let z = granted r.length r.blocks r.size c.start.result s.unused in omega (arith, z));
+      reads_to = λ tells. rw begun (let z = granted r.length r.blocks r.size c.start.result s.unused in omega
+          (arith, z));
     }
 
 pub and_run-counted-requires-clause-chunks : goal.and_run-counted-requires-clause-chunks
@@ -38,7 +41,8 @@ and_run-counted-requires-clause-chunks g c =
     let e = c.in-Ok.ensures in
     let r = c.args.runs.now in
     let run = rw c.in-Some.is at e.run in
-    let z = sound_count_on _ c.args.most c.loop-gatherer.gatherer c.gather.new.self c.in-Some.run' c.loop-gatherer.counted c.requires.some i.sound.behind_it run i.bounds in
+    let z = sound_count_on _ c.args.most c.loop-gatherer.gatherer c.gather.new.self c.in-Some.run'
+    c.loop-gatherer.counted c.requires.some i.sound.behind_it run i.bounds in
     let s = rw i.count at e.sound in
     omega (arith, z.chunks, s.room, r.fits)
 
@@ -48,7 +52,8 @@ and_run-counted-requires-clause-bytes g c =
     let e = c.in-Ok.ensures in
     let r = c.args.runs.now in
     let run = rw c.in-Some.is at e.run in
-    let z = sound_count_on _ c.args.most c.loop-gatherer.gatherer c.gather.new.self c.in-Some.run' c.loop-gatherer.counted c.requires.some i.sound.behind_it run i.bounds in
+    let z = sound_count_on _ c.args.most c.loop-gatherer.gatherer c.gather.new.self c.in-Some.run'
+    c.loop-gatherer.counted c.requires.some i.sound.behind_it run i.bounds in
     let s = rw i.count at e.sound in
     rw i.size (few_bytes _ r.blocks r.size _ (omega (arith, s.room)) r.fits r.window z.bytes)
 
@@ -58,7 +63,8 @@ loop-gatherer-preserved-in-Some g c =
     let e = c.in-Ok.ensures in
     let r = c.args.runs.now in
     let run = rw c.in-Some.is at e.run in
-    let z = sound_count_on _ c.args.most c.loop-gatherer.gatherer c.gather.new.self c.in-Some.run' c.loop-gatherer.counted c.requires.some i.sound.behind_it run i.bounds in
+    let z = sound_count_on _ c.args.most c.loop-gatherer.gatherer c.gather.new.self c.in-Some.run'
+    c.loop-gatherer.counted c.requires.some i.sound.behind_it run i.bounds in
     let going = sym c.loop-gatherer-test.ensures in
     let most = silent_most r.blocks r.blocks c.loop-gatherer.gatherer in
     let paid = rw i.count at (e.paid going) in
@@ -68,14 +74,15 @@ loop-gatherer-preserved-in-Some g c =
       size = i.size;
       count = i.count;
       blocks = rw now i.blocks;
-      reads = reads_then i.reads (reads_ok tt e.reads);
+      reads = reads_then i.reads (reads_ok tt e.source.reads);
       sound = rw i.count at e.sound;
       told = λ tells. rw (i.count, i.reads.content tells) at (e.told tells);
       bounds = rw now z;
       numbers = λ tells.
           let o = raw_blocks r.blocks r.size r.length _ r.some r.covers r.last (c.requires.opened tells) in
           let closed = rw (i.count, i.reads.content tells, c.in-Some.is) at (e.closed tells) in
-          rw now (counted_on _ _ _ _ c.loop-gatherer.gatherer c.gather.new.self c.in-Some.run' c.loop-gatherer.counted c.requires.some o.0 o.1 (i.told tells).gathered closed run (i.numbers tells));
+          rw now (counted_on _ _ _ _ c.loop-gatherer.gatherer c.gather.new.self c.in-Some.run' c.loop-gatherer.counted
+          c.requires.some o.0 o.1 (i.told tells).gathered closed run (i.numbers tells));
       given = omega (arith, e.costs.given, i.given);
       received = omega (arith, e.costs.received, e.costs.one_step.steps, i.received, c.tick.ensures.steps);
       greatest = omega (arith, e.costs.received, e.costs.one_step.greatest, i.greatest, c.tick.ensures.greatest);
@@ -101,11 +108,13 @@ loop-gatherer-preserved g c =
       size = i.size;
       count = i.count;
       blocks = i.blocks;
-      reads = reads_then i.reads (reads_ok tt e.reads);
+      reads = reads_then i.reads (reads_ok tt e.source.reads);
       sound = on;
       told = λ tells. rw (i.count, i.reads.content tells) at (e.told tells);
-      bounds = sound_count_still _ c.loop-gatherer.gatherer c.gather.new.self c.loop-gatherer.counted i.sound.behind_it on.behind_it grows i.bounds;
-      numbers = λ tells. counted_still _ _ c.loop-gatherer.gatherer c.gather.new.self c.loop-gatherer.counted i.sound.behind_it on.behind_it grows (i.numbers tells);
+      bounds = sound_count_still _ c.loop-gatherer.gatherer c.gather.new.self c.loop-gatherer.counted i.sound.behind_it
+          on.behind_it grows i.bounds;
+      numbers = λ tells. counted_still _ _ c.loop-gatherer.gatherer c.gather.new.self c.loop-gatherer.counted
+          i.sound.behind_it on.behind_it grows (i.numbers tells);
       given = omega (arith, e.costs.given, i.given);
       received = omega (arith, e.costs.received, e.costs.one_step.steps, i.received, c.tick.ensures.steps);
       greatest = omega (arith, e.costs.received, e.costs.one_step.greatest, i.greatest, c.tick.ensures.greatest);
@@ -127,11 +136,12 @@ returns g c =
     counted_whole r.size _ _ _ c.loop-gatherer.gatherer c.loop-gatherer.counted o.0 z.0 z.1 (i.numbers tells) in
     let most = words_most r.size r.blocks (min c.loop-gatherer.gatherer.at.block r.blocks) in
     record {
-      reads = reads_ok _ i.reads;
+      source = record { reads = reads_ok _ i.reads; cause = tt };
       blocks = i.blocks;
       counts = whole;
       bounded = bounded_whole _ _ c.loop-gatherer.gatherer c.loop-gatherer.counted z.0 z.1 i.bounds;
-      economy = λ tells. let end = granted_end r.length r.blocks r.size c.loop-gatherer.gatherer.at z.1 in omega (arith, end, i.reads_to tells);
+      economy = λ tells. let end = granted_end r.length r.blocks r.size c.loop-gatherer.gatherer.at z.1 in omega
+          (arith, end, i.reads_to tells);
       costs = record {
         given = i.given;
         received = i.received;
@@ -139,7 +149,6 @@ returns g c =
         turns = omega (arith, i.turns, most);
         greatest = i.greatest;
       };
-      cause = tt;
     }
 
 -- the source has failed
@@ -149,7 +158,10 @@ returns-in-Err g c =
     let e = c.gather.ensures in
     let turns = rw i.count at e.costs.turns in
     record {
-      reads = reads_then i.reads (reads_err _ c.in-Err.ensures.reads);
+      source = record {
+        reads = reads_then i.reads (reads_err _ c.in-Err.ensures.source.reads);
+        cause = run_causes _ _ _ _ _ _ _ c.run_fault.ensures (rw i.reads.clean at c.in-Err.ensures.source.cause);
+      };
       blocks = tt;
       counts = λ tells. tt;
       bounded = tt;
@@ -161,5 +173,4 @@ returns-in-Err g c =
         turns = omega (arith, i.turns, turns, i.given, e.costs.given, c.tick.ensures.turns);
         greatest = omega (arith, e.costs.received, e.costs.one_step.greatest, i.greatest, c.tick.ensures.greatest);
       };
-      cause = run_causes _ _ _ _ _ _ _ c.run_fault.ensures (rw i.reads.clean at c.in-Err.ensures.cause);
     }

@@ -17,16 +17,25 @@ returns-in-Err g c =
     let fails = λ (e : PieceFault). let r : Result Written PieceFault = Err e in r in
     let none : full_in_cut c.run_fault.result ≡ 0 = rw is (run_not_full c.in-Err.fault) in
     record {
-      reads = reads_none _ g.S.Source _;
-      writes = rw none (writes_none _ g.O.Output _);
-      bad_block = λ bad. (ap fails (refused_bad _ _ _ _ is refused bad), refl, refl);
-      too_large = λ good large. (ap fails (refused_large _ _ _ _ is refused good), refl, refl);
+      does = record {
+        reads = reads_none _ g.S.Source _;
+        writes = rw none (writes_none _ g.O.Output _);
+        bad_block = λ bad. (ap fails (refused_bad _ _ _ _ is refused bad), refl, refl);
+        too_large = λ good large. (ap fails (refused_large _ _ _ _ is refused good), refl, refl);
+        within = λ n fits. no_more _ _;
+        costs = record {
+          given = as_many _;
+          steps = as_many _;
+          greatest = max_most _ _;
+          calls = omega arith;
+          turns =
+              omega arith;
+        };
+        full = λ says. absurd (run_unsaid _ _ is says);
+        cause = refused_cause _ _ _ _ _ _ _ _ _ is refused;
+      };
       told = λ tells. record { chunks = tt; front = nothing_more _ _; whole = tt; economy = tt };
       sparse = tt;
-      within = λ n fits. no_more _ _;
-      costs = record { given = as_many _; steps = as_many _; greatest = max_most _ _; calls = omega arith; turns = omega arith };
-      full = λ says. absurd (run_unsaid _ _ is says);
-      cause = refused_cause _ _ _ _ _ _ _ _ _ is refused;
     }
 
 -- the opened image is written
@@ -37,18 +46,21 @@ returns g c =
     let w = c.write_image.ensures in
     let size = e.size.0 in
     record {
-      reads = w.reads;
-      writes = w.writes;
-      bad_block = λ bad. absurd (let own : IsRawSize r.size = (r.some, r.window, r.words) in bad (rw size at own));
-      too_large = λ good large. absurd (few_blocks r.blocks c.args.block_size _ (rw size at r.covers) r.fits (rw e.size.1 large));
+      does = record {
+        reads = w.moves.reads;
+        writes = w.moves.writes;
+        bad_block = λ bad. absurd (let own : IsRawSize r.size = (r.some, r.window, r.words) in bad (rw size at own));
+        too_large = λ good large. absurd (few_blocks r.blocks c.args.block_size _ (rw size at r.covers) r.fits
+            (rw e.size.1 large));
+        within = λ n fits.
+            let p = within_blocks r.blocks n r.size r.length r.last (rw (size, e.size.1) fits) in
+            let q = rw size at p in
+            let z = rw size at w.within in
+            omega (arith, q, z);
+        costs = rw size at w.costs;
+        full = w.moves.full;
+        cause = sparsify_causes c.write_image.result _ _ _ _ _ _ _ w.moves.cause;
+      };
       told = λ tells. rw size at (w.told tells);
       sparse = rw (size, e.size.1) at w.sparse;
-      within = λ n fits.
-          let p = within_blocks r.blocks n r.size r.length r.last (rw (size, e.size.1) fits) in
-          let q = rw size at p in
-          let z = rw size at w.within in
-          omega (arith, q, z);
-      costs = rw size at w.costs;
-      full = w.full;
-      cause = sparsify_causes c.write_image.result _ _ _ _ _ _ _ w.cause;
     }

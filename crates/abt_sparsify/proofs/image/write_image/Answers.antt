@@ -11,10 +11,14 @@ pub returns-in-Err : goal.returns-in-Err
 returns-in-Err g c =
     let a = c.count_runs.ensures in
     let e = c.in-Err.ensures in
-    let none = unwritten c.in-Err.fault _ _ _ e.cause in
+    let none = unwritten c.in-Err.fault _ _ _ e.source.cause in
     record {
-      reads = reads_err _ e.reads;
-      writes = rw none (writes_none _ g.O.Output _);
+      moves = record {
+        reads = reads_err _ e.source.reads;
+        writes = rw none (writes_none _ g.O.Output _);
+        full = λ says. absurd (none_says _ none says);
+        cause = cause_unwritten c.in-Err.fault _ _ _ _ _ e.source.cause;
+      };
       told = λ tells. record { chunks = tt; front = nothing_more _ _; whole = tt; economy = tt };
       sparse = tt;
       within = no_more _ _;
@@ -25,8 +29,6 @@ returns-in-Err g c =
         calls = omega (arith, a.costs.calls);
         turns = omega (arith, a.costs.turns);
       };
-      full = λ says. absurd (none_says _ none says);
-      cause = cause_unwritten c.in-Err.fault _ _ _ _ _ e.cause;
     }
 
 -- the header is not written
@@ -36,11 +38,15 @@ returns-in-Err-write_header g c =
     let e = c.in-Ok.ensures in
     let a = c.count_runs.ensures in
     let s = c.close_step.ensures in
-    let h = c.write_header.ensures in
-    let f = c.in-Err-write_header.ensures in
+    let h = c.write_header.ensures.put in
+    let f = c.in-Err-write_header.ensures.put in
     record {
-      reads = reads_then e.reads (reads_none _ g.S.Source _);
-      writes = writes_err _ f.writes;
+      moves = record {
+        reads = reads_then e.source.reads (reads_none _ g.S.Source _);
+        writes = writes_err _ f.writes;
+        full = λ says. f.full (says_full c.in-Err-write_header.fault says);
+        cause = f.cause;
+      };
       told = λ tells.
           let o = raw_blocks i.blocks i.size i.length _ i.some i.covers i.last (c.requires.ready.opened tells) in
           let whole = header_first i.size c.args.most _ c.block_size-size.result c.in-Ok.counted.blocks
@@ -55,8 +61,6 @@ returns-in-Err-write_header g c =
         calls = omega (arith, a.costs.calls, h.costs.calls, h.writes.least, a.costs.given);
         turns = omega (arith, a.costs.turns, s.turns, h.costs.turns, h.writes.least, a.costs.given);
       };
-      full = λ says. f.full (says_full c.in-Err-write_header.fault says);
-      cause = f.cause;
     }
 
 -- the image is written
@@ -66,22 +70,26 @@ returns-in-Ok-write_runs g c =
     let e = c.in-Ok.ensures in
     let a = c.count_runs.ensures in
     let s = c.close_step.ensures in
-    let h = c.in_default.ensures in
-    let b = c.write_header.ensures in
+    let h = c.in_default.ensures.put in
+    let b = c.write_header.ensures.put in
     let y = c.write_runs.ensures in
     let z = c.in-Ok-write_runs.ensures in
     record {
-      reads = reads_then e.reads (reads_ok _ z.reads);
-      writes = writes_then h.writes (writes_ok _ z.writes);
+      moves = record {
+        reads = reads_then e.source.reads (reads_ok _ z.moves.reads);
+        writes = writes_then h.writes (writes_ok _ z.moves.writes);
+        full = λ says. absurd (not_full says);
+        cause = tt;
+      };
       told = λ tells.
           let o = raw_blocks i.blocks i.size i.length _ i.some i.covers i.last (c.requires.ready.opened tells) in
           let header = header_first i.size c.args.most _ c.block_size-size.result c.in-Ok.counted.blocks
           c.in-Ok.counted.chunks c.block_size-size.ensures (e.blocks ∙ o.0) (e.counts tells).chunks in
           record {
             chunks = (e.blocks ∙ o.0, (e.counts tells).chunks);
-            front = front_join _ _ _ _ _ b.writes.least y.writes.least (wrote_front _ _ _ _ _ h.put.ok header)
-                (wrote_rest _ _ _ _ _ h.put.ok header) (rw (e.reads.content tells) at (y.front tells));
-            whole = whole_of _ _ _ _ _ _ h.put.ok (rw (e.reads.content tells) at (z.whole tells)) header;
+            front = front_join _ _ _ _ _ b.writes.least y.moves.writes.least (wrote_front _ _ _ _ _ h.put.ok header)
+                (wrote_rest _ _ _ _ _ h.put.ok header) (rw (e.source.reads.content tells) at (y.front tells));
+            whole = whole_of _ _ _ _ _ _ h.put.ok (rw (e.source.reads.content tells) at (z.whole tells)) header;
             economy = omega (arith, e.economy tells, z.economy tells, c.requires.ready.opened tells);
           };
       sparse =
@@ -106,7 +114,7 @@ returns-in-Ok-write_runs g c =
           a.costs.given,
           y.costs.given,
           b.writes.least,
-          y.writes.least,
+          y.moves.writes.least,
         );
         turns = omega (
           arith,
@@ -117,11 +125,9 @@ returns-in-Ok-write_runs g c =
           a.costs.given,
           y.costs.given,
           b.writes.least,
-          y.writes.least,
+          y.moves.writes.least,
         );
       };
-      full = λ says. absurd (not_full says);
-      cause = tt;
     }
 
 -- the chunks are not
@@ -131,21 +137,25 @@ returns-in-Err-write_runs g c =
     let e = c.in-Ok.ensures in
     let a = c.count_runs.ensures in
     let s = c.close_step.ensures in
-    let h = c.in_default.ensures in
-    let b = c.write_header.ensures in
+    let h = c.in_default.ensures.put in
+    let b = c.write_header.ensures.put in
     let y = c.write_runs.ensures in
     let z = c.in-Err-write_runs.ensures in
     record {
-      reads = reads_then e.reads (reads_err _ z.reads);
-      writes = writes_then h.writes (writes_err _ z.writes);
+      moves = record {
+        reads = reads_then e.source.reads (reads_err _ z.moves.reads);
+        writes = writes_then h.writes (writes_err _ z.moves.writes);
+        full = z.moves.full;
+        cause = cause_since c.in-Err-write_runs.fault _ _ _ _ _ _ _ a.source.reads.faults b.writes.faults z.moves.cause;
+      };
       told = λ tells.
           let o = raw_blocks i.blocks i.size i.length _ i.some i.covers i.last (c.requires.ready.opened tells) in
           let header = header_first i.size c.args.most _ c.block_size-size.result c.in-Ok.counted.blocks
           c.in-Ok.counted.chunks c.block_size-size.ensures (e.blocks ∙ o.0) (e.counts tells).chunks in
           record {
             chunks = tt;
-            front = front_join _ _ _ _ _ b.writes.least y.writes.least (wrote_front _ _ _ _ _ h.put.ok header)
-                (wrote_rest _ _ _ _ _ h.put.ok header) (rw (e.reads.content tells) at (y.front tells));
+            front = front_join _ _ _ _ _ b.writes.least y.moves.writes.least (wrote_front _ _ _ _ _ h.put.ok header)
+                (wrote_rest _ _ _ _ _ h.put.ok header) (rw (e.source.reads.content tells) at (y.front tells));
             whole = tt;
             economy = tt;
           };
@@ -164,7 +174,7 @@ returns-in-Err-write_runs g c =
           a.costs.given,
           y.costs.given,
           b.writes.least,
-          y.writes.least,
+          y.moves.writes.least,
         );
         turns = omega (
           arith,
@@ -175,9 +185,7 @@ returns-in-Err-write_runs g c =
           a.costs.given,
           y.costs.given,
           b.writes.least,
-          y.writes.least,
+          y.moves.writes.least,
         );
       };
-      full = z.full;
-      cause = cause_since c.in-Err-write_runs.fault _ _ _ _ _ _ _ a.reads.faults b.writes.faults z.cause;
     }

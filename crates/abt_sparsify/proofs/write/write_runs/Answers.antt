@@ -3,12 +3,14 @@ use Rattle.std.proofs.lemmas.Result.{err_from_is_err_and}
 use Rattle.abt_io.proofs.Lent.{reads_none, reads_then, reads_err, reads_ok, writes_none, writes_then, writes_err}
 use Rattle.abt_io.proofs.Lent.{writes_ok}
 use Rattle.abt_pieces.proofs.Counts.{silent_most}
-use Rattle.abt_pieces.proofs.Fronts.{front_join, rest_join, whole_join, no_bytes, cause_since, not_full, as_many, max_most, nothing_more, nothing_less}
+use Rattle.abt_pieces.proofs.Fronts.{front_join, rest_join, whole_join, no_bytes, cause_since, not_full, as_many}
+use Rattle.abt_pieces.proofs.Fronts.{max_most, nothing_more, nothing_less}
 use Rattle.abt_pieces.proofs.Image.{leads_join, leads_whole, nothing_appended}
 use Rattle.abt_pieces.specs.Gather.{first_gatherer}
 use Rattle.abt_pieces.specs.Image.{AreChunks, MayCome}
 use Rattle.abt_sparsify.specs.Sparsify.{end_place}
-use Rattle.abt_sparsify.proofs.SparseSteps.{raw_blocks, is_end_place, first_sound, first_told, first_rest, first_leads, all_spent, all_read}
+use Rattle.abt_sparsify.proofs.SparseSteps.{raw_blocks, is_end_place, first_sound, first_told, first_rest, first_leads}
+use Rattle.abt_sparsify.proofs.SparseSteps.{all_spent, all_read}
 use Rattle.abt_sparsify.proofs.write.write_runs.Goals as goal
 
 pub loop-m-preserved : goal.loop-m-preserved
@@ -61,7 +63,10 @@ loop-m-preserved g c =
       spends = λ tells.
           let z = s.spends tells (end_place r.blocks) place place (sym i.past) refl 16
           (32 + (g.S.Source.given c.loop-m.source - g.S.Source.given c.args.source.now)) (i.spends tells) in
-          let t : 32 + (g.S.Source.given c.loop-m.source - g.S.Source.given c.args.source.now) + (g.S.Source.given c.step.new.source - g.S.Source.given c.loop-m.source) ≡ 32 + (g.S.Source.given c.step.new.source - g.S.Source.given c.args.source.now) = omega (arith, e.costs.given, i.given) in
+          let t : 32 + (g.S.Source.given c.loop-m.source - g.S.Source.given c.args.source.now) +
+          (g.S.Source.given c.step.new.source - g.S.Source.given c.loop-m.source) ≡ 32 +
+          (g.S.Source.given c.step.new.source - g.S.Source.given c.args.source.now) = omega
+          (arith, e.costs.given, i.given) in
           rw t at z;
       leads = leads_join (AreChunks r.size c.args.counted.chunks r.blocks) (MayCome r.size r.blocks c.loop-m.writer)
           (MayCome r.size r.blocks c.step.new.self) _ _ _ i.leads (s.leads going);
@@ -79,8 +84,12 @@ returns g c =
     let done = o.ended test in
     let place = is_end_place r.blocks r.size r.window in
     record {
-      reads = reads_then i.reads (reads_ok tt s.reads);
-      writes = writes_then i.writes (writes_ok tt s.writes);
+      moves = record {
+        reads = reads_then i.reads (reads_ok tt s.reads);
+        writes = writes_then i.writes (writes_ok tt s.writes);
+        full = λ says. absurd (not_full says);
+        cause = tt;
+      };
       within = omega (arith, e.within, i.counted);
       long = omega (arith, i.counted, done.0, ap length done.1);
       front = λ tells. front_join _ _ _ _ _ i.writes.least e.writes.least (i.front tells) (i.rest tells)
@@ -92,7 +101,8 @@ returns g c =
       economy = λ tells.
           let z = o.spent tells (end_place r.blocks) place place (sym i.past) refl 16
           (32 + (g.S.Source.given c.loop-m.source - g.S.Source.given c.args.source.now)) (i.spends tells) test in
-          let y = all_read r.length r.blocks r.size (g.S.Source.given c.step.new.source - g.S.Source.given c.args.source.now) (omega (arith, z, e.costs.given, i.given)) in
+          let y = all_read r.length r.blocks r.size (g.S.Source.given c.step.new.source - g.S.Source.given
+          c.args.source.now) (omega (arith, z, e.costs.given, i.given)) in
           omega (arith, y, e.costs.given, i.given);
       costs = record {
         given = omega (arith, e.costs.given, i.given);
@@ -110,8 +120,6 @@ returns g c =
         turns = omega (arith, i.turns, e.costs.turns, i.given, e.costs.given, i.writes.least, e.writes.least);
         greatest = omega (arith, e.costs.received, e.costs.greatest, i.greatest);
       };
-      full = λ says. absurd (not_full says);
-      cause = tt;
     }
 
 -- a step has failed
@@ -122,8 +130,12 @@ returns-in_err-step g c =
     let f = c.in_err-step.ensures.stepped in
     let p = err_from_is_err_and c.from_residual.result c.from_residual.ensures.1 in
     record {
-      reads = rw p.1 (reads_then i.reads (reads_err _ f.reads));
-      writes = rw (p.1, p.2) (writes_then i.writes (writes_err _ f.writes));
+      moves = record {
+        reads = rw p.1 (reads_then i.reads (reads_err _ f.reads));
+        writes = rw (p.1, p.2) (writes_then i.writes (writes_err _ f.writes));
+        full = rw (p.1, p.2) (λ says. (f.full says).0);
+        cause = rw (p.1, p.2) (cause_since _ _ _ _ _ _ _ _ i.reads.faults i.writes.faults f.cause);
+      };
       within = omega (arith, e.within, i.counted);
       long = rw p.1 tt;
       front = λ tells. front_join _ _ _ _ _ i.writes.least e.writes.least (i.front tells) (i.rest tells)
@@ -147,8 +159,6 @@ returns-in_err-step g c =
         turns = omega (arith, i.turns, e.costs.turns, i.given, e.costs.given, i.writes.least, e.writes.least);
         greatest = omega (arith, e.costs.received, e.costs.greatest, i.greatest);
       };
-      full = rw (p.1, p.2) (λ says. (f.full says).0);
-      cause = rw (p.1, p.2) (cause_since _ _ _ _ _ _ _ _ i.reads.faults i.writes.faults f.cause);
     }
 
 -- before the first chunk
@@ -172,7 +182,8 @@ loop-m-init g c =
           (c.requires.counts tells).chunks (c.requires.counts tells).bytes);
       counted = rw begun (omega (arith, c.requires.least));
       front = λ tells. nothing_more _ _;
-      rest = λ tells. rw begun (first_rest r.blocks c.args.most _ start c.args.counted (blocks tells).0 ∙ nothing_less (g.O.Output.written c.args.output.now) _);
+      rest = λ tells. rw begun (first_rest r.blocks c.args.most _ start c.args.counted (blocks tells).0 ∙ nothing_less
+          (g.O.Output.written c.args.output.now) _);
       given = as_many _;
       received = as_many _;
       greatest = max_most _ _;
@@ -180,7 +191,8 @@ loop-m-init g c =
       write_calls = rw begun (omega (arith, silent));
       turns = rw begun (omega (arith, silent));
       spends = λ tells.
-          let z = all_spent r.length r.blocks r.size c.args.most start c.args.counted s.first s.unused s.fresh r.covers in
+          let z = all_spent r.length r.blocks r.size c.args.most start c.args.counted s.first s.unused s.fresh r.covers
+          in
           let t : 32 ≡ 32 + (g.S.Source.given c.args.source.now - g.S.Source.given c.args.source.now) = omega arith in
           rw begun (rw t at z);
       leads = rw begun (first_leads r.size r.blocks c.args.most start c.args.counted _ s.first);

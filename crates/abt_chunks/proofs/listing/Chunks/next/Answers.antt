@@ -1,6 +1,6 @@
 use Rattle.std.proofs.Common.{◌<◌, arith, refl, ap}
 use Rattle.abt_chunks.proofs.Causes.{bounded_next}
-use Rattle.abt_chunks.proofs.Showing.{ended_header, shown_next, more_index}
+use Rattle.abt_chunks.proofs.Showing.{shown_next, more_index}
 use Rattle.abt_chunks.proofs.listing.Chunks.next.Goals as goal
 
 pub returns-in-Ok-clause-lists : goal.returns-in-Ok-clause-lists
@@ -24,9 +24,3 @@ returns-in-Err-clause-bounded g c =
     bounded_next c.in-Err.fault s.phase s (g.I.Input.given c.args.input.now) (g.I.Input.given c.step.new.input) refl
     c.args.self.now.between c.in-Err.ensures.refuses
     (λ o. ap g.I.Input.given (c.step.ensures.again o).1) c.in-Err.ensures.input.wanted
-
-pub returns-in-Ok-Done-clause-header : goal.returns-in-Ok-Done-clause-header
-returns-in-Ok-Done-clause-header g c =
-    let s = c.args.self.now.walk in
-    ended_header s.phase s c.step.new.walk refl (rw c.in-Ok-Done.field-0-is at c.in-Ok-Done.ensures.closes)
-    c.step.ensures.header (λ o. (c.step.ensures.again o).0)

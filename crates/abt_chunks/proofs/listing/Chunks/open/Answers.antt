@@ -8,10 +8,3 @@ returns-in-Ok-clause-opens g c tells =
     let numbers = rw (c.in-Ok-More.field-0-is, c.new-walk.ensures) at c.in-Ok-More.ensures.numbers in
     let none : c.pass.new.walk.index ≡ 0 = omega (arith, c.in-Ok.ensures.index, numbers) in
     (shown_open c.new-walk.result c.step.new.walk c.pass.new.walk _ _ _ c.new-walk.ensures first (c.in-Ok.ensures.passes tells) c.in-Ok.ensures.settles.1 c.in-Ok.ensures.settles.0 none, c.in-Ok.ensures.settles.0, c.in-Ok.ensures.settles.1)
-
--- no image ends before its header
-pub returns-in-Ok-Done : goal.returns-in-Ok-Done
-returns-in-Ok-Done g c = absurd (rw (c.in-Ok-Done.field-0-is, c.new-walk.ensures) at c.in-Ok-Done.ensures.closes)
-
-pub invariant_of-result : goal.invariant_of-result
-invariant_of-result g c = absurd (rw (c.in-Ok-Done.field-0-is, c.new-walk.ensures) at c.in-Ok-Done.ensures.closes)

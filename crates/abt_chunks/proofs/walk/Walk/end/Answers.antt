@@ -2,7 +2,6 @@ use Rattle.std.proofs.Common.{rules, ◌∙◌, length, ◌+◌, true}
 use Rattle.abt_sparse.specs.View.{view}
 use Rattle.abt_chunks.proofs.Onward.{spent, ahead_few, ahead_done}
 use Rattle.abt_chunks.proofs.Listed.{upcoming_body, breaking_body, ended, listing_few, listing_done}
-use Rattle.abt_chunks.proofs.Turns.{refused}
 use Rattle.abt_chunks.proofs.walk.Walk.end.Goals as goal
 
 pub returns-then-self-clause-told : goal.returns-then-self-clause-told
@@ -29,8 +28,3 @@ returns-clause-told c =
           ∙ listing_done (view s.header) (s.position + length t) s.index s.have t h.3 c.if-self.false;
       short = search rules;
     }
-
-pub returns-then-self-clause-turn : goal.returns-then-self-clause-turn
-returns-then-self-clause-turn c =
-    let s = c.args.self.now in let h = c.requires.here in let e = c.fail.ensures in
-    refused _ _ s _ _ e.part e.failed e.header (rw h.0 (ended s h.1 h.2)) (rw h.0 tt)

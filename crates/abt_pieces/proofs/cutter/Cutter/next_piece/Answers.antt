@@ -1,42 +1,18 @@
-use Rattle.std.proofs.Common.{refl, rules, arith, ap, sym, ◌∙◌, ◌≡◌, ◌+◌, ◌++◌, ℕ, List, inl, inr}
-use Rattle.abt_io.proofs.Lent.{reads_err, reads_none, reads_ok, reads_then, writes_err, writes_none, writes_ok}
+use Rattle.std.proofs.Common.{rules, arith, ap, sym, ◌∙◌, ◌≡◌, ◌+◌, ◌++◌, ℕ, List, inl}
+use Rattle.abt_io.proofs.Lent.{reads_err, reads_ok, reads_then, writes_err, writes_ok}
 use Rattle.abt_io.proofs.Lent.{writes_then}
 use Rattle.abt_pieces.specs.declared.stage.Stage.TheVariants.{Between}
-use Rattle.abt_pieces.proofs.Fronts.{front_join, rest_join, nothing_more, nothing_less, as_many, max_most, not_full}
-use Rattle.abt_pieces.proofs.Stepping.{none_so_far, silent_unbegun, whole_front, piece_came}
-use Rattle.abt_pieces.proofs.Joining.{steps_join, greatest_join, counted_join, within_join, long_join, calls_join, writes_join, turns_join, words_join, costs_join, no_fault, from_between, more_no_end, piece_no_end, between_undone, between_unfailed}
+use Rattle.abt_pieces.proofs.Fronts.{front_join, rest_join, not_full}
+use Rattle.abt_pieces.proofs.Stepping.{whole_front, piece_came}
+use Rattle.abt_pieces.proofs.Joining.{steps_join, greatest_join, counted_join, within_join, long_join, calls_join}
+use Rattle.abt_pieces.proofs.Joining.{writes_join, turns_join, words_join, costs_join, no_fault, from_between}
+use Rattle.abt_pieces.proofs.Joining.{more_no_end, piece_no_end, between_undone, between_unfailed}
 use Rattle.abt_pieces.specs.Image.{StageMayCome}
-use Rattle.abt_pieces.proofs.Image.{leads_same, leads_join, leads_whole, still_unfailed, between_image}
+use Rattle.abt_pieces.proofs.Image.{leads_join, leads_whole, still_unfailed, between_image}
 use Rattle.abt_pieces.specs.SpentStage.{all_passes}
-use Rattle.abt_pieces.proofs.SpendingStages.{spent_unbegun, stage_joins}
+use Rattle.abt_pieces.proofs.SpendingStages.{stage_joins}
 use Rattle.abt_pieces.proofs.Failures.{full_at_fresh, full_at_ok, still_refused, writes_as}
 use Rattle.abt_pieces.proofs.cutter.Cutter.next_piece.Goals as goal
-
-pub steps-init : goal.steps-init
-steps-init g c =
-    let silent = silent_unbegun (g.R.BlockRuns.count c.args.self.now.runs) c.args.self.now.stage c.requires.unbegun in
-    let none = none_so_far c.args.self.now.stage c.requires.unbegun in
-    record {
-      runs = refl;
-      limit = refl;
-      start = refl;
-      made = refl;
-      reads = reads_none _ _ _;
-      writes = writes_none _ _ _;
-      told = c.requires.ready.told;
-      fresh = inr (refl, refl, refl, refl);
-      counted = omega (arith, none);
-      front = λ tells. nothing_more _ _;
-      rest = λ tells. nothing_less _ _;
-      given = as_many _;
-      steps = as_many _;
-      greatest = max_most _ _;
-      calls = omega (arith, silent);
-      write_calls = omega (arith, silent);
-      turns = omega (arith, silent);
-      spent = λ tells. spent_unbegun (λ x. g.R.BlockRuns.within c.args.self.now.runs x × g.R.BlockRuns.place c.args.self.now.runs (g.S.Source.content c.args.source.now) x) (g.R.BlockRuns.charge c.args.self.now.runs) (g.R.BlockRuns.copied c.args.self.now.runs) (g.R.BlockRuns.held c.args.self.now.runs) (g.R.BlockRuns.size c.args.self.now.runs) c.args.self.now.limit (g.R.BlockRuns.count c.args.self.now.runs) (g.R.BlockRuns.one c.args.self.now.runs) c.args.self.now.start (g.S.Source.given c.args.source.now) c.args.self.now.stage c.requires.unbegun;
-      leads = leads_same _ _ _ _ refl (λ t h. h);
-    }
 
 pub steps-preserved : goal.steps-preserved
 steps-preserved g c =
@@ -49,7 +25,9 @@ steps-preserved g c =
     let costs = e.costs in
     let paid = rw i.runs at on.paid in
     let words = rw i.runs at on.words in
-    let between : c.args.self.now.stage ≡ Between = from_between _ _ c.requires.unbegun i.fresh (λ d. more_no_end (rw is at (c.in-Ok-More.ensures.after_last d))) (λ f d. no_fault _ f (c.in-Ok-More.ensures.again f d).0) in
+    let between : c.args.self.now.stage ≡ Between = from_between _ _ c.requires.unbegun i.fresh
+    (λ d. more_no_end (rw is at (c.in-Ok-More.ensures.after_last d)))
+    (λ f d. no_fault _ f (c.in-Ok-More.ensures.again f d).0) in
     record {
       runs = e.same.0 ∙ i.runs;
       limit = e.same.1 ∙ i.limit;
@@ -76,8 +54,20 @@ steps-preserved g c =
           c.tick.ensures.turns words paid;
       spent = λ tells.
           let step = rw (i.runs, i.reads.content tells, i.limit, i.start) at (rw is at (o.spends tells)) in
-          stage_joins (λ x. g.R.BlockRuns.within c.args.self.now.runs x × g.R.BlockRuns.place c.args.self.now.runs (g.S.Source.content c.args.source.now) x) (g.R.BlockRuns.charge c.args.self.now.runs) (g.R.BlockRuns.copied c.args.self.now.runs) (g.R.BlockRuns.held c.args.self.now.runs) (g.R.BlockRuns.size c.args.self.now.runs) c.args.self.now.limit (g.R.BlockRuns.count c.args.self.now.runs) (g.R.BlockRuns.one c.args.self.now.runs) c.args.self.now.start (all_passes (g.R.BlockRuns.charge c.args.self.now.runs) (g.R.BlockRuns.copied c.args.self.now.runs) c.args.self.now.start) (g.S.Source.given c.args.source.now) (g.S.Source.given c.steps.source) (g.S.Source.given c.step.new.source) c.step.new.self.stage i.given e.costs.given (step _ (i.spent tells));
-      leads = leads_join (StageMayCome (g.R.BlockRuns.size c.args.self.now.runs) (g.R.BlockRuns.count c.args.self.now.runs) c.args.self.now.stage) (StageMayCome (g.R.BlockRuns.size c.args.self.now.runs) (g.R.BlockRuns.count c.args.self.now.runs) c.steps.self.stage) (StageMayCome (g.R.BlockRuns.size c.args.self.now.runs) (g.R.BlockRuns.count c.args.self.now.runs) c.step.new.self.stage) _ _ _ i.leads (rw i.runs at (rw is at o.leads));
+          stage_joins (λ x. g.R.BlockRuns.within c.args.self.now.runs x × g.R.BlockRuns.place c.args.self.now.runs
+          (g.S.Source.content c.args.source.now) x) (g.R.BlockRuns.charge c.args.self.now.runs)
+          (g.R.BlockRuns.copied c.args.self.now.runs) (g.R.BlockRuns.held c.args.self.now.runs)
+          (g.R.BlockRuns.size c.args.self.now.runs) c.args.self.now.limit (g.R.BlockRuns.count c.args.self.now.runs)
+          (g.R.BlockRuns.one c.args.self.now.runs) c.args.self.now.start
+          (all_passes (g.R.BlockRuns.charge c.args.self.now.runs) (g.R.BlockRuns.copied c.args.self.now.runs)
+          c.args.self.now.start) (g.S.Source.given c.args.source.now) (g.S.Source.given c.steps.source)
+          (g.S.Source.given c.step.new.source) c.step.new.self.stage i.given e.costs.given (step _ (i.spent tells));
+      leads = leads_join (StageMayCome (g.R.BlockRuns.size c.args.self.now.runs)
+          (g.R.BlockRuns.count c.args.self.now.runs) c.args.self.now.stage)
+          (StageMayCome (g.R.BlockRuns.size c.args.self.now.runs) (g.R.BlockRuns.count c.args.self.now.runs)
+          c.steps.self.stage) (StageMayCome (g.R.BlockRuns.size c.args.self.now.runs)
+          (g.R.BlockRuns.count c.args.self.now.runs) c.step.new.self.stage) _ _ _ i.leads
+          (rw i.runs at (rw is at o.leads));
     }
 
 -- the piece is written
@@ -87,15 +77,20 @@ returns-in-Ok-Piece g c =
     let e = c.step.ensures.stepped in
     let o = c.in-Ok-Piece.ensures.stepped in
     let is = c.in-Ok-Piece.field-0-is in
-    let between : c.args.self.now.stage ≡ Between = from_between _ _ c.requires.unbegun i.fresh (λ d. piece_no_end _ (rw is at (c.in-Ok-Piece.ensures.after_last d))) (λ f d. no_fault _ f (c.in-Ok-Piece.ensures.again f d).0) in
+    let between : c.args.self.now.stage ≡ Between = from_between _ _ c.requires.unbegun i.fresh
+    (λ d. piece_no_end _ (rw is at (c.in-Ok-Piece.ensures.after_last d)))
+    (λ f d. no_fault _ f (c.in-Ok-Piece.ensures.again f d).0) in
     let piece = rw is at o.piece in
     let ends = rw is at o.ends in
     record {
-      cutter = record { same_image = e.same.0 ∙ i.runs; same_limit = e.same.1 ∙ i.limit; unbegun = rw is at o.begun };
-      reads = reads_ok _ (reads_then i.reads o.reads);
+      left = record {
+        cutter = record { same_image = e.same.0 ∙ i.runs; same_limit = e.same.1 ∙ i.limit; unbegun = rw is at o.begun };
+        reads = reads_ok _ (reads_then i.reads o.reads);
+        told = λ tells. rw (i.runs, i.reads.content tells) at (e.told tells);
+        refused = tt;
+      };
       writes = writes_as (sym (full_at_ok c.args.self.now.stage))
           (writes_ok _ (writes_then i.writes (writes_as (full_at_ok _) o.writes)));
-      told = λ tells. rw (i.runs, i.reads.content tells) at (e.told tells);
       within = within_join _ _ _ _ _ i.writes.least e.costs.grown (rw i.limit at e.within) i.counted;
       front = λ tells. front_join _ _ _ _ _ i.writes.least e.costs.grown (i.front tells) (i.rest tells)
           (rw (i.runs, i.reads.content tells, i.limit, i.start) at (e.front tells));
@@ -120,7 +115,8 @@ returns-in-Ok-Piece g c =
           (rw (i.runs, i.reads.content tells, i.limit, i.start) at came.written) in
           let greatest = rw (i.runs, i.reads.content tells, i.limit) at came.greatest in
           record {
-            written = whole ∙ ap (λ (y : List ℕ). g.O.Output.written c.args.output.now ++ y) (piece_came _ _ _ _ c.in-Ok-Piece.piece _ between (rw i.start at piece.begins) greatest);
+            written = whole ∙ ap (λ (y : List ℕ). g.O.Output.written c.args.output.now ++ y)
+                (piece_came _ _ _ _ c.in-Ok-Piece.piece _ between (rw i.start at piece.begins) greatest);
             coming = rw between at whole;
             exact = rw (i.runs, i.reads.content tells) at came.exact;
             greatest = greatest;
@@ -128,42 +124,16 @@ returns-in-Ok-Piece g c =
       none = tt;
       after_last = λ d. absurd (between_undone _ between d);
       again = λ f d. absurd (between_unfailed _ f between d);
-      refused = tt;
       costs = costs_join _ _ _ _ _ _ _ _ _ _ (rw i.runs at e.costs) i.given i.writes.least i.steps i.greatest i.calls
           i.write_calls i.turns c.tick.ensures.steps c.tick.ensures.greatest c.tick.ensures.turns;
       spent = λ tells.
           let step = rw (i.runs, i.reads.content tells, i.limit, i.start) at (rw is at (o.spent tells)) in
           let z = step _ (i.spent tells) in
-          record { most = omega (arith, z.most, i.given, e.costs.given); end = λ over. let y = z.end over in omega (arith, y, i.given, e.costs.given) };
-      full = λ h says. absurd (not_full says);
-      cause = tt;
-    }
-
--- no piece is left
-pub returns-in-Ok-End : goal.returns-in-Ok-End
-returns-in-Ok-End g c =
-    let i = c.steps.invariant in
-    let e = c.step.ensures.stepped in
-    let o = c.in-Ok-End.ensures.stepped in
-    let is = c.in-Ok-End.field-0-is in
-    record {
-      cutter = record { same_image = e.same.0 ∙ i.runs; same_limit = e.same.1 ∙ i.limit; unbegun = rw is at o.begun };
-      reads = reads_ok _ (reads_then i.reads o.reads);
-      writes = writes_as (sym (full_at_ok c.args.self.now.stage))
-          (writes_ok _ (writes_then i.writes (writes_as (full_at_ok _) o.writes)));
-      told = λ tells. rw (i.runs, i.reads.content tells) at (e.told tells);
-      within = within_join _ _ _ _ _ i.writes.least e.costs.grown (rw i.limit at e.within) i.counted;
-      front = λ tells. front_join _ _ _ _ _ i.writes.least e.costs.grown (i.front tells) (i.rest tells)
-          (rw (i.runs, i.reads.content tells, i.limit, i.start) at (e.front tells));
-      made = tt;
-      laid = λ tells. tt;
-      none = search rules;
-      after_last = search rules;
-      again = search rules;
-      refused = tt;
-      costs = costs_join _ _ _ _ _ _ _ _ _ _ (rw i.runs at e.costs) i.given i.writes.least i.steps i.greatest i.calls
-          i.write_calls i.turns c.tick.ensures.steps c.tick.ensures.greatest c.tick.ensures.turns;
-      spent = λ tells. tt;
+          record {
+            most = omega (arith, z.most, i.given, e.costs.given);
+            end = λ over. let y = z.end over in omega
+                (arith, y, i.given, e.costs.given);
+          };
       full = λ h says. absurd (not_full says);
       cause = tt;
     }
@@ -175,10 +145,13 @@ returns-in-Err g c =
     let e = c.step.ensures.stepped in
     let o = c.in-Err.ensures.stepped in
     record {
-      cutter = record { same_image = e.same.0 ∙ i.runs; same_limit = e.same.1 ∙ i.limit; unbegun = o.begun };
-      reads = reads_err _ (reads_then i.reads o.reads);
+      left = record {
+        cutter = record { same_image = e.same.0 ∙ i.runs; same_limit = e.same.1 ∙ i.limit; unbegun = o.begun };
+        reads = reads_err _ (reads_then i.reads o.reads);
+        told = λ tells. rw (i.runs, i.reads.content tells) at (e.told tells);
+        refused = o.refused;
+      };
       writes = writes_as (full_at_fresh _ _ _ i.fresh) (writes_err _ (writes_then i.writes o.writes));
-      told = λ tells. rw (i.runs, i.reads.content tells) at (e.told tells);
       within = within_join _ _ _ _ _ i.writes.least e.costs.grown (rw i.limit at e.within) i.counted;
       front = λ tells. front_join _ _ _ _ _ i.writes.least e.costs.grown (i.front tells) (i.rest tells)
           (rw (i.runs, i.reads.content tells, i.limit, i.start) at (e.front tells));
@@ -187,7 +160,6 @@ returns-in-Err g c =
       none = tt;
       after_last = search rules;
       again = search rules;
-      refused = o.refused;
       costs = costs_join _ _ _ _ _ _ _ _ _ _ (rw i.runs at e.costs) i.given i.writes.least i.steps i.greatest i.calls
           i.write_calls i.turns c.tick.ensures.steps c.tick.ensures.greatest c.tick.ensures.turns;
       spent = λ tells. tt;

@@ -10,14 +10,16 @@ pub returns-in-Err : goal.returns-in-Err
 returns-in-Err g c =
     let a = c.plan_piece.ensures in
     record {
-      reads = reads_err _ c.in-Err.ensures.reads;
+      source = record {
+        reads = reads_err _ c.in-Err.ensures.source.reads;
+        cause = run_causes _ _ _ _ _ _ _ c.run_fault.ensures c.in-Err.ensures.source.cause;
+      };
       sound = tt;
       told = λ tells. tt;
       charges = tt;
       takes = tt;
       costs = a.costs;
       words = tt;
-      cause = run_causes _ _ _ _ _ _ _ c.run_fault.ensures c.in-Err.ensures.cause;
     }
 
 -- the piece is planned
@@ -27,7 +29,7 @@ returns-in-Ok-planned g c =
     let e = c.in-Ok.ensures in
     let o = c.in-Ok-planned.ensures in
     record {
-      reads = reads_ok _ e.reads;
+      source = record { reads = reads_ok _ e.source.reads; cause = tt };
       sound = rw e.sound.first at o.sound;
       told = λ tells.
           let x = (c.requires.told tells).0 in
@@ -43,12 +45,13 @@ returns-in-Ok-planned g c =
         charged = rw o.next.0 e.charges.charged;
         charged_end = λ over. let end = e.charges.charged_end (rw o.next.1 at over) in rw o.next.0 end;
       };
-      takes = let next = ap (g.R.BlockRuns.taken c.args.self.now.runs) o.next.0 in omega (arith, next, o.longer, e.takes);
+      takes = let next = ap (g.R.BlockRuns.taken c.args.self.now.runs) o.next.0 in omega
+          (arith, next, o.longer, e.takes);
       costs = a.costs;
       words =
-          let z = piece_covers_plan (g.R.BlockRuns.one c.args.self.now.runs) (g.R.BlockRuns.count c.args.self.now.runs) c.in-Ok.planner.at.block in
+          let z = piece_covers_plan (g.R.BlockRuns.one c.args.self.now.runs) (g.R.BlockRuns.count c.args.self.now.runs)
+          c.in-Ok.planner.at.block in
           rw o.next.1 (omega (arith, e.words, z));
-      cause = tt;
     }
 
 -- the image ended before its blocks did
@@ -59,14 +62,16 @@ returns-in-Err-planned g c =
     let r = c.in-Err-planned.ensures.refused in
     let size = g.met.R.BlockRuns.sized c.args.self.now.runs in
     record {
-      reads = reads_then e.reads (reads_none _ _ _);
+      source = record {
+        reads = reads_then e.source.reads (reads_none _ _ _);
+        cause = rw r.0 (not_told _ (λ tells.
+            let long = g.met.R.BlockRuns.long c.args.self.now.runs _ (c.requires.told tells).0 in
+            moves _ _ _ c.in-Ok.planner size.0 c.args.self.now.sound.granted (e.ends tells) r.1 (rw long r.2)));
+      };
       sound = tt;
       told = λ tells. tt;
       charges = tt;
       takes = tt;
       costs = a.costs;
       words = tt;
-      cause = rw r.0 (not_told _ (λ tells.
-          let long = g.met.R.BlockRuns.long c.args.self.now.runs _ (c.requires.told tells).0 in
-          moves _ _ _ c.in-Ok.planner size.0 c.args.self.now.sound.granted (e.ends tells) r.1 (rw long r.2)));
     }

@@ -1,5 +1,4 @@
 use Rattle.std.proofs.Common.{arith, sym, ◌∙◌, ◌≡◌, ap, refl}
-use Rattle.std.proofs.lemmas.Bool.{true≢false}
 use Rattle.abt_io.proofs.Lent.{reads_err, reads_none, reads_ok, reads_then}
 use Rattle.abt_runs.specs.declared.part.Cursor.{Cursor}
 use Rattle.abt_pieces.specs.Fault.{full_in_cut}
@@ -11,49 +10,9 @@ use Rattle.abt_pieces.proofs.Planning.{first_piece}
 use Rattle.abt_pieces.proofs.Cutting.{moves}
 use Rattle.abt_pieces.proofs.Counts.{words_top}
 use Rattle.abt_pieces.proofs.Stepping.{planned_some, plan_covers}
-use Rattle.abt_pieces.proofs.SpendingStages.{plan_goes, plan_takes, plan_ends}
+use Rattle.abt_pieces.proofs.SpendingStages.{plan_ends}
 use Rattle.abt_pieces.proofs.WriterSteps.{part_words}
 use Rattle.abt_pieces.proofs.cutter.Cutter.plan.Goals as goal
-
--- the plan goes on
-pub returns-in-Ok-false : goal.returns-in-Ok-false
-returns-in-Ok-false g c =
-    let a = c.step.ensures in
-    let e = c.in-Ok-false.ensures in
-    let test = c.in-Ok-false.field-0-test in
-    let p = g.met.R.BlockRuns.padded c.args.self.now.runs c.args.from.at in
-    let top = words_top _ _ _ _ p.0 p.1 in
-    let turns = a.costs.turns in
-    let on = e.goes_on test in
-    let words = on.words in
-    record {
-      runs = refl;
-      rest = (refl, refl, refl);
-      reads = reads_ok _ e.reads;
-      goes_on = record {
-        begun = (refl, refl);
-        sound = record {
-          first = a.sound.first ∙ c.requires.ready.sound.first;
-          within = a.sound.within;
-          room = a.sound.room;
-          even = a.sound.even;
-        };
-        comes = λ t h. h;
-        left = omega (arith, on.on);
-        taken = plan_takes _ _ _ _ c.args.from c.step.new.self on.takes on.inside
-            (λ u s. true≢false (sym (e.stuck u s.0 s.1) ∙ test)) c.requires.ready.taken;
-        paid = omega (arith, on.fetched);
-        words = omega (arith, turns, words);
-      };
-      told = a.told;
-      coming = λ tells. refl;
-      refused = tt;
-      spends = λ t h. plan_goes _ _ _ _ c.args.self.now.start t _ _ c.args.from c.step.new.self e.costs.given
-          on.charged e.onward on.inside (λ u s. true≢false (sym (e.stuck u s.0 s.1) ∙ test)) h;
-      costs = part_words a.costs (omega (arith, top));
-      unwritten = refl;
-      cause = tt;
-    }
 
 -- the piece is planned
 pub returns-in-Ok : goal.returns-in-Ok
@@ -73,9 +32,8 @@ returns-in-Ok g c =
     let turns = a.costs.turns in
     let past : c.in-Ok.outline.piece.past ≡ c.args.from.at.block = n.1 ∙ ap (λ (q : Planner). q.at.block) still in
     record {
-      runs = refl;
-      rest = (refl, refl, refl);
-      reads = reads_ok _ e.reads;
+      keeps = record { runs = refl; rest = (refl, refl, refl); refused = tt };
+      source = record { reads = reads_ok _ e.source.reads; cause = tt };
       goes_on = record {
         begun = (refl, refl);
         sound = rw f at o.sound;
@@ -94,22 +52,22 @@ returns-in-Ok g c =
           let ends = e.ends tells test in
           let exact = o.exact in
           record {
-            exact = exact _ (g.met.R.BlockRuns.long c.args.self.now.runs _ x) (g.met.R.BlockRuns.are_blocks c.args.self.now.runs _ x) p;
+            exact = exact _ (g.met.R.BlockRuns.long c.args.self.now.runs _ x)
+                (g.met.R.BlockRuns.are_blocks c.args.self.now.runs _ x) p;
             greatest = rw n.1 (first_piece _ _ _ _ _ size.0 c.args.self.now.sound.granted (rw f at p.order) p.within
                 (rw f at (rw p.weight at e.sound.room)) (rw f at ends.over));
             place = rw n.0 (e.told tells).place;
           };
       coming = λ tells. refl;
-      refused = tt;
       spends = λ t h.
-          let fresh : c.in-Ok.outline.next.ask ≡ 1 = ap (λ (x : Cursor). x.ask) (n.0 ∙ ap (λ (q : Planner). q.at) still) in
+          let fresh : c.in-Ok.outline.next.ask ≡ 1 = ap (λ (x : Cursor). x.ask) (n.0 ∙ ap (λ (q : Planner). q.at) still)
+          in
           let charges = rw (sym n.0) at rests.0 in
           let copies = rw (sym n.0) at e.onward in
           plan_ends _ _ _ _ _ _ c.args.self.now.start t _ _ c.args.from c.in-Ok.outline e.costs.given rest.last
           (λ over. rest.at_end (omega (arith, over, past))) charges copies fresh h;
       costs = part_words a.costs (omega (arith, top));
       unwritten = refl;
-      cause = tt;
     }
 
 -- the image ended before its blocks did
@@ -123,19 +81,24 @@ returns-in-Err-planned g c =
     let p = g.met.R.BlockRuns.padded c.args.self.now.runs c.args.from.at in
     let top = words_top _ _ _ _ p.0 p.1 in
     record {
-      runs = x.rest.0;
-      rest = (x.rest.1, x.rest.2, x.rest.3);
-      reads = reads_then e.reads (reads_none _ _ _);
+      keeps = record {
+        runs = x.rest.0;
+        rest = (x.rest.1, x.rest.2, x.rest.3);
+        refused = x.stage ∙ ap (λ (f : PieceFault). Failed f) (sym x.fault);
+      };
+      source = record {
+        reads = reads_then e.source.reads (reads_none _ _ _);
+        cause = rw (x.fault, r.0) (not_told _ (λ tells.
+            let long = g.met.R.BlockRuns.long c.args.self.now.runs _ (c.requires.ready.opened tells) in
+            moves _ _ _ c.step.new.self size.0 c.args.self.now.sound.granted (e.ends tells c.in-Ok-true.field-0-test)
+            r.1 (rw long r.2)));
+      };
       goes_on = tt;
       told = λ tells. tt;
       coming = λ tells. tt;
-      refused = x.stage ∙ ap (λ (f : PieceFault). Failed f) (sym x.fault);
       spends = λ t h. tt;
       costs = part_words a.costs (omega (arith, top));
       unwritten = ap (λ (f : PieceFault). full_in_cut f) (x.fault ∙ r.0);
-      cause = rw (x.fault, r.0) (not_told _ (λ tells.
-          let long = g.met.R.BlockRuns.long c.args.self.now.runs _ (c.requires.ready.opened tells) in
-          moves _ _ _ c.step.new.self size.0 c.args.self.now.sound.granted (e.ends tells c.in-Ok-true.field-0-test) r.1 (rw long r.2)));
     }
 
 -- the source has failed
@@ -146,15 +109,19 @@ returns-in-Err g c =
     let p = g.met.R.BlockRuns.padded c.args.self.now.runs c.args.from.at in
     let top = words_top _ _ _ _ p.0 p.1 in
     record {
-      runs = x.rest.0;
-      rest = (x.rest.1, x.rest.2, x.rest.3);
-      reads = reads_err _ c.in-Err.ensures.reads;
+      keeps = record {
+        runs = x.rest.0;
+        rest = (x.rest.1, x.rest.2, x.rest.3);
+        refused = x.stage ∙ ap (λ (f : PieceFault). Failed f) (sym x.fault);
+      };
+      source = record {
+        reads = reads_err _ c.in-Err.ensures.source.reads;
+        cause = run_causes _ _ _ _ _ _ _ (x.fault ∙ c.run_fault.ensures) c.in-Err.ensures.source.cause;
+      };
       goes_on = tt;
       told = λ tells. tt;
       coming = λ tells. tt;
-      refused = x.stage ∙ ap (λ (f : PieceFault). Failed f) (sym x.fault);
       spends = λ t h. tt;
       costs = part_words a.costs (omega (arith, top));
       unwritten = ap (λ (f : PieceFault). full_in_cut f) (x.fault ∙ c.run_fault.ensures) ∙ run_not_full c.in-Err.fault;
-      cause = run_causes _ _ _ _ _ _ _ (x.fault ∙ c.run_fault.ensures) c.in-Err.ensures.cause;
     }

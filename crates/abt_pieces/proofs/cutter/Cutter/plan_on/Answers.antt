@@ -1,9 +1,9 @@
 use Rattle.std.proofs.Common.{arith, ◌*◌, sym, refl, inl, inr, ◌⊎◌, ◌≡◌, ◌≤◌, ◌+◌, ◌∙◌, ◌-◌, ℕ, List, false, true}
 use Rattle.abt_sparse.specs.Block.{Block}
-use Rattle.abt_io.proofs.Lent.{reads_err, reads_ok, writes_none}
+use Rattle.abt_io.proofs.Lent.{reads_ok, writes_none}
 use Rattle.abt_runs.specs.declared.part.Cursor.{Cursor}
-use Rattle.abt_pieces.specs.Cutter.{coming, cut_left, cut_words, has_failed, is_begun, planned_left}
-use Rattle.abt_pieces.specs.Cutter.{segments_left, silent_cut, so_far}
+use Rattle.abt_pieces.specs.Cutter.{coming, cut_left, cut_words, has_failed, is_begun, planned_left, segments_left}
+use Rattle.abt_pieces.specs.Cutter.{silent_cut, so_far}
 use Rattle.abt_pieces.specs.Image.{IsPlainImage, StageMayCome}
 use Rattle.abt_pieces.specs.Outline.{piece_at}
 use Rattle.abt_pieces.specs.Plan.{last_words}
@@ -11,18 +11,18 @@ use Rattle.abt_pieces.specs.SpentStage.{SpentPlan, SpentStage}
 use Rattle.abt_pieces.specs.declared.plan.Planner.{Planner}
 use Rattle.abt_pieces.specs.declared.stage.Stage.{Stage}
 use Rattle.abt_pieces.specs.declared.stage.Stage.TheVariants.{Between, Plan, Begin, Done, Failed, Write}
-use Rattle.abt_pieces.proofs.Fronts.{nothing_more, nothing_less, not_full, none_says, cause_unwritten}
+use Rattle.abt_pieces.proofs.Fronts.{nothing_more, nothing_less, not_full}
 use Rattle.abt_pieces.proofs.Stepping.{no_bytes_yet, told_moves, unwritten_costs}
 use Rattle.abt_pieces.proofs.SpendingStages.{plan_begins_spent}
 use Rattle.abt_pieces.proofs.Image.{leads_same}
-use Rattle.abt_pieces.proofs.WriterSteps.{none_written}
 use Rattle.abt_pieces.proofs.cutter.Cutter.plan_on.Goals as goal
 
 words_unwritten : (t t' w w' g k : ℕ) → t' + w ≤ t + 2 * g + 3 + w' → t' + w ≤ t + 2 * g + (k - k) + 3 + w'
 words_unwritten t t' w w' g k h = omega (arith, h)
 
 -- the same segments are to come
-still_to_cut : (b limit : ℕ) (l : List Block) (s : ℕ) (st old : Stage) → is_begun st ≡ true → segments_left b limit l s old ≡ segments_left b limit l s Between → segments_left b limit l s st ≡ segments_left b limit l s old
+still_to_cut : (b limit : ℕ) (l : List Block) (s : ℕ) (st old : Stage) → is_begun st ≡ true → segments_left b limit l s
+    old ≡ segments_left b limit l s Between → segments_left b limit l s st ≡ segments_left b limit l s old
 still_to_cut b limit l s Between old begun same = absurd cc
 still_to_cut b limit l s (Plan p) old begun same = sym same
 still_to_cut b limit l s (Begin o) old begun same = sym same
@@ -41,7 +41,8 @@ record Planning (st : Stage) (start : Cursor) (p : Planner) : Type 0 where
   coming : (b limit : ℕ) (l : List Block) (s : ℕ) → coming b limit l s st ≡ piece_at b limit l s
   comes : (b n : ℕ) (t : List ℕ) → IsPlainImage b n t → StageMayCome b n st t
 
-planning : (st : Stage) (start : Cursor) (p : Planner) → (st ≡ Plan p) ⊎ ((st ≡ Between) × (p.at ≡ start)) → Planning st start p
+planning : (st : Stage) (start : Cursor) (p : Planner) → (st ≡ Plan p) ⊎ ((st ≡ Between) × (p.at ≡ start)) → Planning st
+    start p
 planning st start p (inl is) = record {
   same = λ b limit l s. rw is refl;
   none = rw is refl;
@@ -63,9 +64,12 @@ planning st start p (inr is) = record {
   comes = λ b n t h. rw is.0 h;
 }
 
-planning_spends : (Is : Cursor → Type 0) (charge copied : Cursor → ℕ) (held : Cursor → ℕ → ℕ) (b limit n one : ℕ) (start : Cursor) (t : ℕ) (st : Stage) (p : Planner) → (st ≡ Plan p) ⊎ ((st ≡ Between) × (p.at ≡ start)) → SpentStage Is charge copied held b limit n one start t st → SpentPlan charge copied b limit start t p
+planning_spends : (Is : Cursor → Type 0) (charge copied : Cursor → ℕ) (held : Cursor → ℕ → ℕ) (b limit n one : ℕ)
+    (start : Cursor) (t : ℕ) (st : Stage) (p : Planner) → (st ≡ Plan p) ⊎ ((st ≡ Between) × (p.at ≡ start)) → SpentStage
+    Is charge copied held b limit n one start t st → SpentPlan charge copied b limit start t p
 planning_spends Is charge copied held b limit n one start t st p (inl is) h = rw is at h
-planning_spends Is charge copied held b limit n one start t st p (inr is) h = plan_begins_spent _ _ _ _ start t p is.1 (rw is.0 at h)
+planning_spends Is charge copied held b limit n one start t st p (inr is) h = plan_begins_spent _ _ _ _ start t p is.1
+    (rw is.0 at h)
 
 -- a part of the plan
 pub returns-in-Ok : goal.returns-in-Ok
@@ -78,31 +82,34 @@ returns-in-Ok g c =
     let k = planning self.stage self.start c.args.from c.requires.at in
     record {
       stepped = record {
-        same = (p.runs, p.rest.0);
-        reads = reads_ok _ o.reads;
+        same = (p.keeps.runs, p.keeps.rest.0);
+        reads = reads_ok _ o.source.reads;
         writes = rw k.going (writes_none _ _ _);
         told = λ tells.
             let l = g.R.BlockRuns.list self.runs (g.S.Source.content c.args.source.now) in
             let b = g.R.BlockRuns.size self.runs in
             let same = k.same b self.limit l self.start.block in
-            rw (p.rest.0, p.rest.1, p.rest.2) (told_moves _ _ b l self.limit self.made self.start self.stage
+            rw (p.keeps.rest.0, p.keeps.rest.1, p.keeps.rest.2)
+            (told_moves _ _ b l self.limit self.made self.start self.stage
             c.plan.new.self.stage (c.requires.told tells)
             (still_to_cut b self.limit l self.start.block c.plan.new.self.stage self.stage o.goes_on.begun.0 same)
             (o.told tells));
         begun = o.goes_on.begun.0;
         goes_on = record {
-          same_place = p.rest.1;
-          same_number = p.rest.2;
+          same_place = p.keeps.rest.1;
+          same_number = p.keeps.rest.2;
           counted = let z = o.goes_on.begun.1 in omega (arith, z, k.none);
           left = let z = k.left (g.R.BlockRuns.left self.runs) (g.R.BlockRuns.count self.runs) in
               omega (arith, o.goes_on.left, z);
           paid = let z = o.goes_on.paid in let y = k.silent (g.R.BlockRuns.count self.runs) in omega (arith, z, y);
-          words = rw (k.words (g.R.BlockRuns.one self.runs) (g.R.BlockRuns.count self.runs), p.rest.1)
+          words = rw (k.words (g.R.BlockRuns.one self.runs) (g.R.BlockRuns.count self.runs), p.keeps.rest.1)
               (words_unwritten _ _ _ _ _ _ o.goes_on.words);
         };
         within = rw k.none (no_bytes_yet _ _ _ granted);
         front = λ tells. nothing_more _ _;
-        rest = λ tells. rw (k.coming (g.R.BlockRuns.size self.runs) self.limit (g.R.BlockRuns.list self.runs (g.S.Source.content c.args.source.now)) self.start.block) (o.coming tells ∙ nothing_less (g.O.Output.written c.args._output.now) _);
+        rest = λ tells. rw (k.coming (g.R.BlockRuns.size self.runs) self.limit
+            (g.R.BlockRuns.list self.runs (g.S.Source.content c.args.source.now)) self.start.block)
+            (o.coming tells ∙ nothing_less (g.O.Output.written c.args._output.now) _);
         leads = leads_same _ _ _ _ refl (λ t h. k.comes _ _ t (o.goes_on.comes t h));
         all = tt;
         piece = tt;
@@ -112,51 +119,11 @@ returns-in-Ok g c =
         costs = rw (k.words (g.R.BlockRuns.one self.runs) (g.R.BlockRuns.count self.runs))
             (unwritten_costs _ _ _ _ _ _ refl refl p.costs.given p.costs.received p.costs.one_step.steps
             p.costs.one_step.greatest p.costs.calls (omega (arith, turns)));
-        spends = λ tells t spent. o.spends t (planning_spends _ _ _ _ _ _ _ _ self.start t self.stage c.args.from c.requires.at spent);
+        spends = λ tells t spent. o.spends t (planning_spends _ _ _ _ _ _ _ _ self.start t self.stage c.args.from
+            c.requires.at spent);
         spent = λ tells t spent. tt;
         full = λ going says. absurd (not_full says);
         cause = tt;
-      };
-      unended = tt;
-    }
-
--- and the source has failed or changed
-pub returns-in-Err : goal.returns-in-Err
-returns-in-Err g c =
-    let self = c.args.self.now in
-    let p = c.plan.ensures in
-    let o = c.in-Err.ensures in
-    let turns = p.costs.turns in
-    let granted = self.sound.granted in
-    let k = planning self.stage self.start c.args.from c.requires.at in
-    record {
-      stepped = record {
-        same = (p.runs, p.rest.0);
-        reads = reads_err _ o.reads;
-        writes = rw k.going (none_written _ _ _ o.unwritten);
-        told = λ tells.
-            let l = g.R.BlockRuns.list self.runs (g.S.Source.content c.args.source.now) in
-            let b = g.R.BlockRuns.size self.runs in
-            let same = k.same b self.limit l self.start.block in
-            rw (o.refused, p.rest.0, p.rest.1, p.rest.2) (told_moves _ _ b l self.limit self.made self.start self.stage (Failed c.in-Err.fault) (c.requires.told tells) (sym same) tt);
-        begun = rw o.refused refl;
-        goes_on = tt;
-        within = rw k.none (no_bytes_yet _ _ _ granted);
-        front = λ tells. nothing_more _ _;
-        rest = λ tells. tt;
-        leads = tt;
-        all = tt;
-        piece = tt;
-        ends = tt;
-        laid = λ tells. tt;
-        refused = o.refused;
-        costs = rw (k.words (g.R.BlockRuns.one self.runs) (g.R.BlockRuns.count self.runs))
-            (unwritten_costs _ _ _ _ _ _ refl refl p.costs.given p.costs.received p.costs.one_step.steps
-            p.costs.one_step.greatest p.costs.calls (omega (arith, turns)));
-        spends = λ tells t spent. tt;
-        spent = λ tells t spent. tt;
-        full = λ going says. absurd (none_says _ o.unwritten says);
-        cause = inr (cause_unwritten c.in-Err.fault _ _ _ _ _ o.cause);
       };
       unended = tt;
     }

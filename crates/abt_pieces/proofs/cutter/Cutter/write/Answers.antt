@@ -1,7 +1,5 @@
-use Rattle.std.proofs.Common.{sym, ap, refl, arith, ◌∙◌, ◌≡◌, inr, length, ℕ, List}
-use Rattle.abt_io.proofs.Lent.{reads_err, reads_ok, writes_err, writes_ok}
-use Rattle.abt_pieces.specs.declared.fault.PieceFault.{PieceFault}
-use Rattle.abt_pieces.specs.declared.stage.Stage.TheVariants.{Failed}
+use Rattle.std.proofs.Common.{sym, ap, refl, arith, ◌∙◌, ◌≡◌, length, ℕ, List}
+use Rattle.abt_io.proofs.Lent.{reads_ok, writes_ok}
 use Rattle.abt_pieces.proofs.Fronts.{not_full, nothing_left}
 use Rattle.abt_pieces.proofs.Cutting.{told_more}
 use Rattle.abt_pieces.proofs.Stepping.{Behind, behind_unbegun, behind_passed, piece_covers, plan_most, write_costs}
@@ -17,7 +15,8 @@ returns-in-Ok-false g c =
     let test = c.in-Ok-false.field-0-test in
     let is = c.requires.at in
     let s = (rw is at c.args.self.now.sound).stage in
-    let most = plan_most (g.R.BlockRuns.one c.args.self.now.runs) (g.R.BlockRuns.count c.args.self.now.runs) c.args.outline.piece.past in
+    let most = plan_most (g.R.BlockRuns.one c.args.self.now.runs) (g.R.BlockRuns.count c.args.self.now.runs)
+    c.args.outline.piece.past in
     let words = e.stepped.words in
     record {
       stepped = record {
@@ -78,7 +77,8 @@ returns-in-Ok-true g c =
     let past : c.step.new.self.past ≡ c.args.outline.piece.past = a.stepped.segment.1 ∙ s.past in
     let behind : Behind (g.R.BlockRuns.count c.args.self.now.runs) c.args.outline.piece.past c.pass.new.self.stage =
     record { end = s.outline.end; done = p.done; between = p.between } in
-    let most = plan_most (g.R.BlockRuns.one c.args.self.now.runs) (g.R.BlockRuns.count c.args.self.now.runs) c.args.outline.piece.past in
+    let most = plan_most (g.R.BlockRuns.one c.args.self.now.runs) (g.R.BlockRuns.count c.args.self.now.runs)
+    c.args.outline.piece.past in
     let words = e.stepped.words in
     record {
       stepped = record {
@@ -88,7 +88,9 @@ returns-in-Ok-true g c =
         told = λ tells.
             let long = g.met.R.BlockRuns.long c.args.self.now.runs _ (c.requires.ready.opened tells) in
             let h = rw is at (c.requires.ready.told tells) in
-            rw (p.limit, p.made, p.start) (told_more _ _ (g.R.BlockRuns.within c.args.self.now.runs) _ (g.R.BlockRuns.count c.args.self.now.runs) _ _ _ c.args.self.now.start c.args.outline _ _ refl h s.outline (sym long) h.stage.outline.greatest h.stage.outline.place behind.done behind.between);
+            rw (p.limit, p.made, p.start) (told_more _ _ (g.R.BlockRuns.within c.args.self.now.runs) _
+            (g.R.BlockRuns.count c.args.self.now.runs) _ _ _ c.args.self.now.start c.args.outline _ _ refl h
+            s.outline (sym long) h.stage.outline.greatest h.stage.outline.place behind.done behind.between);
         begun = behind_unbegun _ _ _ behind;
         goes_on = tt;
         within = rw is (omega (arith, a.stepped.within, a.stepped.costs.grown, s.rest, s.outline.long));
@@ -108,7 +110,8 @@ returns-in-Ok-true g c =
           long = rw (p.piece, is) (omega (arith, ended.0, same));
           takes = rw (p.piece, p.start) sound.taken;
           words =
-              let z = piece_covers (g.R.BlockRuns.one c.args.self.now.runs) (g.R.BlockRuns.count c.args.self.now.runs) c.args.outline.piece.past c.step.new.self past in
+              let z = piece_covers (g.R.BlockRuns.one c.args.self.now.runs) (g.R.BlockRuns.count c.args.self.now.runs)
+              c.args.outline.piece.past c.step.new.self past in
               rw (is, p.piece) (omega (arith, words, z));
         };
         laid = λ tells. let h = rw is at (c.requires.ready.told tells) in record {
@@ -122,47 +125,11 @@ returns-in-Ok-true g c =
         spent = λ tells t spent.
             let told = (rw is at (c.requires.ready.told tells)).stage in
             let h = rw is at spent in
-            let z = e.spent tells c.args.outline.next s.outline.within told.outline.place (sym (s.past ∙ s.outline.past)) h.fresh h.begun h.total h.spent test in
+            let z = e.spent tells c.args.outline.next s.outline.within told.outline.place
+            (sym (s.past ∙ s.outline.past)) h.fresh h.begun h.total h.spent test in
             rw (p.piece, p.start) (writing_ends _ _ _ _ _ _ t _ _ c.args.outline c.args.from h z);
         full = λ going says. absurd (not_full says);
         cause = tt;
-      };
-      unended = tt;
-    }
-
--- the source or the output has failed, or the source has changed
-pub returns-in-Err : goal.returns-in-Err
-returns-in-Err g c =
-    let a = c.step.ensures in
-    let e = c.in-Err.ensures in
-    let x = c.fail.ensures in
-    let is = c.requires.at in
-    let s = (rw is at c.args.self.now.sound).stage in
-    let most = plan_most (g.R.BlockRuns.one c.args.self.now.runs) (g.R.BlockRuns.count c.args.self.now.runs) c.args.outline.piece.past in
-    record {
-      stepped = record {
-        same = (x.rest.0, x.rest.1);
-        reads = reads_err _ e.stepped.reads;
-        writes = rw (is, x.fault) (writes_err _ e.stepped.writes);
-        told = λ tells. let h = rw is at (c.requires.ready.told tells) in
-            rw (x.rest.1, x.rest.2, x.rest.3, x.stage) (record { place = h.place; cuts = h.cuts; stage = tt });
-        begun = rw x.stage refl;
-        goes_on = tt;
-        within = rw is (omega (arith, a.stepped.within, a.stepped.costs.grown, s.rest, s.outline.long));
-        front = λ tells. rw is (a.stepped.front tells);
-        rest = λ tells. tt;
-        leads = tt;
-        all = tt;
-        piece = tt;
-        ends = tt;
-        laid = λ tells. tt;
-        refused = x.stage ∙ ap (λ (f : PieceFault). Failed f) (sym x.fault);
-        costs = rw is (write_costs _ _ _ _ _ _ _ most a.stepped.costs);
-        spends = λ tells t spent. tt;
-        spent = λ tells t spent. tt;
-        full = λ going says. let z = e.stepped.full (rw x.fault at says) in
-            (z.0, rw is (omega (arith, z.1, a.stepped.costs.grown, s.rest, s.outline.long)));
-        cause = inr (rw x.fault e.stepped.cause);
       };
       unended = tt;
     }

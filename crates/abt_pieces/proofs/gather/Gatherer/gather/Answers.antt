@@ -1,29 +1,9 @@
 use Rattle.std.proofs.Common.{arith}
-use Rattle.abt_io.proofs.Lent.{reads_err, reads_ok}
+use Rattle.abt_io.proofs.Lent.{reads_ok}
 use Rattle.abt_pieces.proofs.Gathering.{sound_on, grows_on, run_on, told_on, closed_on, left_on, same_at}
 use Rattle.abt_pieces.proofs.Counts.{paid_on}
 use Rattle.abt_pieces.proofs.Spending.{spent_on}
 use Rattle.abt_pieces.proofs.gather.Gatherer.gather.Goals as goal
-
--- no part came
-pub returns-in-Err : goal.returns-in-Err
-returns-in-Err g c =
-    let a = c.framed_part.ensures in
-    record {
-      reads = reads_err _ c.in-Err.ensures.reads;
-      sound = c.requires.ready.sound;
-      told = c.requires.ready.told;
-      grows = tt;
-      run = tt;
-      closed = λ tells. tt;
-      left = λ going. tt;
-      paid = λ going. tt;
-      gathered = λ tells d within place is fresh. tt;
-      spends = λ tells d within place is fresh s h. tt;
-      costs = a.costs;
-      words = tt;
-      cause = c.in-Err.ensures.cause;
-    }
 
 -- with a part more
 pub returns : goal.returns
@@ -35,7 +15,7 @@ returns g c =
     let within = g.R.BlockRuns.within c.args.runs.now in
     let next = c.and_part-run.ensures in
     record {
-      reads = reads_ok _ e.reads;
+      source = record { reads = reads_ok _ e.source.reads; cause = tt };
       sound = rw next (sound_on _ _ _ _ self part c.requires.ready.sound
           (record {
             next = e.found.on.0;
@@ -84,5 +64,4 @@ returns g c =
           }));
       costs = a.costs;
       words = rw (next, same_at self part) e.words;
-      cause = tt;
     }

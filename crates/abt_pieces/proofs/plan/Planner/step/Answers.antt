@@ -2,16 +2,20 @@ use Rattle.std.proofs.Common.{rules, arith, ap, refl, ◌-◌, ◌≡◌, ◌<�
 use Rattle.std.proofs.lemmas.Bool.{true≢false, false≢true}
 use Rattle.abt_io.proofs.Lent.{reads_err, reads_ok}
 use Rattle.abt_runs.specs.Part.{is_end}
-use Rattle.abt_pieces.proofs.Planning.{planned_on, planned_rests, planned_still, even_on, even_rests, even_still, ends_here, ends_last, ends_rests, last_ask, cap_some, fills_up, no_room}
+use Rattle.abt_pieces.proofs.Planning.{planned_on, planned_rests, planned_still, even_on, even_rests, even_still}
+use Rattle.abt_pieces.proofs.Planning.{ends_here, ends_last, ends_rests, last_ask, cap_some, fills_up, no_room}
 use Rattle.abt_pieces.specs.declared.contents.Contents.{Contents}
 use Rattle.abt_pieces.proofs.Counts.{words_on, takes_on}
 use Rattle.abt_pieces.proofs.plan.Planner.step.Goals as goal
 
 pub returns-in-Err : goal.returns-in-Err
 returns-in-Err g c =
-    let e = c.next_part.ensures in
+    let e = c.next_part.ensures.part in
     record {
-      reads = reads_err _ c.in-Err.ensures.reads;
+      source = record {
+        reads = reads_err _ c.in-Err.ensures.part.source.reads;
+        cause = c.in-Err.ensures.part.source.cause;
+      };
       sound = c.requires.ready.sound;
       told = c.requires.ready.told;
       goes_on = tt;
@@ -20,19 +24,18 @@ returns-in-Err g c =
       onward = tt;
       stuck = λ used tail room. tt;
       costs = e.costs;
-      cause = c.in-Err.ensures.cause;
     }
 
 -- the image has no block more
 pub returns-in-End : goal.returns-in-End
 returns-in-End g c =
-    let n = c.next_part.ensures in
-    let e = c.in-Ok.ensures in
+    let n = c.next_part.ensures.part in
+    let e = c.in-Ok.ensures.part in
     let ended : is_end c.in-Ok.run'.kind ≡ true = rw c.in-End.is refl in
     let here = g.met.R.BlockRuns.afresh_within c.args.runs.now c.args.self.now.at c.requires.ready.sound.within in
-    let read = e.asked.ended ended in
+    let read = c.in-Ok.ensures.asked.ended ended in
     record {
-      reads = reads_ok _ e.reads;
+      source = record { reads = reads_ok _ e.source.reads; cause = tt };
       sound = record {
         first = refl;
         within = here.within;
@@ -51,18 +54,18 @@ returns-in-End g c =
         still = refl;
         rests = (here.charge, here.taken, here.left);
       };
-      ends = λ tells d. ends_rests _ _ _ c.args.self.now (ends_last _ _ _ c.args.self.now ((e.told tells).part.ended ended));
+      ends = λ tells d. ends_rests _ _ _ c.args.self.now
+          (ends_last _ _ _ c.args.self.now ((e.told tells).part.ended ended));
       onward = here.copied;
       stuck = λ used tail room. refl;
       costs = n.costs;
-      cause = tt;
     }
 
 -- the place moves on, and no block is passed
 pub returns-then-run-eq0 : goal.returns-then-run-eq0
 returns-then-run-eq0 g c =
-    let n = c.next_part.ensures in
-    let e = c.in-Ok.ensures in
+    let n = c.next_part.ensures.part in
+    let e = c.in-Ok.ensures.part in
     let none = c.if-run-eq0.true in
     let going : is_end c.in-Ok.run'.kind ≡ false = search rules in
     let size = g.met.R.BlockRuns.sized c.args.runs.now in
@@ -70,7 +73,7 @@ returns-then-run-eq0 g c =
     let there : c.in-Ok.run'.next.block ≡ c.args.self.now.at.block = omega (arith, e.found.moved, none) in
     let p = g.met.R.BlockRuns.padded c.args.runs.now c.args.self.now.at in
     record {
-      reads = reads_ok _ e.reads;
+      source = record { reads = reads_ok _ e.source.reads; cause = tt };
       sound = record {
         first = refl;
         within = e.found.within;
@@ -89,7 +92,7 @@ returns-then-run-eq0 g c =
             cap_some c.args.self.now.tail (c.args.limit - c.args.self.now.weight) (g.R.BlockRuns.size c.args.runs.now)
             (omega (arith, size)) in absurd (omega (arith, s, none, z, cap));
         takes = omega (arith, e.found.takes);
-        fetched = e.asked.fetched going;
+        fetched = c.in-Ok.ensures.asked.fetched going;
         words = words_on _ _ _ _ _ c.in-Ok.run'.blocks p.0 p.1 e.found.filled_up e.found.moved;
       };
       rests = λ d. absurd (false≢true d);
@@ -97,27 +100,27 @@ returns-then-run-eq0 g c =
       onward = omega (arith, e.found.onward);
       stuck = λ used tail room. let s = (e.found.goes_on used).1 in absurd (omega (arith, s, none));
       costs = n.costs;
-      cause = tt;
     }
 
 -- one block more would be beyond the limit
 pub returns-then-gain-room : goal.returns-then-gain-room
 returns-then-gain-room g c =
-    let n = c.next_part.ensures in
-    let e = c.in-Ok.ensures in
+    let n = c.next_part.ensures.part in
+    let e = c.in-Ok.ensures.part in
     let size = g.met.R.BlockRuns.sized c.args.runs.now in
     let one = g.met.R.BlockRuns.one_fits c.args.runs.now in
     let here = g.met.R.BlockRuns.afresh_within c.args.runs.now c.args.self.now.at c.requires.ready.sound.within in
     let room = c.args.limit - c.args.self.now.weight in
     let capped = rw (c.raw_cap-cap.ensures, c.block_size-size.ensures) at e.found.capped in
-    let most = rw (c.raw_cap-cap.ensures, c.block_size-size.ensures) at e.most in
+    let most = rw (c.raw_cap-cap.ensures, c.block_size-size.ensures) at c.in-Ok.ensures.most in
     let gain = rw c.block_size-size.ensures at c.added-gain.ensures.gain in
     let over = c.if-gain-room.true in
     let some : 0 < c.in-Ok.run'.blocks = omega arith in
-    let last = last_ask c.args.self.now.tail c.in-Ok.run'.kind c.in-Ok.run'.blocks _ _ room (omega (arith, size)) one capped.raw (omega (arith, gain, over)) in
+    let last = last_ask c.args.self.now.tail c.in-Ok.run'.kind c.in-Ok.run'.blocks _ _ room (omega (arith, size)) one
+    capped.raw (omega (arith, gain, over)) in
     let bound = g.met.R.BlockRuns.bounded c.args.runs.now c.in-Ok.run'.next e.found.within in
     record {
-      reads = reads_ok _ e.reads;
+      source = record { reads = reads_ok _ e.source.reads; cause = tt };
       sound = record {
         first = refl;
         within = here.within;
@@ -142,14 +145,13 @@ returns-then-gain-room g c =
       onward = here.copied;
       stuck = λ used tail room. refl;
       costs = n.costs;
-      cause = tt;
     }
 
 -- the part is passed
 pub returns : goal.returns
 returns g c =
-    let n = c.next_part.ensures in
-    let e = c.in-Ok.ensures in
+    let n = c.next_part.ensures.part in
+    let e = c.in-Ok.ensures.part in
     let going : is_end c.in-Ok.run'.kind ≡ false = search rules in
     let some : 0 < c.in-Ok.run'.blocks = omega arith in
     let p = g.met.R.BlockRuns.padded c.args.runs.now c.args.self.now.at in
@@ -160,9 +162,10 @@ returns g c =
     let gain = rw c.block_size-size.ensures at c.added-gain.ensures.gain in
     let with = rw c.block_size-size.ensures at c.with-self.ensures in
     let bytes = ap (λ (x : Contents). x.bytes) with in
-    let takes = takes_on c.last-last.result c.in-Ok.run'.kind c.args.self.now.at.used c.in-Ok.run'.blocks _ c.args.self.now.contents.bytes _ _ (λ used. (e.found.goes_on used).0) going e.found.takes in
+    let takes = takes_on c.last-last.result c.in-Ok.run'.kind c.args.self.now.at.used c.in-Ok.run'.blocks _
+    c.args.self.now.contents.bytes _ _ (λ used. (e.found.goes_on used).0) going e.found.takes in
     record {
-      reads = reads_ok _ e.reads;
+      source = record { reads = reads_ok _ e.source.reads; cause = tt };
       sound = record {
         first = refl;
         within = e.found.within;
@@ -185,13 +188,13 @@ returns g c =
             let f = fills_up c.args.self.now.tail _ _ _ room (omega (arith, size)) s.0 (s.1 ∙ cap) (rw gain at fits) in
             (c.added-gain.ensures.tail ∙ f.0, omega (arith, f.1, gain));
         takes = omega (arith, bytes, takes);
-        fetched = e.asked.fetched going;
+        fetched = c.in-Ok.ensures.asked.fetched going;
         words = words_on _ _ _ _ _ c.in-Ok.run'.blocks p.0 p.1 e.found.filled_up e.found.moved;
       };
       rests = λ d. absurd (false≢true d);
       ends = λ tells d. absurd (false≢true d);
       onward = omega (arith, e.found.onward);
-      stuck = λ used tail little. absurd (no_room c.args.self.now.tail _ _ _ room some (e.found.goes_on used).0 tail little (rw gain at fits));
+      stuck = λ used tail little. absurd (no_room c.args.self.now.tail _ _ _ room some (e.found.goes_on used).0 tail
+          little (rw gain at fits));
       costs = n.costs;
-      cause = tt;
     }

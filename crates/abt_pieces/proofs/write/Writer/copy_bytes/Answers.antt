@@ -1,9 +1,10 @@
 use Rattle.std.proofs.Common.{arith, sym, ◌∙◌, ◌≡◌, ◌<◌, ◌≤◌, ◌+◌, ◌-◌, length, refl, IsTrue}
 use Rattle.std.proofs.lemmas.List.{take-append-drop}
-use Rattle.abt_io.proofs.Lent.{reads_err, reads_none, reads_ok, reads_then}
+use Rattle.abt_io.proofs.Lent.{reads_err, reads_none, reads_ok, reads_then, writes_err, writes_ok}
 use Rattle.abt_pieces.proofs.Fronts.{wrote_front, wrote_rest, wrote_part, nothing_more, as_many, no_more, no_more_than}
 use Rattle.abt_pieces.proofs.Fronts.{run_causes, run_unsaid, says_full, not_full}
-use Rattle.abt_pieces.proofs.Going.{is_copying, copied_writer, copied_sound, part_front, write_copies, copied_fewer, copied_passes}
+use Rattle.abt_pieces.proofs.Going.{is_copying, copied_writer, copied_sound, part_front, write_copies, copied_fewer}
+use Rattle.abt_pieces.proofs.Going.{copied_passes}
 use Rattle.abt_pieces.proofs.Counts.{writer_copies, writer_most, copied_paid}
 use Rattle.abt_pieces.proofs.Spending.{spent_copies}
 use Rattle.abt_pieces.proofs.Image.{copy_leads}
@@ -19,7 +20,7 @@ returns-in-Err g c =
     let most = writer_most (g.R.BlockRuns.one c.args.runs.now) (g.R.BlockRuns.count c.args.runs.now) c.args.self.now in
     record {
       stepped = record {
-        reads = reads_err _ c.in-Err.ensures.reads;
+        reads = reads_err _ c.in-Err.ensures.source.reads;
         writes = none_written _ _ _ (run_never_full _ _ c.run_fault.ensures);
         sound = tt;
         told = λ tells. tt;
@@ -29,7 +30,7 @@ returns-in-Err g c =
         front = λ tells. nothing_more _ _;
         rest = λ tells. tt;
         leads = tt;
-        cause = run_causes _ _ _ _ _ _ _ c.run_fault.ensures c.in-Err.ensures.cause;
+        cause = run_causes _ _ _ _ _ _ _ c.run_fault.ensures c.in-Err.ensures.source.cause;
         left = tt;
         paid = tt;
         spends = λ tells d within place is fresh s t spent. tt;
@@ -58,33 +59,36 @@ returns-in-Err-write_out g c =
     let o = c.write_out.ensures in
     let f = c.in-Err-write_out.ensures in
     let long : length c.part.result.now ≡ c.in-Ok.count = omega (arith, c.part.ensures.long) in
-    let fits : c.args.copying.done + c.in-Ok.count ≤ c.args.copying.size = omega (arith, e.within, c.copy.auto.out, c.part_mut.ensures.long, c.min-ask.ensures, c.min.ensures, c.requires.more) in
-    let left : c.in-Ok.count ≤ c.args.copying.left = omega (arith, e.within, c.copy.auto.out, c.part_mut.ensures.long, c.min-ask.ensures, c.min.ensures) in
-    let window : c.in-Ok.count ≤ 65536 = omega (arith, e.within, c.copy.auto.out, c.part_mut.ensures.long, c.min-ask.ensures, c.min.ensures) in
-    let h = is_copying _ _ _ _ c.args.self.now c.args.copying c.requires.is c.requires.ready.sound in
+    let fits : c.args.copying.done + c.in-Ok.count ≤ c.args.copying.size = omega
+    (arith, e.within, c.copy.auto.out, c.part_mut.ensures.long, c.min-ask.ensures, c.min.ensures, c.requires.more)
+    in
+    let left : c.in-Ok.count ≤ c.args.copying.left = omega
+    (arith, e.within, c.copy.auto.out, c.part_mut.ensures.long, c.min-ask.ensures, c.min.ensures) in
+    let window : c.in-Ok.count ≤ 65536 = omega (
+      arith,
+      e.within,
+      c.copy.auto.out,
+      c.part_mut.ensures.long,
+      c.min-ask.ensures,
+      c.min.ensures,
+    ) in
+    let h = is_copying _ _ _ _ c.args.self.now c.args.copying c.requires.copies.is c.requires.copies.ready.sound in
     let most = writer_most (g.R.BlockRuns.one c.args.runs.now) (g.R.BlockRuns.count c.args.runs.now) c.args.self.now in
     record {
       stepped = record {
-        reads = reads_then e.reads (reads_none _ _ _);
-        writes = record {
-          least = o.grown;
-          frame = o.frame;
-          faults = o.faults;
-          clean = tt;
-          full_faults =
-              f.full_faults;
-        };
+        reads = reads_then e.source.reads (reads_none _ _ _);
+        writes = writes_err _ f.writes;
         sound = tt;
         told = λ tells. tt;
         segment = (refl, refl, refl);
         within = omega (arith, o.within, long, left, h.room);
         counted = tt;
         front = λ tells.
-            let o = c.requires.ready.opened tells in
-            let x = copied_writer _ _ _ _ _ _ _ c.args.self.now c.args.copying c.in-Ok.count c.requires.is
-            c.requires.ready.sound (sym (g.met.R.BlockRuns.long c.args.runs.now _ o))
-            (g.met.R.BlockRuns.are_blocks c.args.runs.now _ o) (c.requires.ready.told tells) fits left in
-            let t = rw c.requires.is at (c.requires.ready.told tells).copies in
+            let o = c.requires.copies.ready.opened tells in
+            let x = copied_writer _ _ _ _ _ _ _ c.args.self.now c.args.copying c.in-Ok.count c.requires.copies.is
+            c.requires.copies.ready.sound (sym (g.met.R.BlockRuns.long c.args.runs.now _ o))
+            (g.met.R.BlockRuns.are_blocks c.args.runs.now _ o) (c.requires.copies.ready.told tells) fits left in
+            let t = rw c.requires.copies.is at (c.requires.copies.ready.told tells).copies in
             let these = c.part.ensures.value ∙ part_front c.in-Ok.count c.copy.new.out _ e.within
             ∙ e.bytes tells _ t.stands x.raw (omega (arith, fits, h.part)) ∙ x.bytes in
             wrote_part _ _ _ _ _ (rw these at f.front) (sym (take-append-drop c.in-Ok.count _));
@@ -98,13 +102,13 @@ returns-in-Err-write_out g c =
         costs = record {
           given = e.costs.given.0;
           received = omega (arith, e.costs.given.1, window);
-          grown = o.grown;
+          grown = o.writes.least;
           few = omega (arith, o.within, long, e.few);
-          steps = o.steps ∙ k.costs.one_step.steps;
-          greatest = o.greatest ∙ k.costs.one_step.greatest;
+          steps = o.no_step.steps ∙ k.costs.one_step.steps;
+          greatest = o.no_step.greatest ∙ k.costs.one_step.greatest;
           calls = omega (arith, k.costs.calls);
           write_calls = o.calls;
-          turns = omega (arith, o.turns, o.grown, k.costs.turns, most);
+          turns = omega (arith, o.turns, o.writes.least, k.costs.turns, most);
         };
         full = λ says. (f.full (says_full c.in-Err-write_out.fault says), omega (arith, f.short, long, left, h.room));
       };
@@ -120,47 +124,62 @@ returns g c =
     let w = c.in_default.ensures in
     let self = c.args.self.now in
     let long : length c.part.result.now ≡ c.in-Ok.count = omega (arith, c.part.ensures.long) in
-    let fits : c.args.copying.done + c.in-Ok.count ≤ c.args.copying.size = omega (arith, e.within, c.copy.auto.out, c.part_mut.ensures.long, c.min-ask.ensures, c.min.ensures, c.requires.more) in
-    let left : c.in-Ok.count ≤ c.args.copying.left = omega (arith, e.within, c.copy.auto.out, c.part_mut.ensures.long, c.min-ask.ensures, c.min.ensures) in
-    let window : c.in-Ok.count ≤ 65536 = omega (arith, e.within, c.copy.auto.out, c.part_mut.ensures.long, c.min-ask.ensures, c.min.ensures) in
-    let some = e.some (omega (arith, c.copy.auto.out, c.part_mut.ensures.long, c.min-ask.ensures, c.min.ensures, c.requires.more, c.requires.remains)) in
-    let h = is_copying _ _ _ _ self c.args.copying c.requires.is c.requires.ready.sound in
-    let all : length (g.O.Output.written c.write_out.new.output) ≡ length (g.O.Output.written c.args.output.now) + c.in-Ok.count = omega (arith, w.all, long) in
+    let fits : c.args.copying.done + c.in-Ok.count ≤ c.args.copying.size = omega
+    (arith, e.within, c.copy.auto.out, c.part_mut.ensures.long, c.min-ask.ensures, c.min.ensures, c.requires.more)
+    in
+    let left : c.in-Ok.count ≤ c.args.copying.left = omega
+    (arith, e.within, c.copy.auto.out, c.part_mut.ensures.long, c.min-ask.ensures, c.min.ensures) in
+    let window : c.in-Ok.count ≤ 65536 = omega (
+      arith,
+      e.within,
+      c.copy.auto.out,
+      c.part_mut.ensures.long,
+      c.min-ask.ensures,
+      c.min.ensures,
+    ) in
+    let some = e.some (omega (
+      arith,
+      c.copy.auto.out,
+      c.part_mut.ensures.long,
+      c.min-ask.ensures,
+      c.min.ensures,
+      c.requires.more,
+      c.requires.copies.remains,
+    )) in
+    let h = is_copying _ _ _ _ self c.args.copying c.requires.copies.is c.requires.copies.ready.sound in
+    let all : length (g.O.Output.written c.write_out.new.output) ≡ length (g.O.Output.written c.args.output.now) +
+    c.in-Ok.count = omega (arith, w.all, long) in
     let x = λ (tells : IsTrue g.S.Source.tells). copied_writer _ _ _ _ _ _ _ self c.args.copying c.in-Ok.count
-    c.requires.is c.requires.ready.sound (sym (g.met.R.BlockRuns.long c.args.runs.now _
-    (c.requires.ready.opened tells))) (g.met.R.BlockRuns.are_blocks c.args.runs.now _
-    (c.requires.ready.opened tells)) (c.requires.ready.told tells) fits left in
+    c.requires.copies.is c.requires.copies.ready.sound (sym (g.met.R.BlockRuns.long c.args.runs.now _
+    (c.requires.copies.ready.opened tells))) (g.met.R.BlockRuns.are_blocks c.args.runs.now _
+    (c.requires.copies.ready.opened tells)) (c.requires.copies.ready.told tells) fits left in
     let these = λ (tells : IsTrue g.S.Source.tells).
-    let t = rw c.requires.is at (c.requires.ready.told tells).copies in
-    c.part.ensures.value ∙ part_front c.in-Ok.count c.copy.new.out _ e.within ∙ e.bytes tells _ t.stands (x tells).raw (omega (arith, fits, h.part)) ∙ (x tells).bytes in
+    let t = rw c.requires.copies.is at (c.requires.copies.ready.told tells).copies in
+    c.part.ensures.value ∙ part_front c.in-Ok.count c.copy.new.out _ e.within ∙ e.bytes tells _ t.stands (x tells).raw
+    (omega (arith, fits, h.part)) ∙ (x tells).bytes in
     let most = writer_most (g.R.BlockRuns.one c.args.runs.now) (g.R.BlockRuns.count c.args.runs.now) c.args.self.now in
     let new = record self { copying = c.and_bytes-self.result; bytes = self.bytes - c.in-Ok.count } in
-    let words = writer_copies (g.R.BlockRuns.one c.args.runs.now) (g.R.BlockRuns.count c.args.runs.now) self new refl refl (rw (c.and_bytes-self.ensures, c.requires.is) (copied_passes c.args.copying c.in-Ok.count _ h.until)) in
+    let words = writer_copies (g.R.BlockRuns.one c.args.runs.now) (g.R.BlockRuns.count c.args.runs.now) self new refl
+    refl (rw (c.and_bytes-self.ensures, c.requires.copies.is)
+    (copied_passes c.args.copying c.in-Ok.count _ h.until)) in
     let paid : silent_write (g.R.BlockRuns.count c.args.runs.now) new < silent_write
     (g.R.BlockRuns.count c.args.runs.now) self
     + (length (g.O.Output.written c.write_out.new.output) - length (g.O.Output.written c.args.output.now)) =
-    copied_paid _ _ c.in-Ok.count self new c.args.copying refl refl c.requires.is c.and_bytes-self.ensures
+    copied_paid _ _ c.in-Ok.count self new c.args.copying refl refl c.requires.copies.is c.and_bytes-self.ensures
     (omega (arith, all, some)) in
     record {
       stepped = record {
-        reads = reads_ok _ e.reads;
-        writes = record {
-          least = o.grown;
-          frame = o.frame;
-          faults = o.faults;
-          clean = w.clean;
-          full_faults =
-              w.full_faults;
-        };
+        reads = reads_ok _ e.source.reads;
+        writes = writes_ok _ w.writes;
         sound = record {
-          gathering = c.requires.ready.sound.gathering;
+          gathering = c.requires.copies.ready.sound.gathering;
           copies =
               rw c.and_bytes-self.ensures (copied_sound _ _ _ _ _ _ _ c.in-Ok.count c.args.copying h left fits);
           most =
-              c.requires.ready.sound.most;
-          small = c.requires.ready.sound.small;
+              c.requires.copies.ready.sound.most;
+          small = c.requires.copies.ready.sound.small;
           fits =
-              omega (arith, c.requires.ready.sound.fits);
+              omega (arith, c.requires.copies.ready.sound.fits);
         };
         told = λ tells. rw c.and_bytes-self.ensures (x tells).told;
         segment = (refl, refl, refl);
@@ -170,9 +189,9 @@ returns g c =
         rest = λ tells. rw c.and_bytes-self.ensures
             ((x tells).rest ∙ wrote_rest _ _ _ _ _ (rw (these tells) at w.ok) (sym (take-append-drop c.in-Ok.count _)));
         leads = rw c.and_bytes-self.ensures (copy_leads _ _ self c.args.copying c.in-Ok.count c.part.result.now _ _
-            c.requires.is long left w.ok);
+            c.requires.copies.is long left w.ok);
         cause = tt;
-        left = write_copies _ _ self new refl refl (rw (c.and_bytes-self.ensures, c.requires.is)
+        left = write_copies _ _ self new refl refl (rw (c.and_bytes-self.ensures, c.requires.copies.is)
             (copied_fewer _ self.bytes c.args.copying c.in-Ok.count some (omega (arith, left, h.room))));
         paid = omega (arith, paid);
         spends = λ tells d within place is fresh s t spent.
@@ -183,24 +202,21 @@ returns g c =
               gathering = spent.gathering;
               copies = rw c.and_bytes-self.ensures (spent_copies _ _ _ _ _ _ _ _ _ _ _ s t _ _ _ c.in-Ok.count
                   c.args.copying (omega (arith, size)) some h fits e.costs.given.0 grows.0 e.costs.read
-                  (rw c.requires.is at spent.copies));
+                  (rw c.requires.copies.is at spent.copies));
             };
-        words = omega (arith, words, o.turns, o.grown, k.costs.turns);
+        words = omega (arith, words, o.turns, o.writes.least, k.costs.turns);
         costs = record {
           given = e.costs.given.0;
           received = omega (arith, e.costs.given.1, window);
-          grown = o.grown;
+          grown = o.writes.least;
           few = omega (arith, all, e.few);
-          steps = o.steps ∙ k.costs.one_step.steps;
-          greatest = o.greatest ∙ k.costs.one_step.greatest;
+          steps = o.no_step.steps ∙ k.costs.one_step.steps;
+          greatest = o.no_step.greatest ∙ k.costs.one_step.greatest;
           calls = omega (arith, k.costs.calls);
           write_calls = o.calls;
-          turns = omega (arith, o.turns, o.grown, k.costs.turns, most);
+          turns = omega (arith, o.turns, o.writes.least, k.costs.turns, most);
         };
         full = λ says. absurd (not_full says);
       };
       paid = paid;
     }
-
-pub and_bytes-self-requires-clause-left : goal.and_bytes-self-requires-clause-left
-and_bytes-self-requires-clause-left g c = omega (arith, c.in-Ok.ensures.within, c.copy.auto.out, c.part_mut.ensures.long, c.min-ask.ensures, c.min.ensures)

@@ -3,7 +3,8 @@ use Rattle.abt_io.proofs.Lent.{reads_err, reads_none, reads_ok, reads_then, writ
 use Rattle.abt_pieces.proofs.Fronts.{wrote_part, nothing_more, nothing_less, as_many, no_more, no_more_than, run_causes}
 use Rattle.abt_pieces.proofs.Fronts.{run_unsaid, not_full}
 use Rattle.abt_pieces.proofs.Writing.{frame_blocks}
-use Rattle.abt_pieces.proofs.Going.{gathering, run_begins, run_sound, begun_ok, begun_rest, begun_left, run_counted, still_told, still_sound, chunk_causes, write_looks, none_small}
+use Rattle.abt_pieces.proofs.Going.{gathering, run_begins, run_sound, begun_ok, begun_rest, begun_left, run_counted}
+use Rattle.abt_pieces.proofs.Going.{still_told, still_sound, chunk_causes, write_looks, none_small}
 use Rattle.abt_pieces.proofs.Counts.{run_words, run_paid, looks_paid, still_passes, writer_looks, writer_looked}
 use Rattle.abt_pieces.specs.Spent.{Spent}
 use Rattle.abt_pieces.specs.Write.{SoundWriter, ToldWriter, run_begun, silent_write, write_left, writer_words}
@@ -19,7 +20,7 @@ returns-in-Err g c =
     let turns = a.costs.turns in
     record {
       stepped = record {
-        reads = reads_err _ c.in-Err.ensures.reads;
+        reads = reads_err _ c.in-Err.ensures.source.reads;
         writes = none_written _ _ _ (run_never_full _ _ c.run_fault.ensures);
         sound = tt;
         told = λ tells. tt;
@@ -29,7 +30,7 @@ returns-in-Err g c =
         front = λ tells. nothing_more _ _;
         rest = λ tells. tt;
         leads = tt;
-        cause = run_causes _ _ _ _ _ _ _ c.run_fault.ensures c.in-Err.ensures.cause;
+        cause = run_causes _ _ _ _ _ _ _ c.run_fault.ensures c.in-Err.ensures.source.cause;
         left = tt;
         paid = tt;
         spends = λ tells d within place is fresh s t spent. tt;
@@ -79,7 +80,7 @@ returns-in-Some g c =
     let t = run_begun (gathering self on) x in
     record {
       stepped = record {
-        reads = reads_then e.reads (reads_none res _ _);
+        reads = reads_then e.source.reads (reads_none res _ _);
         writes = b.put.writes;
         sound = begun_ok (λ v. SoundWriter (g.R.BlockRuns.within runs) (g.R.BlockRuns.reach runs) count
             (g.R.BlockRuns.size runs) v) t res new begun b.ok;
@@ -159,7 +160,7 @@ returns-in-None g c =
     let words = e.words in
     record {
       stepped = record {
-        reads = reads_ok _ e.reads;
+        reads = reads_ok _ e.source.reads;
         writes = writes_none _ _ _;
         sound = still_sound _ _ _ _ self on c.requires.none c.requires.ready.sound e.sound;
         told = λ tells. (still tells).1;

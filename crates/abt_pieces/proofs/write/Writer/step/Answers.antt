@@ -1,13 +1,15 @@
 use Rattle.std.proofs.Common.{IsTrue, length, arith, sym, ◌≡◌, ◌≤◌, ◌+◌, ◌-◌, ◌*◌, ◌∙◌, true, refl}
 use Rattle.std.proofs.lemmas.Bool.{false≢true}
 use Rattle.abt_io.proofs.Lent.{reads_err, reads_none, reads_ok, writes_err, writes_none, writes_ok}
-use Rattle.abt_pieces.proofs.Fronts.{wrote_part, wrote_front, wrote_rest, chunk_cause, nothing_more, nothing_less, as_many, no_more, no_more_than, not_full, cause_unwritten, none_says, whole_goes_not, whole_unfilled, whole_ended, whole_cause}
+use Rattle.abt_pieces.proofs.Fronts.{wrote_part, wrote_front, wrote_rest, chunk_cause, nothing_more, nothing_less}
+use Rattle.abt_pieces.proofs.Fronts.{as_many, no_more, no_more_than, not_full, cause_unwritten, none_says}
+use Rattle.abt_pieces.proofs.Fronts.{whole_goes_not, whole_unfilled, whole_ended, whole_cause}
 use Rattle.abt_pieces.specs.Write.{chunk_opened}
 use Rattle.abt_pieces.proofs.Going.{told_whole, opened, opened_sound, write_copies}
 use Rattle.abt_pieces.proofs.Counts.{writer_most, writer_passed, open_paid, open_words}
 use Rattle.abt_pieces.proofs.Spending.{always_ok, spent_same, spent_whole, open_spent}
 use Rattle.abt_pieces.proofs.Image.{leads_same, end_comes, open_leads}
-use Rattle.abt_pieces.proofs.WriterSteps.{none_written, stepped_err, stepped_ok}
+use Rattle.abt_pieces.proofs.WriterSteps.{none_written}
 use Rattle.abt_pieces.proofs.write.Writer.step.Goals as goal
 
 -- the next chunk of the raw run
@@ -133,7 +135,7 @@ returns-in-Ok-next_raw g c =
     let words = e.goes_on.words in
     record {
       stepped = record {
-        reads = reads_ok _ e.reads;
+        reads = reads_ok _ e.source.reads;
         writes = writes_none _ _ _;
         sound = e.goes_on.sound;
         told = e.told;
@@ -174,7 +176,7 @@ returns-in-Err-next_raw g c =
     let turns = a.costs.turns in
     record {
       stepped = record {
-        reads = reads_err _ e.reads;
+        reads = reads_err _ e.source.reads;
         writes = none_written _ _ _ e.unwritten;
         sound = tt;
         told = λ tells. tt;
@@ -184,7 +186,7 @@ returns-in-Err-next_raw g c =
         front = λ tells. nothing_more _ _;
         rest = λ tells. tt;
         leads = tt;
-        cause = cause_unwritten c.in-Err-next_raw.fault _ _ _ _ _ e.cause;
+        cause = cause_unwritten c.in-Err-next_raw.fault _ _ _ _ _ e.source.cause;
         left = tt;
         paid = tt;
         spends = λ tells d within place is fresh s t h. tt;
@@ -206,39 +208,6 @@ returns-in-Err-next_raw g c =
       ended = tt;
       spent = λ tells d within place is fresh s t h. tt;
     }
-
--- bytes of the raw run, and a part of the open run
-pub returns-in-Ok-copy_bytes : goal.returns-in-Ok-copy_bytes
-returns-in-Ok-copy_bytes g c = record {
-  stepped = stepped_ok _ (λ P p d. p) c.in-Ok-copy_bytes.ensures.stepped;
-  all = λ d. absurd (false≢true d);
-  ended = λ d. absurd (false≢true d);
-  spent = λ tells d within place is fresh s t h whole. absurd (false≢true whole);
-}
-
-pub returns-in-Err-copy_bytes : goal.returns-in-Err-copy_bytes
-returns-in-Err-copy_bytes g c = record {
-  stepped = stepped_err _ (λ P. tt) c.in-Err-copy_bytes.ensures.stepped;
-  all = tt;
-  ended = tt;
-  spent = λ tells d within place is fresh s t h. tt;
-}
-
-pub returns-in-Ok-look : goal.returns-in-Ok-look
-returns-in-Ok-look g c = record {
-  stepped = stepped_ok _ (λ P p d. p) c.in-Ok-look.ensures.stepped;
-  all = λ d. absurd (false≢true d);
-  ended = λ d. absurd (false≢true d);
-  spent = λ tells d within place is fresh s t h whole. absurd (false≢true whole);
-}
-
-pub returns-in-Err-look : goal.returns-in-Err-look
-returns-in-Err-look g c = record {
-  stepped = stepped_err _ (λ P. tt) c.in-Err-look.ensures.stepped;
-  all = tt;
-  ended = tt;
-  spent = λ tells d within place is fresh s t h. tt;
-}
 
 -- nothing is left to look for
 pub returns-then-is_done : goal.returns-then-is_done

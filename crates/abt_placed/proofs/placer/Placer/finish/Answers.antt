@@ -46,7 +46,7 @@ returns-in-Err-lay_header g c =
     let stays = keeps_less s.front (s.front + 28) w w' (omega arith) k.kept in
     let within = closed_within c.args.size s.blocks s.count s.front _ (length w) (length w') k.within h.few in
     let n = closed_numbers s.kind s h.chunks h.none h.some in
-    let l = c.lay_header.ensures in
+    let l = c.lay_header.ensures.over in
     let all = c.in-Ok.ensures in
     let e = c.in-Err-lay_header.ensures in
     record {
@@ -55,9 +55,9 @@ returns-in-Err-lay_header g c =
       before = l.before ∙ stays.front;
       laid = tt;
       unfinished = e.unfinished;
-      writes = onward all.writes e.writes;
+      writes = onward all.writes e.over.writes;
       within = omega (arith, within, l.long);
-      adds = rw e.failed (omega (arith, l.long, all.adds));
+      adds = rw e.over.failed (omega (arith, l.long, all.adds));
     }
 
 -- the image is whole
@@ -73,7 +73,7 @@ returns-in-Ok-lay_header g c =
     let n = closed_numbers s.kind s h.chunks h.none h.some in
     let b = c.args.size in
     let t = c.and_closed.result in
-    let l = c.lay_header.ensures in
+    let l = c.lay_header.ensures.over in
     let all = c.in-Ok.ensures in
     let e = c.in-Ok-lay_header.ensures in
     record {
@@ -83,7 +83,7 @@ returns-in-Ok-lay_header g c =
       laid = e.ok ∙ ap (λ (l : List ℕ). put_at l s.front (header_record (plain_header b t.blocks t.chunks))) all.written
           ∙ ap (λ (p : Placer). put_at (closing s b w) s.front (header_record (plain_header b p.blocks p.chunks))) c.and_closed.ensures;
       unfinished = tt;
-      writes = onward all.writes e.writes;
+      writes = onward all.writes e.over.writes;
       within = omega (arith, within, l.long);
       adds = omega (arith, l.long, all.adds);
     }

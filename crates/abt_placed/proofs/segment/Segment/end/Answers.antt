@@ -19,7 +19,7 @@ finish-requires-clause-zeros g c =
     let w = g.O.Output.written c.args.output.now in
     let w' = g.O.Output.written c.skip.new.output in
     let f = c.args.self.now.placer.front in
-    subst (λ (n : ℕ). take 28 (drop n w') ≡ replicate 28 0) (sym c.skip.ensures.same.1) (zeros_kept f w w' c.skip.ensures.kept c.requires.zeros)
+    subst (λ (n : ℕ). take 28 (drop n w') ≡ replicate 28 0) (sym c.skip.ensures.goes.same.1) (zeros_kept f w w' c.skip.ensures.goes.kept c.requires.zeros)
 
 -- what is skipped behind the segment is not laid
 pub returns-in-Err : goal.returns-in-Err
@@ -28,7 +28,7 @@ returns-in-Err g c =
     let f = s.placer.front in
     let w = g.O.Output.written c.args.output.now in
     let w' = g.O.Output.written c.skip.new.output in
-    let k = c.skip.ensures in
+    let k = c.skip.ensures.goes in
     let e = c.in-Err.ensures in
     let h = c.requires.sound in
     let room = skipping_fits s.placer in
@@ -36,7 +36,7 @@ returns-in-Err g c =
       laid = λ blocks laid. tt;
       before = (keeps_less f (f + 28) w w' (omega arith) k.kept).front;
       unfinished = zeros_refused f w' (zeros_kept f w w' k.kept c.requires.zeros);
-      writes = at_most e.writes (omega arith) (omega arith);
+      writes = at_most e.goes.writes (omega arith) (omega arith);
       within = no_wider (taken s.placer + (c.args.blocks - taken s.placer)) c.args.blocks c.args.size (f + 28) _ (omega arith) k.within;
       long = λ uncut. let fits = h.fits uncut in omega (arith, e.adds, room, fits);
     }
@@ -49,7 +49,7 @@ returns g c =
     let w = g.O.Output.written c.args.output.now in
     let w' = g.O.Output.written c.skip.new.output in
     let new = g.O.Output.written c.finish.new.output in
-    let k = c.skip.ensures in
+    let k = c.skip.ensures.goes in
     let e = c.in-Ok.ensures in
     let n = c.finish.ensures in
     let h = c.requires.sound in
@@ -63,11 +63,11 @@ returns g c =
           let b = c.args.size in
           on_both c.finish.result (t ≡ closed p) (new ≡ put_at (closing p b w') p.front (header_record (plain_header b (closed p).blocks (closed p).chunks)))
           (LaidPiece b c.args.blocks s.placer.most t.chunks (framed s.first blocks r) (take f w) new)
-          (λ is made. end_laid b c.args.blocks r blocks w w' new s p t (omega arith) e.sound (e.laid (skips s.first ++ blocks) laid.placed) e.passed k.same.0 k.same.1 front is made)
+          (λ is made. end_laid b c.args.blocks r blocks w w' new s p t (omega arith) e.goes.sound (e.laid (skips s.first ++ blocks) laid.placed) e.goes.passed k.same.0 k.same.1 front is made)
           n.ok n.laid;
       before = subst (λ (m : ℕ). take m new ≡ take m w') k.same.1 n.before ∙ front;
       unfinished = subst (λ (m : ℕ). OnErr c.finish.result (IsUnfinished (drop m new))) k.same.1 n.unfinished;
-      writes = onward e.writes n.writes;
-      within = let w = no_wider (taken c.skip.new.self) c.args.blocks c.args.size (c.skip.new.self.front + 28) _ (omega (arith, e.passed)) n.within in omega (arith, k.same.1, w);
+      writes = onward e.goes.writes n.writes;
+      within = let w = no_wider (taken c.skip.new.self) c.args.blocks c.args.size (c.skip.new.self.front + 28) _ (omega (arith, e.goes.passed)) n.within in omega (arith, k.same.1, w);
       long = λ uncut. let fits = h.fits uncut in omega (arith, n.adds, e.closes, room, fits);
     }

@@ -1,5 +1,4 @@
-use Rattle.std.proofs.Common.{length, drop, ◌≡◌, ◌*◌, ◌+◌, ◌-◌, ◌++◌, ◌∙◌, arith, refl, subst, sym, append-nil, List, true, false, ℕ, ◌/◌}
-use Rattle.abt_sparse.specs.Block.{Block}
+use Rattle.std.proofs.Common.{length, drop, ◌≡◌, ◌*◌, ◌+◌, ◌-◌, ◌++◌, ◌∙◌, arith, refl, subst, true, false, ℕ, ◌/◌}
 use Rattle.abt_placed.specs.Placed.{classes}
 use Rattle.abt_placed.specs.Segment.{LaidSegment, OneMoreExceeds}
 use Rattle.abt_placed.specs.Unfinished.{KeepsFront}
@@ -7,9 +6,9 @@ use Rattle.abt_placed.specs.Whole.{taken}
 use Rattle.abt_placed.proofs.Numbers.{blocks_fit}
 use Rattle.abt_placed.proofs.Costs.{look_costs, look_some, more_blocks, sound_within, wider, no_further}
 use Rattle.abt_placed.proofs.Laying.{part_classes}
-use Rattle.abt_placed.proofs.Refusing.{keeps_same, keeps_then}
+use Rattle.abt_placed.proofs.Refusing.{keeps_then}
 use Rattle.abt_placed.proofs.Segments.{window_over, more_laid}
-use Rattle.abt_placed.proofs.Onward.{still, ticked, onward, succeeds, at_most}
+use Rattle.abt_placed.proofs.Onward.{ticked, onward, succeeds, at_most}
 use Rattle.abt_placed.proofs.segment.Segment.take_fitting.Goals as goal
 
 pub part-requires-clause-bound : goal.part-requires-clause-bound
@@ -39,17 +38,6 @@ loop-done-preserved g c =
       writes = succeeds (at_most (onward (onward i.writes (ticked g.O.Output c.loop-done.output c.loop-done.m c.leading-kind.new.m (n * (b / 2 + 17) - 14) look (c.leading-kind.ensures.no_step.steps ∙ c.tick.ensures.steps) (c.leading-kind.ensures.no_step.greatest ∙ c.tick.ensures.greatest))) e.writes) (omega (arith, c.leading-kind.ensures.some)) (omega (arith, all, some)));
       kept = keeps_then (c.args.self.now.placer.front + 28) (g.O.Output.written c.args.output.now) (g.O.Output.written c.loop-done.output) (g.O.Output.written c.take_part.new.output) i.kept (subst (λ (j : ℕ). KeepsFront (j + 28) (g.O.Output.written c.loop-done.output) (g.O.Output.written c.take_part.new.output)) i.same.1 t.segment.kept);
     }
-
-pub loop-done-init : goal.loop-done-init
-loop-done-init g c = record {
-  within = omega arith;
-  sound = c.requires.sound;
-  laid = λ f p. subst (λ (l : List Block). LaidSegment c.args.size l (g.O.Output.written c.args.output.now) c.args.self.now) (sym (append-nil f)) p;
-  passed = omega arith;
-  same = (refl, refl, refl, refl);
-  writes = still;
-  kept = keeps_same _ _;
-}
 
 -- the next blocks don't fit
 pub returns-then-ended : goal.returns-then-ended
@@ -153,13 +141,6 @@ returns g c =
       reached = λ is. absurd (let x : false ≡ true = is in cc);
       writes = rw y at i.writes;
     }
-
--- places in the window
-pub overflow_mul-from : goal.overflow_mul-from
-overflow_mul-from g c = let f = blocks_fit c.loop-done.done c.min-cap.result c.args.blocks c.args.size (omega arith) c.requires.window in omega (arith, f)
-
-pub overflow_add-to : goal.overflow_add-to
-overflow_add-to g c = let f = blocks_fit c.loop-done.done c.min-cap.result c.args.blocks c.args.size (omega arith) c.requires.window in omega (arith, f)
 
 pub overflow_add-past : goal.overflow_add-past
 overflow_add-past g c = let f = blocks_fit c.loop-done.done c.leading-kind.result.1 c.args.blocks c.args.size (omega arith) c.requires.window in omega (arith, f)

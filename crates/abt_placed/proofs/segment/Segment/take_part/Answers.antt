@@ -13,7 +13,7 @@ use Rattle.abt_placed.proofs.segment.Segment.take_part.Goals as goal
 -- they don't fit
 pub returns-then-gain-self : goal.returns-then-gain-self
 returns-then-gain-self g c =
-    let s = c.requires.sound in
+    let s = c.requires.can.sound in
     let over = c.if-gain-self.true in
     record {
       segment = record {
@@ -47,16 +47,16 @@ returns-in-Err g c =
     let fits = c.if-gain-self.false in
     record {
       segment = record {
-        kept = t.kept;
+        kept = t.goes.kept;
         sound = tt;
-        same = (t.same.0, t.same.1, refl, refl);
-        within = t.within;
-        long = λ uncut. taken_within c.args.size c.args.blocks c.gain-gain.result _ _ _ c.args.self.now c.args.kind c.requires.sound uncut c.requires.part.some (kind_held c.args.size c.args.blocks c.args.bytes.now c.args.kind c.requires.part.some c.requires.part.all) c.gain-gain.ensures (omega (arith, fits)) e.adds;
+        same = (t.goes.same.0, t.goes.same.1, refl, refl);
+        within = t.goes.within;
+        long = λ uncut. taken_within c.args.size c.args.blocks c.gain-gain.result _ _ _ c.args.self.now c.args.kind c.requires.can.sound uncut c.requires.part.some (kind_held c.args.size c.args.blocks c.args.bytes.now c.args.kind c.requires.part.some c.requires.part.all) c.gain-gain.ensures (omega (arith, fits)) e.adds;
       };
       laid = λ f p. tt;
       passed = tt;
       over = tt;
-      writes = fails e.writes (omega arith) (omega arith);
+      writes = fails e.goes.writes (omega arith) (omega arith);
     }
 
 -- they are taken
@@ -68,14 +68,14 @@ returns g c =
     let held = kind_held c.args.size c.args.blocks c.args.bytes.now c.args.kind c.requires.part.some c.requires.part.all in
     record {
       segment = record {
-        kept = t.kept;
-        sound = sound_on c.args.size c.args.blocks c.gain-gain.result _ _ c.args.self.now c.take.new.self c.args.kind c.requires.sound e.sound c.requires.part.some held e.ok e.passed t.same.0 t.same.1 (omega (arith, e.adds)) c.gain-gain.ensures (omega (arith, fits));
-        same = (t.same.0, t.same.1, refl, refl);
-        within = t.within;
-        long = λ uncut. taken_within c.args.size c.args.blocks c.gain-gain.result _ _ 0 c.args.self.now c.args.kind c.requires.sound uncut c.requires.part.some held c.gain-gain.ensures (omega (arith, fits)) e.adds;
+        kept = t.goes.kept;
+        sound = sound_on c.args.size c.args.blocks c.gain-gain.result _ _ c.args.self.now c.take.new.self c.args.kind c.requires.can.sound e.goes.sound c.requires.part.some held e.ok e.goes.passed t.goes.same.0 t.goes.same.1 (omega (arith, e.adds)) c.gain-gain.ensures (omega (arith, fits));
+        same = (t.goes.same.0, t.goes.same.1, refl, refl);
+        within = t.goes.within;
+        long = λ uncut. taken_within c.args.size c.args.blocks c.gain-gain.result _ _ 0 c.args.self.now c.args.kind c.requires.can.sound uncut c.requires.part.some held c.gain-gain.ensures (omega (arith, fits)) e.adds;
       };
       laid = λ f p d. laid_on c.args.size c.args.blocks c.gain-gain.result f c.args.bytes.now _ _ c.args.self.now c.take.new.self c.args.kind c.requires.part.some c.requires.part.all e.ok c.gain-gain.ensures p (e.laid (skips c.args.self.now.first ++ f) p.placed);
-      passed = λ d. e.passed;
+      passed = λ d. e.goes.passed;
       over = λ d. absurd (let z : false ≡ true = d in cc);
-      writes = succeeds e.writes;
+      writes = succeeds e.goes.writes;
     }

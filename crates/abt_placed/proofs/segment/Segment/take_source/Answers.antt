@@ -10,7 +10,7 @@ pub loop-ended-preserved : goal.loop-ended-preserved
 loop-ended-preserved g c =
     let i = c.loop-ended.invariant in
     let e = c.in-Ok.ensures in
-    let t = c.step.ensures in
+    let t = c.step.ensures.lays in
     let on = c.if-ended.false in
     let r = c.args.runs.now in
     let old = g.O.Output.written c.args.output.now in
@@ -18,11 +18,11 @@ loop-ended-preserved g c =
     let new = g.O.Output.written c.step.new.output in
     let m = c.tick.ensures in
     record {
-      lays = lays_then i.lays (lays_then {x = false} (lays_value e.lays) (lays_written _ _ (ticked g.O.Output c.step.new.output c.step.new.m c.tick.new.self 1 (omega (arith, m.turns)) m.steps m.greatest)));
+      lays = lays_then i.lays (lays_then {x = false} (lays_value e.lays.lays) (lays_written _ _ (ticked g.O.Output c.step.new.output c.step.new.m c.tick.new.self 1 (omega (arith, m.turns)) m.steps m.greatest)));
       given = omega (arith, i.given, e.once on);
-      sound = e.segment.sound;
-      within = e.inside;
-      told = same_told g.S.Source.tells (g.S.Source.content c.loop-ended.source) (g.S.Source.content c.args.source.now) r.size new c.step.new.self i.lays.content e.told;
+      sound = e.lays.segment.sound;
+      within = e.lays.inside;
+      told = same_told g.S.Source.tells (g.S.Source.content c.loop-ended.source) (g.S.Source.content c.args.source.now) r.size new c.step.new.self i.lays.content e.lays.told;
       same = (t.segment.same.0 ∙ i.same.0, t.segment.same.1 ∙ i.same.1, t.segment.same.2 ∙ i.same.2, t.segment.same.3 ∙ i.same.3);
       kept = keeps_then (c.args.self.now.placer.front + 28) old now new i.kept (subst (λ (j : ℕ). KeepsFront (j + 28) now new) i.same.1 t.segment.kept);
       calls = omega (arith, i.calls, e.going_calls on, i.lays.given, t.lays.given);
@@ -49,7 +49,7 @@ pub returns-then-ended : goal.returns-then-ended
 returns-then-ended g c =
     let i = c.loop-ended.invariant in
     let e = c.in-Ok.ensures in
-    let t = c.step.ensures in
+    let t = c.step.ensures.lays in
     let r = c.args.runs.now in
     let old = g.O.Output.written c.args.output.now in
     let now = g.O.Output.written c.loop-ended.output in
@@ -57,24 +57,26 @@ returns-then-ended g c =
     let x = g.S.Source.content c.loop-ended.source in
     let y = g.S.Source.content c.args.source.now in
     record {
-      lays = lays_value (lays_then i.lays e.lays);
-      told = same_told g.S.Source.tells x y r.size new c.step.new.self i.lays.content e.told;
+      lays = record {
+        lays = lays_value (lays_then i.lays e.lays.lays);
+        told = same_told g.S.Source.tells x y r.size new c.step.new.self i.lays.content e.lays.told;
+        segment = record {
+          kept = keeps_then (c.args.self.now.placer.front + 28) old now new i.kept (subst (λ (j : ℕ). KeepsFront (j + 28) now new) i.same.1 t.segment.kept);
+          sound = e.lays.segment.sound;
+          same = (t.segment.same.0 ∙ i.same.0, t.segment.same.1 ∙ i.same.1, t.segment.same.2 ∙ i.same.2, t.segment.same.3 ∙ i.same.3);
+          within = omega (arith, t.segment.within, i.same.1);
+          long = λ uncut. let long = e.lays.segment.long (rw (i.same.3, i.same.0) uncut) in omega (arith, i.same.1, i.same.3, long);
+        };
+        inside = e.lays.inside;
+        reads = record {
+          economy = omega (arith, i.given, t.reads.economy);
+          least = omega (arith, i.given, e.lays.reads.least);
+          last = omega (arith, i.given, e.lays.reads.last);
+        };
+      };
       ended = same_ended g.S.Source.tells x y r.size r.blocks c.step.new.self i.lays.content (e.ended c.if-ended.true);
-      segment = record {
-        kept = keeps_then (c.args.self.now.placer.front + 28) old now new i.kept (subst (λ (j : ℕ). KeepsFront (j + 28) now new) i.same.1 t.segment.kept);
-        sound = e.segment.sound;
-        same = (t.segment.same.0 ∙ i.same.0, t.segment.same.1 ∙ i.same.1, t.segment.same.2 ∙ i.same.2, t.segment.same.3 ∙ i.same.3);
-        within = omega (arith, t.segment.within, i.same.1);
-        long = λ uncut. let long = e.segment.long (rw (i.same.3, i.same.0) uncut) in omega (arith, i.same.1, i.same.3, long);
-      };
-      inside = e.inside;
-      reads = record {
-        economy = omega (arith, i.given, t.reads.economy);
-        least = omega (arith, i.given, e.reads.least);
-        last = omega (arith, i.given, e.reads.last);
-      };
-      calls = omega (arith, i.calls, t.calls, i.lays.given, t.lays.given);
-      turns = omega (arith, i.turns, t.turns, i.lays.given, t.lays.given);
+      calls = omega (arith, i.calls, c.step.ensures.calls, i.lays.given, t.lays.given);
+      turns = omega (arith, i.turns, c.step.ensures.turns, i.lays.given, t.lays.given);
     }
 
 -- a step is refused
@@ -82,27 +84,29 @@ pub returns-in-Err : goal.returns-in-Err
 returns-in-Err g c =
     let i = c.loop-ended.invariant in
     let e = c.in-Err.ensures in
-    let t = c.step.ensures in
+    let t = c.step.ensures.lays in
     let old = g.O.Output.written c.args.output.now in
     let now = g.O.Output.written c.loop-ended.output in
     let new = g.O.Output.written c.step.new.output in
     record {
-      lays = lays_fault (lays_then i.lays e.lays);
-      told = tt;
+      lays = record {
+        lays = lays_fault (lays_then i.lays e.lays.lays);
+        told = tt;
+        segment = record {
+          kept = keeps_then (c.args.self.now.placer.front + 28) old now new i.kept (subst (λ (j : ℕ). KeepsFront (j + 28) now new) i.same.1 t.segment.kept);
+          sound = tt;
+          same = (t.segment.same.0 ∙ i.same.0, t.segment.same.1 ∙ i.same.1, t.segment.same.2 ∙ i.same.2, t.segment.same.3 ∙ i.same.3);
+          within = omega (arith, t.segment.within, i.same.1);
+          long = λ uncut. let long = e.lays.segment.long (rw (i.same.3, i.same.0) uncut) in omega (arith, i.same.1, i.same.3, long);
+        };
+        inside = tt;
+        reads = record {
+          economy = omega (arith, i.given, t.reads.economy);
+          least = tt;
+          last = tt;
+        };
+      };
       ended = tt;
-      segment = record {
-        kept = keeps_then (c.args.self.now.placer.front + 28) old now new i.kept (subst (λ (j : ℕ). KeepsFront (j + 28) now new) i.same.1 t.segment.kept);
-        sound = tt;
-        same = (t.segment.same.0 ∙ i.same.0, t.segment.same.1 ∙ i.same.1, t.segment.same.2 ∙ i.same.2, t.segment.same.3 ∙ i.same.3);
-        within = omega (arith, t.segment.within, i.same.1);
-        long = λ uncut. let long = e.segment.long (rw (i.same.3, i.same.0) uncut) in omega (arith, i.same.1, i.same.3, long);
-      };
-      inside = tt;
-      reads = record {
-        economy = omega (arith, i.given, t.reads.economy);
-        least = tt;
-        last = tt;
-      };
-      calls = omega (arith, i.calls, t.calls, i.lays.given, t.lays.given);
-      turns = omega (arith, i.turns, t.turns, i.lays.given, t.lays.given);
+      calls = omega (arith, i.calls, c.step.ensures.calls, i.lays.given, t.lays.given);
+      turns = omega (arith, i.turns, c.step.ensures.turns, i.lays.given, t.lays.given);
     }

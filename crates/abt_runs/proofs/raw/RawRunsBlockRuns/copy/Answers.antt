@@ -1,4 +1,4 @@
-use Rattle.std.proofs.Common.{◌<◌, ◌^◌, mul-le-mul_right, arith, ◌∙◌, sym, ap, ◌≡◌, ◌≤◌, ◌*◌, ◌+◌, ℕ, length, take, drop, replicate, ◌++◌, ◌-◌}
+use Rattle.std.proofs.Common.{arith, ◌∙◌, sym, ap, ◌≡◌, ◌≤◌, ◌*◌, ◌+◌, ℕ, length, take, drop, replicate, ◌++◌, ◌-◌}
 use Rattle.std.proofs.lemmas.List.{take-append-le, length-take-le}
 use Rattle.std.proofs.Math.Seq.{take-append_seam}
 use Rattle.abt_sparse.specs.Block.{block_count}
@@ -20,11 +20,21 @@ returns-then-pos-self-clause-bytes g c tells q within raws le =
     let few : length (take n c.args.out.now) ≡ n = length-take-le n c.args.out.now (omega arith) in
     let long : length out ≡ n = c.fill.ensures.len ∙ few in
     let test = c.if-pos-self.true in
-    let inside : (s.blocks - c.args.here.block) * s.size + c.args.here.block * s.size ≡ s.blocks * s.size = omega (arith, c.requires.within.within, distributes (s.blocks - c.args.here.block) c.args.here.block s.size, ap (λ (k : ℕ). k * s.size) (let z : s.blocks - c.args.here.block + c.args.here.block ≡ s.blocks = omega (arith, c.requires.within.within) in z)) in
+    let inside : (s.blocks - c.args.here.block) * s.size + c.args.here.block * s.size ≡ s.blocks * s.size = omega (
+      arith,
+      c.requires.within.within,
+      distributes (s.blocks - c.args.here.block) c.args.here.block s.size,
+      ap
+          (λ (k : ℕ). k * s.size) (let z : s.blocks - c.args.here.block + c.args.here.block ≡ s.blocks = omega
+          (arith, c.requires.within.within) in z),
+    ) in
     let room = c.requires.room in
-    ap (λ (k : ℕ). take k (out ++ drop n c.args.out.now)) (sym long) ∙ take-append_seam out (drop n c.args.out.now) ∙ zeros ∙ ap (λ (k : ℕ). replicate k 0) few
-    ∙ sym (raw_copied s.size c.args.here.block q n c.args.at s.blocks x count (let z : c.args.here.block + q ≤ s.blocks = omega (arith, within, c.requires.within.within) in z) raws le
-    ∙ filled_behind x n (c.args.here.block * s.size + c.args.at) (s.size * block_count s.size x) (omega arith) (omega (arith, total, inside, room, less)))
+    ap (λ (k : ℕ). take k (out ++ drop n c.args.out.now)) (sym long) ∙ take-append_seam out (drop n c.args.out.now) ∙
+    zeros ∙ ap (λ (k : ℕ). replicate k 0) few
+    ∙ sym (raw_copied s.size c.args.here.block q n c.args.at s.blocks x count
+    (let z : c.args.here.block + q ≤ s.blocks = omega (arith, within, c.requires.within.within) in z) raws le
+    ∙ filled_behind x n (c.args.here.block * s.size + c.args.at) (s.size * block_count s.size x) (omega arith)
+    (omega (arith, total, inside, room, less)))
   where
     distributes : (a b c : ℕ) → (a + b) * c ≡ a * c + b * c
     distributes a b c = omega arith
@@ -35,24 +45,11 @@ returns-else-n-eq0-clause-bytes g c tells q within raws le =
     let x = g.S.Source.content c.args.source.now in
     let e = (c.requires.told tells).0 in
     let count = raw_count s.length s.blocks s.size x s.some s.covers s.last e in
-    let r = c.in-Ok.ensures in
+    let r = c.in-Ok.ensures.has_read in
     let test = c.if-pos-self.false in
     let n = c.in-Ok.n in
     take-append-le n c.read_at.new.out _ r.within ∙ r.bytes tells
-    ∙ sym (raw_copied s.size c.args.here.block q n c.args.at s.blocks x count (let z : c.args.here.block + q ≤ s.blocks = omega (arith, within, c.requires.within.within) in z) raws le
-    ∙ filled_within x n (c.args.here.block * s.size + c.args.at) (s.size * block_count s.size x) (omega (arith, e, r.present tells)))
-
--- all blocks have fewer bytes than 2 ^ 48
-of_blocks : (n blocks size : ℕ) → n ≤ blocks → blocks < 2 ^ 32 → size ≤ 65536 → n * size ≤ 2 ^ 48
-of_blocks n blocks size le few small = let m : n * size ≤ 4294967296 * size = mul-le-mul_right size (let z : n ≤ 4294967296 = omega (arith, le, few) in z) in omega (arith, m, small)
-
-pub overflow_mul-pos : goal.overflow_mul-pos
-overflow_mul-pos g c =
-    let s = c.args.self.now in
-    omega (arith, of_blocks c.args.here.block s.blocks s.size c.requires.within.within s.fits s.window)
-
-pub overflow_add-pos : goal.overflow_add-pos
-overflow_add-pos g c =
-    let s = c.args.self.now in
-    let behind = of_blocks (s.blocks - c.args.here.block) s.blocks s.size (let z : s.blocks - c.args.here.block ≤ s.blocks = omega arith in z) s.fits s.window in
-    omega (arith, of_blocks c.args.here.block s.blocks s.size c.requires.within.within s.fits s.window, behind, c.requires.room)
+    ∙ sym (raw_copied s.size c.args.here.block q n c.args.at s.blocks x count
+    (let z : c.args.here.block + q ≤ s.blocks = omega (arith, within, c.requires.within.within) in z) raws le
+    ∙ filled_within x n (c.args.here.block * s.size + c.args.at) (s.size * block_count s.size x)
+    (omega (arith, e, r.present tells)))
