@@ -5,7 +5,7 @@ use Rattle.abt_sparse.specs.declared.kind.ChunkKind.{ChunkKind}
 use Rattle.abt_sparse.specs.Chunk.{Header}
 use Rattle.abt_chunks.specs.ListingAhead.{at_end, is_spent}
 use Rattle.abt_chunks.specs.Pulling.{PullFalls, PullLeaves, PullMoves}
-use Rattle.abt_chunks.specs.Turns.{IsWalkOver, todo}
+use Rattle.abt_chunks.specs.Turns.{todo}
 use Rattle.abt_chunks.specs.declared.feed.Pull.{Pull}
 use Rattle.abt_chunks.specs.declared.feed.Pull.TheVariants as pulls
 use Rattle.abt_chunks.specs.declared.feed.Puller.{Puller}
@@ -153,18 +153,3 @@ moved (pulls.Gives (parts.Fault y)) o s s' p p' used n u is e f m near = record 
 }
 
 -- ---- an image that has ended
-
-pub done_is_over : (q : Phase) → phase_number q ≡ 2 → IsWalkOver q
-done_is_over phases.Header e = absurd (omega (arith, e))
-done_is_over phases.Body e = absurd (omega (arith, e))
-done_is_over phases.Done e = tt
-done_is_over (phases.Failed f) e = absurd (omega (arith, e))
-
-pub ends_again : (q : Pull) (o : AbtPart) (p : Puller) → phase_number p.walk.phase ≡ 2 → (q ≡ pulls.Need → ⊥) → PullLeaves q p → PartIs q o → o.kind ≡ 5
-ends_again pulls.Need o p d given l is = absurd (given refl)
-ends_again (pulls.Gives (parts.Raw k)) o p d given l is = let z : 1 ≡ 2 = ap phase_number (sym l) ∙ d in absurd (omega (arith, z))
-ends_again (pulls.Gives (parts.Words word k)) o p d given l is = let z : 1 ≡ 2 = ap phase_number (sym l) ∙ d in absurd (omega (arith, z))
-ends_again (pulls.Gives (parts.Skip k)) o p d given l is = let z : 1 ≡ 2 = ap phase_number (sym l) ∙ d in absurd (omega (arith, z))
-ends_again (pulls.Gives parts.Nothing) o p d given l is = let z : 1 ≡ 2 = ap phase_number (sym l) ∙ d in absurd (omega (arith, z))
-ends_again (pulls.Gives parts.End) o p d given l is = is.0
-ends_again (pulls.Gives (parts.Fault f)) o p d given l is = let z : 3 ≡ 2 = ap phase_number (sym l) ∙ d in absurd (omega (arith, z))

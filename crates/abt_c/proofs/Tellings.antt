@@ -11,7 +11,7 @@ use Rattle.abt_chunks.specs.declared.feed.Pull.TheVariants as pulls
 use Rattle.abt_c.specs.declared.state.AbtPart.{AbtPart}
 use Rattle.abt_c.specs.declared.state.AbtSparse.{AbtSparse}
 use Rattle.abt_chunks.specs.declared.feed.Puller.{Puller}
-use Rattle.abt_c.specs.Standing.{CanKeep, StandsWhole, kept_detail, kept_fault, phase_number}
+use Rattle.abt_c.specs.Standing.{StandsWhole, kept_detail, kept_fault, phase_number}
 use Rattle.abt_c.specs.Telling.{PartIs}
 
 pub number_low : (f : SparseFault) → number_of f ≤ 12
@@ -54,12 +54,6 @@ not_spoiled (pulls.Gives (parts.Fault f)) o is e = absurd (omega (arith, is.1, e
 
 -- ---- states that were left
 
-pub phase_most : (q : Phase) → phase_number q ≤ 3
-phase_most phases.Header = omega arith
-phase_most phases.Body = omega arith
-phase_most phases.Done = omega arith
-phase_most (phases.Failed f) = omega arith
-
 live_in : (q : Phase) (n d : ℕ) → phase_number q < 3 → n ≡ kept_fault q → d ≡ kept_detail q → (n ≡ 0) × (d ≡ 0)
 live_in phases.Header n d lt e g = (e, g)
 live_in phases.Body n d lt e g = (e, g)
@@ -79,12 +73,3 @@ kept s p k lt = kept_in p.walk.phase s.fault (let e = k.stands.phase in omega (a
 -- one that has not keeps none
 pub live : (s : AbtSparse) (p : Puller) → StandsWhole s p → s.phase < 3 → (s.fault ≡ 0) × (s.detail ≡ 0)
 live s p k lt = live_in p.walk.phase s.fault s.detail (let e = k.stands.phase in omega (arith, e, lt)) k.fault k.detail
-
-pub can_keep : (s : AbtSparse) (p : Puller) → StandsWhole s p → CanKeep s.phase s.fault s.detail
-can_keep s p k = record {
-  most = let e = k.stands.phase in omega (arith, e, phase_most p.walk.phase);
-  live = live s p k;
-  failed = λ e. kept s p k (omega (arith, e));
-  own = k.own;
-  bits = k.bits;
-}

@@ -1,5 +1,6 @@
 -- The numbers of a reader, as C keeps them, and the machine whose numbers they are.
-use Rattle.std.specs.Prelude.{◌≡◌, ℕ, ◌+◌, ◌-◌, ◌*◌, ◌^◌, ◌<◌, ◌≤◌, ◌++◌, List, [], take, length, Option, Some, None}
+use Rattle.std.specs.Prelude.{◌≡◌, ℕ, ◌+◌, ◌-◌, ◌*◌, ◌^◌, ◌<◌, ◌≤◌, ◌↔◌, ◌++◌, List, [], take, length, Option, Some}
+use Rattle.std.specs.Prelude.{None}
 use Rattle.std.specs.Prelude.{Ok, Bool, if◌then◌else◌, ◌==◌, nat_lt}
 use Rattle.abt_sparse.specs.declared.kind.ChunkKind.{ChunkKind}
 use Rattle.abt_sparse.specs.declared.kind.ChunkKind.TheVariants as kinds
@@ -18,7 +19,7 @@ use Rattle.abt_chunks.specs.declared.feed.Puller.{Puller}
 use Rattle.abt_c.specs.declared.state.AbtPart.{AbtPart}
 use Rattle.abt_c.specs.declared.state.AbtSize.{AbtSize}
 use Rattle.abt_c.specs.declared.state.AbtSparse.{AbtSparse}
-use Rattle.abt_c.specs.Telling.{PartIs, detail_of}
+use Rattle.abt_c.specs.Telling.{IsBare, PartIs, detail_of}
 
 abbrev pub phase_number : Phase → ℕ
 phase_number phases.Header = 0
@@ -156,3 +157,21 @@ pub record Ended (o : AbtPart) (s s' : AbtSparse) : Type 0 where
   pub part : Part
   pub is : PartIs (pulls.Gives part) o
   pub says : StateSays (pulls.Gives part) s s' [] []
+
+-- What a call that takes a state answers beside its part: the number of its fault, which only a part of kind 6 has. A
+-- state that the calls left is taken and left so; each other one is answered with 90, and left as it is. After a fault
+-- that is answered again.
+pub record Answered (n : ℕ) (o : AbtPart) (s s' : AbtSparse) : Type 0 where
+  pub fault : n ≡ o.fault
+  pub kind : (o.kind ≡ 6) ↔ (0 < o.fault)
+  pub place : s.phase < 3 → (o.fault ≡ 90 → ⊥) → o.position ≡ state_place s
+  pub left : (IsLeft s ↔ (o.fault ≡ 90 → ⊥)) × (IsLeft s → IsLeft s')
+  pub spoiled : o.fault ≡ 90 → s' ≡ s
+  pub bare : o.fault ≡ 90 → IsBare o × (o.detail ≡ 0)
+  pub again : 3 ≤ s.phase → (s' ≡ s) × IsBare o
+  pub same : IsLeft s → 3 ≤ s.phase → (o.fault ≡ s.fault) × (o.detail ≡ s.detail)
+
+-- the fault that a state keeps, and 90 for one that no call left
+pub record KeptFault (n : ℕ) (s : AbtSparse) : Type 0 where
+  pub fault : IsLeft s → n ≡ s.fault
+  pub left : IsLeft s ↔ (n ≡ 90 → ⊥)

@@ -1,7 +1,7 @@
 //! A sparse image, read by a program that has it in pieces.
 
 ghost use Rattle.std.specs.Prelude.{◌≡◌, ◌≤◌, ◌<◌, ◌+◌, ◌*◌, ◌↔◌, take, length};
-ghost use Rattle.abt_c.specs.Standing.{Ended, IsLeft, Told, no_size, state_place};
+ghost use Rattle.abt_c.specs.Standing.{Answered, Ended, IsLeft, KeptFault, Told, no_size};
 ghost use Rattle.abt_c.specs.Moving.{Moves, Nears};
 ghost use Rattle.abt_c.specs.Telling.{IsBare};
 
@@ -13,8 +13,6 @@ use abt_chunks::{Pull, Puller};
 /// What is answered in a state that has failed: its fault once more, where these calls left it so.
 fn again(state: &AbtSparse) -> AbtPart
     ensures bare { IsBare result }
-    ensures kind { result.kind ≡ 6 }
-    ensures used { result.used ≡ 0 }
     ensures some { 3 ≤ state.now.phase → 0 < result.fault }
     ensures spoiled { result.fault ≡ 90 → result.detail ≡ 0 }
     ensures left { IsLeft state.now ↔ (result.fault ≡ 90 → ⊥) }
@@ -28,8 +26,7 @@ fn again(state: &AbtSparse) -> AbtPart
 
 /// The fault that a state keeps, or that of a state that no call left. 0 where it is good to go on.
 pub fn fault_of(state: &AbtSparse) -> u32
-    ensures kept { IsLeft state.now → result ≡ state.now.fault }
-    ensures left { IsLeft state.now ↔ (result ≡ 90 → ⊥) }
+    ensures { KeptFault result state.now }
 {
     match puller_in(state) {
         None => STATE,
@@ -51,8 +48,9 @@ pub extern "C" fn abt_sparse_init(state: &mut AbtSparse)
 /// number of the fault.
 #[unsafe(no_mangle)]
 pub extern "C" fn abt_sparse_next(state: &mut AbtSparse, input: &[u8], out: &mut AbtPart) -> u32
-    ensures fault { result ≡ out.new.fault }
-    ensures kind { (out.new.kind ≡ 6) ↔ (0 < out.new.fault) }
+    // A state that these calls left is taken and left so; each other one is answered with 90, and left as it is.
+    // After a fault it answers that again.
+    ensures answers { Answered result out.new state.old state.new }
     ensures used { out.new.used ≤ length input.now }
     // More input is asked for only where all of this one was used.
     ensures needs { out.new.kind ≡ 0 → out.new.used ≡ length input.now }
@@ -64,17 +62,9 @@ pub extern "C" fn abt_sparse_next(state: &mut AbtSparse, input: &[u8], out: &mut
         Moves out.new state.old state.new (length input.now) }
     ensures lent { out.new.kind ≡ 1 → out.new.offset + out.new.length ≤ out.new.used }
     ensures offset { (out.new.kind ≡ 1 → ⊥) → out.new.offset ≡ 0 }
-    ensures place { state.old.phase < 3 → (out.new.fault ≡ 90 → ⊥) → out.new.position ≡ state_place state.old }
-    // A state that these calls left is taken and left so; each other one is answered with 90, and left as it is.
-    ensures left { (IsLeft state.old ↔ (out.new.fault ≡ 90 → ⊥)) × (IsLeft state.old → IsLeft state.new) }
-    ensures spoiled { out.new.fault ≡ 90 → state.new ≡ state.old }
-    ensures bare { out.new.fault ≡ 90 → IsBare out.new × (out.new.detail ≡ 0) }
-    // After the end it answers that again, and after a fault that.
+    // After the end it answers that again.
     ensures ended { state.old.phase ≡ 2 → (out.new.fault ≡ 90 → ⊥) →
         (out.new.kind ≡ 5) × (out.new.used ≡ 0) × (state.new.phase ≡ 2) }
-    ensures again { 3 ≤ state.old.phase → (state.new ≡ state.old) × IsBare out.new }
-    ensures same { IsLeft state.old → 3 ≤ state.old.phase → (out.new.fault ≡ state.old.fault) ×
-        (out.new.detail ≡ state.old.detail) }
 {
     if state.phase >= 3 {
         *out = again(state);
@@ -99,21 +89,13 @@ pub extern "C" fn abt_sparse_next(state: &mut AbtSparse, input: &[u8], out: &mut
 /// fault 10.
 #[unsafe(no_mangle)]
 pub extern "C" fn abt_sparse_last(state: &mut AbtSparse, out: &mut AbtPart) -> u32
-    ensures fault { result ≡ out.new.fault }
-    ensures kind { (out.new.kind ≡ 6) ↔ (0 < out.new.fault) }
+    ensures answers { Answered result out.new state.old state.new }
     ensures used { out.new.used ≡ 0 }
     ensures told { state.old.phase < 3 → (out.new.fault ≡ 90 → ⊥) → Ended out.new state.old state.new }
-    ensures place { state.old.phase < 3 → (out.new.fault ≡ 90 → ⊥) → out.new.position ≡ state_place state.old }
     // Behind each answer but the end and a fault less is left to do; these two are kept, and answered again.
     ensures nears { state.old.phase < 3 → (out.new.fault ≡ 90 → ⊥) → Nears out.new state.old state.new }
     ensures ended { state.old.phase ≡ 2 → (out.new.fault ≡ 90 → ⊥) → out.new.kind ≡ 5 }
-    ensures left { (IsLeft state.old ↔ (out.new.fault ≡ 90 → ⊥)) × (IsLeft state.old → IsLeft state.new) }
     ensures offset { out.new.offset ≡ 0 }
-    ensures spoiled { out.new.fault ≡ 90 → state.new ≡ state.old }
-    ensures bare { out.new.fault ≡ 90 → IsBare out.new × (out.new.detail ≡ 0) }
-    ensures again { 3 ≤ state.old.phase → (state.new ≡ state.old) × IsBare out.new }
-    ensures same { IsLeft state.old → 3 ≤ state.old.phase → (out.new.fault ≡ state.old.fault) ×
-        (out.new.detail ≡ state.old.detail) }
 {
     if state.phase >= 3 {
         *out = again(state);
@@ -138,14 +120,13 @@ pub extern "C" fn abt_sparse_last(state: &mut AbtSparse, out: &mut AbtPart) -> u
 /// that the state keeps.
 #[unsafe(no_mangle)]
 pub extern "C" fn abt_sparse_size(state: &AbtSparse, out: &mut AbtSize) -> u32
-    ensures fault { IsLeft state.now → result ≡ state.now.fault }
+    ensures kept { KeptFault result state.now }
     ensures refused { (result ≡ 0 → ⊥) → out.new ≡ no_size }
     ensures unread { state.now.phase ≡ 0 → out.new ≡ no_size }
     ensures block_size { 0 < state.now.phase → result ≡ 0 → out.new.block_size ≡ state.now.blk_sz }
     ensures blocks { 0 < state.now.phase → result ≡ 0 → out.new.blocks ≡ state.now.total_blks }
     ensures chunks { 0 < state.now.phase → result ≡ 0 → out.new.chunks ≡ state.now.total_chunks }
     ensures bytes { 0 < state.now.phase → result ≡ 0 → out.new.bytes ≡ state.now.total_blks * state.now.blk_sz }
-    ensures left { IsLeft state.now ↔ (result ≡ 90 → ⊥) }
 {
     *out = AbtSize {
         bytes: 0,

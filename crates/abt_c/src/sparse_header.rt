@@ -1,8 +1,8 @@
 //! What the headers of a sparse image say, as far as they have been read.
 
-ghost use Rattle.std.specs.Prelude.{◌≡◌, ◌<◌, ◌↔◌};
+ghost use Rattle.std.specs.Prelude.{◌≡◌, ◌<◌};
 ghost use Rattle.abt_sparse.specs.Reading.{kind_at};
-ghost use Rattle.abt_c.specs.Standing.{IsLeft, kind_or};
+ghost use Rattle.abt_c.specs.Standing.{KeptFault, kind_or};
 ghost use Rattle.abt_c.specs.Headers.{chunk_kind, chunk_told, header_told, no_chunk, no_header};
 
 use crate::sparse::fault_of;
@@ -60,11 +60,10 @@ fn number_of(code: u16) -> u32
 /// that the state keeps.
 #[unsafe(no_mangle)]
 pub extern "C" fn abt_sparse_header(state: &AbtSparse, out: &mut AbtHeader) -> u32
-    ensures fault { IsLeft state.now → result ≡ state.now.fault }
+    ensures kept { KeptFault result state.now }
     ensures refused { (result ≡ 0 → ⊥) → out.new ≡ no_header }
     ensures unread { state.now.phase ≡ 0 → out.new ≡ no_header }
     ensures told { 0 < state.now.phase → result ≡ 0 → out.new ≡ header_told state.now }
-    ensures left { IsLeft state.now ↔ (result ≡ 90 → ⊥) }
 {
     *out = AbtHeader {
         major: 0,
@@ -90,11 +89,10 @@ pub extern "C" fn abt_sparse_header(state: &AbtSparse, out: &mut AbtHeader) -> u
 /// state keeps.
 #[unsafe(no_mangle)]
 pub extern "C" fn abt_sparse_chunk(state: &AbtSparse, out: &mut AbtChunk) -> u32
-    ensures fault { IsLeft state.now → result ≡ state.now.fault }
+    ensures kept { KeptFault result state.now }
     ensures refused { (result ≡ 0 → ⊥) → out.new ≡ no_chunk }
     ensures unread { state.now.index ≡ 0 → out.new ≡ no_chunk }
     ensures told { 0 < state.now.index → result ≡ 0 → out.new ≡ chunk_told state.now }
-    ensures left { IsLeft state.now ↔ (result ≡ 90 → ⊥) }
 {
     *out = AbtChunk {
         left: 0,

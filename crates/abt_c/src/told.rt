@@ -51,9 +51,6 @@ pub fn detail(fault: SparseFault) -> u64
 /// A fault and nothing else.
 pub fn refused(fault: u32, detail: u64) -> AbtPart
     ensures bare { IsBare result }
-    ensures used { result.used ≡ 0 }
-    ensures offset { result.offset ≡ 0 }
-    ensures kind { result.kind ≡ 6 }
     ensures fault { result.fault ≡ fault }
     ensures detail { result.detail ≡ detail }
 {

@@ -13,6 +13,7 @@ pub mod Staying
 pub mod PieceFlash
 pub mod Onward
 pub mod Summing
+pub mod Wholly
 pub mod Refusing
 pub mod Records
 pub mod Still

@@ -18,8 +18,6 @@ use Rattle.abt_flash.proofs.Ways.{ends_none, no_part_none}
 use Rattle.abt_flash.specs.Delivering.{AlwaysMendable, Begins, DeliveryCosts, CountsTo, EndsWhole, GaveNoPart, GivesPieces, HasBegun, ImageBlocks, IsLeast, LaysBlocks, LeavesMendable, MendsBlocks, OnEarly, OnStop, OnUnsyncedPiece, RefusedDelivery, Room, StaysMendable, begun, blocks_behind, blocks_in_first, blocks_up_to, finished, pieces_behind, pieces_in, with_cuts}
 use Rattle.abt_flash.specs.Going.{PlanRefused, StopsIn}
 use Rattle.abt_flash.specs.declared.answer.Delivered.{Delivered}
-use Rattle.abt_flash.specs.declared.fault.Cause.{Cause}
-use Rattle.abt_flash.specs.declared.fault.Cause.TheVariants as causes
 use Rattle.abt_flash.specs.declared.fault.FlashFault.{FlashFault}
 use Rattle.abt_flash.specs.declared.fault.FlashFault.TheVariants.{Sparse, Read, Write, TooLarge, SourceChanged, BadBlock, LimitTooSmall, PartitionTooSmall, Sync, Stopped, NoSuchPiece}
 use Rattle.abt_flash.proofs.Spooled.{fits_none}
@@ -197,6 +195,13 @@ opening_counts (cuts.Write d) made k = tt
 opening_counts cuts.SourceChanged made k = tt
 opening_counts cuts.TooLarge made k = tt
 opening_counts (cuts.BadBlock n) made k = tt
+
+pub run_counts : (f : RunFault) (made k : ℕ) → CountsTo (Err (run_fault_of f)) made k
+run_counts (of_runs.Sparse f) made k = tt
+run_counts (of_runs.Read d) made k = tt
+run_counts of_runs.TooLarge made k = tt
+run_counts of_runs.SourceChanged made k = tt
+run_counts (of_runs.BadBlock n) made k = tt
 
 -- what holds at any refusal holds at an early one
 pub early_holds : (e : FlashFault) (P : Type 0) → P → OnEarly (Err e) P

@@ -1,19 +1,27 @@
 -- What delivering an image piece by piece promises: of the spool, of the partition, and of every moment on the way.
 use Rattle.std.specs.Prelude.{◌≡◌, ℕ, ◌+◌, ◌-◌, ◌*◌, ◌≤◌, ◌<◌, List, [], ◌∷◌, ◌++◌, length, take, drop, replicate, max}
-use Rattle.std.specs.Prelude.{Bool, false, IsTrue, Result, Ok, Err, OnOk, IfOk, ◌⊎◌}
+use Rattle.std.specs.Prelude.{Bool, false, IsTrue, Result, Ok, Err, OnOk, IfOk, IfErr, ◌⊎◌}
 use Rattle.std.specs.List.{concat}
 use Rattle.abt_io.specs.Frame.{last_cut}
 use Rattle.abt_io.specs.declared.device.DeviceFault.TheVariants.{Failed}
+use Rattle.abt_io.specs.declared.device.Source as sources
+use Rattle.abt_io.specs.declared.device.Input as inputs
+use Rattle.abt_io.specs.declared.device.Output as outputs
+use Rattle.abt_io.specs.declared.device.Spool as spools
+use Rattle.abt_io.specs.declared.device.Partition as partitions
 use Rattle.abt_io.specs.declared.meter.Meter.{Meter}
+use Rattle.abt_io.specs.Lent.{OnlyReads}
 use Rattle.abt_io.specs.Moment.{Moment, Past, MayLeave, EachSince, moment_of}
 use Rattle.abt_sparse.specs.Block.{Block, Skip, cells, over}
 use Rattle.abt_sparse.specs.Runs.{segments, joined, Division}
 use Rattle.abt_sparse.specs.Pieces.{pieces}
 use Rattle.abt_sparse.specs.Mending.{Mendable}
+use Rattle.abt_runs.specs.declared.runs.BlockRuns as images
 use Rattle.abt_pieces.specs.Contents.{written_in}
 use Rattle.abt_pieces.specs.Image.{IsPlainImage}
 use Rattle.abt_placed.specs.Unfinished.{IsNoImage}
-use Rattle.abt_flash.specs.Devices.{Counts, PartitionState, SpoolState, all_bytes, all_calls}
+use Rattle.abt_flash.specs.Devices.{Counts, PartitionState, SpoolState, all_bytes, all_calls, counts, partition_state}
+use Rattle.abt_flash.specs.Devices.{spool_state}
 use Rattle.abt_flash.specs.Fault.{refused_syncs}
 use Rattle.abt_flash.specs.declared.fault.Cause.{Cause}
 use Rattle.abt_flash.specs.declared.fault.Cause.TheVariants as causes
@@ -315,3 +323,37 @@ pub record DeliveryCosts (source : Bool) (i : ImageBlocks) (limit words each mad
   pub steps : new.given + new.spool_given + 65580 * m.steps.number
       ≤ old.given + old.spool_given + 65580 * m'.steps.number
   pub greatest : m'.greatest.number ≤ max m.greatest.number 65580
+
+-- ---- all of it
+
+-- What delivering an image behind its first pieces, `made`, does, whatever it answers.
+pub record HasDelivered {A B C : Type 0} (forward : Bool) (i : ImageBlocks) (limit made words each : ℕ)
+    (s : sources.Ghosts A) (f : inputs.Ghosts B) (o : outputs.Ghosts B) (l : spools.Ghosts B) (q : sources.Ghosts C)
+    (p : partitions.Ghosts C) (r : Result Delivered FlashFault) (a a' : A) (b b' : B) (c c' : C) (m m' : Meter)
+    : Type 0 where
+  -- what is answered
+  pub delivers : Delivers s.tells i limit made ((b' ≡ b) × (c' ≡ c)) r (counts s f o l p a b c)
+      (counts s f o l p a' b' c')
+  -- what it wrote
+  pub spool : GivesPieces forward s.tells f.tells i limit made r (spool_state f o l b) (spool_state f o l b')
+  pub partition : LaysBlocks s.tells f.tells q.tells i limit made r (partition_state q p c) (partition_state q p c')
+  -- what stays
+  pub mends : IsTrue s.tells → IsTrue f.tells → IsTrue q.tells
+      → MendsBlocks i limit made r (partition_state q p c) (partition_state q p c')
+  pub mendable : IsTrue s.tells → IsTrue f.tells → IsTrue q.tells → made ≡ 0 → (p.past c).pending ≡ []
+      → AlwaysMendable i limit (partition_state q p c) (partition_state q p c')
+  pub source : OnlyReads r s a a'
+  -- what it cost
+  pub costs : DeliveryCosts s.tells i limit words each made r (counts s f o l p a b c) (counts s f o l p a' b' c') m m'
+
+-- What delivering an opened image does, behind its first pieces.
+pub record OpenDelivered {R A B C : Type 0} (g : images.Ghosts R) (runs : R) (forward : Bool) (limit made : ℕ)
+    (s : sources.Ghosts A) (f : inputs.Ghosts B) (o : outputs.Ghosts B) (l : spools.Ghosts B) (q : sources.Ghosts C)
+    (p : partitions.Ghosts C) (r : Result Delivered FlashFault) (a a' : A) (b b' : B) (c c' : C) (m m' : Meter)
+    : Type 0 where
+  pub granted : OnOk r (Room limit (g.size runs) (g.count runs) (q.size c))
+  pub refused : IfErr r (λ e. RefusedDelivery e limit (g.size runs) (g.count runs) (q.size c) made s.tells f.tells
+      (counts s f o l p a b c) (counts s f o l p a' b' c'))
+  pub image : HasDelivered forward (record { size = g.size runs; blocks = g.list runs (s.content a) }) limit made
+      (g.one runs) 400 s f o l q p r a a' b b' c c' m m'
+  pub long : IfOk r (λ d. length (o.written b') ≤ length (o.written b) + g.most_taken runs + 80 * d.pieces)

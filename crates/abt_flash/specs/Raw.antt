@@ -1,9 +1,17 @@
 -- Delivering a raw image.
 use Rattle.std.specs.Prelude.{◌≡◌, ℕ, ◌+◌, ◌-◌, ◌*◌, ◌%◌, ◌^◌, ◌≤◌, ◌<◌, Bool, false, IsTrue, List, length}
+use Rattle.std.specs.Prelude.{Result, OnOk, IfOk, IfErr}
 use Rattle.abt_sparse.specs.Block.{classify}
 use Rattle.abt_io.specs.declared.device.DeviceFault.TheVariants.{Failed}
-use Rattle.abt_flash.specs.Devices.{Counts}
-use Rattle.abt_flash.specs.Delivering.{ImageBlocks, Room, StopsFor}
+use Rattle.abt_io.specs.declared.device.Source as sources
+use Rattle.abt_io.specs.declared.device.Input as inputs
+use Rattle.abt_io.specs.declared.device.Output as outputs
+use Rattle.abt_io.specs.declared.device.Spool as spools
+use Rattle.abt_io.specs.declared.device.Partition as partitions
+use Rattle.abt_io.specs.declared.meter.Meter.{Meter}
+use Rattle.abt_flash.specs.Devices.{Counts, counts}
+use Rattle.abt_flash.specs.Delivering.{HasDelivered, ImageBlocks, Room, StopsFor}
+use Rattle.abt_flash.specs.declared.answer.Delivered.{Delivered}
 use Rattle.abt_flash.specs.declared.fault.FlashFault.{FlashFault}
 use Rattle.abt_flash.specs.declared.fault.FlashFault.TheVariants.{Sparse, Read, Write, TooLarge, SourceChanged}
 use Rattle.abt_flash.specs.declared.fault.FlashFault.TheVariants.{BadBlock, LimitTooSmall, PartitionTooSmall, Sync}
@@ -48,7 +56,8 @@ RawRefused (PartitionTooSmall need) b x long limit size made source spool a z =
     × ((n : ℕ) × IsFilled n b long × (need ≡ n * b)) × (IsTrue source → need ≡ length (classify b x) * b)
 RawRefused (Read d) b x long limit size made source spool a z =
     IsAllowed b x long limit size source × (a.read_faults < z.read_faults) × (d ≡ Failed)
-RawRefused SourceChanged b x long limit size made source spool a z = IsAllowed b x long limit size source × (source ≡ false)
+RawRefused SourceChanged b x long limit size made source spool a z =
+    IsAllowed b x long limit size source × (source ≡ false)
 RawRefused (NoSuchPiece k) b x long limit size made source spool a z =
     IsAllowed b x long limit size source × (0 < k) × (k ≤ made)
 RawRefused (Stopped j c) b x long limit size made source spool a z =
@@ -56,3 +65,15 @@ RawRefused (Stopped j c) b x long limit size made source spool a z =
 RawRefused (Sparse f) b x long limit size made source spool a z = ⊥
 RawRefused (Write d) b x long limit size made source spool a z = ⊥
 RawRefused (Sync d) b x long limit size made source spool a z = ⊥
+
+-- What delivering the raw image that a source holds does, in blocks of n bytes, behind its first pieces.
+pub record RawDelivered {A B C : Type 0} (forward : Bool) (n limit made : ℕ)
+    (s : sources.Ghosts A) (f : inputs.Ghosts B) (o : outputs.Ghosts B) (l : spools.Ghosts B) (q : sources.Ghosts C)
+    (p : partitions.Ghosts C) (r : Result Delivered FlashFault) (a a' : A) (b b' : B) (c c' : C) (m m' : Meter)
+    : Type 0 where
+  pub allowed : OnOk r (IsAllowed n (s.content a) (s.size a) limit (q.size c) s.tells)
+  pub refused : IfErr r (λ e. RawRefused e n (s.content a) (s.size a) limit (q.size c) made s.tells f.tells
+      (counts s f o l p a b c) (counts s f o l p a' b' c'))
+  pub image : HasDelivered forward (raw_image n (s.content a)) limit made n 512 s f o l q p r a a' b b' c c' m m'
+  pub long : IsTrue s.tells → IfOk r (λ d. length (o.written b')
+      ≤ length (o.written b) + length (classify n (s.content a)) * (n + 16) + 80 * d.pieces)

@@ -1,11 +1,19 @@
 -- Delivering the sparse image at the front of a source, in the words of reading it.
-use Rattle.std.specs.Prelude.{◌≡◌, ℕ, ◌+◌, ◌-◌, ◌*◌, ◌≤◌, ◌<◌, Bool, false, IsTrue, List, [], length, Option}
+use Rattle.std.specs.Prelude.{◌≡◌, ℕ, ◌+◌, ◌-◌, ◌*◌, ◌≤◌, ◌<◌, Bool, true, false, IsTrue, List, [], length, Option}
+use Rattle.std.specs.Prelude.{Result, OnOk, IfOk, IfErr}
 use Rattle.abt_sparse.specs.Number.{number_of}
 use Rattle.abt_sparse.specs.Reading.{Outcome, Image, Fault, outcome}
 use Rattle.abt_runs.specs.Sparse.{blocks_in}
 use Rattle.abt_io.specs.declared.device.DeviceFault.TheVariants.{Failed}
-use Rattle.abt_flash.specs.Devices.{Counts}
-use Rattle.abt_flash.specs.Delivering.{ImageBlocks, Room, StopsFor}
+use Rattle.abt_io.specs.declared.device.Source as sources
+use Rattle.abt_io.specs.declared.device.Input as inputs
+use Rattle.abt_io.specs.declared.device.Output as outputs
+use Rattle.abt_io.specs.declared.device.Spool as spools
+use Rattle.abt_io.specs.declared.device.Partition as partitions
+use Rattle.abt_io.specs.declared.meter.Meter.{Meter}
+use Rattle.abt_flash.specs.Devices.{Counts, counts}
+use Rattle.abt_flash.specs.Delivering.{HasDelivered, ImageBlocks, Room, StopsFor}
+use Rattle.abt_flash.specs.declared.answer.Delivered.{Delivered}
 use Rattle.abt_flash.specs.declared.fault.FlashFault.{FlashFault}
 use Rattle.abt_flash.specs.declared.fault.FlashFault.TheVariants.{Sparse, Read, Write, TooLarge, SourceChanged}
 use Rattle.abt_flash.specs.declared.fault.FlashFault.TheVariants.{BadBlock, LimitTooSmall, PartitionTooSmall, Sync}
@@ -58,3 +66,15 @@ SparseRefused (Write d) x limit size made source spool a z = ⊥
 SparseRefused TooLarge x limit size made source spool a z = ⊥
 SparseRefused (BadBlock q) x limit size made source spool a z = ⊥
 SparseRefused (Sync d) x limit size made source spool a z = ⊥
+
+-- What delivering the sparse image at the front of a source does, behind its first pieces.
+pub record SparseDelivered {A B C : Type 0} (limit made : ℕ)
+    (s : sources.Ghosts A) (f : inputs.Ghosts B) (o : outputs.Ghosts B) (l : spools.Ghosts B) (q : sources.Ghosts C)
+    (p : partitions.Ghosts C) (r : Result Delivered FlashFault) (a a' : A) (b b' : B) (c c' : C) (m m' : Meter)
+    : Type 0 where
+  pub granted : IsTrue s.tells → OnOk r (Fits (s.content a) limit (q.size c))
+  pub refused : IfErr r (λ e. SparseRefused e (s.content a) limit (q.size c) made s.tells f.tells
+      (counts s f o l p a b c) (counts s f o l p a' b' c'))
+  pub image : HasDelivered true (sparse_image (s.content a)) limit made 0 512 s f o l q p r a a' b b' c c' m m'
+  pub long : IsTrue s.tells → IfOk r (λ d. length (o.written b')
+      ≤ length (o.written b) + image_length (s.content a) + 80 * d.pieces)

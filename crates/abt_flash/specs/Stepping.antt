@@ -7,8 +7,6 @@ use Rattle.abt_sparse.specs.Block.{over}
 use Rattle.abt_sparse.specs.View.{view}
 use Rattle.abt_chunks.specs.declared.progress.Progress.{Progress}
 use Rattle.abt_chunks.specs.declared.progress.Progress.TheVariants as answers
-use Rattle.abt_chunks.specs.declared.walk.Part.{Part}
-use Rattle.abt_chunks.specs.declared.walk.Part.TheVariants as parts
 use Rattle.abt_chunks.specs.declared.walk.Phase.{Phase}
 use Rattle.abt_chunks.specs.declared.walk.Phase.TheVariants as phases
 use Rattle.abt_chunks.specs.declared.walk.Walk.{Walk}

@@ -1,20 +1,17 @@
 -- A raw image: what stands so far, and the next bytes of it.
-use Rattle.std.proofs.Common.{◌≡◌, ℕ, ◌+◌, ◌<◌, ◌≤◌, Bool, true, false, refl, le-ltb, if◌then◌else◌, List, ◌++◌, length, take, drop, Option, Some, None, Err, sym, ap, subst, ◌∙◌, arith, take-append-drop, ◌==◌, nat_lt, ltb-false, inl, inr}
-use Rattle.std.specs.Prelude.{OnOk, IfNone, IfSome, IsNone, IsTrue}
+use Rattle.std.proofs.Common.{◌≡◌, ℕ, ◌+◌, ◌≤◌, Bool, true, false, refl, if◌then◌else◌, List, ◌++◌, length, take, drop, Option, Some, None, Err, sym, ap, subst, ◌∙◌, arith, take-append-drop, ◌==◌, nat_lt, ltb-false, inl, inr}
+use Rattle.std.specs.Prelude.{OnOk, IfNone, IsNone, IsTrue}
 use Rattle.std.proofs.lemmas.List.{length-map, length-take-le, map-append, take_all}
 use Rattle.std.proofs.lemmas.Bool.{cases_Bool}
 use Rattle.abt_io.specs.declared.device.DeviceFault.{DeviceFault}
-use Rattle.abt_io.specs.declared.device.DeviceFault.TheVariants as devices
 use Rattle.abt_chunks.specs.Places.{from_place}
-use Rattle.abt_verify.specs.Fault.{HasRawCause, PartCause, PieceCause, short_fault}
+use Rattle.abt_verify.specs.Fault.{HasRawCause, short_fault}
 use Rattle.abt_io.proofs.Parts.{take_plus}
 use Rattle.abt_chunks.specs.declared.progress.Progress.{Progress}
 use Rattle.abt_chunks.specs.Ahead.{somes}
 use Rattle.abt_verify.specs.declared.fault.VerifyFault.{VerifyFault}
 use Rattle.abt_verify.specs.declared.fault.VerifyFault.TheVariants as fails
-use Rattle.abt_io.specs.Lent.{OnlyReads}
-use Rattle.abt_io.specs.declared.device.Source as sources
-use Rattle.abt_verify.specs.Comparing.{PartDiffers, answer_to}
+use Rattle.abt_verify.specs.Comparing.{PartDiffers}
 use Rattle.abt_verify.specs.Standing.{FirstDiffers, Stands}
 use Rattle.abt_verify.specs.Stepping.{OnDiffers, passed_by, raw_answer}
 use Rattle.abt_verify.proofs.Said.{first_more, stands_more}
@@ -57,21 +54,6 @@ module _ (p x : List ℕ) (at n : ℕ) (there : at + n ≤ length x) where
   raw_found None before here = no_fault _
   raw_found (Some f) before here = raw_fault f before here
 
-raw_clean : (n : ℕ) (f : Option VerifyFault) (P : Type 0) → OnOk (answer_to f) P → OnOk (raw_answer n f) P
-raw_clean n None P h = elim (cases_Bool (n == 0)) [ inl t ↦ rw t h | inr t ↦ rw t h ]
-raw_clean n (Some f) P h = tt
-
--- what a comparison left of what it read, a step leaves
-pub raw_reads : (n : ℕ) (f : Option VerifyFault) {A : Type 0} {s : sources.Ghosts A} {a z : A}
-    → OnlyReads (answer_to f) s a z → OnlyReads (raw_answer n f) s a z
-raw_reads n f d = record {
-  content = d.content;
-  size = d.size;
-  frame = d.frame;
-  faults = d.faults;
-  clean = raw_clean n f _ d.clean;
-}
-
 -- where nothing is left, all stands
 pub raw_all : (p x : List ℕ) (at n : ℕ) → at ≡ n → n ≡ length x → Stands p (somes (take at x)) → Stands p (somes x)
 raw_all p x at n done whole h = subst (λ (l : List ℕ). Stands p (somes l)) (take_all at x (omega (arith, done, whole))) h
@@ -93,27 +75,6 @@ not_telling false h = refl
 too_few : (b : Bool) (f : VerifyFault) (tells : Bool) (r r' p : ℕ) → (let a : Option VerifyFault = Some f in a ≡ (if b then Some fails.SourceChanged else None)) → (b ≡ true → tells ≡ false) → r' ≡ r → HasRawCause f tells r r' p p
 too_few true f tells r r' p e changed same = subst (λ (g : VerifyFault). HasRawCause g tells r r' p p) (let z : fails.SourceChanged ≡ f = cc in z) (changed refl, same, refl)
 too_few false f tells r r' p e changed same = absurd cc
-
--- why fewer bytes came than were asked for: the source failed, or has changed, and the partition is not read
-pub short_cause : (o : Option DeviceFault) (came wanted : ℕ) (f : VerifyFault) (tells : Bool) (r r' p : ℕ) → (let a : Option VerifyFault = Some f in a ≡ short_fault o came wanted)
-    → IfSome o (λ d. r < r') → IfSome o (λ d. d ≡ devices.Failed) → (IsNone o → r' ≡ r) → (IsTrue tells → IsNone o → wanted ≤ came) → HasRawCause f tells r r' p p
-short_cause (Some d) came wanted f tells r r' p e rose failed clean all = subst (λ (g : VerifyFault). HasRawCause g tells r r' p p) (let z : fails.Read d ≡ f = cc in z) (rose, failed, refl)
-short_cause None came wanted f tells r r' p e rose failed clean all =
-    let changed = λ (t : nat_lt came wanted ≡ true). not_telling tells (λ told. absurd (let z : true ≡ false = sym t ∙ le-ltb _ _ (all told refl) in cc)) in
-    too_few (nat_lt came wanted) f tells r r' p e changed (clean refl)
-
-part_fault : (f : VerifyFault) (tells : Bool) (r r' p p' : ℕ) → r' ≡ r → PartCause (Some f) p p' → HasRawCause f tells r r' p p'
-part_fault (fails.Sparse f) tells r r' p p' e h = absurd h
-part_fault (fails.Read d) tells r r' p p' e h = absurd h
-part_fault (fails.PartitionRead d) tells r r' p p' e h = (h.0, h.1, e)
-part_fault (fails.Differs n) tells r r' p p' e h = (e, h)
-part_fault fails.SourceChanged tells r r' p p' e h = absurd h
-part_fault (fails.BadBlock n) tells r r' p p' e h = absurd h
-
--- where all came, the partition alone is to blame
-pub part_cause : (o : Option VerifyFault) (tells : Bool) (r r' p p' : ℕ) → r' ≡ r → PartCause o p p' → PieceCause o tells r r' p p'
-part_cause None tells r r' p p' e h = (e, h)
-part_cause (Some f) tells r r' p p' e h = part_fault f tells r r' p p' e h
 
 pub none_failed : (o : Option DeviceFault) (came wanted : ℕ) → (let a : Option VerifyFault = None in a ≡ short_fault o came wanted) → IsNone o
 none_failed (Some d) came wanted e = absurd cc

@@ -1,15 +1,10 @@
 -- One step: from a part of the image to what is compared of it.
-use Rattle.std.proofs.Common.{◌≡◌, ℕ, ◌+◌, ◌*◌, ◌^◌, ◌<◌, ◌≤◌, Bool, true, false, List, [], ◌++◌, length, take, replicate, Option, Some, None, Ok, Err, refl, sym, ap, ◌∙◌, arith}
-use Rattle.std.proofs.Math.Nat.{mul-le-mul}
+use Rattle.std.proofs.Common.{◌≡◌, ℕ, ◌+◌, ◌*◌, ◌<◌, ◌≤◌, Bool, true, false, List, [], ◌++◌, length, take, replicate, Option, Some, None, Ok, Err, refl, sym, ap, ◌∙◌, arith}
 use Rattle.std.specs.Prelude.{IsTrue}
 use Rattle.std.specs.List.{concat}
 use Rattle.std.proofs.lemmas.List.{length-map, length-replicate, length-take-le}
 use Rattle.abt_io.proofs.Words.{length_words}
-use Rattle.abt_io.specs.Count.{full_in}
 use Rattle.abt_io.specs.declared.device.DeviceFault.{DeviceFault}
-use Rattle.abt_io.specs.declared.device.DeviceFault.TheVariants as devices
-use Rattle.abt_sparse.specs.Cause.{full_in_fault}
-use Rattle.abt_chunks.specs.Cause.{CleanPart, full_in_part}
 use Rattle.abt_sparse.specs.declared.fault.SparseFault.{SparseFault}
 use Rattle.abt_sparse.specs.declared.fault.SparseFault.TheVariants as faults
 use Rattle.abt_chunks.specs.declared.progress.Progress.{Progress}
@@ -22,40 +17,18 @@ use Rattle.abt_chunks.specs.declared.walk.Part.TheVariants as parts
 use Rattle.abt_chunks.specs.Ahead.{before, somes, stopping}
 use Rattle.abt_chunks.specs.Expanding.{IsGoing, OnMoreExpanding, answer_by, cells_by}
 use Rattle.abt_chunks.specs.Parts.{SaysUnlessDevice, Caused, Moved, Within, ahead, ahead_in, given_by, goes_on, is_fault, PartLeaves}
-use Rattle.abt_chunks.specs.Places.{from_place, place_of, said_by, upto_in, upto_of}
+use Rattle.abt_chunks.specs.Places.{from_place, place_of, said_by}
 use Rattle.abt_verify.specs.declared.fault.VerifyFault.{VerifyFault}
 use Rattle.abt_verify.specs.declared.fault.VerifyFault.TheVariants as fails
 use Rattle.abt_verify.specs.declared.stage.Stage.{Stage}
 use Rattle.abt_verify.specs.declared.stage.Stage.TheVariants as stages
 use Rattle.abt_verify.specs.Comparing.{ReadsNothing, PartDiffers, compared_len}
-use Rattle.abt_verify.specs.Fault.{HasVerifyCause, PartCause, VerifyRises, verify_fault_of}
+use Rattle.abt_verify.specs.Fault.{PartCause, verify_fault_of}
 use Rattle.abt_verify.specs.Standing.{FirstDiffers, Stands}
 use Rattle.abt_verify.specs.Stepping.{Compares, IsComparing, LeavesWalk}
 use Rattle.abt_verify.proofs.Said.{said_nones, said_somes, stands_none}
 
 -- ---- where the blocks end
-
-upto_some : (n b : ℕ) → n < 2 ^ 32 → b < 2 ^ 32 → n * b < 2 ^ 64
-upto_some n b few small =
-    let bound : n * b ≤ 4294967295 * 4294967295 = mul-le-mul (let q : n ≤ 4294967295 = omega arith in q) (let q : b ≤ 4294967295 = omega arith in q) in
-    omega (arith, bound)
-
-upto_small : (ph : Phase) (s : Walk) → s.have < 2 ^ 32 → s.header.blk_sz < 2 ^ 32 → upto_in ph s < 2 ^ 64
-upto_small phases.Header s few small = omega arith
-upto_small phases.Body s few small = upto_some s.have s.header.blk_sz few small
-upto_small phases.Done s few small = upto_some s.have s.header.blk_sz few small
-upto_small (phases.Failed f) s few small = upto_some s.have s.header.blk_sz few small
-
-pub upto_fits : (s : Walk) → s.have < 2 ^ 32 → s.header.blk_sz < 2 ^ 32 → upto_of s < 2 ^ 64
-upto_fits s few small = upto_small s.phase s few small
-
-pub said_le : (q : Part) → compared_len q ≤ given_by q
-said_le (parts.Raw n) = omega arith
-said_le (parts.Words word n) = omega arith
-said_le (parts.Skip n) = omega arith
-said_le parts.Nothing = omega arith
-said_le parts.End = omega arith
-said_le (parts.Fault f) = omega arith
 
 pub going_phase : (st : Stage) (p : Phase) → IsComparing st p → IsGoing p
 going_phase stages.Going p h = h
@@ -103,53 +76,13 @@ some_none f e = cc
 
 -- ---- who is to blame
 
--- where the partition is blamed, no fault of the image or of the input was told
-clean_unless_still : (q : Part) (r r' : ℕ) → CleanPart q r r' → (ReadsNothing q → ⊥) → r' ≡ r
-clean_unless_still (parts.Fault f) r r' h moves = absurd (moves tt)
-clean_unless_still q r r' h moves = h
-
-part_blamed : (f : VerifyFault) (r r' p p' : ℕ) → r' ≡ r → PartCause (Some f) p p' → HasVerifyCause f r r' p p'
-part_blamed (fails.Sparse f) r r' p p' e h = absurd h
-part_blamed (fails.Read d) r r' p p' e h = absurd h
-part_blamed (fails.PartitionRead d) r r' p p' e h = (h.0, h.1, e)
-part_blamed (fails.Differs n) r r' p p' e h = (e, h)
-part_blamed fails.SourceChanged r r' p p' e h = absurd h
-part_blamed (fails.BadBlock n) r r' p p' e h = absurd h
-
-pub partition_blamed : (q : Part) (f : VerifyFault) (r r' p p' : ℕ) → CleanPart q r r' → (ReadsNothing q → ⊥)
-    → PartCause (Some f) p p' → HasVerifyCause f r r' p p'
-partition_blamed q f r r' p p' clean moves h = part_blamed f r r' p p' (clean_unless_still q r r' clean moves) h
-
-pub not_still : (f : VerifyFault) (o : Option VerifyFault) → o ≡ Some f → o ≡ None → ⊥
-not_still f o e none = some_none f (sym e ∙ none)
-
 read_rose : (d : DeviceFault) (ph : Phase) (r r' : ℕ) → IsGoing ph → Caused (parts.Fault (faults.Read d)) ph r r' → r < r'
 read_rose d phases.Header r r' going h = h
 read_rose d phases.Body r r' going h = h
 read_rose d phases.Done r r' going h = absurd going
 read_rose d (phases.Failed f) r r' going h = absurd going
 
-read_failed : (d : DeviceFault) → full_in d ≡ 0 → d ≡ devices.Failed
-read_failed devices.Failed e = refl
-read_failed devices.Full e = absurd (omega (arith, e))
-
-fault_blamed : (f : SparseFault) (ph : Phase) (r r' p p' : ℕ) → IsGoing ph → Caused (parts.Fault f) ph r r'
-    → CleanPart (parts.Fault f) r r' → full_in_fault f ≡ 0 → p' ≡ p
-    → VerifyRises (answer_by verify_fault_of (parts.Fault f)) r r' p p'
-fault_blamed (faults.Read d) ph r r' p p' going h clean full e = (read_rose d ph r r' going h, read_failed d full, e)
-fault_blamed (faults.Write d) ph r r' p p' going h clean full e = absurd (write_caused d ph r r' going h)
-fault_blamed f ph r r' p p' going h clean full e = (tt, clean, e)
-
-pub answer_blamed : (q : Part) (ph : Phase) (r r' p p' : ℕ) → IsGoing ph → Caused q ph r r' → CleanPart q r r'
-    → full_in_part q ≡ 0 → p' ≡ p → VerifyRises (answer_by verify_fault_of q) r r' p p'
-answer_blamed (parts.Fault f) ph r r' p p' going h clean full e = fault_blamed f ph r r' p p' going h clean full e
-answer_blamed q ph r r' p p' going h clean full e = (clean, e)
-
 -- ---- the phase that is left
-
-pub fault_leaves : (f : VerifyFault) (ph : Phase) (p p' : ℕ) → PartCause (Some f) p p' → LeavesWalk (Err f) ph
-fault_leaves (fails.Sparse f) ph p p' h = absurd h
-fault_leaves f ph p p' h = tt
 
 sparse_leaves : (f : SparseFault) (ph : Phase) → PartLeaves (parts.Fault f) ph
     → LeavesWalk (answer_by verify_fault_of (parts.Fault f)) ph

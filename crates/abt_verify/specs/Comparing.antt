@@ -1,9 +1,12 @@
 -- A part of an image against what stands at its place.
-use Rattle.std.specs.Prelude.{◌≡◌, ℕ, ◌+◌, ◌*◌, ◌<◌, ◌≤◌, List, Option, Some, None, Result, Ok, Err}
+use Rattle.std.specs.Prelude.{◌≡◌, ℕ, ◌+◌, ◌-◌, ◌*◌, ◌<◌, ◌≤◌, List, Option, Some, None, Result, Ok, Err, IsTrue}
+use Rattle.std.specs.Prelude.{IfNone}
+use Rattle.abt_io.specs.Lent.{OnlyReads}
 use Rattle.abt_io.specs.declared.device.Source as sources
 use Rattle.abt_chunks.specs.declared.walk.Part.{Part}
 use Rattle.abt_chunks.specs.declared.walk.Part.TheVariants as parts
-use Rattle.abt_verify.specs.Standing.{FirstDiffers}
+use Rattle.abt_verify.specs.Fault.{PartCause}
+use Rattle.abt_verify.specs.Standing.{FirstDiffers, Stands}
 use Rattle.abt_verify.specs.declared.fault.VerifyFault.{VerifyFault}
 use Rattle.abt_verify.specs.declared.fault.VerifyFault.TheVariants.{Differs}
 
@@ -40,3 +43,23 @@ pub record ReadsBytes (n most : ℕ) {A : Type 0} (s : sources.Ghosts A) (old ne
   pub received : s.given new ≡ s.given old + n
   pub small : n ≤ most
   pub reads : s.reads new ≤ s.reads old + n + 1
+
+-- Cells against what stands on a partition: they stand, or the first byte that differs is told, or the partition could
+-- not be read. It stays as it is.
+pub record PartCompared {A : Type 0} (p : sources.Ghosts A) (fault : Option VerifyFault) (cells : List (Option ℕ))
+    (old new : A) : Type 0 where
+  pub stands : IsTrue p.tells → IfNone fault (Stands (p.content old) cells)
+  pub differs : IsTrue p.tells → PartDiffers fault (p.content old) cells
+  pub cause : PartCause fault (p.read_faults old) (p.read_faults new)
+  pub partition : OnlyReads (answer_to fault) p old new
+
+-- a source is only read, at most so many bytes of it
+pub record ReadsUpTo {X E : Type 0} (r : Result X E) (most : ℕ) {A : Type 0} (s : sources.Ghosts A) (old new : A)
+    : Type 0 where
+  pub bytes : ReadsBytes (s.given new - s.given old) most s old new
+  pub only : OnlyReads r s old new
+
+-- and any number of bytes
+pub record ReadsMore {X E : Type 0} (r : Result X E) {A : Type 0} (s : sources.Ghosts A) (old new : A) : Type 0 where
+  pub only : OnlyReads r s old new
+  pub given : s.given old ≤ s.given new

@@ -1,14 +1,11 @@
 //! A part of an image against what stands at its place on a partition.
 
-ghost use Rattle.std.specs.Prelude.{◌≡◌, ◌≤◌, ◌<◌, ◌+◌, ◌*◌, ◌^◌, IsTrue, IsNone, IfNone, take};
-ghost use Rattle.abt_io.specs.Lent.{OnlyReads};
+ghost use Rattle.std.specs.Prelude.{◌≡◌, ◌≤◌, ◌<◌, ◌+◌, ◌*◌, ◌^◌, IfNone, take};
 ghost use Rattle.abt_chunks.specs.Ahead.{somes};
 ghost use Rattle.abt_chunks.specs.Costs.{TurnsOnly};
 ghost use Rattle.abt_chunks.specs.Expanding.{cells_by};
 ghost use Rattle.abt_chunks.specs.Places.{from_place};
-ghost use Rattle.abt_verify.specs.Comparing.{FitsHalf, ReadsNothing, PartDiffers, ReadsBytes, answer_to, compared_len};
-ghost use Rattle.abt_verify.specs.Fault.{PartCause};
-ghost use Rattle.abt_verify.specs.Standing.{Stands};
+ghost use Rattle.abt_verify.specs.Comparing.{FitsHalf, PartCompared, ReadsBytes, ReadsNothing, compared_len};
 
 use crate::alike::alike;
 use crate::fault::VerifyFault;
@@ -44,12 +41,8 @@ pub(crate) fn compare_at<P: Source>(
     requires below { at + n < 2 ^ 64 }
     ensures partition_bytes { ReadsBytes result.received n P.Source partition.old partition.new }
     ensures all { IfNone result.fault (result.received ≡ n) }
-    ensures stands { IsTrue P.tells → IfNone result.fault (Stands (P.content partition.old)
-        (from_place at (somes (take n w.old.bytes)))) }
-    ensures differs { IsTrue P.tells → PartDiffers result.fault (P.content partition.old)
-        (from_place at (somes (take n w.old.bytes))) }
-    ensures cause { PartCause result.fault (P.read_faults partition.old) (P.read_faults partition.new) }
-    ensures partition { OnlyReads (answer_to result.fault) P.Source partition.old partition.new }
+    ensures compares { PartCompared P.Source result.fault (from_place at (somes (take n w.old.bytes)))
+        partition.old partition.new }
     ensures few { IfNone result.fault (m.new.turns.number ≤ m.old.turns.number + 2 * result.received + 1) }
     ensures meter { TurnsOnly (2 * result.received + 2) m.old m.new }
 {
@@ -94,13 +87,9 @@ pub(crate) fn compare_part<P: Source>(
     requires below { at + compared_len part < 2 ^ 64 }
     ensures partition_bytes { ReadsBytes result.received (compared_len part) P.Source partition.old partition.new }
     ensures all { IfNone result.fault (result.received ≡ compared_len part) }
-    ensures stands { IsTrue P.tells → IfNone result.fault (Stands (P.content partition.old)
-        (from_place at (cells_by part w.old.bytes))) }
-    ensures differs { IsTrue P.tells → PartDiffers result.fault (P.content partition.old)
-        (from_place at (cells_by part w.old.bytes)) }
+    ensures compares { PartCompared P.Source result.fault (from_place at (cells_by part w.old.bytes))
+        partition.old partition.new }
     ensures still { ReadsNothing part → (result.fault ≡ None) × (partition.new ≡ partition.old) }
-    ensures cause { PartCause result.fault (P.read_faults partition.old) (P.read_faults partition.new) }
-    ensures partition { OnlyReads (answer_to result.fault) P.Source partition.old partition.new }
     ensures few { IfNone result.fault (m.new.turns.number ≤ m.old.turns.number + 3 * result.received) }
     ensures meter { TurnsOnly (2 * result.received + 17) m.old m.new }
 {

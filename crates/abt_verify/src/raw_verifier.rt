@@ -2,11 +2,11 @@
 
 ghost use Rattle.std.specs.Prelude.{◌≡◌, ◌<◌, ◌≤◌, ◌+◌, ◌-◌, ◌*◌, ◌^◌, IsTrue, IsNone, IfNone, OnOk, length, take};
 ghost use Rattle.std.specs.Prelude.{drop, min};
-ghost use Rattle.abt_io.specs.Lent.{OneStep, OnlyReads};
+ghost use Rattle.abt_io.specs.Lent.{OneStep};
 ghost use Rattle.abt_chunks.specs.Ahead.{somes};
 ghost use Rattle.abt_chunks.specs.Costs.{TurnsOnly};
 ghost use Rattle.abt_chunks.specs.Places.{from_place};
-ghost use Rattle.abt_verify.specs.Comparing.{PartDiffers, ReadsBytes, answer_to};
+ghost use Rattle.abt_verify.specs.Comparing.{PartDiffers, ReadsUpTo, answer_to};
 ghost use Rattle.abt_verify.specs.Fault.{PieceCause, RawRises, short_fault};
 ghost use Rattle.abt_verify.specs.Standing.{FirstDiffers, Stands};
 ghost use Rattle.abt_verify.specs.Stepping.{HasEnded, IsUnderway, OnDiffers, RawAdvances, passed_by, raw_answer};
@@ -60,9 +60,6 @@ fn compare_piece<S: Source, P: Source>(
     requires there { IsTrue S.tells → at + n ≤ length (S.content source.old) }
     ensures received { result.received ≡ (S.given source.new - S.given source.old)
         + (P.given partition.new - P.given partition.old) }
-    ensures source_bytes { ReadsBytes (S.given source.new - S.given source.old) n S.Source source.old source.new }
-    ensures partition_bytes { ReadsBytes (P.given partition.new - P.given partition.old) n P.Source partition.old
-        partition.new }
     ensures all { IfNone result.fault ((S.given source.new ≡ S.given source.old + n) ×
         (P.given partition.new ≡ P.given partition.old + n)) }
     ensures stands { IsTrue S.tells → IsTrue P.tells → IfNone result.fault
@@ -71,8 +68,8 @@ fn compare_piece<S: Source, P: Source>(
         (from_place at (somes (take n (drop at (S.content source.old))))) }
     ensures cause { PieceCause result.fault S.tells (S.read_faults source.old) (S.read_faults source.new)
         (P.read_faults partition.old) (P.read_faults partition.new) }
-    ensures source { OnlyReads (answer_to result.fault) S.Source source.old source.new }
-    ensures partition { OnlyReads (answer_to result.fault) P.Source partition.old partition.new }
+    ensures source { ReadsUpTo (answer_to result.fault) n S.Source source.old source.new }
+    ensures partition { ReadsUpTo (answer_to result.fault) n P.Source partition.old partition.new }
     ensures meter { TurnsOnly ((S.given source.new - S.given source.old)
         + 2 * (P.given partition.new - P.given partition.old) + 3) m.old m.new }
 {
@@ -155,10 +152,6 @@ impl RawVerifier {
         m: &mut Meter,
     ) -> Result<Progress, VerifyFault>
         requires { IsTrue S.tells → self.old.length ≡ length (S.content source.old) }
-        ensures source_bytes { ReadsBytes (S.given source.new - S.given source.old) 32768 S.Source source.old
-            source.new }
-        ensures partition_bytes { ReadsBytes (P.given partition.new - P.given partition.old) 32768 P.Source partition.old
-            partition.new }
         // What stood so far stands with what was compared, or the first byte that differs is told.
         ensures stands { IsTrue S.tells → IsTrue P.tells → Stands (P.content partition.old)
             (somes (take self.old.at (S.content source.old))) →
@@ -175,8 +168,8 @@ impl RawVerifier {
         ensures cause { IsUnderway self.old.stage → RawRises result S.tells (S.read_faults source.old)
             (S.read_faults source.new) (P.read_faults partition.old) (P.read_faults partition.new) }
         // Both stay as they are.
-        ensures source { OnlyReads result S.Source source.old source.new }
-        ensures partition { OnlyReads result P.Source partition.old partition.new }
+        ensures source { ReadsUpTo result 32768 S.Source source.old source.new }
+        ensures partition { ReadsUpTo result 32768 P.Source partition.old partition.new }
         ensures turns { m.new.turns.number ≤ m.old.turns.number + (S.given source.new - S.given source.old)
             + 2 * (P.given partition.new - P.given partition.old) + 3 }
         ensures one_step { OneStep ((S.given source.new - S.given source.old)

@@ -1,8 +1,8 @@
 //! Verifying a raw image as a whole.
 
 ghost use Rattle.std.specs.Prelude.{◌≡◌, ◌≤◌, ◌+◌, ◌*◌, IsTrue, false};
-ghost use Rattle.abt_io.specs.Lent.{OnlyReads};
 ghost use Rattle.abt_chunks.specs.Costs.{StepsWithin};
+ghost use Rattle.abt_verify.specs.Comparing.{ReadsMore};
 ghost use Rattle.abt_verify.specs.Fault.{RawCause};
 ghost use Rattle.abt_verify.specs.Raw.{IsRawBlock, JudgesBlockSize, VerifiesRaw};
 
@@ -38,10 +38,8 @@ pub fn verify_raw<S: Source, P: Source>(
     ensures cause { RawCause result S.tells (S.read_faults source.old) (S.read_faults source.new)
         (P.read_faults partition.old) (P.read_faults partition.new) }
     // Both stay as they are; of the partition its bytes, its length, and all that a write or a sync would change.
-    ensures source { OnlyReads result S.Source source.old source.new }
-    ensures partition { OnlyReads result P.Source partition.old partition.new }
-    ensures given { S.given source.old ≤ S.given source.new }
-    ensures partition_given { P.given partition.old ≤ P.given partition.new }
+    ensures source { ReadsMore result S.Source source.old source.new }
+    ensures partition { ReadsMore result P.Source partition.old partition.new }
     // What it cost.
     ensures calls { S.reads source.new + P.reads partition.new + 8 * S.given source.old + 8 * P.given partition.old
         ≤ S.reads source.old + P.reads partition.old + 8 * S.given source.new + 8 * P.given partition.new + 64 }

@@ -1,13 +1,13 @@
 //! Verifying a sparse image in steps.
 
 ghost use Rattle.std.specs.Prelude.{◌≡◌, ◌<◌, ◌≤◌, ◌+◌, ◌-◌, ◌*◌, ◌/◌, ◌^◌, IsTrue, OnOk, take, min};
-ghost use Rattle.abt_io.specs.Lent.{OneStep, OnlyReads};
+ghost use Rattle.abt_io.specs.Lent.{OneStep};
 ghost use Rattle.abt_chunks.specs.Places.{upto_of};
 ghost use Rattle.abt_chunks.specs.Taking.{ReadStep, input_state};
 ghost use Rattle.abt_chunks.specs.Turns.{todo};
 ghost use Rattle.abt_chunks.specs.Expanding.{OnMoreExpanding, answer_by};
 ghost use Rattle.abt_chunks.specs.ListingAhead.{idle};
-ghost use Rattle.abt_verify.specs.Comparing.{ReadsBytes};
+ghost use Rattle.abt_verify.specs.Comparing.{ReadsUpTo};
 ghost use Rattle.abt_verify.specs.Fault.{VerifyRises, verify_fault_of};
 ghost use Rattle.abt_verify.specs.Stepping.{Compares, HasEnded, IsComparing, LeavesWalk, stage_after};
 
@@ -107,8 +107,6 @@ impl Verifier {
     ) -> Result<Progress, VerifyFault>
         ensures input { ReadStep (I.given input.new - I.given input.old) 32768 self.old.walk I.tells
             (input_state I.Input input.old) (input_state I.Input input.new) }
-        ensures partition_bytes { ReadsBytes (P.given partition.new - P.given partition.old) 32768 P.Source
-            partition.old partition.new }
         // What it compares, and whether that stands.
         ensures told { IsTrue I.tells → IsComparing self.old.stage self.old.walk.phase →
             Compares P.tells result self.old.walk self.new.walk
@@ -125,7 +123,7 @@ impl Verifier {
             VerifyRises result (I.read_faults input.old) (I.read_faults input.new) (P.read_faults partition.old)
             (P.read_faults partition.new) }
         // The partition stays as it is.
-        ensures partition { OnlyReads result P.Source partition.old partition.new }
+        ensures partition { ReadsUpTo result 32768 P.Source partition.old partition.new }
         ensures fewer { OnMoreExpanding result (todo self.new.walk < todo self.old.walk) }
         ensures progress { OnMoreExpanding result (idle self.new.walk + 1
             ≤ idle self.old.walk + 2 * (I.given input.new - I.given input.old)

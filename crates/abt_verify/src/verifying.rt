@@ -1,9 +1,9 @@
 //! Verifying a sparse image as a whole.
 
 ghost use Rattle.std.specs.Prelude.{◌≤◌, ◌+◌, ◌*◌, IsTrue};
-ghost use Rattle.abt_io.specs.Lent.{OnlyReads};
 ghost use Rattle.abt_chunks.specs.Costs.{StepsWithin};
 ghost use Rattle.abt_chunks.specs.Taking.{ReadsOn, input_state};
+ghost use Rattle.abt_verify.specs.Comparing.{ReadsMore};
 ghost use Rattle.abt_verify.specs.Fault.{VerifyRises};
 ghost use Rattle.abt_verify.specs.Verifying.{Verifies};
 
@@ -31,8 +31,7 @@ pub fn verify<I: Input, P: Source>(
     ensures cause { VerifyRises result (I.read_faults input.old) (I.read_faults input.new) (P.read_faults partition.old)
         (P.read_faults partition.new) }
     // The partition stays as it is: its bytes, its length, and all that a write or a sync would change.
-    ensures partition { OnlyReads result P.Source partition.old partition.new }
-    ensures partition_given { P.given partition.old ≤ P.given partition.new }
+    ensures partition { ReadsMore result P.Source partition.old partition.new }
     // What it cost.
     ensures calls { I.reads input.new + P.reads partition.new + 8 * I.given input.old + 8 * P.given partition.old
         ≤ I.reads input.old + P.reads partition.old + 8 * I.given input.new + 8 * P.given partition.new + 64 }

@@ -35,12 +35,12 @@ pieces-preserved g c =
     let less : c.pieces.cutter.made < c.args.before = rw c.if-are_planned.false at c.are_planned.ensures in
     let words = words_more one n s next st passed.moves at in
     record {
-      runs = e.cutter.same_image ∙ i.runs;
-      limit = e.cutter.same_limit ∙ i.limit;
-      told = λ tells. rw (i.runs, i.kept tells) at (e.told tells);
-      kept = λ tells. e.reads.content tells ∙ i.kept tells;
-      size = λ tells. e.reads.size tells ∙ i.size tells;
-      frame = e.reads.frame ∙ i.frame;
+      runs = e.left.cutter.same_image ∙ i.runs;
+      limit = e.left.cutter.same_limit ∙ i.limit;
+      told = λ tells. rw (i.runs, i.kept tells) at (e.left.told tells);
+      kept = λ tells. e.left.reads.content tells ∙ i.kept tells;
+      size = λ tells. e.left.reads.size tells ∙ i.size tells;
+      frame = e.left.reads.frame ∙ i.frame;
       unbroken = rw made (unbroken_more n c.pieces.cutter.made next st at);
       few = rw made (few_more n c.pieces.cutter.made s left inside);
       planned = omega (arith, made, less);
@@ -55,7 +55,7 @@ pieces-preserved g c =
           omega (arith, more, words, before, e.costs.given, c.tick.ensures.turns, made);
       steps = omega (arith, e.costs.steps, e.costs.given, i.steps, c.tick.ensures.steps);
       greatest = omega (arith, e.costs.greatest, i.greatest, c.tick.ensures.greatest);
-      faults = o.reads.clean ∙ i.faults;
+      faults = o.left.reads.clean ∙ i.faults;
     }
 
 -- ---- where all have been planned
@@ -179,7 +179,7 @@ pub returns-in-Err-clause-source : goal.returns-in-Err-clause-source
 returns-in-Err-clause-source g c =
     let i = c.pieces.invariant in
     let s = c.skip_piece.ensures in
-    record { content = λ tells. s.reads.content tells ∙ i.kept tells; size = λ tells. s.reads.size tells ∙ i.size tells; frame = s.reads.frame ∙ i.frame; faults = omega (arith, i.faults, s.reads.faults); clean = tt }
+    record { content = λ tells. s.left.reads.content tells ∙ i.kept tells; size = λ tells. s.left.reads.size tells ∙ i.size tells; frame = s.left.reads.frame ∙ i.frame; faults = omega (arith, i.faults, s.left.reads.faults); clean = tt }
 
 -- ---- what planning a piece asks for
 

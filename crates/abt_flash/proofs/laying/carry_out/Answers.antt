@@ -62,16 +62,16 @@ returns-in-Words-clause-all g c = rw c.in-Words.is (on_words c.in-Words.word c.i
 pub returns-in-Sync-clause-laid : goal.returns-in-Sync-clause-laid
 returns-in-Sync-clause-laid g c tells =
     let p = g.P.Source.content c.args.partition.now in
-    rw c.in-Sync.is (on_sync c.sync.result _ (same_content _ _ (c.sync.ensures.kept tells) ∙ sym (nothing_over p c.args.at)))
+    rw c.in-Sync.is (on_sync c.sync.result _ (same_content _ _ (c.sync.ensures.settled.kept tells) ∙ sym (nothing_over p c.args.at)))
 
 pub returns-in-Sync-clause-touches : goal.returns-in-Sync-clause-touches
 returns-in-Sync-clause-touches g c tells = record {
   kept = search rules;
-  moments = rw c.in-Sync.is (during_sync _ _ _ _ _ (c.sync.ensures.kept tells) (c.sync.ensures.moments tells));
+  moments = rw c.in-Sync.is (during_sync _ _ _ _ _ (c.sync.ensures.settled.kept tells) (c.sync.ensures.settled.moments tells));
 }
 
 pub returns-in-Sync-clause-all : goal.returns-in-Sync-clause-all
-returns-in-Sync-clause-all g c = rw c.in-Sync.is (on_sync c.sync.result _ (omega (arith, c.sync.ensures.taken)))
+returns-in-Sync-clause-all g c = rw c.in-Sync.is (on_sync c.sync.result _ (omega (arith, c.sync.ensures.synced.taken)))
 
 pub returns-in-Nothing-clause-laid : goal.returns-in-Nothing-clause-laid
 returns-in-Nothing-clause-laid g c tells = rw c.in-Nothing.is (sym (nothing_over (g.P.Source.content c.args.partition.now) c.args.at))
@@ -117,19 +117,19 @@ pub returns-in-Words-clause-settled : goal.returns-in-Words-clause-settled
 returns-in-Words-clause-settled g c tells = rw c.in-Words.is (on_any c.lay_words.result _ tt)
 
 pub returns-in-Sync-clause-settled : goal.returns-in-Sync-clause-settled
-returns-in-Sync-clause-settled g c tells = rw c.in-Sync.is (c.sync.ensures.settled tells)
+returns-in-Sync-clause-settled g c tells = rw c.in-Sync.is (c.sync.ensures.settled.settled tells)
 
 pub returns-in-Sync-clause-synced : goal.returns-in-Sync-clause-synced
 returns-in-Sync-clause-synced g c =
     let counts = sync_counts c.sync.result in
-    let synced = c.sync.ensures.synced in
+    let synced = c.sync.ensures.settled.synced in
     rw c.in-Sync.is (omega (arith, counts, synced))
 
 pub returns-in-Sync-clause-refused_syncs : goal.returns-in-Sync-clause-refused_syncs
 returns-in-Sync-clause-refused_syncs g c =
     let refused = sync_refused c.sync.result in
-    let synced = c.sync.ensures.synced in
-    let calls = c.sync.ensures.calls in
+    let synced = c.sync.ensures.settled.synced in
+    let calls = c.sync.ensures.synced.calls in
     rw c.in-Sync.is (omega (arith, refused, synced, calls))
 
 pub returns-in-Sync-clause-costs : goal.returns-in-Sync-clause-costs
@@ -137,6 +137,6 @@ returns-in-Sync-clause-costs g c = record {
   taken = search rules;
   calls = search rules;
   turns = search rules;
-  few = on_any c.sync.result _ (omega (arith, c.sync.ensures.taken));
+  few = on_any c.sync.result _ (omega (arith, c.sync.ensures.synced.taken));
   no_step = search rules;
 }

@@ -41,8 +41,8 @@ writes-preserved g c =
       calls = omega (arith, e.calls, i.calls);
       turns = omega (arith, e.turns, i.turns);
       few = omega (arith, e.turns, i.few);
-      steps = omega (arith, e.steps, i.steps);
-      greatest = omega (arith, e.greatest, i.greatest);
+      steps = omega (arith, e.no_step.steps, i.steps);
+      greatest = omega (arith, e.no_step.greatest, i.greatest);
     }
 
 pub returns-in-Err-clause-moments : goal.returns-in-Err-clause-moments

@@ -1,5 +1,6 @@
 use Rattle.std.specs.Prelude.{IsTrue}
 use Rattle.std.proofs.Common.{◌≡◌, ℕ, ◌+◌, ◌*◌, ◌≤◌, ◌<◌, ◌^◌, length, drop, Err, refl, sym, ap, ◌∙◌, arith, inl}
+use Rattle.std.proofs.Math.Nat.{le_refl}
 use Rattle.std.proofs.lemmas.Nat.{mul-lt}
 use Rattle.abt_io.specs.Moment.{moment_of}
 use Rattle.abt_sparse.specs.Block.{IsBlockSize, cells, over}
@@ -12,241 +13,177 @@ use Rattle.abt_flash.specs.Delivering.{Room, begun, blocks_behind, blocks_in_fir
 use Rattle.abt_flash.proofs.Left.{Behind, behind}
 use Rattle.abt_flash.proofs.Mended.{leaves_same}
 use Rattle.abt_flash.proofs.Onward.{up_on}
-use Rattle.abt_flash.proofs.Records.{begins_same, early_holds, gives_none, lays_none, mendable_none, mends_none, opening_begins, opening_counts, opening_early, opening_refuses, plan_early, plan_refuses, rest_begins, rest_early, rest_more, stop_mends}
+use Rattle.abt_flash.proofs.Records.{begins_same, opening_begins, opening_counts, opening_early, opening_refuses, plan_early, plan_refuses, rest_begins, rest_early, rest_more, stop_mends}
 use Rattle.abt_flash.proofs.Refusing.{rest_refuses}
 use Rattle.abt_flash.proofs.Staying.{blocks_grow, from_first}
 use Rattle.abt_flash.proofs.Summing.{on_any, on_ok, on_unsynced, least_of, behind_written}
+use Rattle.abt_flash.proofs.Wholly.{delivers_none}
 use Rattle.abt_flash.proofs.GivenBytes.{few_of, read_for}
 use Rattle.abt_flash.proofs.opened.deliver_behind.Goals as goal
 use Rattle.abt_io.proofs.Lent.{reads_none, reads_then, reads_err}
 
 -- ---- where no cutter was opened
 
-pub returns-in-Err-clause-refused : goal.returns-in-Err-clause-refused
-returns-in-Err-clause-refused g c = let small = c.in-Err.ensures.refused in rw c.not_opened.ensures (opening_refuses c.in-Err.fault _ _ _ _ _ _ _ _ _ small.0 small.1)
-
-pub returns-in-Err-clause-delivers : goal.returns-in-Err-clause-delivers
-returns-in-Err-clause-delivers g c = record {
-  early = early_holds c.not_opened.result _ (refl, refl);
-  some = tt;
-  counted = λ tells. rw c.not_opened.ensures (opening_counts c.in-Err.fault _ _);
-  least = λ tells. tt;
-  clean = tt;
-}
-
-pub returns-in-Err-clause-spool : goal.returns-in-Err-clause-spool
-returns-in-Err-clause-spool g c = gives_none _ _ _ _ _ _ _ _
-
-pub returns-in-Err-clause-partition : goal.returns-in-Err-clause-partition
-returns-in-Err-clause-partition g c = lays_none _ _ _ _ _ _ _ _ (rw c.not_opened.ensures (opening_early c.in-Err.fault))
-
-pub returns-in-Err-clause-mends : goal.returns-in-Err-clause-mends
-returns-in-Err-clause-mends g c tells spool partition = mends_none _ _ _ _ _ (rw c.not_opened.ensures (opening_early c.in-Err.fault))
-
-pub returns-in-Err-clause-mendable : goal.returns-in-Err-clause-mendable
-returns-in-Err-clause-mendable g c tells spool partition first none = mendable_none _ _ _ none
-
-pub returns-in-Err-clause-costs : goal.returns-in-Err-clause-costs
-returns-in-Err-clause-costs g c = record {
-  begun = 0;
-  counted = rw c.not_opened.ensures (opening_begins _ _ _ c.in-Err.fault);
-  calls = omega arith;
-  turns = omega arith;
-  steps = omega arith;
-  greatest = omega arith;
-}
+pub returns-in-Err-clause-delivered : goal.returns-in-Err-clause-delivered
+returns-in-Err-clause-delivered g c =
+    let small = c.in-Err.ensures.refused in
+    record {
+      granted = tt;
+      refused = rw c.not_opened.ensures (opening_refuses c.in-Err.fault _ _ _ _ _ _ _ _ _ small.0 small.1);
+      image = delivers_none c.not_opened.result (rw c.not_opened.ensures (opening_early c.in-Err.fault))
+          (λ tells. rw c.not_opened.ensures (opening_counts c.in-Err.fault _ _)) (reads_none _ _ _) (record {
+            begun = 0;
+            counted = rw c.not_opened.ensures (opening_begins _ _ _ c.in-Err.fault);
+            calls = omega arith;
+            turns = omega arith;
+            steps = omega arith;
+            greatest = omega arith;
+          });
+      long = tt;
+    }
 
 -- ---- where the partition is too small
 
-pub returns-then-is_too_small-clause-refused : goal.returns-then-is_too_small-clause-refused
-returns-then-is_too_small-clause-refused g c =
+pub returns-then-is_too_small-clause-delivered : goal.returns-then-is_too_small-clause-delivered
+returns-then-is_too_small-clause-delivered g c =
     let o = c.in-Ok.ensures in
     let count : c.blocks-2.result ≡ g.R.BlockRuns.count c.args.runs = rw o.runs at c.blocks-2.ensures in
     let size : c.block_size.result ≡ g.R.BlockRuns.size c.args.runs = rw o.runs at c.block_size.ensures in
-    (o.granted, rw (count, size) refl, rw c.length.ensures.size at c.if-is_too_small.ensures)
-
-pub returns-then-is_too_small-clause-spool : goal.returns-then-is_too_small-clause-spool
-returns-then-is_too_small-clause-spool g c = gives_none _ _ _ _ _ _ _ _
-
-pub returns-then-is_too_small-clause-partition : goal.returns-then-is_too_small-clause-partition
-returns-then-is_too_small-clause-partition g c = lays_none _ _ _ _ _ _ _ _ tt
-
-pub returns-then-is_too_small-clause-mends : goal.returns-then-is_too_small-clause-mends
-returns-then-is_too_small-clause-mends g c tells spool partition = mends_none _ _ _ _ _ tt
-
-pub returns-then-is_too_small-clause-mendable : goal.returns-then-is_too_small-clause-mendable
-returns-then-is_too_small-clause-mendable g c tells spool partition first none = mendable_none _ _ _ none
-
-pub returns-then-is_too_small-clause-costs : goal.returns-then-is_too_small-clause-costs
-returns-then-is_too_small-clause-costs g c = record { begun = 0; counted = refl; calls = omega arith; turns = omega arith; steps = omega arith; greatest = omega arith }
+    record {
+      granted = tt;
+      refused = (o.granted, rw (count, size) refl, rw c.length.ensures.size at c.if-is_too_small.ensures);
+      image = delivers_none _ tt (λ tells. tt) (reads_none _ _ _)
+          (record { begun = 0; counted = refl; calls = omega arith; turns = omega arith; steps = omega arith; greatest = omega arith });
+      long = tt;
+    }
 
 -- ---- where planning was refused
 
-pub returns-in-Err-plan_pieces-clause-refused : goal.returns-in-Err-plan_pieces-clause-refused
-returns-in-Err-plan_pieces-clause-refused g c =
-    let o = c.in-Ok.ensures in
-    let count : c.blocks-2.result ≡ g.R.BlockRuns.count c.args.runs = rw o.runs at c.blocks-2.ensures in
-    let size : c.block_size.result ≡ g.R.BlockRuns.size c.args.runs = rw o.runs at c.block_size.ensures in
-    let room : Room c.args.limit (g.R.BlockRuns.size c.args.runs) (g.R.BlockRuns.count c.args.runs) (g.P.Source.size c.args.partition.now) = record { each = o.granted; all = rw (count, size, c.length.ensures.size) at c.if-is_too_small.ensures } in
-    plan_refuses c.in-Err-plan_pieces.fault _ _ _ _ _ _ _ _ _ room c.in-Err-plan_pieces.ensures.refused
-
-pub returns-in-Err-plan_pieces-clause-delivers : goal.returns-in-Err-plan_pieces-clause-delivers
-returns-in-Err-plan_pieces-clause-delivers g c = record {
-  early = early_holds c.in-Err-plan_pieces.fault _ (refl, refl);
-  some = tt;
-  counted = λ tells.
-      let o = c.in-Ok.ensures in
-      rw (length-pieces c.args.limit (g.R.BlockRuns.size c.args.runs) (g.R.BlockRuns.list c.args.runs (g.S.Source.content c.args.source.now))) (rw (o.runs, o.limit) at (c.in-Err-plan_pieces.ensures.counted tells));
-  least = λ tells. tt;
-  clean = tt;
-}
-
-pub returns-in-Err-plan_pieces-clause-spool : goal.returns-in-Err-plan_pieces-clause-spool
-returns-in-Err-plan_pieces-clause-spool g c = gives_none _ _ _ _ _ _ _ _
-
-pub returns-in-Err-plan_pieces-clause-partition : goal.returns-in-Err-plan_pieces-clause-partition
-returns-in-Err-plan_pieces-clause-partition g c = lays_none _ _ _ _ _ _ _ _ (plan_early _ _ _ _ _ c.in-Err-plan_pieces.ensures.refused)
-
-pub returns-in-Err-plan_pieces-clause-mends : goal.returns-in-Err-plan_pieces-clause-mends
-returns-in-Err-plan_pieces-clause-mends g c tells spool partition = mends_none _ _ _ _ _ (plan_early _ _ _ _ _ c.in-Err-plan_pieces.ensures.refused)
-
-pub returns-in-Err-plan_pieces-clause-mendable : goal.returns-in-Err-plan_pieces-clause-mendable
-returns-in-Err-plan_pieces-clause-mendable g c tells spool partition first none = mendable_none _ _ _ none
-
-pub returns-in-Err-plan_pieces-clause-costs : goal.returns-in-Err-plan_pieces-clause-costs
-returns-in-Err-plan_pieces-clause-costs g c =
+pub returns-in-Err-plan_pieces-clause-delivered : goal.returns-in-Err-plan_pieces-clause-delivered
+returns-in-Err-plan_pieces-clause-delivered g c =
     let o = c.in-Ok.ensures in
     let p = c.in-Err-plan_pieces.ensures in
     let b = g.R.BlockRuns.size c.args.runs in
     let all = g.R.BlockRuns.list c.args.runs (g.S.Source.content c.args.source.now) in
+    let count : c.blocks-2.result ≡ g.R.BlockRuns.count c.args.runs = rw o.runs at c.blocks-2.ensures in
+    let size : c.block_size.result ≡ b = rw o.runs at c.block_size.ensures in
+    let room : Room c.args.limit b (g.R.BlockRuns.count c.args.runs) (g.P.Source.size c.args.partition.now) = record { each = o.granted; all = rw (count, size, c.length.ensures.size) at c.if-is_too_small.ensures } in
     let same : length (segments c.in-Ok.cutter.limit (g.R.BlockRuns.size c.in-Ok.cutter.runs) (g.R.BlockRuns.list c.in-Ok.cutter.runs (g.S.Source.content c.args.source.now))) ≡ length (segments c.args.limit b all) = rw (o.runs, o.limit) refl in
     let calls = p.costs.calls in
     let turns = rw o.runs at p.costs.turns in
     record {
-      begun = p.costs.begun;
-      counted = begins_same _ _ _ _ _ (Err c.in-Err-plan_pieces.fault) (λ t. same ∙ sym (length-pieces c.args.limit b all)) p.costs.counted;
-      calls = omega (arith, calls, p.costs.read);
-      turns = omega (arith, turns, p.costs.read);
-      steps = omega (arith, p.costs.steps);
-      greatest = p.costs.greatest;
+      granted = tt;
+      refused = plan_refuses c.in-Err-plan_pieces.fault _ _ _ _ _ _ _ _ _ room p.refused;
+      image = delivers_none c.in-Err-plan_pieces.fault (plan_early _ _ _ _ _ p.refused)
+          (λ tells. rw (length-pieces c.args.limit b all) (rw (o.runs, o.limit) at (p.counted tells))) (reads_err _ p.source) (record {
+            begun = p.costs.begun;
+            counted = begins_same _ _ _ _ _ (Err c.in-Err-plan_pieces.fault) (λ t. same ∙ sym (length-pieces c.args.limit b all)) p.costs.counted;
+            calls = omega (arith, calls, p.costs.read);
+            turns = omega (arith, turns, p.costs.read);
+            steps = omega (arith, p.costs.steps);
+            greatest = p.costs.greatest;
+          });
+      long = tt;
     }
 
 -- ---- where all pieces behind the first ones were delivered, or one was stopped
 
-pub returns-clause-granted : goal.returns-clause-granted
-returns-clause-granted g c =
-    let o = c.in-Ok.ensures in
-    let count : c.blocks-2.result ≡ g.R.BlockRuns.count c.args.runs = rw o.runs at c.blocks-2.ensures in
-    let size : c.block_size.result ≡ g.R.BlockRuns.size c.args.runs = rw o.runs at c.block_size.ensures in
-    let room : Room c.args.limit (g.R.BlockRuns.size c.args.runs) (g.R.BlockRuns.count c.args.runs) (g.P.Source.size c.args.partition.now) = record { each = o.granted; all = rw (count, size, c.length.ensures.size) at c.if-is_too_small.ensures } in
-    on_any c.deliver_rest.result room
-
-pub returns-clause-refused : goal.returns-clause-refused
-returns-clause-refused g c =
-    let o = c.in-Ok.ensures in
-    let p = c.in-Ok-plan_pieces.ensures in
-    let count : c.blocks-2.result ≡ g.R.BlockRuns.count c.args.runs = rw o.runs at c.blocks-2.ensures in
-    let size : c.block_size.result ≡ g.R.BlockRuns.size c.args.runs = rw o.runs at c.block_size.ensures in
-    let room : Room c.args.limit (g.R.BlockRuns.size c.args.runs) (g.R.BlockRuns.count c.args.runs) (g.P.Source.size c.args.partition.now) = record { each = o.granted; all = rw (count, size, c.length.ensures.size) at c.if-is_too_small.ensures } in
-    rest_refuses c.deliver_rest.result _ _ _ _ _ _ _ _ _ _ (record { read = p.source.faults; write = omega arith; spool = omega arith; put = omega arith }) room (rw p.planned.1 at c.deliver_rest.ensures.fails.stops)
-
-pub returns-clause-delivers : goal.returns-clause-delivers
-returns-clause-delivers g c = record {
-  early = rest_early _ c.deliver_rest.result _ _ _ _ _ c.deliver_rest.ensures.fails.stops;
-  some = c.deliver_rest.ensures.some;
-  counted = λ tells.
-      let o = c.in-Ok.ensures in
-      let p = c.in-Ok-plan_pieces.ensures in
-      rw (length-pieces c.args.limit (g.R.BlockRuns.size c.args.runs) (g.R.BlockRuns.list c.args.runs (g.S.Source.content c.args.source.now))) (rw (p.runs, o.runs, p.source.content tells, p.limit, o.limit, p.planned.1) at (c.deliver_rest.ensures.counted tells));
-  least = λ tells.
-      let o = c.in-Ok.ensures in
-      let p = c.in-Ok-plan_pieces.ensures in
-      least_of c.args.limit (g.R.BlockRuns.size c.args.runs) (g.R.BlockRuns.list c.args.runs (g.S.Source.content c.args.source.now)) c.args.before c.deliver_rest.result (rw (p.runs, o.runs, p.source.content tells, p.limit, o.limit, p.planned.1) at (c.deliver_rest.ensures.counted tells));
-  clean =
-      let before = c.in-Ok-plan_pieces.ensures.source.clean in
-      on_ok c.deliver_rest.result (λ e. record { read = e.read ∙ before; write = e.write; spool = e.spool; put = e.put }) c.deliver_rest.ensures.fails.clean;
-}
-
-pub returns-clause-source : goal.returns-clause-source
-returns-clause-source g c = reads_then c.in-Ok-plan_pieces.ensures.source c.deliver_rest.ensures.source
-
-pub returns-clause-long : goal.returns-clause-long
-returns-clause-long g c = rw (c.in-Ok-plan_pieces.ensures.runs, c.in-Ok.ensures.runs) at c.deliver_rest.ensures.long
-
-pub returns-clause-spool : goal.returns-clause-spool
-returns-clause-spool g c =
-    let o = c.in-Ok.ensures in
-    let p = c.in-Ok-plan_pieces.ensures in
-    let r = c.deliver_rest.ensures in
-    record {
-      room = r.spool.room;
-      fits = rw (p.limit, o.limit) at r.spool.fits;
-      written = λ tells. rw (p.runs, o.runs, p.source.content tells, p.limit, o.limit, p.planned.1) at (r.spool.written tells);
-      cuts = λ tells. rw (p.runs, o.runs, p.source.content tells, p.limit, o.limit, p.planned.1) at (r.spool.cuts tells);
-      begins = λ forward tells. rw (p.runs, o.runs, p.source.content tells, p.limit, o.limit, p.planned.1) at (r.spool.begins forward tells);
-      no_part = λ late tells. rw (p.runs, o.runs, p.source.content tells, p.limit, o.limit, p.planned.1) at (r.spool.no_part late tells);
-      ends = λ late. rw (p.runs, o.runs) at (r.spool.ends late);
-      back = λ tells spool. r.spool.back tells spool;
-    }
-
-pub returns-clause-partition : goal.returns-clause-partition
-returns-clause-partition g c =
+pub returns-clause-delivered : goal.returns-clause-delivered
+returns-clause-delivered g c =
     let o = c.in-Ok.ensures in
     let p = c.in-Ok-plan_pieces.ensures in
     let r = c.deliver_rest.ensures in
     let b = g.R.BlockRuns.size c.args.runs in
     let all = g.R.BlockRuns.list c.args.runs (g.S.Source.content c.args.source.now) in
-    let here : IsTrue g.S.Source.tells → Behind c.args.limit b all c.args.before c.plan_pieces.new.cutter.start.block Between = λ tells.
-    let long = g.met.R.BlockRuns.long c.args.runs _ (c.requires.opened tells) in
-    let within : c.plan_pieces.new.cutter.start.block ≤ g.R.BlockRuns.count c.args.runs = rw (p.runs, o.runs) at (g.met.R.BlockRuns.bounded c.plan_pieces.new.cutter.runs _ c.plan_pieces.new.cutter.sound.within) in
-    let made = rw (o.runs, p.limit, o.limit, p.planned.0, p.planned.1) at (p.told tells).cuts in
-    behind c.args.limit b all c.args.before c.plan_pieces.new.cutter.start.block Between made (inl refl) (omega (arith, long, within)) in
+    let count : c.blocks-2.result ≡ g.R.BlockRuns.count c.args.runs = rw o.runs at c.blocks-2.ensures in
+    let size : c.block_size.result ≡ b = rw o.runs at c.block_size.ensures in
+    let room : Room c.args.limit b (g.R.BlockRuns.count c.args.runs) (g.P.Source.size c.args.partition.now) = record { each = o.granted; all = rw (count, size, c.length.ensures.size) at c.if-is_too_small.ensures } in
     record {
-      size = r.partition.size;
-      unread = r.partition.unread;
-      laid = λ tells spool partition.
-          let laid = rw (p.runs, o.runs, p.source.content tells) at (r.partition.laid tells spool partition) in
-          on_ok c.deliver_rest.result (λ e. e ∙ ap (λ (n : ℕ). over (g.P.Source.content c.args.partition.now) (cells b (blocks_behind n all))) (sym (here tells).blocks)) laid;
-      laid_up_to = λ tells spool partition.
-          let laid = rw (p.runs, o.runs, p.source.content tells, p.limit, o.limit) at (r.partition.laid_up_to tells spool partition) in
-          on_unsynced c.deliver_rest.result _ _ (λ j e. e ∙ ap (λ (n : ℕ). over (g.P.Source.content c.args.partition.now) (cells b (blocks_up_to n (blocks_in_first c.args.limit b all j) all))) (sym (here tells).blocks)) laid;
-      once = λ tells spool.
-          let wrote = rw (p.runs, o.runs, p.source.content tells) at (r.partition.blocks tells spool) in
-          let same : written_in (drop c.plan_pieces.new.cutter.start.block all) ≡ written_in (blocks_behind (blocks_in_first c.args.limit b all c.args.before) all) = sym (behind_written c.plan_pieces.new.cutter.start.block all) ∙ ap (λ (n : ℕ). written_in (blocks_behind n all)) (sym (here tells).blocks) in
-          on_ok c.deliver_rest.result (λ e. e ∙ ap (λ (k : ℕ). g.P.Partition.taken c.args.partition.now + b * k) same) wrote;
-      synced = rw p.planned.1 at r.partition.synced;
-      unsynced = r.partition.unsynced;
-      settled = r.partition.settled;
-      lasts = λ partition. on_ok c.deliver_rest.result (λ none q may. leaves_same (moment_of (g.P.Partition.past c.deliver_rest.new.partition) (g.P.Source.content c.deliver_rest.new.partition)) q none may) (r.partition.settled partition);
+      granted = on_any c.deliver_rest.result room;
+      refused = rest_refuses c.deliver_rest.result _ _ _ _ _ _ _ _ _ _ (record { read = p.source.faults; write = le_refl _; spool = le_refl _; put = le_refl _ }) room (rw p.planned.1 at r.fails.stops);
+      image = record {
+        delivers = record {
+          early = rest_early _ c.deliver_rest.result _ _ _ _ _ r.fails.stops;
+          some = r.some;
+          counted = λ tells. rw (length-pieces c.args.limit b all) (rw (p.runs, o.runs, p.source.content tells, p.limit, o.limit, p.planned.1) at (r.counted tells));
+          least = λ tells. least_of c.args.limit b all c.args.before c.deliver_rest.result (rw (p.runs, o.runs, p.source.content tells, p.limit, o.limit, p.planned.1) at (r.counted tells));
+          clean =
+              let before = p.source.clean in
+              on_ok c.deliver_rest.result (λ e. record { read = e.read ∙ before; write = e.write; spool = e.spool; put = e.put }) r.fails.clean;
+        };
+        spool = record {
+          room = r.spool.room;
+          fits = rw (p.limit, o.limit) at r.spool.fits;
+          written = λ tells. rw (p.runs, o.runs, p.source.content tells, p.limit, o.limit, p.planned.1) at (r.spool.written tells);
+          cuts = λ tells. rw (p.runs, o.runs, p.source.content tells, p.limit, o.limit, p.planned.1) at (r.spool.cuts tells);
+          begins = λ forward tells. rw (p.runs, o.runs, p.source.content tells, p.limit, o.limit, p.planned.1) at (r.spool.begins forward tells);
+          no_part = λ late tells. rw (p.runs, o.runs, p.source.content tells, p.limit, o.limit, p.planned.1) at (r.spool.no_part late tells);
+          ends = λ late. rw (p.runs, o.runs) at (r.spool.ends late);
+          back = λ tells spool. r.spool.back tells spool;
+        };
+        partition =
+            let here : IsTrue g.S.Source.tells → Behind c.args.limit b all c.args.before c.plan_pieces.new.cutter.start.block Between = λ tells.
+            let long = g.met.R.BlockRuns.long c.args.runs _ (c.requires.opened tells) in
+            let within : c.plan_pieces.new.cutter.start.block ≤ g.R.BlockRuns.count c.args.runs = rw (p.runs, o.runs) at (g.met.R.BlockRuns.bounded c.plan_pieces.new.cutter.runs _ c.plan_pieces.new.cutter.sound.within) in
+            let made = rw (o.runs, p.limit, o.limit, p.planned.0, p.planned.1) at (p.told tells).cuts in
+            behind c.args.limit b all c.args.before c.plan_pieces.new.cutter.start.block Between made (inl refl) (omega (arith, long, within)) in
+            record {
+              size = r.partition.size;
+              unread = r.partition.unread;
+              laid = λ tells spool partition.
+                  let laid = rw (p.runs, o.runs, p.source.content tells) at (r.partition.laid tells spool partition) in
+                  on_ok c.deliver_rest.result (λ e. e ∙ ap (λ (n : ℕ). over (g.P.Source.content c.args.partition.now) (cells b (blocks_behind n all))) (sym (here tells).blocks)) laid;
+              laid_up_to = λ tells spool partition.
+                  let laid = rw (p.runs, o.runs, p.source.content tells, p.limit, o.limit) at (r.partition.laid_up_to tells spool partition) in
+                  on_unsynced c.deliver_rest.result _ _ (λ j e. e ∙ ap (λ (n : ℕ). over (g.P.Source.content c.args.partition.now) (cells b (blocks_up_to n (blocks_in_first c.args.limit b all j) all))) (sym (here tells).blocks)) laid;
+              once = λ tells spool.
+                  let wrote = rw (p.runs, o.runs, p.source.content tells) at (r.partition.blocks tells spool) in
+                  let same : written_in (drop c.plan_pieces.new.cutter.start.block all) ≡ written_in (blocks_behind (blocks_in_first c.args.limit b all c.args.before) all) = sym (behind_written c.plan_pieces.new.cutter.start.block all) ∙ ap (λ (n : ℕ). written_in (blocks_behind n all)) (sym (here tells).blocks) in
+                  on_ok c.deliver_rest.result (λ e. e ∙ ap (λ (k : ℕ). g.P.Partition.taken c.args.partition.now + b * k) same) wrote;
+              synced = rw p.planned.1 at r.partition.synced;
+              unsynced = r.partition.unsynced;
+              settled = r.partition.settled;
+              lasts = λ partition. on_ok c.deliver_rest.result (λ none q may. leaves_same (moment_of (g.P.Partition.past c.deliver_rest.new.partition) (g.P.Source.content c.deliver_rest.new.partition)) q none may) (r.partition.settled partition);
+            };
+        mends = λ tells spool partition.
+            let good = g.met.R.BlockRuns.are_blocks c.args.runs _ (c.requires.opened tells) in
+            let sized = g.met.R.BlockRuns.sized c.args.runs in
+            let small : c.args.limit < 2 ^ 32 = omega arith in
+            let granted : 64 + b ≤ c.args.limit = o.granted in
+            let some : 0 < b = omega (arith, sized.0) in
+            let size : IsBlockSize b = (some, sized.1, omega (arith, granted, small)) in
+            let long = g.met.R.BlockRuns.long c.args.runs _ (c.requires.opened tells) in
+            let within : c.plan_pieces.new.cutter.start.block ≤ g.R.BlockRuns.count c.args.runs = rw (p.runs, o.runs) at (g.met.R.BlockRuns.bounded c.plan_pieces.new.cutter.runs _ c.plan_pieces.new.cutter.sound.within) in
+            let made = rw (o.runs, p.limit, o.limit, p.planned.0, p.planned.1) at (p.told tells).cuts in
+            let here = behind c.args.limit b all c.args.before c.plan_pieces.new.cutter.start.block Between made (inl refl) (omega (arith, long, within)) in
+            let stays = rw (p.runs, o.runs, p.source.content tells, p.limit, o.limit, p.planned.1) at (r.stays tells spool partition) in
+            let laid = rw (p.runs, o.runs, p.source.content tells) at (r.partition.laid tells spool partition) in
+            record {
+              stays = stays;
+              stopped = stop_mends _ _ _ _ c.deliver_rest.result _ _ _ _ _ _ _ _ (rw p.planned.1 at r.fails.stops) (rw p.planned.1 at r.partition.synced) stays;
+              mends = on_ok c.deliver_rest.result (λ e q done le m. e ∙ mended b all q (g.P.Source.content c.args.partition.now) (blocks_in_first c.args.limit b all done) c.plan_pieces.new.cutter.start.block size good m (rw (← here.blocks) (blocks_grow c.args.limit b all c.args.before done le))) laid;
+            };
+        mendable = λ tells spool partition first none. from_first _ _ _ _ _ first none (rw (p.runs, o.runs, p.source.content tells, p.limit, o.limit, p.planned.1) at (r.stays tells spool partition));
+        source = reads_then p.source r.source;
+        costs =
+            let stops = rw p.planned.1 at r.fails.stops in
+            let more = rest_more c.args.before c.deliver_rest.result _ _ _ _ stops in
+            let planned = p.costs.counted in
+            let plan_calls = p.costs.calls in
+            let plan_turns = rw o.runs at p.costs.turns in
+            let calls = rw p.planned.1 at r.work.calls in
+            let turns = rw (p.planned.1, p.runs, o.runs) at r.work.turns in
+            record {
+              begun = begun c.args.before c.deliver_rest.result;
+              counted = rest_begins _ _ c.args.before c.deliver_rest.result _ _ _ _ stops;
+              calls = omega (arith, more, planned, plan_calls, calls, p.costs.read);
+              turns = omega (arith, more, planned, plan_turns, turns, p.costs.read);
+              steps = omega (arith, p.costs.steps, r.work.work.steps);
+              greatest = omega (arith, p.costs.greatest, r.work.work.greatest);
+            };
+      };
+      long = rw (p.runs, o.runs) at r.long;
     }
-
-pub returns-clause-mends : goal.returns-clause-mends
-returns-clause-mends g c tells spool partition =
-    let o = c.in-Ok.ensures in
-    let p = c.in-Ok-plan_pieces.ensures in
-    let r = c.deliver_rest.ensures in
-    let b = g.R.BlockRuns.size c.args.runs in
-    let all = g.R.BlockRuns.list c.args.runs (g.S.Source.content c.args.source.now) in
-    let long = g.met.R.BlockRuns.long c.args.runs _ (c.requires.opened tells) in
-    let good = g.met.R.BlockRuns.are_blocks c.args.runs _ (c.requires.opened tells) in
-    let sized = g.met.R.BlockRuns.sized c.args.runs in
-    let small : c.args.limit < 2 ^ 32 = omega arith in
-    let granted : 64 + b ≤ c.args.limit = o.granted in
-    let some : 0 < b = omega (arith, sized.0) in
-    let size : IsBlockSize b = (some, sized.1, omega (arith, granted, small)) in
-    let within : c.plan_pieces.new.cutter.start.block ≤ g.R.BlockRuns.count c.args.runs = rw (p.runs, o.runs) at (g.met.R.BlockRuns.bounded c.plan_pieces.new.cutter.runs _ c.plan_pieces.new.cutter.sound.within) in
-    let made = rw (o.runs, p.limit, o.limit, p.planned.0, p.planned.1) at (p.told tells).cuts in
-    let here = behind c.args.limit b all c.args.before c.plan_pieces.new.cutter.start.block Between made (inl refl) (omega (arith, long, within)) in
-    let laid = rw (p.runs, o.runs, p.source.content tells) at (r.partition.laid tells spool partition) in
-    let stays = rw (p.runs, o.runs, p.source.content tells, p.limit, o.limit, p.planned.1) at (r.stays tells spool partition) in
-    record {
-      stays = stays;
-      stopped = stop_mends _ _ _ _ c.deliver_rest.result _ _ _ _ _ _ _ _ (rw p.planned.1 at r.fails.stops) (rw p.planned.1 at r.partition.synced) stays;
-      mends = on_ok c.deliver_rest.result (λ e q done le m. e ∙ mended b all q (g.P.Source.content c.args.partition.now) (blocks_in_first c.args.limit b all done) c.plan_pieces.new.cutter.start.block size good m (rw (← here.blocks) (blocks_grow c.args.limit b all c.args.before done le))) laid;
-    }
-
-pub returns-clause-mendable : goal.returns-clause-mendable
-returns-clause-mendable g c tells spool partition first none = from_first _ _ _ _ _ first none (returns-clause-mends g c tells spool partition).stays
 
 pub returns-clause-reads : goal.returns-clause-reads
 returns-clause-reads g c tells =
@@ -271,28 +208,6 @@ returns-clause-few g c =
     let o = c.in-Ok.ensures in
     let p = c.in-Ok-plan_pieces.ensures in
     few_of c.deliver_rest.result _ _ (rw (p.runs, o.runs, p.planned.1) at c.deliver_rest.ensures.few)
-
-pub returns-clause-costs : goal.returns-clause-costs
-returns-clause-costs g c =
-    let o = c.in-Ok.ensures in
-    let p = c.in-Ok-plan_pieces.ensures in
-    let r = c.deliver_rest.ensures in
-    let all = begun c.args.before c.deliver_rest.result in
-    let stops = rw p.planned.1 at r.fails.stops in
-    let more = rest_more c.args.before c.deliver_rest.result _ _ _ _ stops in
-    let planned = p.costs.counted in
-    let plan_calls = p.costs.calls in
-    let plan_turns = rw o.runs at p.costs.turns in
-    let calls = rw p.planned.1 at r.work.calls in
-    let turns = rw (p.planned.1, p.runs, o.runs) at r.work.turns in
-    record {
-      begun = all;
-      counted = rest_begins _ _ c.args.before c.deliver_rest.result _ _ _ _ stops;
-      calls = omega (arith, more, planned, plan_calls, calls, p.costs.read);
-      turns = omega (arith, more, planned, plan_turns, turns, p.costs.read);
-      steps = omega (arith, p.costs.steps, r.work.work.steps);
-      greatest = omega (arith, p.costs.greatest, r.work.work.greatest);
-    }
 
 -- ---- what planning and delivering ask for
 
@@ -339,12 +254,3 @@ pub overflow_mul-need : goal.overflow_mul-need
 overflow_mul-need g c =
     let less = mul-lt c.blocks-2.result c.block_size.result 4294967296 4294967296 c.blocks-2.type_inv c.block_size.type_inv in
     omega (arith, less)
-
-pub returns-in-Err-clause-source : goal.returns-in-Err-clause-source
-returns-in-Err-clause-source g c = reads_none _ _ _
-
-pub returns-then-is_too_small-clause-source : goal.returns-then-is_too_small-clause-source
-returns-then-is_too_small-clause-source g c = reads_none _ _ _
-
-pub returns-in-Err-plan_pieces-clause-source : goal.returns-in-Err-plan_pieces-clause-source
-returns-in-Err-plan_pieces-clause-source g c = reads_err _ c.in-Err-plan_pieces.ensures.source

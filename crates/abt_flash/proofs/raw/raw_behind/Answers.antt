@@ -1,10 +1,12 @@
-use Rattle.std.proofs.Common.{ℕ, ◌≡◌, length, ap, arith}
+use Rattle.std.proofs.Common.{ℕ, ◌≡◌, length, ap, arith, rules, Ok}
 use Rattle.std.specs.Prelude.{IsTrue}
 use Rattle.abt_sparse.specs.Block.{classify}
 use Rattle.abt_runs.specs.RawLaws.{raw_long}
 use Rattle.abt_flash.specs.Delivering.{blocks_in_first}
 use Rattle.abt_flash.specs.Raw.{raw_image}
-use Rattle.abt_flash.proofs.Records.{costs_more, counts_same, gives_none, gives_same, lays_none, lays_same, least_same, mendable_none, mendable_same, mends_none, mends_same, run_begins, run_early}
+use Rattle.abt_flash.proofs.Records.{costs_more, run_begins, run_counts, run_early}
+use Rattle.abt_flash.proofs.Wholly.{delivers_none, delivers_opened}
+use Rattle.abt_io.proofs.Lent.{reads_none}
 use Rattle.abt_flash.proofs.GivenBytes.{read_raw}
 use Rattle.abt_flash.proofs.Refusing.{OpensRaw, opens_runs, raw_allowed, raw_refused}
 use Rattle.abt_flash.proofs.raw.raw_behind.Goals as goal
@@ -28,64 +30,36 @@ opens g c =
     let long : r.length ≡ g.S.Source.size c.args.source.now = c.in-Ok.ensures.size.1 in
     rw (← long) (rw (← size) (opens_runs r.length r.blocks r.size _ _ r.some r.window r.words r.covers r.last r.fits (λ tells. rw size (counts g c tells))))
 
-pub returns-in-Ok-clause-refused : goal.returns-in-Ok-clause-refused
-returns-in-Ok-clause-refused g c =
-    raw_refused c.deliver_behind.result _ _ _ _ _ _ _ _ _ _ _ (opens g ((goal.at.returns-in-Ok-clause-refused g c).In-Ok)) (rw (c.in-Ok.ensures.size.0) at c.deliver_behind.ensures.refused)
-
-pub returns-in-Ok-clause-allowed : goal.returns-in-Ok-clause-allowed
-returns-in-Ok-clause-allowed g c =
-    raw_allowed c.deliver_behind.result _ _ _ _ _ _ _ (opens g ((goal.at.returns-in-Ok-clause-allowed g c).In-Ok)) (rw (c.in-Ok.ensures.size.0) at c.deliver_behind.ensures.granted)
-
-pub returns-in-Ok-clause-delivers : goal.returns-in-Ok-clause-delivers
-returns-in-Ok-clause-delivers g c = record {
-  early = c.deliver_behind.ensures.delivers.early;
-  some = c.deliver_behind.ensures.delivers.some;
-  counted = λ tells. counts_same c.deliver_behind.result _ _ _ _ (same g ((goal.at.returns-in-Ok-clause-delivers g c).In-Ok)) (c.deliver_behind.ensures.delivers.counted tells);
-  least = λ tells. least_same c.deliver_behind.result _ _ _ _ (same g ((goal.at.returns-in-Ok-clause-delivers g c).In-Ok)) (c.deliver_behind.ensures.delivers.least tells);
-  clean = c.deliver_behind.ensures.delivers.clean;
-}
-
-pub returns-in-Ok-clause-spool : goal.returns-in-Ok-clause-spool
-returns-in-Ok-clause-spool g c = gives_same _ _ _ _ _ _ _ c.deliver_behind.result _ _ (λ tells. same g ((goal.at.returns-in-Ok-clause-spool g c).In-Ok)) (λ late. c.in-Ok.ensures.size.0) c.deliver_behind.ensures.spool
-
-pub returns-in-Ok-clause-partition : goal.returns-in-Ok-clause-partition
-returns-in-Ok-clause-partition g c = lays_same _ _ _ _ _ _ _ c.deliver_behind.result _ _ (λ tells. same g ((goal.at.returns-in-Ok-clause-partition g c).In-Ok)) c.deliver_behind.ensures.partition
-
-pub returns-in-Ok-clause-mends : goal.returns-in-Ok-clause-mends
-returns-in-Ok-clause-mends g c tells spool partition = mends_same _ _ _ _ c.deliver_behind.result _ _ (same g ((goal.at.returns-in-Ok-clause-mends g c).In-Ok)) (c.deliver_behind.ensures.mends tells spool partition)
-
-pub returns-in-Ok-clause-long : goal.returns-in-Ok-clause-long
-returns-in-Ok-clause-long g c tells = rw (counts g ((goal.at.returns-in-Ok-clause-long g c).In-Ok) tells) (rw (c.in-Ok.ensures.size.0) at c.deliver_behind.ensures.long)
-
-pub returns-in-Ok-clause-costs : goal.returns-in-Ok-clause-costs
-returns-in-Ok-clause-costs g c =
-    costs_more _ _ _ _ _ _ _ _ _ _ (rw (c.in-Ok.ensures.size.0) at c.deliver_behind.ensures.costs)
-
-pub returns-in-Ok-clause-mendable : goal.returns-in-Ok-clause-mendable
-returns-in-Ok-clause-mendable g c tells spool partition first none = mendable_same _ _ _ _ _ (same g ((goal.at.returns-in-Ok-clause-mendable g c).In-Ok)) (c.deliver_behind.ensures.mendable tells spool partition first none)
+pub returns-in-Ok-clause-delivered : goal.returns-in-Ok-clause-delivered
+returns-in-Ok-clause-delivered g c =
+    let k = (goal.at.returns-in-Ok-clause-delivered g c).In-Ok in
+    let size = c.in-Ok.ensures.size.0 in
+    let d = c.deliver_behind.ensures.delivered in
+    record {
+      allowed = raw_allowed c.deliver_behind.result _ _ _ _ _ _ _ (opens g k) (rw size at d.granted);
+      refused = raw_refused c.deliver_behind.result _ _ _ _ _ _ _ _ _ _ _ (opens g k) (rw size at d.refused);
+      image = delivers_opened (λ tells. same g k) (λ late. size)
+          (reads_none {X = ℕ} {E = ℕ} (Ok 0) g.S.Source c.args.source.now)
+          (costs_more _ _ _ _ _ _ _ _ _ _ (rw size at d.image.costs)) d.image;
+      long = λ tells. rw (counts g k tells) (rw size at d.long);
+    }
 
 -- ---- where it was not opened
 
-pub returns-in-Err-clause-mendable : goal.returns-in-Err-clause-mendable
-returns-in-Err-clause-mendable g c tells spool partition first none = mendable_none _ _ _ none
-
-pub returns-in-Err-clause-spool : goal.returns-in-Err-clause-spool
-returns-in-Err-clause-spool g c = gives_none _ _ _ _ _ _ _ _
-
-pub returns-in-Err-clause-partition : goal.returns-in-Err-clause-partition
-returns-in-Err-clause-partition g c = lays_none _ _ _ _ _ _ _ _ (rw c.not_read.ensures (run_early c.in-Err.fault))
-
-pub returns-in-Err-clause-mends : goal.returns-in-Err-clause-mends
-returns-in-Err-clause-mends g c tells spool partition = mends_none _ _ _ _ _ (rw c.not_read.ensures (run_early c.in-Err.fault))
-
-pub returns-in-Err-clause-costs : goal.returns-in-Err-clause-costs
-returns-in-Err-clause-costs g c = record {
-  begun = 0;
-  counted = rw c.not_read.ensures (run_begins _ _ _ c.in-Err.fault);
-  calls = omega arith;
-  turns = omega arith;
-  steps = omega arith;
-  greatest = omega arith;
+pub returns-in-Err-clause-delivered : goal.returns-in-Err-clause-delivered
+returns-in-Err-clause-delivered g c = record {
+  allowed = tt;
+  refused = search rules;
+  image = delivers_none c.not_read.result (rw c.not_read.ensures (run_early c.in-Err.fault))
+      (λ tells. rw c.not_read.ensures (run_counts c.in-Err.fault _ _)) (reads_none _ _ _) (record {
+        begun = 0;
+        counted = rw c.not_read.ensures (run_begins _ _ _ c.in-Err.fault);
+        calls = omega arith;
+        turns = omega arith;
+        steps = omega arith;
+        greatest = omega arith;
+      });
+  long = λ tells. tt;
 }
 
 -- ---- what is read

@@ -2,10 +2,9 @@ use Rattle.std.proofs.Common.{◌≡◌, ◌++◌, ℕ, List, length, take, drop
 use Rattle.std.specs.Prelude.{IfNone}
 use Rattle.std.proofs.lemmas.List.{take-append-le}
 use Rattle.abt_chunks.specs.Ahead.{somes}
-use Rattle.abt_chunks.proofs.Causes.{any_ok}
 use Rattle.abt_chunks.specs.Places.{from_place}
 use Rattle.abt_verify.specs.Standing.{Stands}
-use Rattle.abt_verify.proofs.RawSteps.{all_came, none_failed, part_cause, short_cause}
+use Rattle.abt_verify.proofs.RawSteps.{all_came}
 use Rattle.abt_verify.proofs.raw_verifier.compare_piece.Goals as goal
 
 pub returns-in-None-clause-stands : goal.returns-in-None-clause-stands
@@ -16,34 +15,16 @@ returns-in-None-clause-stands g c tells there =
     let o = c.read_full_at-got.ensures in
     let out = c.read_full_at-got.new.out in
     let count = c.read_full_at-got.result.count in
-    let asked : length out ≡ n = let v = c.part_mut.ensures.long in let a = c.read_full_at-got.auto.out in omega arith in
-    let full : n ≡ count = let q = all_came c.read_full_at-got.result.fault count n c.in-None.ensures in omega (arith, q, asked, o.within) in
+    let asked : length out ≡ n = let v = c.part_mut.ensures.long in let a = c.read_full_at-got.auto.out in omega arith
+    in
+    let full : n ≡ count = let q = all_came c.read_full_at-got.result.fault count n c.in-None.ensures in omega (
+      arith,
+      q,
+      asked,
+      o.within,
+    ) in
     let same : take n (out ++ drop n w) ≡ take n x =
-    take-append-le n out (drop n w) (omega (arith, asked)) ∙ ap (λ (k : ℕ). take k out) full ∙ o.bytes tells ∙ ap (λ (k : ℕ). take k x) (sym full) in
-    subst (λ (l : List ℕ). IfNone c.compare_at-done.result.fault (Stands (g.P.Source.content c.args.partition.now) (from_place c.args.at (somes l)))) same (c.compare_at-done.ensures.stands there)
-
-pub returns-in-Some-clause-cause : goal.returns-in-Some-clause-cause
-returns-in-Some-clause-cause g c =
-    let n = c.args.n in
-    let o = c.read_full_at-got.ensures in
-    let out = c.read_full_at-got.new.out in
-    let count = c.read_full_at-got.result.count in
-    let asked : length out ≡ n = let v = c.part_mut.ensures.long in let a = c.read_full_at-got.auto.out in omega arith in
-    short_cause c.read_full_at-got.result.fault count n c.in-Some.fault g.S.Source.tells (g.S.Source.read_faults c.args.source.now) (g.S.Source.read_faults c.read_full_at-got.new.source) (g.P.Source.read_faults c.args.partition.now)
-    c.in-Some.ensures o.cause o.failed o.clean (λ tells none. let q = o.all tells none in let there = c.requires.there tells in omega (arith, q, asked, there))
-
-pub returns-in-None-clause-cause : goal.returns-in-None-clause-cause
-returns-in-None-clause-cause g c =
-    let o = c.read_full_at-got.ensures in
-    part_cause c.compare_at-done.result.fault g.S.Source.tells (g.S.Source.read_faults c.args.source.now) (g.S.Source.read_faults c.read_full_at-got.new.source) (g.P.Source.read_faults c.args.partition.now) (g.P.Source.read_faults c.compare_at-done.new.partition)
-    (o.clean (none_failed c.read_full_at-got.result.fault c.read_full_at-got.result.count c.args.n c.in-None.ensures)) c.compare_at-done.ensures.cause
-
-pub returns-in-None-clause-source : goal.returns-in-None-clause-source
-returns-in-None-clause-source g c = let o = c.read_full_at-got.ensures in record {
-  content = o.content;
-  size = o.size;
-  frame = o.frame;
-  faults = o.faults;
-  clean = any_ok _ (o.clean
-      (none_failed c.read_full_at-got.result.fault c.read_full_at-got.result.count c.args.n c.in-None.ensures));
-}
+    take-append-le n out (drop n w) (omega (arith, asked)) ∙ ap (λ (k : ℕ). take k out) full ∙ o.bytes tells
+    ∙ ap (λ (k : ℕ). take k x) (sym full) in
+    subst (λ (l : List ℕ). IfNone c.compare_at-done.result.fault (Stands (g.P.Source.content c.args.partition.now)
+    (from_place c.args.at (somes l)))) same (c.compare_at-done.ensures.compares.stands there)

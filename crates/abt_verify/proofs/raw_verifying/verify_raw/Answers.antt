@@ -1,37 +1,14 @@
-use Rattle.std.proofs.Common.{◌≡◌, Bool, Ok, Err, Result, length, arith, ap, sym, ◌∙◌, ℕ}
+use Rattle.std.proofs.Common.{◌≡◌, Bool, Ok, Err, Result, length, arith, ap, ◌∙◌, ℕ}
 use Rattle.std.specs.Int.{div_ceil}
-use Rattle.abt_io.proofs.Lent.{reads_err, reads_none, reads_ok, reads_then}
+use Rattle.abt_io.proofs.Lent.{reads_ok, reads_then}
 use Rattle.abt_chunks.specs.declared.progress.Progress.{Progress}
 use Rattle.abt_chunks.specs.declared.progress.Progress.TheVariants.{Done, More}
 use Rattle.abt_verify.specs.Fault.{HasRawCause, RawCause}
 use Rattle.abt_verify.specs.declared.fault.VerifyFault.{VerifyFault}
 use Rattle.abt_verify.specs.declared.fault.VerifyFault.TheVariants.{BadBlock}
 use Rattle.abt_verify.specs.declared.stage.Verified.{Verified}
-use Rattle.abt_verify.proofs.Said.{stands_nothing}
 use Rattle.abt_verify.proofs.RawSteps.{raw_all}
 use Rattle.abt_verify.proofs.raw_verifying.verify_raw.Goals as goal
-
-pub steps-init : goal.steps-init
-steps-init g c =
-    let none = c.open-machine.ensures.at in
-    record {
-      goes = rw c.open-machine.ensures.stage tt;
-      long = c.open-machine.ensures.told;
-      told = λ tells there. rw none (stands_nothing _);
-      read = omega (arith, none);
-      compared = omega (arith, none);
-      source = reads_none _ _ _;
-      partition = reads_none _ _ _;
-      calls = omega arith;
-      turns = omega arith;
-      steps = omega (arith, none);
-      greatest = omega arith;
-    }
-
-pub step-requires : goal.step-requires
-step-requires g c tells =
-    let i = c.steps.invariant in
-    i.long tells ∙ ap length (sym (i.source.content tells))
 
 pub steps-preserved : goal.steps-preserved
 steps-preserved g c =
@@ -50,12 +27,12 @@ steps-preserved g c =
           now (i.told tells there);
       read = omega (arith, counted.0, i.read, goes.more);
       compared = omega (arith, counted.1, i.compared, goes.more);
-      source = reads_ok tt (reads_then i.source (rw more at e.source));
-      partition = reads_ok tt (reads_then i.partition (rw more at e.partition));
-      calls = omega (arith, counted.0, counted.1, goes.more, e.source_bytes, e.partition_bytes);
+      source = reads_ok tt (reads_then i.source (rw more at e.source.only));
+      partition = reads_ok tt (reads_then i.partition (rw more at e.partition.only));
+      calls = omega (arith, counted.0, counted.1, goes.more, e.source.bytes, e.partition.bytes);
       turns = omega (arith, counted.0, counted.1, goes.more);
       steps = omega (arith, counted.0, counted.1, goes.more, e.one_step);
-      greatest = omega (arith, e.one_step, e.source_bytes, e.partition_bytes);
+      greatest = omega (arith, e.one_step, e.source.bytes, e.partition.bytes);
     }
 
 pub returns-in-Ok-Done-clause-verifies : goal.returns-in-Ok-Done-clause-verifies
@@ -84,24 +61,3 @@ step_cause : (f : VerifyFault) (tells : Bool) (r r' p p' : ℕ) → HasRawCause 
     → RawCause (let a : Result Verified VerifyFault = Err f in a) tells r r' p p'
 step_cause (BadBlock n) tells r r' p p' h = absurd h
 step_cause f tells r r' p p' h = h
-
-pub returns-in-Err-clause-cause : goal.returns-in-Err-clause-cause
-returns-in-Err-clause-cause g c =
-    let i = c.steps.invariant in
-    step_cause c.in-Err.fault g.S.Source.tells (g.S.Source.read_faults c.args.source.now)
-    (g.S.Source.read_faults c.step.new.source) (g.P.Source.read_faults c.args.partition.now)
-    (g.P.Source.read_faults c.step.new.partition)
-    (rw (i.source.clean, i.partition.clean) at (c.in-Err.ensures.cause i.goes))
-
-pub returns-in-Ok-Done-clause-source : goal.returns-in-Ok-Done-clause-source
-returns-in-Ok-Done-clause-source g c = reads_ok _ (reads_then c.steps.invariant.source c.in-Ok-Done.ensures.source)
-
-pub returns-in-Ok-Done-clause-partition : goal.returns-in-Ok-Done-clause-partition
-returns-in-Ok-Done-clause-partition g c =
-    reads_ok _ (reads_then c.steps.invariant.partition c.in-Ok-Done.ensures.partition)
-
-pub returns-in-Err-clause-source : goal.returns-in-Err-clause-source
-returns-in-Err-clause-source g c = reads_err _ (reads_then c.steps.invariant.source c.in-Err.ensures.source)
-
-pub returns-in-Err-clause-partition : goal.returns-in-Err-clause-partition
-returns-in-Err-clause-partition g c = reads_err _ (reads_then c.steps.invariant.partition c.in-Err.ensures.partition)

@@ -1,5 +1,5 @@
 use Rattle.std.proofs.Common.{◌≡◌, ◌+◌, ◌-◌, Ok, Err, Result, arith, refl, ap, ◌∙◌}
-use Rattle.abt_io.proofs.Lent.{reads_err, reads_none, reads_ok, reads_then}
+use Rattle.abt_io.proofs.Lent.{reads_none, reads_ok, reads_then}
 use Rattle.abt_chunks.specs.Taking.{input_state}
 use Rattle.abt_chunks.specs.declared.progress.Progress.{Progress}
 use Rattle.abt_chunks.specs.declared.progress.Progress.TheVariants.{Done, More}
@@ -48,8 +48,8 @@ steps-preserved g c =
     let sum : j ≡ k + n = omega (arith, i.input.given, e.input.input.given) in
     record {
       input = reads_on _ _ _ _ i.input e.input.input;
-      partition = reads_ok tt (reads_then i.partition (rw more at e.partition));
-      compared = omega (arith, i.compared, e.partition_bytes);
+      partition = reads_ok tt (reads_then i.partition (rw more at e.partition.only));
+      compared = omega (arith, i.compared, e.partition.bytes);
       goes = rw (stage, body) tt;
       told = λ tells. come_next g.P.Source.tells c.steps.machine.walk c.step.new.self.walk
           (g.I.Input.remaining c.args.input.now) (g.I.Input.remaining c.steps.input)
@@ -57,11 +57,11 @@ steps-preserved g c =
           (i.input.rest tells) sum (i.told tells) (same_there g.P.Source.tells (Ok More) _ _ _ _ _ _ _ _
           i.partition.content (rw c.in-Ok-More.field-0-is at (m.told tells i.goes))) (m.compared i.goes);
       read_faults = clean.0 ∙ i.read_faults;
-      calls = omega (arith, i.calls, progress, e.input, e.input.input, e.partition_bytes);
-      turns = omega (arith, i.turns, progress, few, e.input, e.input.input, e.partition_bytes);
+      calls = omega (arith, i.calls, progress, e.input, e.input.input, e.partition.bytes);
+      turns = omega (arith, i.turns, progress, few, e.input, e.input.input, e.partition.bytes);
       steps = record {
-        steps = omega (arith, i.steps, e.one_step, e.input, e.partition_bytes);
-        greatest = omega (arith, i.steps, e.one_step, e.input, e.partition_bytes);
+        steps = omega (arith, i.steps, e.one_step, e.input, e.partition.bytes);
+        greatest = omega (arith, i.steps, e.one_step, e.input, e.partition.bytes);
       };
     }
 
@@ -101,27 +101,3 @@ returns-in-Err-clause-verifies g c tells =
     (g.I.Input.remaining c.step.new.input) (g.P.Source.content c.args.partition.now) k n j _ _ _ _ (Err c.in-Err.fault)
     (i.input.rest tells) same (i.told tells) compares c.step.new.self.compared rest tt) (m.leaves i.goes)
     (g.met.I.Input.are_bytes c.args.input.now tells)
-
-pub returns-in-Ok-Done-clause-cause : goal.returns-in-Ok-Done-clause-cause
-returns-in-Ok-Done-clause-cause g c =
-    let i = c.steps.invariant in
-    let clean = c.in-Ok-Done.ensures.cause i.goes in
-    (clean.0 ∙ i.read_faults, clean.1 ∙ i.partition.clean)
-
-pub returns-in-Err-clause-cause : goal.returns-in-Err-clause-cause
-returns-in-Err-clause-cause g c =
-    let i = c.steps.invariant in
-    rw (i.read_faults, i.partition.clean) at (c.in-Err.ensures.cause i.goes)
-
-pub returns-in-Ok-Done-clause-input : goal.returns-in-Ok-Done-clause-input
-returns-in-Ok-Done-clause-input g c = reads_on _ _ _ _ c.steps.invariant.input c.step.ensures.input.input
-
-pub returns-in-Err-clause-input : goal.returns-in-Err-clause-input
-returns-in-Err-clause-input g c = reads_on _ _ _ _ c.steps.invariant.input c.step.ensures.input.input
-
-pub returns-in-Ok-Done-clause-partition : goal.returns-in-Ok-Done-clause-partition
-returns-in-Ok-Done-clause-partition g c =
-    reads_ok _ (reads_then c.steps.invariant.partition c.in-Ok-Done.ensures.partition)
-
-pub returns-in-Err-clause-partition : goal.returns-in-Err-clause-partition
-returns-in-Err-clause-partition g c = reads_err _ (reads_then c.steps.invariant.partition c.in-Err.ensures.partition)

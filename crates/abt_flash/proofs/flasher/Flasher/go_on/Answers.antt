@@ -15,7 +15,7 @@ lay_part-done-requires-clause-fits g c =
     let size = g.P.Source.size c.args.partition.now in
     let short : is_short_of s size ≡ false = ap (λ (k : ℕ). is_short_of s k) (sym c.length.ensures.size) ∙ sym c.is_short.ensures ∙ c.if-is_short.false in
     let small : need_of s < 2 ^ 64 = omega (arith, c.need-need.ensures) in
-    rw c.place-at.ensures (room_for s c.part_within-taken.result.part size short c.part_within-taken.ensures.turn.inside small).0
+    rw c.place-at.ensures (room_for s c.part_within-taken.result.part size short c.part_within-taken.ensures.step.turn.inside small).0
 
 not_short : (s : Walk) (size : ℕ) → is_short_of s size ≡ false → passed s ≡ true → need_of s ≤ size
 not_short s size short q = ltb-false _ _ (ap (λ (b : Bool). b && nat_lt size (need_of s)) (sym q) ∙ short)
@@ -54,7 +54,7 @@ returns-in-Ok g c = record {
     read =
         record {
           asked = search rules;
-          present = λ tells. let p = c.part_within-taken.ensures in p.input.input.present tells;
+          present = λ tells. let p = c.part_within-taken.ensures in p.step.input.input.present tells;
           rest = search rules;
           frame = search rules;
         };
@@ -66,11 +66,11 @@ returns-in-Ok g c = record {
         let rem = g.I.Input.remaining c.args.input.now in
         let win = c.part_within-taken.new.w.bytes in
         let k : g.I.Input.given c.part_within-taken.new.input - g.I.Input.given c.args.input.now ≡ r = omega arith in
-        let long : r ≤ length win = omega (arith, ap length (p.window tells), length-take r win, length-take r rem, p.input.input.present tells) in
+        let long : r ≤ length win = omega (arith, ap length (p.gives.window tells), length-take r win, length-take r rem, p.step.input.input.present tells) in
         rw (k, c.answer-answer.ensures) (laid_part g.P.Source.tells c.args.self.now.stage c.args.self.now.walk c.part_within-taken.new.self (take r rem) (g.I.Input.remaining c.part_within-taken.new.input) win
         (g.P.Partition.past c.args.partition.now) (g.P.Partition.past c.lay_part-done.new.partition) (g.P.Source.content c.args.partition.now) (g.P.Source.content c.lay_part-done.new.partition)
-        (g.P.Partition.taken c.args.partition.now) (g.P.Partition.taken c.lay_part-done.new.partition) r c.max-all.result (p.window tells) long
-        c.part_within-taken.result.part p.turn.moved p.words.within p.turn.leaves (p.told tells).says p.turn.place e.all
+        (g.P.Partition.taken c.args.partition.now) (g.P.Partition.taken c.lay_part-done.new.partition) r c.max-all.result (p.gives.window tells) long
+        c.part_within-taken.result.part p.step.turn.moved p.gives.words.within p.step.turn.leaves (p.gives.told tells).says p.step.turn.place e.all
         (λ t. rw c.place-at.ensures at (e.laid t)) (λ t. rw c.place-at.ensures at (e.touches t).kept) (λ t. rw c.place-at.ensures at (e.touches t).moments));
     heads = λ tells goes.
         let p = c.part_within-taken.ensures in
@@ -78,8 +78,8 @@ returns-in-Ok g c = record {
         let rem = g.I.Input.remaining c.args.input.now in
         let rest = g.I.Input.remaining c.part_within-taken.new.input in
         let k : g.I.Input.given c.part_within-taken.new.input - g.I.Input.given c.args.input.now ≡ r = omega arith in
-        let joined : take r rem ++ rest ≡ rem = ap (λ (l : List ℕ). take r rem ++ l) (rw k at (p.input.input.rest tells)) ∙ take-append-drop r rem in
-        rw c.answer-answer.ensures (heads c.part_within-taken.result.part c.args.self.now.walk c.part_within-taken.new.self (take r rem) rest rem joined p.turn.leaves ((p.told tells).lists rest (λ z. refl)));
+        let joined : take r rem ++ rest ≡ rem = ap (λ (l : List ℕ). take r rem ++ l) (rw k at (p.step.input.input.rest tells)) ∙ take-append-drop r rem in
+        rw c.answer-answer.ensures (heads c.part_within-taken.result.part c.args.self.now.walk c.part_within-taken.new.self (take r rem) rest rem joined p.step.turn.leaves ((p.gives.told tells).lists rest (λ z. refl)));
     syncs =
         record {
           settled = λ goes tells. rw c.answer-answer.ensures (answer_settles c.part_within-taken.result.part _ (c.in-Ok.ensures.settled tells));
@@ -96,31 +96,31 @@ returns-in-Ok g c = record {
         let s = c.args.self.now.walk in
         let size = g.P.Source.size c.args.partition.now in
         let short : is_short_of s size ≡ false = ap (λ (k : ℕ). is_short_of s k) (sym c.length.ensures.size) ∙ sym c.is_short.ensures ∙ c.if-is_short.false in
-        rw c.answer-answer.ensures (answer_measures c.part_within-taken.result.part s size (going_phase c.args.self.now.stage s.phase goes) c.part_within-taken.ensures.turn.closes (λ q. not_short s size short q));
+        rw c.answer-answer.ensures (answer_measures c.part_within-taken.result.part s size (going_phase c.args.self.now.stage s.phase goes) c.part_within-taken.ensures.step.turn.closes (λ q. not_short s size short q));
     short = rw c.answer-answer.ensures (never_short c.part_within-taken.result.part _);
     goes_on =
         record {
           fresh = λ goes.
               let p = c.part_within-taken.ensures in
-              rw c.answer-answer.ensures (fresh_goes c.part_within-taken.result.part c.args.self.now.walk c.part_within-taken.new.self c.part_within-taken.result.received c.max-all.result _ (going_phase c.args.self.now.stage c.args.self.now.walk.phase goes) p.turn.numbers p.turn.leaves p.turn.moved p.words.within p.turn.inside c.in-Ok.ensures.still);
+              rw c.answer-answer.ensures (fresh_goes c.part_within-taken.result.part c.args.self.now.walk c.part_within-taken.new.self c.part_within-taken.result.received c.max-all.result _ (going_phase c.args.self.now.stage c.args.self.now.walk.phase goes) p.step.turn.numbers p.step.turn.leaves p.step.turn.moved p.gives.words.within p.step.turn.inside c.in-Ok.ensures.still);
           header =
               let p = c.part_within-taken.ensures in
-              rw c.answer-answer.ensures (on_more c.part_within-taken.result.part _ (λ goes. p.turn.header));
+              rw c.answer-answer.ensures (on_more c.part_within-taken.result.part _ (λ goes. p.step.turn.header));
           begins =
               let p = c.part_within-taken.ensures in
-              rw c.answer-answer.ensures (begins_of c.part_within-taken.result.part c.args.self.now.walk c.part_within-taken.new.self c.part_within-taken.result.received p.turn.leaves p.turn.numbers (λ over. ap (λ (s : Walk). s.phase) (p.over over).0));
+              rw c.answer-answer.ensures (begins_of c.part_within-taken.result.part c.args.self.now.walk c.part_within-taken.new.self c.part_within-taken.result.received p.step.turn.leaves p.step.turn.numbers (λ over. ap (λ (s : Walk). s.phase) (p.step.over over).0));
         };
     laid = search rules;
     stage = search rules;
-    leaves = λ goes. rw c.answer-answer.ensures (answer_leaves c.part_within-taken.result.part _ c.part_within-taken.ensures.turn.leaves);
+    leaves = λ goes. rw c.answer-answer.ensures (answer_leaves c.part_within-taken.result.part _ c.part_within-taken.ensures.step.turn.leaves);
     cause = λ goes.
         let p = c.part_within-taken.ensures in
         let going = going_phase c.args.self.now.stage c.args.self.now.walk.phase goes in
-        rw c.answer-answer.ensures (answer_cause c.part_within-taken.result.part _ _ _ _ _ going p.blame.cause p.blame.clean (p.blame.failed going) c.in-Ok.ensures.cause);
+        rw c.answer-answer.ensures (answer_cause c.part_within-taken.result.part _ _ _ _ _ going p.step.blame.cause p.step.blame.clean (p.step.blame.failed going) c.in-Ok.ensures.cause);
     grows = search rules;
     fewer =
         let p = c.part_within-taken.ensures in
-        rw c.answer-answer.ensures (on_more c.part_within-taken.result.part _ p.turn.fewer);
+        rw c.answer-answer.ensures (on_more c.part_within-taken.result.part _ p.step.turn.fewer);
     costs =
         record {
           reads = search rules;
@@ -128,13 +128,13 @@ returns-in-Ok g c = record {
           turns = search rules;
           few =
               let p = c.part_within-taken.ensures in
-              rw c.answer-answer.ensures (on_more c.part_within-taken.result.part _ (λ goes. omega (arith, p.meter.turns, p.input.received, c.in-Ok.ensures.costs.few, c.close_step-2.ensures.turns)));
+              rw c.answer-answer.ensures (on_more c.part_within-taken.result.part _ (λ goes. omega (arith, p.step.meter.turns, p.step.input.received, c.in-Ok.ensures.costs.few, c.close_step-2.ensures.turns)));
           progress = search rules;
         };
     one_step =
         record {
           steps = search rules;
-          greatest = closed _ _ _ _ _ _ _ c.part_within-taken.ensures.meter.greatest c.lay_part-done.ensures.costs.no_step.greatest c.close_step-2.ensures.greatest c.part_within-taken.ensures.input.received;
+          greatest = closed _ _ _ _ _ _ _ c.part_within-taken.ensures.step.meter.greatest c.lay_part-done.ensures.costs.no_step.greatest c.close_step-2.ensures.greatest c.part_within-taken.ensures.step.input.received;
         };
   };
 }
@@ -145,7 +145,7 @@ returns-in-Err g c = record {
     read =
         record {
           asked = search rules;
-          present = λ tells. let p = c.part_within-taken.ensures in p.input.input.present tells;
+          present = λ tells. let p = c.part_within-taken.ensures in p.step.input.input.present tells;
           rest = search rules;
           frame = search rules;
         };
@@ -157,11 +157,11 @@ returns-in-Err g c = record {
         let rem = g.I.Input.remaining c.args.input.now in
         let win = c.part_within-taken.new.w.bytes in
         let k : g.I.Input.given c.part_within-taken.new.input - g.I.Input.given c.args.input.now ≡ r = omega arith in
-        let long : r ≤ length win = omega (arith, ap length (p.window tells), length-take r win, length-take r rem, p.input.input.present tells) in
+        let long : r ≤ length win = omega (arith, ap length (p.gives.window tells), length-take r win, length-take r rem, p.step.input.input.present tells) in
         rw k (refused_laid g.P.Source.tells c.args.self.now.stage c.args.self.now.walk c.part_within-taken.new.self (take r rem) (g.I.Input.remaining c.part_within-taken.new.input) win
         (g.P.Partition.past c.args.partition.now) (g.P.Partition.past c.lay_part-done.new.partition) (g.P.Source.content c.args.partition.now) (g.P.Source.content c.lay_part-done.new.partition)
-        (g.P.Partition.taken c.args.partition.now) (g.P.Partition.taken c.lay_part-done.new.partition) r c.max-all.result (p.window tells) long
-        c.part_within-taken.result.part c.in-Err.fault _ _ p.turn.moved p.words.within p.turn.leaves (p.told tells).says e.cause e.ends e.all (λ t. rw c.place-at.ensures at (e.laid t))
+        (g.P.Partition.taken c.args.partition.now) (g.P.Partition.taken c.lay_part-done.new.partition) r c.max-all.result (p.gives.window tells) long
+        c.part_within-taken.result.part c.in-Err.fault _ _ p.step.turn.moved p.gives.words.within p.step.turn.leaves (p.gives.told tells).says e.cause e.ends e.all (λ t. rw c.place-at.ensures at (e.laid t))
         (λ t. rw c.place-at.ensures at (e.touches t).kept) (λ t. rw c.place-at.ensures at (e.touches t).moments));
     heads = λ tells goes.
         let p = c.part_within-taken.ensures in
@@ -170,8 +170,8 @@ returns-in-Err g c = record {
         let rem = g.I.Input.remaining c.args.input.now in
         let rest = g.I.Input.remaining c.part_within-taken.new.input in
         let k : g.I.Input.given c.part_within-taken.new.input - g.I.Input.given c.args.input.now ≡ r = omega arith in
-        let joined : take r rem ++ rest ≡ rem = ap (λ (l : List ℕ). take r rem ++ l) (rw k at (p.input.input.rest tells)) ∙ take-append-drop r rem in
-        refused_heads c.part_within-taken.result.part c.in-Err.fault c.args.self.now.walk c.part_within-taken.new.self rem rest _ _ e.cause e.ends (heads c.part_within-taken.result.part c.args.self.now.walk c.part_within-taken.new.self (take r rem) rest rem joined p.turn.leaves ((p.told tells).lists rest (λ z. refl)));
+        let joined : take r rem ++ rest ≡ rem = ap (λ (l : List ℕ). take r rem ++ l) (rw k at (p.step.input.input.rest tells)) ∙ take-append-drop r rem in
+        refused_heads c.part_within-taken.result.part c.in-Err.fault c.args.self.now.walk c.part_within-taken.new.self rem rest _ _ e.cause e.ends (heads c.part_within-taken.result.part c.args.self.now.walk c.part_within-taken.new.self (take r rem) rest rem joined p.step.turn.leaves ((p.gives.told tells).lists rest (λ z. refl)));
     syncs =
         record {
           settled = search rules;
@@ -186,13 +186,13 @@ returns-in-Err g c = record {
         let e = c.in-Err.ensures in
         let size = g.P.Source.size c.args.partition.now in
         let short : is_short_of s size ≡ false = ap (λ (k : ℕ). is_short_of s k) (sym c.length.ensures.size) ∙ sym c.is_short.ensures ∙ c.if-is_short.false in
-        refused_measures c.part_within-taken.result.part c.in-Err.fault s size _ _ e.cause e.ends (going_phase c.args.self.now.stage s.phase goes) c.part_within-taken.ensures.turn.closes (λ q. not_short s size short q);
+        refused_measures c.part_within-taken.result.part c.in-Err.fault s size _ _ e.cause e.ends (going_phase c.args.self.now.stage s.phase goes) c.part_within-taken.ensures.step.turn.closes (λ q. not_short s size short q);
     short = refused_short c.in-Err.fault _ _ _ c.in-Err.ensures.cause;
     goes_on = search rules;
     laid = search rules;
     stage = search rules;
-    leaves = λ goes. refused_leaves c.part_within-taken.result.part c.in-Err.fault _ _ _ c.in-Err.ensures.cause c.in-Err.ensures.ends c.part_within-taken.ensures.turn.leaves;
-    cause = λ goes. refused_cause c.part_within-taken.result.part c.in-Err.fault _ _ _ _ c.in-Err.ensures.cause c.in-Err.ensures.sound c.part_within-taken.ensures.blame.clean;
+    leaves = λ goes. refused_leaves c.part_within-taken.result.part c.in-Err.fault _ _ _ c.in-Err.ensures.cause c.in-Err.ensures.ends c.part_within-taken.ensures.step.turn.leaves;
+    cause = λ goes. refused_cause c.part_within-taken.result.part c.in-Err.fault _ _ _ _ c.in-Err.ensures.cause c.in-Err.ensures.sound c.part_within-taken.ensures.step.blame.clean;
     grows =
         record {
           given = search rules;
@@ -205,7 +205,7 @@ returns-in-Err g c = record {
     one_step =
         record {
           steps = search rules;
-          greatest = closed _ _ _ _ _ _ _ c.part_within-taken.ensures.meter.greatest c.lay_part-done.ensures.costs.no_step.greatest c.close_step-2.ensures.greatest c.part_within-taken.ensures.input.received;
+          greatest = closed _ _ _ _ _ _ _ c.part_within-taken.ensures.step.meter.greatest c.lay_part-done.ensures.costs.no_step.greatest c.close_step-2.ensures.greatest c.part_within-taken.ensures.step.input.received;
         };
   };
 }
@@ -216,7 +216,7 @@ lay_part-done-requires-clause-below g c =
     let size = g.P.Source.size c.args.partition.now in
     let short : is_short_of s size ≡ false = ap (λ (k : ℕ). is_short_of s k) (sym c.length.ensures.size) ∙ sym c.is_short.ensures ∙ c.if-is_short.false in
     let small : need_of s < 2 ^ 64 = omega (arith, c.need-need.ensures) in
-    rw c.place-at.ensures (room_for s c.part_within-taken.result.part size short c.part_within-taken.ensures.turn.inside small).1
+    rw c.place-at.ensures (room_for s c.part_within-taken.result.part size short c.part_within-taken.ensures.step.turn.inside small).1
 
 put_small : (at put : ℕ) → at + put < 2 ^ 64 → put < 2 ^ 64
 put_small at put h = omega (arith, h)
@@ -227,4 +227,4 @@ bytes_put-requires g c =
     let size = g.P.Source.size c.args.partition.now in
     let short : is_short_of s size ≡ false = ap (λ (k : ℕ). is_short_of s k) (sym c.length.ensures.size) ∙ sym c.is_short.ensures ∙ c.if-is_short.false in
     let small : need_of s < 2 ^ 64 = omega (arith, c.need-need.ensures) in
-    put_small _ _ (room_for s c.part_within-taken.result.part size short c.part_within-taken.ensures.turn.inside small).1
+    put_small _ _ (room_for s c.part_within-taken.result.part size short c.part_within-taken.ensures.step.turn.inside small).1

@@ -18,10 +18,10 @@ returns-in-Ok-Some-clause-made g c =
     }
 
 pub returns-in-Err-clause-source : goal.returns-in-Err-clause-source
-returns-in-Err-clause-source g c = reads_err _ c.in-Err.ensures.reads
+returns-in-Err-clause-source g c = reads_err _ c.in-Err.ensures.left.reads
 
 pub returns-in-Ok-Some-clause-source : goal.returns-in-Ok-Some-clause-source
-returns-in-Ok-Some-clause-source g c = reads_ok _ c.in-Ok-Some.ensures.reads
+returns-in-Ok-Some-clause-source g c = reads_ok _ c.in-Ok-Some.ensures.left.reads
 
 pub returns-in-Err-clause-writes : goal.returns-in-Err-clause-writes
 returns-in-Err-clause-writes g c = writes_err _ (rw c.requires.between at c.in-Err.ensures.writes)

@@ -1,4 +1,4 @@
-use Rattle.std.proofs.Common.{◌+◌, ◌-◌, arith}
+use Rattle.std.proofs.Common.{◌+◌, arith}
 use Rattle.abt_flash.proofs.Ways.{late_takes, late_words, passes_on}
 use Rattle.abt_flash.proofs.way.LateWayRawRuns.write_piece.Goals as goal
 use Rattle.abt_io.proofs.Lent.{reads_err, reads_ok, writes_ok, writes_err}
