@@ -1,5 +1,6 @@
 -- Pages: an image is a sequence of them, and every section begins at the front of one.
-use Rattle.std.specs.Prelude.{ℕ, ◌+◌, ◌-◌, ◌/◌, ◌==◌, if◌then◌else◌, List, Option, Some, None, Result, Ok, Err}
+use Rattle.std.specs.Prelude.{◌≡◌, ◌≤◌, ℕ, ◌+◌, ◌-◌, ◌/◌, ◌==◌, if◌then◌else◌, List, Option, Some, None, Result, Ok}
+use Rattle.std.specs.Prelude.{Err}
 use Rattle.abt_headers.specs.declared.fault.HeaderFault.{HeaderFault}
 use Rattle.abt_headers.specs.declared.fault.HeaderFault.TheVariants as faults
 use Rattle.abt_headers.specs.declared.page.PageSize.{PageSize}
@@ -40,3 +41,9 @@ page_at place x = page_or_fault (number_at place 4 x) (page_from (number_at plac
 -- how many pages of p bytes hold n bytes: n / p, rounded up
 abbrev pub pages : ℕ → ℕ → ℕ
 pages n p = (n + (p - 1)) / p
+
+-- n is how many bytes this page has, from 2,048 to 131,072
+pub record IsPage (n page : ℕ) : Type 0 where
+  pub value : n ≡ page
+  pub low : 2048 ≤ n
+  pub high : n ≤ 131072

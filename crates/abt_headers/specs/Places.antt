@@ -1,5 +1,5 @@
 -- The sections of an image: their names, and where they stand.
-use Rattle.std.specs.Prelude.{◌≡◌, ℕ, ◌+◌, ◌*◌, ◌<◌, ◌^◌, List, [], ◌∷◌, length, get_or, codes}
+use Rattle.std.specs.Prelude.{◌≡◌, ℕ, ◌+◌, ◌*◌, ◌≤◌, ◌<◌, ◌^◌, List, [], ◌∷◌, length, get_or, codes}
 use Rattle.abt_headers.specs.declared.sections.Section.{Section}
 use Rattle.abt_headers.specs.declared.sections.Section.TheVariants.{Kernel, Ramdisk, Second, RecoveryDtbo, Dtb}
 use Rattle.abt_headers.specs.declared.sections.Section.TheVariants.{Signature, VendorRamdisk, Table, Bootconfig}
@@ -29,3 +29,9 @@ places_from p k (s ∷ ss) = section_place p k s ∷ places_from p (k + pages s.
 -- each place ends below 2^63, so that sums of offsets and sizes fit 64 bits
 abbrev pub EachLow : List Place → Type 0
 EachLow ps = (i : ℕ) (q : Place) → i < length ps → q ≡ get_or ps i q → q.at + q.size < 2 ^ 63
+
+-- sections may be laid behind k pages of p bytes: the places of five fit 64 bits
+pub record MayLay (p k : ℕ) : Type 0 where
+  pub low : 2048 ≤ p
+  pub high : p ≤ 131072
+  pub first : k ≤ 2

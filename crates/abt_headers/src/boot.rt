@@ -4,6 +4,7 @@ ghost use Rattle.std.specs.Prelude.{◌≡◌, ◌+◌, ◌≤◌, ◌++◌, ◌
 ghost use Rattle.abt_headers.specs.Boot.{boot_at, boot_page, boot_places, boot_record, boot_size, boot_version};
 ghost use Rattle.abt_headers.specs.Fault.{header_fault_number};
 ghost use Rattle.abt_headers.specs.Fits.{BootFits};
+ghost use Rattle.abt_headers.specs.Page.{IsPage};
 ghost use Rattle.abt_headers.specs.Places.{EachLow};
 
 use crate::boot_reading::read_boot_header;
@@ -185,9 +186,7 @@ impl BootHeader {
 
     /// How many bytes a page has: 4,096 from version 3 on.
     pub fn page_size(&self) -> u32
-        ensures value { result ≡ boot_page self.now }
-        ensures low { 2048 ≤ result }
-        ensures high { result ≤ 131072 }
+        ensures { IsPage result (boot_page self.now) }
     {
         match self {
             BootHeader::V0(front) => front.page_size.bytes(),

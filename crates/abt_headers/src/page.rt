@@ -1,7 +1,7 @@
 //! The page sizes that a header may give.
 
 ghost use Rattle.std.specs.Prelude.{◌≡◌, ◌+◌, ◌≤◌, length};
-ghost use Rattle.abt_headers.specs.Page.{page_at, page_bytes, page_from};
+ghost use Rattle.abt_headers.specs.Page.{IsPage, page_at, page_bytes, page_from};
 
 use crate::fault::HeaderFault;
 use crate::field::u32_at;
@@ -38,9 +38,7 @@ impl PageSize {
 
     /// How many bytes a page has, from 2,048 to 131,072.
     pub fn bytes(self) -> u32
-        ensures value { result ≡ page_bytes self }
-        ensures low { 2048 ≤ result }
-        ensures high { result ≤ 131072 }
+        ensures { IsPage result (page_bytes self) }
     {
         match self {
             PageSize::Of2048 => 2048,

@@ -2,7 +2,7 @@
 
 ghost use Rattle.std.specs.Prelude.{◌≡◌, ◌+◌, ◌*◌, ◌≤◌, ◌<◌, ◌^◌, List, length, slice_index_or};
 ghost use Rattle.abt_headers.specs.Page as of_page;
-ghost use Rattle.abt_headers.specs.Places.{EachLow, section_place, places_from, section_name};
+ghost use Rattle.abt_headers.specs.Places.{EachLow, MayLay, places_from, section_name, section_place};
 
 use std::fmt;
 use std::marker::Model;
@@ -158,9 +158,7 @@ fn place_behind(page: u32, before: u64, section: (Section, u32)) -> Place
 /// The first five places of sections of these sizes, one behind another, each from a page boundary on and the first
 /// behind `first` pages.
 fn five_places(page: u32, first: u64, sections: &[(Section, u32); 5]) -> [Place; 5]
-    requires low { 2048 ≤ page }
-    requires high { page ≤ 131072 }
-    requires first { first ≤ 2 }
+    requires { MayLay page first }
     ensures places { result ≡ places_from page first sections.now }
     ensures low { EachLow result }
 {
@@ -181,9 +179,7 @@ fn five_places(page: u32, first: u64, sections: &[(Section, u32); 5]) -> [Place;
 /// behind `first` pages.
 pub(crate) fn lay(page: u32, first: u64, sections: &[(Section, u32)]) -> Sections
     requires count { length sections.now ≤ 5 }
-    requires low { 2048 ≤ page }
-    requires high { page ≤ 131072 }
-    requires first { first ≤ 2 }
+    requires may { MayLay page first }
     ensures places { result ≡ places_from page first sections.now }
     ensures low { EachLow result }
 {

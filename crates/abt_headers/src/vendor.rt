@@ -3,6 +3,7 @@
 ghost use Rattle.std.specs.Prelude.{◌≡◌, ◌+◌, ◌≤◌, ◌++◌, ℕ, List, IfOk, IfErr, MatchResult, Ok, Err, length, drop};
 ghost use Rattle.std.specs.Prelude.{take};
 ghost use Rattle.abt_headers.specs.Fault.{header_fault_number};
+ghost use Rattle.abt_headers.specs.Page.{IsPage};
 ghost use Rattle.abt_headers.specs.Places.{EachLow};
 ghost use Rattle.abt_headers.specs.Vendor.{Vendor, vendor_at, vendor_page, vendor_places, vendor_record, vendor_size};
 ghost use Rattle.abt_headers.specs.Vendor.{vendor_version, vendor_view};
@@ -120,9 +121,7 @@ impl VendorHeader {
 
     /// How many bytes a page has.
     pub fn page_size(&self) -> u32
-        ensures value { result ≡ vendor_page (vendor_view self.now) }
-        ensures low { 2048 ≤ result }
-        ensures high { result ≤ 131072 }
+        ensures { IsPage result (vendor_page (vendor_view self.now)) }
     {
         match self {
             VendorHeader::V3(front) => front.page_size.bytes(),

@@ -13,3 +13,9 @@ Grows old now = take (length old) now ≡ old
 pub record AddsUpTo {X E : Type 0} (r : Result X E) (old new : List ℕ) (n : ℕ) : Type 0 where
   pub most : length new ≤ length old + n
   pub all : OnOk r (length new ≡ length old + n)
+
+-- The same, and what was there stands.
+pub record GrowsBy {X E : Type 0} (r : Result X E) (old new : List ℕ) (n : ℕ) : Type 0 where
+  pub grown : Grows old new
+  pub most : length new ≤ length old + n
+  pub all : OnOk r (length new ≡ length old + n)

@@ -1,3 +1,4 @@
+pub mod Asked
 pub mod BootCanon
 pub mod Broken
 pub mod Canonical
@@ -12,6 +13,7 @@ pub mod Id
 pub mod Layout
 pub mod Moves
 pub mod Open
+pub mod Packs
 pub mod Reads
 pub mod Refusal
 pub mod Unpacked

@@ -1,6 +1,6 @@
 -- What packing refuses before it writes, the first in order.
-use Rattle.std.specs.Prelude.{ℕ, ◌&&◌, ◌||◌, nat_lt, not, if◌then◌else◌, List, [], ◌∷◌, ◌==◌, Option, Some, None}
-use Rattle.std.specs.Prelude.{is_some}
+use Rattle.std.specs.Prelude.{◌≡◌, ℕ, Result, MatchResult, ◌&&◌, ◌||◌, nat_lt, not, if◌then◌else◌, List}
+use Rattle.std.specs.Prelude.{[], ◌∷◌, ◌==◌, Option, Some, None, is_some}
 use Rattle.abt_headers.specs.declared.fault.HeaderFault.TheVariants as header
 use Rattle.abt_headers.specs.declared.sections.Section.{Section}
 use Rattle.abt_headers.specs.declared.sections.Section.TheVariants.{Kernel, Ramdisk, Second, RecoveryDtbo, Dtb}
@@ -8,6 +8,7 @@ use Rattle.abt_headers.specs.declared.sections.Section.TheVariants.{Signature, V
 use Rattle.abt_headers.specs.Page.{page_from}
 use Rattle.abt_sections.specs.declared.fault.SectionFault.{SectionFault}
 use Rattle.abt_sections.specs.declared.fault.SectionFault.TheVariants as faults
+use Rattle.abt_sections.specs.Cause.{full_handed}
 use Rattle.abt_sections.specs.Fields.{BootFields, VendorFields, is_text}
 
 -- the sections of a boot image, in order
@@ -62,3 +63,10 @@ pack_vendor_refusal s sizes = or_else (vendor_refusal s) (size_refusal vendor_na
 abbrev pub IfRefused : Option SectionFault → (SectionFault → Type 0) → Type 0
 IfRefused None P = Unit {0}
 IfRefused (Some f) P = P f
+
+-- A call is refused where there is a refusal, and by it; else its answer is what P says. No fault says that a device is
+-- full.
+pub record RefusedBy {X : Type 0} (r : Result X SectionFault) (refusal : Option SectionFault) (P : X → Type 0)
+    : Type 0 where
+  pub value : MatchResult r (λ x. (refusal ≡ None) × P x) (λ f. refusal ≡ Some f)
+  pub failed : full_handed r ≡ 0

@@ -1,11 +1,11 @@
 //! The header that is packed of a boot image's fields.
 
-ghost use Rattle.std.specs.Prelude.{◌≡◌, ◌<◌, ◌≤◌, ◌^◌, IfOk, OnOk, MatchResult, length, Some, None};
+ghost use Rattle.std.specs.Prelude.{◌≡◌, ◌<◌, ◌≤◌, ◌^◌, OnOk, length};
 ghost use Rattle.abt_headers.specs.Boot.{boot_page, boot_size};
 ghost use Rattle.abt_headers.specs.Page.{page_bytes};
-ghost use Rattle.abt_sections.specs.Cause.{full_handed};
 ghost use Rattle.abt_sections.specs.Fields.{boot_fields};
-ghost use Rattle.abt_sections.specs.Refusal.{boot_refusal};
+ghost use Rattle.abt_sections.specs.Refusal.{RefusedBy, boot_refusal};
+ghost use Rattle.abt_sections.specs.Asked.{IsPageNumber};
 ghost use Rattle.abt_sections.specs.BootCanon as canon;
 
 use crate::fault::SectionFault;
@@ -19,13 +19,11 @@ use abt_io::Meter;
 /// The page of the image, or what the fields are refused for.
 #[tactic(auto, unfolding(crate::specs::Refusal::boot_refusal))]
 pub(crate) fn check_boot_spec(spec: &BootSpec, m: &mut Meter) -> Result<PageSize, SectionFault>
-    ensures refusal { MatchResult result (λ _. boot_refusal (boot_fields spec.now) ≡ None)
-        (λ f. boot_refusal (boot_fields spec.now) ≡ Some f) }
+    ensures refused { RefusedBy result (boot_refusal (boot_fields spec.now))
+        (λ p. p ≡ canon.boot_page_for (boot_fields spec.now)) }
     ensures version { OnOk result (spec.now.version ≤ 4) }
-    ensures page { IfOk result (λ p. p ≡ canon.boot_page_for (boot_fields spec.now)) }
     ensures name { OnOk result (spec.now.version < 3 → length spec.now.name.now ≤ 15) }
     ensures cmdline { OnOk result (length spec.now.cmdline.now ≤ 1535) }
-    ensures failed { full_handed result ≡ 0 }
 {
     if spec.version > 4 {
         return Err(SectionFault::Header(HeaderFault::Version(spec.version)));
@@ -70,8 +68,7 @@ fn front_for(spec: &BootSpec, page: PageSize, sizes: &[u32; 5], id: [u8; 32]) ->
 
 /// Where the recovery dtbo stands in an image with parts of these sizes, or 0 where it is empty.
 pub(crate) fn dtbo_offset(page: u32, kernel: u32, ramdisk: u32, second: u32, dtbo: u32) -> u64
-    requires low { 0 < page }
-    requires high { page ≤ 131072 }
+    requires { IsPageNumber page }
     ensures { result ≡ canon.dtbo_offset page kernel ramdisk second dtbo }
 {
     if dtbo == 0 {

@@ -3,7 +3,7 @@
 ghost use Rattle.std.specs.Prelude.{◌≡◌, ◌<◌, ◌≤◌, ◌+◌, ◌-◌, ◌^◌, ◌++◌, ◌↔◌, ◌&&◌, IsTrue, IfOk, Err};
 ghost use Rattle.std.specs.Prelude.{None, length, take, drop, slice_range};
 ghost use Rattle.abt_headers.specs.Places.{EachLow};
-ghost use Rattle.abt_sections.specs.Reads.{ReadsUnless};
+ghost use Rattle.abt_sections.specs.Reads.{FindsUnless, ReadsUnless};
 ghost use Rattle.abt_sections.specs.Canonical.{StartsAsPacked};
 ghost use Rattle.abt_sections.specs.Check as check_spec;
 ghost use Rattle.abt_sections.specs.Header.{view_of, places_of};
@@ -56,8 +56,8 @@ fn zeros_there<S: Source>(
     w: &mut Window,
     m: &mut Meter,
 ) -> Result<bool, SectionFault>
-    ensures reads { ReadsUnless result S.Source source.old source.new (IsTrue S.tells → ⊥) }
-    ensures value { IsTrue S.tells → IfOk result (λ b. b ≡ check_spec.zeros_there (S.content source.old) at n) }
+    ensures found { FindsUnless result S.Source source.old source.new (IsTrue S.tells → ⊥)
+        (λ b. b ≡ check_spec.zeros_there (S.content source.old) at n) }
 {
     if n == 0 {
         return Ok(true);
@@ -94,9 +94,8 @@ fn places_padded<S: Source>(
 ) -> Result<bool, SectionFault>
     requires some { 0 < page }
     requires low { EachLow sections.now }
-    ensures reads { ReadsUnless result S.Source source.old source.new (IsTrue S.tells → ⊥) }
-    ensures value { IsTrue S.tells → IfOk result (λ b. b ≡ check_spec.padded_places
-        (S.content source.old) page sections.now) }
+    ensures found { FindsUnless result S.Source source.old source.new (IsTrue S.tells → ⊥)
+        (λ b. b ≡ check_spec.padded_places (S.content source.old) page sections.now) }
 {
     for i in 0..sections.count() {
         m.tick();
@@ -117,9 +116,8 @@ fn padding_holds<S: Source>(
     w: &mut Window,
     m: &mut Meter,
 ) -> Result<bool, SectionFault>
-    ensures reads { ReadsUnless result S.Source source.old source.new (IsTrue S.tells → ⊥) }
-    ensures value { IsTrue S.tells → IfOk result (λ b. b ≡ check_spec.padding_holds (S.content source.old)
-        (view_of header.now)) }
+    ensures found { FindsUnless result S.Source source.old source.new (IsTrue S.tells → ⊥)
+        (λ b. b ≡ check_spec.padding_holds (S.content source.old) (view_of header.now)) }
 {
     let page = header.page_size();
     let size = header.size() as u64;
@@ -275,10 +273,9 @@ fn compare<S: Source>(
     w: &mut Window,
     m: &mut Meter,
 ) -> Result<Verdict, SectionFault>
-    ensures reads { ReadsUnless result S.Source source.old source.new
-        (IsTrue S.tells → IsOpened (S.content source.old) image.now → ⊥) }
-    ensures verdict { IsTrue S.tells →
-        IfOk result (check_spec.IsVerdict (S.content source.old) (view_of image.now.header)) }
+    ensures found { FindsUnless result S.Source source.old source.new
+        (IsTrue S.tells → IsOpened (S.content source.old) image.now → ⊥)
+        (check_spec.IsVerdict (S.content source.old) (view_of image.now.header)) }
     ensures offset { IfOk result (λ v. v.offset ≡ check_spec.offset_holds (view_of image.now.header)) }
     ensures changed { (S.size source.old ≡ image.now.length → ⊥) → (result ≡ Err SectionFault.SourceChanged) ×
         (source.new ≡ source.old) }

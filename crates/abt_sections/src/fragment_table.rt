@@ -3,8 +3,9 @@
 ghost use Rattle.std.specs.Prelude.{◌≡◌, ◌<◌, ◌≤◌, ◌+◌, ◌-◌, ◌*◌, ◌^◌, ℕ, IsTrue, IfOk, OnOk, MatchBool};
 ghost use Rattle.std.specs.Prelude.{MatchResult, ◌↔◌, Err, None, length, take, drop};
 ghost use Rattle.abt_headers.specs.Entry.{entry_at};
-ghost use Rattle.abt_sections.specs.Reads.{OpensUnless, ReadsUnless};
-ghost use Rattle.abt_sections.specs.Entries.{ComesNext, EntriesStand, HoldsEntry};
+ghost use Rattle.abt_sections.specs.Reads.{FindsUnless, OpensUnless, ReadsUnless};
+ghost use Rattle.abt_sections.specs.Asked.{MayAskEntry};
+ghost use Rattle.abt_sections.specs.Entries.{EntriesStand, HoldsEntry};
 ghost use Rattle.abt_sections.specs.Header as header_spec;
 ghost use Rattle.abt_sections.specs.Open.{IsOpened, EntryRefusedAs, beyond};
 ghost use Rattle.abt_sections.specs.Check.{FragmentsFill, HasTable};
@@ -133,9 +134,7 @@ fn hold_entry<S: Source>(
     w: &mut Window,
     m: &mut Meter,
 ) -> Result<Held, SectionFault>
-    requires near { table.now.at < 2 ^ 62 }
-    requires there { i < table.now.count }
-    requires next { ComesNext held.first held.end i table.now.count }
+    requires entry { MayAskEntry table.now.at held.first held.end i table.now.count }
     requires stand { IsTrue S.tells → EntriesStand w.old.bytes (S.content source.old) table.now.at held.first held.end }
     ensures reads { ReadsUnless result S.Source source.old source.new
         (IsTrue S.tells → table.now.at + 108 * table.now.count ≤ length (S.content source.old) → ⊥) }
@@ -178,15 +177,12 @@ fn next_entry<S: Source>(
     w: &mut Window,
     m: &mut Meter,
 ) -> Result<RamdiskEntry, SectionFault>
-    requires near { table.now.at < 2 ^ 62 }
-    requires there { i < table.now.count }
-    requires next { ComesNext held.old.first held.old.end i table.now.count }
+    requires entry { MayAskEntry table.now.at held.old.first held.old.end i table.now.count }
     requires stand { IsTrue S.tells → EntriesStand w.old.bytes (S.content source.old) table.now.at held.old.first
         held.old.end }
-    ensures reads { ReadsUnless result S.Source source.old source.new
-        (IsTrue S.tells → table.now.at + 108 * table.now.count ≤ length (S.content source.old) → ⊥) }
-    ensures entry { IsTrue S.tells → IfOk result (λ e. e ≡ entry_at (take 108
-        (drop (table.now.at + 108 * i) (S.content source.old)))) }
+    ensures found { FindsUnless result S.Source source.old source.new
+        (IsTrue S.tells → table.now.at + 108 * table.now.count ≤ length (S.content source.old) → ⊥)
+        (λ e. e ≡ entry_at (take 108 (drop (table.now.at + 108 * i) (S.content source.old)))) }
     ensures stand { IsTrue S.tells → OnOk result (EntriesStand w.new.bytes
         (S.content source.old) table.now.at held.new.first held.new.end) }
     ensures held { OnOk result (HoldsEntry held.new.first held.new.end i table.now.count) }

@@ -1,6 +1,7 @@
 //! An image that was opened: its header, and where its sections stand.
 
 ghost use Rattle.std.specs.Prelude.{◌≡◌, ◌<◌, ◌≤◌, ◌+◌, ◌^◌, MatchBool, length, slice_index_or};
+ghost use Rattle.abt_headers.specs.Page.{IsPage};
 ghost use Rattle.abt_headers.specs.Places.{EachLow};
 ghost use Rattle.abt_sections.specs.Header.{view_of, size_of, page_of, places_of};
 
@@ -28,9 +29,7 @@ impl ImageHeader {
 
     /// How many bytes a page has.
     pub fn page_size(&self) -> u32
-        ensures value { result ≡ page_of (view_of self.now) }
-        ensures low { 2048 ≤ result }
-        ensures high { result ≤ 131072 }
+        ensures { IsPage result (page_of (view_of self.now)) }
     {
         match self {
             ImageHeader::Boot(header) => header.page_size(),

@@ -7,12 +7,12 @@ ghost use Rattle.std.specs.Prelude.{◌≡◌, ◌<◌, ◌≤◌, ◌+◌, ◌*
 ghost use Rattle.std.specs.Prelude.{take, drop, sum};
 ghost use Rattle.sha1.specs.Sha1.{Holds};
 ghost use Rattle.abt_headers.specs.Page as of_page;
+ghost use Rattle.abt_sections.specs.Asked.{FewOnPages, MayAsk};
 ghost use Rattle.abt_sections.specs.Cause.{total};
-ghost use Rattle.abt_sections.specs.Fields.{filled};
-ghost use Rattle.abt_sections.specs.Grown.{Grows, AddsUpTo};
+ghost use Rattle.abt_sections.specs.Grown.{GrowsBy};
 ghost use Rattle.abt_sections.specs.Id.{sized_parts};
 ghost use Rattle.abt_sections.specs.Layout as layout;
-ghost use Rattle.abt_sections.specs.Moves.{MovesUnless, MovesAllUnless};
+ghost use Rattle.abt_sections.specs.Moves.{MovesUnless, MovesPart, MovesParts};
 
 use crate::fault::SectionFault;
 use crate::reading::{next_ask, read_front};
@@ -40,8 +40,7 @@ fn move_step<S: Source, O: Output>(
     w: &mut Window,
     m: &mut Meter,
 ) -> Result<(), SectionFault>
-    requires room { ask ≤ 65536 }
-    requires below { at + ask < 2 ^ 64 }
+    requires { MayAsk at ask }
     ensures moves { MovesUnless result S.Source source.old source.new O.Output output.old output.new
         (IsTrue S.tells → (0 < ask → at + ask ≤ length (S.content source.old)) → ⊥) }
     ensures once { S.given source.new ≤ S.given source.old + ask }
@@ -50,8 +49,7 @@ fn move_step<S: Source, O: Output>(
         ++ take ask (drop at (S.content source.old))) }
     ensures hashed { IsTrue id → IsTrue S.tells → OnOk result ((t : List ℕ) → Holds hasher.old t →
         Holds hasher.new (t ++ take ask (drop at (S.content source.old)))) }
-    ensures grown { Grows (O.written output.old) (O.written output.new) }
-    ensures bytes { AddsUpTo result (O.written output.old) (O.written output.new) ask }
+    ensures bytes { GrowsBy result (O.written output.old) (O.written output.new) ask }
 {
     match read_front(source, at, ask, w, m) {
         Ok(()) => {}
@@ -83,8 +81,7 @@ fn move_bytes<S: Source, O: Output>(
         ++ take n (S.content part.old)) }
     ensures hashed { IsTrue id → IsTrue S.tells → OnOk result ((t : List ℕ) → Holds hasher.old t →
         Holds hasher.new (t ++ take n (S.content part.old))) }
-    ensures grown { Grows (O.written output.old) (O.written output.new) }
-    ensures bytes { AddsUpTo result (O.written output.old) (O.written output.new) n }
+    ensures bytes { GrowsBy result (O.written output.old) (O.written output.new) n }
 {
     let mut at = 0;
     while at < n {
@@ -112,16 +109,11 @@ fn move_part<S: Source, O: Output>(
     m: &mut Meter,
 ) -> Result<(), SectionFault>
     requires { 0 < page }
-    ensures moves { MovesUnless result S.Source part.old part.new O.Output output.old output.new
-        (IsTrue S.tells → S.size part.old ≡ size → ⊥) }
+    ensures part { MovesPart result S.Source part.old part.new O.Output output.old output.new size
+        (layout.padded page (S.content part.old)) (of_page.pages size page * page) }
     ensures once { S.given part.new ≤ S.given part.old + size }
-    ensures written { IsTrue S.tells → OnOk result (O.written output.new ≡ O.written output.old
-        ++ layout.padded page (S.content part.old)) }
     ensures hashed { IsTrue id → IsTrue S.tells → OnOk result ((parts : List (List ℕ)) →
         Holds hasher.old (sized_parts parts) → Holds hasher.new (sized_parts (parts ++ (S.content part.old ∷ [])))) }
-    ensures grown { Grows (O.written output.old) (O.written output.new) }
-    ensures bytes { AddsUpTo result (O.written output.old) (O.written output.new) (of_page.pages size page * page) }
-    ensures lasting { OnOk result ((S.size part.old ≡ size) × (S.size part.new ≡ size)) }
 {
     let _free = padding(size as u64, page);
     if part.length() != size as u64 {
@@ -150,19 +142,14 @@ pub(crate) fn move_parts<S: Source, O: Output>(
     w: &mut Window,
     m: &mut Meter,
 ) -> Result<(), SectionFault>
-    requires some { 0 < page }
-    requires few { length parts.old ≤ 5 }
-    ensures moves { MovesAllUnless result S.Source parts.old parts.new O.Output output.old output.new
-        (IsTrue S.tells → sizes.now ≡ filled 5 (map S.size parts.old) → ⊥) }
+    requires { FewOnPages page parts.old }
+    ensures parts { MovesParts result S.Source parts.old parts.new O.Output output.old output.new sizes.now
+        (O.written output.old ++ layout.laid page (map S.content parts.old)) }
     ensures once { total S.given parts.new ≤ total S.given parts.old + sum (take (length parts.old) sizes.now) }
-    ensures written { IsTrue S.tells → OnOk result (O.written output.new ≡ O.written output.old
-        ++ layout.laid page (map S.content parts.old)) }
     ensures hashed { IsTrue id → IsTrue S.tells → OnOk result (Holds hasher.old [] →
         Holds hasher.new (sized_parts (map S.content parts.old))) }
-    ensures grown { Grows (O.written output.old) (O.written output.new) }
-    ensures bytes { AddsUpTo result (O.written output.old) (O.written output.new)
+    ensures bytes { GrowsBy result (O.written output.old) (O.written output.new)
         (layout.laid_size page (take (length parts.old) sizes.now)) }
-    ensures lasting { OnOk result (map S.size parts.new ≡ take (length parts.old) sizes.now) }
 {
     for i in 0..parts.len() {
         m.tick();

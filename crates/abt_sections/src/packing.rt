@@ -1,17 +1,15 @@
 //! Packing a boot image.
 
-ghost use Rattle.std.specs.Prelude.{◌≡◌, ◌<◌, ◌≤◌, ◌+◌, ◌-◌, ◌*◌, ◌++◌, IsTrue, IfOk, IfErr, OnOk, Err, length, map};
-ghost use Rattle.std.specs.Prelude.{take};
-ghost use Rattle.abt_io.specs.Lent.{OnlyReadsAll, OnlyWrites};
+ghost use Rattle.std.specs.Prelude.{◌≡◌, ◌<◌, ◌≤◌, ◌+◌, ◌-◌, ◌*◌, ◌++◌, IsTrue, IfOk, length, map, take};
 ghost use Rattle.abt_headers.specs.Boot.{boot_page, boot_record, boot_size};
 ghost use Rattle.abt_headers.specs.Page as of_page;
 ghost use Rattle.abt_sections.specs.BootCanon as canon;
-ghost use Rattle.abt_sections.specs.Cause.{PackCause, total, full_handed};
 ghost use Rattle.abt_sections.specs.Fields.{boot_fields, filled};
 ghost use Rattle.abt_sections.specs.Grown.{AppendsFront, AddsUpTo};
 ghost use Rattle.abt_sections.specs.Layout as layout;
-ghost use Rattle.abt_sections.specs.Moves.{MovesAllUnless, ReadsAllUnless, WritesAlone};
-ghost use Rattle.abt_sections.specs.Refusal.{boot_names, pack_boot_refusal, IfRefused};
+ghost use Rattle.abt_sections.specs.Moves.{Appends, MovesParts, ReadsAllUnless};
+ghost use Rattle.abt_sections.specs.Packs.{AppendsBoot};
+ghost use Rattle.abt_sections.specs.Refusal.{boot_names};
 
 use crate::boot_header::{boot_header_for, check_boot_spec};
 use crate::fault::SectionFault;
@@ -49,11 +47,8 @@ fn write_header<O: Output>(
     w: &mut Window,
     m: &mut Meter,
 ) -> Result<(), SectionFault>
-    ensures written { OnOk result (O.written output.new ≡ O.written output.old
-        ++ layout.padded (boot_page header.now) (boot_record header.now)) }
-    ensures front { AppendsFront (O.written output.old) (O.written output.new)
+    ensures appends { Appends result O.Output output.old output.new
         (layout.padded (boot_page header.now) (boot_record header.now)) }
-    ensures writes { WritesAlone result O.Output output.old output.new }
     ensures bytes { AddsUpTo result (O.written output.old) (O.written output.new)
         (of_page.pages (boot_size header.now) (boot_page header.now) * boot_page header.now) }
 {
@@ -72,15 +67,12 @@ fn write_image<S: Source, O: Output>(
     m: &mut Meter,
 ) -> Result<(), SectionFault>
     requires { length parts.old ≤ 5 }
-    ensures moves { MovesAllUnless result S.Source parts.old parts.new O.Output output.old output.new
-        (IsTrue S.tells → sizes.now ≡ filled 5 (map S.size parts.old) → ⊥) }
-    ensures written { IsTrue S.tells → OnOk result (O.written output.new ≡ O.written output.old
-        ++ canon.boot_image header.now (map S.content parts.old)) }
+    ensures parts { MovesParts result S.Source parts.old parts.new O.Output output.old output.new sizes.now
+        (O.written output.old ++ canon.boot_image header.now (map S.content parts.old)) }
     ensures front { IsTrue S.tells → AppendsFront (O.written output.old) (O.written output.new)
         (canon.boot_image header.now (map S.content parts.old)) }
     ensures bytes { AddsUpTo result (O.written output.old) (O.written output.new)
         (canon.image_size (boot_page header.now) (boot_size header.now) (take (length parts.old) sizes.now)) }
-    ensures lasting { OnOk result (map S.size parts.new ≡ take (length parts.old) sizes.now) }
 {
     match write_header(header, output, w, m) {
         Ok(()) => {}
@@ -107,22 +99,10 @@ pub fn pack_boot<S: Source, O: Output>(
     m: &mut Meter,
 ) -> Result<Packed, SectionFault>
     requires { spec.now.version ≤ 4 → length parts.old ≡ length (boot_names spec.now.version) }
-    ensures reads { OnlyReadsAll result S.Source parts.old parts.new }
-    ensures writes { OnlyWrites result (full_handed result) O.Output output.old output.new }
-    ensures refused { IfRefused (pack_boot_refusal (boot_fields spec.now) (map S.size parts.old))
-        (λ f. (result ≡ Err f) × (output.new ≡ output.old)) }
-    ensures written { IsTrue S.tells → OnOk result (O.written output.new ≡ O.written output.old
-        ++ canon.boot_canon (boot_fields spec.now) (map S.content parts.old)) }
+    ensures packs { AppendsBoot result S.Source parts.old parts.new O.Output output.old output.new
+        (boot_fields spec.now) }
     ensures front { IsTrue S.tells → AppendsFront (O.written output.old) (O.written output.new)
         (canon.boot_canon (boot_fields spec.now) (map S.content parts.old)) }
-    ensures most { length (O.written output.new) ≤ length (O.written output.old) + canon.boot_image_size
-        (boot_fields spec.now) (map S.size parts.old) }
-    ensures packed { IfOk result (λ p. (p.bytes ≡ canon.boot_image_size (boot_fields spec.now)
-        (map S.size parts.old)) × (length (O.written output.new) ≡ length (O.written output.old) + p.bytes)) }
-    ensures lasting { OnOk result (map S.size parts.new ≡ map S.size parts.old) }
-    ensures cause { IfErr result (λ e. PackCause (pack_boot_refusal (boot_fields spec.now) (map S.size parts.old)) e
-        (total S.read_faults parts.old) (total S.read_faults parts.new) (O.write_faults output.old)
-        (O.write_faults output.new) (IsTrue S.tells → ⊥)) }
 {
     let page = check_boot_spec(spec, m)?;
     let sizes = boot_sizes(spec.version, parts, m)?;

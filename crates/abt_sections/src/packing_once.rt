@@ -3,20 +3,19 @@
 //! The id is hashed of the parts as they are written, so the header comes last. Zeros stand for its page until all else
 //! is written, and its magic comes last of all: what was broken off opens as no image, whatever follows it.
 
-ghost use Rattle.std.specs.Prelude.{◌≡◌, ◌<◌, ◌≤◌, ◌+◌, ◌-◌, ◌++◌, ℕ, List, IsTrue, IfOk, IfErr, OnOk, OnErr, Err};
+ghost use Rattle.std.specs.Prelude.{◌≡◌, ◌<◌, ◌≤◌, ◌+◌, ◌-◌, ◌++◌, ℕ, List, IsTrue, IfOk, OnOk, OnErr};
 ghost use Rattle.std.specs.Prelude.{length, map, take, drop, replicate, sum};
 ghost use Rattle.sha1.specs.Sha1.{Holds, sha1};
-ghost use Rattle.abt_io.specs.Lent.{OnlyReadsAll, OnlyWrites};
-ghost use Rattle.abt_io.specs.Moment.{put_at};
 ghost use Rattle.abt_headers.specs.Boot.{boot_record, boot_size};
 ghost use Rattle.abt_sections.specs.BootCanon as canon;
-ghost use Rattle.abt_sections.specs.Broken.{HasNoMagic, IsBrokenOff};
-ghost use Rattle.abt_sections.specs.Cause.{PackCause, total, full_handed};
-ghost use Rattle.abt_sections.specs.Fields.{boot_fields, filled};
-ghost use Rattle.abt_sections.specs.Grown.{Grows, AddsUpTo};
+ghost use Rattle.abt_sections.specs.Broken.{IsBrokenOff};
+ghost use Rattle.abt_sections.specs.Cause.{total};
+ghost use Rattle.abt_sections.specs.Fields.{boot_fields};
+ghost use Rattle.abt_sections.specs.Grown.{Grows, GrowsBy};
 ghost use Rattle.abt_sections.specs.Layout as layout;
-ghost use Rattle.abt_sections.specs.Moves.{MovesAllUnless, WritesAlone};
-ghost use Rattle.abt_sections.specs.Refusal.{boot_names, pack_boot_refusal, IfRefused};
+ghost use Rattle.abt_sections.specs.Moves.{LaysRecord, MovesParts, WritesAlone};
+ghost use Rattle.abt_sections.specs.Packs.{AppendsBoot};
+ghost use Rattle.abt_sections.specs.Refusal.{boot_names};
 
 use crate::boot_header::{boot_header_for, check_boot_spec};
 use crate::fault::SectionFault;
@@ -37,8 +36,7 @@ fn write_zero_page<O: Output>(
 ) -> Result<(), SectionFault>
     ensures written { OnOk result (O.written output.new ≡ O.written output.old ++ replicate page 0) }
     ensures broken { OnErr result (IsBrokenOff (O.written output.old) (O.written output.new)) }
-    ensures grown { Grows (O.written output.old) (O.written output.new) }
-    ensures bytes { AddsUpTo result (O.written output.old) (O.written output.new) page }
+    ensures bytes { GrowsBy result (O.written output.old) (O.written output.new) page }
     ensures writes { WritesAlone result O.Output output.old output.new }
 {
     match write_zeros(output, page as u64, w, m) {
@@ -72,18 +70,14 @@ fn write_behind<S: Source, O: Output>(
 ) -> Result<[u8; 32], SectionFault>
     requires some { 8 ≤ page }
     requires few { length parts.old ≤ 5 }
-    ensures moves { MovesAllUnless result S.Source parts.old parts.new O.Output output.old output.new
-        (IsTrue S.tells → sizes.now ≡ filled 5 (map S.size parts.old) → ⊥) }
+    ensures parts { MovesParts result S.Source parts.old parts.new O.Output output.old output.new sizes.now
+        ((O.written output.old ++ replicate page 0) ++ layout.laid page (map S.content parts.old)) }
     ensures once { total S.given parts.new ≤ total S.given parts.old + sum (take (length parts.old) sizes.now) }
     ensures id { IsTrue S.tells → IfOk result (λ d. d ≡ canon.id_for version (map S.content parts.old)) }
-    ensures written { IsTrue S.tells → OnOk result (O.written output.new ≡ (O.written output.old ++ replicate page 0)
-        ++ layout.laid page (map S.content parts.old)) }
     ensures zeros { OnOk result (Grows (O.written output.old ++ replicate page 0) (O.written output.new)) }
     ensures broken { OnErr result (IsBrokenOff (O.written output.old) (O.written output.new)) }
-    ensures grown { Grows (O.written output.old) (O.written output.new) }
-    ensures bytes { AddsUpTo result (O.written output.old) (O.written output.new)
+    ensures bytes { GrowsBy result (O.written output.old) (O.written output.new)
         (page + layout.laid_size page (take (length parts.old) sizes.now)) }
-    ensures lasting { OnOk result (map S.size parts.new ≡ take (length parts.old) sizes.now) }
 {
     match write_zero_page(page, output, w, m) {
         Ok(()) => {}
@@ -108,11 +102,7 @@ fn lay_record<O: Overwrite>(
     requires room { length bytes.now ≤ 65536 }
     requires stands { at + length bytes.now ≤ length (O.written output.old) }
     requires zeros { take 8 (drop at (O.written output.old)) ≡ replicate 8 0 }
-    ensures written { OnOk result (O.written output.new ≡ put_at (O.written output.old) at bytes.now) }
-    ensures broken { OnErr result (HasNoMagic (drop at (O.written output.new))) }
-    ensures before { take at (O.written output.new) ≡ take at (O.written output.old) }
-    ensures long { length (O.written output.new) ≡ length (O.written output.old) }
-    ensures writes { WritesAlone result O.Output output.old output.new }
+    ensures lays { LaysRecord result O.Output output.old output.new at bytes.now }
 {
     let _end = output.position();
     match write_over_all(output, at + 8, &bytes[8..], m) {
@@ -134,12 +124,8 @@ fn lay_header<O: Overwrite>(
 ) -> Result<(), SectionFault>
     requires stands { at + 2048 ≤ length (O.written output.old) }
     requires zeros { take 8 (drop at (O.written output.old)) ≡ replicate 8 0 }
-    ensures written { OnOk result (O.written output.new ≡ put_at (O.written output.old) at (boot_record header.now)) }
-    ensures broken { OnErr result (HasNoMagic (drop at (O.written output.new))) }
-    ensures before { take at (O.written output.new) ≡ take at (O.written output.old) }
-    ensures long { length (O.written output.new) ≡ length (O.written output.old) }
+    ensures lays { LaysRecord result O.Output output.old output.new at (boot_record header.now) }
     ensures size { length (boot_record header.now) ≡ boot_size header.now }
-    ensures writes { WritesAlone result O.Output output.old output.new }
 {
     let mut record = [0u8; 1660];
     let size = header.encode(&mut record);
@@ -160,23 +146,11 @@ pub fn pack_boot_once<S: Source, O: Overwrite>(
     m: &mut Meter,
 ) -> Result<Packed, SectionFault>
     requires { spec.now.version ≤ 4 → length parts.old ≡ length (boot_names spec.now.version) }
-    ensures reads { OnlyReadsAll result S.Source parts.old parts.new }
-    ensures writes { OnlyWrites result (full_handed result) O.Output output.old output.new }
+    ensures packs { AppendsBoot result S.Source parts.old parts.new O.Output output.old output.new
+        (boot_fields spec.now) }
     ensures once { total S.given parts.new ≤ total S.given parts.old + total S.size parts.old }
-    ensures refused { IfRefused (pack_boot_refusal (boot_fields spec.now) (map S.size parts.old))
-        (λ f. (result ≡ Err f) × (output.new ≡ output.old)) }
-    ensures written { IsTrue S.tells → OnOk result (O.written output.new ≡ O.written output.old
-        ++ canon.boot_canon (boot_fields spec.now) (map S.content parts.old)) }
     ensures broken { OnErr result (IsBrokenOff (O.written output.old) (O.written output.new)) }
     ensures grown { Grows (O.written output.old) (O.written output.new) }
-    ensures most { length (O.written output.new) ≤ length (O.written output.old) + canon.boot_image_size
-        (boot_fields spec.now) (map S.size parts.old) }
-    ensures packed { IfOk result (λ p. (p.bytes ≡ canon.boot_image_size (boot_fields spec.now)
-        (map S.size parts.old)) × (length (O.written output.new) ≡ length (O.written output.old) + p.bytes)) }
-    ensures lasting { OnOk result (map S.size parts.new ≡ map S.size parts.old) }
-    ensures cause { IfErr result (λ e. PackCause (pack_boot_refusal (boot_fields spec.now) (map S.size parts.old)) e
-        (total S.read_faults parts.old) (total S.read_faults parts.new) (O.write_faults output.old)
-        (O.write_faults output.new) (IsTrue S.tells → ⊥)) }
 {
     let page = check_boot_spec(spec, m)?;
     let sizes = boot_sizes(spec.version, parts, m)?;

@@ -2,6 +2,7 @@
 
 ghost use Rattle.std.specs.Prelude.{◌≡◌, ◌<◌, ◌≤◌, ◌+◌, ◌^◌, IsTrue, OnOk, OnErr, length, take, drop};
 ghost use Rattle.std.specs.Prelude.{slice_range};
+ghost use Rattle.abt_sections.specs.Asked.{MayAsk};
 ghost use Rattle.abt_sections.specs.Reads.{ReadsUnless};
 
 use crate::fault::SectionFault;
@@ -16,8 +17,7 @@ pub(crate) fn read_front<S: Source>(
     w: &mut Window,
     m: &mut Meter,
 ) -> Result<(), SectionFault>
-    requires room { ask ≤ 65536 }
-    requires below { at + ask < 2 ^ 64 }
+    requires { MayAsk at ask }
     ensures reads { ReadsUnless result S.Source source.old source.new
         (IsTrue S.tells → (0 < ask → at + ask ≤ length (S.content source.old)) → ⊥) }
     ensures given { S.given source.new ≤ S.given source.old + ask }

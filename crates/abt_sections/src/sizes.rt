@@ -1,10 +1,11 @@
 //! The sizes of parts, tested before anything is written.
 
 ghost use Rattle.std.specs.Prelude.{◌≡◌, ◌<◌, ◌≤◌, ◌+◌, ◌*◌, ◌^◌, MatchResult, MatchOption, length, map, take};
-ghost use Rattle.std.specs.Prelude.{slice_index_or, Some, None};
-ghost use Rattle.abt_sections.specs.Cause.{full_handed, total};
+ghost use Rattle.std.specs.Prelude.{slice_index_or};
+ghost use Rattle.abt_sections.specs.Asked.{IsPageNumber};
+ghost use Rattle.abt_sections.specs.Cause.{total};
 ghost use Rattle.abt_sections.specs.Fields.{filled};
-ghost use Rattle.abt_sections.specs.Refusal.{boot_names, vendor_names, size_refusal};
+ghost use Rattle.abt_sections.specs.Refusal.{RefusedBy, boot_names, vendor_names, size_refusal};
 ghost use Rattle.abt_sections.specs.Layout.{laid_size};
 ghost use Rattle.abt_sections.specs.BootCanon.{image_size};
 ghost use Rattle.abt_sections.specs.VendorCanon.{vendor_sizes_for};
@@ -36,10 +37,8 @@ pub(crate) fn boot_sizes<S: Source>(
     m: &mut Meter,
 ) -> Result<[u32; 5], SectionFault>
     requires { length parts.now ≡ length (boot_names version) }
-    ensures value { MatchResult result (λ z. (size_refusal (boot_names version) (map S.size parts.now) ≡ None) ×
-        (z ≡ filled 5 (map S.size parts.now))) (λ f. size_refusal (boot_names version) (map S.size parts.now)
-        ≡ Some f) }
-    ensures failed { full_handed result ≡ 0 }
+    ensures { RefusedBy result (size_refusal (boot_names version) (map S.size parts.now))
+        (λ z. z ≡ filled 5 (map S.size parts.now)) }
 {
     let mut sizes = [0; 5];
     for i in 0..parts.len() {
@@ -92,10 +91,8 @@ pub(crate) fn vendor_sizes<S: Source>(
     m: &mut Meter,
 ) -> Result<[u32; 4], SectionFault>
     requires { count < 2 ^ 57 }
-    ensures value { let z = vendor_sizes_for (total S.size ramdisks.now) (S.size dtb.now) count
-        (S.size bootconfig.now) in MatchResult result (λ r. (size_refusal vendor_names z ≡ None) × (r ≡ z))
-        (λ f. size_refusal vendor_names z ≡ Some f) }
-    ensures failed { full_handed result ≡ 0 }
+    ensures { let z = vendor_sizes_for (total S.size ramdisks.now) (S.size dtb.now) count
+        (S.size bootconfig.now) in RefusedBy result (size_refusal vendor_names z) (λ r. r ≡ z) }
 {
     let ramdisk = match ramdisks_size(ramdisks, m) {
         Some(n) => n,
@@ -119,8 +116,7 @@ pub(crate) fn image_bytes(
     count: usize,
     m: &mut Meter,
 ) -> u64
-    requires low { 0 < page }
-    requires high { page ≤ 131072 }
+    requires page { IsPageNumber page }
     requires short { header ≤ 2128 }
     requires few { count ≤ 5 }
     requires within { count ≤ length sizes.now }

@@ -1,10 +1,9 @@
 //! The header that is packed of a vendor boot image's fields.
 
-ghost use Rattle.std.specs.Prelude.{◌≡◌, ◌<◌, ◌≤◌, ◌*◌, ◌^◌, IfOk, OnOk, MatchResult, length, slice_index, Some, None};
+ghost use Rattle.std.specs.Prelude.{◌≡◌, ◌<◌, ◌≤◌, ◌*◌, ◌^◌, OnOk, length, slice_index};
 ghost use Rattle.abt_headers.specs.Vendor.{vendor_view, tail_view};
-ghost use Rattle.abt_sections.specs.Cause.{full_handed};
 ghost use Rattle.abt_sections.specs.Fields.{vendor_fields};
-ghost use Rattle.abt_sections.specs.Refusal.{vendor_refusal};
+ghost use Rattle.abt_sections.specs.Refusal.{RefusedBy, vendor_refusal};
 ghost use Rattle.abt_sections.specs.VendorCanon as canon;
 
 use crate::fault::SectionFault;
@@ -16,14 +15,12 @@ use abt_io::Meter;
 /// The page of the image, or what the fields are refused for.
 #[tactic(auto, unfolding(crate::specs::Refusal::vendor_refusal))]
 pub(crate) fn check_vendor_spec(spec: &VendorSpec, m: &mut Meter) -> Result<PageSize, SectionFault>
-    ensures refusal { MatchResult result (λ _. vendor_refusal (vendor_fields spec.now) ≡ None)
-        (λ f. vendor_refusal (vendor_fields spec.now) ≡ Some f) }
+    ensures refused { RefusedBy result (vendor_refusal (vendor_fields spec.now))
+        (λ p. p ≡ canon.vendor_page_for (vendor_fields spec.now)) }
     ensures low { OnOk result (3 ≤ spec.now.version) }
     ensures high { OnOk result (spec.now.version ≤ 4) }
-    ensures page { IfOk result (λ p. p ≡ canon.vendor_page_for (vendor_fields spec.now)) }
     ensures name { OnOk result (length spec.now.name.now ≤ 15) }
     ensures cmdline { OnOk result (length spec.now.cmdline.now ≤ 2047) }
-    ensures failed { full_handed result ≡ 0 }
 {
     if spec.version < 3 || spec.version > 4 {
         return Err(SectionFault::Header(HeaderFault::Version(spec.version)));

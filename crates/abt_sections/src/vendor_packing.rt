@@ -7,11 +7,11 @@ ghost use Rattle.abt_io.specs.Lent.{OnlyReads, OnlyReadsAll, OnlyWrites};
 ghost use Rattle.abt_headers.specs.Page as of_page;
 ghost use Rattle.abt_headers.specs.Vendor.{vendor_view, vendor_page, vendor_record, vendor_size};
 ghost use Rattle.abt_sections.specs.VendorCanon as canon;
-ghost use Rattle.abt_sections.specs.Cause.{MoveCause, PackCause, total, full_handed};
+ghost use Rattle.abt_sections.specs.Cause.{PackCause, total, full_handed};
 ghost use Rattle.abt_sections.specs.Fields.{vendor_fields};
 ghost use Rattle.abt_sections.specs.Grown.{AppendsFront, AddsUpTo};
 ghost use Rattle.abt_sections.specs.Layout as layout;
-ghost use Rattle.abt_sections.specs.Moves.{MovesUnless, MovesAllUnless, WritesAlone};
+ghost use Rattle.abt_sections.specs.Moves.{Appends, MovesMoreUnless, MovesRamdisks, MovesUnless};
 ghost use Rattle.abt_sections.specs.Refusal.{pack_vendor_refusal, IfRefused};
 
 use crate::fault::SectionFault;
@@ -29,11 +29,8 @@ fn write_vendor_header<O: Output>(
     w: &mut Window,
     m: &mut Meter,
 ) -> Result<(), SectionFault>
-    ensures written { OnOk result (O.written output.new ≡ O.written output.old
-        ++ layout.padded (vendor_page (vendor_view header.now)) (vendor_record (vendor_view header.now))) }
-    ensures front { AppendsFront (O.written output.old) (O.written output.new)
+    ensures appends { Appends result O.Output output.old output.new
         (layout.padded (vendor_page (vendor_view header.now)) (vendor_record (vendor_view header.now))) }
-    ensures writes { WritesAlone result O.Output output.old output.new }
     ensures bytes { AddsUpTo result (O.written output.old) (O.written output.new)
         (of_page.pages (vendor_size (vendor_view header.now)) (vendor_page (vendor_view header.now)) * vendor_page
         (vendor_view header.now)) }
@@ -50,12 +47,7 @@ fn write_ramdisks<S: Source, O: Output>(
     w: &mut Window,
     m: &mut Meter,
 ) -> Result<(), SectionFault>
-    ensures moves { MovesAllUnless result S.Source ramdisks.old ramdisks.new O.Output output.old output.new
-        (IsTrue S.tells → ⊥) }
-    ensures lasting { OnOk result (map S.size ramdisks.new ≡ map S.size ramdisks.old) }
-    ensures written { IsTrue S.tells → OnOk result (O.written output.new ≡ O.written output.old
-        ++ concat (map S.content ramdisks.old)) }
-    ensures front { IsTrue S.tells → AppendsFront (O.written output.old) (O.written output.new)
+    ensures ramdisks { MovesRamdisks result S.Source ramdisks.old ramdisks.new O.Output output.old output.new
         (concat (map S.content ramdisks.old)) }
     ensures bytes { AddsUpTo result (O.written output.old) (O.written output.new) (total S.size ramdisks.old) }
 {
@@ -93,11 +85,8 @@ fn write_table<S: Source, O: Output>(
 ) -> Result<(), SectionFault>
     requires count { length fragments.now ≡ length ramdisks.now }
     requires small { total S.size ramdisks.now ≤ 4294967295 }
-    ensures written { OnOk result (O.written output.new ≡ O.written output.old
-        ++ canon.table_for fragments.now (map S.size ramdisks.now) 0) }
-    ensures front { AppendsFront (O.written output.old) (O.written output.new)
+    ensures appends { Appends result O.Output output.old output.new
         (canon.table_for fragments.now (map S.size ramdisks.now) 0) }
-    ensures writes { WritesAlone result O.Output output.old output.new }
     ensures bytes { AddsUpTo result (O.written output.old) (O.written output.new) (108 * length fragments.now) }
 {
     let mut offset = 0u32;
@@ -125,12 +114,7 @@ fn write_vendor_ramdisk<S: Source, O: Output>(
 ) -> Result<(), SectionFault>
     requires some { 0 < page }
     requires sized { total S.size ramdisks.old ≡ size }
-    ensures moves { MovesAllUnless result S.Source ramdisks.old ramdisks.new O.Output output.old output.new
-        (IsTrue S.tells → ⊥) }
-    ensures lasting { OnOk result (map S.size ramdisks.new ≡ map S.size ramdisks.old) }
-    ensures written { IsTrue S.tells → OnOk result (O.written output.new ≡ O.written output.old
-        ++ layout.padded page (concat (map S.content ramdisks.old))) }
-    ensures front { IsTrue S.tells → AppendsFront (O.written output.old) (O.written output.new)
+    ensures ramdisks { MovesRamdisks result S.Source ramdisks.old ramdisks.new O.Output output.old output.new
         (layout.padded page (concat (map S.content ramdisks.old))) }
     ensures bytes { AddsUpTo result (O.written output.old) (O.written output.new) (of_page.pages size page * page) }
 {
@@ -193,20 +177,16 @@ fn write_first_sections<S: Source, O: Output>(
     m: &mut Meter,
 ) -> Result<(), SectionFault>
     requires ramdisk { total S.size ramdisks.old ≡ slice_index sizes.now 0 }
-    ensures reads { OnlyReadsAll result S.Source ramdisks.old ramdisks.new }
+    ensures moves { MovesMoreUnless result S.Source ramdisks.old ramdisks.new dtb.old dtb.new O.Output output.old
+        output.new (IsTrue S.tells → S.size dtb.old ≡ slice_index sizes.now 1 → ⊥) }
     ensures lasting { OnOk result ((map S.size ramdisks.new ≡ map S.size ramdisks.old) ×
         (S.size dtb.old ≡ slice_index sizes.now 1) × (S.size dtb.new ≡ slice_index sizes.now 1)) }
-    ensures dtb { OnlyReads result S.Source dtb.old dtb.new }
     ensures written { IsTrue S.tells → OnOk result (O.written output.new ≡ O.written output.old
         ++ canon.first_sections (vendor_view header.now) (concat (map S.content ramdisks.old)) (S.content dtb.old)) }
     ensures front { IsTrue S.tells → AppendsFront (O.written output.old) (O.written output.new)
         (canon.first_sections (vendor_view header.now) (concat (map S.content ramdisks.old)) (S.content dtb.old)) }
-    ensures writes { OnlyWrites result (full_handed result) O.Output output.old output.new }
     ensures bytes { AddsUpTo result (O.written output.old) (O.written output.new)
         (canon.first_size (vendor_view header.now) (slice_index sizes.now 0) (slice_index sizes.now 1)) }
-    ensures cause { IfErr result (λ e. MoveCause e (total S.read_faults ramdisks.old + S.read_faults dtb.old)
-        (total S.read_faults ramdisks.new + S.read_faults dtb.new) (O.write_faults output.old)
-        (O.write_faults output.new) (IsTrue S.tells → S.size dtb.old ≡ slice_index sizes.now 1 → ⊥)) }
 {
     let page = header.page_size();
     match write_vendor_header(header, output, w, m) {

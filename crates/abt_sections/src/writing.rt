@@ -5,11 +5,11 @@
 
 ghost use Rattle.std.specs.Prelude.{◌≡◌, ◌<◌, ◌≤◌, ◌+◌, ◌-◌, ◌*◌, ◌^◌, ◌++◌, IsTrue, OnOk, length, map, take};
 ghost use Rattle.abt_headers.specs.Page as of_page;
+ghost use Rattle.abt_sections.specs.Asked.{FewOnPages, MayPad};
 ghost use Rattle.abt_sections.specs.Cause.{copy_fault};
-ghost use Rattle.abt_sections.specs.Fields.{filled};
 ghost use Rattle.abt_sections.specs.Grown.{AppendsFront, AddsUpTo};
 ghost use Rattle.abt_sections.specs.Layout as layout;
-ghost use Rattle.abt_sections.specs.Moves.{MovesUnless, MovesAllUnless, WritesAlone};
+ghost use Rattle.abt_sections.specs.Moves.{Appends, MovesPart, MovesParts};
 
 use crate::fault::SectionFault;
 use abt_headers::pages;
@@ -28,8 +28,7 @@ pub(crate) fn of_copy(fault: CopyFault) -> SectionFault
 
 /// How many bytes of the last page `n` bytes leave free.
 pub(crate) fn padding(n: u64, page: u32) -> u64
-    requires some { 0 < page }
-    requires bound { n + page < 2 ^ 64 }
+    requires { MayPad n page }
     ensures value { result ≡ layout.padding n page }
     ensures sum { n + result ≡ of_page.pages n page * page }
 {
@@ -44,11 +43,8 @@ pub(crate) fn write_padding<O: Output>(
     w: &mut Window,
     m: &mut Meter,
 ) -> Result<(), SectionFault>
-    requires some { 0 < page }
-    requires bound { n + page < 2 ^ 64 }
-    ensures written { OnOk result (O.written output.new ≡ O.written output.old ++ layout.zeros_behind n page) }
-    ensures front { AppendsFront (O.written output.old) (O.written output.new) (layout.zeros_behind n page) }
-    ensures writes { WritesAlone result O.Output output.old output.new }
+    requires { MayPad n page }
+    ensures appends { Appends result O.Output output.old output.new (layout.zeros_behind n page) }
     ensures most { n + length (O.written output.new) ≤ length (O.written output.old) + of_page.pages n page * page }
     ensures all { OnOk result (n + length (O.written output.new) ≡ length
         (O.written output.old) + of_page.pages n page * page) }
@@ -69,9 +65,7 @@ pub(crate) fn write_record<O: Output>(
 ) -> Result<(), SectionFault>
     requires some { 0 < page }
     requires room { length bytes.now ≤ 65536 }
-    ensures written { OnOk result (O.written output.new ≡ O.written output.old ++ layout.padded page bytes.now) }
-    ensures front { AppendsFront (O.written output.old) (O.written output.new) (layout.padded page bytes.now) }
-    ensures writes { WritesAlone result O.Output output.old output.new }
+    ensures appends { Appends result O.Output output.old output.new (layout.padded page bytes.now) }
     ensures bytes { AddsUpTo result (O.written output.old) (O.written output.new)
         (of_page.pages (length bytes.now) page * page) }
 {
@@ -91,14 +85,10 @@ pub(crate) fn write_bytes<S: Source, O: Output>(
     w: &mut Window,
     m: &mut Meter,
 ) -> Result<(), SectionFault>
-    ensures moves { MovesUnless result S.Source part.old part.new O.Output output.old output.new
-        (IsTrue S.tells → S.size part.old ≡ size → ⊥) }
-    ensures written { IsTrue S.tells → OnOk result (O.written output.new ≡ O.written output.old ++ S.content part.old) }
+    ensures part { MovesPart result S.Source part.old part.new O.Output output.old output.new size
+        (S.content part.old) size }
     ensures front { IsTrue S.tells → AppendsFront (O.written output.old) (O.written output.new) (S.content part.old) }
-    ensures grown { take (length (O.written output.old)) (O.written output.new) ≡ O.written output.old }
-    ensures bytes { AddsUpTo result (O.written output.old) (O.written output.new) size }
     ensures sized { IsTrue S.tells → OnOk result (length (S.content part.old) ≡ size) }
-    ensures lasting { OnOk result ((S.size part.old ≡ size) × (S.size part.new ≡ size)) }
 {
     if part.length() != size {
         return Err(SectionFault::SourceChanged);
@@ -124,15 +114,10 @@ pub(crate) fn write_part<S: Source, O: Output>(
     m: &mut Meter,
 ) -> Result<(), SectionFault>
     requires { 0 < page }
-    ensures moves { MovesUnless result S.Source part.old part.new O.Output output.old output.new
-        (IsTrue S.tells → S.size part.old ≡ size → ⊥) }
-    ensures written { IsTrue S.tells → OnOk result (O.written output.new ≡ O.written output.old
-        ++ layout.padded page (S.content part.old)) }
+    ensures part { MovesPart result S.Source part.old part.new O.Output output.old output.new size
+        (layout.padded page (S.content part.old)) (of_page.pages size page * page) }
     ensures front { IsTrue S.tells → AppendsFront (O.written output.old) (O.written output.new)
         (layout.padded page (S.content part.old)) }
-    ensures grown { take (length (O.written output.old)) (O.written output.new) ≡ O.written output.old }
-    ensures bytes { AddsUpTo result (O.written output.old) (O.written output.new) (of_page.pages size page * page) }
-    ensures lasting { OnOk result ((S.size part.old ≡ size) × (S.size part.new ≡ size)) }
 {
     let _free = padding(size as u64, page);
     match write_bytes(part, size as u64, output, w, m) {
@@ -151,17 +136,13 @@ pub(crate) fn write_parts<S: Source, O: Output>(
     w: &mut Window,
     m: &mut Meter,
 ) -> Result<(), SectionFault>
-    requires some { 0 < page }
-    requires few { length parts.old ≤ 5 }
-    ensures moves { MovesAllUnless result S.Source parts.old parts.new O.Output output.old output.new
-        (IsTrue S.tells → sizes.now ≡ filled 5 (map S.size parts.old) → ⊥) }
-    ensures written { IsTrue S.tells → OnOk result (O.written output.new ≡ O.written output.old
-        ++ layout.laid page (map S.content parts.old)) }
+    requires { FewOnPages page parts.old }
+    ensures parts { MovesParts result S.Source parts.old parts.new O.Output output.old output.new sizes.now
+        (O.written output.old ++ layout.laid page (map S.content parts.old)) }
     ensures front { IsTrue S.tells → AppendsFront (O.written output.old) (O.written output.new)
         (layout.laid page (map S.content parts.old)) }
     ensures bytes { AddsUpTo result (O.written output.old) (O.written output.new)
         (layout.laid_size page (take (length parts.old) sizes.now)) }
-    ensures lasting { OnOk result (map S.size parts.new ≡ take (length parts.old) sizes.now) }
 {
     for i in 0..parts.len() {
         m.tick();

@@ -1,3 +1,4 @@
+pub mod Finding
 pub mod LeftOut
 pub mod Places
 pub mod Reasons

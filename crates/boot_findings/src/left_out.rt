@@ -1,9 +1,9 @@
 //! What packing an image again leaves out of it.
 
-ghost use Rattle.std.specs.Prelude.{◌≡◌, ◌<◌, ◌≤◌, ◌+◌, ◌++◌, ◌*◌, ◌^◌, Some, IsTrue, IfOk, length};
-ghost use Rattle.abt_sections.specs.Header.{page_of, places_of, view_of};
+ghost use Rattle.std.specs.Prelude.{◌≡◌, ◌<◌, ◌≤◌, ◌+◌, ◌++◌, ◌*◌, ◌^◌, Some, IfOk, length};
+ghost use Rattle.abt_sections.specs.Header.{view_of};
 ghost use Rattle.abt_sections.specs.Open.{IsOpened};
-ghost use Rattle.abt_sections.specs.Reads.{ReadsUnless};
+ghost use Rattle.boot_findings.specs.Finding.{LooksFor};
 ghost use Rattle.boot_findings.specs.LeftOut as spec;
 
 use crate::places::end_of;
@@ -76,9 +76,8 @@ pub fn count_left_out<S: Source>(
     w: &mut Window,
     m: &mut Meter,
 ) -> Result<LeftOut, SectionFault>
-    ensures reads { ReadsUnless result S.Source source.old source.new (IsTrue S.tells → ⊥) }
-    ensures counts { IsTrue S.tells → IsOpened (S.content source.old) image.now → IfOk result (λ left. left ≡
-        spec.left_out_of anew ramdisk (S.content source.old) (view_of image.now.header)) }
+    ensures counts { LooksFor result S.Source source.old source.new (λ left. IsOpened (S.content source.old) image.now →
+        left ≡ spec.left_out_of anew ramdisk (S.content source.old) (view_of image.now.header)) }
 {
     let padding = match padding_left(image, source, w, m) {
         Ok(count) => count,
@@ -160,9 +159,8 @@ fn padding_left<S: Source>(
     w: &mut Window,
     m: &mut Meter,
 ) -> Result<u64, SectionFault>
-    ensures reads { ReadsUnless result S.Source source.old source.new (IsTrue S.tells → ⊥) }
-    ensures value { IsTrue S.tells →
-        IfOk result (λ n. n ≡ spec.padding_left (S.content source.old) (view_of image.now.header)) }
+    ensures { LooksFor result S.Source source.old source.new
+        (λ n. n ≡ spec.padding_left (S.content source.old) (view_of image.now.header)) }
 {
     let page = image.header.page_size();
     let mut count = match set_behind(source, image.header.size() as u64, page, w, m) {
@@ -190,8 +188,8 @@ fn set_behind<S: Source>(
 ) -> Result<u64, SectionFault>
     requires low { at < 2 ^ 63 }
     requires some { 0 < page }
-    ensures reads { ReadsUnless result S.Source source.old source.new (IsTrue S.tells → ⊥) }
-    ensures value { IsTrue S.tells → IfOk result (λ n. n ≡ spec.set_in_padding (S.content source.old) page at) }
+    ensures finds { LooksFor result S.Source source.old source.new
+        (λ n. n ≡ spec.set_in_padding (S.content source.old) page at) }
     ensures few { IfOk result (λ n. n ≤ page) }
 {
     set_between(source, at, pages(at, page) * page as u64, w, m)
@@ -206,9 +204,8 @@ fn trailing_left<S: Source>(
     w: &mut Window,
     m: &mut Meter,
 ) -> Result<u64, SectionFault>
-    ensures reads { ReadsUnless result S.Source source.old source.new (IsTrue S.tells → ⊥) }
-    ensures value { IsTrue S.tells → IsOpened (S.content source.old) image.now →
-        IfOk result (λ n. n ≡ spec.trailing_left anew (S.content source.old) (view_of image.now.header)) }
+    ensures { LooksFor result S.Source source.old source.new (λ n. IsOpened (S.content source.old) image.now →
+        n ≡ spec.trailing_left anew (S.content source.old) (view_of image.now.header)) }
 {
     if anew.trailing {
         return Ok(0);

@@ -1,6 +1,6 @@
 //! Where the sections of an image stand, and where the image ends.
 
-ghost use Rattle.std.specs.Prelude.{◌≡◌, ◌+◌, ◌<◌, ◌≤◌, ◌^◌, IfSome};
+ghost use Rattle.std.specs.Prelude.{◌≡◌, ◌+◌, ◌<◌, ◌^◌, IfSome};
 ghost use Rattle.abt_sections.specs.Header.{view_of};
 ghost use Rattle.boot_findings.specs.LeftOut as spec;
 ghost use Rattle.boot_findings.specs.Places.{first_place_of};

@@ -1,6 +1,6 @@
 //! Why a check answers no.
 
-ghost use Rattle.std.specs.Prelude.{◌≡◌, ◌<◌, ◌≤◌, ◌^◌, ◌↔◌, IfOk, IfErr, IfSome, IsTrue, length};
+ghost use Rattle.std.specs.Prelude.{◌<◌, ◌↔◌, IfOk, IfErr, IsTrue, length};
 ghost use Rattle.abt_io.specs.Lent.{OnlyReads};
 ghost use Rattle.abt_sections.specs.Reads.{ReadsUnless};
 ghost use Rattle.boot_findings.specs.Reasons.{ReasonCause, ReasonsAre};

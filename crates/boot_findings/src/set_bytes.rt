@@ -1,7 +1,8 @@
 //! Bytes that are not zero: how many there are, and where the first stands.
 
-ghost use Rattle.std.specs.Prelude.{◌≡◌, ◌<◌, ◌≤◌, ◌+◌, ◌-◌, ◌^◌, IsTrue, IfOk, length, take, drop, min};
+ghost use Rattle.std.specs.Prelude.{◌≡◌, ◌<◌, ◌≤◌, ◌+◌, ◌-◌, IsTrue, IfOk, length, take, drop, min};
 ghost use Rattle.abt_sections.specs.Reads.{ReadsUnless};
+ghost use Rattle.boot_findings.specs.Finding.{LooksFor, HasRoomFor};
 ghost use Rattle.boot_findings.specs.LeftOut.{set_in};
 
 use abt_io::{Meter, Source, WINDOW, Window, read_full_at};
@@ -41,9 +42,8 @@ pub(crate) fn set_between<S: Source>(
     w: &mut Window,
     m: &mut Meter,
 ) -> Result<u64, SectionFault>
-    ensures reads { ReadsUnless result S.Source source.old source.new (IsTrue S.tells → ⊥) }
-    ensures value { IsTrue S.tells →
-        IfOk result (λ n. n ≡ set_in (take (end - from) (drop from (S.content source.old)))) }
+    ensures finds { LooksFor result S.Source source.old source.new
+        (λ n. n ≡ set_in (take (end - from) (drop from (S.content source.old)))) }
     ensures few { IfOk result (λ n. n ≤ end - from) }
 {
     let all = end.saturating_sub(from);
@@ -80,12 +80,10 @@ fn count_in<S: Source>(
     w: &mut Window,
     m: &mut Meter,
 ) -> Result<Seen, SectionFault>
-    requires room { ask ≤ 65536 }
-    requires below { at + ask < 2 ^ 64 }
-    ensures reads { ReadsUnless result S.Source source.old source.new (IsTrue S.tells → ⊥) }
-    ensures came { IsTrue S.tells → IfOk result (λ seen. seen.came ≡ min ask (length (S.content source.old) - at)) }
-    ensures set { IsTrue S.tells →
-        IfOk result (λ seen. seen.set ≡ set_in (take seen.came (drop at (S.content source.old)))) }
+    requires { HasRoomFor ask at }
+    ensures finds { LooksFor result S.Source source.old source.new (λ seen.
+        (seen.came ≡ min ask (length (S.content source.old) - at))
+        × (seen.set ≡ set_in (take seen.came (drop at (S.content source.old))))) }
     ensures few { IfOk result (λ seen. (seen.set ≤ seen.came) × (seen.came ≤ ask)) }
 {
     let read = read_full_at(source, at, w.part_mut(0, ask), m);
@@ -105,8 +103,7 @@ fn zeros_at<S: Source>(
     w: &mut Window,
     m: &mut Meter,
 ) -> Result<usize, SectionFault>
-    requires room { ask ≤ 65536 }
-    requires below { at + ask < 2 ^ 64 }
+    requires { HasRoomFor ask at }
     ensures reads { ReadsUnless result S.Source source.old source.new (IsTrue S.tells → ⊥) }
     ensures few { IfOk result (λ zeros. zeros ≤ ask) }
 {

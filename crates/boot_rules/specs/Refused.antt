@@ -1,7 +1,11 @@
 -- What packing refuses of the fields of an image and of the sizes of its parts, and what it writes of them.
-use Rattle.std.specs.Prelude.{◌≡◌, ℕ, List, [], ◌∷◌, Option, Some, None, length, sum, ◌==◌, if◌then◌else◌}
+use Rattle.std.specs.Prelude.{◌≡◌, ◌≤◌, ℕ, List, [], ◌∷◌, Option, Some, None, length, sum, ◌==◌, if◌then◌else◌, IsTrue}
+use Rattle.std.specs.Prelude.{Result, IfErr, OnOk}
+use Rattle.abt_io.specs.declared.device.Output as outputs
+use Rattle.abt_io.specs.declared.device.Source as sources
 use Rattle.abt_refusals.specs.declared.refusal.HostFault.TheVariants as hosts
 use Rattle.abt_sections.specs.BootCanon.{boot_canon}
+use Rattle.abt_sections.specs.Cause.{PackCause}
 use Rattle.abt_sections.specs.Fields.{VendorFields, boot_fields}
 use Rattle.abt_sections.specs.Refusal.{pack_boot_refusal, pack_vendor_refusal}
 use Rattle.abt_sections.specs.VendorCanon.{VendorParts, vendor_canon, vendor_parts, vendor_sizes_for}
@@ -9,8 +13,10 @@ use Rattle.abt_sections.specs.declared.fault.SectionFault.{SectionFault}
 use Rattle.abt_sections.specs.declared.fault.SectionFault.TheVariants as faults
 use Rattle.abt_sections.specs.declared.spec.BootSpec.{BootSpec}
 use Rattle.abt_sections.specs.declared.spec.FragmentSpec.{FragmentSpec}
+use Rattle.boot_fields.specs.Kind.{version_of}
 use Rattle.boot_fields.specs.declared.image_kind.ImageKind.{ImageKind}
 use Rattle.boot_fields.specs.declared.image_kind.ImageKind.TheVariants.{Boot, Vendor}
+use Rattle.boot_rules.specs.Parts.{row_count}
 use Rattle.boot_rules.specs.declared.fault.BootCommandFault.{BootCommandFault}
 use Rattle.boot_rules.specs.declared.fault.BootCommandFault.TheVariants as commands
 
@@ -30,13 +36,15 @@ vendor_fields_asked s = record {
 -- in version 3 the parts are the ramdisk and the dtb, in version 4 the dtb and the bootconfig
 abbrev pub vendor_sizes : ℕ → List ℕ → List ℕ → List ℕ
 vendor_sizes version (a ∷ b ∷ parts) ramdisks =
-    if version == 3 then vendor_sizes_for (sum (a ∷ [])) b 0 0 else vendor_sizes_for (sum ramdisks) a (length ramdisks) b
+    if version == 3 then vendor_sizes_for (sum (a ∷ [])) b 0 0 else vendor_sizes_for (sum ramdisks) a (length ramdisks)
+    b
 vendor_sizes version parts ramdisks = []
 
 -- of parts and ramdisk fragments of these sizes
 abbrev pub refusal_of : ImageKind → BootSpec → List ℕ → List ℕ → Option SectionFault
 refusal_of (Boot n) s parts ramdisks = pack_boot_refusal (boot_fields s) parts
-refusal_of (Vendor n) s parts ramdisks = pack_vendor_refusal (vendor_fields_asked s) (vendor_sizes s.version parts ramdisks)
+refusal_of (Vendor n) s parts ramdisks = pack_vendor_refusal (vendor_fields_asked s)
+    (vendor_sizes s.version parts ramdisks)
 
 -- what a vendor boot image is packed from: version 3 has no fragments, and no bootconfig
 abbrev pub vendor_parts_asked : ℕ → List (List ℕ) → List FragmentSpec → List (List ℕ) → VendorParts
@@ -47,7 +55,24 @@ vendor_parts_asked version parts specs ramdisks = vendor_parts [] [] [] []
 -- the image of a kind: of these fields and parts, and of these ramdisk fragments
 abbrev pub packed : ImageKind → BootSpec → List (List ℕ) → List FragmentSpec → List (List ℕ) → List ℕ
 packed (Boot n) s parts specs ramdisks = boot_canon (boot_fields s) parts
-packed (Vendor n) s parts specs ramdisks = vendor_canon (vendor_fields_asked s) (vendor_parts_asked s.version parts specs ramdisks)
+packed (Vendor n) s parts specs ramdisks = vendor_canon (vendor_fields_asked s)
+    (vendor_parts_asked s.version parts specs ramdisks)
+
+-- the fields are of this kind, with so many parts, and so many ramdisks for the fragments that are told of
+pub record FitsKind (kind : ImageKind) (fields : BootSpec) (parts told ramdisks : ℕ) : Type 0 where
+  pub versioned : fields.version ≡ version_of kind
+  pub counted : parts ≡ row_count kind
+  pub paired : told ≡ ramdisks
+
+-- Packing fails for the refusal that there is, or for a device whose count of faults rose, those of all sources
+-- counted together. After an Ok none has.
+pub record PacksParts {X : Type 0} (r : Result X SectionFault) (refusal : Option SectionFault) {A : Type 0}
+    (s : sources.Ghosts A) (reads reads' : ℕ) {B : Type 0} (o : outputs.Ghosts B) (old new : B) : Type 0 where
+  pub faults : reads ≤ reads'
+  pub cause : IfErr r (λ f. PackCause refusal f reads reads' (o.write_faults old) (o.write_faults new)
+      (IsTrue s.tells → ⊥))
+  pub clean : OnOk r ((reads' ≡ reads) × (o.write_faults new ≡ o.write_faults old))
+  pub write_faults : o.write_faults old ≤ o.write_faults new
 
 -- a fault of moving bytes, rather than of the fields and sizes
 abbrev pub IsOfMoving : SectionFault → Type 0

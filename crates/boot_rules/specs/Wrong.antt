@@ -1,6 +1,6 @@
 -- Why the words of `pack` and `repack` are refused: each fault is so.
 use Rattle.std.specs.Prelude.{◌≡◌, ◌≤◌, ◌^◌, ◌⊎◌, ℕ, Bool, true, false, List, [], Contains, Option, Some}
-use Rattle.std.specs.Prelude.{None, codes}
+use Rattle.std.specs.Prelude.{None, codes, Result, IfOk, IfErr}
 use Rattle.abt_headers.specs.declared.fault.HeaderFault.{HeaderFault}
 use Rattle.abt_headers.specs.declared.fault.HeaderFault.TheVariants as headers
 use Rattle.abt_sections.specs.Fields.{BootFields}
@@ -50,6 +50,13 @@ word_or None word = word
 abbrev pub told_word : List OptionText → Address → List ℕ
 told_word options which = word_or (found options (address_option which))
     (word_or (found options (offset_option which)) (word_or (found options (codes "base")) []))
+
+-- an address is answered that the words say, or else its own, or the word of one that no header has room for
+pub record SaysAddress {E : Type 0} (r : Result ℕ E) (word : E → List ℕ) (options : List OptionText) (which : Address)
+    (own : ℕ) : Type 0 where
+  pub given : IfOk r (λ address. address_for options which own ≡ Some address)
+  pub no_room : IfErr r (λ e. address_for options which own ≡ None)
+  pub told : IfErr r (λ e. word e ≡ told_word options which)
 
 -- a header has no room for an address that this word is of
 pub record IsBadAddress (own : BootFields) (options : List OptionText) (word : List ℕ) : Type 0 where

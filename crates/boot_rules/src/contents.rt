@@ -1,15 +1,12 @@
 //! Packing the parts of an image of either kind, and what packing refuses of them.
 
-ghost use Rattle.std.specs.Prelude.{◌≡◌, ◌<◌, ◌≤◌, ◌+◌, ◌++◌, [], None, Some, Ok, Err, IsTrue, IfOk, IfErr, OnOk};
+ghost use Rattle.std.specs.Prelude.{◌≡◌, ◌<◌, ◌+◌, ◌++◌, [], None, Some, Ok, Err, IsTrue, IfOk, IfErr, OnOk};
 ghost use Rattle.std.specs.Prelude.{length, map};
-ghost use Rattle.abt_sections.specs.Cause.{PackCause, total};
-ghost use Rattle.abt_sections.specs.Fields as vendor;
+ghost use Rattle.abt_sections.specs.Cause.{total};
 ghost use Rattle.abt_sections.specs.Refusal.{IfRefused, pack_vendor_refusal};
 ghost use Rattle.abt_sections.specs.VendorCanon as canon;
-ghost use Rattle.boot_fields.specs.Kind.{version_of};
-ghost use Rattle.boot_rules.specs.Parts.{row_count};
-ghost use Rattle.boot_rules.specs.Refused.{IsOfMoving, IsRefusalOrMove, packed, refusal_of, vendor_fields_asked, vendor_parts_asked};
-ghost use Rattle.boot_rules.specs.Refused.{vendor_sizes};
+ghost use Rattle.boot_rules.specs.Refused.{FitsKind, IsOfMoving, IsRefusalOrMove, PacksParts, packed, refusal_of};
+ghost use Rattle.boot_rules.specs.Refused.{vendor_fields_asked, vendor_parts_asked, vendor_sizes};
 
 use crate::measure::Measure;
 use crate::pack_fields::vendor_fields;
@@ -33,9 +30,7 @@ pub fn judge<P: Source>(
     w: &mut Window,
     m: &mut Meter,
 ) -> Result<Option<SectionFault>, AllocError>
-    requires versioned { fields.now.version ≡ version_of kind }
-    requires counted { length parts.now ≡ row_count kind }
-    requires paired { length specs.now ≡ length sources.now }
+    requires fits { FitsKind kind fields.now (length parts.now) (length specs.now) (length sources.now) }
     ensures { IfOk result (λ refusal. refusal ≡ refusal_of kind fields.now (map P.size parts.now)
         (map P.size sources.now)) }
 {
@@ -70,9 +65,7 @@ fn refused_of(
     w: &mut Window,
     m: &mut Meter,
 ) -> Result<(), SectionFault>
-    requires versioned { fields.now.version ≡ version_of kind }
-    requires counted { length parts.old ≡ row_count kind }
-    requires paired { length specs.now ≡ length sources.old }
+    requires fits { FitsKind kind fields.now (length parts.old) (length specs.now) (length sources.old) }
     ensures accepted { OnOk result (refusal_of kind fields.now (map (λ s. s.size) parts.old)
         (map (λ s. s.size) sources.old) ≡ None) }
     ensures refused { IfErr result (λ f. refusal_of kind fields.now (map (λ s. s.size) parts.old)
@@ -91,9 +84,7 @@ fn without_room(
     w: &mut Window,
     m: &mut Meter,
 ) -> Result<Packed, SectionFault>
-    requires versioned { fields.now.version ≡ version_of kind }
-    requires counted { length parts.old ≡ row_count kind }
-    requires paired { length specs.now ≡ length sources.old }
+    requires fits { FitsKind kind fields.now (length parts.old) (length specs.now) (length sources.old) }
     ensures refused { IfRefused (refusal_of kind fields.now (map (λ s. s.size) parts.old)
         (map (λ s. s.size) sources.old)) (λ f. result ≡ Err f) }
     ensures only { IfErr result (IsRefusalOrMove (refusal_of kind fields.now (map (λ s. s.size) parts.old)
@@ -155,24 +146,15 @@ pub fn pack_image<P: Source, O: Output>(
     w: &mut Window,
     m: &mut Meter,
 ) -> Result<u64, SectionFault>
-    requires versioned { fields.now.version ≡ version_of kind }
-    requires counted { length parts.old ≡ row_count kind }
-    requires paired { length specs.now ≡ length sources.old }
+    requires fits { FitsKind kind fields.now (length parts.old) (length specs.now) (length sources.old) }
     requires empty { P.size empty.old ≡ 0 }
     ensures written { IsTrue P.tells → OnOk result (O.written output.new ≡ O.written output.old
         ++ packed kind fields.now (map P.content parts.old) specs.now (map P.content sources.old)) }
     ensures bytes { IfOk result (λ bytes. length (O.written output.new) ≡ length (O.written output.old) + bytes) }
-    ensures faults { total P.read_faults parts.old + total P.read_faults sources.old + P.read_faults empty.old
-        ≤ total P.read_faults parts.new + total P.read_faults sources.new + P.read_faults empty.new }
-    ensures cause { IfErr result (λ f. PackCause (refusal_of kind fields.now (map P.size parts.old)
-        (map P.size sources.old)) f
-        (total P.read_faults parts.old + total P.read_faults sources.old + P.read_faults empty.old)
+    ensures packs { PacksParts result (refusal_of kind fields.now (map P.size parts.old) (map P.size sources.old))
+        P.Source (total P.read_faults parts.old + total P.read_faults sources.old + P.read_faults empty.old)
         (total P.read_faults parts.new + total P.read_faults sources.new + P.read_faults empty.new)
-        (O.write_faults output.old) (O.write_faults output.new) (IsTrue P.tells → ⊥)) }
-    ensures clean { OnOk result ((total P.read_faults parts.new + total P.read_faults sources.new
-        + P.read_faults empty.new ≡ total P.read_faults parts.old + total P.read_faults sources.old
-        + P.read_faults empty.old) × (O.write_faults output.new ≡ O.write_faults output.old)) }
-    ensures write_faults { O.write_faults output.old ≤ O.write_faults output.new }
+        O.Output output.old output.new }
 {
     let answer = match kind {
         ImageKind::Boot(_) => pack_boot(fields, parts, output, w, m),
@@ -207,17 +189,11 @@ fn pack_vendor_parts<P: Source, O: Output>(
         ++ canon.vendor_canon (vendor_fields_asked fields.now) (vendor_parts_asked fields.now.version
         (map P.content parts.old) specs.now (map P.content sources.old))) }
     ensures bytes { IfOk result (λ p. length (O.written output.new) ≡ length (O.written output.old) + p.bytes) }
-    ensures cause { IfErr result (λ f. PackCause (pack_vendor_refusal (vendor_fields_asked fields.now)
-        (vendor_sizes fields.now.version (map P.size parts.old) (map P.size sources.old))) f
-        (total P.read_faults parts.old + total P.read_faults sources.old + P.read_faults empty.old)
+    ensures packs { PacksParts result (pack_vendor_refusal (vendor_fields_asked fields.now)
+        (vendor_sizes fields.now.version (map P.size parts.old) (map P.size sources.old)))
+        P.Source (total P.read_faults parts.old + total P.read_faults sources.old + P.read_faults empty.old)
         (total P.read_faults parts.new + total P.read_faults sources.new + P.read_faults empty.new)
-        (O.write_faults output.old) (O.write_faults output.new) (IsTrue P.tells → ⊥)) }
-    ensures faults { total P.read_faults parts.old + total P.read_faults sources.old + P.read_faults empty.old
-        ≤ total P.read_faults parts.new + total P.read_faults sources.new + P.read_faults empty.new }
-    ensures clean { OnOk result ((total P.read_faults parts.new + total P.read_faults sources.new
-        + P.read_faults empty.new ≡ total P.read_faults parts.old + total P.read_faults sources.old
-        + P.read_faults empty.old) × (O.write_faults output.new ≡ O.write_faults output.old)) }
-    ensures write_faults { O.write_faults output.old ≤ O.write_faults output.new }
+        O.Output output.old output.new }
 {
     let spec = vendor_fields(fields);
     let (first, second) = parts.split_at_mut(1);

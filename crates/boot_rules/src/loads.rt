@@ -5,7 +5,7 @@ ghost use Rattle.abt_sections.specs.Fields.{boot_fields};
 ghost use Rattle.boot_fields.specs.Loading as loading;
 ghost use Rattle.boot_fields.specs.declared.fields.Address.TheVariants as addresses;
 ghost use Rattle.boot_rules.specs.Given.{address_for, has_offset, words_for};
-ghost use Rattle.boot_rules.specs.Wrong.{IsBadAddress, told_word};
+ghost use Rattle.boot_rules.specs.Wrong.{IsBadAddress, SaysAddress, told_word};
 
 use crate::pack_texts::PackTexts;
 use abt_sections::BootSpec;
@@ -59,9 +59,7 @@ pub(crate) fn addresses_of<'a>(
 // An address that a header has 32 bits for.
 fn short_address<'a>(texts: &PackTexts<'a>, which: Address, own: u32) -> Result<u32, &'a str>
     requires short { loading.most_address which ≡ 4294967295 }
-    ensures given { IfOk result (λ address. address_for texts.now.options.items which own ≡ Some address) }
-    ensures no_room { IfErr result (λ word. address_for texts.now.options.items which own ≡ None) }
-    ensures told { IfErr result (λ word. word.now ≡ told_word texts.now.options.items which) }
+    ensures { SaysAddress result (λ word. word.now) texts.now.options.items which own }
 {
     match long_address(texts, which, own as u64) {
         Ok(address) => Ok(address as u32),
@@ -71,10 +69,8 @@ fn short_address<'a>(texts: &PackTexts<'a>, which: Address, own: u32) -> Result<
 
 // The address that the words say, or else its own. Refuses the word of one that a header has no room for.
 fn long_address<'a>(texts: &PackTexts<'a>, which: Address, own: u64) -> Result<u64, &'a str>
-    ensures given { IfOk result (λ address. address_for texts.now.options.items which own ≡ Some address) }
+    ensures says { SaysAddress result (λ word. word.now) texts.now.options.items which own }
     ensures room { IfOk result (λ address. address ≤ loading.most_address which) }
-    ensures no_room { IfErr result (λ word. address_for texts.now.options.items which own ≡ None) }
-    ensures told { IfErr result (λ word. word.now ≡ told_word texts.now.options.items which) }
 {
     match load_address(words_of(texts, which), which.usual_offset(), own) {
         Some(address) if address <= which.most() => Ok(address),

@@ -1,9 +1,8 @@
 //! What a part of an image is read from: a file, or a range of one.
 
-ghost use Rattle.std.specs.Prelude.{◌≡◌, ◌<◌, ◌≤◌, ◌+◌, ◌^◌, Some, None, IsTrue, IfOk, IfErr, OnOk, OnErr};
-ghost use Rattle.std.specs.Prelude.{length, take, drop, option_map};
-ghost use Rattle.abt_io.specs.Count.{count_of};
-ghost use Rattle.boot_rules.specs.Ranges.{range_bytes, count_in, long_in};
+ghost use Rattle.std.specs.Prelude.{◌≡◌, ◌<◌, ◌≤◌, ◌+◌, ◌^◌, Some, None, IsTrue};
+ghost use Rattle.std.specs.Prelude.{length, option_map};
+ghost use Rattle.boot_rules.specs.Ranges.{ReadsIn, range_bytes, count_in, long_in};
 ghost use Rattle.boot_rules.specs.RangesLaws.{part_bytes, part_sized};
 
 use abt_disk::Lasting;
@@ -91,19 +90,7 @@ impl<'a, S: Source + Lasting> PartSource<'a, S> {
 // Reads from a file that may be none.
 fn read_in<S: Source>(file: &mut Option<S>, at: u64, out: &mut [u8]) -> Result<usize, DeviceFault>
     requires { length out.old ≤ 65536 }
-    ensures within { count_of result ≤ length out.new }
-    ensures bytes { IsTrue S.tells → take (count_of result) out.new
-        ≡ take (count_of result) (range_bytes (option_map S.content file.old) at (count_of result)) }
-    ensures content { IsTrue S.tells → option_map S.content file.new ≡ option_map S.content file.old }
-    ensures ended { IsTrue S.tells → IfOk result (λ n. n ≡ 0 → 0 < length out.new →
-        long_in (option_map S.content file.old) ≤ at) }
-    ensures counted { count_in (option_map S.given file.new) ≡ count_in (option_map S.given file.old) + count_of result }
-    ensures faults { count_in (option_map S.read_faults file.old) ≤ count_in (option_map S.read_faults file.new) }
-    ensures cause { OnErr result (count_in (option_map S.read_faults file.old)
-        < count_in (option_map S.read_faults file.new)) }
-    ensures clean { OnOk result (count_in (option_map S.read_faults file.new)
-        ≡ count_in (option_map S.read_faults file.old)) }
-    ensures failed { IfErr result (λ e. e ≡ DeviceFault.Failed) }
+    ensures { ReadsIn S.Source result file.old file.new at out.new }
 {
     match file {
         Some(file) => file.read_at(at, out),

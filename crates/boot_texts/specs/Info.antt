@@ -1,9 +1,14 @@
 -- The text of `info`: what the lines of an opened image are, and in which order.
 use Rattle.std.specs.Prelude.{◌≡◌, ℕ, zero, suc, ◌<◌, ◌≤◌, ◌/◌, ◌%◌, ◌==◌, ◌&&◌, not, nat_le, Bool, false}
 use Rattle.std.specs.Prelude.{if◌then◌else◌, List, [], ◌∷◌, ◌++◌, Option, Some, None, Result, Ok, Err, codes, decimal}
+use Rattle.std.specs.Prelude.{IsSome, IsTrue, IfErr, OnOk}
 use Rattle.std.specs.Fmt.{digits}
 use Rattle.std.specs.List.{flat_map}
 use Rattle.hex.specs.Hex.{encode_lower}
+use Rattle.abt_io.specs.declared.device.Source as sources
+use Rattle.abt_io.specs.declared.device.Output as outputs
+use Rattle.abt_text.specs.Printed.{Prints}
+use Rattle.abt_text.specs.declared.text_output.Text.{Text}
 use Rattle.abt_headers.specs.declared.entry.RamdiskEntry.{RamdiskEntry}
 use Rattle.abt_headers.specs.declared.os.OsParts.{OsParts}
 use Rattle.abt_headers.specs.declared.sections.Place.{Place}
@@ -14,7 +19,8 @@ use Rattle.abt_headers.specs.Vendor.{vendor_page, vendor_version}
 use Rattle.abt_sections.specs.declared.checking.Verdict.{Verdict}
 use Rattle.abt_sections.specs.Header.{Header, OfBoot, OfVendor, places_of, fragment_count, entry_of}
 use Rattle.abt_sections.specs.Check.{IsVerdict}
-use Rattle.abt_sections.specs.Open.{HasImage, RefusedAs}
+use Rattle.abt_sections.specs.Open.{HasImage, IsOpened, RefusedAs}
+use Rattle.abt_sections.specs.declared.image.Image.{Image}
 use Rattle.abt_sections.specs.declared.fault.SectionFault.{SectionFault}
 use Rattle.abt_sections.specs.declared.fault.SectionFault.TheVariants as faults
 use Rattle.boot_fields.specs.Fields.{address_name, address_of, field_name, field_of, id_field_of, os_number_of, text_of}
@@ -203,3 +209,24 @@ pub record Reports (o : Notation) (x old new : List ℕ) : Type 0 where
   pub header : Header
   pub image : HasImage x header
   pub printed : Checked o x header (λ text. new ≡ old ++ text)
+
+-- ---- what printing leaves of the devices
+
+-- Something of an opened image is printed: after an Ok its source holds what it held. A fault of writing is in the
+-- text; where the image still stands, there is none but of devices.
+pub record PrintsImage {X : Type 0} (r : Result X SectionFault) {A : Type 0} (s : sources.Ghosts A) (old new : A)
+    {B : Type 0} (o : outputs.Ghosts B) (before after : Text B) (image : Image) : Type 0 where
+  pub content : IsTrue s.tells → OnOk r (s.content new ≡ s.content old)
+  pub prints : (done : List ℕ) × Prints o.written o.write_faults before after done
+  pub told : IfErr r (λ f. IsSectionWrite f → IsSome after.fault)
+  pub reads : SectionReadTold r (s.read_faults old) (s.read_faults new)
+  pub refused : IsTrue s.tells → IsOpened (s.content old) image
+      → IfErr r (λ f. PrintCause f (s.read_faults old) (s.read_faults new))
+
+-- All of it went to an output: after an Ok none of the two devices has failed.
+pub record WritesImage {X : Type 0} (r : Result X SectionFault) {A : Type 0} (s : sources.Ghosts A) (old new : A)
+    {B : Type 0} (o : outputs.Ghosts B) (before after : B) : Type 0 where
+  pub content : IsTrue s.tells → OnOk r (s.content new ≡ s.content old)
+  pub reads : SectionReadTold r (s.read_faults old) (s.read_faults new)
+  pub failed : IfErr r (λ f. SectionWriteTold f (o.write_faults before) (o.write_faults after))
+  pub clean : OnOk r (o.write_faults after ≡ o.write_faults before)

@@ -1,6 +1,6 @@
 //! The text of `info`: what the header of a boot image says, and whether the image is what the packer writes.
 
-ghost use Rattle.std.specs.Prelude.{◌≡◌, ◌≤◌, IsSome, IsTrue, IfErr, IfOk, List, ℕ, OnOk, flat_map};
+ghost use Rattle.std.specs.Prelude.{◌≡◌, IsTrue, IfErr, IfOk, OnOk, flat_map};
 ghost use Rattle.abt_sections.specs.Check.{IsVerdict};
 ghost use Rattle.abt_sections.specs.Grown.{AppendsFront};
 ghost use Rattle.abt_sections.specs.Open.{HasImage, IsOpened};
@@ -38,7 +38,7 @@ pub fn report_info<S: Source, O: Output>(
     w: &mut Window,
     m: &mut Meter,
 ) -> Result<InfoReport, SectionFault>
-    ensures content { IsTrue S.tells → OnOk result (S.content source.new ≡ S.content source.old) }
+    ensures leaves { spec.WritesImage result S.Source source.old source.new O.Output out.old out.new }
     ensures reported { IsTrue S.tells → IfOk result (λ r. IsOpened (S.content source.old) r.image ×
         IsVerdict (S.content source.old) (view_of r.image.header) r.verdict) }
     ensures printed { IsTrue S.tells →
@@ -49,9 +49,6 @@ pub fn report_info<S: Source, O: Output>(
     ensures begun { IsTrue S.tells → (h : Header) → HasImage (S.content source.old) h → (v : Verdict) →
         IsVerdict (S.content source.old) h v →
         AppendsFront (O.written out.old) (O.written out.new) (spec.info_text notation (S.content source.old) h v) }
-    ensures reads { spec.SectionReadTold result (S.read_faults source.old) (S.read_faults source.new) }
-    ensures failed { IfErr result (λ f. spec.SectionWriteTold f (O.write_faults out.old) (O.write_faults out.new)) }
-    ensures clean { OnOk result (O.write_faults out.new ≡ O.write_faults out.old) }
 {
     let image = match open(source, w, m) {
         Ok(image) => image,
@@ -74,7 +71,7 @@ fn image_lines<S: Source, O: Output>(
     w: &mut Window,
     m: &mut Meter,
 ) -> Result<Verdict, SectionFault>
-    ensures content { IsTrue S.tells → OnOk result (S.content source.new ≡ S.content source.old) }
+    ensures leaves { spec.PrintsImage result S.Source source.old source.new O.Output text.old text.new image.now }
     ensures verdict { IsTrue S.tells → IfOk result (IsVerdict (S.content source.old) (view_of image.now.header)) }
     ensures lines { IsTrue S.tells →
         OnOk result (spec.Checked notation (S.content source.old) (view_of image.now.header)
@@ -83,11 +80,6 @@ fn image_lines<S: Source, O: Output>(
         IsVerdict (S.content source.old) (view_of image.now.header) v →
         PrintsFront O.written O.write_faults text.old text.new
         (spec.info_text notation (S.content source.old) (view_of image.now.header) v) }
-    ensures prints { (done : List ℕ) × Prints O.written O.write_faults text.old text.new done }
-    ensures told { IfErr result (λ f. spec.IsSectionWrite f → IsSome text.new.fault) }
-    ensures reads { spec.SectionReadTold result (S.read_faults source.old) (S.read_faults source.new) }
-    ensures refused { IsTrue S.tells → IsOpened (S.content source.old) image.now →
-        IfErr result (λ f. spec.PrintCause f (S.read_faults source.old) (S.read_faults source.new)) }
 {
     put_kind(&image.header, notation, text);
     section_lines(image, notation, text, m);
@@ -128,7 +120,7 @@ fn fragment_lines<S: Source, O: Output>(
     w: &mut Window,
     m: &mut Meter,
 ) -> Result<(), SectionFault>
-    ensures content { IsTrue S.tells → OnOk result (S.content source.new ≡ S.content source.old) }
+    ensures leaves { spec.PrintsImage result S.Source source.old source.new O.Output text.old text.new image.now }
     ensures lines { IsTrue S.tells →
         OnOk
         result (Prints O.written O.write_faults text.old text.new
@@ -137,11 +129,6 @@ fn fragment_lines<S: Source, O: Output>(
     ensures begun { IsTrue S.tells → PrintsFront O.written O.write_faults text.old text.new
         (spec.fragment_lines notation (S.content source.old) (view_of image.now.header)
         (fragment_count (view_of image.now.header))) }
-    ensures prints { (done : List ℕ) × Prints O.written O.write_faults text.old text.new done }
-    ensures told { IfErr result (λ f. spec.IsSectionWrite f → IsSome text.new.fault) }
-    ensures reads { spec.SectionReadTold result (S.read_faults source.old) (S.read_faults source.new) }
-    ensures refused { IsTrue S.tells → IsOpened (S.content source.old) image.now →
-        IfErr result (λ f. spec.PrintCause f (S.read_faults source.old) (S.read_faults source.new)) }
 {
     for i in 0..fragments(image) {
         m.tick();
@@ -186,7 +173,8 @@ fn address_line<O: Output>(
     notation: Notation,
     text: &mut Text<'_, O>,
 )
-    ensures { Prints O.written O.write_faults text.old text.new (spec.address_line notation (view_of header.now) which) }
+    ensures { Prints O.written O.write_faults text.old text.new
+        (spec.address_line notation (view_of header.now) which) }
 {
     match address_of(header, which) {
         Some(address) => put_address(which, address, notation, text),

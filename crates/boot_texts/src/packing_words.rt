@@ -1,6 +1,6 @@
 //! The words that pack an image again: what its header and its table say, each as an option of `pack`.
 
-ghost use Rattle.std.specs.Prelude.{◌≡◌, ◌++◌, ◌∷◌, [], ℕ, List, Some, None, MatchOption, IsTrue, IsSome, IfErr, OnOk};
+ghost use Rattle.std.specs.Prelude.{◌≡◌, ◌++◌, ◌∷◌, [], Some, None, MatchOption, IsTrue, IfErr, OnOk};
 ghost use Rattle.std.specs.List.{flat_map};
 ghost use Rattle.abt_sections.specs.Check.{all_zero};
 ghost use Rattle.abt_sections.specs.Open.{IsOpened};
@@ -31,15 +31,12 @@ pub fn write_words<S: Source, O: Output>(
     w: &mut Window,
     m: &mut Meter,
 ) -> Result<(), SectionFault>
-    ensures content { IsTrue S.tells → OnOk result (S.content source.new ≡ S.content source.old) }
+    ensures leaves { info.WritesImage result S.Source source.old source.new O.Output out.old out.new }
     ensures written { IsTrue S.tells →
         OnOk result (O.written out.new ≡ O.written out.old ++ words.words_text
         (words.image_words folder.now (S.content source.old) (view_of image.now.header))) }
     ensures refused { IsTrue S.tells → IsOpened (S.content source.old) image.now →
         IfErr result (λ f. info.PrintCause f (S.read_faults source.old) (S.read_faults source.new)) }
-    ensures reads { info.SectionReadTold result (S.read_faults source.old) (S.read_faults source.new) }
-    ensures failed { IfErr result (λ f. info.SectionWriteTold f (O.write_faults out.old) (O.write_faults out.new)) }
-    ensures clean { OnOk result (O.write_faults out.new ≡ O.write_faults out.old) }
 {
     let mut text = Text::new(out);
     let told = image_words(image, folder, source, &mut text, w, m);
@@ -58,16 +55,11 @@ fn image_words<S: Source, O: Output>(
     w: &mut Window,
     m: &mut Meter,
 ) -> Result<(), SectionFault>
-    ensures content { IsTrue S.tells → OnOk result (S.content source.new ≡ S.content source.old) }
+    ensures leaves { info.PrintsImage result S.Source source.old source.new O.Output text.old text.new image.now }
     ensures lines { IsTrue S.tells →
         OnOk
         result (Prints O.written O.write_faults text.old text.new
         (words.words_text (words.image_words folder.now (S.content source.old) (view_of image.now.header)))) }
-    ensures prints { (done : List ℕ) × Prints O.written O.write_faults text.old text.new done }
-    ensures told { IfErr result (λ f. info.IsSectionWrite f → IsSome text.new.fault) }
-    ensures reads { info.SectionReadTold result (S.read_faults source.old) (S.read_faults source.new) }
-    ensures refused { IsTrue S.tells → IsOpened (S.content source.old) image.now →
-        IfErr result (λ f. info.PrintCause f (S.read_faults source.old) (S.read_faults source.new)) }
 {
     header_words(image, folder, text, m);
     fragment_words(image, folder, source, text, w, m)
@@ -198,7 +190,8 @@ fn cmdline_word<O: Output>(header: &ImageHeader, text: &mut Text<'_, O>)
 }
 
 fn os_words<O: Output>(header: &ImageHeader, text: &mut Text<'_, O>)
-    ensures { Prints O.written O.write_faults text.old text.new (words.words_text (words.os_words (view_of header.now))) }
+    ensures { Prints O.written O.write_faults text.old text.new
+        (words.words_text (words.os_words (view_of header.now))) }
 {
     match os_version_of(header) {
         Some(os) => put_os_word(os, text),
@@ -214,17 +207,12 @@ fn fragment_words<S: Source, O: Output>(
     w: &mut Window,
     m: &mut Meter,
 ) -> Result<(), SectionFault>
-    ensures content { IsTrue S.tells → OnOk result (S.content source.new ≡ S.content source.old) }
+    ensures leaves { info.PrintsImage result S.Source source.old source.new O.Output text.old text.new image.now }
     ensures lines { IsTrue S.tells →
         OnOk
         result (Prints O.written O.write_faults text.old text.new
         (words.words_text (words.fragment_words folder.now (S.content source.old) (view_of image.now.header)
         (fragment_count (view_of image.now.header))))) }
-    ensures prints { (done : List ℕ) × Prints O.written O.write_faults text.old text.new done }
-    ensures told { IfErr result (λ f. info.IsSectionWrite f → IsSome text.new.fault) }
-    ensures reads { info.SectionReadTold result (S.read_faults source.old) (S.read_faults source.new) }
-    ensures refused { IsTrue S.tells → IsOpened (S.content source.old) image.now →
-        IfErr result (λ f. info.PrintCause f (S.read_faults source.old) (S.read_faults source.new)) }
 {
     for i in 0..fragments(image) {
         m.tick();

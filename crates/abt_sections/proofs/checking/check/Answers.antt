@@ -6,4 +6,4 @@ pub returns-clause-packed : goal.returns-clause-packed
 returns-clause-packed g c = λ tells opened.
     let x = g.S.Source.content c.args.source.now in
     verdict_packed x (view_of c.args.image.now.header) c.compare.result
-    (g.met.S.Source.are_bytes c.args.source.now tells) opened.has (c.compare.ensures.verdict tells)
+    (g.met.S.Source.are_bytes c.args.source.now tells) opened.has (c.compare.ensures.found.value tells)

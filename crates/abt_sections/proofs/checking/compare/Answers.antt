@@ -1,4 +1,4 @@
-use Rattle.std.proofs.Common.{ℕ, List, length, ap, ◌∙◌}
+use Rattle.std.proofs.Common.{rules, ℕ, List, length, ap, ◌∙◌}
 use Rattle.abt_io.proofs.Lent.{reads_then}
 use Rattle.abt_sections.specs.Header.{view_of, places_of}
 use Rattle.abt_sections.specs.Open.{beyond}
@@ -6,35 +6,43 @@ use Rattle.abt_sections.proofs.Refusals.{reads_on}
 use Rattle.abt_sections.proofs.Verdicts.{verdict_is}
 use Rattle.abt_sections.proofs.checking.compare.Goals as goal
 
-pub returns-in-Err-id_holds-clause-reads : goal.returns-in-Err-id_holds-clause-reads
-returns-in-Err-id_holds-clause-reads g c =
+pub returns-in-Err-id_holds-clause-found : goal.returns-in-Err-id_holds-clause-found
+returns-in-Err-id_holds-clause-found g c =
     let ps = places_of (view_of c.args.image.now.header) in
-    let e = c.in-Ok.ensures.reads.only in
-    reads_on e c.in-Err-id_holds.ensures.reads (λ changed tells opened. changed tells
-    (ap (λ (l : List ℕ). beyond ps (length l)) (e.content tells) ∙ opened.has.there))
-
-pub returns-in-Err-fragments_fill-clause-reads : goal.returns-in-Err-fragments_fill-clause-reads
-returns-in-Err-fragments_fill-clause-reads g c =
-    let ps = places_of (view_of c.args.image.now.header) in
-    let e = reads_then c.in-Ok.ensures.reads.only c.in-Ok-id_holds.ensures.reads.only in
-    reads_on e c.in-Err-fragments_fill.ensures.reads (λ changed tells opened. changed tells
-    (ap (λ (l : List ℕ). beyond ps (length l)) (e.content tells) ∙ opened.has.there))
-
-pub returns-clause-verdict : goal.returns-clause-verdict
-returns-clause-verdict g c = λ tells.
-    let same = c.in-Ok.ensures.reads.only.content tells in
-    let then = c.in-Ok-id_holds.ensures.reads.only.content tells in
-    let x = g.S.Source.content c.args.source.now in
-    let h = view_of c.args.image.now.header in
-    let told = c.verdict_of.ensures in
-    let padding = c.in-Ok.ensures.value tells in
-    let id = rw same at (c.in-Ok-id_holds.ensures.value tells) in
+    let e = c.in-Ok.ensures.found.reads.only in
     record {
-      padding = told.padding ∙ padding;
-      id = rw told.id id;
-      offset = told.offset ∙ c.offset_holds.ensures;
-      canonical = verdict_is x h c.verdict_of.result.canonical c.in-Ok.value c.in-Ok-id_holds.value
-          c.offset_holds.result c.texts_hold.result c.in-Ok-fragments_fill.value told.canonical padding id
-          c.offset_holds.ensures c.texts_hold.ensures
-          (rw (then, same) at (c.in-Ok-fragments_fill.ensures.value tells));
+      reads = reads_on e c.in-Err-id_holds.ensures.reads (λ changed tells opened. changed tells
+          (ap (λ (l : List ℕ). beyond ps (length l)) (e.content tells) ∙ opened.has.there));
+      value = search rules;
     }
+
+pub returns-in-Err-fragments_fill-clause-found : goal.returns-in-Err-fragments_fill-clause-found
+returns-in-Err-fragments_fill-clause-found g c =
+    let ps = places_of (view_of c.args.image.now.header) in
+    let e = reads_then c.in-Ok.ensures.found.reads.only c.in-Ok-id_holds.ensures.reads.only in
+    record {
+      reads = reads_on e c.in-Err-fragments_fill.ensures.reads (λ changed tells opened. changed tells
+          (ap (λ (l : List ℕ). beyond ps (length l)) (e.content tells) ∙ opened.has.there));
+      value = search rules;
+    }
+
+pub returns-clause-found : goal.returns-clause-found
+returns-clause-found g c = record {
+  reads = search rules;
+  value = λ tells.
+      let same = c.in-Ok.ensures.found.reads.only.content tells in
+      let then = c.in-Ok-id_holds.ensures.reads.only.content tells in
+      let h = view_of c.args.image.now.header in
+      let told = c.verdict_of.ensures in
+      let padding = c.in-Ok.ensures.found.value tells in
+      let id = rw same at (c.in-Ok-id_holds.ensures.value tells) in
+      record {
+        padding = told.padding ∙ padding;
+        id = rw told.id id;
+        offset = told.offset ∙ c.offset_holds.ensures;
+        canonical = verdict_is (g.S.Source.content c.args.source.now) h c.verdict_of.result.canonical c.in-Ok.value
+            c.in-Ok-id_holds.value c.offset_holds.result c.texts_hold.result c.in-Ok-fragments_fill.value
+            told.canonical padding id c.offset_holds.ensures c.texts_hold.ensures
+            (rw (then, same) at (c.in-Ok-fragments_fill.ensures.value tells));
+      };
+}

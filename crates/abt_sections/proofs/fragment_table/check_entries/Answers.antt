@@ -13,7 +13,7 @@ returns-in-Err-clause-found g c = λ tells there.
     let h = view_of c.args.header.now in
     let e = table_there h (length x) c.loop-i.i t.whole there (omega (arith, t.count)) in
     read_entries _ _ _ _ x h (λ changed. changed tells (omega (arith, e, t.at, t.count, ap length (v.content tells))))
-    c.in-Err.ensures.reads.cause
+    c.in-Err.ensures.found.reads.cause
 
 pub returns-in-Err-clause-reads : goal.returns-in-Err-clause-reads
 returns-in-Err-clause-reads g c =
@@ -21,7 +21,7 @@ returns-in-Err-clause-reads g c =
     let x = g.S.Source.content c.args.source.now in
     let t = c.table_of-table.ensures in
     let h = view_of c.args.header.now in
-    opens_on v c.in-Err.ensures.reads (λ changed tells there. changed tells (omega (
+    opens_on v c.in-Err.ensures.found.reads (λ changed tells there. changed tells (omega (
       arith,
       table_there h (length x) c.loop-i.i t.whole there (omega (arith, t.count)),
       t.at,

@@ -10,7 +10,7 @@ returns-in-Err-clause-reads g c =
     let x = g.S.Source.content c.args.source.now in
     let t = c.table_of-table.ensures in
     let h = view_of c.args.header.now in
-    reads_on v c.in-Err.ensures.reads (λ changed tells there. changed tells (omega (
+    reads_on v c.in-Err.ensures.found.reads (λ changed tells there. changed tells (omega (
       arith,
       table_there h (length x) c.loop-i.i t.whole there (omega (arith, t.count)),
       t.at,

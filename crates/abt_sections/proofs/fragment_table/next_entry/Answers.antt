@@ -1,9 +1,13 @@
-use Rattle.std.proofs.Common.{ap, ◌∙◌}
+use Rattle.std.proofs.Common.{rules, ap, ◌∙◌}
 use Rattle.abt_headers.specs.Entry.{entry_at}
 use Rattle.abt_sections.proofs.Entries.{held_entry}
 use Rattle.abt_sections.proofs.fragment_table.next_entry.Goals as goal
 
-pub returns-clause-entry : goal.returns-clause-entry
-returns-clause-entry g c = λ tells.
+pub returns-clause-found : goal.returns-clause-found
+returns-clause-found g c =
     let e = c.in-Ok.ensures in
-    c.entry_in.ensures ∙ ap entry_at (held_entry _ _ c.args.table.now.at _ _ c.args.i e.held.from e.held.to (e.stand tells))
+    record {
+      reads = search rules;
+      value = λ tells. c.entry_in.ensures ∙ ap entry_at
+          (held_entry _ _ c.args.table.now.at _ _ c.args.i e.held.from e.held.to (e.stand tells));
+    }

@@ -1,4 +1,4 @@
-use Rattle.std.proofs.Common.{arith, ap, length, sym, append-nil}
+use Rattle.std.proofs.Common.{rules, arith, ap, length, sym, append-nil}
 use Rattle.abt_io.proofs.Lent.{reads_none, reads_then, writes_none, writes_then}
 use Rattle.abt_sections.proofs.Digests.{hashed_front}
 use Rattle.abt_sections.proofs.Moves.{moves_on}
@@ -22,15 +22,15 @@ loop-at-preserved g c =
           (i.written tells) (e.written tells);
       hashed = λ wanted tells t h. hashed_front _ _ _ t c.loop-at.at c.next_ask-ask.result (i.reads.content tells)
           (e.hashed wanted tells _ (i.hashed wanted tells t h));
-      grown = grows_on _ _ _ i.grown e.grown (omega (arith, i.all));
+      grown = grows_on _ _ _ i.grown e.bytes.grown (omega (arith, i.all));
       all = omega (arith, e.bytes.all, i.all);
       writes = writes_then i.writes e.moves.writes;
     }
 
-pub returns-in-Err-clause-grown : goal.returns-in-Err-clause-grown
-returns-in-Err-clause-grown g c =
+pub returns-in-Err-clause-bytes : goal.returns-in-Err-clause-bytes
+returns-in-Err-clause-bytes g c =
     let i = c.loop-at.invariant in
-    grows_on _ _ _ i.grown c.in-Err.ensures.grown (omega (arith, i.all))
+    search (rules, grows_on _ _ _ i.grown c.in-Err.ensures.bytes.grown (omega (arith, i.all)))
 
 pub returns-in-Err-clause-moves : goal.returns-in-Err-clause-moves
 returns-in-Err-clause-moves g c =
@@ -39,15 +39,4 @@ returns-in-Err-clause-moves g c =
     (λ changed tells there. changed tells (λ some. omega (arith, there, ap length (i.reads.content tells))))
 
 pub loop-at-init : goal.loop-at-init
-loop-at-init g c =
-    record {
-      within = omega arith;
-      reads = reads_none _ _ _;
-      once = omega arith;
-      present = λ tells. omega arith;
-      written = λ tells. sym (append-nil _);
-      hashed = λ wanted tells t held. rw (append-nil) held;
-      grown = grows_none _;
-      all = omega arith;
-      writes = writes_none _ _ _;
-    }
+loop-at-init g c = search (rules, grows_none (g.O.Output.written c.args.output.now))

@@ -1,7 +1,6 @@
-use Rattle.std.proofs.Common.{◌+◌, ◌*◌, ℕ, List, arith, ap, ◌∙◌, length, length-set, map, get_or, take, ◌++◌, refl, sym}
-use Rattle.std.proofs.Common.{append-nil}
+use Rattle.std.proofs.Common.{rules, ◌+◌, ◌*◌, ℕ, List, arith, ap, ◌∙◌, length, length-set, map, get_or, take, ◌++◌}
 use Rattle.std.proofs.lemmas.List.Sums.{sum_by-set, sum_by_more}
-use Rattle.abt_io.proofs.Lent.{writes_none, writes_then}
+use Rattle.abt_io.proofs.Lent.{writes_then}
 use Rattle.abt_headers.specs.Page.{pages}
 use Rattle.abt_sections.specs.Layout.{padded, laid}
 use Rattle.abt_sections.proofs.Digests.{hash_next}
@@ -9,15 +8,10 @@ use Rattle.abt_sections.proofs.Growing.{grows_on}
 use Rattle.abt_sections.proofs.Growing as growing
 use Rattle.abt_sections.proofs.Layouts.{laid_next, laid_less, sum_next, sum_less}
 use Rattle.abt_sections.proofs.Moves.{moves_part}
-use Rattle.abt_sections.proofs.Parts.{all_none, all_part, next_part, part_size, sizes_next}
+use Rattle.abt_sections.proofs.Parts.{all_part, next_part, part_size, sizes_all, sizes_next}
 use Rattle.abt_sections.proofs.Beginnings.{grows_none}
 use Rattle.std.proofs.lemmas.List.{take_all, length-map}
 use Rattle.abt_sections.proofs.moving.move_parts.Goals as goal
-
-pub returns-in-Err-clause-grown : goal.returns-in-Err-clause-grown
-returns-in-Err-clause-grown g c =
-    let v = c.loop-i.invariant in
-    grows_on _ _ _ v.grown c.in-Err.ensures.grown (omega (arith, v.all))
 
 pub returns-in-Err-clause-once : goal.returns-in-Err-clause-once
 returns-in-Err-clause-once g c =
@@ -30,23 +24,28 @@ returns-in-Err-clause-once g c =
 
 pub returns-in-Err-clause-bytes : goal.returns-in-Err-clause-bytes
 returns-in-Err-clause-bytes g c =
+    let v = c.loop-i.invariant in
     let page = c.args.page in
     let i = c.loop-i.i in
     let p : ℕ → ℕ = λ m. pages m page * page in
     let sizes = c.args.sizes.now in
     let next = sum_by_more p sizes i 0 (omega arith) in
     let rest = laid_less page sizes (i + 1) (length c.args.parts.now) (omega arith) in
-    record { most = omega (arith, c.loop-i.invariant.all, c.in-Err.ensures.bytes.most, next, rest); all = tt }
+    search (rules, grows_on _ _ _ v.grown c.in-Err.ensures.part.bytes.grown (omega (arith, v.all)), next, rest)
 
-pub returns-in-Err-clause-moves : goal.returns-in-Err-clause-moves
-returns-in-Err-clause-moves g c =
+pub returns-in-Err-clause-parts : goal.returns-in-Err-clause-parts
+returns-in-Err-clause-parts g c =
     let v = c.loop-i.invariant in
     let ps = c.loop-i.parts in
     let i = c.loop-i.i in
     let d = c.index-parts-i.result in
-    moves_part ps i d _ (omega arith) v.reads v.writes c.in-Err.ensures.moves
-    (λ changed tells same. changed tells
-    (part_size g.S.Source.size ps c.args.parts.now i d c.args.sizes.now (v.reads.size tells) same (omega arith)))
+    record {
+      moves = moves_part ps i d _ (omega arith) v.reads v.writes c.in-Err.ensures.part.moves (λ changed tells same.
+          changed tells (part_size g.S.Source.size ps c.args.parts.now i d c.args.sizes.now (v.reads.size tells) same
+          (omega arith)));
+      written = search rules;
+      lasting = tt;
+    }
 
 pub loop-i-preserved : goal.loop-i-preserved
 loop-i-preserved g c =
@@ -64,34 +63,23 @@ loop-i-preserved g c =
     let b = s.content (get_or ps i d) in
     record {
       long = simp length-set v.long;
-      reads = all_part s _ ps i d new (omega arith) v.reads e.moves.reads;
+      reads = all_part s _ ps i d new (omega arith) v.reads e.part.moves.reads;
       once = omega (arith, v.once, e.once, sum_by-set s.given ps i new d (omega arith), sum_next sizes i (omega arith));
       written = λ tells.
           let next = next_part s.content ps c.args.parts.now i d (v.reads.content tells) (omega arith) in
-          growing.then_all _ _ _ (laid page (take i all)) (padded page b) (v.written tells) (e.written tells)
+          growing.then_all _ _ _ (laid page (take i all)) (padded page b) (v.written tells) (e.part.written tells)
           ∙ ap (λ (l : List ℕ). g.O.Output.written c.args.output.now ++ l) (laid_next page all b i next);
       hashed = λ wanted tells none.
           hash_next _ _ _ (next_part s.content ps c.args.parts.now i d (v.reads.content tells) (omega arith))
           (e.hashed wanted tells _ (v.hashed wanted tells none));
-      grown = grows_on _ _ _ v.grown e.grown (omega (arith, v.all));
-      all = omega (arith, v.all, e.bytes.all, sum_by_more p sizes i 0 (omega arith));
-      lasting = sizes_next s.size ps i new sizes (omega arith) (omega arith) v.lasting e.lasting.1;
-      writes = writes_then v.writes e.moves.writes;
+      grown = grows_on _ _ _ v.grown e.part.bytes.grown (omega (arith, v.all));
+      all = omega (arith, v.all, e.part.bytes.all, sum_by_more p sizes i 0 (omega arith));
+      lasting = sizes_next s.size ps i new sizes (omega arith) (omega arith) v.lasting e.part.lasting.1;
+      writes = writes_then v.writes e.part.moves.writes;
     }
 
 pub loop-i-init : goal.loop-i-init
-loop-i-init g c =
-    record {
-      long = refl;
-      reads = all_none _ _ _;
-      once = omega arith;
-      written = λ tells. sym (append-nil _);
-      hashed = λ wanted tells held. held;
-      grown = grows_none _;
-      all = omega arith;
-      lasting = refl;
-      writes = writes_none _ _ _;
-    }
+loop-i-init g c = search (rules, grows_none (g.O.Output.written c.args.output.now))
 
 pub returns-clause-hashed : goal.returns-clause-hashed
 returns-clause-hashed g c =
@@ -100,9 +88,14 @@ returns-clause-hashed g c =
     rw (take_all c.loop-i.i all (omega (arith, length-map c.args.parts.now g.S.Source.content)))
     at (c.loop-i.invariant.hashed wanted tells none)
 
-pub returns-clause-written : goal.returns-clause-written
-returns-clause-written g c =
-    λ tells.
+pub returns-clause-parts : goal.returns-clause-parts
+returns-clause-parts g c =
     let all = map g.S.Source.content c.args.parts.now in
-    rw (take_all c.loop-i.i all (omega (arith, length-map c.args.parts.now g.S.Source.content)))
-    at (c.loop-i.invariant.written tells)
+    record {
+      moves = search rules;
+      written = λ tells.
+          rw (take_all c.loop-i.i all (omega (arith, length-map c.args.parts.now g.S.Source.content)))
+          at (c.loop-i.invariant.written tells);
+      lasting = sizes_all g.S.Source.size c.loop-i.parts c.args.sizes.now c.loop-i.i (length c.args.parts.now)
+          (omega arith) (omega arith) c.loop-i.invariant.lasting;
+    }

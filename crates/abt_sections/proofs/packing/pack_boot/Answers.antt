@@ -1,4 +1,4 @@
-use Rattle.std.proofs.Common.{◌≡◌, ◌++◌, ℕ, List, ap, ◌∙◌, map, length, take, arith}
+use Rattle.std.proofs.Common.{rules, ◌≡◌, ◌++◌, ℕ, List, ap, ◌∙◌, map, length, take, arith}
 use Rattle.std.proofs.lemmas.List.{length-map}
 use Rattle.std.specs.Prelude.{IsTrue}
 use Rattle.abt_sections.specs.Fields.{boot_fields, filled}
@@ -23,7 +23,7 @@ canon g c tells =
     (sizes_are s.size s.content c.args.parts.now (λ p. g.met.S.Source.sized p tells)) in
     canon_is (boot_fields c.args.spec.now) c.in_ok-page.page c.in_ok-sizes.sizes c.in_ok-id.id
     c.boot_header_for-header.result (map s.content c.args.parts.now) (map s.content c.id_for.new.parts)
-    c.boot_header_for-header.ensures c.in_ok-page.ensures.page sizes (c.in_ok-id.ensures.id tells)
+    c.boot_header_for-header.ensures c.in_ok-page.ensures.refused.value.1 sizes (c.in_ok-id.ensures.id tells)
     (c.in_ok-id.ensures.reads.only.content tells)
 
 -- and has its size, told by so many sizes as there are parts
@@ -34,56 +34,49 @@ sized : (g : Over) (c : After-boot_header_for-header g) (n : ℕ) → n ≡ leng
 sized g c n long =
     size_is (boot_fields c.args.spec.now) c.in_ok-page.page c.in_ok-sizes.sizes (map g.S.Source.size c.args.parts.now)
     c.in_ok-id.id c.boot_header_for-header.result n c.in_ok-page.ensures.version c.boot_header_for-header.ensures
-    c.in_ok-page.ensures.page c.in_ok-sizes.ensures.value.1 long
+    c.in_ok-page.ensures.refused.value.1 c.in_ok-sizes.ensures.value.1 long
 
 pub returns-in_err-write_image-clause-front : goal.returns-in_err-write_image-clause-front
 returns-in_err-write_image-clause-front g c = λ tells.
     let at = goal.at.returns-in_err-write_image-clause-front g c in
     begins_is _ _ _ _ (canon g at.After-boot_header_for-header tells) (c.in_err-write_image.ensures.front tells)
 
-pub returns-in_err-write_image-clause-most : goal.returns-in_err-write_image-clause-most
-returns-in_err-write_image-clause-most g c =
-    let at = goal.at.returns-in_err-write_image-clause-most g c in
-    let long = length-map c.args.parts.now g.S.Source.size in
-    let size = sized g at.After-boot_header_for-header (length c.id_for.new.parts) (omega (arith, long)) in
-    omega (arith, size, c.in_err-write_image.ensures.bytes.most)
-
-pub returns-clause-written : goal.returns-clause-written
-returns-clause-written g c = λ tells.
-    c.in_ok-write_image.ensures.written tells
-    ∙ ap (λ (l : List ℕ). g.O.Output.written c.args.output.now ++ l)
-    (canon g ((goal.at.returns-clause-written g c).After-boot_header_for-header) tells)
-
 pub returns-clause-front : goal.returns-clause-front
 returns-clause-front g c = λ tells.
     let at = goal.at.returns-clause-front g c in
     begins_is _ _ _ _ (canon g at.After-boot_header_for-header tells) (c.in_ok-write_image.ensures.front tells)
 
-pub returns-clause-most : goal.returns-clause-most
-returns-clause-most g c =
-    let at = goal.at.returns-clause-most g c in
+pub returns-in_err-write_image-clause-packs : goal.returns-in_err-write_image-clause-packs
+returns-in_err-write_image-clause-packs g c =
+    let at = goal.at.returns-in_err-write_image-clause-packs g c in
     let long = length-map c.args.parts.now g.S.Source.size in
     let size = sized g at.After-boot_header_for-header (length c.id_for.new.parts) (omega (arith, long)) in
-    omega (arith, size, c.in_ok-write_image.ensures.bytes.most)
+    search (rules, size, c.in_err-write_image.ensures.bytes.most)
 
-pub returns-clause-packed : goal.returns-clause-packed
-returns-clause-packed g c =
+pub returns-clause-packs : goal.returns-clause-packs
+returns-clause-packs g c =
     let s = g.S.Source in
-    let fields = boot_fields c.args.spec.now in
-    let at = (goal.at.returns-clause-packed g c).After-boot_header_for-header in
+    let at = (goal.at.returns-clause-packs g c).After-boot_header_for-header in
     let h = c.boot_header_for-header.result in
     let sizes = c.in_ok-sizes.sizes in
     let count = length c.write_image.new.parts in
     let long = length-map c.args.parts.now s.size in
-    let bytes : c.image_bytes.result ≡ boot_image_size fields (map s.size c.args.parts.now) =
+    let bytes : c.image_bytes.result ≡ boot_image_size (boot_fields c.args.spec.now) (map s.size c.args.parts.now) =
     c.image_bytes.ensures
     ∙ ap (λ (q : ℕ). image_size q c.size.result (take count sizes)) c.page_size.ensures.value
     ∙ ap (λ (q : ℕ). image_size (boot_page h) q (take count sizes)) c.size.ensures
     ∙ sized g at count (omega (arith, long)) in
     let size = sized g at (length c.id_for.new.parts) (omega (arith, long)) in
-    (bytes, omega (arith, bytes, size, c.in_ok-write_image.ensures.bytes.all))
-
-pub returns-clause-lasting : goal.returns-clause-lasting
-returns-clause-lasting g c =
-    same_sizes g.S.Source.size c.args.parts.now c.write_image.new.parts c.in_ok-sizes.sizes
-    (length c.id_for.new.parts) c.in_ok-sizes.ensures.value.1 (omega arith) c.in_ok-write_image.ensures.lasting
+    let e = c.in_ok-write_image.ensures in
+    record {
+      reads = search rules;
+      writes = search rules;
+      refused = search rules;
+      written = λ tells. e.parts.written tells
+          ∙ ap (λ (l : List ℕ). g.O.Output.written c.args.output.now ++ l) (canon g at tells);
+      most = omega (arith, size, e.bytes.most);
+      packed = (bytes, omega (arith, bytes, size, e.bytes.all));
+      lasting = same_sizes s.size c.args.parts.now c.write_image.new.parts sizes (length c.id_for.new.parts)
+          c.in_ok-sizes.ensures.value.1 (omega arith) e.parts.lasting;
+      cause = search rules;
+    }

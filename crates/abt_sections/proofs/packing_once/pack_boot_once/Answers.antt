@@ -1,4 +1,4 @@
-use Rattle.std.proofs.Common.{◌≡◌, ◌+◌, inr, ℕ, List, ap, ◌∙◌, map, length, take, arith, refl, sum}
+use Rattle.std.proofs.Common.{rules, ◌≡◌, ◌+◌, inr, ℕ, List, ap, ◌∙◌, map, length, take, arith, refl, sum}
 use Rattle.std.proofs.lemmas.List.{length-map}
 use Rattle.abt_headers.specs.Boot.{boot_page}
 use Rattle.abt_headers.specs.Page.{page_bytes}
@@ -33,7 +33,7 @@ sized g c =
     let f = g.S.Source.size in
     let ps = c.args.parts.now in
     once_size (boot_fields c.args.spec.now) c.in_ok-page.page c.in_ok-sizes.sizes (map f ps) (length ps)
-    c.in_ok-page.ensures.version c.in_ok-page.ensures.page c.in_ok-sizes.ensures.value.1
+    c.in_ok-page.ensures.version c.in_ok-page.ensures.refused.value.1 c.in_ok-sizes.ensures.value.1
     (omega (arith, length-map ps f))
 
 pub lay_header-requires-clause-zeros : goal.lay_header-requires-clause-zeros
@@ -45,74 +45,28 @@ pub returns-in_err-id-clause-once : goal.returns-in_err-id-clause-once
 returns-in_err-id-clause-once g c =
     omega (arith, c.in_err-id.ensures.once, told g (goal.at.returns-in_err-id-clause-once g c).In_ok-sizes)
 
-pub returns-in_err-id-clause-most : goal.returns-in_err-id-clause-most
-returns-in_err-id-clause-most g c =
-    let size = sized g (goal.at.returns-in_err-id-clause-most g c).In_ok-sizes in
-    omega (arith, size, rw c.bytes.ensures.value at c.in_err-id.ensures.bytes.most)
-
 pub returns-in_err-lay_header-clause-once : goal.returns-in_err-lay_header-clause-once
 returns-in_err-lay_header-clause-once g c =
     omega (arith, c.in_ok-id.ensures.once, told g (goal.at.returns-in_err-lay_header-clause-once g c).In_ok-sizes)
-
-pub returns-in_err-lay_header-clause-most : goal.returns-in_err-lay_header-clause-most
-returns-in_err-lay_header-clause-most g c =
-    let size = sized g (goal.at.returns-in_err-lay_header-clause-most g c).In_ok-sizes in
-    omega (arith, size, rw c.bytes.ensures.value at c.in_ok-id.ensures.bytes.all, c.lay_header.ensures.long)
 
 pub returns-in_err-lay_header-clause-broken : goal.returns-in_err-lay_header-clause-broken
 returns-in_err-lay_header-clause-broken g c =
     let w = g.O.Output.written in
     let off : IsBrokenOff (w c.args.output.now) (w c.lay_header.new.output) =
-    inr (opens_as_nothing _ (rw c.position-at.ensures at c.in_err-lay_header.ensures.broken)) in
+    inr (opens_as_nothing _ (rw c.position-at.ensures at c.in_err-lay_header.ensures.lays.broken)) in
     on_err _ off
 
 pub returns-in_err-lay_header-clause-grown : goal.returns-in_err-lay_header-clause-grown
 returns-in_err-lay_header-clause-grown g c =
-    (rw c.position-at.ensures at c.lay_header.ensures.before) ∙ c.in_ok-id.ensures.grown
+    (rw c.position-at.ensures at c.lay_header.ensures.lays.before) ∙ c.in_ok-id.ensures.bytes.grown
 
 pub returns-clause-once : goal.returns-clause-once
 returns-clause-once g c =
     omega (arith, c.in_ok-id.ensures.once, told g (goal.at.returns-clause-once g c).In_ok-sizes)
 
 pub returns-clause-grown : goal.returns-clause-grown
-returns-clause-grown g c = (rw c.position-at.ensures at c.lay_header.ensures.before) ∙ c.in_ok-id.ensures.grown
-
-pub returns-clause-most : goal.returns-clause-most
-returns-clause-most g c =
-    let size = sized g (goal.at.returns-clause-most g c).In_ok-sizes in
-    omega (arith, size, rw c.bytes.ensures.value at c.in_ok-id.ensures.bytes.all, c.lay_header.ensures.long)
-
-pub returns-clause-written : goal.returns-clause-written
-returns-clause-written g c = λ tells.
-    let s = g.S.Source in
-    let parts = map s.content c.args.parts.now in
-    let sizes = c.in_ok-sizes.ensures.value.1
-    ∙ ap (λ (l : List ℕ). filled 5 l)
-    (sizes_are s.size s.content c.args.parts.now (λ p. g.met.S.Source.sized p tells)) in
-    once_written (boot_fields c.args.spec.now) c.in_ok-page.page c.in_ok-sizes.sizes c.in_ok-id.id
-    c.boot_header_for-header.result parts (g.O.Output.written c.args.output.now) _ _ c.position-at.result
-    c.in_ok-page.ensures.version c.boot_header_for-header.ensures c.in_ok-page.ensures.page sizes
-    (c.in_ok-id.ensures.id tells) c.lay_header.ensures.size c.position-at.ensures
-    (rw c.bytes.ensures.value at (c.in_ok-id.ensures.written tells)) c.in_ok-lay_header.ensures.written
-
-pub returns-clause-packed : goal.returns-clause-packed
-returns-clause-packed g c =
-    let s = g.S.Source in
-    let zs = map s.size c.args.parts.now in
-    let fields = boot_fields c.args.spec.now in
-    let h = c.boot_header_for-header.result in
-    let sizes = c.in_ok-sizes.sizes in
-    let count = length c.write_behind.new.parts in
-    let long : count ≡ length zs = omega (arith, length-map c.args.parts.now s.size) in
-    let bytes : c.image_bytes.result ≡ boot_image_size fields zs =
-    c.image_bytes.ensures
-    ∙ ap (λ (q : ℕ). image_size q c.size.result (take count sizes)) c.page_size.ensures.value
-    ∙ ap (λ (q : ℕ). image_size (boot_page h) q (take count sizes)) c.size.ensures
-    ∙ size_is fields c.in_ok-page.page sizes zs c.in_ok-id.id h count c.in_ok-page.ensures.version
-    c.boot_header_for-header.ensures c.in_ok-page.ensures.page c.in_ok-sizes.ensures.value.1 long in
-    let size = sized g (goal.at.returns-clause-packed g c).In_ok-sizes in
-    let all = rw c.bytes.ensures.value at c.in_ok-id.ensures.bytes.all in
-    (bytes, omega (arith, bytes, size, all, c.lay_header.ensures.long))
+returns-clause-grown g c =
+    (rw c.position-at.ensures at c.lay_header.ensures.lays.before) ∙ c.in_ok-id.ensures.bytes.grown
 
 pub returns-in_err-page-clause-grown : goal.returns-in_err-page-clause-grown
 returns-in_err-page-clause-grown g c = grows_none _
@@ -120,8 +74,53 @@ returns-in_err-page-clause-grown g c = grows_none _
 pub returns-in_err-sizes-clause-grown : goal.returns-in_err-sizes-clause-grown
 returns-in_err-sizes-clause-grown g c = grows_none _
 
-pub returns-clause-lasting : goal.returns-clause-lasting
-returns-clause-lasting g c =
+pub returns-in_err-id-clause-packs : goal.returns-in_err-id-clause-packs
+returns-in_err-id-clause-packs g c =
+    let size = sized g (goal.at.returns-in_err-id-clause-packs g c).In_ok-sizes in
+    let most = rw c.bytes.ensures.value at c.in_err-id.ensures.bytes.most in
+    search (rules, size, most)
+
+pub returns-in_err-lay_header-clause-packs : goal.returns-in_err-lay_header-clause-packs
+returns-in_err-lay_header-clause-packs g c =
+    let size = sized g (goal.at.returns-in_err-lay_header-clause-packs g c).In_ok-sizes in
+    let all = rw c.bytes.ensures.value at c.in_ok-id.ensures.bytes.all in
+    search (rules, size, all, c.lay_header.ensures.lays.long)
+
+pub returns-clause-packs : goal.returns-clause-packs
+returns-clause-packs g c =
+    let s = g.S.Source in
     let ps = c.args.parts.now in
-    same_sizes g.S.Source.size ps c.write_behind.new.parts c.in_ok-sizes.sizes (length ps)
-    c.in_ok-sizes.ensures.value.1 refl c.in_ok-id.ensures.lasting
+    let zs = map s.size ps in
+    let fields = boot_fields c.args.spec.now in
+    let h = c.boot_header_for-header.result in
+    let sizes = c.in_ok-sizes.sizes in
+    let told = c.in_ok-sizes.ensures.value.1 in
+    let e = c.in_ok-id.ensures in
+    let laid = c.lay_header.ensures in
+    let count = length c.write_behind.new.parts in
+    let long : count ≡ length zs = omega (arith, length-map ps s.size) in
+    let bytes : c.image_bytes.result ≡ boot_image_size fields zs =
+    c.image_bytes.ensures
+    ∙ ap (λ (q : ℕ). image_size q c.size.result (take count sizes)) c.page_size.ensures.value
+    ∙ ap (λ (q : ℕ). image_size (boot_page h) q (take count sizes)) c.size.ensures
+    ∙ size_is fields c.in_ok-page.page sizes zs c.in_ok-id.id h count c.in_ok-page.ensures.version
+    c.boot_header_for-header.ensures c.in_ok-page.ensures.refused.value.1 told long in
+    let size = sized g (goal.at.returns-clause-packs g c).In_ok-sizes in
+    let all = rw c.bytes.ensures.value at e.bytes.all in
+    record {
+      reads = search rules;
+      writes = search rules;
+      refused = search rules;
+      written = λ tells.
+          once_written fields c.in_ok-page.page sizes c.in_ok-id.id h (map s.content ps)
+          (g.O.Output.written c.args.output.now) _ _ c.position-at.result c.in_ok-page.ensures.version
+          c.boot_header_for-header.ensures c.in_ok-page.ensures.refused.value.1
+          (told ∙ ap (λ (l : List ℕ). filled 5 l)
+          (sizes_are s.size s.content ps (λ p. g.met.S.Source.sized p tells)))
+          (e.id tells) laid.size c.position-at.ensures (rw c.bytes.ensures.value at (e.parts.written tells))
+          c.in_ok-lay_header.ensures.lays.written;
+      most = omega (arith, size, all, laid.lays.long);
+      packed = (bytes, omega (arith, bytes, size, all, laid.lays.long));
+      lasting = same_sizes s.size ps c.write_behind.new.parts sizes (length ps) told refl e.parts.lasting;
+      cause = search rules;
+    }

@@ -22,28 +22,12 @@ returns-clause-front g c = λ tells.
     begins_is _ _ _ _ (fragment_is x _ (view_of c.args.image.now.header) c.args.i c.fragment_at-at.result c.in-Ok.entry
     (e.reads.only.content tells) c.fragment_at-at.ensures.value (e.entry tells)) (c.copy_part.ensures.front tells)
 
-pub returns-clause-most : goal.returns-clause-most
-returns-clause-most g c = omega (arith, c.copy_part.ensures.bytes.most, c.in-Ok.ensures.within)
-
-pub returns-clause-within : goal.returns-clause-within
-returns-clause-within g c = λ tells.
-    let x = g.S.Source.content c.args.source.now in
-    let h = view_of c.args.image.now.header in
-    let within : IsWithin h (entry_of x h c.args.i) = subst (λ (q : RamdiskEntry). IsWithin h q) (c.in-Ok.ensures.entry tells) c.in-Ok.ensures.within in
-    on_ok c.copy_part.result within
-
 pub returns-clause-part : goal.returns-clause-part
 returns-clause-part g c = λ tells.
     let x = g.S.Source.content c.args.source.now in
     let h = view_of c.args.image.now.header in
     let within : IsWithin h (entry_of x h c.args.i) = subst (λ (q : RamdiskEntry). IsWithin h q) (c.in-Ok.ensures.entry tells) c.in-Ok.ensures.within in
     on_ok c.copy_part.result (part_within x (ramdisk_at h) (ramdisk_size h) (entry_of x h c.args.i).ramdisk_offset (entry_of x h c.args.i).ramdisk_size within)
-
-pub returns-clause-all : goal.returns-clause-all
-returns-clause-all g c = λ tells.
-    on_ok_then c.copy_part.result
-    (λ l. l ∙ ap (λ (q : RamdiskEntry). length (g.O.Output.written c.args.output.now) + q.ramdisk_size)
-    (c.in-Ok.ensures.entry tells)) c.copy_part.ensures.bytes.all
 
 pub returns-clause-moves : goal.returns-clause-moves
 returns-clause-moves g c =

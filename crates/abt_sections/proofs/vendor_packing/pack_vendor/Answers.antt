@@ -38,7 +38,7 @@ canon g c tells =
     canon_is fields parts v
     (header_is fields parts c.in_ok-page.page c.in_ok-sizes.sizes (length c.args.fragments.now)
     (total s.size c.args.ramdisks.now) (s.size c.args.dtb.now) (s.size c.args.bootconfig.now) v
-    c.vendor_header_for-header.ensures c.in_ok-page.ensures.page c.in_ok-sizes.ensures.value.1
+    c.vendor_header_for-header.ensures c.in_ok-page.ensures.refused.value.1 c.in_ok-sizes.ensures.value.1
     (concat_size s.size s.content c.args.ramdisks.now (λ p. g.met.S.Source.sized p tells))
     (g.met.S.Source.sized c.args.dtb.now tells) refl (g.met.S.Source.sized c.args.bootconfig.now tells))
 
@@ -76,10 +76,10 @@ rest_is g c tells other =
     let parts = vendor_parts fs (map s.content c.args.ramdisks.now) (s.content c.args.dtb.now) config in
     let sizes = map s.size c.write_first_sections.new.ramdisks in
     let same : sizes ≡ map length (map s.content c.args.ramdisks.now) =
-    c.in_ok-write_first_sections.ensures.reads.size tells
+    c.in_ok-write_first_sections.ensures.moves.reads.size tells
     ∙ sizes_are s.size s.content c.args.ramdisks.now (λ p. g.met.S.Source.sized p tells) in
     let page : c.bytes-bytes.result ≡ vendor_page (vendor_header_of fields parts) =
-    c.bytes-bytes.ensures.value ∙ ap page_bytes c.in_ok-page.ensures.page
+    c.bytes-bytes.ensures.value ∙ ap page_bytes c.in_ok-page.ensures.refused.value.1
     ∙ sym (page_is fields (vendor_page_for fields) (vendor_sizes_for
     (length (concat (map s.content c.args.ramdisks.now))) (length (s.content c.args.dtb.now)) (length fs)
     (length config)) (length fs)) in
@@ -98,7 +98,7 @@ returns-in_err-write_first_sections-clause-most g c =
     let s = g.S.Source in
     let count = length c.args.fragments.now in
     let fits = first_fits (vendor_fields c.args.spec.now) c.in_ok-page.page (total s.size c.args.ramdisks.now)
-    (s.size c.args.dtb.now) (108 * count) (s.size c.args.bootconfig.now) count c.in_ok-page.ensures.page in
+    (s.size c.args.dtb.now) (108 * count) (s.size c.args.bootconfig.now) count c.in_ok-page.ensures.refused.value.1 in
     let size = first_sized g ((goal.at.returns-in_err-write_first_sections-clause-most g
     c).After-vendor_header_for-header) in
     omega (arith, c.in_err-write_first_sections.ensures.bytes.most, size, fits)
@@ -109,8 +109,8 @@ returns-then-spec-eq3-clause-written g c = λ tells.
     let fields = vendor_fields c.args.spec.now in
     let parts = vendor_parts c.args.fragments.now (map s.content c.args.ramdisks.now) (s.content c.args.dtb.now)
     (s.content c.args.bootconfig.now) in
-    let first = first_sections (vendor_view c.vendor_header_for-header.result) (concat (map s.content c.args.ramdisks.now))
-    (s.content c.args.dtb.now) in
+    let first = first_sections (vendor_view c.vendor_header_for-header.result)
+    (concat (map s.content c.args.ramdisks.now)) (s.content c.args.dtb.now) in
     let whole = canon g ((goal.at.returns-then-spec-eq3-clause-written g c).After-vendor_header_for-header) tells in
     c.in_ok-write_first_sections.ensures.written tells
     ∙ ap (λ (l : List ℕ). g.O.Output.written c.args.output.now ++ l)
@@ -142,7 +142,7 @@ returns-in-Err-clause-cause g c =
     config in
     let refusal = pack_vendor_refusal (vendor_fields c.args.spec.now) zs in
     let none : refusal ≡ None =
-    ap (λ (r : Option SectionFault). or_else r (size_refusal vendor_names zs)) c.in_ok-page.ensures.refusal
+    ap (λ (r : Option SectionFault). or_else r (size_refusal vendor_names zs)) c.in_ok-page.ensures.refused.value.0
     ∙ c.in_ok-sizes.ensures.value.0 in
     let z : c.in_ok-sizes.sizes ≡ zs = c.in_ok-sizes.ensures.value.1 in
     let e = c.in_ok-write_first_sections.ensures in
@@ -150,7 +150,7 @@ returns-in-Err-clause-cause g c =
     (third_move c.in-Err.fault (total f c.args.ramdisks.now) (total f first.ramdisks) (f c.args.dtb.now) (f first.dtb)
     (f c.args.bootconfig.now) (f last.bootconfig) (w c.args.output.now) (w first.output) (w last.output)
     (w last.output) (IsTrue s.tells → config ≡ get_or c.in_ok-sizes.sizes 3 0 → ⊥) (IsTrue s.tells → ⊥)
-    e.reads.faults e.dtb.faults e.writes.faults (le_refl _)
+    e.moves.reads.faults e.moves.more.faults e.moves.writes.faults (le_refl _)
     (λ changed tells. changed tells (sym (ap (λ (l : List ℕ). get_or l 3 0) z)))
     c.in-Err.ensures.moves.cause)
 
@@ -158,8 +158,8 @@ pub returns-clause-written : goal.returns-clause-written
 returns-clause-written g c = λ tells.
     let s = g.S.Source in
     let at = goal.at.returns-clause-written g c in
-    let first = first_sections (vendor_view c.vendor_header_for-header.result) (concat (map s.content c.args.ramdisks.now))
-    (s.content c.args.dtb.now) in
+    let first = first_sections (vendor_view c.vendor_header_for-header.result)
+    (concat (map s.content c.args.ramdisks.now)) (s.content c.args.dtb.now) in
     let rest = rest_is g at.In_ok-write_first_sections tells c.if-spec-eq3.false in
     then_all _ _ _ first _ (c.in_ok-write_first_sections.ensures.written tells) (c.in-Ok.ensures.written tells)
     ∙ ap (λ (l : List ℕ). g.O.Output.written c.args.output.now ++ l)
@@ -191,7 +191,7 @@ returns-clause-table g c = λ four.
     let place : length (o.written c.write_first_sections.new.output) ≡ length
     (o.written c.args.output.now) + table_place fields zs =
     e.bytes.all ∙ ap (λ (n : ℕ). length (o.written c.args.output.now) + n) (size ∙ first_place fields page ramdisk dtb
-    (108 * count) config count c.in_ok-page.ensures.page c.if-spec-eq3.false) in
+    (108 * count) config count c.in_ok-page.ensures.refused.value.1 c.if-spec-eq3.false) in
     ap (λ (n : ℕ). take (108 * count) (drop n (o.written c.write_table_and_bootconfig.new.output))) (sym place)
     ∙ c.in-Ok.ensures.table
     ∙ ap (λ (l : List ℕ). table_for fs l 0) e.lasting.0

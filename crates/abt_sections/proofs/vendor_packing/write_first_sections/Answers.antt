@@ -12,9 +12,10 @@ returns-in-Err-write_vendor_ramdisk-clause-front g c = λ tells.
     let page = vendor_page v in
     let q = padded page (concat (map g.S.Source.content c.args.ramdisks.now)) in
     let r = padded page (g.S.Source.content c.args.dtb.now) in
-    begins_then _ _ _ (padded page (vendor_record v)) (q ++ r) c.in-Ok.ensures.written
-    (begins_stop _ _ q r (rw c.page_size-page.ensures.value at (c.in-Err-write_vendor_ramdisk.ensures.front tells)))
-    c.in-Err-write_vendor_ramdisk.ensures.moves.writes.least
+    begins_then _ _ _ (padded page (vendor_record v)) (q ++ r) c.in-Ok.ensures.appends.written
+    (begins_stop _ _ q r
+    (rw c.page_size-page.ensures.value at (c.in-Err-write_vendor_ramdisk.ensures.ramdisks.front tells)))
+    c.in-Err-write_vendor_ramdisk.ensures.ramdisks.moves.writes.least
 
 pub returns-clause-front : goal.returns-clause-front
 returns-clause-front g c = λ tells.
@@ -23,10 +24,11 @@ returns-clause-front g c = λ tells.
     let q = padded page (concat (map g.S.Source.content c.args.ramdisks.now)) in
     let r = padded page (g.S.Source.content c.args.dtb.now) in
     let e = c.in-Ok-write_vendor_ramdisk.ensures in
-    begins_then _ _ _ (padded page (vendor_record v)) (q ++ r) c.in-Ok.ensures.written
-    (begins_then _ _ _ q r (rw c.page_size-page.ensures.value at (e.written tells)) (rw c.page_size-page.ensures.value
-    at (c.write_part.ensures.front tells)) c.write_part.ensures.moves.writes.least)
-    (omega (arith, e.moves.writes.least, c.write_part.ensures.moves.writes.least))
+    begins_then _ _ _ (padded page (vendor_record v)) (q ++ r) c.in-Ok.ensures.appends.written
+    (begins_then _ _ _ q r (rw c.page_size-page.ensures.value at (e.ramdisks.written tells))
+    (rw c.page_size-page.ensures.value at (c.write_part.ensures.front tells))
+    c.write_part.ensures.part.moves.writes.least)
+    (omega (arith, e.ramdisks.moves.writes.least, c.write_part.ensures.part.moves.writes.least))
 
 pub returns-in-Err-clause-front : goal.returns-in-Err-clause-front
 returns-in-Err-clause-front g c =
@@ -35,7 +37,7 @@ returns-in-Err-clause-front g c =
     let page = vendor_page v in
     let q = padded page (concat (map g.S.Source.content c.args.ramdisks.now)) in
     let r = padded page (g.S.Source.content c.args.dtb.now) in
-    begins_stop _ _ (padded page (vendor_record v)) (q ++ r) c.in-Err.ensures.front
+    begins_stop _ _ (padded page (vendor_record v)) (q ++ r) c.in-Err.ensures.appends.front
 
 pub returns-clause-written : goal.returns-clause-written
 returns-clause-written g c =
@@ -44,6 +46,6 @@ returns-clause-written g c =
     let page = vendor_page v in
     let q = padded page (concat (map g.S.Source.content c.args.ramdisks.now)) in
     let r = padded page (g.S.Source.content c.args.dtb.now) in
-    ok_last c.write_part.result _ _ _ _ (padded page (vendor_record v)) q r c.in-Ok.ensures.written
-    (rw c.page_size-page.ensures.value at (c.in-Ok-write_vendor_ramdisk.ensures.written tells))
-    (rw c.page_size-page.ensures.value at (c.write_part.ensures.written tells))
+    ok_last c.write_part.result _ _ _ _ (padded page (vendor_record v)) q r c.in-Ok.ensures.appends.written
+    (rw c.page_size-page.ensures.value at (c.in-Ok-write_vendor_ramdisk.ensures.ramdisks.written tells))
+    (rw c.page_size-page.ensures.value at (c.write_part.ensures.part.written tells))

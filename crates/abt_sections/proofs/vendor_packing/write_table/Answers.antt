@@ -1,7 +1,7 @@
 use Rattle.std.proofs.Common.{rules, ◌≡◌, ◌+◌, ◌++◌, ℕ, List, arith, ap, sym, ◌∙◌, map, get_or, take}
-use Rattle.std.proofs.Math.Nat.{le_trans}
 use Rattle.std.proofs.lemmas.List.{get_or_default, take_all, length-map}
 use Rattle.std.proofs.lemmas.List.Sums.{sum_by_more, sum_by_more_le}
+use Rattle.abt_io.proofs.Lent.{writes_ok, writes_then}
 use Rattle.abt_headers.specs.Entry.{entry_record}
 use Rattle.abt_sections.specs.VendorCanon.{table_for}
 use Rattle.abt_sections.proofs.Parts.{get_map}
@@ -10,8 +10,8 @@ use Rattle.abt_sections.proofs.VendorTables.{table_next, table_front}
 use Rattle.abt_sections.proofs.Beginnings.{begins_all}
 use Rattle.abt_sections.proofs.vendor_packing.write_table.Goals as goal
 
-pub returns-in-Err-clause-front : goal.returns-in-Err-clause-front
-returns-in-Err-clause-front g c =
+pub returns-in-Err-clause-appends : goal.returns-in-Err-clause-appends
+returns-in-Err-clause-appends g c =
     let f = g.S.Source.size in
     let fs = c.args.fragments.now in
     let ps = c.args.ramdisks.now in
@@ -25,11 +25,15 @@ returns-in-Err-clause-front g c =
     let next = table_next f fs ps i _ c.length-size.result c.loop-i.offset (omega arith) (omega arith)
     (get_or_default fs i _ _ (omega arith)) here c.loop-i.invariant.offset in
     let r = table_front fs ns 0 (i + 1) in
-    begins_is _ _ _ _ r.1
-    (begins_stop _ _ (table_for (take (i + 1) fs) (take (i + 1) ns) 0) r.0
-    (begins_is _ _ _ _ (ap (λ (l : List ℕ). t ++ l) (c.encode.ensures.bytes ∙ ap entry_record c.entry_for-entry.ensures)
-    ∙ next)
-    (begins_then _ _ _ t _ c.loop-i.invariant.written c.in-Err.ensures.front c.in-Err.ensures.grown)))
+    record {
+      written = tt;
+      front = begins_is _ _ _ _ r.1
+          (begins_stop _ _ (table_for (take (i + 1) fs) (take (i + 1) ns) 0) r.0
+          (begins_is _ _ _ _ (ap (λ (l : List ℕ). t ++ l) (c.encode.ensures.bytes
+          ∙ ap entry_record c.entry_for-entry.ensures) ∙ next)
+          (begins_then _ _ _ t _ c.loop-i.invariant.written c.in-Err.ensures.front c.in-Err.ensures.writes.least)));
+      writes = search rules;
+    }
 
 pub loop-i-preserved : goal.loop-i-preserved
 loop-i-preserved g c =
@@ -55,13 +59,7 @@ loop-i-preserved g c =
           ∙ ap (λ (l : List ℕ). w0 ++ l) (ap (λ (l : List ℕ). t ++ l) (c.encode.ensures.bytes
           ∙ ap entry_record c.entry_for-entry.ensures) ∙ next);
       all = search rules;
-      writes = record {
-        least = le_trans v.writes.least e.grown;
-        frame = e.frame ∙ v.writes.frame;
-        faults = le_trans v.writes.faults e.faults;
-        clean = e.clean ∙ v.writes.clean;
-        full_faults = omega (arith, e.full_faults, v.writes.full_faults);
-      };
+      writes = writes_then v.writes (writes_ok tt e.writes);
     }
 
 pub overflow_cast-size : goal.overflow_cast-size
@@ -79,21 +77,13 @@ overflow_add-offset g c =
     let size = c.length-size.ensures.size in
     omega (arith, c.loop-i.invariant.offset, c.requires.small, size, ap f c.index-ramdisks-i.is, rest)
 
-pub returns-clause-written : goal.returns-clause-written
-returns-clause-written g c =
-    let fs = c.args.fragments.now in
-    let ns = map g.S.Source.size c.args.ramdisks.now in
-    let i = c.loop-i.i in
-    let a = take_all i fs (omega arith) in
-    let b = take_all i ns (omega (arith, length-map c.args.ramdisks.now g.S.Source.size)) in
-    rw (a, b) at c.loop-i.invariant.written
-
-pub returns-clause-front : goal.returns-clause-front
-returns-clause-front g c =
+pub returns-clause-appends : goal.returns-clause-appends
+returns-clause-appends g c =
     let fs = c.args.fragments.now in
     let ns = map g.S.Source.size c.args.ramdisks.now in
     let i = c.loop-i.i in
     let a = take_all i fs (omega arith) in
     let b = take_all i ns (omega (arith, length-map c.args.ramdisks.now g.S.Source.size)) in
     let w = g.O.Output.written in
-    begins_all (w c.args.output.now) (w c.loop-i.output) (table_for fs ns 0) (rw (a, b) at c.loop-i.invariant.written)
+    let written = rw (a, b) at c.loop-i.invariant.written in
+    search (rules, written, begins_all (w c.args.output.now) (w c.loop-i.output) (table_for fs ns 0) written)

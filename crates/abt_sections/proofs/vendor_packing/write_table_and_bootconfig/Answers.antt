@@ -16,11 +16,11 @@ returns-in-Err-write_padding-clause-front g c = λ tells.
     let w0 = g.O.Output.written c.args.output.now in
     let e = c.in-Ok.ensures in
     let long : get_or c.args.sizes.now 2 0 ≡ length t =
-    omega (arith, ap length e.written, length-append w0 t, e.bytes.all, c.requires.table) in
+    omega (arith, ap length e.appends.written, length-append w0 t, e.bytes.all, c.requires.table) in
     begins_stop _ _ (padded page t) (padded page (g.S.Source.content c.args.bootconfig.now) ++ [])
     (begins_is _ _ _ _ (ap (λ (k : ℕ). t ++ zeros_behind k page) long)
-    (begins_then _ _ _ t _ e.written c.in-Err-write_padding.ensures.front
-    c.in-Err-write_padding.ensures.writes.only.least))
+    (begins_then _ _ _ t _ e.appends.written c.in-Err-write_padding.ensures.appends.front
+    c.in-Err-write_padding.ensures.appends.writes.only.least))
 
 pub returns-clause-written : goal.returns-clause-written
 returns-clause-written g c = λ tells.
@@ -31,14 +31,14 @@ returns-clause-written g c = λ tells.
     let e = c.in-Ok.ensures in
     let p = c.in-Ok-write_padding.ensures in
     let long : get_or c.args.sizes.now 2 0 ≡ length t =
-    omega (arith, ap length e.written, length-append w0 t, e.bytes.all, c.requires.table) in
-    let first : g.O.Output.written c.write_padding.new.output ≡ w0 ++ padded page t = then_all _ _ _ t _ e.written
-    p.written ∙ ap (λ (k : ℕ). w0 ++ (t ++ zeros_behind k page)) long in
+    omega (arith, ap length e.appends.written, length-append w0 t, e.bytes.all, c.requires.table) in
+    let first : g.O.Output.written c.write_padding.new.output ≡ w0 ++ padded page t =
+    then_all _ _ _ t _ e.appends.written p.appends.written ∙ ap (λ (k : ℕ). w0 ++ (t ++ zeros_behind k page)) long in
     let whole : g.O.Output.written c.write_padding.new.output ++ b ≡ w0 ++ (padded page t ++ (b ++ [])) =
     ap (λ (l : List ℕ). l ++ b) first ∙ append_assoc w0 (padded page t) b
     ∙ ap (λ (l : List ℕ). w0 ++ (padded page t ++ l)) (sym (append-nil b)) in
     subst (λ (l : List ℕ). OnOk c.write_part.result (g.O.Output.written c.write_part.new.output ≡ l)) whole
-    (c.write_part.ensures.written tells)
+    (c.write_part.ensures.part.written tells)
 
 pub returns-clause-front : goal.returns-clause-front
 returns-clause-front g c = λ tells.
@@ -49,11 +49,11 @@ returns-clause-front g c = λ tells.
     let e = c.in-Ok.ensures in
     let p = c.in-Ok-write_padding.ensures in
     let long : get_or c.args.sizes.now 2 0 ≡ length t =
-    omega (arith, ap length e.written, length-append w0 t, e.bytes.all, c.requires.table) in
-    let first : g.O.Output.written c.write_padding.new.output ≡ w0 ++ padded page t = then_all _ _ _ t _ e.written
-    p.written ∙ ap (λ (k : ℕ). w0 ++ (t ++ zeros_behind k page)) long in
+    omega (arith, ap length e.appends.written, length-append w0 t, e.bytes.all, c.requires.table) in
+    let first : g.O.Output.written c.write_padding.new.output ≡ w0 ++ padded page t =
+    then_all _ _ _ t _ e.appends.written p.appends.written ∙ ap (λ (k : ℕ). w0 ++ (t ++ zeros_behind k page)) long in
     begins_then _ _ _ (padded page t) (b ++ []) first (begins_is _ _ _ _ (sym (append-nil b))
-    (c.write_part.ensures.front tells)) c.write_part.ensures.moves.writes.least
+    (c.write_part.ensures.front tells)) c.write_part.ensures.part.moves.writes.least
 
 pub returns-clause-table : goal.returns-clause-table
 returns-clause-table g c =
@@ -63,12 +63,12 @@ returns-clause-table g c =
     let e = c.in-Ok.ensures in
     let p = c.in-Ok-write_padding.ensures in
     let long : length t ≡ 108 * length c.args.fragments.now =
-    omega (arith, ap length e.written, length-append w0 t, e.bytes.all) in
+    omega (arith, ap length e.appends.written, length-append w0 t, e.bytes.all) in
     let whole : g.O.Output.written c.write_padding.new.output ≡ w0 ++ (t ++ zeros_behind (get_or c.args.sizes.now 2 0)
-    page) = then_all _ _ _ t _ e.written p.written in
+    page) = then_all _ _ _ t _ e.appends.written p.appends.written in
     on_ok c.write_part.result (still_stands w0 t (zeros_behind (get_or c.args.sizes.now 2 0) page) _ _ long
     (subst (λ (l : List ℕ). take (length l) (g.O.Output.written c.write_part.new.output) ≡ l) whole
-    c.write_part.ensures.grown))
+    c.write_part.ensures.part.bytes.grown))
 
 pub returns-in-Err-clause-bytes : goal.returns-in-Err-clause-bytes
 returns-in-Err-clause-bytes g c =
@@ -88,7 +88,7 @@ returns-clause-bytes g c =
     let two = last_two c.args.page c.args.sizes.now (omega arith) in
     let e = c.in-Ok.ensures in
     let p = c.in-Ok-write_padding.ensures in
-    let b = c.write_part.ensures.bytes in
+    let b = c.write_part.ensures.part.bytes in
     record {
       most = omega (arith, e.bytes.all, p.all, b.most, c.requires.table, two);
       all = on_ok_then c.write_part.result (λ all. omega (arith, e.bytes.all, p.all, c.requires.table, two, all)) b.all;
@@ -102,4 +102,4 @@ returns-in-Err-clause-front g c =
     begins_is _ _ _ _ (sym (append_assoc t (zeros_behind (length t) page)
     (padded page (g.S.Source.content c.args.bootconfig.now) ++ [])))
     (begins_stop _ _ t (zeros_behind (length t) page ++ (padded page (g.S.Source.content c.args.bootconfig.now) ++ []))
-    c.in-Err.ensures.front)
+    c.in-Err.ensures.appends.front)

@@ -3,18 +3,10 @@ use Rattle.std.proofs.lemmas.List.{take_at}
 use Rattle.abt_headers.specs.Vendor.{vendor_record, vendor_view}
 use Rattle.abt_sections.proofs.vendor_packing.write_vendor_header.Goals as goal
 
-pub returns-clause-written : goal.returns-clause-written
-returns-clause-written g c =
+pub returns-clause-appends : goal.returns-clause-appends
+returns-clause-appends g c =
     let e = c.encode-size.ensures in
     let s : take c.encode-size.result c.encode-size.new.out ≡ vendor_record (vendor_view c.args.header.now) = ap
     (take c.encode-size.result) e.bytes ∙ take_at (vendor_record (vendor_view c.args.header.now)) _ c.encode-size.result
     (omega (arith, e.long, e.size)) in
-    rw (c.page_size.ensures.value, s) at c.write_record.ensures.written
-
-pub returns-clause-front : goal.returns-clause-front
-returns-clause-front g c =
-    let e = c.encode-size.ensures in
-    let s : take c.encode-size.result c.encode-size.new.out ≡ vendor_record (vendor_view c.args.header.now) = ap
-    (take c.encode-size.result) e.bytes ∙ take_at (vendor_record (vendor_view c.args.header.now)) _ c.encode-size.result
-    (omega (arith, e.long, e.size)) in
-    rw (c.page_size.ensures.value, s) at c.write_record.ensures.front
+    rw (c.page_size.ensures.value, s) at c.write_record.ensures.appends

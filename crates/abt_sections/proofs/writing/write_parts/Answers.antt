@@ -1,4 +1,5 @@
-use Rattle.std.proofs.Common.{◌+◌, ◌*◌, ℕ, List, arith, ap, ◌∙◌, length, length-set, map, get_or, take, drop, ◌++◌}
+use Rattle.std.proofs.Common.{rules, ◌+◌, ◌*◌, ℕ, List, arith, ap, ◌∙◌, length, length-set, map, get_or, take, drop}
+use Rattle.std.proofs.Common.{◌++◌}
 use Rattle.std.proofs.lemmas.List.Sums.{sum_by_more}
 use Rattle.abt_io.proofs.Lent.{writes_then}
 use Rattle.abt_headers.specs.Page.{pages}
@@ -7,7 +8,7 @@ use Rattle.abt_sections.proofs.Growing.{begins_then, begins_stop, begins_is}
 use Rattle.abt_sections.proofs.Growing as growing
 use Rattle.abt_sections.proofs.Layouts.{laid_next, laid_at, laid_less}
 use Rattle.abt_sections.proofs.Moves.{moves_part}
-use Rattle.abt_sections.proofs.Parts.{all_part, next_part, part_size, sizes_next}
+use Rattle.abt_sections.proofs.Parts.{all_part, next_part, part_size, sizes_all, sizes_next}
 use Rattle.std.proofs.lemmas.List.{take_all, length-map}
 use Rattle.abt_sections.proofs.writing.write_parts.Goals as goal
 
@@ -24,7 +25,8 @@ returns-in-Err-clause-front g c = λ tells.
     (omega arith) in
     begins_is _ _ _ _ (laid_at page all b i next)
     (begins_stop _ _ (laid page (take i all) ++ padded page b) (laid page (drop (i + 1) all))
-    (begins_then _ _ _ (laid page (take i all)) (padded page b) (v.written tells) (e.front tells) e.moves.writes.least))
+    (begins_then _ _ _ (laid page (take i all)) (padded page b) (v.written tells) (e.front tells)
+    e.part.moves.writes.least))
 
 pub returns-in-Err-clause-bytes : goal.returns-in-Err-clause-bytes
 returns-in-Err-clause-bytes g c =
@@ -34,17 +36,21 @@ returns-in-Err-clause-bytes g c =
     let sizes = c.args.sizes.now in
     let next = sum_by_more p sizes i 0 (omega arith) in
     let rest = laid_less page sizes (i + 1) (length c.args.parts.now) (omega arith) in
-    record { most = omega (arith, c.loop-i.invariant.all, c.in-Err.ensures.bytes.most, next, rest); all = tt }
+    record { most = omega (arith, c.loop-i.invariant.all, c.in-Err.ensures.part.bytes.most, next, rest); all = tt }
 
-pub returns-in-Err-clause-moves : goal.returns-in-Err-clause-moves
-returns-in-Err-clause-moves g c =
+pub returns-in-Err-clause-parts : goal.returns-in-Err-clause-parts
+returns-in-Err-clause-parts g c =
     let v = c.loop-i.invariant in
     let ps = c.loop-i.parts in
     let i = c.loop-i.i in
     let d = c.index-parts-i.result in
-    moves_part ps i d _ (omega arith) v.reads v.writes c.in-Err.ensures.moves
-    (λ changed tells same. changed tells
-    (part_size g.S.Source.size ps c.args.parts.now i d c.args.sizes.now (v.reads.size tells) same (omega arith)))
+    record {
+      moves = moves_part ps i d _ (omega arith) v.reads v.writes c.in-Err.ensures.part.moves (λ changed tells same.
+          changed tells (part_size g.S.Source.size ps c.args.parts.now i d c.args.sizes.now (v.reads.size tells) same
+          (omega arith)));
+      written = search rules;
+      lasting = tt;
+    }
 
 pub loop-i-preserved : goal.loop-i-preserved
 loop-i-preserved g c =
@@ -61,19 +67,24 @@ loop-i-preserved g c =
     let b = s.content (get_or ps i d) in
     record {
       long = simp length-set v.long;
-      reads = all_part s _ ps i d new (omega arith) v.reads e.moves.reads;
+      reads = all_part s _ ps i d new (omega arith) v.reads e.part.moves.reads;
       written = λ tells.
           let next = next_part s.content ps c.args.parts.now i d (v.reads.content tells) (omega arith) in
-          growing.then_all _ _ _ (laid page (take i all)) (padded page b) (v.written tells) (e.written tells)
+          growing.then_all _ _ _ (laid page (take i all)) (padded page b) (v.written tells) (e.part.written tells)
           ∙ ap (λ (l : List ℕ). g.O.Output.written c.args.output.now ++ l) (laid_next page all b i next);
-      all = omega (arith, v.all, e.bytes.all, sum_by_more p c.args.sizes.now i 0 (omega arith));
-      writes = writes_then v.writes e.moves.writes;
-      lasting = sizes_next s.size ps i new c.args.sizes.now (omega arith) (omega arith) v.lasting e.lasting.1;
+      all = omega (arith, v.all, e.part.bytes.all, sum_by_more p c.args.sizes.now i 0 (omega arith));
+      writes = writes_then v.writes e.part.moves.writes;
+      lasting = sizes_next s.size ps i new c.args.sizes.now (omega arith) (omega arith) v.lasting e.part.lasting.1;
     }
 
-pub returns-clause-written : goal.returns-clause-written
-returns-clause-written g c =
-    λ tells.
+pub returns-clause-parts : goal.returns-clause-parts
+returns-clause-parts g c =
     let all = map g.S.Source.content c.args.parts.now in
-    rw (take_all c.loop-i.i all (omega (arith, length-map c.args.parts.now g.S.Source.content)))
-    at (c.loop-i.invariant.written tells)
+    record {
+      moves = search rules;
+      written = λ tells.
+          rw (take_all c.loop-i.i all (omega (arith, length-map c.args.parts.now g.S.Source.content)))
+          at (c.loop-i.invariant.written tells);
+      lasting = sizes_all g.S.Source.size c.loop-i.parts c.args.sizes.now c.loop-i.i (length c.args.parts.now)
+          (omega arith) (omega arith) c.loop-i.invariant.lasting;
+    }

@@ -11,16 +11,14 @@ loop-i-preserved g c =
     let before = c.loop-i.invariant in
     let seen = c.in-Ok-set_behind.ensures in
     let place = c.section-place in
-    let within : c.loop-i.i < length (places_of h) = omega (arith, c.loop-i-test.true, c.sections-i-end.ensures.value) in
+    let within : c.loop-i.i < length (places_of h) = omega (arith, c.loop-i-test.true, c.sections-i-end.ensures.value)
+    in
     record {
-      reads = reads_ok tt (reads_then before.reads seen.reads.only);
+      reads = reads_ok tt (reads_then before.reads seen.finds.reads.only);
       few = omega (arith, before.few, seen.few, c.page_size-page.ensures.high);
       value = λ tells.
           padding_on (g.S.Source.content c.args.source.now) (page_of h) c.loop-i.i (places_of h) place.result
           c.loop-i.count c.in-Ok-set_behind.more _ within place.ensures.value
-          (rw (before.reads.content tells, c.page_size-page.ensures.value) at (seen.value tells)) (before.value tells);
+          (rw (before.reads.content tells, c.page_size-page.ensures.value) at (seen.finds.value tells))
+          (before.value tells);
     }
-
-pub returns-in-Err-set_behind-clause-reads : goal.returns-in-Err-set_behind-clause-reads
-returns-in-Err-set_behind-clause-reads g c =
-    reads_on c.loop-i.invariant.reads c.in-Err-set_behind.ensures.reads (λ changed. changed)

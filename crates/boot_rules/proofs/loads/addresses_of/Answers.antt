@@ -4,6 +4,6 @@ use Rattle.boot_rules.proofs.loads.addresses_of.Goals as goal
 pub returns-in-Err-clause-wrong : goal.returns-in-Err-clause-wrong
 returns-in-Err-clause-wrong c = record {
   which = Dtb;
-  no_room = c.in-Err.ensures.no_room;
-  told = c.in-Err.ensures.told;
+  no_room = c.in-Err.ensures.says.no_room;
+  told = c.in-Err.ensures.says.told;
 }

@@ -1,4 +1,4 @@
-use Rattle.std.proofs.Common.{◌≡◌, [], ◌++◌, suc, ◌+◌, sym, subst, refl, ap, ◌∙◌, arith}
+use Rattle.std.proofs.Common.{◌≡◌, [], ◌++◌, suc, ◌+◌, sym, subst, refl, ap, ◌∙◌, arith, rules}
 use Rattle.abt_sections.specs.Header.{entry_of, view_of}
 use Rattle.abt_sections.specs.Open.{IsOpened}
 use Rattle.abt_text.proofs.Printing.{◌▸◌, as_text, printed_none}
@@ -32,7 +32,8 @@ loop-i-preserved g c =
           let before = c.loop-i.invariant.lines tells in
           let entry : c.in-Ok-fragment.entry ≡ entry_of x h i = found.entry tells ∙ ap (λ y. entry_of y h i) before.0 in
           let next : suc i ≡ i + 1 = omega arith in
-          let all : PrintsWords g.O.Output.written g.O.Output.write_faults c.args.text.now c.entry_words.new.text (fragment_words folder x h (suc i))
+          let all : PrintsWords g.O.Output.written g.O.Output.write_faults c.args.text.now c.entry_words.new.text
+          (fragment_words folder x h (suc i))
           = more_words (fragment_words folder x h i) (entry_words folder i (entry_of x h i)) before.1
           (as_text (ap (λ e. words_text (entry_words folder i e)) entry) c.entry_words.ensures) in (
             found.reads.only.content tells ∙ before.0,
@@ -42,13 +43,16 @@ loop-i-preserved g c =
           );
     }
 
-pub returns-in-Err-fragment-clause-refused : goal.returns-in-Err-fragment-clause-refused
-returns-in-Err-fragment-clause-refused g c = λ tells opened.
-    let before = (c.loop-i.invariant.lines tells).0 in
-    let now = subst (λ x. IsOpened x c.args.image.now) (sym before) opened in
-    read_refuses c.in-Err-fragment.fault _ _ _ _ (omega (arith, c.loop-i.invariant.faults))
-    c.in-Err-fragment.ensures.reads.cause (λ changed. changed tells now)
-
-pub returns-in-Err-fragment-clause-reads : goal.returns-in-Err-fragment-clause-reads
-returns-in-Err-fragment-clause-reads g c = reading_told c.in-Err-fragment.fault _ _ _ _ c.loop-i.invariant.faults
-    c.in-Err-fragment.ensures.reads.cause c.in-Err-fragment.ensures.reads.only.faults
+pub returns-in-Err-fragment-clause-leaves : goal.returns-in-Err-fragment-clause-leaves
+returns-in-Err-fragment-clause-leaves g c = record {
+  content = search rules;
+  prints = search rules;
+  told = search rules;
+  reads = reading_told c.in-Err-fragment.fault _ _ _ _ c.loop-i.invariant.faults
+      c.in-Err-fragment.ensures.reads.cause c.in-Err-fragment.ensures.reads.only.faults;
+  refused = λ tells opened.
+      let before = (c.loop-i.invariant.lines tells).0 in
+      let now = subst (λ x. IsOpened x c.args.image.now) (sym before) opened in
+      read_refuses c.in-Err-fragment.fault _ _ _ _ (omega (arith, c.loop-i.invariant.faults))
+      c.in-Err-fragment.ensures.reads.cause (λ changed. changed tells now);
+}
