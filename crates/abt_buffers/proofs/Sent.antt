@@ -1,6 +1,6 @@
 -- Bytes that are written at the end of what stands, or from there on.
 use Rattle.std.proofs.Common.{◌≡◌, ℕ, ◌+◌, ◌-◌, ◌≤◌, List, [], ◌++◌, length, take, drop, sym, ◌∙◌, ap, arith, append_assoc, append-nil, length-append, length-drop}
-use Rattle.std.proofs.lemmas.List.{length-take-le, take_all, take_at, take-append-le, take-append-drop, drop-drop, drop-append-le}
+use Rattle.std.proofs.lemmas.List.{length-take-le, take_all, take_at, take-append-drop, drop-drop, drop-append-le}
 use Rattle.std.proofs.Math.Seq.{drop-append-add, take-append-add}
 use Rattle.std.proofs.Math.ListN.{drop_of_length-le}
 use Rattle.abt_io.proofs.Overs.{length_put}
@@ -16,24 +16,6 @@ put_end c x at long =
     ap (λ (l : List ℕ). take at c ++ x ++ l) (drop_of_length-le c {i = at + length x} (omega (arith, long)))
     ∙ append-nil (take at c ++ x)
     ∙ ap (λ (l : List ℕ). l ++ x) (take_all at c (omega (arith, long)))
-
--- what stands behind a write that begins within what stands, or at its end
-pub length_reach : (c x : List ℕ) (at : ℕ) → at ≤ length c → length (put_at c at x) ≡ at + length x + (length c - (at + length x))
-length_reach c x at le =
-    let a = length-append (take at c ++ x) (drop (at + length x) c) in
-    let b = length-append (take at c) x in
-    let t = length-take-le at c le in
-    let d = length-drop (at + length x) c in
-    omega (arith, a, b, t, d)
-
--- what stands before it is as it was
-pub before_put : (c x : List ℕ) (at n : ℕ) → n ≤ at → at ≤ length c → take n (put_at c at x) ≡ take n c
-before_put c x at n le there =
-    let t = length-take-le at c there in
-    ap (take n) (append_assoc (take at c) x (drop (at + length x) c))
-    ∙ take-append-le n (take at c) (x ++ drop (at + length x) c) (omega (arith, t, le))
-    ∙ sym (take-append-le n (take at c) (drop at c) (omega (arith, t, le)))
-    ∙ ap (take n) (take-append-drop at c)
 
 -- a write that goes on where the last one ended
 pub put_then : (c x y : List ℕ) (at : ℕ) → at ≤ length c → put_at (put_at c at x) (at + length x) y ≡ put_at c at (x ++ y)
@@ -64,12 +46,6 @@ put_on c now new bytes at d n le there before e =
     ∙ ap (λ (k : ℕ). put_at (put_at c at (take d bytes)) (at + k) rest) (sym long)
     ∙ put_then c (take d bytes) rest at there
     ∙ ap (put_at c at) (take_plus d n bytes)
-
--- all that is held goes to the file
-pub all_sent : (c held : List ℕ) (sent : ℕ) → sent ≤ length c → length c ≤ sent + length held → put_at c sent held ≡ whole c sent held
-all_sent c held sent there reach =
-    ap (λ (l : List ℕ). take sent c ++ held ++ l) (drop_of_length-le c {i = sent + length held} reach)
-    ∙ append-nil (take sent c ++ held)
 
 -- a header that is laid over what is held
 pub laid_held : (c held x : List ℕ) (sent from : ℕ) → sent ≤ length c → from + length x ≤ length held

@@ -1,8 +1,8 @@
 //! A source that is read ahead: of small reads, as those of headers, one call of the system brings many.
 
-ghost use Rattle.std.specs.Prelude.{◌≡◌, ◌≤◌, ◌+◌, [], false, length, IfOk, IfErr};
+ghost use Rattle.std.specs.Prelude.{◌≡◌, [], false, IfOk};
 ghost use Rattle.std.proofs.lemmas.Bool.{false≢true};
-ghost use Rattle.abt_io.specs.Count.{count_of};
+ghost use Rattle.abt_buffers.specs.Writes.{ReadsOrFails};
 
 use crate::ahead_file::AheadFile;
 use abt_io::{DeviceFault, FileSource, Source, Tally};
@@ -142,8 +142,7 @@ impl Ahead {
 
 /// One positioned read, once more where a signal came in between.
 pub(crate) fn read_at(file: &File, at: u64, out: &mut [u8]) -> Result<usize, DeviceFault>
-    ensures within { count_of result ≤ length out.new }
-    ensures failed { IfErr result (λ e. e ≡ DeviceFault.Failed) }
+    ensures { ReadsOrFails result out.new }
 {
     for _ in 0..u64::MAX {
         match file.read_at(out, at) {

@@ -1,11 +1,12 @@
 //! What a spool holds back of what it took, and what of it went to its file. The file may keep its pages where it is
 //! cleared: then what stands there of before is written over, and cut off before a magic number is laid.
 
-ghost use Rattle.std.specs.Prelude.{◌≡◌, ◌≤◌, ◌+◌, ◌<◌, ◌++◌, [], false, IsTrue, IsErr, IfErr, OnOk, OnErr};
+ghost use Rattle.std.specs.Prelude.{◌≡◌, ◌≤◌, ◌+◌, ◌<◌, ◌++◌, [], false, IsTrue, OnOk, OnErr};
 ghost use Rattle.std.specs.Prelude.{◌-◌, length, take};
 ghost use Rattle.abt_io.specs.Count.{count_of};
 ghost use Rattle.abt_io.specs.Moment.{put_at};
-ghost use Rattle.abt_buffers.specs.Writes.{WritesOrFails, Flushes, KeepsTaken, KeepsHeld};
+ghost use Rattle.abt_buffers.specs.Writes.{WritesOrFails, WritesUnlost, Flushes, FlushesAll, CutsOff, LiesWithin};
+ghost use Rattle.abt_buffers.specs.Writes.{KeepsHeld, KeepsBehind};
 
 use crate::held_file::put_held;
 use abt_io::{DeviceFault, Log, WINDOW};
@@ -65,11 +66,9 @@ impl Behind {
         bytes: &[u8],
     ) -> Result<usize, DeviceFault>
         requires { length self.old.sent.state.bytes + length self.old.held.items ≡ used }
-        ensures writes { WritesOrFails result bytes.now }
+        ensures writes { WritesUnlost result bytes.now self.old self.new }
         ensures taken { self.new.sent.state.bytes ++ self.new.held.items
             ≡ (self.old.sent.state.bytes ++ self.old.held.items) ++ take (count_of result) bytes.now }
-        ensures lost { IsTrue self.old.is_lost → IsErr result }
-        ensures found { OnOk result (self.new.is_lost ≡ false) }
         ensures place { length self.new.sent.state.bytes + length self.new.held.items ≡ used + count_of result }
     {
         if self.is_lost {
@@ -92,9 +91,8 @@ impl Behind {
     /// before; then the file ends behind what was.
     pub(crate) fn settle(&mut self, file: &File, used: u64) -> Result<(), DeviceFault>
         requires { length self.old.sent.state.bytes + length self.old.held.items ≡ used }
-        ensures flushes { Flushes result self.old self.new }
+        ensures flushes { FlushesAll used result self.old self.new }
         ensures cut { OnOk result (self.new.stale ≡ 0) }
-        ensures keeps { KeepsTaken used self.old self.new }
     {
         let flushed = self.flush(file, used);
         self.cut_off(file, used)?;
@@ -132,12 +130,7 @@ impl Behind {
     // Cuts the file off behind what it took, if anything may stand there.
     fn cut_off(&mut self, file: &File, used: u64) -> Result<(), DeviceFault>
         requires { length self.old.sent.state.bytes + length self.old.held.items ≡ used }
-        ensures cut { OnOk result (self.new.stale ≡ 0) }
-        ensures held { self.new.held.items ≡ self.old.held.items }
-        ensures sent { self.new.sent.state ≡ self.old.sent.state }
-        ensures lost { OnErr result (IsTrue self.new.is_lost) }
-        ensures kept { OnOk result (self.new.is_lost ≡ self.old.is_lost) }
-        ensures failed { IfErr result (λ e. e ≡ DeviceFault.Failed) }
+        ensures { CutsOff result self.old self.new }
     {
         let end = used - self.held.len() as u64;
         if self.stale > end && file.set_len(end).is_err() {
@@ -175,13 +168,10 @@ impl Behind {
         at: u64,
         bytes: &[u8],
     ) -> Result<usize, DeviceFault>
-        requires place { length self.old.sent.state.bytes + length self.old.held.items ≡ used }
-        requires stands { at + length bytes.now ≤ used }
-        ensures writes { WritesOrFails result bytes.now }
+        requires { LiesWithin used at bytes.now self.old }
+        ensures writes { WritesUnlost result bytes.now self.old self.new }
         ensures laid { self.new.sent.state.bytes ++ self.new.held.items
             ≡ put_at (self.old.sent.state.bytes ++ self.old.held.items) at (take (count_of result) bytes.now) }
-        ensures lost { IsTrue self.old.is_lost → IsErr result }
-        ensures found { OnOk result (self.new.is_lost ≡ false) }
         ensures cut { at < 4 → OnOk result (self.new.stale ≡ 0) }
         ensures place { length self.new.sent.state.bytes + length self.new.held.items ≡ used }
     {
@@ -204,9 +194,8 @@ impl Behind {
     // Writes all that is held, before something is laid at a place. At the front nothing is to stand behind it.
     fn make_way(&mut self, file: &File, used: u64, at: u64) -> Result<(), DeviceFault>
         requires { length self.old.sent.state.bytes + length self.old.held.items ≡ used }
-        ensures flushes { Flushes result self.old self.new }
+        ensures flushes { FlushesAll used result self.old self.new }
         ensures cut { at < 4 → OnOk result (self.new.stale ≡ 0) }
-        ensures keeps { KeepsTaken used self.old self.new }
     {
         if at < MAGIC {
             self.settle(file, used)
@@ -217,8 +206,7 @@ impl Behind {
 
     // Lays bytes over those that are held, if all of them are, and they are not at the front.
     fn lays(&mut self, used: u64, at: u64, bytes: &[u8]) -> bool
-        requires place { length self.old.sent.state.bytes + length self.old.held.items ≡ used }
-        requires stands { at + length bytes.now ≤ used }
+        requires { LiesWithin used at bytes.now self.old }
         ensures laid { IsTrue result → length self.old.sent.state.bytes ≤ at }
         ensures behind { IsTrue result → 4 ≤ at }
         ensures held { IsTrue result → self.new.held.items
@@ -252,9 +240,7 @@ impl Behind {
     /// the rest to be written over. `used` bytes were taken since the last clear.
     pub(crate) fn blank(&mut self, file: &File, used: u64) -> Result<(), DeviceFault>
         ensures stale { (used ≤ self.new.stale) × (self.old.stale ≤ self.new.stale) }
-        ensures keeps { KeepsHeld self.old self.new }
-        ensures told { self.new.is_told ≡ self.old.is_told }
-        ensures failed { IfErr result (λ e. e ≡ DeviceFault.Failed) }
+        ensures keeps { KeepsBehind result self.old self.new }
     {
         let stands = self.stale.max(used);
         if stands == 0 {

@@ -1,13 +1,12 @@
 //! A spool that takes small writes together, and is read ahead.
 
-ghost use Rattle.std.specs.Prelude.{◌≡◌, ◌≤◌, ◌+◌, ◌++◌, [], false, not, nat_lt, length, IsTrue, IsErr, OnOk, OnErr};
-ghost use Rattle.std.specs.Prelude.{IfErr, refl};
+ghost use Rattle.std.specs.Prelude.{◌≡◌, ◌≤◌, ◌+◌, ◌++◌, [], false, not, nat_lt, length, IsTrue, OnOk, OnErr, refl};
 ghost use Rattle.std.proofs.lemmas.Bool.{false≢true};
 ghost use Rattle.abt_io.specs.Count.{count_of};
-ghost use Rattle.abt_io.specs.Frame.{last_cut, nothing_logged, and_cut};
+ghost use Rattle.abt_io.specs.Frame.{last_cut, and_cut};
 ghost use Rattle.abt_io.specs.Held.{filled_count};
-ghost use Rattle.abt_buffers.specs.Since.{since_cut, Kept, SameButClears};
-ghost use Rattle.abt_buffers.specs.Writes.{KeepsHeld};
+ghost use Rattle.abt_buffers.specs.Since.{since_cut, IsNewSpool, SendsAll, SameButClears};
+ghost use Rattle.abt_buffers.specs.Writes.{KeepsBehind};
 
 use crate::ahead::{Ahead, read_at};
 use crate::ahead_file::AheadFile;
@@ -48,9 +47,7 @@ impl GatheringSpool {
         capacity: u64,
         from: Option<Rc<AheadFile>>,
     ) -> GatheringSpool
-        ensures capacity { result.spool.capacity ≡ capacity }
-        ensures log { result.spool.log.state ≡ nothing_logged }
-        ensures lost { result.behind.is_lost ≡ false }
+        ensures { IsNewSpool capacity result.spool result.behind }
     {
         GatheringSpool {
             spool: FileSpool::new(file, capacity),
@@ -71,10 +68,8 @@ impl GatheringSpool {
         from: Option<Rc<AheadFile>>,
         stands: u64,
     ) -> GatheringSpool
-        ensures capacity { result.spool.capacity ≡ capacity }
-        ensures log { result.spool.log.state ≡ nothing_logged }
+        ensures new { IsNewSpool capacity result.spool result.behind }
         ensures stale { result.behind.stale ≡ stands }
-        ensures lost { result.behind.is_lost ≡ false }
     {
         GatheringSpool {
             spool: FileSpool::new(file, capacity),
@@ -94,13 +89,10 @@ impl GatheringSpool {
     /// Writes what is held, and cuts the file off behind it. Refused where a byte that was taken since the last clear could not be written, now or by
     /// an earlier call, so that a read which failed for that reason is told from one which did not.
     pub fn settle(&mut self) -> Result<(), DeviceFault>
-        ensures all { OnOk result (self.new.behind.sent.state.bytes ≡ since_cut self.new.spool.log.state) }
+        ensures sends { SendsAll result self.old.spool self.new.spool self.old.behind self.new.behind }
         ensures none { OnOk result (self.new.behind.held.items ≡ []) }
         ensures cut { OnOk result (self.new.behind.stale ≡ 0) }
         ensures lost { OnErr result (IsTrue self.new.behind.is_lost) }
-        ensures still { IsTrue self.old.behind.is_lost → IsErr result }
-        ensures kept { Kept self.old.spool self.new.spool }
-        ensures failed { IfErr result (λ e. e ≡ DeviceFault.Failed) }
     {
         self.behind.settle(&self.spool.file, self.spool.used)
     }
@@ -108,10 +100,7 @@ impl GatheringSpool {
     /// One read of the file, once all that was taken is in it.
     fn read_behind(&mut self, out: &mut [u8]) -> Result<usize, DeviceFault>
         ensures within { count_of result ≤ length out.new }
-        ensures all { OnOk result (self.new.behind.sent.state.bytes ≡ since_cut self.new.spool.log.state) }
-        ensures lost { IsTrue self.old.behind.is_lost → IsErr result }
-        ensures kept { Kept self.old.spool self.new.spool }
-        ensures failed { IfErr result (λ e. e ≡ DeviceFault.Failed) }
+        ensures sends { SendsAll result self.old.spool self.new.spool self.old.behind self.new.behind }
     {
         self.behind.settle(&self.spool.file, self.spool.used)?;
         if self.spool.seen == 0 && is_shorter(&self.from) {
@@ -312,9 +301,7 @@ fn cleared(spool: &mut FileSpool, behind: &mut Behind) -> Result<(), DeviceFault
     ensures calls { spool.new.clears.number ≡ spool.old.clears.number + 1 }
     ensures cause { OnErr result (spool.new.clear_faults.number ≡ spool.old.clear_faults.number + 1) }
     ensures clean { OnOk result (spool.new.clear_faults.number ≡ spool.old.clear_faults.number) }
-    ensures keeps { KeepsHeld behind.old behind.new }
-    ensures told { behind.new.is_told ≡ behind.old.is_told }
-    ensures failed { IfErr result (λ e. e ≡ DeviceFault.Failed) }
+    ensures keeps { KeepsBehind result behind.old behind.new }
 {
     spool.clears.add(1);
     match behind.blank(&spool.file, spool.used) {

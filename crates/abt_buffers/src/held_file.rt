@@ -10,7 +10,7 @@ ghost use Rattle.abt_io.specs.Frame.{nothing_logged, and_bytes};
 ghost use Rattle.abt_io.specs.Over.{and_put};
 ghost use Rattle.abt_io.specs.Moment.{put_at};
 ghost use Rattle.abt_buffers.specs.Since.{whole};
-ghost use Rattle.abt_buffers.specs.Writes.{WritesSome, HasRoomBehind, AsLong};
+ghost use Rattle.abt_buffers.specs.Writes.{WritesSome, HasRoomBehind, AsLong, HoldsAsMuch};
 
 use crate::room::Room;
 use crate::under::{Under, write_front, write_over};
@@ -219,9 +219,8 @@ impl<U: Under + Drop> HeldFile<U> {
     // Takes the headers back that were laid behind more than was written.
     fn take_back(&mut self, done: usize)
         requires { self.old.sent + done ≤ length (U.stands self.old.file) }
-        ensures held { length self.new.held.items ≡ length self.old.held.items }
-        ensures sent { self.new.sent ≡ self.old.sent }
-        ensures given { self.new.given.state ≡ self.old.given.state }
+        ensures { HoldsAsMuch self.old.held.items self.new.held.items self.old.sent self.new.sent self.old.given.state
+            self.new.given.state }
     {
         if self.laid.is_empty() {
             return;

@@ -1,13 +1,11 @@
 -- What one output after another leaves of files.
-use Rattle.std.proofs.Common.{◌≡◌, ◌≢◌, ◌⊎◌, inl, inr, ℕ, Bool, List, [], ◌∷◌, ◌++◌, Some, None, refl, sym, ◌∙◌, ap}
-use Rattle.std.proofs.Common.{subst, arith}
+use Rattle.std.proofs.Common.{◌≡◌, ◌⊎◌, inl, inr, ℕ, Bool, List, [], ◌∷◌, Some, None, refl, sym, ◌∙◌, ap, subst, arith}
 use Rattle.std.specs.Prelude.{Contains}
 use Rattle.std.proofs.lemmas.Bool.{cases_eq}
 use Rattle.std.proofs.lemmas.List.Elements.{Contains-append_left, Contains-append_right, Contains-append_cases}
 use Rattle.std.proofs.lemmas.List.Elements.{Contains-push, Contains-push_cases}
 use Rattle.abt_disk.specs.World.{World, Held, OpensFile, Creates, OnlyAt, untouched, in_output, Spares, Ends}
-use Rattle.abt_disk.specs.World.{KeepsBegun, SparesRest}
-use Rattle.abt_disk.specs.World.{reading, creating, ended, failing}
+use Rattle.abt_disk.specs.World.{KeepsBegun, SparesRest, ended, failing}
 use Rattle.abt_disk.proofs.Worlds.{spares_trans}
 use Rattle.abt_disk.specs.Among.{FileHolds, IsAmong, OnlyAmong, GoesAmong, KeepsMade, IsMade}
 

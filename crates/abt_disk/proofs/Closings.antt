@@ -17,9 +17,6 @@ others_spared path x y a c h h' o ends paths = record {
   files = λ f other. (ends_in path x y a c h h' o ends).1.files f (λ same. other (subst (λ g. a.at path ≡ Some g) (sym same) o.there));
 }
 
-pub others_same : (path : List ℕ) (a c : World) → c ≡ a → SparesOthers path a c
-others_same path a c same = record { paths = ap (λ w. w.at) same; files = λ f other. ap (λ w. w.holds f) same }
-
 pub keeps_same : (path : List ℕ) (a c : World) → c ≡ a → KeepsFile path a c
 keeps_same path a c same = λ f there. ap (λ w. w.holds f) same
 

@@ -1,5 +1,7 @@
 pub mod Among
+pub mod DiskCalls
 pub mod Images
 pub mod InPlace
+pub mod Lasts
 pub mod Spools
 pub mod World

@@ -1,13 +1,14 @@
 //! What a command asks of the system, and what contracts know of it.
 
-ghost use Rattle.std.specs.Prelude.{◌≡◌, ◌+◌, ℕ, List, [], None, Bool, IsTrue, IfOk, IfErr, OnOk, OnErr, is_ok, is_some};
-ghost use Rattle.std.specs.Prelude.{string_bytes, replicate, false};
-ghost use Rattle.abt_io.specs.Moment.{no_past};
+ghost use Rattle.std.specs.Prelude.{◌≡◌, ◌+◌, ℕ, List, [], None, Bool, IsTrue, IfOk, IfErr, OnOk, OnErr, is_ok};
+ghost use Rattle.std.specs.Prelude.{is_some, string_bytes, false};
 ghost use Rattle.abt_refusals.specs.Paths.{path_in, path_of, path_out};
+ghost use Rattle.abt_disk.specs.DiskCalls.{OpensToRead, FailsOnly, RefusesTaken, OpensInPlace, MakesPart, OpensThrough};
+ghost use Rattle.abt_disk.specs.DiskCalls.{CreatesOutput, FinishesOutput, LetsGo, LetsImageGo};
 ghost use Rattle.abt_disk.specs.Images.{is_file, OfImage, Leaves, EmptiesAt};
-ghost use Rattle.abt_disk.specs.InPlace.{OpensPart, MakesZeros, IsAsLong, closed_part};
-ghost use Rattle.abt_disk.specs.Spools.{OpensSpool, closed_spool, behind_clear};
-ghost use Rattle.abt_disk.specs.World.{World, Held, OpensFile, Creates, OnlyAt, Ends, SparesRest, IsFree, ended};
+ghost use Rattle.abt_disk.specs.InPlace.{IsAsLong, closed_part};
+ghost use Rattle.abt_disk.specs.Spools.{closed_spool, behind_clear};
+ghost use Rattle.abt_disk.specs.World.{World, Held, OpensFile, Creates, OnlyAt, Ends, SparesRest, ended};
 ghost use Rattle.abt_disk.specs.World.{KeepsBegun, failing, unless};
 
 use crate::{ImageTo, Lasting, Late};
@@ -65,30 +66,21 @@ pub trait Disk {
     /// Opens what is read forward. `-` is standard input.
     fn input<'a>(&mut self, place: Place<'a>) -> Result<Self::From, HostRefusal<'a>>
         requires first { IsTrue tells → (held self.old).begun ≡ [] }
-        ensures opened { IsTrue tells → IfOk result (λ from. OpensFile (world self.old) (path_in place.entry)
-            (Self.From.remaining from) (held self.old) (held self.new)) }
-        ensures clean { IsTrue tells → IfOk result (λ from. Self.From.read_faults from ≡ 0) }
-        ensures kept { IsTrue tells → OnErr result (held self.new ≡ failing 1 (held self.old)) }
-        ensures world { IsTrue tells → world self.new ≡ world self.old };
+        ensures { OpensToRead tells result (path_in place.entry) Self.From.remaining Self.From.read_faults
+            (held self.old) (held self.new) (world self.old) (world self.new) };
 
     /// Opens what is read at any place. `-` is a file of that name.
     fn source<'a>(&mut self, place: Place<'a>) -> Result<Self::At, HostRefusal<'a>>
         requires first { IsTrue tells → (held self.old).begun ≡ [] }
-        ensures opened { IsTrue tells → IfOk result (λ at. OpensFile (world self.old) (path_of place.entry)
-            (Self.At.content at) (held self.old) (held self.new)) }
-        ensures clean { IsTrue tells → IfOk result (λ at. Self.At.read_faults at ≡ 0) }
-        ensures kept { IsTrue tells → OnErr result (held self.new ≡ failing 1 (held self.old)) }
-        ensures world { IsTrue tells → world self.new ≡ world self.old };
+        ensures { OpensToRead tells result (path_of place.entry) Self.At.content Self.At.read_faults
+            (held self.old) (held self.new) (world self.old) (world self.new) };
 
     /// Opens the same, of which small reads may be answered from what was read before: so it is to be asked whether the
     /// file has become shorter.
     fn ahead<'a>(&mut self, place: Place<'a>) -> Result<Self::At, HostRefusal<'a>>
         requires first { IsTrue tells → (held self.old).begun ≡ [] }
-        ensures opened { IsTrue tells → IfOk result (λ at. OpensFile (world self.old) (path_of place.entry)
-            (Self.At.content at) (held self.old) (held self.new)) }
-        ensures clean { IsTrue tells → IfOk result (λ at. Self.At.read_faults at ≡ 0) }
-        ensures kept { IsTrue tells → OnErr result (held self.new ≡ failing 1 (held self.old)) }
-        ensures world { IsTrue tells → world self.new ≡ world self.old };
+        ensures { OpensToRead tells result (path_of place.entry) Self.At.content Self.At.read_faults
+            (held self.old) (held self.new) (world self.old) (world self.new) };
 
     /// What is open, to be read a second time beside the first.
     fn again<'a>(&mut self, at: &Self::At, place: Place<'a>) -> Result<Self::At, HostRefusal<'a>>
@@ -107,23 +99,19 @@ pub trait Disk {
 
     /// Lets go what was read forward.
     fn let_go(&mut self, from: Self::From)
-        ensures held { IsTrue tells → held self.new ≡ failing (Self.From.read_faults from) (held self.old) }
-        ensures world { IsTrue tells → world self.new ≡ world self.old };
+        ensures { FailsOnly tells (Self.From.read_faults from) (held self.old) (held self.new) (world self.old)
+            (world self.new) };
 
     /// Lets go what was read at any place.
     fn let_go_source(&mut self, at: Self::At)
-        ensures held { IsTrue tells → held self.new ≡ failing (Self.At.read_faults at) (held self.old) }
-        ensures world { IsTrue tells → world self.new ≡ world self.old };
+        ensures { FailsOnly tells (Self.At.read_faults at) (held self.old) (held self.new) (world self.old)
+            (world self.new) };
 
     /// Opens a file that is there, to be written in place.
     fn partition<'a>(&mut self, place: Place<'a>) -> Result<Self::Part, HostRefusal<'a>>
         requires one { IsTrue tells → (held self.old).part ≡ None }
-        ensures opened { IsTrue tells → IfOk result (λ part. OpensPart (world self.old) (path_of place.entry)
-            (Self.Part.content part) (held self.old) (held self.new)) }
-        ensures past { IsTrue tells → IfOk result (λ part. Self.Part.past part ≡ no_past) }
-        ensures clean { IsTrue tells → IfOk result (λ part. Self.Part.put_faults part ≡ 0) }
-        ensures kept { IsTrue tells → OnErr result (held self.new ≡ failing 1 (held self.old)) }
-        ensures world { IsTrue tells → world self.new ≡ world self.old };
+        ensures { OpensInPlace tells result (path_of place.entry) Self.Part.content Self.Part.past
+            Self.Part.put_faults (held self.old) (held self.new) (world self.old) (world self.new) };
 
     /// Closes the file that is open in place. It holds what the partition holds, which is as long as it was. Answers
     /// whether it is where standard output goes.
@@ -139,16 +127,8 @@ pub trait Disk {
     /// Creates or empties a regular file, and makes it so many zeros, to be written in place. Nothing else will do.
     fn zeros<'a>(&mut self, place: Place<'a>, bytes: u64) -> Result<Self::Part, HostRefusal<'a>>
         requires one { IsTrue tells → (held self.old).part ≡ None }
-        ensures made { IsTrue tells → OnOk result (MakesZeros bytes (path_of place.entry) (held self.old)
-            (held self.new) (world self.old) (world self.new)) }
-        ensures zeros { IsTrue tells → IfOk result (λ part. Self.Part.content part ≡ replicate bytes 0) }
-        ensures past { IsTrue tells → IfOk result (λ part. Self.Part.past part ≡ no_past) }
-        ensures clean { IsTrue tells → IfOk result (λ part. Self.Part.put_faults part ≡ 0) }
-        ensures kept { IsTrue tells → OnErr result (held self.new ≡ failing 1 (held self.old)) }
-        ensures only { IsTrue tells → OnErr result (OnlyAt (held self.old).read (path_of place.entry)
-            (world self.old) (world self.new)) }
-        ensures begun { IsTrue tells → OnErr result (KeepsBegun (held self.old).begun (world self.old)
-            (world self.new)) };
+        ensures { MakesPart tells result bytes (path_of place.entry) Self.Part.content Self.Part.past
+            Self.Part.put_faults (held self.old) (held self.new) (world self.old) (world self.new) };
 
     /// Creates or empties the file that pieces of so many bytes go through, which is read again. All that goes through it
     /// comes from a source: it is not given back where that has become shorter. Where the file is `keeping` its pages, it
@@ -161,18 +141,10 @@ pub trait Disk {
         from: &Self::At,
     ) -> Result<Self::Through, HostRefusal<'a>>
         requires one { IsTrue tells → (held self.old).spool ≡ None }
-        ensures capacity { IfOk result (λ through. Self.Through.Spool.size through ≡ limit) }
-        ensures empty { IsTrue tells → IfOk result (λ through. Self.Through.Output.written through ≡ []) }
-        ensures uncut { IsTrue tells → IfOk result (λ through. Self.Through.Spool.cuts through ≡ []) }
-        ensures clean { IsTrue tells → IfOk result (λ through. Self.Through.Output.write_faults through
-            + (Self.Through.Input.read_faults through + Self.Through.Spool.clear_faults through) ≡ 0) }
-        ensures opened { IsTrue tells → OnOk result (OpensSpool (path_of place.entry) (held self.old) (held self.new)
-            (world self.old) (world self.new)) }
-        ensures kept { IsTrue tells → OnErr result (held self.new ≡ failing 1 (held self.old)) }
-        ensures only { IsTrue tells → OnErr result (OnlyAt (held self.old).read (path_of place.entry)
-            (world self.old) (world self.new)) }
-        ensures begun { IsTrue tells → OnErr result (KeepsBegun (held self.old).begun (world self.old)
-            (world self.new)) };
+        ensures { OpensThrough tells result limit (path_of place.entry) Self.Through.Spool.size
+            Self.Through.Output.written Self.Through.Spool.cuts (λ through. Self.Through.Output.write_faults through
+            + (Self.Through.Input.read_faults through + Self.Through.Spool.clear_faults through))
+            (held self.old) (held self.new) (world self.old) (world self.new) };
 
     /// Closes the file that pieces went through, which holds what it took since it was cleared last. Refused where a
     /// byte of that could not be written. Answers whether it was not given back since its source had become shorter.
@@ -194,35 +166,20 @@ pub trait Disk {
 
     /// Refuses a path that is going to be written where it leads to a file that is read, or that was begun.
     fn refuse_taken<'a>(&mut self, place: Place<'a>) -> Result<(), HostRefusal<'a>>
-        ensures free { IsTrue tells → OnOk result (IsFree (path_of place.entry) (held self.old) (world self.old)) }
-        ensures held { IsTrue tells → held self.new ≡ failing (unless (is_ok result)) (held self.old) }
-        ensures world { IsTrue tells → world self.new ≡ world self.old };
+        ensures { RefusesTaken tells result (path_of place.entry) (held self.old) (held self.new) (world self.old)
+            (world self.new) };
 
     /// Creates or empties a file. `-` is a file of that name.
     fn plain<'a>(&mut self, place: Place<'a>) -> Result<Self::Onto, HostRefusal<'a>>
         requires one { IsTrue tells → (held self.old).output ≡ None }
-        ensures empty { IfOk result (λ onto. Self.Onto.written onto ≡ []) }
-        ensures clean { IsTrue tells → IfOk result (λ onto. Self.Onto.write_faults onto ≡ 0) }
-        ensures created { IsTrue tells → OnOk result (Creates (path_of place.entry) (held self.old) (held self.new)
-            (world self.old) (world self.new)) }
-        ensures kept { IsTrue tells → OnErr result (held self.new ≡ failing 1 (held self.old)) }
-        ensures only { IsTrue tells → OnErr result (OnlyAt (held self.old).read (path_of place.entry)
-            (world self.old) (world self.new)) }
-        ensures begun { IsTrue tells → OnErr result (KeepsBegun (held self.old).begun (world self.old)
-            (world self.new)) };
+        ensures { CreatesOutput tells result (path_of place.entry) Self.Onto.written Self.Onto.write_faults
+            (held self.old) (held self.new) (world self.old) (world self.new) };
 
     /// Creates or empties the file of a raw image. `-` is standard output.
     fn raw<'a>(&mut self, place: Place<'a>) -> Result<Self::Onto, HostRefusal<'a>>
         requires one { IsTrue tells → (held self.old).output ≡ None }
-        ensures empty { IfOk result (λ onto. Self.Onto.written onto ≡ []) }
-        ensures clean { IsTrue tells → IfOk result (λ onto. Self.Onto.write_faults onto ≡ 0) }
-        ensures created { IsTrue tells → OnOk result (Creates (path_out place.entry) (held self.old) (held self.new)
-            (world self.old) (world self.new)) }
-        ensures kept { IsTrue tells → OnErr result (held self.new ≡ failing 1 (held self.old)) }
-        ensures only { IsTrue tells → OnErr result (OnlyAt (held self.old).read (path_out place.entry)
-            (world self.old) (world self.new)) }
-        ensures begun { IsTrue tells → OnErr result (KeepsBegun (held self.old).begun (world self.old)
-            (world self.new)) };
+        ensures { CreatesOutput tells result (path_out place.entry) Self.Onto.written Self.Onto.write_faults
+            (held self.old) (held self.new) (world self.old) (world self.new) };
 
     /// Creates or empties the file of an image that has a magic. `-` is standard output. Where it is gathered, a file may
     /// hold much of what it took until its end, so that is for who waits for nobody meanwhile.
@@ -250,16 +207,13 @@ pub trait Disk {
     /// Brings the output that is open to its end: all that it took is in its file, and synced where that is wanted.
     /// Answers whether it is where standard output goes.
     fn finish<'a>(&mut self, onto: Self::Onto, place: Place<'a>) -> Result<bool, HostRefusal<'a>>
-        ensures ended { IsTrue tells → OnOk result (Ends (held self.old).output (Self.Onto.written onto)
-            (world self.old) (world self.new)) }
-        ensures closed { IsTrue tells → held self.new ≡ ended (is_ok result)
-            (unless (is_ok result) + Self.Onto.write_faults onto) (held self.old) }
-        ensures rest { IsTrue tells → SparesRest (held self.old).output (world self.old) (world self.new) };
+        ensures { FinishesOutput tells result (Self.Onto.written onto) (Self.Onto.write_faults onto)
+            (held self.old) (held self.new) (world self.old) (world self.new) };
 
     /// Lets the output go that is open, where the work before failed.
     fn give_up(&mut self, onto: Self::Onto)
-        ensures closed { IsTrue tells → held self.new ≡ ended false (Self.Onto.write_faults onto) (held self.old) }
-        ensures rest { IsTrue tells → SparesRest (held self.old).output (world self.old) (world self.new) };
+        ensures { LetsGo tells (Self.Onto.write_faults onto) (held self.old) (held self.new) (world self.old)
+            (world self.new) };
 
     /// Brings the image that is open to its end, as `finish` does. Where that cannot be done, its file holds all the
     /// same, or nothing at its front.
@@ -279,11 +233,8 @@ pub trait Disk {
     /// Lets the image go that is open, where the work before failed. Its file holds what was written, or nothing at its
     /// front.
     fn give_up_image(&mut self, image: Self::Image)
-        ensures left { IsTrue tells → Leaves (held self.old).output (Self.Image.Output.written image)
-            (world self.new) }
-        ensures closed { IsTrue tells → held self.new ≡ ended false (Self.Image.Output.write_faults image)
-            (held self.old) }
-        ensures rest { IsTrue tells → SparesRest (held self.old).output (world self.old) (world self.new) };
+        ensures { LetsImageGo tells (Self.Image.Output.written image) (Self.Image.Output.write_faults image)
+            (held self.old) (held self.new) (world self.old) (world self.new) };
 
     /// What it opens to be read tells its bytes.
     ghost told: { IsTrue tells → IsTrue Self.From.tells };

@@ -1,6 +1,7 @@
 //! A source whose file may change while it is read.
 
 ghost use Rattle.std.specs.Prelude.{◌≡◌, None, IsTrue};
+ghost use Rattle.abt_disk.specs.Lasts.{HoldsStill};
 
 use abt_io::Source;
 
@@ -9,15 +10,11 @@ use abt_io::Source;
 pub trait Lasting: Source {
     /// A piece begins: what is held is read again before it is given.
     fn forget(&mut self)
-        ensures content { IsTrue Self.tells → Self.content self.new ≡ Self.content self.old }
-        ensures size { Self.size self.new ≡ Self.size self.old }
-        ensures faults { Self.read_faults self.new ≡ Self.read_faults self.old };
+        ensures { HoldsStill Self.tells Self.content Self.size Self.read_faults self.old self.new };
 
     /// The memory is let go that it reads into, until it is read again.
     fn rest(&mut self)
-        ensures content { IsTrue Self.tells → Self.content self.new ≡ Self.content self.old }
-        ensures size { Self.size self.new ≡ Self.size self.old }
-        ensures faults { Self.read_faults self.new ≡ Self.read_faults self.old };
+        ensures { HoldsStill Self.tells Self.content Self.size Self.read_faults self.old self.new };
 
     /// How long its file is now, if that is less than what was given of it from memory since the piece began.
     fn shorter(&self) -> Option<u64>

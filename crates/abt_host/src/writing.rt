@@ -1,10 +1,10 @@
 //! All that a command writes, once all that it reads is open.
 
-ghost use Rattle.std.specs.Prelude.{◌≡◌, ◌≤◌, ◌↔◌, ◌⊎◌, [], true, IsTrue, OnOk, OnErr, IfOk, IfErr};
-ghost use Rattle.abt_output.specs.Blank.{IsBlank};
+ghost use Rattle.std.specs.Prelude.{◌≡◌, ◌↔◌, ◌⊎◌, [], true, IsTrue, OnOk, OnErr, IfOk, IfErr};
 ghost use Rattle.abt_output.specs.Given.{given_by_writer};
 ghost use Rattle.abt_io.specs.Frame.{nothing_logged};
 ghost use Rattle.abt_host.specs.Access.{may_write};
+ghost use Rattle.abt_host.specs.Begins.{BeginsOutput, BeginsImage, BeginsSpool, BeginsKeptSpool, Admits};
 ghost use Rattle.abt_host.specs.Taken.{Forbidden, Adds, WritesOne};
 
 use crate::identity::{Identity, identity_at};
@@ -54,8 +54,7 @@ impl Writing {
 
     /// Creates or empties the file of a raw image, in which zeros may be holes. `-` is standard output.
     pub fn raw<'a>(&mut self, place: Place<'a>) -> Result<OutputFile, HostRefusal<'a>>
-        ensures writes { OnOk result (WritesOne self.old self.new) }
-        ensures empty { IfOk result (λ output. given_by_writer output.to.writer ≡ []) }
+        ensures { BeginsOutput result self.old self.new }
     {
         if place.is_standard() {
             return self.standard(place);
@@ -73,8 +72,7 @@ impl Writing {
         place: Place<'a>,
         is_gathered: bool,
     ) -> Result<ImageOutput, HostRefusal<'a>>
-        ensures writes { OnOk result (WritesOne self.old self.new) }
-        ensures blank { IfOk result IsBlank }
+        ensures { BeginsImage result self.old self.new }
     {
         if place.is_standard() {
             return Ok(ImageOutput::Stream(self.standard(place)?));
@@ -95,8 +93,7 @@ impl Writing {
 
     /// Creates or empties a file.
     pub fn plain<'a>(&mut self, place: Place<'a>) -> Result<OutputFile, HostRefusal<'a>>
-        ensures writes { OnOk result (WritesOne self.old self.new) }
-        ensures empty { IfOk result (λ output. given_by_writer output.to.writer ≡ []) }
+        ensures { BeginsOutput result self.old self.new }
     {
         let Opened { file, found } = self.created(place, Access::Create)?;
         self.buffered(place, Sink::file(file), found.identity.holds_data)
@@ -122,8 +119,7 @@ impl Writing {
 
     /// Creates or empties the file that pieces of so many bytes go through, which is read again.
     pub fn spool<'a>(&mut self, place: Place<'a>, limit: u32) -> Result<FileSpool, HostRefusal<'a>>
-        ensures capacity { IfOk result (λ spool. spool.capacity ≡ limit) }
-        ensures writes { OnOk result (WritesOne self.old self.new) }
+        ensures { BeginsSpool limit result self.old self.new }
     {
         let created = self.created(place, Access::Spool)?;
         Ok(FileSpool::new(created.file, limit as u64))
@@ -136,9 +132,7 @@ impl Writing {
         place: Place<'a>,
         limit: u32,
     ) -> Result<(FileSpool, u64), HostRefusal<'a>>
-        ensures capacity { IfOk result (λ kept. kept.0.capacity ≡ limit) }
-        ensures stands { IfOk result (λ kept. kept.1 ≤ limit) }
-        ensures writes { OnOk result (WritesOne self.old self.new) }
+        ensures { BeginsKeptSpool limit result self.old self.new }
     {
         let Opened { file, found } = self.admitted(place, Access::Spool)?;
         match self.reading.taken.blank(&file, found, limit as u64) {
@@ -177,8 +171,7 @@ impl Writing {
 
     // Data goes to standard output.
     fn standard<'a>(&mut self, place: Place<'a>) -> Result<OutputFile, HostRefusal<'a>>
-        ensures writes { OnOk result (WritesOne self.old self.new) }
-        ensures empty { IfOk result (λ output. given_by_writer output.to.writer ≡ []) }
+        ensures { BeginsOutput result self.old self.new }
     {
         let identity = self.reading.streams.out;
         self.admit(identity, place)?;
@@ -222,8 +215,7 @@ impl Writing {
     // Opens an output as it is, and empties it once it is known that it is no other file of this run.
     fn created<'a>(&mut self, place: Place<'a>, access: Access) -> Result<Opened, HostRefusal<'a>>
         requires { may_write access ≡ true }
-        ensures free { IfOk result (λ opened. ¬ Forbidden self.old.reading.taken opened.found.identity) }
-        ensures taken { IfOk result (λ opened. Adds self.old.reading.taken self.new.reading.taken opened.found.identity) }
+        ensures { Admits result self.old.reading.taken self.new.reading.taken }
     {
         let opened = self.admitted(place, access)?;
         match self.reading.taken.empty(&opened.file, opened.found) {
@@ -235,8 +227,7 @@ impl Writing {
     // Opens an output as it is.
     fn admitted<'a>(&mut self, place: Place<'a>, access: Access) -> Result<Opened, HostRefusal<'a>>
         requires { may_write access ≡ true }
-        ensures free { IfOk result (λ opened. ¬ Forbidden self.old.reading.taken opened.found.identity) }
-        ensures taken { IfOk result (λ opened. Adds self.old.reading.taken self.new.reading.taken opened.found.identity) }
+        ensures { Admits result self.old.reading.taken self.new.reading.taken }
     {
         let opened = open_file(self.rt, self.alloc, place, access)?;
         self.admit(opened.found.identity, place)?;

@@ -1,6 +1,11 @@
 -- What holds bytes back was given what its sink was given.
-use Rattle.std.specs.Prelude.{◌≡◌, ℕ, List, [], ◌++◌, take, Result, IfOk, OnErr}
+use Rattle.std.specs.Prelude.{◌≡◌, ◌<◌, ◌≤◌, ℕ, List, [], ◌++◌, length, take, Result, IfOk, IfErr, OnOk, OnErr}
 use Rattle.std.specs.Io.{WritesAtMost}
+use Rattle.abt_io.specs.Count.{count_of}
+use Rattle.abt_io.specs.Frame.{Logged}
+use Rattle.abt_io.specs.Moment.{put_at}
+use Rattle.abt_io.specs.declared.device.DeviceFault.{DeviceFault}
+use Rattle.abt_io.specs.declared.device.DeviceFault.TheVariants.{Failed}
 use Rattle.abt_output.specs.declared.target.Target.{Target}
 use Rattle.abt_output.specs.declared.target.Target.TheVariants.{File, Holes, Held, Standard}
 
@@ -26,3 +31,16 @@ pub record PutsFront {E : Type 0} (r : Result ℕ E) (bytes : List ℕ) (old new
   pub bound : WritesAtMost r bytes
   pub taken : IfOk r (λ n. (given : List ℕ) → Follows old given → Follows new (given ++ take n bytes))
   pub kept : OnErr r ((given : List ℕ) → Follows old given → Follows new given)
+
+-- the same over those that stand from a place on, and no empty front of some bytes
+pub record PutsBelow {E : Type 0} (r : Result ℕ E) (at : ℕ) (bytes : List ℕ) (old new : Target) : Type 0 where
+  pub within : count_of r ≤ length bytes
+  pub progress : IfOk r (λ n. 0 < length bytes → 0 < n)
+  pub taken : IfOk r (λ n. (given : List ℕ) → Follows old given → Follows new (put_at given at (take n bytes)))
+  pub kept : OnErr r ((given : List ℕ) → Follows old given → Follows new given)
+
+-- all that it was given is the system's, or the call fails; and it was given the same
+pub record SettlesTarget {X : Type 0} (r : Result X DeviceFault) (new : Target) (log log' : Logged) : Type 0 where
+  pub none : OnOk r (HoldsNothing new)
+  pub kept : log' ≡ log
+  pub failed : IfErr r (λ e. e ≡ Failed)

@@ -1,4 +1,5 @@
 pub mod Blank
 pub mod Follows
 pub mod Given
+pub mod Moved
 pub mod Shows

@@ -1,10 +1,7 @@
 //! An output that takes small writes together. What it was given is what the system took and what it holds still.
 
-ghost use Rattle.std.specs.Prelude.{◌≡◌, ◌<◌, ◌≤◌, ◌+◌, ◌++◌, false, length, take, replicate, IfOk, IfErr, OnOk, OnErr};
-ghost use Rattle.abt_output.specs.Given.{given_by_writer, IsSettled};
-ghost use Rattle.abt_io.specs.Count.{count_of};
-ghost use Rattle.abt_io.specs.Moment.{put_at};
-ghost use Rattle.abt_buffers.specs.Writes.{WritesOrFails};
+ghost use Rattle.std.specs.Prelude.{◌≡◌, ◌+◌, false, IfOk, OnErr};
+ghost use Rattle.abt_output.specs.Given.{given_by_writer, PutsOver, SettlesWriter, LaysZeros};
 
 use crate::sink::Sink;
 use abt_io::{DeviceFault, Log, Output, Tally};
@@ -36,10 +33,7 @@ impl Gathered {
 
     /// Sends what it holds, and writes a front of these bytes over what stands at a place. All of them have to fit there.
     pub(crate) fn put(&mut self, at: u64, bytes: &[u8]) -> Result<usize, DeviceFault>
-        ensures writes { WritesOrFails result bytes.now }
-        ensures written { IfOk result (λ n.
-            given_by_writer self.new.writer ≡ put_at (given_by_writer self.old.writer) at (take n bytes.now)) }
-        ensures kept { OnErr result (given_by_writer self.new.writer ≡ given_by_writer self.old.writer) }
+        ensures puts { PutsOver result at bytes.now self.old.writer self.new.writer }
         ensures calls { self.new.calls.number ≡ self.old.calls.number + 1 }
         ensures clean { IfOk result (λ _. self.new.faults.number ≡ self.old.faults.number) }
         ensures cause { OnErr result (self.new.faults.number ≡ self.old.faults.number + 1) }
@@ -56,10 +50,8 @@ impl Gathered {
 
     /// Has all written that was sent to the sink.
     pub(crate) fn settle(&mut self) -> Result<(), DeviceFault>
-        ensures none { OnOk result (IsSettled self.new.writer) }
-        ensures kept { given_by_writer self.new.writer ≡ given_by_writer self.old.writer }
+        ensures settles { SettlesWriter result self.old.writer self.new.writer }
         ensures faults { self.new.faults ≡ self.old.faults }
-        ensures failed { IfErr result (λ e. e ≡ DeviceFault.Failed) }
     {
         self.writer.get_mut().settle()
     }
@@ -92,10 +84,7 @@ fn given_up(writer: BufWriter<Sink>) -> Option<i32> {
 
 // Sends what a writer holds, and writes at a place.
 fn put_through(writer: &mut BufWriter<Sink>, at: u64, bytes: &[u8]) -> Result<usize, DeviceFault>
-    ensures writes { WritesOrFails result bytes.now }
-    ensures written { IfOk result
-        (λ n. given_by_writer writer.new ≡ put_at (given_by_writer writer.old) at (take n bytes.now)) }
-    ensures kept { OnErr result (given_by_writer writer.new ≡ given_by_writer writer.old) }
+    ensures { PutsOver result at bytes.now writer.old writer.new }
 {
     if writer.flush().is_err() {
         return Err(DeviceFault::Failed);
@@ -105,9 +94,7 @@ fn put_through(writer: &mut BufWriter<Sink>, at: u64, bytes: &[u8]) -> Result<us
 
 // Sends what a writer holds, and makes its file longer by a hole. How many zeros that gave it.
 fn lay_through(writer: &mut BufWriter<Sink>, n: u64) -> Result<u64, DeviceFault>
-    ensures within { count_of result ≤ n }
-    ensures written { given_by_writer writer.new ≡ given_by_writer writer.old ++ replicate (count_of result) 0 }
-    ensures failed { IfErr result (λ e. e ≡ DeviceFault.Failed) }
+    ensures { LaysZeros result n writer.old writer.new }
 {
     if writer.flush().is_err() {
         return Err(DeviceFault::Failed);

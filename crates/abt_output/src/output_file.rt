@@ -1,7 +1,7 @@
 //! An output that is written from its front on, and how it is brought to its end.
 
-ghost use Rattle.std.specs.Prelude.{◌≡◌, [], false, IfErr, IfOk, OnOk};
-ghost use Rattle.abt_output.specs.Given.{given_by_writer, IsSettled};
+ghost use Rattle.std.specs.Prelude.{◌≡◌, [], false, IfOk};
+ghost use Rattle.abt_output.specs.Given.{given_by_writer, SettlesWriter};
 ghost use Rattle.abt_io.specs.Frame.{nothing_logged};
 
 use crate::gathered::Gathered;
@@ -80,10 +80,8 @@ impl OutputFile {
     /// Has all written that a gathered file holds, but for the small writes that any output takes together. Where that
     /// cannot be done, a write is refused that came before the call at hand.
     pub fn settle(&mut self) -> Result<(), DeviceFault>
-        ensures none { OnOk result (IsSettled self.new.to.writer) }
-        ensures kept { given_by_writer self.new.to.writer ≡ given_by_writer self.old.to.writer }
+        ensures settles { SettlesWriter result self.old.to.writer self.new.to.writer }
         ensures faults { self.new.to.faults ≡ self.old.to.faults }
-        ensures failed { IfErr result (λ e. e ≡ DeviceFault.Failed) }
     {
         self.to.settle()
     }

@@ -1,6 +1,7 @@
 //! How far a command is: one line on a terminal, which is written over as the work goes on, and erased at its end.
 
 ghost use Rattle.std.specs.Prelude.{◌≡◌, ◌+◌, ◌*◌, ◌-◌, ◌^◌, min, Some, option_map, unwrap_or};
+ghost use Rattle.abt_output.specs.Moved.{Expects};
 
 use abt_io::{Meter, ToWrite, write_out};
 use abt_text::{ProgressLine, Text};
@@ -56,9 +57,8 @@ impl Progress {
 
     /// So many bytes more are to be moved, so many times.
     pub fn expect(&mut self, bytes: u64, times: u64)
-        ensures total { self.new.total ≡
-            Some (min (unwrap_or self.old.total 0 + min (bytes * times) (2 ^ 64 - 1)) (2 ^ 64 - 1)) }
-        ensures done { self.new.done ≡ self.old.done }
+        ensures { Expects (Some (min (unwrap_or self.old.total 0 + min (bytes * times) (2 ^ 64 - 1)) (2 ^ 64 - 1)))
+            self.old self.new }
     {
         let more = bytes.saturating_mul(times);
         self.total = Some(self.total.unwrap_or(0).saturating_add(more));
@@ -75,8 +75,7 @@ impl Progress {
 
     /// All that is to be moved is moved so many times.
     pub fn repeat(&mut self, times: u64)
-        ensures total { self.new.total ≡ option_map (λ n. min (n * times) (2 ^ 64 - 1)) self.old.total }
-        ensures done { self.new.done ≡ self.old.done }
+        ensures { Expects (option_map (λ n. min (n * times) (2 ^ 64 - 1)) self.old.total) self.old self.new }
     {
         if let Some(total) = self.total {
             self.total = Some(total.saturating_mul(times));
@@ -103,8 +102,7 @@ impl Progress {
 
     /// Erases the line, where it stands.
     pub fn erase(&mut self)
-        ensures done { self.new.done ≡ self.old.done }
-        ensures total { self.new.total ≡ self.old.total }
+        ensures { Expects self.old.total self.old self.new }
     {
         if self.shown.is_some() {
             self.shown = None;

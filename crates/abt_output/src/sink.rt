@@ -1,10 +1,10 @@
 //! Where bytes go, and all that was given there.
 
-ghost use Rattle.std.specs.Prelude.{◌≡◌, ◌<◌, ◌≤◌, [], Some, length, take, replicate, IfOk, IfErr, OnOk, OnErr};
+ghost use Rattle.std.specs.Prelude.{◌≡◌, ◌<◌, ◌≤◌, [], Some, length, take, replicate, IfOk, OnErr};
 ghost use Rattle.abt_io.specs.Frame.{nothing_logged, and_bytes};
 ghost use Rattle.abt_io.specs.Over.{and_put};
 ghost use Rattle.abt_buffers.specs.Writes.{WritesOrFails};
-ghost use Rattle.abt_output.specs.Follows.{Follows, HoldsNothing};
+ghost use Rattle.abt_output.specs.Follows.{Follows, SettlesTarget};
 
 use crate::target::Target;
 use abt_buffers::{HeldFile, Room, SentFile};
@@ -109,9 +109,7 @@ impl Sink {
 
     /// Has all written that it holds.
     pub(crate) fn settle(&mut self) -> Result<(), DeviceFault>
-        ensures none { OnOk result (HoldsNothing self.new.target) }
-        ensures kept { self.new.log.state ≡ self.old.log.state }
-        ensures failed { IfErr result (λ e. e ≡ DeviceFault.Failed) }
+        ensures { SettlesTarget result self.new.target self.old.log.state self.new.log.state }
     {
         match self.target.settle() {
             Ok(()) => Ok(()),

@@ -1,10 +1,9 @@
 //! What bytes are written to: a file, a raw image with holes for its zeros, what holds bytes back, or standard output.
 
-ghost use Rattle.std.specs.Prelude.{◌≡◌, ◌<◌, ◌≤◌, ◌++◌, ℕ, List, length, take, replicate, IfOk, OnOk, OnErr};
-ghost use Rattle.abt_io.specs.Moment.{put_at};
+ghost use Rattle.std.specs.Prelude.{◌≡◌, ◌<◌, ◌≤◌, ◌++◌, ℕ, List, length, replicate, IfOk, OnOk};
 ghost use Rattle.std.specs.Io.{WritesAtMost};
 ghost use Rattle.abt_buffers.specs.Writes.{WritesSome};
-ghost use Rattle.abt_output.specs.Follows.{Follows, HoldsNothing, PutsFront};
+ghost use Rattle.abt_output.specs.Follows.{Follows, HoldsNothing, PutsFront, PutsBelow};
 
 use abt_buffers::{HeldFile, SentFile};
 use abt_io::Log;
@@ -65,10 +64,7 @@ impl Target {
 
     /// One write over what stands at a place. Why the call failed, by its number, where it did.
     pub(crate) fn put_over(&mut self, at: u64, bytes: &[u8]) -> Result<usize, Option<i32>>
-        ensures writes { WritesSome result bytes.now }
-        ensures taken { IfOk result (λ n. (given : List ℕ) → Follows self.old given
-            → Follows self.new (put_at given at (take n bytes.now))) }
-        ensures kept { OnErr result ((given : List ℕ) → Follows self.old given → Follows self.new given) }
+        ensures { PutsBelow result at bytes.now self.old self.new }
     {
         match self {
             Target::File(file) => write_over(file, at, bytes),

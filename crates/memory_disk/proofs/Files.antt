@@ -1,6 +1,6 @@
 -- What paths lead to and files hold after one of them was written, or made.
 use Rattle.std.proofs.Common.{arith, zero, suc, drop, ◌+◌, ◌≡◌, ◌≢◌, ℕ, ◌<◌, ◌≤◌, List, [], ◌∷◌, ◌++◌, Option, Some}
-use Rattle.std.proofs.Common.{None, refl, sym, ◌∙◌, ap, subst}
+use Rattle.std.proofs.Common.{None, Err, refl, sym, ◌∙◌, ap, subst}
 use Rattle.std.specs.Prelude.{Contains, get_or, set, length, cond, bytes_eq, string_bytes, Bool, true, false}
 use Rattle.std.proofs.lemmas.List.{map-set, map-append, get_or-set_same, get_or-set_other, drop_all}
 use Rattle.std.proofs.lemmas.List.{length-map}
@@ -9,10 +9,11 @@ use Rattle.std.proofs.lemmas.Option.{none-some}
 use Rattle.std.proofs.lemmas.Bool.{cond-true, cond-false}
 use Rattle.std.proofs.lemmas.Slice.Eq.{bytes_eq-Decides}
 use Rattle.memory_disk.specs.Memory.{contents, leads, world_of_files, world_of, held_of, Untouched, RefusesAt}
+use Rattle.memory_disk.specs.Memory.{CountsFailed}
+use Rattle.abt_disk.specs.DiskCalls.{CreatesOutput}
 use Rattle.abt_disk.specs.Images.{HoldsSame}
 use Rattle.abt_disk.specs.World.{World, Spares, Ends, SparesRest, OnlyAt, untouched, in_output, KeepsBegun}
-use Rattle.abt_disk.specs.World.{Creates, Held, creating}
-use Rattle.abt_disk.proofs.Worlds.{spares_trans}
+use Rattle.abt_disk.specs.World.{Held, failing}
 use Rattle.memory_disk.specs.declared.disk.MemoryDisk.{MemoryDisk}
 use Rattle.memory_disk.specs.declared.disk.MemoryFile.{MemoryFile}
 use Rattle.memory_disk.specs.declared.disk.MemoryPath.{MemoryPath}
@@ -155,19 +156,6 @@ only_path read path ps ps' q fs fs' e d none named free =
     (subst (λ l. Spares q.file (world_of_files ps fs) (world_of_files (ps ++ (q ∷ [])) l)) (sym d)
     (spares_path ps q fs q.file)))
 
--- a file was made, and then begun
-pub begun_created : (path : List ℕ) (file : ℕ) (h h' h'' : Held) (a b c : World) → h' ≡ h → b.at path ≡ Some file
-    → Spares file a b → ¬ Contains h.read file → h'' ≡ creating file h' → ¬ Contains h'.begun file
-    → Spares file b c → Creates path h h'' a c
-begun_created path file h h' h'' a b c same there made free begins fresh spares = record {
-  file = file;
-  begins = begins ∙ ap (creating file) same;
-  there = spares.paths path file there;
-  free = free;
-  fresh = subst (λ k. ¬ Contains k.begun file) same fresh;
-  spares = spares_trans file a b c made spares;
-}
-
 -- nothing is changed after that
 pub only_then : (read path : List ℕ) (a b c : World) → c ≡ b → OnlyAt read path a b → OnlyAt read path a c
 only_then read path a b c e only = subst (λ w. OnlyAt read path a w) (sym e) only
@@ -204,3 +192,16 @@ refuses_at path path' old old' new held same e refused = record {
 -- no file that was begun has changed then
 pub begun_then : (begun : List ℕ) (a b c : World) → c ≡ b → HoldsSame a b → KeepsBegun begun a c
 begun_then begun a b c e same = λ f _. ap (λ w. w.holds f) e ∙ same f
+
+-- and the refusal is counted
+pub creates_path : {A F : Type 0} (e : F) (path : List ℕ) (written : A → List ℕ) (faults : A → ℕ) (a b c : MemoryDisk)
+    → RefusesAt path a b → CountsFailed 1 b c
+    → CreatesOutput true (Err e) path written faults (held_of a) (held_of c) (world_of a) (world_of c)
+creates_path e path written faults a b c refused counted = record {
+  empty = tt;
+  clean = λ _. tt;
+  created = λ _. tt;
+  kept = λ _. counted.held ∙ ap (failing 1) refused.kept;
+  only = λ _. only_then a.read.items path (world_of a) (world_of b) (world_of c) counted.world refused.only;
+  begun = λ _. begun_then a.begun.items (world_of a) (world_of b) (world_of c) counted.world refused.same;
+}

@@ -1,8 +1,7 @@
 -- What an image leaves in its file.
-use Rattle.std.proofs.Common.{inl, inr, arith, ◌≡◌, ℕ, ◌<◌, ◌≤◌, List, [], ◌∷◌, ◌++◌, Option, Some, sym, ◌∙◌, ap, subst}
+use Rattle.std.proofs.Common.{inl, ◌≡◌, ℕ, ◌<◌, List, [], ◌∷◌, ◌++◌, Option, Some, sym, ◌∙◌, ap, subst}
 use Rattle.std.specs.Prelude.{get_or, set, length}
-use Rattle.std.proofs.lemmas.List.{get_or_past, length-map}
-use Rattle.abt_disk.specs.Images.{Leaves, HoldsSame, EmptiesAt, HasNoFront}
+use Rattle.abt_disk.specs.Images.{Leaves, HoldsSame, EmptiesAt}
 use Rattle.memory_disk.specs.Memory.{contents, world_of_files}
 use Rattle.abt_disk.specs.World.{World}
 use Rattle.memory_disk.specs.declared.disk.MemoryFile.{MemoryFile}
@@ -14,17 +13,6 @@ pub left_put : (o : Option ℕ) (file : ℕ) (ps : List MemoryPath) (fs : List M
     → file < length fs → Leaves o x.bytes.items (world_of_files ps (set fs file x))
 left_put o file ps fs x e below =
     subst (λ o. Leaves o x.bytes.items (world_of_files ps (set fs file x))) (sym e) (inl (holds_new fs file x below))
-
-nothing_torn : (x : List ℕ) → x ≡ [] → HasNoFront x
-nothing_torn x e = subst HasNoFront (sym e) (inl (omega arith))
-
--- no such file is there
-pub left_absent : (o : Option ℕ) (file : ℕ) (bytes : List ℕ) (ps : List MemoryPath) (fs : List MemoryFile)
-    → o ≡ Some file → length fs ≤ file → Leaves o bytes (world_of_files ps fs)
-left_absent o file bytes ps fs e past =
-    subst (λ o. Leaves o bytes (world_of_files ps fs)) (sym e)
-    (inr (nothing_torn _ (get_or_past (contents fs) file []
-    (subst (λ n. n ≤ file) (sym (length-map fs (λ y. y.bytes.items))) past))))
 
 -- a file was made
 pub same_made : (ps ps' : List MemoryPath) (fs fs' : List MemoryFile) (x : MemoryFile) → fs' ≡ fs ++ (x ∷ [])

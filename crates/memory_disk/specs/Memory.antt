@@ -1,8 +1,8 @@
 -- The files of a disk in memory.
 use Rattle.std.specs.Prelude.{◌≡◌, ℕ, ◌<◌, ◌≤◌, ◌-◌, List, [], ◌∷◌, Option, Some, None, Contains, cond}
-use Rattle.std.specs.Prelude.{bytes_eq, string_bytes, map, get_or, Result, OnOk, OnErr, length, take, drop}
+use Rattle.std.specs.Prelude.{bytes_eq, string_bytes, map, get_or, Result, IfOk, OnOk, OnErr, length, take, drop}
 use Rattle.abt_disk.specs.Images.{HoldsSame}
-use Rattle.abt_disk.specs.World.{World, Held, Spares, Creates, OnlyAt, failing}
+use Rattle.abt_disk.specs.World.{World, Held, Spares, OpensFile, Creates, OnlyAt, failing}
 use Rattle.memory_disk.specs.declared.disk.MemoryDisk.{MemoryDisk}
 use Rattle.memory_disk.specs.declared.disk.MemoryFile.{MemoryFile}
 use Rattle.memory_disk.specs.declared.disk.MemoryPath.{MemoryPath}
@@ -60,8 +60,26 @@ pub record CountsFailed (n : ℕ) (old new : MemoryDisk) : Type 0 where
   pub held : held_of new ≡ failing n (held_of old)
   pub world : world_of new ≡ world_of old
 
+-- this file is begun, and holds these bytes: it is none that is read or was begun, and all others are as before
+pub record Fills {X E : Type 0} (r : Result X E) (file : ℕ) (bytes : List ℕ) (old new : MemoryDisk) : Type 0 where
+  pub held : OnOk r (held_of new ≡ with_file_begun file (held_of old))
+  pub refused : OnErr r (Untouched old new)
+  pub free : OnOk r (¬ Contains old.read.items file)
+  pub fresh : OnOk r (¬ Contains old.begun.items file)
+  pub holds : OnOk r ((world_of new).holds file ≡ bytes)
+  pub spares : OnOk r (Spares file (world_of old) (world_of new))
+  pub paths : new.paths ≡ old.paths
+
 -- no file has changed, and where the call is refused nothing was opened
 pub record OpensOnly {X E : Type 0} (r : Result X E) (old new : MemoryDisk) : Type 0 where
+  pub kept : OnErr r (held_of new ≡ held_of old)
+  pub world : world_of new ≡ world_of old
+
+-- the same where what is opened is the file at this path, and has not failed yet
+pub record OpensMemory {A E : Type 0} (r : Result A E) (path : List ℕ) (its_bytes : A → List ℕ)
+    (its_failed : A → Failures) (old new : MemoryDisk) : Type 0 where
+  pub opened : IfOk r (λ a. OpensFile (world_of old) path (its_bytes a) (held_of old) (held_of new))
+  pub clean : IfOk r (λ a. (its_failed a).tally.number ≡ 0)
   pub kept : OnErr r (held_of new ≡ held_of old)
   pub world : world_of new ≡ world_of old
 

@@ -1,10 +1,9 @@
 //! How a disk in memory creates a file, or empties it, and closes one.
 
-ghost use Rattle.std.specs.Prelude.{◌≡◌, [], Some, None, string_bytes, IsTrue, IfOk, OnOk, OnErr, Contains, false};
+ghost use Rattle.std.specs.Prelude.{◌≡◌, [], Some, None, string_bytes, IsTrue, IfOk, OnErr, Contains, false};
 ghost use Rattle.abt_disk.specs.Images.{HoldsSame, Leaves};
 ghost use Rattle.abt_disk.specs.World.{OnlyAt, Spares, Ends, SparesRest, ended};
-ghost use Rattle.memory_disk.specs.Memory.{leads, world_of, held_of, with_file_begun, Starts};
-ghost use Rattle.memory_disk.specs.Memory.{Untouched, RefusesAt, OpensOutput};
+ghost use Rattle.memory_disk.specs.Memory.{leads, world_of, held_of, Starts, Fills, RefusesAt, OpensOutput};
 
 use crate::disk::{MemoryDisk, MemoryFile, MemoryPath};
 use abt_refusals::HostFault;
@@ -50,13 +49,7 @@ impl MemoryDisk {
 
     // Begins a file that is there, which holds these bytes then.
     fn fill(&mut self, file: u64, bytes: Vec<u8>) -> Result<(), HostFault>
-        ensures held { OnOk result (held_of self.new ≡ with_file_begun file (held_of self.old)) }
-        ensures refused { OnErr result (Untouched self.old self.new) }
-        ensures free { OnOk result (¬ Contains self.old.read.items file) }
-        ensures fresh { OnOk result (¬ Contains self.old.begun.items file) }
-        ensures holds { OnOk result ((world_of self.new).holds file ≡ bytes.items) }
-        ensures spares { OnOk result (Spares file (world_of self.old) (world_of self.new)) }
-        ensures paths { self.new.paths ≡ self.old.paths }
+        ensures { Fills result file bytes.items self.old self.new }
     {
         if self.is_taken(file) {
             return Err(HostFault::SameFile);

@@ -4,6 +4,7 @@ ghost use Rattle.std.specs.Prelude.{◌≡◌, [], None, IfOk, OnOk, OnErr, Cont
 ghost use Rattle.abt_refusals.specs.Paths.{path_of, path_out};
 ghost use Rattle.abt_disk.specs.Images.{is_file, is_over, OfImage, EmptiesAt};
 ghost use Rattle.abt_disk.specs.World.{IsFree};
+ghost use Rattle.memory_disk.specs.Made.{CreatesMemory};
 ghost use Rattle.memory_disk.specs.Memory.{world_of, held_of, OpensOutput, IsUnused};
 
 use crate::{MemoryDisk, MemoryImage, MemoryOutput};
@@ -38,8 +39,7 @@ impl MemoryDisk {
     // Creates or empties a file.
     pub(crate) fn plain_at<'a>(&mut self, place: Place<'a>) -> Result<MemoryOutput, HostRefusal<'a>>
         requires { self.old.output ≡ None }
-        ensures unused { IfOk result (λ onto. IsUnused [] onto.bytes.items onto.failed) }
-        ensures begins { OpensOutput result (path_of place.entry) self.old self.new }
+        ensures { CreatesMemory result (path_of place.entry) self.old self.new }
     {
         if self.faults.calls.is_over() {
             return Err(HostRefusal::at(HostFault::CannotOpen, place, None));
@@ -56,8 +56,7 @@ impl MemoryDisk {
     // Creates or empties the file of a raw image.
     pub(crate) fn raw_at<'a>(&mut self, place: Place<'a>) -> Result<MemoryOutput, HostRefusal<'a>>
         requires { self.old.output ≡ None }
-        ensures unused { IfOk result (λ onto. IsUnused [] onto.bytes.items onto.failed) }
-        ensures begins { OpensOutput result (path_out place.entry) self.old self.new }
+        ensures { CreatesMemory result (path_out place.entry) self.old self.new }
     {
         if self.faults.calls.is_over() {
             return Err(HostRefusal::at(HostFault::CannotOpen, place, None));

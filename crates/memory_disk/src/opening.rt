@@ -3,7 +3,7 @@
 ghost use Rattle.std.specs.Prelude.{◌≡◌, string_bytes, IfOk, OnErr};
 ghost use Rattle.abt_refusals.specs.Paths.{path_in, path_of};
 ghost use Rattle.abt_disk.specs.World.{OpensFile};
-ghost use Rattle.memory_disk.specs.Memory.{world_of, held_of, Untouched, OpensOnly, IsUnused};
+ghost use Rattle.memory_disk.specs.Memory.{world_of, held_of, Untouched, OpensMemory, OpensOnly, IsUnused};
 
 use crate::{MemoryDisk, MemoryInput, MemorySource};
 use abt_refusals::{HostFault, HostRefusal, Place};
@@ -14,11 +14,9 @@ const TEXT: usize = 1 << 20;
 impl MemoryDisk {
     // Opens what is read forward.
     pub(crate) fn input_at<'a>(&mut self, place: Place<'a>) -> Result<MemoryInput, HostRefusal<'a>>
-        ensures opened { IfOk result (λ from. OpensFile (world_of self.old) (path_in place.entry) from.bytes.items
-            (held_of self.old) (held_of self.new)) }
         ensures position { IfOk result (λ from. from.position ≡ 0) }
-        ensures clean { IfOk result (λ from. from.failed.tally.number ≡ 0) }
-        ensures leaves { OpensOnly result self.old self.new }
+        ensures opens { OpensMemory result (path_in place.entry) (λ from. from.bytes.items) (λ from. from.failed) self.old
+            self.new }
     {
         if self.faults.calls.is_over() {
             return Err(HostRefusal::at(HostFault::CannotOpen, place, None));
@@ -43,10 +41,7 @@ impl MemoryDisk {
         &mut self,
         place: Place<'a>,
     ) -> Result<MemorySource, HostRefusal<'a>>
-        ensures opened { IfOk result (λ at. OpensFile (world_of self.old) (path_of place.entry) at.bytes.items
-            (held_of self.old) (held_of self.new)) }
-        ensures clean { IfOk result (λ at. at.failed.tally.number ≡ 0) }
-        ensures leaves { OpensOnly result self.old self.new }
+        ensures { OpensMemory result (path_of place.entry) (λ at. at.bytes.items) (λ at. at.failed) self.old self.new }
     {
         if self.faults.calls.is_over() {
             return Err(HostRefusal::at(HostFault::CannotOpen, place, None));

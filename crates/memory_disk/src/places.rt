@@ -1,11 +1,12 @@
 //! How a disk in memory opens what is written in place, and closes it.
 
-ghost use Rattle.std.specs.Prelude.{◌≡◌, None, IfOk, OnOk, OnErr, length, replicate, if◌then◌else◌};
+ghost use Rattle.std.specs.Prelude.{◌≡◌, None, IfOk, length, replicate, if◌then◌else◌};
 ghost use Rattle.abt_io.specs.Moment.{no_past};
 ghost use Rattle.abt_refusals.specs.Paths.{path_of};
-ghost use Rattle.abt_disk.specs.InPlace.{OpensPart, MakesZeros, IsAsLong, closed_part};
+ghost use Rattle.abt_disk.specs.InPlace.{OpensPart, IsAsLong, closed_part};
 ghost use Rattle.abt_disk.specs.World.{Spares, Ends, SparesRest};
-ghost use Rattle.memory_disk.specs.Memory.{world_of, held_of, OpensOnly, RefusesAt, IsUnused};
+ghost use Rattle.memory_disk.specs.Made.{MakesMemory};
+ghost use Rattle.memory_disk.specs.Memory.{world_of, held_of, OpensOnly, IsUnused};
 
 use crate::{MemoryDisk, MemoryFile, MemoryPartition};
 use abt_refusals::{HostFault, HostRefusal, Place};
@@ -50,11 +51,7 @@ impl MemoryDisk {
         place: Place<'a>,
         bytes: u64,
     ) -> Result<MemoryPartition, HostRefusal<'a>>
-        ensures made { OnOk result (MakesZeros bytes (path_of place.entry) (held_of self.old) (held_of self.new)
-            (world_of self.old) (world_of self.new)) }
-        ensures zeros { IfOk result (λ part. part.bytes.items ≡ replicate bytes 0) }
-        ensures unused { IfOk result (λ part. IsUnused no_past part.history.past part.failed) }
-        ensures refused { OnErr result (RefusesAt (path_of place.entry) self.old self.new) }
+        ensures { MakesMemory result bytes (path_of place.entry) self.old self.new }
     {
         if self.faults.calls.is_over() {
             return Err(HostRefusal::at(HostFault::CannotOpen, place, None));

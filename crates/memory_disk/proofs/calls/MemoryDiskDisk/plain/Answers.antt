@@ -1,10 +1,5 @@
-use Rattle.memory_disk.specs.Memory.{world_of}
-use Rattle.memory_disk.proofs.Files.{only_then, begun_then}
+use Rattle.memory_disk.proofs.Files.{creates_path}
 use Rattle.memory_disk.proofs.calls.MemoryDiskDisk.plain.Goals as goal
 
-pub returns-in-Err-clause-only : goal.returns-in-Err-clause-only
-returns-in-Err-clause-only c = λ _. only_then _ _ _ _ _ c.refused.ensures.world c.in-Err.ensures.begins.refused.only
-
-pub returns-in-Err-clause-begun : goal.returns-in-Err-clause-begun
-returns-in-Err-clause-begun c = λ _. begun_then _ (world_of c.args.self.now) (world_of c.plain_at.new.self)
-    (world_of c.refused.new.self) c.refused.ensures.world c.in-Err.ensures.begins.refused.same
+pub returns-in-Err : goal.returns-in-Err
+returns-in-Err c = creates_path _ _ _ _ _ _ _ c.in-Err.ensures.begins.refused c.refused.ensures

@@ -1,10 +1,14 @@
-use Rattle.std.proofs.Common.{arith}
+use Rattle.std.proofs.Common.{arith, rules}
 use Rattle.memory_disk.proofs.Files.{holds_new, spares_set}
 use Rattle.memory_disk.proofs.disk.MemoryDisk.fill.Goals as goal
 
-pub returns-clause-holds : goal.returns-clause-holds
-returns-clause-holds c =
-    holds_new c.args.self.now.files.items c.args.file _ (omega (arith, c.if-file-len.false, c.len.ensures))
-
-pub returns-clause-spares : goal.returns-clause-spares
-returns-clause-spares c = spares_set _ _ _ _
+pub returns : goal.returns
+returns c = record {
+  held = search rules;
+  refused = tt;
+  free = search rules;
+  fresh = search rules;
+  holds = holds_new c.args.self.now.files.items c.args.file _ (omega (arith, c.if-file-len.false, c.len.ensures));
+  spares = spares_set _ _ _ _;
+  paths = search rules;
+}
