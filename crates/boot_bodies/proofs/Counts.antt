@@ -1,5 +1,5 @@
 -- How often outputs were synced, and calls failed.
-use Rattle.std.proofs.Common.{◌≡◌, ℕ, ◌+◌, ◌<◌, ◌≤◌, List, Bool, true, false, refl, sym, ◌∙◌, ap, subst, arith}
+use Rattle.std.proofs.Common.{◌≡◌, ℕ, ◌+◌, ◌<◌, ◌≤◌, List, Bool, true, false, refl, sym, ◌∙◌, ap, arith}
 use Rattle.std.specs.Prelude.{if◌then◌else◌}
 use Rattle.std.proofs.lemmas.Bool.{true≢false}
 use Rattle.abt_disk.specs.World.{World, Held, OpensFile, Creates, ended, failing}
@@ -44,23 +44,20 @@ syncs_within path bytes w m n h h' g h'' k opens free syncs let_go = record {
 }
 
 -- of all parts, where no words are wanted, and where they are
-pub syncs_all : (with_words : Bool) (m n : ℕ) (h h' : Held) → with_words ≡ false → SyncsMore (m + n) h h'
-    → SyncsMore (m + n + (if with_words then 1 else 0)) h h'
-syncs_all true m n h h' none syncs = absurd (true≢false none)
-syncs_all false m n h h' none syncs =
-    let same : m + n ≡ m + n + 0 = omega arith in
-    subst (λ k. SyncsMore k h h') same syncs
+pub no_words : (with_words : Bool) (n : ℕ) → with_words ≡ false → n ≡ n + (if with_words then 1 else 0)
+no_words true n none = absurd (true≢false none)
+no_words false n none = omega arith
 
-pub syncs_words : (with_words : Bool) (m n : ℕ) (h h' : Held) → with_words ≡ true → SyncsMore (m + n + 1) h h'
-    → SyncsMore (m + n + (if with_words then 1 else 0)) h h'
-syncs_words true m n h h' wanted syncs = syncs
-syncs_words false m n h h' wanted syncs = absurd (true≢false (sym wanted))
+pub and_words : (with_words : Bool) (n : ℕ) → with_words ≡ true → n + 1 ≡ n + (if with_words then 1 else 0)
+and_words true n wanted = refl
+and_words false n wanted = absurd (true≢false (sym wanted))
 
 -- ---- what failed
 
 -- the output could not be created
 pub none_created : (h h' : Held) (r : ℕ) → h' ≡ failing 1 h → SomeFailed h r h' r
-none_created h h' r same = let e : h'.failed ≡ h.failed + 1 = ap (λ q. q.failed) same in record { rises = omega (arith, e) }
+none_created h h' r same = let e : h'.failed ≡ h.failed + 1 = ap (λ q. q.failed) same in record
+    { rises = omega (arith, e) }
 
 -- a copy failed, and the output counts it
 pub copy_failed : (path : List ℕ) (h h' h'' : Held) (u v : World) (r r' w w' : ℕ) → Creates path h h' u v → w ≡ 0
@@ -85,7 +82,8 @@ part_clean path h h' h'' u v r r' w w' made empty same done =
     record { stays = omega (arith, e, d, empty, same) }
 
 -- one step behind another
-pub none_then : (h h' h'' : Held) (r r' r'' : ℕ) → NoMoreFailed h r h' r' → NoMoreFailed h' r' h'' r'' → NoMoreFailed h r h'' r''
+pub none_then : (h h' h'' : Held) (r r' r'' : ℕ) → NoMoreFailed h r h' r' → NoMoreFailed h' r' h'' r'' → NoMoreFailed h
+    r h'' r''
 none_then h h' h'' r r' r'' first next = record { stays = next.stays ∙ first.stays }
 
 pub some_then : (h h' h'' : Held) (r r' r'' : ℕ) → NoMoreFailed h r h' r' → SomeFailed h' r' h'' r''

@@ -2,4 +2,5 @@ pub mod Causes
 pub mod Counts
 pub mod Loops
 pub mod Shown
+pub mod Steps
 pub mod Wholes

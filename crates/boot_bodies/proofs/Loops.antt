@@ -1,18 +1,19 @@
 -- One part more, and all of them.
-use Rattle.std.proofs.Common.{◌≡◌, ◌⊎◌, inl, inr, ℕ, ◌+◌, ◌<◌, Bool, IsTrue, List, [], ◌++◌, Some, length, sym, ◌∙◌, ap, subst, below_more, arith}
+use Rattle.std.proofs.Common.{◌≡◌, ℕ, ◌+◌, ◌<◌, ◌≤◌, Bool, IsTrue, List, [], ◌++◌, length, sym, ◌∙◌, ap, subst}
+use Rattle.std.proofs.Common.{arith, below_more}
 use Rattle.std.specs.Prelude.{slice_index_or}
 use Rattle.abt_headers.specs.declared.sections.Place.{Place}
 use Rattle.abt_disk.specs.World.{World, Held, Creates, Ends, ended, failing}
 use Rattle.abt_sections.specs.Header.{Header, places_of, fragment_count, fragment_of}
 use Rattle.abt_sections.specs.Layout.{part_of}
 use Rattle.boot_rules.specs.declared.part_names.Part.TheVariants as parts
-use Rattle.abt_disk.specs.Among.{GoesAmong, IsAmong, IsMade, KeepsMade}
-use Rattle.boot_bodies.specs.Unpacking.{FragmentsDone, SectionsDone, WordsDone, path_of_part, section_part}
+use Rattle.abt_disk.specs.Among.{GoesAmong, IsMade, KeepsMade}
+use Rattle.boot_bodies.specs.Unpacking.{FragmentsDone, SectionsDone, path_of_part, section_part}
 use Rattle.boot_bodies.specs.Unpacking.{PartsBegun, up_to_section, up_to_fragment, up_to_words}
 use Rattle.boot_bodies.specs.Unpacking.{IsFirstPath, IsFragmentPath, IsSectionPath, of_section, of_fragment, of_words}
 use Rattle.boot_bodies.specs.Unpacking.{PartsLeft, in_fragments, in_sections, in_words}
 use Rattle.std.proofs.lemmas.List.{get_or_default}
-use Rattle.abt_disk.proofs.Amongs.{goes_more, goes_then, made_later, made_written}
+use Rattle.abt_disk.proofs.Amongs.{goes_more, made_later, made_written}
 
 pub goes_section : (folder : List ℕ) (s f : ℕ) (with_words : Bool) (header : Header) (h h' : Held) (a b : World)
     → GoesAmong (IsSectionPath folder header s) h h' a b → GoesAmong (IsFirstPath folder header s f with_words) h h' a b
@@ -29,55 +30,47 @@ pub goes_words : (folder : List ℕ) (s f : ℕ) (with_words : Bool) (header : H
 goes_words folder s f with_words header h h' a b wanted goes =
     goes_more _ _ h h' a b (λ p named. of_words wanted named) goes
 
--- behind the first i of them, whatever comes of the next
-pub section_more : (folder : List ℕ) (header : Header) (i : ℕ) (h h' h'' : Held) (a b c : World)
-    → GoesAmong (IsSectionPath folder header i) h h' a b → GoesAmong (IsSectionPath folder header (i + 1)) h' h'' b c
-    → GoesAmong (IsSectionPath folder header (i + 1)) h h'' a c
-section_more folder header i h h' h'' a b c first next =
-    goes_then _ h h' h'' a b c
-    (goes_more _ _ h h' a b (λ p named. record {
-      index = named.index;
-      place = named.place;
-      below = omega (arith, named.below);
-      there = named.there;
-      found = named.found;
-      is_path = named.is_path;
-    }) first) next
+-- they are among more of them, and among all
+pub section_under : {folder : List ℕ} {header : Header} {m n : ℕ} → m ≤ n → (p : List ℕ) → IsSectionPath folder header m
+    p
+    → IsSectionPath folder header n p
+section_under more p named = record {
+  index = named.index;
+  place = named.place;
+  below = omega (arith, named.below, more);
+  there = named.there;
+  found = named.found;
+  is_path = named.is_path;
+}
 
-pub fragment_more : (folder : List ℕ) (header : Header) (i : ℕ) (h h' h'' : Held) (a b c : World)
-    → GoesAmong (IsFragmentPath folder header i) h h' a b → GoesAmong (IsFragmentPath folder header (i + 1)) h' h'' b c
-    → GoesAmong (IsFragmentPath folder header (i + 1)) h h'' a c
-fragment_more folder header i h h' h'' a b c first next =
-    goes_then _ h h' h'' a b c
-    (goes_more _ _ h h' a b (λ p named. record {
-      index = named.index;
-      below = omega (arith, named.below);
-      there = named.there;
-      is_path = named.is_path;
-    }) first) next
-
--- they are among all
-pub section_any : (folder : List ℕ) (header : Header) (m : ℕ) (h h' : Held) (a b : World)
-    → GoesAmong (IsSectionPath folder header m) h h' a b
-    → GoesAmong (IsSectionPath folder header (length (places_of header))) h h' a b
-section_any folder header m h h' a b goes = goes_more _ _ h h' a b (λ p named. record {
+pub section_any : {folder : List ℕ} {header : Header} {m : ℕ} (p : List ℕ) → IsSectionPath folder header m p
+    → IsSectionPath folder header (length (places_of header)) p
+section_any p named = record {
   index = named.index;
   place = named.place;
   below = named.there;
   there = named.there;
   found = named.found;
   is_path = named.is_path;
-}) goes
+}
 
-pub fragment_any : (folder : List ℕ) (header : Header) (m : ℕ) (h h' : Held) (a b : World)
-    → GoesAmong (IsFragmentPath folder header m) h h' a b
-    → GoesAmong (IsFragmentPath folder header (fragment_count header)) h h' a b
-fragment_any folder header m h h' a b goes = goes_more _ _ h h' a b (λ p named. record {
+pub fragment_under : {folder : List ℕ} {header : Header} {m n : ℕ} → m ≤ n → (p : List ℕ)
+    → IsFragmentPath folder header m p → IsFragmentPath folder header n p
+fragment_under more p named = record {
+  index = named.index;
+  below = omega (arith, named.below, more);
+  there = named.there;
+  is_path = named.is_path;
+}
+
+pub fragment_any : {folder : List ℕ} {header : Header} {m : ℕ} (p : List ℕ) → IsFragmentPath folder header m p
+    → IsFragmentPath folder header (fragment_count header) p
+fragment_any p named = record {
   index = named.index;
   below = named.there;
   there = named.there;
   is_path = named.is_path;
-}) goes
+}
 
 pub sections_later : (folder : List ℕ) (header : Header) (x : List ℕ) (n : ℕ) (h h' : Held) (a b : World)
     → KeepsMade h h' a b → SectionsDone folder header x n h a → SectionsDone folder header x n h' b
@@ -108,7 +101,8 @@ fragments_more folder header x y n h h' a b same kept done next =
     (fragments_later folder header x n h h' a b kept done)
     (subst (λ z. IsMade h' b (path_of_part folder (parts.Fragment n)) (fragment_of z header n)) same next)
 
-pub no_sections : (folder : List ℕ) (header : Header) (x : List ℕ) (h : Held) (w : World) → SectionsDone folder header x 0 h w
+pub no_sections : (folder : List ℕ) (header : Header) (x : List ℕ) (h : Held) (w : World) → SectionsDone folder header x
+    0 h w
 no_sections folder header x h w = λ k below. absurd (omega (arith, below))
 
 pub no_fragments : (folder : List ℕ) (header : Header) (x : List ℕ) (h : Held) (w : World)
@@ -116,7 +110,8 @@ pub no_fragments : (folder : List ℕ) (header : Header) (x : List ℕ) (h : Hel
 no_fragments folder header x h w = λ k below. absurd (omega (arith, below))
 
 -- what stands does so where only a count has risen
-done_failing : (path bytes : List ℕ) (h : Held) (n : ℕ) (w : World) → IsMade h w path bytes → IsMade (failing n h) w path bytes
+done_failing : (path bytes : List ℕ) (h : Held) (n : ℕ) (w : World) → IsMade h w path bytes → IsMade (failing n h) w
+    path bytes
 done_failing path bytes h n w done = record {
   file = done.file;
   there = done.there;
@@ -135,11 +130,13 @@ begun_failing folder with_words header x h n w (up_to_words wanted sections frag
     up_to_words wanted (λ k under p found. done_failing _ _ h n w (sections k under p found))
     (λ k under. done_failing _ _ h n w (fragments k under)) (done_failing _ _ h n w words)
 
-pub begun_later : (folder : List ℕ) (with_words : Bool) (header : Header) (x : List ℕ) (h k : Held) (n : ℕ) (c d : World)
+pub begun_later : (folder : List ℕ) (with_words : Bool) (header : Header) (x : List ℕ) (h k : Held) (n : ℕ)
+    (c d : World)
     → k ≡ failing n h → d ≡ c → PartsBegun folder with_words header x h c → PartsBegun folder with_words header x k d
 begun_later folder with_words header x h k n c d let_go same begun =
     subst (λ w. PartsBegun folder with_words header x k w) (sym same)
-    (subst (λ q. PartsBegun folder with_words header x q c) (sym let_go) (begun_failing folder with_words header x h n c begun))
+    (subst (λ q. PartsBegun folder with_words header x q c) (sym let_go)
+    (begun_failing folder with_words header x h n c begun))
 
 -- and so do those before a refusal
 done_let_go : (path bytes : List ℕ) (h k : Held) (n : ℕ) (c d : World) → k ≡ failing n h → d ≡ c → IsMade h c path bytes
@@ -185,7 +182,8 @@ fragment_named folder header i path there is_path =
     record { index = i; below = omega arith; there = there; is_path = is_path }
 
 -- an output that was created empty, written, and brought to its end
-pub part_done : (path path' before after bytes : List ℕ) (b : Bool) (n : ℕ) (h h' h'' : Held) (u v w : World) → path ≡ path'
+pub part_done : (path path' before after bytes : List ℕ) (b : Bool) (n : ℕ) (h h' h'' : Held) (u v w : World) → path
+    ≡ path'
     → before ≡ [] → after ≡ before ++ bytes → Creates path h h' u v → h'' ≡ ended b n h' → Ends h'.output after v w
     → IsMade h'' w path' bytes
 part_done path path' before after bytes b n h h' h'' u v w is_path empty written made closed ends =

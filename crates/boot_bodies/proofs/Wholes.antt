@@ -1,5 +1,5 @@
 -- What a whole run leaves, behind the image that it opened.
-use Rattle.std.proofs.Common.{◌≡◌, ℕ, ◌+◌, Bool, IsTrue, List, [], Some, length, refl, sym, ◌∙◌, ap, subst, arith}
+use Rattle.std.proofs.Common.{◌≡◌, ℕ, ◌+◌, Bool, IsTrue, List, [], length, refl, sym, ◌∙◌, ap, subst, arith}
 use Rattle.std.specs.Prelude.{unwrap_or}
 use Rattle.abt_disk.specs.World.{World, Held, OpensFile, KeepsFile, failing}
 use Rattle.abt_sections.specs.Header.{Header, view_of, places_of, fragment_count, fragment_of}
@@ -10,7 +10,8 @@ use Rattle.boot_rules.specs.declared.part_names.Part.TheVariants as parts
 use Rattle.boot_texts.specs.Words.{image_words, words_text}
 use Rattle.abt_disk.specs.Among.{GoesAmong, OnlyAmong, FileHolds}
 use Rattle.boot_bodies.specs.Unpacking.{FragmentsDone, SectionsDone, WordsDone, path_of_part, section_part}
-use Rattle.boot_bodies.specs.Unpacking.{IsPartOf, IsPartPath, PartsBegun, PartsStand, SyncsMore, SyncsParts, Unpacks, part_total}
+use Rattle.boot_bodies.specs.Unpacking.{IsPartOf, IsPartPath, PartsBegun, PartsStand, SyncsMore, SyncsParts, Unpacks}
+use Rattle.boot_bodies.specs.Unpacking.{part_total}
 use Rattle.boot_bodies.specs.Unpacking.{LeavesParts, PartsLeft, first_parts}
 use Rattle.boot_bodies.specs.Lines.{told_parts}
 use Rattle.abt_disk.proofs.Amongs.{among_behind, goes_more, goes_none, goes_then, kept_beside, stands}

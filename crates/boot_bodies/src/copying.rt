@@ -1,6 +1,6 @@
 //! The bytes of a part, from the image to an output.
 
-ghost use Rattle.std.specs.Prelude.{◌≡◌, ◌<◌, ◌++◌, IsTrue, IfOk, OnOk, length, slice_index_or};
+ghost use Rattle.std.specs.Prelude.{◌≡◌, ◌<◌, IsTrue, IfOk, length, slice_index_or};
 ghost use Rattle.abt_headers.specs.declared.sections.Place.{Place};
 ghost use Rattle.abt_sections.specs.Header.{entry_of, fragment_count, fragment_of, places_of, view_of};
 ghost use Rattle.abt_sections.specs.Layout.{part_of};
@@ -23,9 +23,9 @@ pub(crate) fn copy_section<S: Source, O: Output>(
     m: &mut Meter,
 ) -> (O, Result<u64, SectionFault>)
     requires { i < length (places_of (view_of image.now.header)) }
-    ensures copies { CopiesPart result.1 S.Source source.old source.new O.Output onto result.0 image.now }
-    ensures written { (p : Place) → p ≡ slice_index_or (places_of (view_of image.now.header)) i p → IsTrue S.tells →
-        OnOk result.1 (O.written result.0 ≡ O.written onto ++ part_of (S.content source.old) p) }
+    ensures copies { (p : Place) → p ≡ slice_index_or (places_of (view_of image.now.header)) i p →
+        CopiesPart result.1 S.Source source.old source.new O.Output onto result.0 image.now
+        (part_of (S.content source.old) p) }
     ensures count { (p : Place) → p ≡ slice_index_or (places_of (view_of image.now.header)) i p →
         IfOk result.1 (λ bytes. bytes ≡ p.size) }
 {
@@ -52,9 +52,8 @@ pub(crate) fn copy_fragment<S: Source, O: Output>(
     m: &mut Meter,
 ) -> (O, Result<u64, SectionFault>)
     requires { index < fragment_count (view_of image.now.header) }
-    ensures copies { CopiesPart result.1 S.Source source.old source.new O.Output onto result.0 image.now }
-    ensures written { IsTrue S.tells → OnOk result.1 (O.written result.0 ≡ O.written onto
-        ++ fragment_of (S.content source.old) (view_of image.now.header) index) }
+    ensures copies { CopiesPart result.1 S.Source source.old source.new O.Output onto result.0 image.now
+        (fragment_of (S.content source.old) (view_of image.now.header) index) }
     ensures count { IsTrue S.tells → IfOk result.1 (λ bytes. bytes
         ≡ (entry_of (S.content source.old) (view_of image.now.header) index).ramdisk_size) }
 {
@@ -84,9 +83,8 @@ pub(crate) fn copy_words<S: Source, O: Output>(
     w: &mut Window,
     m: &mut Meter,
 ) -> (O, Result<u64, SectionFault>)
-    ensures copies { CopiesPart result.1 S.Source source.old source.new O.Output onto result.0 image.now }
-    ensures written { IsTrue S.tells → OnOk result.1 (O.written result.0 ≡ O.written onto
-        ++ words_text (image_words folder.now (S.content source.old) (view_of image.now.header))) }
+    ensures { CopiesPart result.1 S.Source source.old source.new O.Output onto result.0 image.now
+        (words_text (image_words folder.now (S.content source.old) (view_of image.now.header))) }
 {
     let before = progress.done;
     let mut carried = Carried {

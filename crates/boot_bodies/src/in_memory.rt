@@ -1,10 +1,11 @@
 //! The command over a disk in memory, which tells what its files hold: no clause is left that says nothing.
 
-ghost use Rattle.std.specs.Prelude.{OnOk, OnErr, IfErr};
+ghost use Rattle.std.specs.Prelude.{OnOk, OnErr, IfErr, true};
 ghost use Rattle.abt_refusals.specs.Paths.{path_of};
 ghost use Rattle.memory_disk.specs.Memory.{held_of, world_of};
-ghost use Rattle.abt_disk.specs.World.{HasFailed, HasNotFailed, IsReading, KeepsFile};
+ghost use Rattle.abt_disk.specs.World.{HasFailed, IsReading};
 ghost use Rattle.abt_disk.specs.Among.{OnlyAmong};
+ghost use Rattle.abt_disk.specs.DiskCalls.{KeepsInput};
 ghost use Rattle.boot_bodies.specs.Faults.{RefusesImage};
 ghost use Rattle.boot_bodies.specs.Lines.{ShowsEach};
 ghost use Rattle.boot_bodies.specs.Unpacking.{IsPartOf, LeavesParts, PartsStand, SyncsParts, Unpacks};
@@ -30,10 +31,10 @@ pub fn unpack_in_memory<'t, 'a>(
         (world_of disk.new) (λ lines. ShowsEach lines report.old report.new)) }
     ensures synced { OnOk result (SyncsParts (path_of input.entry) with_words (world_of disk.old) (held_of disk.old)
         (held_of disk.new)) }
-    ensures clean { OnOk result (HasNotFailed (held_of disk.old) (held_of disk.new)) }
     ensures only { OnlyAmong (IsPartOf (path_of input.entry) folder.now with_words (world_of disk.old))
         (held_of disk.old).read (held_of disk.new).begun (world_of disk.old) (world_of disk.new) }
-    ensures input { KeepsFile (path_of input.entry) (world_of disk.old) (world_of disk.new) }
+    ensures keeps { KeepsInput true result (path_of input.entry) (held_of disk.old) (held_of disk.new)
+        (world_of disk.old) (world_of disk.new) }
     ensures stands { OnErr result (LeavesParts (path_of input.entry) folder.now (held_of disk.old) (held_of disk.new)
         (world_of disk.old) (world_of disk.new)) }
     ensures refused { IfErr result (λ refusal. RefusesImage (path_of input.entry) (world_of disk.old)

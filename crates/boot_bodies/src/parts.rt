@@ -3,11 +3,12 @@
 ghost use Rattle.std.specs.Prelude.{◌≡◌, ◌<◌, ◌+◌, ℕ, None, IsTrue, IfErr, OnOk, OnErr, length, map};
 ghost use Rattle.abt_sections.specs.Header.{fragment_count, places_of, view_of};
 ghost use Rattle.abt_sections.specs.Open.{IsOpened};
-ghost use Rattle.abt_disk.specs.Among.{GoesAmong, KeepsMade};
-ghost use Rattle.boot_bodies.specs.Faults.{IsRefusedOver, NoMoreFailed, SomeFailed};
+ghost use Rattle.abt_disk.specs.Among.{GoesAmong};
+ghost use Rattle.boot_bodies.specs.Faults.{IsRefusedOver, SomeFailed};
 ghost use Rattle.boot_bodies.specs.Lines.{ShowsEach, told_fragments, told_parts, told_section};
 ghost use Rattle.boot_bodies.specs.Unpacking.{FragmentsDone, IsFragmentPath, IsPartPath, IsSectionPath, PartsBegun};
-ghost use Rattle.boot_bodies.specs.Unpacking.{PartsLeft, SectionsDone, SyncsMore, WordsDone, part_total};
+ghost use Rattle.boot_bodies.specs.Unpacking.{PartsLeft, SectionsDone, WordsDone, part_total};
+ghost use Rattle.boot_bodies.specs.Writing.{WritesParts};
 
 use crate::unpack::BootOutcome;
 use crate::writing::{write_fragment, write_pack_words, write_section};
@@ -30,6 +31,9 @@ pub(crate) fn write_parts<'t, 'a, D: Disk>(
     m: &mut Meter,
 ) -> BootOutcome<'t, 'a>
     requires one { IsTrue D.tells → (D.held disk.old).output ≡ None }
+    ensures writes { IsTrue D.tells → WritesParts result (part_total with_words (view_of image.now.header))
+        (IsPartPath folder.now with_words (view_of image.now.header)) D.At.Source source.old source.new
+        (D.held disk.old) (D.held disk.new) (D.world disk.old) (D.world disk.new) }
     ensures sections { IsTrue D.tells → OnOk result (SectionsDone folder.now (view_of image.now.header)
         (D.At.content source.old) (length (places_of (view_of image.now.header))) (D.held disk.new) (D.world
         disk.new)) }
@@ -38,17 +42,11 @@ pub(crate) fn write_parts<'t, 'a, D: Disk>(
         disk.new)) }
     ensures words { IsTrue D.tells → IsTrue with_words → OnOk result (WordsDone folder.now (view_of image.now.header)
         (D.At.content source.old) (D.held disk.new) (D.world disk.new)) }
-    ensures only { IsTrue D.tells → GoesAmong (IsPartPath folder.now with_words (view_of image.now.header))
-        (D.held disk.old) (D.held disk.new) (D.world disk.old) (D.world disk.new) }
     ensures stands { IsTrue D.tells → OnErr result (PartsLeft folder.now (view_of image.now.header)
         (D.At.content source.old) (D.held disk.new) (D.world disk.new) (λ named. GoesAmong named (D.held disk.old)
         (D.held disk.new) (D.world disk.old) (D.world disk.new))) }
     ensures shown { IsTrue D.tells → OnOk result ((bytes : ℕ) × ShowsEach (told_parts (D.At.content source.old)
         (view_of image.now.header) with_words bytes) report.old report.new) }
-    ensures synced { IsTrue D.tells → OnOk result (SyncsMore (part_total with_words (view_of image.now.header))
-        (D.held disk.old) (D.held disk.new)) }
-    ensures clean { IsTrue D.tells → OnOk result (NoMoreFailed (D.held disk.old) (D.At.read_faults source.old)
-        (D.held disk.new) (D.At.read_faults source.new)) }
     ensures refused { IsTrue D.tells → IsOpened (D.At.content source.old) image.now → IfErr result (λ refusal.
         IsRefusedOver (D.At.content source.old) (SomeFailed (D.held disk.old) (D.At.read_faults source.old)
         (D.held disk.new) (D.At.read_faults source.new)) (PartsBegun folder.now with_words (view_of
@@ -83,25 +81,18 @@ fn write_sections<'t, 'a, D: Disk>(
     m: &mut Meter,
 ) -> BootOutcome<'t, 'a>
     requires one { IsTrue D.tells → (D.held disk.old).output ≡ None }
-    ensures content { IsTrue D.tells → OnOk result (D.At.content source.new ≡ D.At.content source.old) }
+    ensures writes { IsTrue D.tells → WritesParts result (length (places_of (view_of image.now.header)))
+        (IsSectionPath folder.now (view_of image.now.header) (length (places_of (view_of image.now.header))))
+        D.At.Source source.old source.new (D.held disk.old) (D.held disk.new) (D.world disk.old) (D.world disk.new) }
     ensures done { IsTrue D.tells → OnOk result (SectionsDone folder.now (view_of image.now.header)
         (D.At.content source.old) (length (places_of (view_of image.now.header))) (D.held disk.new) (D.world
         disk.new)) }
-    ensures keeps { IsTrue D.tells → KeepsMade (D.held disk.old) (D.held disk.new) (D.world disk.old)
-        (D.world disk.new) }
-    ensures only { IsTrue D.tells → GoesAmong (IsSectionPath folder.now (view_of image.now.header)
-        (length (places_of (view_of image.now.header)))) (D.held disk.old) (D.held disk.new) (D.world disk.old)
-        (D.world disk.new) }
     ensures stands { IsTrue D.tells → OnErr result ((i : ℕ) × SectionsDone folder.now (view_of image.now.header)
         (D.At.content source.old) i (D.held disk.new) (D.world disk.new) × GoesAmong (IsSectionPath folder.now
         (view_of image.now.header) (i + 1)) (D.held disk.old) (D.held disk.new) (D.world disk.old)
         (D.world disk.new)) }
     ensures shown { OnOk result (ShowsEach (map told_section (places_of (view_of image.now.header))) report.old
         report.new) }
-    ensures synced { IsTrue D.tells → OnOk result (SyncsMore (length (places_of (view_of image.now.header)))
-        (D.held disk.old) (D.held disk.new)) }
-    ensures clean { IsTrue D.tells → OnOk result (NoMoreFailed (D.held disk.old) (D.At.read_faults source.old)
-        (D.held disk.new) (D.At.read_faults source.new)) }
     ensures refused { IsTrue D.tells → IsOpened (D.At.content source.old) image.now → IfErr result (λ refusal.
         IsRefusedOver (D.At.content source.old) (SomeFailed (D.held disk.old) (D.At.read_faults source.old)
         (D.held disk.new) (D.At.read_faults source.new)) ((i : ℕ) × (i < length (places_of (view_of
@@ -129,25 +120,18 @@ fn write_fragments<'t, 'a, D: Disk>(
     m: &mut Meter,
 ) -> BootOutcome<'t, 'a>
     requires one { IsTrue D.tells → (D.held disk.old).output ≡ None }
-    ensures content { IsTrue D.tells → OnOk result (D.At.content source.new ≡ D.At.content source.old) }
+    ensures writes { IsTrue D.tells → WritesParts result (fragment_count (view_of image.now.header))
+        (IsFragmentPath folder.now (view_of image.now.header) (fragment_count (view_of image.now.header)))
+        D.At.Source source.old source.new (D.held disk.old) (D.held disk.new) (D.world disk.old) (D.world disk.new) }
     ensures done { IsTrue D.tells → OnOk result (FragmentsDone folder.now (view_of image.now.header)
         (D.At.content source.old) (fragment_count (view_of image.now.header)) (D.held disk.new) (D.world
         disk.new)) }
-    ensures keeps { IsTrue D.tells → KeepsMade (D.held disk.old) (D.held disk.new) (D.world disk.old)
-        (D.world disk.new) }
-    ensures only { IsTrue D.tells → GoesAmong (IsFragmentPath folder.now (view_of image.now.header)
-        (fragment_count (view_of image.now.header))) (D.held disk.old) (D.held disk.new) (D.world disk.old)
-        (D.world disk.new) }
     ensures stands { IsTrue D.tells → OnErr result ((i : ℕ) × FragmentsDone folder.now (view_of image.now.header)
         (D.At.content source.old) i (D.held disk.new) (D.world disk.new) × GoesAmong (IsFragmentPath folder.now
         (view_of image.now.header) (i + 1)) (D.held disk.old) (D.held disk.new) (D.world disk.old)
         (D.world disk.new)) }
     ensures shown { IsTrue D.tells → OnOk result (ShowsEach (told_fragments (D.At.content source.old)
         (view_of image.now.header) (fragment_count (view_of image.now.header))) report.old report.new) }
-    ensures synced { IsTrue D.tells → OnOk result (SyncsMore (fragment_count (view_of image.now.header))
-        (D.held disk.old) (D.held disk.new)) }
-    ensures clean { IsTrue D.tells → OnOk result (NoMoreFailed (D.held disk.old) (D.At.read_faults source.old)
-        (D.held disk.new) (D.At.read_faults source.new)) }
     ensures refused { IsTrue D.tells → IsOpened (D.At.content source.old) image.now → IfErr result (λ refusal.
         IsRefusedOver (D.At.content source.old) (SomeFailed (D.held disk.old) (D.At.read_faults source.old)
         (D.held disk.new) (D.At.read_faults source.new)) ((i : ℕ) × (i < fragment_count (view_of

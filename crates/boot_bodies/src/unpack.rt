@@ -2,8 +2,9 @@
 
 ghost use Rattle.std.specs.Prelude.{◌≡◌, IsTrue, IfErr, OnOk, OnErr, is_ok};
 ghost use Rattle.abt_refusals.specs.Paths.{path_of};
-ghost use Rattle.abt_disk.specs.World.{HasFailed, HasNotFailed, IsReading, KeepsFile, failing, unless};
+ghost use Rattle.abt_disk.specs.World.{HasFailed, IsReading, unless};
 ghost use Rattle.abt_disk.specs.Among.{OnlyAmong};
+ghost use Rattle.abt_disk.specs.DiskCalls.{FailsOnly, KeepsInput};
 ghost use Rattle.boot_bodies.specs.Faults.{RefusesImage};
 ghost use Rattle.boot_bodies.specs.Lines.{ShowsEach};
 ghost use Rattle.boot_bodies.specs.Unpacking.{IsPartOf, LeavesParts, PartsStand, SyncsParts, Unpacks};
@@ -38,14 +39,15 @@ pub fn unpack_file<'t, 'a, D: Disk>(
     // each part of the image that IN holds stands in the folder under its name; a line was printed of each
     ensures done { IsTrue D.tells → OnOk result (Unpacks (path_of input.entry) folder.now with_words (D.world disk.old)
         (D.world disk.new) (λ lines. ShowsEach lines report.old report.new)) }
-    // each was synced, where that is wanted, and no call failed
+    // each was synced, where that is wanted
     ensures synced { IsTrue D.tells → OnOk result (SyncsParts (path_of input.entry) with_words (D.world disk.old)
         (D.held disk.old) (D.held disk.new)) }
-    ensures clean { IsTrue D.tells → OnOk result (HasNotFailed (D.held disk.old) (D.held disk.new)) }
-    // whatever the outcome, only such files were created or changed, and IN holds what it held
+    // whatever the outcome, only such files were created or changed, and IN holds what it held; no call failed where all
+    // was done
     ensures only { IsTrue D.tells → OnlyAmong (IsPartOf (path_of input.entry) folder.now with_words (D.world disk.old))
         (D.held disk.old).read (D.held disk.new).begun (D.world disk.old) (D.world disk.new) }
-    ensures input { IsTrue D.tells → KeepsFile (path_of input.entry) (D.world disk.old) (D.world disk.new) }
+    ensures keeps { KeepsInput D.tells result (path_of input.entry) (D.held disk.old) (D.held disk.new)
+        (D.world disk.old) (D.world disk.new) }
     // where it is refused, the parts before the one at fault stand, and no file but theirs and its own was changed
     ensures stands { IsTrue D.tells → OnErr result (LeavesParts (path_of input.entry) folder.now (D.held disk.old)
         (D.held disk.new) (D.world disk.old) (D.world disk.new)) }
@@ -109,8 +111,8 @@ fn refuse_taken<'t, D: Disk>(
     folder: &'t str,
     with_words: bool,
 ) -> Result<(), HostRefusal<'t>>
-    ensures held { IsTrue D.tells → D.held disk.new ≡ failing (unless (is_ok result)) (D.held disk.old) }
-    ensures world { IsTrue D.tells → D.world disk.new ≡ D.world disk.old }
+    ensures { FailsOnly D.tells (unless (is_ok result)) (D.held disk.old) (D.held disk.new) (D.world disk.old)
+        (D.world disk.new) }
 {
     for i in 0..part_count(image, with_words) {
         match disk.refuse_taken(place_of(part_of(image, i), folder)) {

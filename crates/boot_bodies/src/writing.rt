@@ -2,15 +2,15 @@
 
 ghost use Rattle.std.specs.Prelude.{◌≡◌, ◌<◌, ◌≤◌, ◌+◌, None, Ok, Err, Bool, ℕ, true, MatchResult, IsTrue, IsOk};
 ghost use Rattle.std.specs.Prelude.{IfOk, IfErr, OnOk, length};
-ghost use Rattle.abt_disk.specs.World.{Ends, SparesRest, ended};
+ghost use Rattle.abt_disk.specs.World.{Ends, ended};
 ghost use Rattle.abt_output.specs.Shows.{Shows};
 ghost use Rattle.abt_sections.specs.Header.{entry_of, fragment_count, fragment_of, places_of, view_of};
 ghost use Rattle.abt_sections.specs.Open.{IsOpened};
-ghost use Rattle.abt_disk.specs.Among.{GoesAmong, IsMade, KeepsMade};
-ghost use Rattle.boot_bodies.specs.Faults.{IsAnswerOf, IsRefusedOver, NoMoreFailed, SomeFailed};
+ghost use Rattle.abt_disk.specs.Among.{IsMade};
+ghost use Rattle.boot_bodies.specs.Faults.{IsAnswerOf, IsRefusedOver, SomeFailed};
 ghost use Rattle.boot_bodies.specs.Lines.{ShowsSection, told_part};
-ghost use Rattle.boot_bodies.specs.Unpacking.{IsFragmentPath, IsSectionPath, SectionDone, SyncsMore, WordsDone};
-ghost use Rattle.boot_bodies.specs.Unpacking.{path_of_part};
+ghost use Rattle.boot_bodies.specs.Unpacking.{IsFragmentPath, IsSectionPath, SectionDone, WordsDone, path_of_part};
+ghost use Rattle.boot_bodies.specs.Writing.{EndsPart, WritesParts};
 ghost use Rattle.boot_rules.specs.declared.part_names.Part.TheVariants as parts;
 
 use crate::copying::{copy_fragment, copy_section, copy_words};
@@ -38,17 +38,11 @@ pub(crate) fn write_section<'t, 'a, D: Disk>(
 ) -> BootOutcome<'t, 'a>
     requires there { i < length (places_of (view_of image.now.header)) }
     requires one { IsTrue D.tells → (D.held disk.old).output ≡ None }
-    ensures content { IsTrue D.tells → OnOk result (D.At.content source.new ≡ D.At.content source.old) }
+    ensures writes { IsTrue D.tells → WritesParts result 1 (IsSectionPath folder.now (view_of image.now.header) (i + 1))
+        D.At.Source source.old source.new (D.held disk.old) (D.held disk.new) (D.world disk.old) (D.world disk.new) }
     ensures done { IsTrue D.tells → OnOk result (SectionDone folder.now (view_of image.now.header)
         (D.At.content source.old) i (D.held disk.new) (D.world disk.new)) }
-    ensures keeps { IsTrue D.tells → KeepsMade (D.held disk.old) (D.held disk.new) (D.world disk.old)
-        (D.world disk.new) }
-    ensures only { IsTrue D.tells → GoesAmong (IsSectionPath folder.now (view_of image.now.header) (i + 1))
-        (D.held disk.old) (D.held disk.new) (D.world disk.old) (D.world disk.new) }
     ensures shown { OnOk result (ShowsSection (view_of image.now.header) i report.old report.new) }
-    ensures synced { IsTrue D.tells → OnOk result (SyncsMore 1 (D.held disk.old) (D.held disk.new)) }
-    ensures clean { IsTrue D.tells → OnOk result (NoMoreFailed (D.held disk.old) (D.At.read_faults source.old)
-        (D.held disk.new) (D.At.read_faults source.new)) }
     ensures refused { IsTrue D.tells → IsOpened (D.At.content source.old) image.now → IfErr result (λ refusal.
         IsRefusedOver (D.At.content source.old) (SomeFailed (D.held disk.old) (D.At.read_faults source.old)
         (D.held disk.new) (D.At.read_faults source.new)) (SectionDone folder.now (view_of image.now.header)
@@ -82,19 +76,14 @@ pub(crate) fn write_fragment<'t, 'a, D: Disk>(
 ) -> BootOutcome<'t, 'a>
     requires there { index < fragment_count (view_of image.now.header) }
     requires one { IsTrue D.tells → (D.held disk.old).output ≡ None }
-    ensures content { IsTrue D.tells → OnOk result (D.At.content source.new ≡ D.At.content source.old) }
+    ensures writes { IsTrue D.tells → WritesParts result 1
+        (IsFragmentPath folder.now (view_of image.now.header) (index + 1)) D.At.Source source.old source.new
+        (D.held disk.old) (D.held disk.new) (D.world disk.old) (D.world disk.new) }
     ensures done { IsTrue D.tells → OnOk result (IsMade (D.held disk.new) (D.world disk.new)
         (path_of_part folder.now (parts.Fragment index))
         (fragment_of (D.At.content source.old) (view_of image.now.header) index)) }
-    ensures keeps { IsTrue D.tells → KeepsMade (D.held disk.old) (D.held disk.new) (D.world disk.old)
-        (D.world disk.new) }
-    ensures only { IsTrue D.tells → GoesAmong (IsFragmentPath folder.now (view_of image.now.header) (index + 1))
-        (D.held disk.old) (D.held disk.new) (D.world disk.old) (D.world disk.new) }
     ensures shown { IsTrue D.tells → OnOk result (Shows report.old report.new (told_part (parts.Fragment index)
         (entry_of (D.At.content source.old) (view_of image.now.header) index).ramdisk_size)) }
-    ensures synced { IsTrue D.tells → OnOk result (SyncsMore 1 (D.held disk.old) (D.held disk.new)) }
-    ensures clean { IsTrue D.tells → OnOk result (NoMoreFailed (D.held disk.old) (D.At.read_faults source.old)
-        (D.held disk.new) (D.At.read_faults source.new)) }
     ensures refused { IsTrue D.tells → IsOpened (D.At.content source.old) image.now → IfErr result (λ refusal.
         IsRefusedOver (D.At.content source.old) (SomeFailed (D.held disk.old) (D.At.read_faults source.old)
         (D.held disk.new) (D.At.read_faults source.new)) (IsMade (D.held disk.new) (D.world disk.new)
@@ -127,17 +116,11 @@ pub(crate) fn write_pack_words<'t, 'a, D: Disk>(
     m: &mut Meter,
 ) -> BootOutcome<'t, 'a>
     requires one { IsTrue D.tells → (D.held disk.old).output ≡ None }
-    ensures content { IsTrue D.tells → OnOk result (D.At.content source.new ≡ D.At.content source.old) }
+    ensures writes { IsTrue D.tells → WritesParts result 1 (λ path. path ≡ path_of_part folder.now parts.Words)
+        D.At.Source source.old source.new (D.held disk.old) (D.held disk.new) (D.world disk.old) (D.world disk.new) }
     ensures done { IsTrue D.tells → OnOk result (WordsDone folder.now (view_of image.now.header)
         (D.At.content source.old) (D.held disk.new) (D.world disk.new)) }
-    ensures keeps { IsTrue D.tells → KeepsMade (D.held disk.old) (D.held disk.new) (D.world disk.old)
-        (D.world disk.new) }
-    ensures only { IsTrue D.tells → GoesAmong (λ path. path ≡ path_of_part folder.now parts.Words)
-        (D.held disk.old) (D.held disk.new) (D.world disk.old) (D.world disk.new) }
     ensures shown { OnOk result ((bytes : ℕ) × Shows report.old report.new (told_part parts.Words bytes)) }
-    ensures synced { IsTrue D.tells → OnOk result (SyncsMore 1 (D.held disk.old) (D.held disk.new)) }
-    ensures clean { IsTrue D.tells → OnOk result (NoMoreFailed (D.held disk.old) (D.At.read_faults source.old)
-        (D.held disk.new) (D.At.read_faults source.new)) }
     ensures refused { IsTrue D.tells → IsOpened (D.At.content source.old) image.now → IfErr result (λ refusal.
         IsRefusedOver (D.At.content source.old) (SomeFailed (D.held disk.old) (D.At.read_faults source.old)
         (D.held disk.new) (D.At.read_faults source.new)) (WordsDone folder.now (view_of image.now.header)
@@ -167,13 +150,12 @@ fn finish<'t, 'a, D: Disk>(
     report: &mut Report,
 ) -> BootOutcome<'t, 'a>
     ensures done { OnOk result (IsOk answer) }
-    ensures ended { IsTrue D.tells → OnOk result (Ends (D.held disk.old).output (D.Onto.written onto)
-        (D.world disk.old) (D.world disk.new)) }
+    ensures ends { EndsPart D.tells result (D.Onto.written onto) (D.held disk.old) (D.world disk.old)
+        (D.world disk.new) }
     ensures closed { IsTrue D.tells → (b : Bool) × (n : ℕ) × (D.held disk.new ≡ ended b n (D.held disk.old)) }
     ensures clean { IsTrue D.tells → OnOk result (D.held disk.new
         ≡ ended true (D.Onto.write_faults onto) (D.held disk.old)) }
     ensures counts { IsTrue D.tells → (D.held disk.old).failed + D.Onto.write_faults onto ≤ (D.held disk.new).failed }
-    ensures rest { IsTrue D.tells → SparesRest (D.held disk.old).output (D.world disk.old) (D.world disk.new) }
     ensures shown { OnOk result (IfOk answer (λ bytes. Shows report.old report.new (told_part part bytes))) }
     ensures told { IsTrue D.tells → IfErr result (λ refusal. IsAnswerOf answer
         ((D.held disk.old).failed + D.Onto.write_faults onto < (D.held disk.new).failed)

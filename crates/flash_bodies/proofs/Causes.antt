@@ -1,7 +1,6 @@
 -- What the engine's calls say of their faults, in the words of the commands.
-use Rattle.std.proofs.Common.{◌≡◌, ◌<◌, ◌≤◌, ◌+◌, ℕ, List, Bool, true, length, Option, refl, sym, subst, arith}
-use Rattle.std.specs.Prelude.{Result, Ok, Err, IsTrue}
-use Rattle.abt_chunks.specs.Ahead.{somes}
+use Rattle.std.proofs.Common.{◌≡◌, ◌<◌, ◌+◌, ℕ, List, Bool, true, length, Option, refl, subst, arith}
+use Rattle.std.specs.Prelude.{Err, IsTrue}
 use Rattle.abt_chunks.specs.Expanding.{UnlessExpandingDevice}
 use Rattle.abt_flash.specs.Fault.{FlashCause}
 use Rattle.abt_flash.specs.Flashing.{Flashes, Holds}

@@ -76,25 +76,6 @@ told_right F G raw (Err f) limit from (Some c) x p p' some small one go failed i
 
 -- ---- what is told of more
 
-pub told_if_ok : (P : Delivered → Type 0) (r : Result Delivered FlashFault) (from : ℕ) (late : Option Cause) → IfOk r P
-    → IfOk (told r from late) P
-told_if_ok P r from None so = so
-told_if_ok P (Ok d) from (Some c) so = tt
-told_if_ok P (Err (flashes.Stopped j d)) from (Some c) so = tt
-told_if_ok P (Err f) from (Some c) so = tt
-
-pub told_on_ok : (P : Type 0) (r : Result Delivered FlashFault) (from : ℕ) (late : Option Cause) → (late ≡ None
-    → OnOk r P)
-    → OnOk (told r from late) P
-told_on_ok P r from None so = so refl
-told_on_ok P (Ok d) from (Some c) so = tt
-told_on_ok P (Err (flashes.Stopped j d)) from (Some c) so = tt
-told_on_ok P (Err f) from (Some c) so = tt
-
-pub ok_for : (r : Result Delivered FlashFault) (P Q : Type 0) → (P → Q) → OnOk r P → OnOk r Q
-ok_for (Ok d) P Q go so = go so
-ok_for (Err f) P Q go so = tt
-
 -- ---- whether the file was closed
 
 abbrev IsCause : Option Cause → Type 0
@@ -107,11 +88,6 @@ pub late_failed : (r : Result Bool DeviceFault) (late : Option Cause) (c : Cause
     → unless (is_ok r) ≡ 1
 late_failed (Ok b) late c none long is = absurd (subst IsCause (sym is ∙ none long) tt)
 late_failed (Err d) late c none long is = refl
-
-pub not_late : (r : Result Bool DeviceFault) (late : Option Cause) → IfErr r (λ d. late ≡ Some (causes.SpoolWrite d))
-    → late ≡ None → unless (is_ok r) ≡ 0
-not_late (Ok b) late told is = refl
-not_late (Err d) late told is = absurd (subst IsCause (sym told ∙ is) tt)
 
 -- ---- sums of faults: of the source and the partition; of writing, reading and clearing what pieces went through
 
@@ -128,11 +104,6 @@ held_rose h h' u n s p closed more =
 pub held_late : (h h' : Held) (u n s p : ℕ) → h' ≡ closed_spool (u + n) h → u ≡ 1 → h.failed < h'.failed + (s + p)
 held_late h h' u n s p closed one =
     let more : h'.failed ≡ h.failed + (u + n) = ap (λ (q : Held). q.failed) closed in omega (arith, one, more)
-
-pub held_same : (h h' : Held) (u n s p : ℕ) → h' ≡ closed_spool (u + n) h → u ≡ 0 → s + p + n ≡ 0
-    → h'.failed + (s + p) ≡ h.failed
-held_same h h' u n s p closed one none =
-    let more : h'.failed ≡ h.failed + (u + n) = ap (λ (q : Held). q.failed) closed in omega (arith, one, more, none)
 
 -- the same of the disk, where what pieces went through is closed behind them
 pub told_held : (h h' : Held) (none s t u n : ℕ) (raw : Option ℕ) (r r' : Result Delivered FlashFault) (limit from : ℕ)

@@ -133,12 +133,6 @@ only_both read path spool a b c same (in_output file at free spares) =
       files = λ f none none'. one.files f (λ e. none' (subst (λ g. c.at spool ≡ Some g) (sym e) at));
     }
 
-pub same_both : (path spool : List ℕ) (a c : World) → c ≡ a → SparesBoth path spool a c
-same_both path spool a c same = record {
-  paths = λ q f there. ap (λ (w : World). w.at q) same ∙ there;
-  files = λ f none none'. ap (λ (w : World). w.holds f) same;
-}
-
 beside : (input path : List ℕ) (read read' : List ℕ) (f : ℕ) (old new : World) → old.at input ≡ Some f
     → read' ≡ read ++ (f ∷ []) → OnlyAt read' path old new → KeepsFile input old new
 beside input path read read' f old new at e (untouched same) = λ g there. ap (λ (w : World). w.holds g) same

@@ -1,10 +1,10 @@
 -- What the engine says of a delivery, in the words of the command; and what a file that was not closed adds to it.
-use Rattle.std.proofs.Common.{◌≡◌, ◌≢◌, ◌<◌, ◌≤◌, ◌+◌, ◌-◌, ◌*◌, ◌^◌, ℕ, List, [], ◌++◌, Bool, true, false, length}
-use Rattle.std.proofs.Common.{Option, Some, None, refl, sym, ◌∙◌, ap, subst, arith}
-use Rattle.std.specs.Prelude.{Result, Ok, Err, IsTrue, OnOk, IfOk, IfErr, min, unwrap_or, slice_index}
+use Rattle.std.proofs.Common.{◌≡◌, ◌≢◌, ◌<◌, ◌+◌, ◌-◌, ℕ, List, [], Bool, true, false, length, Option, Some, None, refl}
+use Rattle.std.proofs.Common.{sym, ◌∙◌, ap, subst, arith}
+use Rattle.std.specs.Prelude.{Result, Ok, Err, OnOk, IfErr, unwrap_or, slice_index}
 use Rattle.abt_io.specs.declared.device.DeviceFault.{DeviceFault}
 use Rattle.std.proofs.lemmas.Bool.{true≢false}
-use Rattle.abt_io.specs.Moment.{MayLeave, Past, moment_of}
+use Rattle.abt_io.specs.Moment.{Past, moment_of}
 use Rattle.abt_sparse.specs.Block.{Block, cells, over}
 use Rattle.abt_sparse.specs.Mending.{Mendable}
 use Rattle.abt_sparse.proofs.Lay.{length-over, get_or-over}
@@ -13,15 +13,13 @@ use Rattle.abt_flash.specs.declared.fault.Cause.{Cause}
 use Rattle.abt_flash.specs.declared.fault.Cause.TheVariants as causes
 use Rattle.abt_flash.specs.declared.fault.FlashFault.{FlashFault}
 use Rattle.abt_flash.specs.declared.fault.FlashFault.TheVariants as flashes
-use Rattle.abt_flash.specs.Delivering.{CountsTo, ImageBlocks, LaysBlocks, LeavesMendable, MendsBlocks, NoneFailed}
-use Rattle.abt_flash.specs.Delivering.{OnEarly, StopsFor, blocks_in_first, pieces_in}
+use Rattle.abt_flash.specs.Delivering.{CountsTo, LaysBlocks, LeavesMendable, MendsBlocks, OnEarly, StopsFor}
+use Rattle.abt_flash.specs.Delivering.{blocks_in_first, pieces_in}
 use Rattle.abt_flash.specs.Devices.{Counts, PartitionState}
 use Rattle.abt_flash.specs.Raw.{IsAllowed, RawRefused, raw_image}
 use Rattle.abt_flash.specs.Sparse.{Fits, SparseRefused, sparse_image}
 use Rattle.abt_flash.proofs.Mended.{leaves_same}
-use Rattle.flash_bodies.specs.InPieces.{DeliversPieces, IsDelivered, IsEarly, IsRefused, IsStopped, IsUndelivered, IsWhole}
-use Rattle.flash_bodies.specs.InPieces.{StandsUpTo, image_as}
-use Rattle.flash_bodies.specs.Through.{last_from, told}
+use Rattle.flash_bodies.specs.InPieces.{DeliversPieces, IsEarly, IsRefused, IsUndelivered, IsWhole, image_as}
 
 -- ---- what stands
 
@@ -181,18 +179,3 @@ answered_raw b limit before size long r x s l p old new a z Q st lt pt fits all 
       lays = rw (st, lt, pt) at lays;
       mends = mends;
     }
-
--- nothing has failed where all was delivered
-pub none_rose : (r : Result Delivered FlashFault) (a z : Counts) → OnOk r (NoneFailed a z)
-    → OnOk r (faults_in z ≡ faults_in a)
-none_rose (Ok d) a z none =
-    let one = none.read in let two = none.write in let three = none.spool in let four = none.put in
-    omega (arith, one, two, three, four)
-none_rose (Err f) a z none = tt
-
--- how often it was synced
-pub synced_by : (r : Result Delivered FlashFault) (i : ImageBlocks) (limit before : ℕ) (s l p : Bool) (old new :
-    PartitionState)
-    → LaysBlocks s l p i limit before r old new → IfOk r (λ d. new.past.synced ≡ old.past.synced + d.pieces)
-synced_by (Ok d) i limit before s l p old new lays = lays.synced
-synced_by (Err f) i limit before s l p old new lays = tt

@@ -1,6 +1,5 @@
 -- What a delivery that was counted says of the command.
-use Rattle.std.proofs.Common.{◌≡◌, ◌<◌, ◌+◌, ℕ, List, [], ◌∷◌, ◌++◌, Option, Some, refl, sym, ◌∙◌, ap, subst, arith}
-use Rattle.std.proofs.Common.{inr}
+use Rattle.std.proofs.Common.{◌≡◌, ◌<◌, ◌+◌, ℕ, List, [], ◌∷◌, ◌++◌, Option, sym, ◌∙◌, ap, subst, arith, inr}
 use Rattle.std.specs.Prelude.{Result, Ok, Err, IfOk, OnOk, true}
 use Rattle.std.proofs.lemmas.Bool.{lt-ltb}
 use Rattle.abt_io.specs.Moment.{Past, no_past}
@@ -14,8 +13,8 @@ use Rattle.flash_bodies.specs.Files.{OfFile}
 use Rattle.abt_refusals.specs.declared.refusal.HostFault.{HostFault}
 use Rattle.sparse_rules.specs.declared.lines.Line.TheVariants as lines
 use Rattle.sparse_rules.specs.Lines.{line_text}
-use Rattle.flash_bodies.specs.InPieces.{Across, DeliversPieces, FlashesPieces, FlashesPiecesUntold, IsDelivered, IsUncuttable}
-use Rattle.flash_bodies.specs.InPieces.{IsUndelivered, RefusesPieces}
+use Rattle.flash_bodies.specs.InPieces.{Across, DeliversPieces, FlashesPieces, FlashesPiecesUntold, IsDelivered}
+use Rattle.flash_bodies.specs.InPieces.{IsUncuttable, IsUndelivered, RefusesPieces}
 use Rattle.flash_bodies.specs.Through.{count_delivered}
 use Rattle.flash_bodies.proofs.Closed.{undelivered_for}
 use Rattle.flash_bodies.proofs.Crossing.{Crossed}

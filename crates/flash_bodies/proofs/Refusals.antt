@@ -55,14 +55,6 @@ unopened_for of_runs.TooLarge F G b x p p' go is = is
 unopened_for of_runs.SourceChanged F G b x p p' go is = is
 unopened_for (of_runs.BadBlock n) F G b x p p' go is = is
 
-not_there_for : (f : VerifyFault) (F G : Type 0) (x p : List ℕ) → (F → G) → IsNotThere F f x p → IsNotThere G f x p
-not_there_for (verifies.Sparse f) F G x p go is = is
-not_there_for (verifies.Differs n) F G x p go is = is
-not_there_for (verifies.Read d) F G x p go is = go is
-not_there_for (verifies.PartitionRead d) F G x p go is = go is
-not_there_for verifies.SourceChanged F G x p go is = absurd is
-not_there_for (verifies.BadBlock n) F G x p go is = absurd is
-
 not_there_raw_for : (f : VerifyFault) (F G : Type 0) (b : ℕ) (x p : List ℕ) → (F → G) → IsNotThereRaw F f b x p
     → IsNotThereRaw G f b x p
 not_there_raw_for (verifies.Sparse f) F G b x p go is = absurd is
@@ -113,18 +105,6 @@ pub refuses_raw : (answer : Result ℕ SparseCommandFault) (f : SparseCommandFau
 refuses_raw answer f F b input path x p p' a c h h' is go with_files lays =
     raw_own f F b input path x p p' a c h h' go with_files (subst (λ r. LaysRaw F r b x p p') is lays)
 
-pub refuses_verify : (f : SparseCommandFault) (F : Type 0) (input path x p : List ℕ) (a : World) (h h' : Held)
-    → (F → HasFailed h h') → ((P : List ℕ → List ℕ → Type 0) → P x p → OfBoth input path a P)
-    → Finds F (Err f) x p → RefusesVerify f input path a h h'
-refuses_verify (faults.Verify f) F input path x p a h h' go with_files finds =
-    with_files (IsNotThere (HasFailed h h') f) (not_there_for f F (HasFailed h h') x p go finds)
-refuses_verify (faults.Flash f) F input path x p a h h' go with_files finds = absurd finds
-refuses_verify (faults.Sparse f) F input path x p a h h' go with_files finds = absurd finds
-refuses_verify (faults.Run f) F input path x p a h h' go with_files finds = absurd finds
-refuses_verify (faults.Piece f) F input path x p a h h' go with_files finds = absurd finds
-refuses_verify (faults.OtherBlocks image) F input path x p a h h' go with_files finds = absurd finds
-refuses_verify (faults.Host f) F input path x p a h h' go with_files finds = absurd finds
-
 pub refuses_verify_raw : (f : SparseCommandFault) (F : Type 0) (b : ℕ) (input path x p : List ℕ) (a : World) (h h' : Held)
     → (F → HasFailed h h') → ((P : List ℕ → List ℕ → Type 0) → P x p → OfBoth input path a P)
     → FindsRaw F (Err f) b x p → RefusesVerifyRaw f b input path a h h'
@@ -136,14 +116,6 @@ refuses_verify_raw (faults.Run f) F b input path x p a h h' go with_files finds 
 refuses_verify_raw (faults.Piece f) F b input path x p a h h' go with_files finds = absurd finds
 refuses_verify_raw (faults.OtherBlocks image) F b input path x p a h h' go with_files finds = absurd finds
 refuses_verify_raw (faults.Host f) F b input path x p a h h' go with_files finds = absurd finds
-
--- the fault of the refusal is the one that the call answered
-pub verify_refusal : (e f : SparseCommandFault) (F : Type 0) (input path x p : List ℕ) (a : World) (h h' : Held) → e ≡ f
-    → (F → HasFailed h h') → ((P : List ℕ → List ℕ → Type 0) → P x p → OfBoth input path a P)
-    → Finds F (Err f) x p → RefusesVerify e input path a h h'
-verify_refusal e f F input path x p a h h' is go with_files finds =
-    subst (λ (z : SparseCommandFault). RefusesVerify z input path a h h') (sym is)
-    (refuses_verify f F input path x p a h h' go with_files finds)
 
 pub verify_raw_refusal : (e f : SparseCommandFault) (F : Type 0) (b : ℕ) (input path x p : List ℕ) (a : World) (h h' : Held)
     → e ≡ f → (F → HasFailed h h') → ((P : List ℕ → List ℕ → Type 0) → P x p → OfBoth input path a P)

@@ -137,18 +137,6 @@ failed_one h h' h'' f n r l =
     let two : h''.failed ≡ h'.failed + n = ap (λ (q : Held). q.failed) l in
     omega (arith, one, two)
 
--- a call was refused at once, or behind one that had opened a file
-pub refused_first : (h h' : Held) → h' ≡ failing 1 h → HasFailed h h'
-refused_first h h' now =
-    let one : h'.failed ≡ h.failed + 1 = ap (λ (q : Held). q.failed) now in
-    omega (arith, one)
-
-pub refused_second : (h h' h'' : Held) (f : ℕ) → h' ≡ reading f h → h'' ≡ failing 1 h' → HasFailed h h''
-refused_second h h' h'' f r now =
-    let one : h'.failed ≡ h.failed = ap (λ (q : Held). q.failed) r in
-    let two : h''.failed ≡ h'.failed + 1 = ap (λ (q : Held). q.failed) now in
-    omega (arith, one, two)
-
 pub rose_one : (h h' h'' : Held) (f n r : ℕ) → h' ≡ reading f h → h'' ≡ failing n h' → r ≡ 0 → r < n → HasFailed h h''
 rose_one h h' h'' f n r opened gone none rose =
     let more : h''.failed ≡ h.failed + n = failed_one h h' h'' f n opened gone in omega (arith, more, none, rose)

@@ -1,10 +1,11 @@
 //! The command `flash` of a raw image that goes straight to a partition.
 
-ghost use Rattle.std.specs.Prelude.{◌≡◌, [], None, IsTrue, OnOk, IfErr};
+ghost use Rattle.std.specs.Prelude.{IsTrue, OnOk, IfErr};
 ghost use Rattle.abt_refusals.specs.Paths.{path_of};
 ghost use Rattle.abt_disk.specs.InPlace.{SparesOthers};
-ghost use Rattle.abt_disk.specs.World.{HasNotFailed, KeepsFile};
 ghost use Rattle.abt_output.specs.Shows.{Shows};
+ghost use Rattle.abt_disk.specs.DiskCalls.{HasNoPart};
+ghost use Rattle.flash_bodies.specs.Files.{LeavesOthers};
 ghost use Rattle.flash_bodies.specs.FlashingRaw.{FlashesRawFile, RefusesFlashRaw};
 
 use crate::blocks::flash_blocks;
@@ -26,19 +27,19 @@ pub fn flash_raw_file<'a, D: Disk>(
     w: &mut Window,
     m: &mut Meter,
 ) -> Result<(), SparseRefusal<'a>>
-    requires first { IsTrue D.tells → (D.held disk.old).begun ≡ [] }
-    requires one { IsTrue D.tells → (D.held disk.old).part ≡ None }
+    requires ready { IsTrue D.tells → HasNoPart (D.held disk.old) }
     // PARTITION holds IN in whole blocks at its front, and is synced; what was printed tells of it
     ensures done { IsTrue D.tells → OnOk result (FlashesRawFile size (path_of input.entry) (path_of partition.entry)
         (D.world disk.old) (D.world disk.new) (D.held disk.old).syncs (D.held disk.new).syncs
         (Shows report.old report.new)) }
-    // whatever comes, PARTITION alone may hold anything else, and IN holds what it held
-    ensures others { IsTrue D.tells → SparesOthers (path_of partition.entry) (D.world disk.old) (D.world disk.new) }
-    ensures input { IsTrue D.tells → KeepsFile (path_of input.entry) (D.world disk.old) (D.world disk.new) }
+    // whatever comes, PARTITION alone may hold anything else, and IN holds what it held; and where it is done nothing
+    // has failed
+    ensures leaves { IsTrue D.tells → LeavesOthers result (SparesOthers (path_of partition.entry) (D.world disk.old)
+        (D.world disk.new)) (path_of input.entry) (D.held disk.old) (D.held disk.new) (D.world disk.old)
+        (D.world disk.new) }
     // it is refused for its blocks, for want of room, or where a file, a device or the report failed
     ensures refused { IsTrue D.tells → IfErr result (λ refusal. RefusesFlashRaw refusal.fault size (path_of input.entry)
         (path_of partition.entry) (D.world disk.old) (D.world disk.new) (D.held disk.old) (D.held disk.new)) }
-    ensures clean { IsTrue D.tells → OnOk result (HasNotFailed (D.held disk.old) (D.held disk.new)) }
 {
     let source = disk.source(input)?;
     report.progress.expect(source.length(), 1);

@@ -1,12 +1,12 @@
 //! The commands at a disk in memory, of which every clause speaks.
 
-ghost use Rattle.std.specs.Prelude.{◌≡◌, ◌<◌, ◌-◌, ◌++◌, max, [], None, OnOk, IfErr};
+ghost use Rattle.std.specs.Prelude.{◌≡◌, ◌<◌, ◌-◌, ◌++◌, max, OnOk, IfErr, true, []};
 ghost use Rattle.abt_refusals.specs.Paths.{path_in, path_of};
 ghost use Rattle.abt_disk.specs.InPlace.{SparesOthers};
 ghost use Rattle.memory_disk.specs.Memory.{held_of, world_of};
-ghost use Rattle.abt_disk.specs.World.{HasNotFailed, KeepsFile};
 ghost use Rattle.abt_output.specs.Shows.{Shows};
-ghost use Rattle.flash_bodies.specs.Files.{OfFile};
+ghost use Rattle.abt_disk.specs.DiskCalls.{HasNoPart, LeavesAll};
+ghost use Rattle.flash_bodies.specs.Files.{LeavesOthers, MayFlashPieces, OfFile};
 ghost use Rattle.flash_bodies.specs.Flashing.{FlashesFile, RefusesFlash};
 ghost use Rattle.flash_bodies.specs.FlashingRaw.{FlashesRawFile, RefusesFlashRaw};
 ghost use Rattle.flash_bodies.specs.InPieces.{FlashesPieces, RefusesPieces, SparesBoth};
@@ -31,15 +31,14 @@ pub fn flash_in_memory<'a>(
     w: &mut Window,
     m: &mut Meter,
 ) -> Result<(), SparseRefusal<'a>>
-    requires first { (held_of disk.old).begun ≡ [] }
-    requires one { (held_of disk.old).part ≡ None }
+    requires { HasNoPart (held_of disk.old) }
     ensures done { OnOk result (FlashesFile (path_in input.entry) (path_of partition.entry) (world_of disk.old)
         (world_of disk.new) (held_of disk.old).syncs (held_of disk.new).syncs (Shows report.old report.new)) }
-    ensures others { SparesOthers (path_of partition.entry) (world_of disk.old) (world_of disk.new) }
-    ensures input { KeepsFile (path_in input.entry) (world_of disk.old) (world_of disk.new) }
+    ensures leaves { LeavesOthers result (SparesOthers (path_of partition.entry) (world_of disk.old)
+        (world_of disk.new)) (path_in input.entry) (held_of disk.old) (held_of disk.new) (world_of disk.old)
+        (world_of disk.new) }
     ensures refused { IfErr result (λ refusal. RefusesFlash refusal.fault (path_in input.entry)
         (path_of partition.entry) (world_of disk.old) (world_of disk.new) (held_of disk.old) (held_of disk.new)) }
-    ensures clean { OnOk result (HasNotFailed (held_of disk.old) (held_of disk.new)) }
 {
     flash_file(disk, report, input, partition, w, m)
 }
@@ -54,15 +53,14 @@ pub fn flash_raw_in_memory<'a>(
     w: &mut Window,
     m: &mut Meter,
 ) -> Result<(), SparseRefusal<'a>>
-    requires first { (held_of disk.old).begun ≡ [] }
-    requires one { (held_of disk.old).part ≡ None }
+    requires { HasNoPart (held_of disk.old) }
     ensures done { OnOk result (FlashesRawFile size (path_of input.entry) (path_of partition.entry) (world_of disk.old)
         (world_of disk.new) (held_of disk.old).syncs (held_of disk.new).syncs (Shows report.old report.new)) }
-    ensures others { SparesOthers (path_of partition.entry) (world_of disk.old) (world_of disk.new) }
-    ensures input { KeepsFile (path_of input.entry) (world_of disk.old) (world_of disk.new) }
+    ensures leaves { LeavesOthers result (SparesOthers (path_of partition.entry) (world_of disk.old)
+        (world_of disk.new)) (path_of input.entry) (held_of disk.old) (held_of disk.new) (world_of disk.old)
+        (world_of disk.new) }
     ensures refused { IfErr result (λ refusal. RefusesFlashRaw refusal.fault size (path_of input.entry)
         (path_of partition.entry) (world_of disk.old) (world_of disk.new) (held_of disk.old) (held_of disk.new)) }
-    ensures clean { OnOk result (HasNotFailed (held_of disk.old) (held_of disk.new)) }
 {
     flash_raw_file(disk, report, input, partition, size, w, m)
 }
@@ -80,19 +78,16 @@ pub fn flash_pieces_in_memory<'a>(
     w: &mut Window,
     m: &mut Meter,
 ) -> Result<(), SparseRefusal<'a>>
-    requires first { (held_of disk.old).begun ≡ [] }
-    requires one { (held_of disk.old).part ≡ None }
-    requires through { (held_of disk.old).spool ≡ None }
+    requires { MayFlashPieces (held_of disk.old) }
     ensures done { OnOk result (FlashesPieces raw limit (max 1 from - 1) (path_of input.entry)
         (path_of partition.entry) (path_of spool.entry) (world_of disk.old) (world_of disk.new) (held_of disk.old)
         (held_of disk.new) (Shows report.old report.new)) }
-    ensures others { SparesBoth (path_of partition.entry) (path_of spool.entry) (world_of disk.old)
-        (world_of disk.new) }
-    ensures input { KeepsFile (path_of input.entry) (world_of disk.old) (world_of disk.new) }
+    ensures leaves { LeavesOthers result (SparesBoth (path_of partition.entry) (path_of spool.entry)
+        (world_of disk.old) (world_of disk.new)) (path_of input.entry) (held_of disk.old) (held_of disk.new)
+        (world_of disk.old) (world_of disk.new) }
     ensures refused { IfErr result (λ refusal. RefusesPieces refusal.fault raw limit (max 1 from - 1)
         (path_of input.entry) (path_of partition.entry) (path_of spool.entry) (world_of disk.old) (world_of disk.new)
         (held_of disk.old) (held_of disk.new)) }
-    ensures clean { OnOk result (HasNotFailed (held_of disk.old) (held_of disk.new)) }
 {
     flash_pieces_file(
         disk, report, input, partition, raw, limit, spool, from, w, m,
@@ -111,10 +106,10 @@ pub fn verify_in_memory<'a>(
     requires first { (held_of disk.old).begun ≡ [] }
     ensures done { OnOk result (VerifiesFile (path_in input.entry) (path_of partition.entry) (world_of disk.old)
         (Shows report.old report.new)) }
-    ensures world { world_of disk.new ≡ world_of disk.old }
+    ensures leaves { LeavesAll true result (held_of disk.old) (held_of disk.new) (world_of disk.old)
+        (world_of disk.new) }
     ensures refused { IfErr result (λ refusal. RefusesVerify refusal.fault (path_in input.entry)
         (path_of partition.entry) (world_of disk.old) (held_of disk.old) (held_of disk.new)) }
-    ensures clean { OnOk result (HasNotFailed (held_of disk.old) (held_of disk.new)) }
 {
     verify_file(disk, report, input, partition, w, m)
 }
@@ -132,10 +127,10 @@ pub fn verify_raw_in_memory<'a>(
     requires first { (held_of disk.old).begun ≡ [] }
     ensures done { OnOk result (VerifiesRawFile size (path_of input.entry) (path_of partition.entry) (world_of disk.old)
         (Shows report.old report.new)) }
-    ensures world { world_of disk.new ≡ world_of disk.old }
+    ensures leaves { LeavesAll true result (held_of disk.old) (held_of disk.new) (world_of disk.old)
+        (world_of disk.new) }
     ensures refused { IfErr result (λ refusal. RefusesVerifyRaw refusal.fault size (path_of input.entry)
         (path_of partition.entry) (world_of disk.old) (held_of disk.old) (held_of disk.new)) }
-    ensures clean { OnOk result (HasNotFailed (held_of disk.old) (held_of disk.new)) }
 {
     verify_raw_file(disk, report, input, partition, size, w, m)
 }
@@ -151,10 +146,10 @@ pub fn list_in_memory<'a>(
     requires first { (held_of disk.old).begun ≡ [] }
     ensures done { OnOk result (OfFile (path_in input.entry) (world_of disk.old) (λ x.
         IsListed x (λ text. report.new.out.log.state.bytes ≡ report.old.out.log.state.bytes ++ text))) }
-    ensures world { world_of disk.new ≡ world_of disk.old }
+    ensures leaves { LeavesAll true result (held_of disk.old) (held_of disk.new) (world_of disk.old)
+        (world_of disk.new) }
     ensures refused { IfErr result (λ refusal. RefusesList refusal.fault (path_in input.entry) (world_of disk.old)
         (held_of disk.old) (held_of disk.new) (report.old.out.faults.number < report.new.out.faults.number)) }
-    ensures clean { OnOk result (HasNotFailed (held_of disk.old) (held_of disk.new)) }
 {
     list_file(disk, report, input, w, m)
 }

@@ -2,7 +2,7 @@
 
 ghost use Rattle.std.specs.Prelude.{◌≡◌, ◌<◌, ◌++◌, [], IsTrue, OnOk, IfErr};
 ghost use Rattle.abt_refusals.specs.Paths.{path_in};
-ghost use Rattle.abt_disk.specs.World.{HasNotFailed};
+ghost use Rattle.abt_disk.specs.DiskCalls.{LeavesAll};
 ghost use Rattle.flash_bodies.specs.Files.{OfFile};
 ghost use Rattle.flash_bodies.specs.Listing.{IsListed, IsUnlisted, RefusesList};
 
@@ -27,13 +27,12 @@ pub fn list_file<'a, D: Disk>(
     // what was printed are the header and the chunks of the image that IN holds
     ensures done { IsTrue D.tells → OnOk result (OfFile (path_in input.entry) (D.world disk.old) (λ x.
         IsListed x (λ text. report.new.out.log.state.bytes ≡ report.old.out.log.state.bytes ++ text))) }
-    // every file stays as it is
-    ensures world { IsTrue D.tells → D.world disk.new ≡ D.world disk.old }
+    // every file stays as it is; and where it is done nothing has failed
+    ensures leaves { LeavesAll D.tells result (D.held disk.old) (D.held disk.new) (D.world disk.old) (D.world disk.new) }
     // it is refused for the first fault that IN has, or where its file failed, or the report
     ensures refused { IsTrue D.tells → IfErr result (λ refusal. RefusesList refusal.fault (path_in input.entry)
         (D.world disk.old) (D.held disk.old) (D.held disk.new)
         (report.old.out.faults.number < report.new.out.faults.number)) }
-    ensures clean { IsTrue D.tells → OnOk result (HasNotFailed (D.held disk.old) (D.held disk.new)) }
 {
     let mut from = disk.input(input)?;
     let answer = listed(&mut from, &mut report.out, w, m);

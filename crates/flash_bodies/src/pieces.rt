@@ -2,8 +2,8 @@
 
 ghost use Rattle.std.specs.Prelude.{◌≡◌, ◌≤◌, ◌-◌, max, [], None, IsTrue, OnOk, IfErr};
 ghost use Rattle.abt_refusals.specs.Paths.{path_of};
-ghost use Rattle.abt_disk.specs.World.{HasNotFailed, KeepsFile};
 ghost use Rattle.abt_output.specs.Shows.{Shows};
+ghost use Rattle.flash_bodies.specs.Files.{LeavesOthers, MayFlashPieces};
 ghost use Rattle.flash_bodies.specs.InPieces.{FlashesPieces, IsUncuttable, RefusesPieces, SparesBoth};
 ghost use Rattle.flash_bodies.specs.Through.{count_delivered};
 
@@ -32,22 +32,20 @@ pub fn flash_pieces_file<'a, D: Disk>(
     w: &mut Window,
     m: &mut Meter,
 ) -> Result<(), SparseRefusal<'a>>
-    requires first { IsTrue D.tells → (D.held disk.old).begun ≡ [] }
-    requires one { IsTrue D.tells → (D.held disk.old).part ≡ None }
-    requires through { IsTrue D.tells → (D.held disk.old).spool ≡ None }
+    requires ready { IsTrue D.tells → MayFlashPieces (D.held disk.old) }
     // PARTITION holds what it held under the blocks of the pieces, and is synced; what was printed tells of them
     ensures done { IsTrue D.tells → OnOk result (FlashesPieces raw limit (max 1 from - 1) (path_of input.entry)
         (path_of partition.entry) (path_of spool.entry) (D.world disk.old) (D.world disk.new) (D.held disk.old)
         (D.held disk.new) (Shows report.old report.new)) }
-    // whatever comes, PARTITION and SPOOL alone may hold anything else, and IN holds what it held
-    ensures others { IsTrue D.tells → SparesBoth (path_of partition.entry) (path_of spool.entry) (D.world disk.old)
-        (D.world disk.new) }
-    ensures input { IsTrue D.tells → KeepsFile (path_of input.entry) (D.world disk.old) (D.world disk.new) }
+    // whatever comes, PARTITION and SPOOL alone may hold anything else, and IN holds what it held; and where it is done
+    // nothing has failed
+    ensures leaves { IsTrue D.tells → LeavesOthers result (SparesBoth (path_of partition.entry) (path_of spool.entry)
+        (D.world disk.old) (D.world disk.new)) (path_of input.entry) (D.held disk.old) (D.held disk.new)
+        (D.world disk.old) (D.world disk.new) }
     // it is refused for what IN is, for its limits, or where a file, a device or the report failed
     ensures refused { IsTrue D.tells → IfErr result (λ refusal. RefusesPieces refusal.fault raw limit (max 1 from - 1)
         (path_of input.entry) (path_of partition.entry) (path_of spool.entry) (D.world disk.old) (D.world disk.new)
         (D.held disk.old) (D.held disk.new)) }
-    ensures clean { IsTrue D.tells → OnOk result (HasNotFailed (D.held disk.old) (D.held disk.new)) }
 {
     let from = from.max(1);
     let source = disk.ahead(input)?;

@@ -2,8 +2,8 @@
 
 ghost use Rattle.std.specs.Prelude.{◌≡◌, ◌<◌, ◌+◌, [], IsTrue, OnOk, IfErr};
 ghost use Rattle.abt_refusals.specs.Paths.{path_in, path_of};
-ghost use Rattle.abt_disk.specs.World.{HasNotFailed};
 ghost use Rattle.abt_output.specs.Shows.{Shows};
+ghost use Rattle.abt_disk.specs.DiskCalls.{LeavesAll};
 ghost use Rattle.flash_bodies.specs.Verifying.{Finds, FindsRaw, RefusesVerify, RefusesVerifyRaw, VerifiesFile};
 ghost use Rattle.flash_bodies.specs.Verifying.{VerifiesRawFile};
 
@@ -29,12 +29,11 @@ pub fn verify_file<'a, D: Disk>(
     // the image that IN holds stands on PARTITION, and what was printed tells of it
     ensures done { IsTrue D.tells → OnOk result (VerifiesFile (path_in input.entry) (path_of partition.entry)
         (D.world disk.old) (Shows report.old report.new)) }
-    // every file stays as it is
-    ensures world { IsTrue D.tells → D.world disk.new ≡ D.world disk.old }
+    // every file stays as it is; and where it is done nothing has failed
+    ensures leaves { LeavesAll D.tells result (D.held disk.old) (D.held disk.new) (D.world disk.old) (D.world disk.new) }
     // it is refused for the first byte that differs or the first fault that IN has, or where a file or the report failed
     ensures refused { IsTrue D.tells → IfErr result (λ refusal. RefusesVerify refusal.fault (path_in input.entry)
         (path_of partition.entry) (D.world disk.old) (D.held disk.old) (D.held disk.new)) }
-    ensures clean { IsTrue D.tells → OnOk result (HasNotFailed (D.held disk.old) (D.held disk.new)) }
 {
     let from = disk.input(input)?;
     report.progress.expect_if(from.known_length());
@@ -75,12 +74,11 @@ pub fn verify_raw_file<'a, D: Disk>(
     // each byte of IN stands on PARTITION, and what was printed tells of it
     ensures done { IsTrue D.tells → OnOk result (VerifiesRawFile size (path_of input.entry) (path_of partition.entry)
         (D.world disk.old) (Shows report.old report.new)) }
-    // every file stays as it is
-    ensures world { IsTrue D.tells → D.world disk.new ≡ D.world disk.old }
+    // every file stays as it is; and where it is done nothing has failed
+    ensures leaves { LeavesAll D.tells result (D.held disk.old) (D.held disk.new) (D.world disk.old) (D.world disk.new) }
     // it is refused for the first byte that differs, for the size of blocks, or where a file or the report failed
     ensures refused { IsTrue D.tells → IfErr result (λ refusal. RefusesVerifyRaw refusal.fault size
         (path_of input.entry) (path_of partition.entry) (D.world disk.old) (D.held disk.old) (D.held disk.new)) }
-    ensures clean { IsTrue D.tells → OnOk result (HasNotFailed (D.held disk.old) (D.held disk.new)) }
 {
     let source = disk.source(input)?;
     report.progress.expect(source.length(), 1);

@@ -1,16 +1,14 @@
 -- One piece, from its output's opening to its end.
-use Rattle.std.proofs.Common.{inl, inr, arith, ◌⊎◌, ◌+◌, ◌≡◌, ℕ, ◌<◌, ◌≤◌, List, [], Some, None, Bool, true, false}
-use Rattle.std.proofs.Common.{refl, sym, ◌∙◌, ap, subst}
-use Rattle.std.specs.Prelude.{IsTrue, IsOk, IfOk, IfErr, OnOk, OnErr, Result, Ok, Err, is_ok, unwrap_or, Contains}
-use Rattle.std.specs.Prelude.{if◌then◌else◌, ◌&&◌, Option}
+use Rattle.std.proofs.Common.{arith, ◌+◌, ◌≡◌, ℕ, ◌<◌, List, None, Bool, true, false, refl, sym, ◌∙◌, ap, subst}
+use Rattle.std.specs.Prelude.{IsOk, IfOk, OnOk, OnErr, Result, Ok, Err, is_ok, unwrap_or, Contains, if◌then◌else◌}
+use Rattle.std.specs.Prelude.{Option}
 use Rattle.std.proofs.lemmas.Bool.{false≢true}
 use Rattle.abt_pieces.specs.Turn.{HasAt}
 use Rattle.abt_disk.specs.World.{World, Held, Creates, OnlyAt, Ends, Spares, SparesRest, KeepsBegun, ended, unended}
 use Rattle.abt_disk.specs.World.{failing}
-use Rattle.image_bodies.specs.Sparsing.{GivesUp}
 use Rattle.image_bodies.specs.Cutting.{AddsNone, AddsPiece, ClosesBeside, HoldsPiece}
 use Rattle.abt_disk.specs.Among.{GoesAmong, IsMade, KeepsMade}
-use Rattle.abt_disk.proofs.Amongs.{made_written, goes_refused, goes_written, keeps_refused, keeps_written}
+use Rattle.abt_disk.proofs.Amongs.{made_written, goes_written, keeps_refused, keeps_written}
 
 -- ---- an output that is closed, beside what is read
 
@@ -30,15 +28,6 @@ beside_undone r r' w0 w h h' none end clean = record {
   closed = end;
   clean = λ t. absurd (false≢true t);
   cause = λ f. omega (arith, none, clean);
-}
-
-pub beside_given_up : (r r' w0 w : ℕ) (h h' : Held) (a b : World) → w0 ≡ 0 → GivesUp w h h' a b → r + w0 < r' + w
-    → ClosesBeside false r r' h h'
-beside_given_up r r' w0 w h h' a b none given cause = record {
-  failures = given.failures;
-  closed = given.closed;
-  clean = λ t. absurd (false≢true t);
-  cause = λ f. omega (arith, none, given.least, cause);
 }
 
 pub beside_answer : {X Y F G : Type 0} (answer : Result X F) (result : Result Y G) (r r' w0 w : ℕ) (h h' : Held)

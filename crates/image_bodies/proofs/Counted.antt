@@ -83,10 +83,6 @@ pub closes_given_up : (r n : ℕ) (h h' h'' : Held) (a b : World) → h' ≡ fai
 closes_given_up r n h h' h'' a b before given some =
     closes_undone r given.failures h h' h'' before given.closed (omega (arith, given.least, some))
 
-pub gives_up : (f n : ℕ) (h h' : Held) (a b : World) → h' ≡ ended false n h → f ≤ n → SparesRest h.output a b
-    → GivesUp f h h' a b
-gives_up f n h h' a b end more rest = record { failures = n; closed = end; least = more; rest = rest }
-
 -- the answer is that of the call
 pub answered : {X F G : Type 0} (answer : Result X F) (result : Result (X × Bool) G)
     → IfOk result (λ end. answer ≡ Ok end.0) → OnOk result (IsOk answer)
@@ -134,8 +130,3 @@ clean_behind input path bytes h h' h'' h''' w a b opened made closes =
 -- a call was refused at once, or behind a file that was opened
 pub failed_once : (h h' : Held) → h' ≡ failing 1 h → HasFailed h h'
 failed_once h h' now = omega (arith, ap (λ k. k.failed) now)
-
-pub failed_next : (input bytes : List ℕ) (h h' h'' : Held) (w : World) → OpensFile w input bytes h h'
-    → h'' ≡ failing 1 h' → HasFailed h h''
-failed_next input bytes h h' h'' w opened now =
-    omega (arith, ap (λ k. k.failed) opened.taken, ap (λ k. k.failed) now)

@@ -1,9 +1,8 @@
 -- One piece more, and all of them.
-use Rattle.std.proofs.Common.{inl, inr, arith, ◌⊎◌, ◌+◌, ◌-◌, ◌*◌, ◌≡◌, ℕ, zero, suc, ◌<◌, ◌≤◌, List, [], ◌∷◌, ◌++◌}
-use Rattle.std.proofs.Common.{Some, None, Bool, true, false, refl, sym, ◌∙◌, ap, subst, below_more, length, map}
+use Rattle.std.proofs.Common.{inl, inr, arith, ◌⊎◌, ◌+◌, ◌-◌, ◌*◌, ◌≡◌, ℕ, zero, suc, ◌<◌, ◌≤◌, List, [], ◌∷◌, Some}
+use Rattle.std.proofs.Common.{None, Bool, true, false, refl, sym, ◌∙◌, ap, subst, below_more, length, map}
 use Rattle.std.proofs.Common.{length-append}
-use Rattle.std.specs.Prelude.{IsTrue, unwrap_or, Contains, if◌then◌else◌, ◌&&◌, Option, is_none, option_map, codes}
-use Rattle.std.specs.Prelude.{bytes_eq}
+use Rattle.std.specs.Prelude.{unwrap_or, Contains, if◌then◌else◌, ◌&&◌, Option, is_none, option_map, codes, bytes_eq}
 use Rattle.std.proofs.lemmas.Bool.{false≢true}
 use Rattle.std.proofs.lemmas.List.{length-map}
 use Rattle.abt_sparse.specs.Block.{Block}
@@ -11,14 +10,13 @@ use Rattle.abt_sparse.specs.Chunk.{piece}
 use Rattle.abt_sparse.specs.Runs.{frames, segments}
 use Rattle.abt_sparse.specs.Pieces.{pieces}
 use Rattle.abt_pieces.specs.Cutter.{Made, Passed, has_more, segments_left}
-use Rattle.abt_pieces.specs.Turn.{HasAt}
 use Rattle.abt_pieces.specs.declared.stage.Stage.{Stage}
 use Rattle.abt_pieces.specs.declared.stage.Stage.TheVariants.{Between, Done}
 use Rattle.abt_refusals.specs.Paths.{path_out, path_of, is_standard, numbered, in_folder}
 use Rattle.abt_refusals.specs.declared.place.Place.{Place}
 use Rattle.abt_disk.specs.World.{World, Held}
-use Rattle.image_bodies.specs.Cutting.{AddsNone, AddsPiece, AreApart, CutsSoFar, IsFirstPiecePath, IsPiecePath, PieceStands}
-use Rattle.image_bodies.specs.Cutting.{OnlyLeaves, PiecesStand, piece_path}
+use Rattle.image_bodies.specs.Cutting.{AddsNone, AddsPiece, AreApart, CutsSoFar, IsFirstPiecePath, IsPiecePath}
+use Rattle.image_bodies.specs.Cutting.{PieceStands, OnlyLeaves, PiecesStand, piece_path}
 use Rattle.abt_disk.specs.Among.{GoesAmong, IsMade, KeepsMade}
 use Rattle.abt_disk.proofs.Amongs.{made_later, goes_more, goes_still, goes_then}
 

@@ -7,8 +7,8 @@ use Rattle.abt_runs.specs.Raw.{RefusedRaw}
 use Rattle.abt_sparsify.specs.declared.count.Written.{Written}
 use Rattle.abt_disk.specs.Images.{EmptiesAt}
 use Rattle.abt_disk.specs.World.{World, Held, Spares, OpensFile, Creates, untouched, SparesRest}
-use Rattle.abt_disk.specs.World.{ClosesOutput, HasFailed}
-use Rattle.abt_disk.proofs.Worlds.{apart, only_behind, only_written, spares_trans}
+use Rattle.abt_disk.specs.World.{ClosesOutput, HasFailed, HasNotFailed}
+use Rattle.abt_disk.proofs.Worlds.{apart, kept_behind, only_behind, only_written, spares_trans}
 use Rattle.abt_refusals.specs.declared.refusal.HostFault.{HostFault}
 use Rattle.sparse_rules.specs.Blocks.{IsRawBlockSize}
 use Rattle.sparse_rules.specs.Lines.{line_text}
@@ -90,8 +90,10 @@ pub left_unbegun : {X F : Type 0} (e : F) (input output : List ℕ) (size : ℕ)
 left_unbegun e input output size over h h' a c none same = record {
   synced = tt;
   others = untouched same;
+  input = λ f there. ap (λ w. w.holds f) same;
   closed = none;
   whole = λ o. part_same input output size a c same;
+  clean = tt;
 }
 
 -- it was written, whatever was told of it then
@@ -99,13 +101,15 @@ pub left_whole : {X F : Type 0} (r : Result X F) (input output bytes : List ℕ)
     (h h' h'' h''' : Held) (a b c d : World) → n ≡ size → OpensFile a input bytes h h' → b ≡ a
     → Creates output h' h'' b c → HoldsWritten n bytes x h''.output c d → SparesRest h''.output c d
     → ClosesOutput true h'' h''' → OnOk r (h'''.syncs ≡ h.syncs + (if h.is_synced then 1 else 0))
-    → LeavesImage r input output size over h h''' a d
-left_whole r input output bytes size n x over h h' h'' h''' a b c d sized opened same made has rest closes synced =
+    → OnOk r (HasNotFailed h h''') → LeavesImage r input output size over h h''' a d
+left_whole r input output bytes size n x over h h' h'' h''' a b c d sized opened same made has rest closes synced clean =
     record {
       synced = synced;
       others = only_behind _ _ _ _ _ _ _ _ opened same (only_written _ _ _ _ _ _ made rest);
+      input = kept_behind _ _ _ _ _ _ _ _ opened same (only_written _ _ _ _ _ _ made rest);
       closed = ap (λ k. k.output) closes.closed;
       whole = λ o. part_whole input output bytes size n x h h' h'' a b c d sized opened made has;
+      clean = clean;
     }
 
 -- ---- why it is refused

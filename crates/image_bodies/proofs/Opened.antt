@@ -1,6 +1,5 @@
 -- What is cut, as it was opened.
-use Rattle.std.proofs.Common.{inl, inr, arith, ◌⊎◌, ◌+◌, ◌≡◌, ℕ, ◌<◌, ◌≤◌, List, [], Some, None, refl, sym, ◌∙◌, ap}
-use Rattle.std.proofs.Common.{subst, length}
+use Rattle.std.proofs.Common.{◌+◌, ◌≡◌, ℕ, ◌<◌, ◌≤◌, List, Some, None, refl, sym, ◌∙◌, ap, subst, length}
 use Rattle.std.specs.Prelude.{IfErr, OnOk, Result, Ok, Err, Option}
 use Rattle.abt_sparse.specs.declared.fault.SparseFault.{SparseFault}
 use Rattle.abt_sparse.specs.Block.{Block, classify}
@@ -8,19 +7,16 @@ use Rattle.abt_sparse.specs.Chunk.{Header, Chunk, classed}
 use Rattle.abt_sparse.specs.Fails.{Fails, IsOutcome, Spells}
 use Rattle.abt_sparse.specs.Pieces.{pieces}
 use Rattle.abt_sparse.specs.Reading.{Outcome, Image, Fault, outcome}
-use Rattle.abt_sparse.proofs.Exactly.{is_so}
 use Rattle.abt_runs.specs.Raw.{RefusedRaw}
 use Rattle.abt_runs.specs.Sparse.{SparseOpened, blocks_in, sparse_list}
 use Rattle.abt_runs.specs.Verdict.{Refuses}
-use Rattle.abt_runs.specs.declared.part.RunFault.{RunFault}
 use Rattle.abt_runs.specs.declared.part.RunFault.TheVariants as of_runs
-use Rattle.abt_pieces.specs.declared.fault.PieceFault.{PieceFault}
-use Rattle.abt_disk.specs.World.{World, Held, HasFailed}
+use Rattle.abt_disk.specs.World.{World, Held}
 use Rattle.sparse_rules.specs.Blocks.{IsRawBlockSize, RefusedCut}
 use Rattle.sparse_rules.specs.declared.fault.SparseCommandFault.{SparseCommandFault}
 use Rattle.sparse_rules.specs.declared.fault.SparseCommandFault.TheVariants as faults
-use Rattle.image_bodies.specs.Cutting.{CutsAll, CutsImage, CutsSoFar, IsImageOfBlocks, IsSparseOf, IsTooSmall, IsUncutSparse}
-use Rattle.image_bodies.specs.Cutting.{StopsCut, StopsImage, no_cut, no_room, stopped, unread}
+use Rattle.image_bodies.specs.Cutting.{CutsAll, CutsImage, CutsSoFar, IsImageOfBlocks, IsUncutSparse, StopsCut}
+use Rattle.image_bodies.specs.Cutting.{StopsImage, no_cut, no_room, stopped, unread}
 
 pub if_err : {X E : Type 0} (r : Result X E) (P Q : E → Type 0) → ((e : E) → P e → Q e) → IfErr r P → IfErr r Q
 if_err (Ok x) P Q go is = tt

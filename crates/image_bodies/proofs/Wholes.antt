@@ -1,27 +1,23 @@
 -- All of a run that cuts an image, from the image's opening on.
-use Rattle.std.proofs.Common.{inl, inr, arith, ◌⊎◌, ◌+◌, ◌*◌, ◌≡◌, ◌≢◌, ℕ, ◌<◌, ◌≤◌, List, [], ◌∷◌, ◌++◌, Some, None}
-use Rattle.std.proofs.Common.{Bool, true, false, refl, sym, ◌∙◌, ap, subst, length}
-use Rattle.std.specs.Prelude.{IsTrue, IsOk, IfOk, IfErr, OnOk, OnErr, Result, Ok, Err, Option, unwrap_or, is_some}
-use Rattle.std.specs.Prelude.{Contains, if◌then◌else◌}
+use Rattle.std.proofs.Common.{inl, inr, arith, ◌⊎◌, ◌+◌, ◌*◌, ◌≡◌, ◌≢◌, ℕ, ◌<◌, List, [], Some, None, true, false, sym}
+use Rattle.std.proofs.Common.{◌∙◌, ap, subst}
+use Rattle.std.specs.Prelude.{OnOk, Result, Ok, Err, Option, unwrap_or, is_some, Contains, if◌then◌else◌}
 use Rattle.std.proofs.lemmas.Bool.{false≢true}
 use Rattle.std.proofs.lemmas.List.Elements.{Contains-push, Contains-append_cases}
-use Rattle.abt_sparse.specs.Block.{Block, classify}
+use Rattle.abt_sparse.specs.Block.{Block}
 use Rattle.abt_sparse.specs.Pieces.{pieces}
-use Rattle.abt_pieces.specs.Turn.{HasAt}
 use Rattle.abt_refusals.specs.declared.refusal.HostFault.{HostFault}
 use Rattle.abt_refusals.specs.declared.refusal.HostFault.TheVariants as hosts
-use Rattle.abt_disk.specs.World.{World, Held, OpensFile, KeepsFile, HasFailed, HasNotFailed, failing, reading}
-use Rattle.sparse_rules.specs.Lines.{line_text}
+use Rattle.abt_disk.specs.World.{World, Held, OpensFile, KeepsFile, HasFailed, HasNotFailed, failing}
 use Rattle.sparse_rules.specs.declared.lines.Line.TheVariants as lines
 use Rattle.sparse_rules.specs.declared.fault.SparseCommandFault.{SparseCommandFault}
 use Rattle.sparse_rules.specs.declared.fault.SparseCommandFault.TheVariants as faults
 use Rattle.image_bodies.specs.Sparsing.{IsOutsideSparse}
-use Rattle.image_bodies.specs.Cutting.{AreApart, CutsAll, CutsFile, CutsImage, CutsSoFar, FirstStand, IsImageOfBlocks}
-use Rattle.image_bodies.specs.Cutting.{IsFirstPiecePath, IsPiecePath, OnlyFails, OnlyLeaves, PieceStands, PiecesStand}
-use Rattle.image_bodies.specs.Cutting.{RefusesCut, StopsCut}
-use Rattle.image_bodies.specs.Cutting.{StopsImage, failed, no_cut, no_memory, no_room, opened, piece_path, stopped}
-use Rattle.image_bodies.specs.Cutting.{unopened, unread, untold}
-use Rattle.abt_disk.specs.Among.{GoesAmong, IsMade, OnlyAmong}
+use Rattle.image_bodies.specs.Cutting.{AreApart, CutsFile, CutsImage, CutsSoFar, FirstStand, IsImageOfBlocks}
+use Rattle.image_bodies.specs.Cutting.{IsFirstPiecePath, IsPiecePath, LeavesCut, LeavesPieces, OnlyFails, OnlyLeaves}
+use Rattle.image_bodies.specs.Cutting.{RefusesCut, StopsCut, StopsImage, failed, no_cut, no_memory, no_room, opened}
+use Rattle.image_bodies.specs.Cutting.{piece_path, stopped, unopened, unread, untold}
+use Rattle.abt_disk.specs.Among.{GoesAmong, IsMade}
 use Rattle.image_bodies.proofs.Cuts.{cuts_none}
 use Rattle.abt_disk.proofs.Amongs.{goes_none, goes_then, kept_beside, among_behind}
 
@@ -53,18 +49,6 @@ cuts_past prefix ps n m r h h' h'' a b c later same cuts = record {
   is_synced = ap (λ k. k.is_synced) later ∙ cuts.is_synced;
   synced = ap (λ k. k.syncs) later ∙ cuts.synced;
 }
-
-pub stops_past : (fault : SparseCommandFault) (prefix : List ℕ) (ps : List (List ℕ)) (r r' : ℕ) (h h' h'' : Held)
-    (a b c : World) → r ≡ 0 → h'' ≡ failing r' h' → c ≡ b
-    → StopsCut fault (h.failed + r < h'.failed + r') (λ n m. CutsSoFar prefix ps n m h h' a b)
-    → StopsCut fault (HasFailed h h'') (λ n m. CutsSoFar prefix ps n m h h'' a c)
-stops_past fault prefix ps r r' h h' h'' a b c none later same (failed outside more n cuts) =
-    failed outside (omega (arith, none, more, ap (λ k. k.failed) later)) n
-    (cuts_past prefix ps n (n + 1) r' h h' h'' a b c later same cuts)
-stops_past fault prefix ps r r' h h' h'' a b c none later same (untold f told n some cuts) =
-    untold f told n some (cuts_past prefix ps n n r' h h' h'' a b c later same cuts)
-stops_past fault prefix ps r r' h h' h'' a b c none later same (no_memory told cuts) =
-    no_memory told (cuts_past prefix ps 0 0 r' h h' h'' a b c later same cuts)
 
 -- a call of the disk was refused, or memory was, before the first piece
 pub stops_host : (fault : SparseCommandFault) (k : HostFault) (prefix : List ℕ) (ps : List (List ℕ)) (h h' : Held)
@@ -160,15 +144,30 @@ refuses_file raw limit input prefix bytes fault h h' h'' a b c none o same why =
     (subst (λ x. StopsImage raw limit x fault (HasFailed h h'') (c ≡ a) (FirstStand prefix o.file h h'' a c)) o.held
     (image_file raw limit bytes fault prefix input bytes h h' h'' a b c none o same why))
 
-pub keeps_input : (prefix path bytes : List ℕ) (h h' h'' : Held) (a b c : World) → OpensFile a path bytes h h' → b ≡ a
+keeps_input : (prefix path bytes : List ℕ) (h h' h'' : Held) (a b c : World) → OpensFile a path bytes h h' → b ≡ a
     → GoesAmong (IsPiecePath prefix) h' h'' b c → KeepsFile path a c
 keeps_input prefix path bytes h h' h'' a b c o same goes = λ f there.
     let is : o.file ≡ f = ap (λ p. unwrap_or p 0) (sym o.there ∙ there) in
     subst (λ g. c.holds g ≡ a.holds g) is (kept_beside (IsPiecePath prefix) path bytes h h' h'' a b c o same goes)
 
-pub clean_file : (path bytes : List ℕ) (h h' h'' : Held) (a : World) → OpensFile a path bytes h h' → HasNotFailed h' h''
+clean_file : (path bytes : List ℕ) (h h' h'' : Held) (a : World) → OpensFile a path bytes h h' → HasNotFailed h' h''
     → HasNotFailed h h''
 clean_file path bytes h h' h'' a o clean = omega (arith, clean, ap (λ k. k.failed) o.taken)
+
+clean_file_as : {X F : Type 0} (r : Result X F) (path bytes : List ℕ) (h h' h'' : Held) (a : World)
+    → OpensFile a path bytes h h' → OnOk r (HasNotFailed h' h'') → OnOk r (HasNotFailed h h'')
+clean_file_as (Ok x) path bytes h h' h'' a o clean = clean_file path bytes h h' h'' a o clean
+clean_file_as (Err e) path bytes h h' h'' a o clean = tt
+
+pub leaves_cut : {X F : Type 0} (r : Result X F) (prefix path bytes : List ℕ) (h h' h'' : Held) (a b c : World)
+    → h.begun ≡ [] → OpensFile a path bytes h h' → b ≡ a → LeavesPieces r (IsPiecePath prefix) h' h'' b c
+    → LeavesCut r path prefix h h'' a c
+leaves_cut r prefix path bytes h h' h'' a b c none o same leaves = record {
+  only = among_behind (IsPiecePath prefix) path bytes h h' h'' a b c none o same leaves.left.only;
+  input = keeps_input prefix path bytes h h' h'' a b c o same leaves.left.only;
+  closed = leaves.left.closed;
+  clean = clean_file_as r path bytes h h' h'' a o leaves.clean;
+}
 
 -- the image could not be opened
 pub refuses_unopened : (raw : Option ℕ) (limit : ℕ) (input prefix : List ℕ) (fault : SparseCommandFault) (k : HostFault)
@@ -178,9 +177,6 @@ refuses_unopened raw limit input prefix fault k h h' a c told now same =
     unopened k told (omega (arith, ap (λ q. q.failed) now)) same
 
 -- ---- of calls that may be refused
-
-pub only_one_fails : (h h' : Held) → h' ≡ failing 1 h → OnlyFails h h'
-only_one_fails h h' now = record { failures = 1; same = now }
 
 -- what is not there is not noted
 pub not_there : (o : Option ℕ) → true ≡ is_some o → o ≡ None → ⊥
@@ -222,12 +218,6 @@ stops_between fault prefix ps r r' h h1 h2 h3 a a1 b c held world none (untold f
     untold f told n some (cuts_between prefix ps n n r' h h1 h2 h3 a a1 b c held world cuts later same)
 stops_between fault prefix ps r r' h h1 h2 h3 a a1 b c held world none (no_memory told cuts) later same =
     no_memory told (cuts_between prefix ps 0 0 r' h h1 h2 h3 a a1 b c held world cuts later same)
-
-pub clean_between : (r r' : ℕ) (h h1 h2 h3 : Held) → h1 ≡ h → r ≡ 0 → h2.failed + r' ≡ h1.failed + r
-    → h3 ≡ failing r' h2
-    → HasNotFailed h h3
-clean_between r r' h h1 h2 h3 held none clean later =
-    omega (arith, none, clean, ap (λ k. k.failed) held, ap (λ k. k.failed) later)
 
 -- ---- from the answer of the call
 

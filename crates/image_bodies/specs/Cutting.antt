@@ -1,8 +1,7 @@
 -- What the command `cut` leaves of files, and what it prints.
-use Rattle.std.specs.Prelude.{◌≡◌, ◌≢◌, ◌<◌, ◌≤◌, ◌⊎◌, ◌+◌, ◌*◌, ℕ, List, [], ◌∷◌, ◌++◌, length, Option, Some, None}
-use Rattle.std.specs.Prelude.{Bool, true, false, IsTrue, Contains, if◌then◌else◌, Result, OnOk, IfOk, IfErr, is_ok}
+use Rattle.std.specs.Prelude.{◌≡◌, ◌≢◌, ◌<◌, ◌≤◌, ◌+◌, ◌*◌, ℕ, List, [], ◌∷◌, ◌++◌, length, Option, Some, None, Bool}
+use Rattle.std.specs.Prelude.{true, false, IsTrue, Contains, if◌then◌else◌, Result, OnOk, IfOk, IfErr, is_ok}
 use Rattle.abt_io.specs.declared.device.Source as sources
-use Rattle.abt_sparse.specs.declared.fault.SparseFault.{SparseFault}
 use Rattle.abt_sparse.specs.Block.{Block, classify}
 use Rattle.abt_sparse.specs.Chunk.{Header, Chunk, classed}
 use Rattle.abt_sparse.specs.Fails.{Fails, Spells}
@@ -26,7 +25,8 @@ use Rattle.abt_pieces.specs.declared.fault.PieceFault.TheVariants as of_pieces
 use Rattle.abt_refusals.specs.Paths.{numbered}
 use Rattle.abt_refusals.specs.declared.refusal.HostFault.{HostFault}
 use Rattle.abt_refusals.specs.declared.refusal.HostFault.TheVariants as hosts
-use Rattle.abt_disk.specs.World.{World, Held, Ends, Spares, SparesRest, HasFailed, ended, failing}
+use Rattle.abt_disk.specs.World.{World, Held, Ends, KeepsFile, Spares, SparesRest, HasFailed, HasNotFailed, ended}
+use Rattle.abt_disk.specs.World.{failing}
 use Rattle.sparse_rules.specs.Blocks.{IsRawBlockSize}
 use Rattle.sparse_rules.specs.Lines.{line_text}
 use Rattle.sparse_rules.specs.declared.fault.SparseCommandFault.{SparseCommandFault}
@@ -121,6 +121,12 @@ pub record OnlyLeaves (named : List ℕ → Type 0) (held held' : Held) (old new
   pub only : GoesAmong named held held' old new
   pub closed : held'.output ≡ None
 
+-- and it is done only where nothing has failed
+pub record LeavesPieces {X F : Type 0} (r : Result X F) (named : List ℕ → Type 0) (held held' : Held) (old new : World)
+    : Type 0 where
+  pub left : OnlyLeaves named held held' old new
+  pub clean : OnOk r (HasNotFailed held held')
+
 -- ---- one piece
 
 -- the next piece of an image is to be cut, and none is begun
@@ -128,6 +134,12 @@ pub record ReadyPiece {R A : Type 0} (g : images.Ghosts R) (s : sources.Ghosts A
     (limit made : ℕ) (start : Cursor) (st : Stage) : Type 0 where
   pub between : st ≡ Between
   pub ready : ReadyCutter g s image source limit made start st
+
+-- nor was any
+pub record ReadyFirstPiece {R A : Type 0} (g : images.Ghosts R) (s : sources.Ghosts A) (image : R) (source : A)
+    (limit made : ℕ) (start : Cursor) (st : Stage) : Type 0 where
+  pub first : made ≡ 0
+  pub ready : ReadyPiece g s image source limit made start st
 
 -- what the piece is that was cut, and that what cuts, and the source, go on as they were
 pub record CutsPiece {X E : Type 0} (r : Result X E) (piece : X → Piece) {R A : Type 0} (g : images.Ghosts R)
@@ -225,6 +237,11 @@ pub record OnlyFails (old new : Held) : Type 0 where
   pub failures : ℕ
   pub same : new ≡ failing failures old
 
+-- nor has any file
+pub record ChangesNoFile (held held' : Held) (old new : World) : Type 0 where
+  pub fails : OnlyFails held held'
+  pub world : new ≡ old
+
 -- why the pieces of a sparse image x can't be cut
 abbrev pub IsUncutSparse : SparseCommandFault → ℕ → List ℕ → ℕ → ℕ → Type 0
 IsUncutSparse (faults.Run (of_runs.Sparse f)) limit x reads reads' = Refuses (of_runs.Sparse f) (outcome x)
@@ -271,6 +288,15 @@ pub record CutsFile (raw : Option ℕ) (limit : ℕ) (input prefix : List ℕ) (
   pub first : FirstStand prefix from held held' old new (pieces limit size blocks) count count
   pub shown : count < 4294967295 → new.at (piece_path prefix (count + 1)) ≡ None
       → shows (line_text (lines.Pieces count) ++ (10 ∷ []))
+
+-- What is left of files, whatever the outcome: only such files as pieces have were created or changed, IN holds what it
+-- held, and no output is open. It is done only where nothing has failed.
+pub record LeavesCut {X F : Type 0} (r : Result X F) (from prefix : List ℕ) (held held' : Held) (old new : World)
+    : Type 0 where
+  pub only : OnlyAmong (IsPiecePath prefix) held.read held'.begun old new
+  pub input : KeepsFile from old new
+  pub closed : held'.output ≡ None
+  pub clean : OnOk r (HasNotFailed held held')
 
 -- why the command is refused: the file could not be opened, before anything was changed; or for what it holds
 pub data RefusesCut (raw : Option ℕ) (limit : ℕ) (input prefix : List ℕ) (fault : SparseCommandFault)

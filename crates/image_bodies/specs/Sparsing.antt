@@ -9,7 +9,8 @@ use Rattle.abt_pieces.specs.declared.fault.PieceFault.{PieceFault}
 use Rattle.abt_pieces.specs.declared.fault.PieceFault.TheVariants as pieces
 use Rattle.abt_placed.specs.Unfinished.{IsNoImage}
 use Rattle.abt_sparsify.specs.declared.count.Written.{Written}
-use Rattle.abt_disk.specs.World.{World, Held, ClosesOutput, OnlyAt, Spares, SparesRest, HasFailed, ended}
+use Rattle.abt_disk.specs.World.{World, Held, ClosesOutput, KeepsFile, OnlyAt, Spares, SparesRest, HasFailed}
+use Rattle.abt_disk.specs.World.{HasNotFailed, ended}
 use Rattle.sparse_rules.specs.Blocks.{IsRawBlockSize, most_of}
 use Rattle.sparse_rules.specs.declared.blocks.Blocks.{Blocks}
 use Rattle.sparse_rules.specs.Lines.{line_text}
@@ -58,14 +59,16 @@ HoldsNoPartOfSparse input output size old new = (file : ℕ) → new.at output �
     ⊎ (HoldsNoSparse (new.holds file) ⊎ HoldsImage input size old (new.holds file))
 
 -- What a call leaves that writes the sparse image of one file to another, whatever it answers: that one alone may hold
--- anything else, no output is open, and a file that can be written over has no part of an image; after an Ok it was
--- synced, where that is wanted.
-pub record LeavesImage {X F : Type 0} (r : Result X F) (input output : List ℕ) (size : ℕ) (is_over : Bool)
+-- anything else, the first holds what it held, no output is open, and a file that can be written over has no part of an
+-- image; after an Ok it was synced, where that is wanted, and nothing has failed.
+pub record LeavesImage {X F : Type 0} (r : Result X F) (from onto : List ℕ) (size : ℕ) (is_over : Bool)
     (held held' : Held) (old new : World) : Type 0 where
   pub synced : OnOk r (held'.syncs ≡ held.syncs + (if held.is_synced then 1 else 0))
-  pub others : OnlyAt held.read output old new
+  pub others : OnlyAt held.read onto old new
+  pub input : KeepsFile from old new
   pub closed : held'.output ≡ None
-  pub whole : IsTrue is_over → HoldsNoPartOfSparse input output size old new
+  pub whole : IsTrue is_over → HoldsNoPartOfSparse from onto size old new
+  pub clean : OnOk r (HasNotFailed held held')
 
 -- the file at this path has no blocks of this size, or too many, and nothing has changed
 pub record HasNoBlocks (path : List ℕ) (size : ℕ) (old new : World) (fault : RunFault) : Type 0 where
@@ -117,6 +120,27 @@ pub record FitsBlocks (blocks : Blocks) (bytes : ℕ) : Type 0 where
   pub most : blocks.most ≡ most_of blocks.size
   pub few : bytes ≤ (2 ^ 32 - 1) * blocks.size
 
+-- what is read is such an image, and has not failed
+pub record ReadyRawImage (tells : Bool) (blocks : Blocks) (bytes reads : ℕ) : Type 0 where
+  pub fits : FitsBlocks blocks bytes
+  pub read : IsTrue tells → reads ≡ 0
+
+-- nothing was written yet, and nothing has failed
+pub record ReadyOutput (tells : Bool) (written : List ℕ) (faults : ℕ) : Type 0 where
+  pub empty : written ≡ []
+  pub clean : IsTrue tells → faults ≡ 0
+
+-- both
+pub record ReadyToWrite (tells : Bool) (blocks : Blocks) (bytes reads : ℕ) (written : List ℕ) (faults : ℕ) : Type 0
+  where
+    pub image : ReadyRawImage tells blocks bytes reads
+    pub output : ReadyOutput tells written faults
+
+-- such an image can be written behind nothing
+pub record ReadyToLay (blocks : Blocks) (bytes : ℕ) (written : List ℕ) : Type 0 where
+  pub fits : FitsBlocks blocks bytes
+  pub empty : written ≡ []
+
 -- Of devices that had failed so often before, and have now, none has failed more where all was done; and where it was
 -- not, one has, and the fault is theirs.
 pub record OnlyDevicesFail {X : Type 0} (r : Result X SparseCommandFault) (tells : Bool) (failed failed' : ℕ)
@@ -132,6 +156,12 @@ pub record IsWritten (size : ℕ) (x : List ℕ) (a : Written) (bytes : List ℕ
   pub long : a.bytes ≡ length bytes
   pub holds : bytes ≡ image_of_raw size x
 
+-- What a call leaves that writes it of devices that had failed so often before, and have now.
+pub record LaysSparseImage (r : Result Written SparseCommandFault) (tells : Bool) (size : ℕ) (x bytes : List ℕ)
+    (failed failed' : ℕ) : Type 0 where
+  pub written : IsTrue tells → IfOk r (λ a. IsWritten size x a bytes)
+  pub fails : OnlyDevicesFail r tells failed failed'
+
 -- the output that was open holds the sparse image of these bytes, which has these numbers
 abbrev pub HoldsWritten : ℕ → List ℕ → Written → Option ℕ → World → World → Type 0
 HoldsWritten size x a None old new = Unit {0}
@@ -144,7 +174,7 @@ LeavesNoneOrSparse size x (Some file) new = HoldsNoSparse (new.holds file) ⊎ (
 
 -- The output that was open is brought to its end and closed: where the answer is Ok it holds the sparse image of these
 -- bytes, which has these numbers; no other file has changed; and where it is refused a device or a file was at fault.
-pub record WritesImage {F : Type 0} (r : Result (Written × Bool) F) (fault : F → SparseCommandFault) (size : ℕ)
+pub record WritesSparseImage {F : Type 0} (r : Result (Written × Bool) F) (fault : F → SparseCommandFault) (size : ℕ)
     (x : List ℕ) (held held' : Held) (old new : World) : Type 0 where
   pub holds : IfOk r (λ end. HoldsWritten size x end.0 held.output old new)
   pub closed : ClosesOutput (is_ok r) held held'

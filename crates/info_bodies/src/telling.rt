@@ -1,9 +1,6 @@
 //! What `info` prints of an image.
 
 ghost use Rattle.std.specs.Prelude.{◌≡◌, ◌<◌, ◌&&◌, IsTrue, IfErr, OnOk};
-ghost use Rattle.abt_sections.specs.Header.{view_of};
-ghost use Rattle.abt_sections.specs.Open.{IsOpened};
-ghost use Rattle.abt_sections.specs.Check.{IsVerdict};
 ghost use Rattle.info_bodies.specs.Informing as spec;
 
 use crate::info::InfoOutcome;

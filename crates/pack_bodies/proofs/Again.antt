@@ -1,10 +1,10 @@
 -- An image that is packed again: all that it is written from, and what is left of files.
 use Rattle.std.proofs.Common.{◌≡◌, ◌+◌, ◌⊎◌, inl, inr, ℕ, List, [], ◌∷◌, ◌++◌, Option}
 use Rattle.std.proofs.Common.{Bor, length, map, refl, sym, ap, ◌∙◌, subst, arith}
-use Rattle.std.specs.Prelude.{Bool, Contains, IsTrue, OnOk, Result, Ok, Err, if◌then◌else◌}
+use Rattle.std.specs.Prelude.{Bool, Contains, IfErr, IsTrue, OnOk, Result, Ok, Err, if◌then◌else◌}
 use Rattle.std.proofs.lemmas.List.Elements.{Contains-append_left}
 use Rattle.abt_refusals.specs.Paths.{output_path}
-use Rattle.abt_disk.specs.World.{World, Held, HasFailed, HasNotFailed, OnlyAt, untouched, in_output, Spares}
+use Rattle.abt_disk.specs.World.{World, Held, HasFailed, OnlyAt, untouched, in_output, Spares}
 use Rattle.abt_disk.specs.World.{failing}
 use Rattle.abt_refusals.specs.declared.refusal.HostFault.{HostFault}
 use Rattle.abt_sections.specs.Fields.{BootFields, boot_fields}
@@ -27,7 +27,7 @@ use Rattle.pack_bodies.specs.Contents.{Packing, image_from, refusal_from}
 use Rattle.pack_bodies.specs.Filling.{loaded_at}
 use Rattle.pack_bodies.specs.Lines.{counted_in_u64, image_line}
 use Rattle.pack_bodies.specs.Opening.{OpensMore, StopsOpening, failed, no_memory, no_text}
-use Rattle.pack_bodies.specs.Own.{StandsIn, kept_behind, own_fields}
+use Rattle.pack_bodies.specs.Own.{StandsIn, kept_behind, no_path, own_fields}
 use Rattle.pack_bodies.specs.Packing.{board_id_words}
 use Rattle.pack_bodies.specs.Parts.{ArePartsOf, IsFragmentInput, IsGivenPath, IsPartInput, of_fragment}
 use Rattle.pack_bodies.specs.Parts.{of_part}
@@ -40,7 +40,7 @@ use Rattle.pack_bodies.specs.Repacking.{PacksAgain}
 use Rattle.pack_bodies.specs.Writing.{HoldsNoPartOf, IsOutsideBoot, LaysImage, LeavesOut, StopsWriting}
 use Rattle.pack_bodies.specs.Writing as writing
 use Rattle.pack_bodies.proofs.Closes.{on_ok_by}
-use Rattle.pack_bodies.proofs.Openings.{failed_still, opens_none, opens_then, same_failing, stops_then}
+use Rattle.pack_bodies.proofs.Openings.{failed_still, opens_none, opens_then, same_failing, stops_more, stops_then}
 
 -- ---- ramdisk fragments
 
@@ -54,6 +54,12 @@ pub opened_none : {X E : Type 0} (r : Result X E) (fs : List FragmentText) (w : 
     → OnOk r (h' ≡ h) → OnOk r (OpensMore (IsFragmentInput fs) w h h')
 opened_none (Ok x) fs w h h' none same = opens_none (IsFragmentInput fs) w h h' same (no_fragments fs none)
 opened_none (Err e) fs w h h' none same = tt
+
+-- where no path is named, it is not for one that a call was refused
+pub none_stops : {X E : Type 0} (r : Result X E) (fault : E → HostFault) (B : List ℕ → Type 0) (h h' : Held)
+    → IfErr r (λ e. StopsOpening no_path h h' (fault e)) → IfErr r (λ e. StopsOpening B h h' (fault e))
+none_stops (Ok x) fault B h h' stops = tt
+none_stops (Err e) fault B h h' stops = stops_more no_path B h h' (fault e) stops (λ p is. absurd is)
 
 -- ---- all that it is written from
 
@@ -249,6 +255,9 @@ module _ (command : PackCommand) (x : List ℕ) (h : Header) (w w' : World) (k k
       → k''.syncs ≡ k.syncs + (if k.is_synced then 1 else 0)
   synced_again k'' s = s ∙ ap (λ (q : Held). q.syncs + (if q.is_synced then 1 else 0)) r.opened.taken
 
+  same_failed : k'.failed ≡ k.failed
+  same_failed = ap (λ q. q.failed) r.opened.taken
+
   pub left_again : {X F : Type 0} (q : Result X F) (w'' : World) (k'' : Held) (path : List ℕ) (over : List ℕ → Bool)
       → path ≡ output_path command.output.now → LeavesOut q path (over path) (λ y. y ≡ bytes) k' k'' w' w''
       → LeavesOut q (output_path command.output.now) (over (output_path command.output.now))
@@ -257,14 +266,9 @@ module _ (command : PackCommand) (x : List ℕ) (h : Header) (w w' : World) (k k
     others = only_again w'' path named left.others;
     closed = left.closed;
     whole = λ o. whole_again w'' path named (left.whole (subst (λ p. IsTrue (over p)) (sym named) o));
+    clean = on_ok_by q (λ e. e ∙ same_failed) left.clean;
     synced = on_ok_by q (synced_again k'') left.synced;
   }
-
-  same_failed : k'.failed ≡ k.failed
-  same_failed = ap (λ q. q.failed) r.opened.taken
-
-  pub clean_again : (k'' : Held) → HasNotFailed k' k'' → HasNotFailed k k''
-  clean_again k'' clean = clean ∙ same_failed
 
   failed_again : (k'' : Held) → HasFailed k' k'' → HasFailed k k''
   failed_again k'' more = let e = same_failed in omega (arith, e, more)

@@ -1,13 +1,13 @@
 -- What has failed, counted over the calls of a run, and an output that is closed.
 use Rattle.std.proofs.Common.{arith, ◌+◌, ◌≡◌, ℕ, ◌<◌, List, [], ◌∷◌, ◌++◌, None, length}
 use Rattle.std.proofs.Common.{Bool, true, false, refl, sym, ◌∙◌, ap, inl}
-use Rattle.std.specs.Prelude.{IsOk, IsTrue, IfOk, OnOk, OnErr, Result, Ok, Err, is_ok, if◌then◌else◌, ◌&&◌}
+use Rattle.std.specs.Prelude.{IsOk, IfOk, OnOk, OnErr, Result, Ok, Err, is_ok, if◌then◌else◌, ◌&&◌}
 use Rattle.std.proofs.lemmas.Bool.{false≢true}
 use Rattle.std.proofs.lemmas.List.Sums.{sum_by-append}
 use Rattle.abt_sections.specs.Cause.{total}
 use Rattle.abt_disk.specs.World.{ClosesOutput, Creates, HasFailed, HasNotFailed, Held, World, ended, failing, unended}
-use Rattle.abt_disk.specs.World.{OnlyAt, untouched}
-use Rattle.pack_bodies.specs.Writing.{HoldsNoPartOf, LeavesOut}
+use Rattle.abt_disk.specs.World.{untouched}
+use Rattle.pack_bodies.specs.Writing.{LeavesOut}
 
 -- ---- what was read is let go
 
@@ -133,8 +133,14 @@ left_unopened e output over W h h' a b none same = record {
   others = untouched same;
   closed = none;
   whole = λ o file at. inl (ap (λ (u : World). u.holds file) same);
+  clean = tt;
   synced = tt;
 }
+
+-- what is so anyway
+pub on_ok : {R E : Type 0} (r : Result R E) (T : Type 0) → T → OnOk r T
+on_ok (Ok x) T t = t
+on_ok (Err e) T t = tt
 
 -- what is so where a call was answered so follows from this
 pub on_ok_by : {X F : Type 0} {P Q : Type 0} (r : Result X F) → (P → Q) → OnOk r P → OnOk r Q
@@ -144,9 +150,16 @@ on_ok_by (Err e) to p = tt
 -- the same told with another answer
 pub left_told : {X Y F G : Type 0} {x : X} (y : Y) {output : List ℕ} {over : Bool} {W : List ℕ → Type 0} {h h' : Held}
     {a b : World} → LeavesOut {F = F} (Ok x) output over W h h' a b → LeavesOut {F = G} (Ok y) output over W h h' a b
-left_told y left =
-    record { others = left.others; closed = left.closed; whole = left.whole; synced = left.synced }
+left_told y left = record {
+  others = left.others;
+  closed = left.closed;
+  whole = left.whole;
+  clean = left.clean;
+  synced = left.synced;
+}
 
-pub left_refused : {X Y F G : Type 0} {e : F} (f : G) {output : List ℕ} {over : Bool} {W : List ℕ → Type 0} {h h' : Held}
+pub left_refused : {X Y F G : Type 0} {e : F} (f : G) {output : List ℕ} {over : Bool} {W : List ℕ → Type 0}
+    {h h' : Held}
     {a b : World} → LeavesOut {X = X} (Err e) output over W h h' a b → LeavesOut {X = Y} (Err f) output over W h h' a b
-left_refused f left = record { others = left.others; closed = left.closed; whole = left.whole; synced = tt }
+left_refused f left =
+    record { others = left.others; closed = left.closed; whole = left.whole; clean = tt; synced = tt }

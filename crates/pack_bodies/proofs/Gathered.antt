@@ -1,5 +1,5 @@
 -- The parts and the fragments of an image, gathered one after another.
-use Rattle.std.proofs.Common.{inl, inr, arith, ◌⊎◌, ◌+◌, ◌≡◌, ◌<◌, ◌≤◌, ℕ, List, [], ◌∷◌, ◌++◌, Some, None, refl, sym}
+use Rattle.std.proofs.Common.{inl, inr, arith, ◌⊎◌, ◌+◌, ◌≡◌, ◌<◌, ◌≤◌, ℕ, List, [], ◌∷◌, ◌++◌, Some, None, sym}
 use Rattle.std.proofs.Common.{◌∙◌, ap, subst, length, take, get_or, length-append}
 use Rattle.std.proofs.lemmas.Bool.{false≢true}
 use Rattle.std.specs.Prelude.{Err, IfErr, IfOk, Ok, OnOk, Result, is_ok, is_some, unwrap_or}
@@ -143,7 +143,8 @@ pub row_stops : (w : World) (o : List OptionText) (rows : List PartRow) (i : ℕ
     → OpensMore (IsPartInput o (map (λ (r : PartRow). r.section) (take i rows))) w h h'
     → StopsOpening (IsPathOf o (get_or rows i d).option.now) h' h'' f → StopsOpening (IsPartInput o ss) h h'' f
 row_stops w o rows i d ss h h' h'' f there named sections before stops =
-    stops_then (IsPartInput o (map (λ (r : PartRow). r.section) (take i rows))) (IsPathOf o (get_or rows i d).option.now)
+    stops_then (IsPartInput o (map (λ (r : PartRow). r.section) (take i rows)))
+    (IsPathOf o (get_or rows i d).option.now)
     (IsPartInput o ss) w h h' h'' f before stops (λ p q. row_path o rows i d ss p there named sections q)
 
 -- ---- fragments
@@ -183,19 +184,6 @@ pub fragments_all : (w : World) (texts items : List FragmentText) (i : ℕ) (spe
     → AreFragmentsOf w texts specs xs
 fragments_all w texts items i specs xs all end are =
     subst (λ l. AreFragmentsOf w l specs xs) (take_all i texts (subst (λ l. length l ≤ i) all end)) are
-
--- as many as there are texts
-pub fragments_count : (w : World) (ts : List FragmentText) (ss : List FragmentSpec) (xs : List (List ℕ))
-    → AreFragmentsOf w ts ss xs → length ss ≡ length ts
-fragments_count w [] [] [] are = refl
-fragments_count w [] [] (y ∷ xs) are = absurd are
-fragments_count w [] (z ∷ ss) [] are = absurd are
-fragments_count w [] (z ∷ ss) (y ∷ xs) are = absurd are
-fragments_count w (v ∷ ts) [] [] are = absurd are
-fragments_count w (v ∷ ts) [] (y ∷ xs) are = absurd are
-fragments_count w (v ∷ ts) (z ∷ ss) [] are = absurd are
-fragments_count w (v ∷ ts) (z ∷ ss) (y ∷ xs) are =
-    let e = fragments_count w ts ss xs are.1 in omega (arith, e)
 
 pub no_fragments : (path : List ℕ) → IsFragmentInput [] path → ⊥
 no_fragments path is = omega (arith, is.is_one.1)
@@ -267,10 +255,6 @@ fragment_unread (Ok x) sources_of faults p sources zero more =
     = ap (total faults) more ∙ sum_by-append faults sources (p ∷ []) in
     omega (arith, e, zero)
 fragment_unread (Err e) sources_of faults p sources zero more = tt
-
-pub on_ok : {R E : Type 0} (r : Result R E) (T : Type 0) → T → OnOk r T
-on_ok (Ok x) T t = t
-on_ok (Err e) T t = tt
 
 -- ---- board ids
 

@@ -1,15 +1,15 @@
 -- What stands in a file whose magic was not laid.
-use Rattle.std.proofs.Common.{inl, inr, arith, ◌⊎◌, ◌+◌, ◌-◌, ◌≡◌, ℕ, ◌<◌, ◌≤◌, List, [], ◌∷◌, ◌++◌, Option, Some, None}
-use Rattle.std.proofs.Common.{refl, sym, ◌∙◌, ap, subst, length, take, drop, get_or, replicate, length-append}
+use Rattle.std.proofs.Common.{inl, inr, arith, ◌+◌, ◌-◌, ◌≡◌, ℕ, ◌<◌, ◌≤◌, List, [], ◌++◌, Option, Some, None}
+use Rattle.std.proofs.Common.{sym, ◌∙◌, ap, subst, length, take, drop, get_or, replicate, length-append}
 use Rattle.std.proofs.lemmas.Bool.{cases_lt}
 use Rattle.std.proofs.lemmas.List.{get_or-drop, get_or-replicate, get_or-take, length-take, length-take-le}
 use Rattle.std.proofs.Math.Seq.{get_or-append_right}
 use Rattle.std.specs.Prelude.{Err, Ok, OnErr, Result}
 use Rattle.abt_io.specs.Over.{WritesFront}
 use Rattle.abt_sections.specs.Broken.{IsBrokenOff, OpensAsNothing}
-use Rattle.abt_disk.specs.Images.{EmptiesAt, HasNoFront, Leaves}
+use Rattle.abt_disk.specs.Images.{HasNoFront, Leaves}
 use Rattle.abt_disk.specs.World.{World}
-use Rattle.pack_bodies.specs.Magic.{HoldsNone, HasZeroInMagic, has_zero, is_short, opens_as_nothing}
+use Rattle.pack_bodies.specs.Magic.{HoldsNone, has_zero, is_short, opens_as_nothing}
 use Rattle.pack_bodies.specs.Writing.{LeavesNoneOrAll}
 
 pub empty_none : (x : List ℕ) → x ≡ [] → HoldsNone x
@@ -89,7 +89,8 @@ left_none (Some file) x bytes new none (inl same) = inl (subst HoldsNone (sym sa
 left_none (Some file) x bytes new none (inr gone) = inl (no_front (new.holds file) gone)
 
 -- or all, or nothing at its front
-pub left_all : (o : Option ℕ) (x bytes : List ℕ) (new : World) → x ≡ bytes → Leaves o x new → LeavesNoneOrAll o bytes new
+pub left_all : (o : Option ℕ) (x bytes : List ℕ) (new : World) → x ≡ bytes → Leaves o x new → LeavesNoneOrAll o bytes
+    new
 left_all None x bytes new all left = tt
 left_all (Some file) x bytes new all (inl same) = inr (same ∙ all)
 left_all (Some file) x bytes new all (inr gone) = inl (no_front (new.holds file) gone)

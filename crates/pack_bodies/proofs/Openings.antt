@@ -3,10 +3,11 @@ use Rattle.std.proofs.Common.{inl, inr, arith, ◌⊎◌, ◌+◌, ◌≡◌, �
 use Rattle.std.proofs.Common.{◌∙◌, ap, append_assoc, subst}
 use Rattle.std.proofs.lemmas.List.{append-nil}
 use Rattle.std.proofs.lemmas.List.Elements.{Contains-append_left, Contains-push}
-use Rattle.std.specs.Prelude.{Contains, unwrap_or}
+use Rattle.std.specs.Prelude.{Bool, Contains, IsTrue, unwrap_or}
+use Rattle.abt_disk.specs.DiskCalls.{FailsOnly}
 use Rattle.abt_disk.specs.World.{World, Held, OpensFile, failing}
 use Rattle.abt_refusals.specs.declared.refusal.HostFault.{HostFault}
-use Rattle.pack_bodies.specs.Opening.{OpensMore, StopsOpening, failed, no_memory, no_text, reading_all}
+use Rattle.pack_bodies.specs.Opening.{OnlyOpens, OpensMore, StopsOpening, failed, no_memory, no_text, reading_all}
 
 pub same_failing : (h : Held) → failing 0 h ≡ h
 same_failing h = let e : h.failed + 0 ≡ h.failed = omega arith in ap (λ f. record h { failed = f }) e
@@ -49,14 +50,17 @@ opens_then A B C w w' h h' h'' same a b split = record {
   ];
 }
 
--- the same under fewer paths
-pub opens_fewer : (A B : List ℕ → Type 0) (w : World) (h h' : Held) → OpensMore A w h h' → ((p : List ℕ) → B p → A p)
-    → OpensMore B w h h'
-opens_fewer A B w h h' a fewer =
-    record { files = a.files; taken = a.taken; listed = λ path file is there. a.listed path file (fewer path is) there }
+-- no file has changed
+pub only_more : {A : List ℕ → Type 0} {v w w' : World} {h h' : Held} → OpensMore A v h h' → w' ≡ w → OnlyOpens h h' w w'
+only_more a same = record { world = same; output = ap (λ k. k.output) a.taken }
 
-pub begun_still : (A : List ℕ → Type 0) (w : World) (h h' : Held) → OpensMore A w h h' → h.begun ≡ [] → h'.begun ≡ []
-begun_still A w h h' a none = ap (λ k. k.begun) a.taken ∙ none
+pub only_failing : {tells : Bool} {n : ℕ} {w w' : World} {h h' : Held} → FailsOnly tells n h h' w w' → IsTrue tells
+    → OnlyOpens h h' w w'
+only_failing f t = record { world = f.world t; output = ap (λ k. k.output) (f.held t) }
+
+pub only_then : {w w' w'' : World} {h h' h'' : Held} → OnlyOpens h h' w w' → OnlyOpens h' h'' w' w''
+    → OnlyOpens h h'' w w''
+only_then a b = record { world = b.world ∙ a.world; output = b.output ∙ a.output }
 
 pub failed_still : (A : List ℕ → Type 0) (w : World) (h h' : Held) → OpensMore A w h h' → h'.failed ≡ h.failed
 failed_still A w h h' a = ap (λ k. k.failed) a.taken

@@ -1,25 +1,47 @@
 -- The file that an image is written to.
-use Rattle.std.proofs.Common.{inl, inr, ◌⊎◌, ◌+◌, ◌≡◌, ◌≢◌, ℕ, List, [], ◌∷◌, ◌++◌, Option, Some}
-use Rattle.std.proofs.Common.{Bool, true, false, sym, ◌∙◌, ap, subst, length}
+use Rattle.std.proofs.Common.{inl, inr, ◌⊎◌, ◌≡◌, ℕ, List, [], ◌∷◌, ◌++◌, Option, Some}
+use Rattle.std.proofs.Common.{Bool, true, sym, ◌∙◌, ap, subst, length}
 use Rattle.std.proofs.lemmas.Bool.{false≢true}
-use Rattle.std.specs.Prelude.{if◌then◌else◌, unwrap_or, IsOk, IfOk, IfErr, OnOk, OnErr, MatchResult, Result, Ok, Err, is_ok}
+use Rattle.std.specs.Prelude.{unwrap_or, IsOk, IfOk, IfErr, OnOk, OnErr, MatchResult, Result, Ok, Err}
+use Rattle.std.specs.Prelude.{is_ok}
+use Rattle.std.specs.Prelude.{IsTrue}
+use Rattle.abt_disk.specs.Images.{OfImage}
+use Rattle.abt_disk.specs.declared.image_to.ImageTo.{ImageTo}
+use Rattle.abt_disk.specs.declared.image_to.ImageTo.TheVariants.{File, Stream}
 use Rattle.abt_disk.specs.World.{ClosesOutput, Creates, Ends, Held, Spares, SparesRest, World, failing}
 use Rattle.abt_sections.specs.declared.fault.SectionFault.{SectionFault}
 use Rattle.boot_rules.specs.Refused.{IsJudged, IsOfMoving}
 use Rattle.boot_rules.specs.declared.fault.BootCommandFault.{BootCommandFault}
 use Rattle.boot_rules.specs.declared.fault.BootCommandFault.TheVariants as faults
 use Rattle.abt_refusals.specs.declared.refusal.HostFault.{HostFault}
+use Rattle.pack_bodies.specs.Contents.{faults_in}
+use Rattle.pack_bodies.specs.declared.contents.Contents.{Contents}
 use Rattle.pack_bodies.specs.Lines.{counted_in_u64, image_line}
 use Rattle.pack_bodies.specs.Magic.{HoldsNone}
-use Rattle.pack_bodies.specs.Writing.{HoldsNoPartOf, IsOutsideBoot, LaysImage, LeavesNoneOrAll, LeavesOut}
+use Rattle.pack_bodies.specs.Writing.{HoldsNoPartOf, IsAccepted, IsOutsideBoot, IsReady, LaysImage, LeavesNoneOrAll}
+use Rattle.pack_bodies.specs.Writing.{LeavesOut}
 use Rattle.pack_bodies.specs.Writing.{StopsWriting}
 use Rattle.pack_bodies.specs.Writing.{no_memory, refused}
 use Rattle.abt_disk.proofs.Worlds.{only_written}
-use Rattle.pack_bodies.proofs.Closes.{closed_created}
+use Rattle.pack_bodies.proofs.Closes.{clean_created, closed_created, on_ok, synced_created}
 use Rattle.pack_bodies.proofs.Magics.{empty_none}
 
 one : (o : Option ℕ) (f g : ℕ) → o ≡ Some f → o ≡ Some g → f ≡ g
 one o f g a b = ap (λ p. unwrap_or p 0) (sym a ∙ b)
+
+-- ---- all is at hand
+
+pub ready_image : {F S P : Type 0} {tells : Bool} {size : P → ℕ} (faults : P → ℕ) {c : Contents P} (image : ImageTo F S)
+    (file_written : F → List ℕ) (file_faults : F → ℕ) (stream_written : S → List ℕ) (stream_faults : S → ℕ)
+    → IsAccepted size c → (IsTrue tells → faults_in faults c ≡ 0)
+    → OfImage (λ f. file_written f ≡ []) (λ s. stream_written s ≡ []) image
+    → (IsTrue tells → OfImage (λ f. file_faults f ≡ 0) (λ s. stream_faults s ≡ 0) image)
+    → OfImage (λ f. IsReady tells size faults c (file_written f) (file_faults f))
+    (λ s. IsReady tells size faults c (stream_written s) (stream_faults s)) image
+ready_image faults (File f) a b d e sources unread empty clean =
+    record { sources = sources; unread = unread; empty = empty; clean = clean }
+ready_image faults (Stream s) a b d e sources unread empty clean =
+    record { sources = sources; unread = unread; empty = empty; clean = clean }
 
 -- ---- what OUT holds
 
@@ -49,12 +71,13 @@ part_whole output bytes h h' a b c made ends = λ file at.
 -- whatever was told of it then
 pub left_done : {X F : Type 0} (r : Result X F) (output bytes : List ℕ) (over : Bool) (h h' h'' : Held) (a b c : World)
     → Creates output h h' a b → SparesRest h'.output b c → Ends h'.output bytes b c
-    → ClosesOutput true h' h'' → OnOk r (h''.syncs ≡ h.syncs + (if h.is_synced then 1 else 0)) → LeavesOut r output over (λ x. x ≡ bytes) h h'' a c
-left_done r output bytes over h h' h'' a b c made rest ends closes synced = record {
+    → ClosesOutput true h' h'' → LeavesOut r output over (λ x. x ≡ bytes) h h'' a c
+left_done r output bytes over h h' h'' a b c made rest ends closes = record {
   others = only_written output h h' a b c made rest;
   closed = closed_created true h' h'' closes;
   whole = λ o. part_whole output bytes h h' a b c made ends;
-  synced = synced;
+  clean = on_ok r _ (clean_created output h h' h'' a b made closes);
+  synced = on_ok r _ (synced_created output h h' h'' a b made closes);
 }
 
 spares_then : (f : ℕ) (a b c : World) → Spares f a b → Spares f b c → Spares f a c
@@ -152,7 +175,8 @@ ends_behind x bytes n h h' u v c held same is ends =
     let o : h'.output ≡ h.output = ap (λ (k : Held). k.output) held in
     subst (λ o. Ends o bytes u c) o (subst (λ l. Ends h'.output l u c) is (subst (λ k. Ends h'.output x k c) same ends))
 
-pub part_behind : (bytes : List ℕ) (n : ℕ) (h h' : Held) (c : World) → h' ≡ failing n h → LeavesNoneOrAll h'.output bytes c
+pub part_behind : (bytes : List ℕ) (n : ℕ) (h h' : Held) (c : World) → h' ≡ failing n h → LeavesNoneOrAll h'.output
+    bytes c
     → LeavesNoneOrAll h.output bytes c
 part_behind bytes n h h' c held left =
     let o : h'.output ≡ h.output = ap (λ (k : Held). k.output) held in subst (λ o. LeavesNoneOrAll o bytes c) o left

@@ -81,15 +81,6 @@ ramdisk_place (OfBoot (V3 f)) place e = absurd (none-some place (sym e))
 ramdisk_place (OfBoot (V4 f signature)) place e = absurd (none-some place (sym e))
 ramdisk_place (OfVendor v) place e = vendor_place v.front v.tail place e
 
-vendor_has : (f : VendorFront) (tail : Option Tail)
-    → None ≡ first_place_of (OfVendor (record { front = f; tail = tail })) VendorRamdisk → ⊥
-vendor_has f None e = none-some _ e
-vendor_has f (Some t) e = none-some _ e
-
-pub no_ramdisk : (h : Header) → None ≡ first_place_of h VendorRamdisk → fragment_count h ≡ 0
-no_ramdisk (OfBoot b) e = refl
-no_ramdisk (OfVendor v) e = absurd (vendor_has v.front v.tail e)
-
 -- each fragment ends within the bytes
 pub all_end : (x : List ℕ) (h : Header) (front m n : ℕ) → EachWithin x h → front ≡ ramdisk_at h
     → (0 < ramdisk_size h → front + ramdisk_size h ≤ m) → n ≤ fragment_count h
@@ -102,9 +93,6 @@ all_end x h front m (suc n) within at whole few = All-push (EndsBehind front m) 
     omega (arith, e, w))
 
 -- ---- the table
-
-pub entries_none : (x : List ℕ) (h : Header) (n : ℕ) → n ≡ 0 → entries_to x h n ≡ []
-entries_none x h n e = ap (entries_to x h) e
 
 pub entries_next : (x : List ℕ) (h : Header) (n : ℕ) (es : List RamdiskEntry) (e : RamdiskEntry)
     → es ≡ entries_to x h n → e ≡ entry_of x h n → es ++ (e ∷ []) ≡ entries_to x h (n + 1)

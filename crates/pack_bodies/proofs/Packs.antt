@@ -96,7 +96,8 @@ fragments_counted w (text ∷ texts) (spec ∷ specs) [] are = absurd are
 
 pub asks : {P : Type 0} (content : P → List ℕ) (command : PackCommand) (w w' : World) (kind : ImageKind)
     (given : BootFields) (c : Contents P) (parts sources : List P) (said specs : List FragmentSpec)
-    (words : List (List ℕ)) → words ≡ board_id_words command → kind ≡ asked_kind command → w' ≡ w → c.parts.items ≡ parts
+    (words : List (List ℕ)) → words ≡ board_id_words command → kind ≡ asked_kind command → w' ≡ w → c.parts.items ≡
+    parts
     → c.sources.items ≡ sources → c.specs.items ≡ specs
     → ArePartsOf w command.texts.options.items nothing (part_sections kind) (map content parts)
     → AreFragmentsOf w' command.texts.fragments.items said (map content sources) → AreSet words said specs
@@ -111,7 +112,8 @@ asks content command w w' kind given c parts sources said specs words named is s
       said = said;
       fragments = subst (λ l. AreFragmentsOf w command.texts.fragments.items said (map content l)) (sym s)
           (subst (λ v. AreFragmentsOf v command.texts.fragments.items said (map content sources)) same s_are);
-      boards = subst (λ l. AreSet (board_id_words command) said l) (sym f) (subst (λ ws. AreSet ws said specs) named set);
+      boards = subst (λ l. AreSet (board_id_words command) said l) (sym f)
+          (subst (λ ws. AreSet ws said specs) named set);
       loaded = loaded ∙ ap (λ l. loaded_at kind command.texts.options.items (map content l) given) (sym p)
           ∙ ap (λ k. loaded_at k command.texts.options.items (map content c.parts.items) given) is;
     }
@@ -130,7 +132,8 @@ unread F c parts sources t p s e none_p none_s none_n none_t =
 
 pub packed_by : {P : Type 0} (content : P → List ℕ) (command : PackCommand) (w : World) (given : BootFields)
     (c : Contents P) (x : List ℕ) → IsTrue (is_version command.is_vendor command.version)
-    → AreGiven no_fields (asked_kind command) command.page command.texts.options.items given → c.kind ≡ asked_kind command
+    → AreGiven no_fields (asked_kind command) command.page command.texts.options.items given → c.kind ≡ asked_kind
+    command
     → AreAskedFor command w given (packing_of content c) → content c.trailing ≡ [] → x ≡ packed_image content c
     → IsPackedBy command w x
 packed_by content command w given c x known are_given kind asked alone is = record {
@@ -191,6 +194,7 @@ left_behind r A q path over W bytes w w' v h h' h'' named same opens to left = r
   closed = left.closed;
   whole = λ o. whole_as W q path bytes w w' v named same to
       (left.whole (subst (λ p. IsTrue (over p)) (sym named) o));
+  clean = on_ok_by r (λ e. e ∙ failed_still A w h h' opens) left.clean;
   synced = on_ok_by r (synced_behind A w h h' h'' opens) left.synced;
 }
 
@@ -230,7 +234,8 @@ refuses_filling command w v h h' Done f same (refusing.wrong_board bad) = refusi
 pub refuses_writing : {P : Type 0} (content : P → List ℕ) (command : PackCommand) (w w' v : World) (h h' h'' : Held)
     (given : BootFields) (c : Contents P) (Laid Done : Type 0) (f : BootCommandFault) → w' ≡ w
     → OpensMore (IsGivenPath command.texts (asked_kind command)) w h h'
-    → AreGiven no_fields (asked_kind command) command.page command.texts.options.items given → c.kind ≡ asked_kind command
+    → AreGiven no_fields (asked_kind command) command.page command.texts.options.items given → c.kind ≡ asked_kind
+    command
     → AreAskedFor command w given (packing_of content c) → (Laid → Done)
     → StopsWriting (refusal_from c.kind (packing_of content c)) h' h'' w' v Laid f
     → RefusesPack command w v h h'' Done f

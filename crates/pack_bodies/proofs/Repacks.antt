@@ -149,13 +149,15 @@ module _ (input : List ℕ) (command : PackCommand) (x : List ℕ) (image : Imag
   pub left_all : {X Y F : Type 0} (r : Result X F) (q : Result Y F) (over : Bool) (h2 h3 : Held) (n : ℕ)
       → (OnOk q (h3.syncs ≡ h1.syncs + (if h1.is_synced then 1 else 0))
       → OnOk r (h3.syncs ≡ h1.syncs + (if h1.is_synced then 1 else 0)))
-      → h3 ≡ failing n h2
-      → LeavesOut q (output_path command.output.now) over (IsPackedAgain command x (view_of image.header) w1) h1 h2 w1 w2
+      → h3 ≡ failing n h2 → OnOk r (HasNotFailed h h3)
+      → LeavesOut q (output_path command.output.now) over (IsPackedAgain command x (view_of image.header) w1) h1 h2 w1
+      w2
       → LeavesOut r (output_path command.output.now) over (IsRepackedOf input command w) h h3 w w3
-  left_all r q over h2 h3 n told let_go left = record {
+  left_all r q over h2 h3 n told let_go clean left = record {
     others = only_all left.others;
     closed = ap (λ (k : Held). k.output) let_go ∙ left.closed;
     whole = λ o. whole_all (left.whole o);
+    clean = clean;
     synced = on_ok_by r (λ e. e ∙ ap (λ (k : Held). k.syncs + (if k.is_synced then 1 else 0)) o.taken)
         (told (on_ok_by q (λ e. ap (λ (k : Held). k.syncs) let_go ∙ e) left.synced));
   }

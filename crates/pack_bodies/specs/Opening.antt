@@ -1,9 +1,15 @@
 -- Files that are opened to be read, one after another.
-use Rattle.std.specs.Prelude.{◌≡◌, ℕ, List, ◌++◌, Some, Contains}
+use Rattle.std.specs.Prelude.{◌≡◌, ℕ, List, ◌++◌, Some, Contains, Bool, IsTrue, Result, IfOk, IfErr, OnOk, is_ok}
 use Rattle.std.specs.Str.{IsUtf8}
-use Rattle.abt_disk.specs.World.{World, Held, HasFailed}
+use Rattle.abt_disk.specs.DiskCalls.{FailsOnly}
+use Rattle.abt_disk.specs.World.{World, Held, HasFailed, OpensFile, unless}
 use Rattle.abt_refusals.specs.declared.refusal.HostFault.{HostFault}
 use Rattle.abt_refusals.specs.declared.refusal.HostFault.TheVariants as hosts
+use Rattle.abt_refusals.specs.declared.refusal.HostRefusal.{HostRefusal}
+use Rattle.boot_fields.specs.declared.image_kind.ImageKind.{ImageKind}
+use Rattle.pack_bodies.specs.Contents.{faults_in}
+use Rattle.pack_bodies.specs.Own.{no_path}
+use Rattle.pack_bodies.specs.declared.contents.Contents.{Contents}
 
 -- these files more are read
 abbrev pub reading_all : List ℕ → Held → Held
@@ -26,3 +32,45 @@ pub data StopsOpening (named : List ℕ → Type 0) (old new : Held) (fault : Ho
   failed : HasFailed old new → StopsOpening named old new fault
   no_text : (path : List ℕ) → named path → ¬ IsUtf8 path → fault ≡ hosts.CannotOpen → StopsOpening named old new fault
   no_memory : fault ≡ hosts.Memory → StopsOpening named old new fault
+
+-- ---- what a call that opens them does, whatever it answers, as far as the disk tells
+
+-- the file at this path is opened, and has not failed yet; nothing else is opened, and no file has changed
+pub record OpensOne {X F : Type 0} (tells : Bool) (r : Result X F) (path : List ℕ) (its_content : X → List ℕ)
+    (its_faults : X → ℕ) (h h' : Held) (old new : World) : Type 0 where
+  pub opened : IsTrue tells → IfOk r (λ x. OpensFile old path (its_content x) h h')
+  pub unread : IsTrue tells → IfOk r (λ x. its_faults x ≡ 0)
+  pub keeps : IsTrue tells → OnlyOpens h h' old new
+
+-- files at these paths are opened, of which none has failed yet: so many faults are of what was open before; or one of
+-- them is not opened; no file has changed
+pub record OpensEach {X : Type 0} (tells : Bool) (r : Result X HostRefusal) (named : List ℕ → Type 0)
+    (its_faults : X → ℕ) (before : ℕ) (h h' : Held) (old new : World) : Type 0 where
+  pub unread : IsTrue tells → IfOk r (λ x. its_faults x ≡ before)
+  pub opened : IsTrue tells → OnOk r (OpensMore named old h h')
+  pub refused : IsTrue tells → IfErr r (λ refusal. StopsOpening named h h' refusal.fault)
+  pub keeps : IsTrue tells → OnlyOpens h h' old new
+
+-- a part of what is open already is opened, of which the bytes are such, and has not failed yet; or that is refused
+pub record OpensAgain {P F : Type 0} (tells : Bool) (r : Result P F) (Holds : List ℕ → Type 0)
+    (its_content : P → List ℕ) (its_faults : P → ℕ) (h h' : Held) (old new : World) : Type 0 where
+  pub part : IsTrue tells → IfOk r (λ p. Holds (its_content p))
+  pub unread : IsTrue tells → IfOk r (λ p. its_faults p ≡ 0)
+  pub fails : FailsOnly tells (unless (is_ok r)) h h' old new
+
+-- the same of several parts, which have no paths
+pub record OpensOwn {X : Type 0} (tells : Bool) (r : Result X HostRefusal) (its_faults : X → ℕ) (before : ℕ)
+    (h h' : Held) (old new : World) : Type 0 where
+  pub unread : IsTrue tells → IfOk r (λ x. its_faults x ≡ before)
+  pub held : IsTrue tells → OnOk r (h' ≡ h)
+  pub refused : IsTrue tells → IfErr r (λ refusal. StopsOpening no_path h h' refusal.fault)
+  pub keeps : IsTrue tells → OnlyOpens h h' old new
+
+-- all is open that an image of this kind is written from, and none of it has failed yet; no file has changed
+pub record FillsAll {P F : Type 0} (tells : Bool) (r : Result (Contents P) F) (its_kind : ImageKind)
+    (named : List ℕ → Type 0) (its_size its_faults : P → ℕ) (h h' : Held) (old new : World) : Type 0 where
+  pub kind : IfOk r (λ c. c.kind ≡ its_kind)
+  pub nothing : IfOk r (λ c. its_size c.nothing ≡ 0)
+  pub unread : IsTrue tells → IfOk r (λ c. faults_in its_faults c ≡ 0)
+  pub opened : IsTrue tells → OnOk r (OpensMore named old h h')
+  pub keeps : IsTrue tells → OnlyOpens h h' old new

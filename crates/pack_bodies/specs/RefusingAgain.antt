@@ -1,12 +1,16 @@
 -- Why the command `repack` is refused: each fault is so.
-use Rattle.std.specs.Prelude.{◌≡◌, ℕ, List, length, Some}
+use Rattle.std.specs.Prelude.{◌≡◌, ◌<◌, ℕ, List, length, Some, IsTrue, Result, IfErr}
 use Rattle.std.specs.Str.{IsUtf8}
+use Rattle.abt_io.specs.Lent.{OnlyReads}
+use Rattle.abt_io.specs.declared.device.Source as sources
 use Rattle.abt_disk.specs.World.{World, Held, HasFailed}
 use Rattle.abt_refusals.specs.declared.refusal.HostFault.{HostFault}
 use Rattle.abt_refusals.specs.declared.refusal.HostFault.TheVariants as hosts
 use Rattle.abt_sections.specs.Fields.{BootFields}
 use Rattle.abt_sections.specs.Header.{Header}
+use Rattle.abt_sections.specs.Open.{IsOpened}
 use Rattle.abt_sections.specs.declared.fault.SectionFault.{SectionFault}
+use Rattle.abt_sections.specs.declared.image.Image.{Image}
 use Rattle.abt_sections.specs.declared.spec.FragmentSpec.{FragmentSpec}
 use Rattle.boot_bodies.specs.Faults.{RefusesImage}
 use Rattle.boot_fields.specs.Kind.{kind_of}
@@ -82,6 +86,13 @@ pub data RefusesRepack (input : List ℕ) (command : PackCommand) (old new : Wor
 pub data IsUnread (Failed : Type 0) (fault : BootCommandFault) : Type 0 where
   unread : IsOutsideBoot fault → Failed → IsUnread Failed fault
   no_room : fault ≡ faults.Host hosts.Memory → IsUnread Failed fault
+
+-- an image that was opened is only read again, or not read for such a fault
+pub record ReadsOpened {X : Type 0} (r : Result X BootCommandFault) {S : Type 0} (s : sources.Ghosts S) (old new : S)
+    (image : Image) : Type 0 where
+  pub only : OnlyReads r s old new
+  pub refused : IsTrue s.tells → IsOpened (s.content old) image
+      → IfErr r (IsUnread (s.read_faults old < s.read_faults new))
 
 -- why the words are not taken by an image of this kind, or it is not read again
 pub data StopsJudging (command : PackCommand) (kind : ImageKind) (Failed : Type 0) (fault : BootCommandFault) : Type 0

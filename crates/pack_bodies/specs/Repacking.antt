@@ -1,25 +1,31 @@
 -- What the command `repack` leaves of files, and what it prints.
 use Rattle.std.specs.Prelude.{◌≡◌, ◌≢◌, ◌⊎◌, ℕ, List, [], ◌∷◌, ◌++◌, length, map, Some}
-use Rattle.std.specs.Prelude.{Contains}
+use Rattle.std.specs.Prelude.{Bool, Contains, IsTrue}
+use Rattle.std.specs.List.{All}
 use Rattle.abt_refusals.specs.Paths.{output_path}
 use Rattle.abt_sections.specs.Fields.{BootFields}
-use Rattle.abt_sections.specs.Header.{Header, fragment_count}
-use Rattle.abt_sections.specs.Open.{HasImage}
+use Rattle.abt_sections.specs.Header.{Header, fragment_count, view_of}
+use Rattle.abt_sections.specs.Open.{HasImage, IsOpened}
 use Rattle.abt_sections.specs.declared.spec.FragmentSpec.{FragmentSpec}
 use Rattle.abt_disk.specs.World.{World, Spares, KeepsFile}
 use Rattle.abt_output.specs.Shows.{Shows}
 use Rattle.abt_output.specs.declared.report.Report.{Report}
 use Rattle.abt_disk.specs.Among.{FileHolds}
 use Rattle.boot_fields.specs.Kind.{kind_of}
+use Rattle.boot_fields.specs.declared.image_kind.ImageKind.{ImageKind}
+use Rattle.boot_rules.specs.Carried.{IsTaken}
 use Rattle.boot_rules.specs.Given.{AreGiven}
 use Rattle.boot_rules.specs.declared.pack_command.PackCommand.{PackCommand}
 use Rattle.boot_rules.specs.declared.pack_texts.FragmentText.{FragmentText}
+use Rattle.boot_rules.specs.declared.pack_texts.PackTexts.{PackTexts}
 use Rattle.pack_bodies.specs.Contents.{Packing, image_from}
 use Rattle.pack_bodies.specs.Lines.{image_line, counted_in_u64}
 use Rattle.pack_bodies.specs.Own.{StandsIn, fragment_bytes, entries_to, kept_behind, own_fields, said_of}
 use Rattle.pack_bodies.specs.Packing.{ArePacked, board_id_words}
 use Rattle.pack_bodies.specs.Parts.{AreFragmentsOf, IsGivenPath}
 use Rattle.pack_bodies.specs.Writing.{HoldsNoPartOf}
+use Rattle.pack_bodies.specs.declared.kept.Kept.{Kept}
+use Rattle.pack_bodies.specs.declared.own.Own.{Own}
 
 -- the ramdisk fragments of the image x, in the order of its table
 pub record AreOwnFragments (x : List ℕ) (h : Header) (said : List FragmentSpec) (ramdisks : List (List ℕ)) : Type 0
@@ -111,3 +117,15 @@ HoldsNoPartAgain input command old new =
 pub record KeepsRead (input : List ℕ) (command : PackCommand) (old new : World) : Type 0 where
   pub input_kept : KeepsFile input old new
   pub given : (x : List ℕ) (h : Header) → BeginsWith input old x h → KeepsGivenAgain command h old new
+
+-- ---- on the way
+
+-- an image was opened that is packed again, whose kind is this: the fragments that are given are taken by that, and
+-- where none is given, all entries of the image's table are kept
+pub record IsAtHand {S : Type 0} (tells : Bool) (content : S → List ℕ) (own : Own S) (kept : Kept) (texts : PackTexts)
+    (its_kind : ImageKind) : Type 0 where
+  pub opened : IsTrue tells → IsOpened (content own.source) own.image
+  pub kind : its_kind ≡ kind_of (view_of own.image.header)
+  pub taken : All (IsTaken its_kind) texts.fragments.items
+  pub entries : IsTrue tells → texts.fragments.items ≡ [] → kept.entries.items
+      ≡ entries_to (content own.source) (view_of own.image.header) (fragment_count (view_of own.image.header))

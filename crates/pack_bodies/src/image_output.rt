@@ -1,15 +1,14 @@
 //! The file that an image is written to, from before it is opened to its end.
 
-ghost use Rattle.std.specs.Prelude.{◌≡◌, ◌+◌, ◌++◌, ◌∷◌, [], None, Ok, IsTrue, IfErr, IfOk, OnErr, OnOk, is_ok, length};
-ghost use Rattle.std.specs.Prelude.{false, if◌then◌else◌};
-ghost use Rattle.abt_disk.specs.Images.{Leaves, OfImage, is_file};
-ghost use Rattle.abt_disk.specs.World.{HasNotFailed, SparesRest, ended};
+ghost use Rattle.std.specs.Prelude.{◌≡◌, ◌++◌, ◌∷◌, [], None, IsTrue, IfErr, OnOk, false, true};
+ghost use Rattle.abt_disk.specs.DiskCalls.{LetsImageGo};
+ghost use Rattle.abt_disk.specs.Images.{OfImage, is_file};
 ghost use Rattle.abt_output.specs.Shows.{Shows, unprinted};
 ghost use Rattle.abt_refusals.specs.Paths.{path_out};
 ghost use Rattle.boot_rules.specs.Refused.{IsJudged};
 ghost use Rattle.pack_bodies.specs.Contents.{faults_in, packed_image, packing_of, refusal_from, refusal_in};
 ghost use Rattle.pack_bodies.specs.Lines.{image_line};
-ghost use Rattle.pack_bodies.specs.Writing.{IsOfLaying, IsOutsideBoot, IsReady, LaysImage, LeavesNoneOrAll, LeavesOut};
+ghost use Rattle.pack_bodies.specs.Writing.{IsOfLaying, IsOutsideBoot, IsReady, LaysImage, LeavesOut};
 ghost use Rattle.pack_bodies.specs.Writing.{StopsWriting, WritesBytes};
 
 use crate::contents::Contents;
@@ -44,8 +43,8 @@ pub(crate) fn write_image<'f, 't, 'a, D: Disk>(
     ensures done { IsTrue D.tells → OnOk result (LaysImage (path_out output.entry) (D.held disk.old).read
         (packed_image ⟦<PartSource<'t, D::At> as Source>⟧.content contents.entry) (D.world disk.old) (D.world disk.new)
         (Shows report.old report.new)) }
-    ensures clean { IsTrue D.tells → OnOk result (HasNotFailed (D.held disk.old) (D.held disk.new)) }
-    // whatever the outcome, OUT alone may hold anything else, and its file has no part of an image
+    // whatever the outcome, OUT alone may hold anything else, and its file has no part of an image; where it is done no
+    // call failed
     ensures left { IsTrue D.tells → LeavesOut result (path_out output.entry) (D.is_over (path_out output.entry))
         (λ x. x ≡ packed_image ⟦<PartSource<'t, D::At> as Source>⟧.content contents.entry) (D.held disk.old)
         (D.held disk.new) (D.world disk.old) (D.world disk.new) }
@@ -113,14 +112,12 @@ fn write_to<'f, 't, 'a, D: Disk>(
     w: &mut Window,
     m: &mut Meter,
 ) -> Result<(u64, bool), Refusal<'t, BootCommandFault<'a>>>
-    requires empty { OfImage (λ file. D.Image.Output.written file ≡ []) (λ onto. D.Onto.written onto ≡ []) image }
-    requires clean { IsTrue D.tells → OfImage (λ file. D.Image.Output.write_faults file ≡ 0)
-        (λ onto. D.Onto.write_faults onto ≡ 0) image }
-    requires ready { IsReady D.tells ⟦<PartSource<'t, D::At> as Source>⟧.size
-        ⟦<PartSource<'t, D::At> as Source>⟧.read_faults contents }
-    ensures broken { IsTrue D.tells → IsTrue (is_file image) → OnErr result (LeavesNoneOrAll (D.held disk.old).output
-        (packed_image ⟦<PartSource<'t, D::At> as Source>⟧.content contents.entry) (D.world disk.new)) }
-    ensures writes { IsTrue D.tells → WritesBytes result (λ refusal. refusal.fault)
+    requires ready { OfImage (λ file. IsReady D.tells ⟦<PartSource<'t, D::At> as Source>⟧.size
+        ⟦<PartSource<'t, D::At> as Source>⟧.read_faults contents (D.Image.Output.written file)
+        (D.Image.Output.write_faults file)) (λ onto. IsReady D.tells ⟦<PartSource<'t, D::At> as Source>⟧.size
+        ⟦<PartSource<'t, D::At> as Source>⟧.read_faults contents (D.Onto.written onto) (D.Onto.write_faults onto))
+        image }
+    ensures writes { IsTrue D.tells → WritesBytes result (λ refusal. refusal.fault) (is_file image)
         (packed_image ⟦<PartSource<'t, D::At> as Source>⟧.content contents.entry) (D.held disk.old) (D.held disk.new)
         (D.world disk.old) (D.world disk.new) }
 {
@@ -140,11 +137,9 @@ fn write_through<'f, 't, 'a, D: Disk>(
     w: &mut Window,
     m: &mut Meter,
 ) -> Result<(u64, bool), Refusal<'t, BootCommandFault<'a>>>
-    requires empty { D.Onto.written onto ≡ [] }
-    requires clean { IsTrue D.tells → D.Onto.write_faults onto ≡ 0 }
     requires ready { IsReady D.tells ⟦<PartSource<'t, D::At> as Source>⟧.size
-        ⟦<PartSource<'t, D::At> as Source>⟧.read_faults contents }
-    ensures writes { IsTrue D.tells → WritesBytes result (λ refusal. refusal.fault)
+        ⟦<PartSource<'t, D::At> as Source>⟧.read_faults contents (D.Onto.written onto) (D.Onto.write_faults onto) }
+    ensures writes { IsTrue D.tells → WritesBytes result (λ refusal. refusal.fault) false
         (packed_image ⟦<PartSource<'t, D::At> as Source>⟧.content contents.entry) (D.held disk.old) (D.held disk.new)
         (D.world disk.old) (D.world disk.new) }
 {
@@ -176,13 +171,10 @@ fn write_over<'f, 't, 'a, D: Disk>(
     w: &mut Window,
     m: &mut Meter,
 ) -> Result<(u64, bool), Refusal<'t, BootCommandFault<'a>>>
-    requires empty { D.Image.Output.written file ≡ [] }
-    requires clean { IsTrue D.tells → D.Image.Output.write_faults file ≡ 0 }
     requires ready { IsReady D.tells ⟦<PartSource<'t, D::At> as Source>⟧.size
-        ⟦<PartSource<'t, D::At> as Source>⟧.read_faults contents }
-    ensures broken { IsTrue D.tells → OnErr result (LeavesNoneOrAll (D.held disk.old).output
-        (packed_image ⟦<PartSource<'t, D::At> as Source>⟧.content contents.entry) (D.world disk.new)) }
-    ensures writes { IsTrue D.tells → WritesBytes result (λ refusal. refusal.fault)
+        ⟦<PartSource<'t, D::At> as Source>⟧.read_faults contents (D.Image.Output.written file)
+        (D.Image.Output.write_faults file) }
+    ensures writes { IsTrue D.tells → WritesBytes result (λ refusal. refusal.fault) true
         (packed_image ⟦<PartSource<'t, D::At> as Source>⟧.content contents.entry) (D.held disk.old) (D.held disk.new)
         (D.world disk.old) (D.world disk.new) }
 {
@@ -207,10 +199,8 @@ fn stopped<'t, 'a, D: Disk>(
     output: Place<'t>,
     sides: Sides<'t>,
 ) -> Refusal<'t, BootCommandFault<'a>>
-    ensures left { IsTrue D.tells → Leaves (D.held disk.old).output (D.Image.Output.written file) (D.world disk.new) }
-    ensures closed { IsTrue D.tells → D.held disk.new ≡ ended false (D.Image.Output.write_faults file)
-        (D.held disk.old) }
-    ensures rest { IsTrue D.tells → SparesRest (D.held disk.old).output (D.world disk.old) (D.world disk.new) }
+    ensures gone { LetsImageGo D.tells (D.Image.Output.written file) (D.Image.Output.write_faults file)
+        (D.held disk.old) (D.held disk.new) (D.world disk.old) (D.world disk.new) }
     ensures outside { IsOfLaying fault → IsOutsideBoot result.fault }
 {
     let why = file.why();

@@ -3,7 +3,7 @@
 ghost use Rattle.std.specs.Prelude.{IfErr, OnOk};
 ghost use Rattle.abt_refusals.specs.Paths.{output_path};
 ghost use Rattle.abt_disk.specs.Images.{is_over};
-ghost use Rattle.abt_disk.specs.World.{HasNotFailed, IsReading};
+ghost use Rattle.abt_disk.specs.World.{IsReading};
 ghost use Rattle.abt_output.specs.Shows.{Shows, unprinted};
 ghost use Rattle.memory_disk.specs.Memory.{held_of, world_of};
 ghost use Rattle.pack_bodies.specs.Packing.{IsPackedBy, KeepsGiven, PacksFile};
@@ -28,7 +28,6 @@ pub fn pack_in_memory<'t, 'a>(
     requires { IsReading (held_of disk.old) }
     ensures done { OnOk result (PacksFile command.now (world_of disk.old) (world_of disk.new)
         (Shows report.old report.new)) }
-    ensures clean { OnOk result (HasNotFailed (held_of disk.old) (held_of disk.new)) }
     ensures left { LeavesOut result (output_path command.now.output.now) (is_over (output_path command.now.output.now))
         (IsPackedBy command.now (world_of disk.old)) (held_of disk.old) (held_of disk.new) (world_of disk.old)
         (world_of disk.new) }

@@ -3,7 +3,7 @@
 ghost use Rattle.std.specs.Prelude.{IfErr, OnOk};
 ghost use Rattle.abt_output.specs.Shows.{unprinted};
 ghost use Rattle.abt_disk.specs.Images.{is_over};
-ghost use Rattle.abt_disk.specs.World.{HasNotFailed, IsReading};
+ghost use Rattle.abt_disk.specs.World.{IsReading};
 ghost use Rattle.abt_refusals.specs.Paths.{output_path, path_of};
 ghost use Rattle.memory_disk.specs.Memory.{held_of, world_of};
 ghost use Rattle.pack_bodies.specs.RefusingAgain.{RefusesRepack};
@@ -30,7 +30,6 @@ pub fn repack_in_memory<'t, 'a>(
     requires { IsReading (held_of disk.old) }
     ensures done { OnOk result (RepacksFile (path_of input.entry) command.now (world_of disk.old) (world_of disk.new)
         (ShowsFirst report.old report.new)) }
-    ensures clean { OnOk result (HasNotFailed (held_of disk.old) (held_of disk.new)) }
     ensures left { LeavesOut result (output_path command.now.output.now) (is_over (output_path command.now.output.now))
         (IsRepackedOf (path_of input.entry) command.now
         (world_of disk.old)) (held_of disk.old) (held_of disk.new) (world_of disk.old)

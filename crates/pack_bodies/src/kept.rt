@@ -1,7 +1,8 @@
 //! What an image that is packed again keeps beside its sections, and what is left out of it.
 
-ghost use Rattle.std.specs.Prelude.{◌≡◌, ◌<◌, ◌≤◌, [], IsTrue, IfErr, IfOk, OnOk, false, if◌then◌else◌};
+ghost use Rattle.std.specs.Prelude.{◌≡◌, ◌<◌, [], IsTrue, IfErr, IfOk, OnOk, false, if◌then◌else◌};
 ghost use Rattle.std.specs.List.{All};
+ghost use Rattle.abt_io.specs.Lent.{OnlyReads};
 ghost use Rattle.abt_sections.specs.Header.{fragment_count, view_of};
 ghost use Rattle.abt_sections.specs.Open.{IsOpened};
 ghost use Rattle.boot_fields.specs.Fields.{text_of};
@@ -9,7 +10,7 @@ ghost use Rattle.boot_fields.specs.Kind.{kind_of};
 ghost use Rattle.boot_findings.specs.LeftOut.{cmdline_of};
 ghost use Rattle.boot_rules.specs.Carried.{IsTaken};
 ghost use Rattle.pack_bodies.specs.Own.{entries_to};
-ghost use Rattle.pack_bodies.specs.RefusingAgain.{IsUnread, StopsJudging};
+ghost use Rattle.pack_bodies.specs.RefusingAgain.{IsUnread, ReadsOpened, StopsJudging};
 
 use crate::own_fields::own_cmdline;
 use abt_headers::{RamdiskEntry, Section};
@@ -40,14 +41,12 @@ pub(crate) fn judged<'a, S: Source>(
     m: &mut Meter,
 ) -> Result<Kept, BootCommandFault<'a>>
     requires { kind ≡ kind_of (view_of image.now.header) }
-    ensures content { IsTrue S.tells → S.content source.new ≡ S.content source.old }
+    ensures reads { OnlyReads result S.Source source.old source.new }
     ensures taken { OnOk result (All (IsTaken kind) command.now.texts.fragments.items) }
     ensures cmdline { IfOk result (λ kept. kept.cmdline.items ≡ text_of (cmdline_of (view_of image.now.header))) }
     ensures entries { IsTrue S.tells → IfOk result (λ kept. command.now.texts.fragments.items ≡ [] →
         kept.entries.items ≡ entries_to (S.content source.old) (view_of image.now.header)
         (fragment_count (view_of image.now.header))) }
-    ensures faults { S.read_faults source.old ≤ S.read_faults source.new }
-    ensures clean { OnOk result (S.read_faults source.new ≡ S.read_faults source.old) }
     ensures refused { IsTrue S.tells → IsOpened (S.content source.old) image.now → IfErr result
         (StopsJudging command.now kind (S.read_faults source.old < S.read_faults source.new)) }
 {
@@ -91,13 +90,9 @@ fn entries_kept<S: Source>(
     w: &mut Window,
     m: &mut Meter,
 ) -> Result<Vec<RamdiskEntry>, BootCommandFault<'static>>
-    ensures content { IsTrue S.tells → S.content source.new ≡ S.content source.old }
     ensures entries { IsTrue S.tells → IfOk result (λ entries. entries.items ≡ entries_to (S.content source.old)
         (view_of image.now.header) (if keeps then fragment_count (view_of image.now.header) else 0)) }
-    ensures faults { S.read_faults source.old ≤ S.read_faults source.new }
-    ensures clean { OnOk result (S.read_faults source.new ≡ S.read_faults source.old) }
-    ensures refused { IsTrue S.tells → IsOpened (S.content source.old) image.now → IfErr result
-        (IsUnread (S.read_faults source.old < S.read_faults source.new)) }
+    ensures reads { ReadsOpened result S.Source source.old source.new image.now }
 {
     if keeps {
         entries_of(alloc, image, source, w, m)
@@ -114,13 +109,9 @@ fn entries_of<S: Source>(
     w: &mut Window,
     m: &mut Meter,
 ) -> Result<Vec<RamdiskEntry>, BootCommandFault<'static>>
-    ensures content { IsTrue S.tells → S.content source.new ≡ S.content source.old }
     ensures entries { IsTrue S.tells → IfOk result (λ entries. entries.items ≡ entries_to (S.content source.old)
         (view_of image.now.header) (fragment_count (view_of image.now.header))) }
-    ensures faults { S.read_faults source.old ≤ S.read_faults source.new }
-    ensures clean { OnOk result (S.read_faults source.new ≡ S.read_faults source.old) }
-    ensures refused { IsTrue S.tells → IsOpened (S.content source.old) image.now → IfErr result
-        (IsUnread (S.read_faults source.old < S.read_faults source.new)) }
+    ensures reads { ReadsOpened result S.Source source.old source.new image.now }
 {
     let mut entries = Vec::new(alloc);
     for i in 0..fragments(image) {
@@ -147,9 +138,7 @@ fn left_out<S: Source>(
     w: &mut Window,
     m: &mut Meter,
 ) -> Result<LeftOut, BootCommandFault<'static>>
-    ensures content { IsTrue S.tells → S.content source.new ≡ S.content source.old }
-    ensures faults { S.read_faults source.old ≤ S.read_faults source.new }
-    ensures clean { OnOk result (S.read_faults source.new ≡ S.read_faults source.old) }
+    ensures reads { OnlyReads result S.Source source.old source.new }
     ensures refused { IsTrue S.tells → IfErr result
         (IsUnread (S.read_faults source.old < S.read_faults source.new)) }
 {

@@ -1,10 +1,8 @@
 //! An image that is laid over a file, so that no reader takes what was broken off for a whole one.
 
-ghost use Rattle.std.specs.Prelude.{◌≡◌, ◌<◌, ◌+◌, [], None, IsTrue, IfErr, IfOk, OnErr, OnOk, length};
-ghost use Rattle.pack_bodies.specs.Contents.{faults_in, packed_image, refusal_in};
-ghost use Rattle.pack_bodies.specs.Magic.{HoldsNone};
-ghost use Rattle.pack_bodies.specs.Writing.{IsOfLaying, PacksBytes};
-ghost use Rattle.boot_rules.specs.Parts.{IsBoot};
+ghost use Rattle.std.specs.Prelude.{◌≡◌, ◌+◌, []};
+ghost use Rattle.pack_bodies.specs.Contents.{faults_in, packed_image};
+ghost use Rattle.pack_bodies.specs.Writing.{IsAccepted, IsAcceptedAlone, LaysBytes};
 
 use crate::contents::Contents;
 use crate::magic_last::MagicLast;
@@ -34,14 +32,11 @@ pub(crate) fn lay_image<'t, S: Source + Lasting + Drop, O: Overwrite>(
     m: &mut Meter,
 ) -> (O, Result<u64, LayFault>)
     requires empty { O.written file ≡ [] }
-    requires nothing { ⟦<PartSource<'t, S> as Source>⟧.size contents.old.nothing ≡ 0 }
-    requires accepted { refusal_in ⟦<PartSource<'t, S> as Source>⟧.size contents.old ≡ None }
-    ensures packs { PacksBytes result.1 S.tells (packed_image ⟦<PartSource<'t, S> as Source>⟧.content contents.old)
-        [] (O.written result.0)
+    requires sources { IsAccepted ⟦<PartSource<'t, S> as Source>⟧.size contents.old }
+    ensures lays { LaysBytes result.1 S.tells (packed_image ⟦<PartSource<'t, S> as Source>⟧.content contents.old)
+        (O.written result.0)
         (faults_in ⟦<PartSource<'t, S> as Source>⟧.read_faults contents.old + O.write_faults file)
         (faults_in ⟦<PartSource<'t, S> as Source>⟧.read_faults contents.new + O.write_faults result.0) }
-    ensures broken { OnErr result.1 (HoldsNone (O.written result.0)) }
-    ensures moving { IfErr result.1 IsOfLaying }
 {
     if is_read_once(contents) {
         lay_once(contents, file, progress, w, m)
@@ -59,15 +54,11 @@ fn lay_once<'t, S: Source + Lasting + Drop, O: Overwrite>(
     m: &mut Meter,
 ) -> (O, Result<u64, LayFault>)
     requires empty { O.written file ≡ [] }
-    requires boot { IsBoot contents.old.kind }
-    requires alone { ⟦<PartSource<'t, S> as Source>⟧.size contents.old.trailing ≡ 0 }
-    requires accepted { refusal_in ⟦<PartSource<'t, S> as Source>⟧.size contents.old ≡ None }
-    ensures packs { PacksBytes result.1 S.tells (packed_image ⟦<PartSource<'t, S> as Source>⟧.content contents.old)
-        [] (O.written result.0)
+    requires sources { IsAcceptedAlone ⟦<PartSource<'t, S> as Source>⟧.size contents.old }
+    ensures lays { LaysBytes result.1 S.tells (packed_image ⟦<PartSource<'t, S> as Source>⟧.content contents.old)
+        (O.written result.0)
         (faults_in ⟦<PartSource<'t, S> as Source>⟧.read_faults contents.old + O.write_faults file)
         (faults_in ⟦<PartSource<'t, S> as Source>⟧.read_faults contents.new + O.write_faults result.0) }
-    ensures broken { OnErr result.1 (HoldsNone (O.written result.0)) }
-    ensures moving { IfErr result.1 IsOfLaying }
 {
     let mut carried = Carried {
         device: file,
@@ -90,14 +81,11 @@ fn lay_magic_last<'t, S: Source + Lasting + Drop, O: Overwrite>(
     m: &mut Meter,
 ) -> (O, Result<u64, LayFault>)
     requires empty { O.written file ≡ [] }
-    requires nothing { ⟦<PartSource<'t, S> as Source>⟧.size contents.old.nothing ≡ 0 }
-    requires accepted { refusal_in ⟦<PartSource<'t, S> as Source>⟧.size contents.old ≡ None }
-    ensures packs { PacksBytes result.1 S.tells (packed_image ⟦<PartSource<'t, S> as Source>⟧.content contents.old)
-        [] (O.written result.0)
+    requires sources { IsAccepted ⟦<PartSource<'t, S> as Source>⟧.size contents.old }
+    ensures lays { LaysBytes result.1 S.tells (packed_image ⟦<PartSource<'t, S> as Source>⟧.content contents.old)
+        (O.written result.0)
         (faults_in ⟦<PartSource<'t, S> as Source>⟧.read_faults contents.old + O.write_faults file)
         (faults_in ⟦<PartSource<'t, S> as Source>⟧.read_faults contents.new + O.write_faults result.0) }
-    ensures broken { OnErr result.1 (HoldsNone (O.written result.0)) }
-    ensures moving { IfErr result.1 IsOfLaying }
 {
     let mut carried = Carried {
         device: MagicLast::new(file),

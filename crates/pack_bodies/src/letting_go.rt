@@ -1,7 +1,6 @@
 //! What an image was written from, once it is written: which file a fault is about, and all of them let go.
 
-ghost use Rattle.std.specs.Prelude.{◌≡◌, IsTrue};
-ghost use Rattle.abt_disk.specs.World.{failing};
+ghost use Rattle.abt_disk.specs.DiskCalls.{FailsOnly};
 ghost use Rattle.abt_sections.specs.Cause.{total};
 ghost use Rattle.pack_bodies.specs.Contents.{faults_in};
 
@@ -57,9 +56,8 @@ fn place_at_fault<'t, S: Source + Lasting + Drop>(
 
 /// Lets the files go that an image was written from.
 pub(crate) fn let_go<'t, D: Disk>(disk: &mut D, contents: Contents<'_, PartSource<'t, D::At>>)
-    ensures held { IsTrue D.tells → D.held disk.new ≡ failing
-        (faults_in ⟦<PartSource<'t, D::At> as Source>⟧.read_faults contents.entry) (D.held disk.old) }
-    ensures world { IsTrue D.tells → D.world disk.new ≡ D.world disk.old }
+    ensures fails { FailsOnly D.tells (faults_in ⟦<PartSource<'t, D::At> as Source>⟧.read_faults contents.entry)
+        (D.held disk.old) (D.held disk.new) (D.world disk.old) (D.world disk.new) }
 {
     let Contents {
         parts,
@@ -75,9 +73,8 @@ pub(crate) fn let_go<'t, D: Disk>(disk: &mut D, contents: Contents<'_, PartSourc
 }
 
 fn let_go_parts<'t, D: Disk>(disk: &mut D, parts: Vec<PartSource<'t, D::At>>)
-    ensures held { IsTrue D.tells → D.held disk.new ≡ failing
-        (total ⟦<PartSource<'t, D::At> as Source>⟧.read_faults parts.entry.items) (D.held disk.old) }
-    ensures world { IsTrue D.tells → D.world disk.new ≡ D.world disk.old }
+    ensures fails { FailsOnly D.tells (total ⟦<PartSource<'t, D::At> as Source>⟧.read_faults parts.entry.items)
+        (D.held disk.old) (D.held disk.new) (D.world disk.old) (D.world disk.new) }
 {
     let mut parts = parts;
     while let Some(part) = parts.pop() {
@@ -86,9 +83,8 @@ fn let_go_parts<'t, D: Disk>(disk: &mut D, parts: Vec<PartSource<'t, D::At>>)
 }
 
 fn let_go_part<'t, D: Disk>(disk: &mut D, part: PartSource<'t, D::At>)
-    ensures held { IsTrue D.tells → D.held disk.new ≡ failing
-        (⟦<PartSource<'t, D::At> as Source>⟧.read_faults part.entry) (D.held disk.old) }
-    ensures world { IsTrue D.tells → D.world disk.new ≡ D.world disk.old }
+    ensures fails { FailsOnly D.tells (⟦<PartSource<'t, D::At> as Source>⟧.read_faults part.entry)
+        (D.held disk.old) (D.held disk.new) (D.world disk.old) (D.world disk.new) }
 {
     let PartSource { file, .. } = part;
     match file {

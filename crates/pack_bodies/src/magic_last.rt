@@ -1,15 +1,14 @@
 //! An output whose first bytes are laid last: what is broken off has no magic.
 
-ghost use Rattle.std.specs.Prelude.{◌≡◌, ◌<◌, ◌≤◌, ◌+◌, ◌++◌, [], IfOk, IsErrOf, IsTrue, OnOk, OnErr};
-ghost use Rattle.std.specs.Prelude.{length, take, replicate};
-ghost use Rattle.abt_io.specs.Count.{count_of, full_of};
+ghost use Rattle.std.specs.Prelude.{◌≡◌, ◌<◌, ◌≤◌, [], OnOk, OnErr, length, take, replicate};
+ghost use Rattle.abt_io.specs.Called.{WritesOnce};
 ghost use Rattle.abt_io.specs.Over.{with_front};
 ghost use Rattle.pack_bodies.specs.Magic.{HoldsNone};
 
 use abt_io::{DeviceFault, FRONT, Meter, Output, Overwrite, write_over_all};
 
-/// Keeps back the first `FRONT` bytes that it is given, and writes zeros in their place. All that comes behind them goes
-/// straight to the output. It is ended by `finish`, which lays them, or by `give_up`, which does not.
+/// Keeps back the first `FRONT` bytes that it is given, and writes zeros in their place. All that comes behind them
+/// goes straight to the output. It is ended by `finish`, which lays them, or by `give_up`, which does not.
 #[derive(Drop)]
 pub(crate) struct MagicLast<O: Overwrite> {
     output: O,
@@ -62,18 +61,7 @@ impl<O: Overwrite> MagicLast<O> {
     // Keeps back some of these bytes, and writes as many zeros.
     fn keep_back(&mut self, bytes: &[u8]) -> Result<usize, DeviceFault>
         requires room { self.old.kept < 8 }
-        ensures within { count_of result ≤ length bytes.now }
-        ensures progress { IfOk result (λ n. 0 < length bytes.now → 0 < n) }
-        ensures written { with_front self.new.front self.new.kept (O.written self.new.output)
-            ≡ with_front self.old.front self.old.kept (O.written self.old.output) ++ take (count_of result) bytes.now }
-        ensures frame { O.write_frame self.new.output ≡ O.write_frame self.old.output }
-        ensures calls { O.writes self.new.output ≡ O.writes self.old.output + 1 }
-        ensures faults { O.write_faults self.old.output ≤ O.write_faults self.new.output }
-        ensures cause { OnErr result (O.write_faults self.old.output < O.write_faults self.new.output) }
-        ensures clean { OnOk result (O.write_faults self.new.output ≡ O.write_faults self.old.output) }
-        ensures full_faults { O.full_faults self.new.output ≡ O.full_faults self.old.output + full_of result }
-        ensures full { IsErrOf result DeviceFault.Full → IsTrue (O.is_full self.old.output) }
-        ensures still_full { IsErrOf result DeviceFault.Full → IsTrue (O.is_full self.new.output) }
+        ensures wrote { WritesOnce ⟦<MagicLast<O> as Output>⟧ result self.old self.new bytes.now }
     {
         let kept = self.kept;
         let zeros = [0u8; FRONT];

@@ -1,12 +1,12 @@
 //! An image that is open, and what is read beside it.
 
-ghost use Rattle.std.specs.Prelude.{◌≡◌, ◌+◌, ◌<◌, ◌≤◌, IsTrue, IfOk, IfErr, is_ok, length, take, drop, []};
-ghost use Rattle.abt_disk.specs.World.{HasFailed, OpensFile, failing, unless};
+ghost use Rattle.std.specs.Prelude.{◌≡◌, ◌+◌, ◌<◌, ◌≤◌, IsTrue, IfOk, IfErr, length, take, drop, []};
+ghost use Rattle.abt_disk.specs.World.{HasFailed};
 ghost use Rattle.abt_refusals.specs.Paths.{path_of};
 ghost use Rattle.abt_sections.specs.Header.{view_of};
 ghost use Rattle.abt_sections.specs.Open.{IsOpened};
 ghost use Rattle.boot_bodies.specs.Faults.{RefusesImage};
-ghost use Rattle.pack_bodies.specs.Opening.{OnlyOpens};
+ghost use Rattle.pack_bodies.specs.Opening.{OpensAgain, OpensOne};
 ghost use Rattle.pack_bodies.specs.Own.{IsOpenOwn, IsOwnPart, kept_behind};
 
 use abt_disk::{Disk, Lasting};
@@ -33,14 +33,12 @@ pub(crate) fn open_own<'t, 'a, D: Disk>(
     m: &mut Meter,
 ) -> Result<Own<'t, D::At>, Refusal<'t, BootCommandFault<'a>>>
     requires first { IsTrue D.tells → (D.held disk.old).begun ≡ [] }
-    ensures opened { IsTrue D.tells → IfOk result (λ own. OpensFile (D.world disk.old) (path_of place.entry)
-        (D.At.content own.source) (D.held disk.old) (D.held disk.new)) }
+    ensures opens { OpensOne D.tells result (path_of place.entry) (λ own. D.At.content own.source)
+        (λ own. D.At.read_faults own.source) (D.held disk.old) (D.held disk.new) (D.world disk.old)
+        (D.world disk.new) }
     ensures image { IsTrue D.At.tells → IfOk result (λ own. IsOpened (D.At.content own.source) own.image) }
-    ensures clean { IsTrue D.tells → IfOk result (λ own. D.At.read_faults own.source ≡ 0) }
     ensures refused { IsTrue D.tells → IfErr result (λ refusal. RefusesImage (path_of place.entry)
         (D.world disk.old) (HasFailed (D.held disk.old) (D.held disk.new)) ⊥ refusal.fault) }
-    ensures keeps { IsTrue D.tells → OnlyOpens (D.held disk.old) (D.held disk.new) (D.world disk.old)
-        (D.world disk.new) }
 {
     let mut source = match disk.source(place) {
         Ok(source) => source,
@@ -68,12 +66,10 @@ pub(crate) fn range_of<'t, D: Disk>(
     size: u64,
 ) -> Result<PartSource<'t, D::At>, HostRefusal<'t>>
     requires lies { IsTrue D.At.tells → 0 < size → at + size ≤ length (D.At.content own.now.source) }
-    ensures content { IsTrue D.tells → IfOk result (λ part. ⟦<PartSource<'t, D::At> as Source>⟧.content part
-        ≡ take size (drop at (D.At.content own.now.source))) }
-    ensures unread { IsTrue D.tells → IfOk result (λ part.
-        ⟦<PartSource<'t, D::At> as Source>⟧.read_faults part ≡ 0) }
-    ensures held { IsTrue D.tells → D.held disk.new ≡ failing (unless (is_ok result)) (D.held disk.old) }
-    ensures world { IsTrue D.tells → D.world disk.new ≡ D.world disk.old }
+    ensures opens { OpensAgain D.tells result (λ x. x ≡ take size (drop at (D.At.content own.now.source)))
+        ⟦<PartSource<'t, D::At> as Source>⟧.content
+        ⟦<PartSource<'t, D::At> as Source>⟧.read_faults (D.held disk.old) (D.held disk.new)
+        (D.world disk.old) (D.world disk.new) }
 {
     if size == 0 {
         return Ok(PartSource::empty());
@@ -91,12 +87,10 @@ pub(crate) fn own_part<'t, D: Disk>(
     section: Section,
 ) -> Result<PartSource<'t, D::At>, HostRefusal<'t>>
     requires { IsTrue D.At.tells → IsOpenOwn D.At.content own }
-    ensures part { IsTrue D.tells → IfOk result (λ part. IsOwnPart D.At.content own.entry section
-        (⟦<PartSource<'t, D::At> as Source>⟧.content part)) }
-    ensures unread { IsTrue D.tells → IfOk result (λ part.
-        ⟦<PartSource<'t, D::At> as Source>⟧.read_faults part ≡ 0) }
-    ensures held { IsTrue D.tells → D.held disk.new ≡ failing (unless (is_ok result)) (D.held disk.old) }
-    ensures world { IsTrue D.tells → D.world disk.new ≡ D.world disk.old }
+    ensures opens { OpensAgain D.tells result (IsOwnPart D.At.content own.entry section)
+        ⟦<PartSource<'t, D::At> as Source>⟧.content
+        ⟦<PartSource<'t, D::At> as Source>⟧.read_faults (D.held disk.old) (D.held disk.new)
+        (D.world disk.old) (D.world disk.new) }
 {
     let Some(own) = own else {
         return Ok(PartSource::empty());
@@ -114,12 +108,11 @@ pub(crate) fn trailing_of<'t, D: Disk>(
     is_kept: bool,
 ) -> Result<PartSource<'t, D::At>, HostRefusal<'t>>
     requires { IsTrue D.At.tells → IsOpened (D.At.content own.now.source) own.now.image }
-    ensures behind { IsTrue D.tells → IfOk result (λ part. ⟦<PartSource<'t, D::At> as Source>⟧.content part
-        ≡ kept_behind is_kept (D.At.content own.now.source) (view_of own.now.image.header)) }
-    ensures unread { IsTrue D.tells → IfOk result (λ part.
-        ⟦<PartSource<'t, D::At> as Source>⟧.read_faults part ≡ 0) }
-    ensures held { IsTrue D.tells → D.held disk.new ≡ failing (unless (is_ok result)) (D.held disk.old) }
-    ensures world { IsTrue D.tells → D.world disk.new ≡ D.world disk.old }
+    ensures opens { OpensAgain D.tells result (λ x. x ≡ kept_behind is_kept (D.At.content own.now.source)
+        (view_of own.now.image.header))
+        ⟦<PartSource<'t, D::At> as Source>⟧.content
+        ⟦<PartSource<'t, D::At> as Source>⟧.read_faults (D.held disk.old) (D.held disk.new)
+        (D.world disk.old) (D.world disk.new) }
 {
     if !is_kept {
         return Ok(PartSource::empty());

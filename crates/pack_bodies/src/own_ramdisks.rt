@@ -1,12 +1,12 @@
 //! The ramdisk fragments that an image has of its own, each open to be read.
 
-ghost use Rattle.std.specs.Prelude.{◌≡◌, ◌+◌, ◌++◌, ◌∷◌, ◌<◌, ◌≤◌, ◌^◌, [], IsTrue, IfErr, IfOk, OnOk, length, map};
+ghost use Rattle.std.specs.Prelude.{◌≡◌, ◌+◌, ◌++◌, ◌∷◌, ◌<◌, ◌≤◌, ◌^◌, [], IsTrue, IfOk, length, map};
 ghost use Rattle.std.specs.Prelude.{take, drop};
 ghost use Rattle.abt_sections.specs.Cause.{total};
 ghost use Rattle.abt_sections.specs.Header.{fragment_count, ramdisk_at, view_of};
 ghost use Rattle.abt_sections.specs.Open.{IsOpened};
-ghost use Rattle.pack_bodies.specs.Opening.{OnlyOpens, StopsOpening};
-ghost use Rattle.pack_bodies.specs.Own.{AllEndBehind, EndsBehind, bytes_behind, fragment_bytes, entries_to, no_path};
+ghost use Rattle.pack_bodies.specs.Opening.{OpensOwn};
+ghost use Rattle.pack_bodies.specs.Own.{AllEndBehind, EndsBehind, bytes_behind, fragment_bytes, entries_to};
 ghost use Rattle.pack_bodies.specs.Own.{said_of};
 
 use crate::own::{Own, range_of};
@@ -34,13 +34,9 @@ pub(crate) fn own_fragments<'a, D: Disk>(
     ensures bytes { IsTrue D.tells → IfOk result (λ all. map ⟦<PartSource<'a, D::At> as Source>⟧.content
         all.sources.items ≡ map
         (fragment_bytes (D.At.content own.now.source) (view_of own.now.image.header)) entries.now) }
-    ensures unread { IsTrue D.tells → IfOk result (λ all.
-        total ⟦<PartSource<'a, D::At> as Source>⟧.read_faults all.sources.items ≡ 0) }
-    ensures held { IsTrue D.tells → OnOk result (D.held disk.new ≡ D.held disk.old) }
-    ensures refused { IsTrue D.tells → IfErr result (λ refusal. StopsOpening no_path (D.held disk.old)
-        (D.held disk.new) refusal.fault) }
-    ensures keeps { IsTrue D.tells → OnlyOpens (D.held disk.old) (D.held disk.new) (D.world disk.old)
-        (D.world disk.new) }
+    ensures opens { OpensOwn D.tells result (λ all.
+        total ⟦<PartSource<'a, D::At> as Source>⟧.read_faults all.sources.items) 0 (D.held disk.old)
+        (D.held disk.new) (D.world disk.old) (D.world disk.new) }
 {
     match place_of(&own.image, Section::VendorRamdisk) {
         Some(place) => with_entries(disk, alloc, own, place.at, entries),
@@ -61,13 +57,9 @@ fn with_entries<'a, D: Disk>(
     ensures specs { IfOk result (λ all. all.specs.items ≡ map said_of entries.now) }
     ensures bytes { IsTrue D.tells → IfOk result (λ all. map ⟦<PartSource<'a, D::At> as Source>⟧.content
         all.sources.items ≡ map (bytes_behind (D.At.content own.now.source) front) entries.now) }
-    ensures unread { IsTrue D.tells → IfOk result (λ all.
-        total ⟦<PartSource<'a, D::At> as Source>⟧.read_faults all.sources.items ≡ 0) }
-    ensures held { IsTrue D.tells → OnOk result (D.held disk.new ≡ D.held disk.old) }
-    ensures refused { IsTrue D.tells → IfErr result (λ refusal. StopsOpening no_path (D.held disk.old)
-        (D.held disk.new) refusal.fault) }
-    ensures keeps { IsTrue D.tells → OnlyOpens (D.held disk.old) (D.held disk.new) (D.world disk.old)
-        (D.world disk.new) }
+    ensures opens { OpensOwn D.tells result (λ all.
+        total ⟦<PartSource<'a, D::At> as Source>⟧.read_faults all.sources.items) 0 (D.held disk.old)
+        (D.held disk.new) (D.world disk.old) (D.world disk.new) }
 {
     let mut ramdisks = Ramdisks::new(alloc);
     for entry in entries {
@@ -94,14 +86,10 @@ fn with_entry<'a, D: Disk>(
     ensures bytes { IsTrue D.tells → IfOk result (λ more. map ⟦<PartSource<'a, D::At> as Source>⟧.content
         more.sources.items ≡ map ⟦<PartSource<'a, D::At> as Source>⟧.content ramdisks.entry.sources.items
         ++ (bytes_behind (D.At.content own.now.source) front entry.now ∷ [])) }
-    ensures unread { IsTrue D.tells → IfOk result (λ more.
-        total ⟦<PartSource<'a, D::At> as Source>⟧.read_faults more.sources.items
-        ≡ total ⟦<PartSource<'a, D::At> as Source>⟧.read_faults ramdisks.entry.sources.items) }
-    ensures held { IsTrue D.tells → OnOk result (D.held disk.new ≡ D.held disk.old) }
-    ensures refused { IsTrue D.tells → IfErr result (λ refusal. StopsOpening no_path (D.held disk.old)
-        (D.held disk.new) refusal.fault) }
-    ensures keeps { IsTrue D.tells → OnlyOpens (D.held disk.old) (D.held disk.new) (D.world disk.old)
-        (D.world disk.new) }
+    ensures opens { OpensOwn D.tells result (λ more.
+        total ⟦<PartSource<'a, D::At> as Source>⟧.read_faults more.sources.items)
+        (total ⟦<PartSource<'a, D::At> as Source>⟧.read_faults ramdisks.entry.sources.items)
+        (D.held disk.old) (D.held disk.new) (D.world disk.old) (D.world disk.new) }
 {
     let at = front.saturating_add(entry.ramdisk_offset as u64);
     let source = match range_of(disk, own, at, entry.ramdisk_size as u64) {

@@ -3,13 +3,13 @@
 ghost use Rattle.std.specs.Prelude.{◌≡◌, ◌+◌, [], IsTrue, IfErr, IfOk, OnOk, length};
 ghost use Rattle.std.specs.List.{All};
 ghost use Rattle.abt_refusals.specs.Paths.{output_path};
-ghost use Rattle.abt_disk.specs.World.{HasNotFailed, IsReading};
+ghost use Rattle.abt_disk.specs.World.{IsReading};
 ghost use Rattle.abt_output.specs.Shows.{Shows, unprinted};
 ghost use Rattle.abt_sections.specs.Fields.{boot_fields};
 ghost use Rattle.boot_fields.specs.Kind.{version_of};
 ghost use Rattle.boot_rules.specs.Carried.{IsTaken};
-ghost use Rattle.pack_bodies.specs.Contents.{faults_in, packing_of};
-ghost use Rattle.pack_bodies.specs.Opening.{OnlyOpens, OpensMore};
+ghost use Rattle.pack_bodies.specs.Contents.{packing_of};
+ghost use Rattle.pack_bodies.specs.Opening.{FillsAll};
 ghost use Rattle.pack_bodies.specs.Packing.{AreAskedFor, IsPackedBy, KeepsGiven, PacksFile, board_id_words, asked_kind};
 ghost use Rattle.pack_bodies.specs.Parts.{IsGivenPath};
 ghost use Rattle.pack_bodies.specs.Refusing.{RefusesPack, StopsFilling};
@@ -45,10 +45,8 @@ pub fn pack_file<'t, 'a, D: Disk>(
     // what was printed tells of it
     ensures done { IsTrue D.tells → OnOk result (PacksFile command.now (D.world disk.old) (D.world disk.new)
         (Shows report.old report.new)) }
-    // and no call failed
-    ensures clean { IsTrue D.tells → OnOk result (HasNotFailed (D.held disk.old) (D.held disk.new)) }
     // whatever the outcome, OUT alone may hold anything else, the given files hold what they held, and OUT's file has
-    // no part of an image
+    // no part of an image; and where it is done no call failed
     ensures left { IsTrue D.tells → LeavesOut result (output_path command.now.output.now)
         (D.is_over (output_path command.now.output.now)) (IsPackedBy command.now (D.world disk.old))
         (D.held disk.old) (D.held disk.new) (D.world disk.old) (D.world disk.new) }
@@ -85,20 +83,15 @@ fn contents_of<'t, 'a, D: Disk>(
     requires kind { kind ≡ asked_kind command.now }
     requires versioned { fields.version ≡ version_of kind }
     requires taken { All (IsTaken kind) command.now.texts.fragments.items }
-    ensures kind { IfOk result (λ contents. contents.kind ≡ kind) }
     ensures asked { IsTrue D.tells → IfOk result (λ contents. AreAskedFor command.now (D.world disk.old)
         (boot_fields fields.entry) (packing_of ⟦<PartSource<'t, D::At> as Source>⟧.content contents)) }
     ensures alone { IfOk result (λ contents. ⟦<PartSource<'t, D::At> as Source>⟧.content contents.trailing ≡ []) }
-    ensures nothing { IfOk result (λ contents. ⟦<PartSource<'t, D::At> as Source>⟧.size contents.nothing ≡ 0) }
-    ensures unread { IsTrue D.tells → IfOk result (λ contents.
-        faults_in ⟦<PartSource<'t, D::At> as Source>⟧.read_faults contents ≡ 0) }
-    ensures opened { IsTrue D.tells → OnOk result (OpensMore (IsGivenPath command.now.texts kind) (D.world disk.old)
-        (D.held disk.old) (D.held disk.new)) }
+    ensures fills { FillsAll D.tells result kind (IsGivenPath command.now.texts kind)
+        ⟦<PartSource<'t, D::At> as Source>⟧.size ⟦<PartSource<'t, D::At> as Source>⟧.read_faults
+        (D.held disk.old) (D.held disk.new) (D.world disk.old) (D.world disk.new) }
     ensures refused { IsTrue D.tells → IfErr result (λ refusal. StopsFilling (IsGivenPath command.now.texts kind)
         (board_id_words command.now) (length command.now.texts.fragments.items) (D.held disk.old) (D.held disk.new)
         refusal.fault) }
-    ensures keeps { IsTrue D.tells → OnlyOpens (D.held disk.old) (D.held disk.new) (D.world disk.old)
-        (D.world disk.new) }
 {
     let texts = &command.texts;
     let parts = match open_parts(disk, command.alloc, kind, texts, None) {

@@ -1,11 +1,11 @@
 //! Writing an image of its contents, and what stands behind it.
 
-ghost use Rattle.std.specs.Prelude.{◌≡◌, ◌<◌, ◌+◌, ◌++◌, None, IsTrue, IfOk, IfErr, OnOk, OnErr, length, map};
+ghost use Rattle.std.specs.Prelude.{◌≡◌, ◌<◌, ◌+◌, ◌++◌, IsTrue, IfOk, IfErr, OnOk, OnErr, length, map};
 ghost use Rattle.abt_sections.specs.Broken.{IsBrokenOff};
 ghost use Rattle.boot_rules.specs.Parts.{IsBoot};
 ghost use Rattle.boot_rules.specs.Refused.{IsOfMoving};
 ghost use Rattle.pack_bodies.specs.Contents.{faults_in, image_from, packed_image, packing_of, refusal_from, refusal_in};
-ghost use Rattle.pack_bodies.specs.Writing.{PacksBytes};
+ghost use Rattle.pack_bodies.specs.Writing.{IsAccepted, IsAcceptedAlone, PacksBytes};
 
 use crate::contents::Contents;
 use abt_io::{CopyFault, Meter, Output, Overwrite, Source, Window, copy_range};
@@ -53,14 +53,11 @@ pub(crate) fn pack_once<P: Source + Drop, O: Overwrite>(
     w: &mut Window,
     m: &mut Meter,
 ) -> Result<u64, SectionFault>
-    requires boot { IsBoot contents.old.kind }
-    requires alone { P.size contents.old.trailing ≡ 0 }
-    requires accepted { refusal_in P.size contents.old ≡ None }
-    ensures packs { PacksBytes result P.tells (packed_image P.content contents.old) (O.written output.old)
+    requires sources { IsAcceptedAlone P.size contents.old }
+    ensures packs { PacksBytes result IsOfMoving P.tells (packed_image P.content contents.old) (O.written output.old)
         (O.written output.new) (faults_in P.read_faults contents.old + O.write_faults output.old)
         (faults_in P.read_faults contents.new + O.write_faults output.new) }
     ensures broken { OnErr result (IsBrokenOff (O.written output.old) (O.written output.new)) }
-    ensures moving { IfErr result IsOfMoving }
 {
     let parts = contents.parts.as_mut_slice();
     match pack_boot_once(&contents.fields, parts, output, w, m) {
@@ -76,12 +73,10 @@ pub(crate) fn pack_contents<P: Source + Drop, O: Output>(
     w: &mut Window,
     m: &mut Meter,
 ) -> Result<u64, SectionFault>
-    requires empty { P.size contents.old.nothing ≡ 0 }
-    requires accepted { refusal_in P.size contents.old ≡ None }
-    ensures packs { PacksBytes result P.tells (packed_image P.content contents.old) (O.written output.old)
+    requires sources { IsAccepted P.size contents.old }
+    ensures packs { PacksBytes result IsOfMoving P.tells (packed_image P.content contents.old) (O.written output.old)
         (O.written output.new) (faults_in P.read_faults contents.old + O.write_faults output.old)
         (faults_in P.read_faults contents.new + O.write_faults output.new) }
-    ensures moving { IfErr result IsOfMoving }
 {
     let bytes = match pack_parts(contents, output, w, m) {
         Ok(bytes) => bytes,
@@ -100,8 +95,7 @@ fn pack_parts<P: Source + Drop, O: Output>(
     w: &mut Window,
     m: &mut Meter,
 ) -> Result<u64, SectionFault>
-    requires empty { P.size contents.old.nothing ≡ 0 }
-    requires accepted { refusal_in P.size contents.old ≡ None }
+    requires sources { IsAccepted P.size contents.old }
     ensures trailing { contents.new.trailing ≡ contents.old.trailing }
     ensures written { IsTrue P.tells → OnOk result (O.written output.new ≡ O.written output.old
         ++ image_from contents.old.kind (packing_of P.content contents.old)) }

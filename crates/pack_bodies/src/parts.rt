@@ -1,12 +1,11 @@
 //! The parts that an image is packed from, each open to be read.
 
-ghost use Rattle.std.specs.Prelude.{◌≡◌, [], IsTrue, IfErr, IfOk, OnOk, length, map};
-ghost use Rattle.abt_disk.specs.World.{OpensFile};
+ghost use Rattle.std.specs.Prelude.{◌≡◌, [], IsTrue, IfErr, IfOk, length, map};
 ghost use Rattle.abt_sections.specs.Cause.{total};
 ghost use Rattle.boot_fields.specs.Options.{option_of};
 ghost use Rattle.boot_rules.specs.Given.{found};
 ghost use Rattle.boot_rules.specs.Parts.{part_sections, row_count};
-ghost use Rattle.pack_bodies.specs.Opening.{OnlyOpens, OpensMore, StopsOpening};
+ghost use Rattle.pack_bodies.specs.Opening.{OpensEach, OpensOne, StopsOpening};
 ghost use Rattle.pack_bodies.specs.Own.{IsOpenOwn, IsOwnPart};
 ghost use Rattle.pack_bodies.specs.Parts.{ArePartsOf, IsPartBy, IsPartInput, IsPathOf};
 
@@ -33,14 +32,9 @@ pub(crate) fn open_parts<'t, D: Disk>(
     ensures parts { IsTrue D.tells → IfOk result (λ parts. ArePartsOf (D.world disk.old) texts.now.options.items
         (IsOwnPart D.At.content own.entry) (part_sections kind)
         (map ⟦<PartSource<'t, D::At> as Source>⟧.content parts.items)) }
-    ensures unread { IsTrue D.tells → IfOk result (λ parts.
-        total ⟦<PartSource<'t, D::At> as Source>⟧.read_faults parts.items ≡ 0) }
-    ensures opened { IsTrue D.tells → OnOk result (OpensMore (IsPartInput texts.now.options.items (part_sections kind))
-        (D.world disk.old) (D.held disk.old) (D.held disk.new)) }
-    ensures refused { IsTrue D.tells → IfErr result (λ refusal. StopsOpening (IsPartInput texts.now.options.items
-        (part_sections kind)) (D.held disk.old) (D.held disk.new) refusal.fault) }
-    ensures keeps { IsTrue D.tells → OnlyOpens (D.held disk.old) (D.held disk.new) (D.world disk.old)
-        (D.world disk.new) }
+    ensures opens { OpensEach D.tells result (IsPartInput texts.now.options.items (part_sections kind))
+        (λ parts. total ⟦<PartSource<'t, D::At> as Source>⟧.read_faults parts.items) 0
+        (D.held disk.old) (D.held disk.new) (D.world disk.old) (D.world disk.new) }
 {
     let rows = rows_of(kind);
     let mut parts = Vec::new(alloc);
@@ -69,14 +63,9 @@ fn open_part<'t, D: Disk>(
     ensures part { IsTrue D.tells → IfOk result (λ part. IsPartBy (D.world disk.old)
         (found texts.now.options.items row.option.now) (IsOwnPart D.At.content own.entry row.section)
         (⟦<PartSource<'t, D::At> as Source>⟧.content part)) }
-    ensures unread { IsTrue D.tells → IfOk result (λ part.
-        ⟦<PartSource<'t, D::At> as Source>⟧.read_faults part ≡ 0) }
-    ensures opened { IsTrue D.tells → OnOk result (OpensMore (IsPathOf texts.now.options.items row.option.now)
-        (D.world disk.old) (D.held disk.old) (D.held disk.new)) }
-    ensures refused { IsTrue D.tells → IfErr result (λ refusal. StopsOpening (IsPathOf texts.now.options.items
-        row.option.now) (D.held disk.old) (D.held disk.new) refusal.fault) }
-    ensures keeps { IsTrue D.tells → OnlyOpens (D.held disk.old) (D.held disk.new) (D.world disk.old)
-        (D.world disk.new) }
+    ensures opens { OpensEach D.tells result (IsPathOf texts.now.options.items row.option.now)
+        (⟦<PartSource<'t, D::At> as Source>⟧.read_faults) 0 (D.held disk.old) (D.held disk.new)
+        (D.world disk.old) (D.world disk.new) }
 {
     match texts.find(row.option) {
         Some(option) => open_file(disk, row.option, &*option.word, option.bytes.as_slice()),
@@ -92,14 +81,11 @@ pub(crate) fn open_file<'t, D: Disk>(
     path: &'t [u8],
 ) -> Result<PartSource<'t, D::At>, HostRefusal<'t>>
     requires first { IsTrue D.tells → (D.held disk.old).begun ≡ [] }
-    ensures opened { IsTrue D.tells → IfOk result (λ part. OpensFile (D.world disk.old) path.now
-        (⟦<PartSource<'t, D::At> as Source>⟧.content part) (D.held disk.old) (D.held disk.new)) }
-    ensures unread { IsTrue D.tells → IfOk result (λ part.
-        ⟦<PartSource<'t, D::At> as Source>⟧.read_faults part ≡ 0) }
+    ensures opens { OpensOne D.tells result path.now ⟦<PartSource<'t, D::At> as Source>⟧.content
+        ⟦<PartSource<'t, D::At> as Source>⟧.read_faults (D.held disk.old) (D.held disk.new) (D.world disk.old)
+        (D.world disk.new) }
     ensures refused { IsTrue D.tells → IfErr result (λ refusal. StopsOpening (λ p. p ≡ path.now) (D.held disk.old)
         (D.held disk.new) refusal.fault) }
-    ensures keeps { IsTrue D.tells → OnlyOpens (D.held disk.old) (D.held disk.new) (D.world disk.old)
-        (D.world disk.new) }
 {
     match str::from_utf8(path) {
         Ok(path) => {

@@ -1,10 +1,10 @@
 //! The ramdisk fragments of a vendor boot image, each open to be read.
 
-ghost use Rattle.std.specs.Prelude.{◌≡◌, ◌++◌, ◌∷◌, [], IsSome, IsTrue, IfErr, IfOk, OnOk, length, map};
+ghost use Rattle.std.specs.Prelude.{◌≡◌, ◌++◌, ◌∷◌, [], IsSome, IsTrue, IfErr, IfOk, length, map};
 ghost use Rattle.std.specs.List.{All};
 ghost use Rattle.abt_sections.specs.Cause.{total};
 ghost use Rattle.boot_rules.specs.Boards.{AreSet};
-ghost use Rattle.pack_bodies.specs.Opening.{OnlyOpens, OpensMore, StopsOpening};
+ghost use Rattle.pack_bodies.specs.Opening.{OpensEach};
 ghost use Rattle.pack_bodies.specs.Parts.{AddsFragment, AreFragmentsOf, IsFragmentInput};
 ghost use Rattle.pack_bodies.specs.Refusing.{IsBadBoard};
 
@@ -89,14 +89,9 @@ pub(crate) fn open_fragments<'a, D: Disk>(
     requires said { All (λ fragment. IsSome fragment.spec) texts.now.fragments.items }
     ensures fragments { IsTrue D.tells → IfOk result (λ all. AreFragmentsOf (D.world disk.old) texts.now.fragments.items
         all.specs.items (map ⟦<PartSource<'a, D::At> as Source>⟧.content all.sources.items)) }
-    ensures unread { IsTrue D.tells → IfOk result (λ all.
-        total ⟦<PartSource<'a, D::At> as Source>⟧.read_faults all.sources.items ≡ 0) }
-    ensures opened { IsTrue D.tells → OnOk result (OpensMore (IsFragmentInput texts.now.fragments.items)
-        (D.world disk.old) (D.held disk.old) (D.held disk.new)) }
-    ensures refused { IsTrue D.tells → IfErr result (λ refusal. StopsOpening (IsFragmentInput
-        texts.now.fragments.items) (D.held disk.old) (D.held disk.new) refusal.fault) }
-    ensures keeps { IsTrue D.tells → OnlyOpens (D.held disk.old) (D.held disk.new) (D.world disk.old)
-        (D.world disk.new) }
+    ensures opens { OpensEach D.tells result (IsFragmentInput texts.now.fragments.items)
+        (λ all. total ⟦<PartSource<'a, D::At> as Source>⟧.read_faults all.sources.items) 0
+        (D.held disk.old) (D.held disk.new) (D.world disk.old) (D.world disk.new) }
 {
     let mut ramdisks = Ramdisks::new(alloc);
     for fragment in &texts.fragments {
@@ -120,15 +115,10 @@ fn with_file<'a, D: Disk>(
         ramdisks.entry.specs.items more.specs.items
         (map ⟦<PartSource<'a, D::At> as Source>⟧.content ramdisks.entry.sources.items)
         (map ⟦<PartSource<'a, D::At> as Source>⟧.content more.sources.items)) }
-    ensures unread { IsTrue D.tells → IfOk result (λ more.
-        total ⟦<PartSource<'a, D::At> as Source>⟧.read_faults more.sources.items
-        ≡ total ⟦<PartSource<'a, D::At> as Source>⟧.read_faults ramdisks.entry.sources.items) }
-    ensures opened { IsTrue D.tells → OnOk result (OpensMore (λ path. path ≡ fragment.now.path.items)
-        (D.world disk.old) (D.held disk.old) (D.held disk.new)) }
-    ensures refused { IsTrue D.tells → IfErr result (λ refusal. StopsOpening (λ path. path ≡ fragment.now.path.items)
-        (D.held disk.old) (D.held disk.new) refusal.fault) }
-    ensures keeps { IsTrue D.tells → OnlyOpens (D.held disk.old) (D.held disk.new) (D.world disk.old)
-        (D.world disk.new) }
+    ensures opens { OpensEach D.tells result (λ path. path ≡ fragment.now.path.items)
+        (λ more. total ⟦<PartSource<'a, D::At> as Source>⟧.read_faults more.sources.items)
+        (total ⟦<PartSource<'a, D::At> as Source>⟧.read_faults ramdisks.entry.sources.items)
+        (D.held disk.old) (D.held disk.new) (D.world disk.old) (D.world disk.new) }
 {
     let Some(spec) = fragment.spec else {
         return Ok(ramdisks);

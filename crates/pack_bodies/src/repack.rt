@@ -1,25 +1,23 @@
 //! The command `repack`: an image with other parts and fields, all else kept.
 
 ghost use Rattle.std.specs.Prelude.{◌≡◌, ◌+◌, ◌++◌, [], IsTrue, IfErr, IfOk, OnOk, map};
-ghost use Rattle.std.specs.List.{All};
-ghost use Rattle.abt_disk.specs.World.{HasFailed, HasNotFailed, IsReading};
+ghost use Rattle.abt_disk.specs.World.{HasFailed, IsReading};
 ghost use Rattle.abt_output.specs.Shows.{Shows, unprinted};
 ghost use Rattle.abt_refusals.specs.Paths.{output_path, path_of};
 ghost use Rattle.abt_sections.specs.Cause.{total};
 ghost use Rattle.abt_sections.specs.Fields.{boot_fields};
-ghost use Rattle.abt_sections.specs.Header.{fragment_count, view_of};
+ghost use Rattle.abt_sections.specs.Header.{view_of};
 ghost use Rattle.abt_sections.specs.Open.{IsOpened};
 ghost use Rattle.boot_bodies.specs.Faults.{NoMoreFailed, SomeFailed};
 ghost use Rattle.boot_fields.specs.Fields.{text_of};
 ghost use Rattle.boot_fields.specs.Kind.{kind_of, version_of};
 ghost use Rattle.boot_findings.specs.LeftOut.{cmdline_of};
-ghost use Rattle.boot_rules.specs.Carried.{IsTaken};
-ghost use Rattle.pack_bodies.specs.Contents.{faults_in, packing_of};
-ghost use Rattle.pack_bodies.specs.Opening.{OnlyOpens, OpensMore, StopsOpening};
-ghost use Rattle.pack_bodies.specs.Own.{entries_to, kept_behind};
+ghost use Rattle.pack_bodies.specs.Contents.{packing_of};
+ghost use Rattle.pack_bodies.specs.Opening.{FillsAll, OpensEach};
+ghost use Rattle.pack_bodies.specs.Own.{kept_behind};
 ghost use Rattle.pack_bodies.specs.Parts.{IsFragmentInput, IsGivenPath};
 ghost use Rattle.pack_bodies.specs.RefusingAgain.{RefusesAgain, RefusesRepack, StopsFillingAgain};
-ghost use Rattle.pack_bodies.specs.Repacking.{AreAskedAgain, AreFragmentsAgain, IsPackedAgain, IsRepackedOf};
+ghost use Rattle.pack_bodies.specs.Repacking.{AreAskedAgain, AreFragmentsAgain, IsAtHand, IsPackedAgain, IsRepackedOf};
 ghost use Rattle.pack_bodies.specs.Repacking.{KeepsGivenAgain, KeepsRead, PacksAgain, RepacksFile, ShowsFirst};
 ghost use Rattle.pack_bodies.specs.Writing.{LeavesOut};
 
@@ -62,13 +60,11 @@ pub fn repack_file<'t, 'a, D: Disk>(
     // printed tells of it
     ensures done { IsTrue D.tells → OnOk result (RepacksFile (path_of input.entry) command.now (D.world disk.old)
         (D.world disk.new) (ShowsFirst report.old report.new)) }
-    // and no call failed
-    ensures clean { IsTrue D.tells → OnOk result (HasNotFailed (D.held disk.old) (D.held disk.new)) }
     // whatever the outcome, OUT alone may hold anything else, IN and the given files hold what they held, and OUT's
-    // file has no part of an image
+    // file has no part of an image; and where it is done no call failed
     ensures left { IsTrue D.tells → LeavesOut result (output_path command.now.output.now)
-        (D.is_over (output_path command.now.output.now)) (IsRepackedOf (path_of input.entry) command.now (D.world disk.old))
-        (D.held disk.old) (D.held disk.new) (D.world disk.old) (D.world disk.new) }
+        (D.is_over (output_path command.now.output.now)) (IsRepackedOf (path_of input.entry) command.now
+        (D.world disk.old)) (D.held disk.old) (D.held disk.new) (D.world disk.old) (D.world disk.new) }
     ensures inputs { IsTrue D.tells → KeepsRead (path_of input.entry) command.now (D.world disk.old)
         (D.world disk.new) }
     // each fault is so: of IN's bytes, of the words or of what is packed before OUT is opened; or a call has failed; or
@@ -153,17 +149,11 @@ fn write_again<'t, 'a, D: Disk>(
     m: &mut Meter,
 ) -> BootOutcome<'t, 'a>
     requires first { IsTrue D.tells → IsReading (D.held disk.old) }
-    requires opened { IsTrue D.At.tells → IsOpened (D.At.content own.now.source) own.now.image }
-    requires kind { kind ≡ kind_of (view_of own.now.image.header) }
-    requires taken { All (IsTaken kind) command.now.texts.fragments.items }
+    requires own { IsAtHand D.At.tells D.At.content own.now kept.now command.now.texts kind }
     requires cmdline { kept.now.cmdline.items ≡ text_of (cmdline_of (view_of own.now.image.header)) }
-    requires entries { IsTrue D.At.tells → command.now.texts.fragments.items ≡ [] → kept.now.entries.items
-        ≡ entries_to (D.At.content own.now.source) (view_of own.now.image.header)
-        (fragment_count (view_of own.now.image.header)) }
     ensures done { IsTrue D.tells → OnOk result (PacksAgain command.now (D.At.content own.now.source)
         (view_of own.now.image.header) (D.held disk.old).read (D.world disk.old) (D.world disk.new)
         (Shows report.old report.new)) }
-    ensures clean { IsTrue D.tells → OnOk result (HasNotFailed (D.held disk.old) (D.held disk.new)) }
     ensures left { IsTrue D.tells → LeavesOut result (output_path command.now.output.now)
         (D.is_over (output_path command.now.output.now)) (IsPackedAgain command.now (D.At.content own.now.source)
         (view_of own.now.image.header) (D.world disk.old))
@@ -202,29 +192,19 @@ fn contents_of<'t, 'f, 'a, D: Disk>(
 ) -> Result<Contents<'f, PartSource<'t, D::At>>, Refusal<'t, BootCommandFault<'a>>>
     requires versioned { fields.version ≡ version_of kind }
     requires first { IsTrue D.tells → (D.held disk.old).begun ≡ [] }
-    requires opened { IsTrue D.At.tells → IsOpened (D.At.content own.now.source) own.now.image }
-    requires kind { kind ≡ kind_of (view_of own.now.image.header) }
-    requires taken { All (IsTaken kind) command.now.texts.fragments.items }
-    requires entries { IsTrue D.At.tells → command.now.texts.fragments.items ≡ [] → kept.now.entries.items
-        ≡ entries_to (D.At.content own.now.source) (view_of own.now.image.header)
-        (fragment_count (view_of own.now.image.header)) }
-    ensures kind { IfOk result (λ contents. contents.kind ≡ kind) }
+    requires own { IsAtHand D.At.tells D.At.content own.now kept.now command.now.texts kind }
     ensures asked { IsTrue D.tells → IfOk result (λ contents. AreAskedAgain command.now (D.world disk.old)
         (D.At.content own.now.source) (view_of own.now.image.header) (boot_fields fields.entry)
         (packing_of ⟦<PartSource<'t, D::At> as Source>⟧.content contents)) }
     ensures behind { IsTrue D.tells → IfOk result (λ contents.
         ⟦<PartSource<'t, D::At> as Source>⟧.content contents.trailing ≡ kept_behind command.now.keeps_trailing
         (D.At.content own.now.source) (view_of own.now.image.header)) }
-    ensures nothing { IfOk result (λ contents. ⟦<PartSource<'t, D::At> as Source>⟧.size contents.nothing ≡ 0) }
-    ensures unread { IsTrue D.tells → IfOk result (λ contents.
-        faults_in ⟦<PartSource<'t, D::At> as Source>⟧.read_faults contents ≡ 0) }
-    ensures opened { IsTrue D.tells → OnOk result (OpensMore (IsGivenPath command.now.texts kind) (D.world disk.old)
-        (D.held disk.old) (D.held disk.new)) }
+    ensures fills { FillsAll D.tells result kind (IsGivenPath command.now.texts kind)
+        ⟦<PartSource<'t, D::At> as Source>⟧.size ⟦<PartSource<'t, D::At> as Source>⟧.read_faults
+        (D.held disk.old) (D.held disk.new) (D.world disk.old) (D.world disk.new) }
     ensures refused { IsTrue D.tells → IfErr result (λ refusal. StopsFillingAgain command.now (D.world disk.old)
         (D.At.content own.now.source) (view_of own.now.image.header) (HasFailed (D.held disk.old) (D.held disk.new))
         refusal.fault) }
-    ensures keeps { IsTrue D.tells → OnlyOpens (D.held disk.old) (D.held disk.new) (D.world disk.old)
-        (D.world disk.new) }
 {
     let texts = &command.texts;
     let ramdisks = match ramdisks_of(disk, command.alloc, own, kept, texts) {
@@ -254,22 +234,14 @@ fn ramdisks_of<'t, D: Disk>(
     texts: &'t PackTexts<'_>,
 ) -> Result<Ramdisks<'t, D::At>, HostRefusal<'t>>
     requires first { IsTrue D.tells → (D.held disk.old).begun ≡ [] }
-    requires opened { IsTrue D.At.tells → IsOpened (D.At.content own.now.source) own.now.image }
-    requires taken { All (IsTaken (kind_of (view_of own.now.image.header))) texts.now.fragments.items }
-    requires entries { IsTrue D.At.tells → texts.now.fragments.items ≡ [] → kept.now.entries.items
-        ≡ entries_to (D.At.content own.now.source) (view_of own.now.image.header)
-        (fragment_count (view_of own.now.image.header)) }
+    requires own { IsAtHand D.At.tells D.At.content own.now kept.now texts.now
+        (kind_of (view_of own.now.image.header)) }
     ensures fragments { IsTrue D.tells → IfOk result (λ all. AreFragmentsAgain (D.world disk.old)
         texts.now.fragments.items (D.At.content own.now.source) (view_of own.now.image.header) all.specs.items
         (map ⟦<PartSource<'t, D::At> as Source>⟧.content all.sources.items)) }
-    ensures unread { IsTrue D.tells → IfOk result (λ all.
-        total ⟦<PartSource<'t, D::At> as Source>⟧.read_faults all.sources.items ≡ 0) }
-    ensures opened { IsTrue D.tells → OnOk result (OpensMore (IsFragmentInput texts.now.fragments.items)
-        (D.world disk.old) (D.held disk.old) (D.held disk.new)) }
-    ensures refused { IsTrue D.tells → IfErr result (λ refusal. StopsOpening (IsFragmentInput
-        texts.now.fragments.items) (D.held disk.old) (D.held disk.new) refusal.fault) }
-    ensures keeps { IsTrue D.tells → OnlyOpens (D.held disk.old) (D.held disk.new) (D.world disk.old)
-        (D.world disk.new) }
+    ensures opens { OpensEach D.tells result (IsFragmentInput texts.now.fragments.items)
+        (λ all. total ⟦<PartSource<'t, D::At> as Source>⟧.read_faults all.sources.items) 0
+        (D.held disk.old) (D.held disk.new) (D.world disk.old) (D.world disk.new) }
 {
     if texts.fragments.as_slice().is_empty() {
         own_fragments(disk, alloc, own, kept.entries.as_slice())

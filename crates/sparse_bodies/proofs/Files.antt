@@ -1,7 +1,7 @@
 -- What opening, creating and ending leave together.
 use Rattle.std.proofs.Common.{inl, inr, arith, ◌≡◌, ◌<◌, ℕ, ◌+◌, Bool, true, false, List, [], ◌∷◌, ◌++◌}
-use Rattle.std.proofs.Common.{refl, sym, ◌∙◌, ap, subst}
-use Rattle.std.specs.Prelude.{Result, Ok, Err, IsOk, IfErr, IsErrAnd, is_ok, if◌then◌else◌}
+use Rattle.std.proofs.Common.{refl, sym, ◌∙◌, ap, subst, None}
+use Rattle.std.specs.Prelude.{Result, Ok, Err, IsOk, IfErr, OnOk, IsErrAnd, is_ok, if◌then◌else◌}
 use Rattle.std.proofs.lemmas.Bool.{false≢true}
 use Rattle.abt_sparse.specs.Block.{expansion}
 use Rattle.abt_sparse.specs.Chunk.{classed}
@@ -13,14 +13,14 @@ use Rattle.abt_chunks.specs.Cause.{Clean}
 use Rattle.abt_chunks.specs.Expanding.{ExpandingRises, UnlessExpandingDevice}
 use Rattle.abt_chunks.specs.Whole.{Expansion, Refusal}
 use Rattle.abt_disk.specs.World.{World, Held, Spares, OpensFile, Creates, Ends, SparesRest, HasFailed, HasNotFailed}
-use Rattle.abt_disk.specs.World.{failing, ended, unended}
-use Rattle.abt_disk.proofs.Worlds.{spares_trans}
-use Rattle.abt_disk.proofs.Worlds.{apart}
+use Rattle.abt_disk.specs.World.{OnlyAt, failing, ended, unended}
+use Rattle.abt_disk.proofs.Worlds.{apart, kept_behind, only_behind, spares_trans}
 use Rattle.sparse_rules.specs.declared.lines.Line.TheVariants as lines
 use Rattle.sparse_rules.specs.Lines.{line_text}
 use Rattle.sparse_rules.specs.declared.fault.SparseCommandFault.{SparseCommandFault}
 use Rattle.sparse_rules.specs.declared.fault.SparseCommandFault.TheVariants as faults
-use Rattle.sparse_bodies.specs.Expanding.{Blames, ExpandsFile, ExpandingSays, RefusesFile, HasFault, FromHost, OfDevice}
+use Rattle.sparse_bodies.specs.Expanding.{Blames, ExpandsFile, ExpandingSays, LeavesExpanded, RefusesFile, HasFault}
+use Rattle.sparse_bodies.specs.Expanding.{FromHost, OfDevice}
 
 -- ---- what was read is let go before the output is at its end
 
@@ -66,6 +66,17 @@ expands input path bytes x y rest h h' h'' a a' b c e shows opened same made end
       shown = subst (λ n. shows (line_text (lines.Expanded whole.header.total_blks n) ++ (10 ∷ []))) whole.bytes
           (subst (λ n. shows (line_text (lines.Expanded n e.bytes) ++ (10 ∷ []))) whole.blocks shown);
     }
+
+-- whatever the outcome
+pub leaves_expanded : {X F : Type 0} (r : Result X F) (input path bytes : List ℕ) (h h1 k : Held) (a a1 c : World)
+    → OpensFile a input bytes h h1 → a1 ≡ a → OnlyAt h1.read path a1 c → k.output ≡ None
+    → OnOk r (HasNotFailed h k) → LeavesExpanded r input path h k a c
+leaves_expanded r input path bytes h h1 k a a1 c opened same only closed clean = record {
+  others = only_behind _ _ _ _ _ _ _ _ opened same only;
+  input = kept_behind _ _ _ _ _ _ _ _ opened same only;
+  closed = closed;
+  clean = clean;
+}
 
 -- ---- what has failed
 

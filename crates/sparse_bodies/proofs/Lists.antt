@@ -16,11 +16,6 @@ pub all_push : {X : Type 0} (P : X → Type 0) (xs : List X) (y : X) → AllByRe
 all_push P [] y all is = (is, tt)
 all_push P (x ∷ xs) y all is = (all.0, all_push P xs y all.1 is)
 
-pub all_of_map : {X Y : Type 0} (P : Y → Type 0) (f : X → Y) (xs : List X) → AllByRecursion P (map f xs)
-    → AllByRecursion (λ x. P (f x)) xs
-all_of_map P f [] all = tt
-all_of_map P f (x ∷ xs) all = (all.0, all_of_map P f xs all.1)
-
 -- ---- one element more
 
 pub take_next : {X : Type 0} (xs : List X) (i : ℕ) (d : X) → i < length xs

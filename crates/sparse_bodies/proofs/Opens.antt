@@ -89,20 +89,6 @@ refused_once f path a h h' host refused =
 
 -- ---- the next image
 
-pub next_refused : (f : SparseCommandFault) (shape : Option Shape) (number : ℕ) (path : List ℕ)
-    (a : World) (h h' : Held) → IsNotOpened f path a h h' → IsNotNext f shape number path a h h'
-next_refused (faults.Run (of_runs.Sparse f)) shape number path a h h' is = is
-next_refused (faults.Run (of_runs.Read d)) shape number path a h h' is = is
-next_refused (faults.Run of_runs.TooLarge) shape number path a h h' is = absurd is
-next_refused (faults.Run of_runs.SourceChanged) shape number path a h h' is = absurd is
-next_refused (faults.Run (of_runs.BadBlock n)) shape number path a h h' is = absurd is
-next_refused (faults.Sparse f) shape number path a h h' is = absurd is
-next_refused (faults.Piece f) shape number path a h h' is = absurd is
-next_refused (faults.Flash f) shape number path a h h' is = absurd is
-next_refused (faults.Verify f) shape number path a h h' is = absurd is
-next_refused (faults.OtherBlocks n) shape number path a h h' is = absurd is
-next_refused (faults.Host f) shape number path a h h' is = inl is
-
 same_blocks : (n m : ℕ) → n ≡ m → (m == n) ≡ true
 same_blocks n m same = eq-eqb m n (sym same)
 
@@ -129,20 +115,6 @@ pub next_other : (told : SparseCommandFault) (shape : Option Shape) (own : Shape
 next_other told shape own number path x a h h' k is opened image differs =
     subst (λ f. IsNotNext f shape number path a h k) (sym is)
     (refl, other_shape shape own path x a h h' opened image differs)
-
-pub shape_more : (shape : Option Shape) (own : Shape) (xs : List (List ℕ)) (x : List ℕ) → is_same_shape shape own ≡ true
-    → IsImageOf own.blocks own.block x → IsShapeOf shape xs → IsShapeOf (Some own) (xs ++ (x ∷ []))
-shape_more None own xs x same image is =
-    subst (λ l. IsShapeOf (Some own) (l ++ (x ∷ []))) (sym is) (omega arith, (image, tt))
-shape_more (Some s) own xs x same image is =
-    let parts = and_parts (s.blocks == own.blocks) (s.block == own.block) same in
-    let blocks : s.blocks ≡ own.blocks = eqb-true s.blocks own.blocks parts.0 in
-    let block : s.block ≡ own.block = eqb-true s.block own.block parts.1 in
-    let long : length (xs ++ (x ∷ [])) ≡ length xs + 1 = length-append xs (x ∷ []) in
-    let all : AllByRecursion (IsImageOf own.blocks own.block) xs
-    = subst (λ m. AllByRecursion (IsImageOf own.blocks m) xs) block
-    (subst (λ m. AllByRecursion (IsImageOf m s.block) xs) blocks is.1) in
-    (omega (arith, long), all_push (IsImageOf own.blocks own.block) xs x all image)
 
 -- ---- all of them
 

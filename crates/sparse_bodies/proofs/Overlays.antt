@@ -1,7 +1,7 @@
 -- What opening, laying and closing leave together.
 use Rattle.std.proofs.Common.{inl, inr, arith, ◌⊎◌, ◌≡◌, ℕ, suc, ◌+◌, ◌*◌, ◌<◌, List, [], ◌∷◌, ◌++◌, length}
 use Rattle.std.proofs.Common.{replicate, Option, Some, None, refl, sym, ◌∙◌, ap, subst}
-use Rattle.std.specs.Prelude.{Contains, if◌then◌else◌, nat_lt}
+use Rattle.std.specs.Prelude.{Contains, if◌then◌else◌, nat_lt, Result, OnOk}
 use Rattle.std.specs.List.{AllByRecursion}
 use Rattle.std.proofs.lemmas.Bool.{lt-ltb}
 use Rattle.std.proofs.lemmas.List.{length-map, length-replicate}
@@ -20,7 +20,7 @@ use Rattle.sparse_rules.specs.declared.lines.Line.TheVariants as lines
 use Rattle.sparse_rules.specs.Lines.{line_text}
 use Rattle.sparse_bodies.specs.declared.opening.Shape.{Shape}
 use Rattle.sparse_bodies.specs.Expanding.{FromHost}
-use Rattle.sparse_bodies.specs.Overlaying.{IsImageOf, OverlaysFiles, RefusesOverlay, once_if_any}
+use Rattle.sparse_bodies.specs.Overlaying.{IsImageOf, LeavesOverlaid, OverlaysFiles, RefusesOverlay, once_if_any}
 use Rattle.sparse_bodies.specs.Steps.{AreOpened, FailsAlone, IsNotAllOpened, IsNotLaid, IsShapeOf, whole_of_shape}
 use Rattle.sparse_bodies.proofs.Lists.{as_many, each_read, fewer_read, keeps_read, not_among}
 
@@ -43,10 +43,6 @@ failed_zeros a inputs xs h h1 k all refused =
 pub failed_laying : (h h2 h3 h4 : Held) (p p' : ℕ) → (h2.failed ≡ h.failed) × (h4.failed ≡ h3.failed + p') → p ≡ 0
     → h2.failed + p < h3.failed + p' → HasFailed h h4
 failed_laying h h2 h3 h4 p p' counts none rose = omega (arith, counts.0, counts.1, none, rose)
-
-pub clean_laying : (h h2 h3 h4 : Held) (p p' : ℕ) → (h2.failed ≡ h.failed) × (h4.failed ≡ h3.failed + p') → p ≡ 0
-    → h3.failed + p' ≡ h2.failed + p → HasNotFailed h h4
-clean_laying h h2 h3 h4 p p' counts none even = omega (arith, counts.0, counts.1, none, even)
 
 -- ---- what the output holds
 
@@ -138,19 +134,29 @@ overlays shape e a a1 b b' c inputs xs output y z h h1 h2 h3 shows whole all is 
 
 -- ---- what others hold
 
-pub others_read : (a a1 c : World) (inputs xs : List (List ℕ)) (output : List ℕ) (h h1 : Held)
+others_read : (a a1 c : World) (inputs xs : List (List ℕ)) (output : List ℕ) (h h1 : Held)
     → AreOpened a inputs xs h h1
     → a1 ≡ a → OnlyAt h1.read output a1 c → OnlyAt h.read output a c
 others_read a a1 c inputs xs output h h1 all same only =
     fewer_read h.read all.files output a c (subst (λ k. OnlyAt k.read output a c) all.taken
     (subst (λ w. OnlyAt h1.read output w c) same only))
 
-pub ins_kept : (a a1 c : World) (inputs xs : List (List ℕ)) (output : List ℕ) (h h1 : Held) → AreOpened a inputs xs h h1
+ins_kept : (a a1 c : World) (inputs xs : List (List ℕ)) (output : List ℕ) (h h1 : Held) → AreOpened a inputs xs h h1
     → a1 ≡ a → OnlyAt h1.read output a1 c → AllByRecursion (λ path. KeepsFile path a c) inputs
 ins_kept a a1 c inputs xs output h h1 all same only =
     keeps_read h1.read output inputs all.files a c all.there
     (subst (λ k. AllByRecursion (λ f. Contains k.read f) all.files) (sym all.taken) (each_read h.read all.files))
     (subst (λ w. OnlyAt h1.read output w c) same only)
+
+pub leaves_overlaid : {X F : Type 0} (r : Result X F) (a a1 c : World) (inputs xs : List (List ℕ)) (output : List ℕ)
+    (h h1 k : Held) → AreOpened a inputs xs h h1 → a1 ≡ a → OnlyAt h1.read output a1 c → k.part ≡ None
+    → OnOk r (HasNotFailed h k) → LeavesOverlaid r inputs output h k a c
+leaves_overlaid r a a1 c inputs xs output h h1 k all same only closed clean = record {
+  others = others_read a a1 c inputs xs output h h1 all same only;
+  inputs = ins_kept a a1 c inputs xs output h h1 all same only;
+  closed = closed;
+  clean = clean;
+}
 
 -- it is closed as long as it was made
 pub as_long : (a1 b b' : World) (n : ℕ) (output y z : List ℕ) (h1 h2 h3 : Held) → MakesZeros n output h1 h2 a1 b

@@ -1,5 +1,6 @@
 -- What the command `expand` leaves of files, and what it prints.
-use Rattle.std.specs.Prelude.{◌≡◌, ◌≢◌, ◌⊎◌, ℕ, ◌+◌, ◌*◌, ◌<◌, List, [], ◌∷◌, ◌++◌, Option, Some, Result, Ok, Err}
+use Rattle.std.specs.Prelude.{◌≡◌, ◌≢◌, ◌⊎◌, ℕ, ◌+◌, ◌*◌, ◌<◌, List, [], ◌∷◌, ◌++◌, Option, Some, None, Result, Ok, Err}
+use Rattle.std.specs.Prelude.{OnOk}
 use Rattle.abt_sparse.specs.declared.fault.SparseFault.{SparseFault}
 use Rattle.abt_sparse.specs.declared.fault.SparseFault.TheVariants as of_sparse
 use Rattle.abt_sparse.specs.Block.{expansion}
@@ -8,7 +9,7 @@ use Rattle.abt_sparse.specs.Fails.{Fails, Spells}
 use Rattle.abt_chunks.specs.declared.progress.Expanded.{Expanded}
 use Rattle.abt_chunks.specs.Expanding.{UnlessExpandingDevice}
 use Rattle.abt_chunks.specs.Whole.{Expansion, Refusal}
-use Rattle.abt_disk.specs.World.{World, Held, Spares, HasFailed}
+use Rattle.abt_disk.specs.World.{World, Held, KeepsFile, OnlyAt, Spares, HasFailed, HasNotFailed}
 use Rattle.abt_refusals.specs.declared.refusal.HostFault.{HostFault}
 use Rattle.sparse_rules.specs.declared.fault.SparseCommandFault.{SparseCommandFault}
 use Rattle.sparse_rules.specs.declared.fault.SparseCommandFault.TheVariants as faults
@@ -64,6 +65,15 @@ pub record ExpandsFile (input output : List ℕ) (old new : World) (shows : List
   pub holds : new.holds onto ≡ expansion header.blk_sz (classed chunks)
   pub spares : Spares onto old new
   pub shown : shows (line_text (lines.Expanded header.total_blks (header.total_blks * header.blk_sz)) ++ (10 ∷ []))
+
+-- What is left of files, whatever the outcome: OUT alone may hold anything else, IN holds what it held, and no output is
+-- open. It is done only where nothing has failed.
+pub record LeavesExpanded {X F : Type 0} (r : Result X F) (from onto : List ℕ) (held held' : Held) (old new : World)
+    : Type 0 where
+  pub others : OnlyAt held.read onto old new
+  pub input : KeepsFile from old new
+  pub closed : held'.output ≡ None
+  pub clean : OnOk r (HasNotFailed held held')
 
 -- why it is refused: for a fault of what IN's file holds; because a device or the system failed; or all was done, and
 -- only the line could not be printed

@@ -1,6 +1,6 @@
 -- What the command `expand` of several images leaves of files, and what it prints.
 use Rattle.std.specs.Prelude.{◌≡◌, ◌⊎◌, ℕ, ◌+◌, ◌*◌, ◌<◌, List, [], ◌∷◌, ◌++◌, length, map, min, replicate}
-use Rattle.std.specs.Prelude.{Contains, Some}
+use Rattle.std.specs.Prelude.{Contains, Some, None, Result, OnOk}
 use Rattle.std.specs.List.{AllByRecursion}
 use Rattle.abt_sparse.specs.declared.fault.SparseFault.{SparseFault}
 use Rattle.abt_sparse.specs.Chunk.{Header, Chunk}
@@ -8,7 +8,7 @@ use Rattle.abt_sparse.specs.Fails.{Spells}
 use Rattle.abt_sparse.specs.Pieces.{flashed_in_turn}
 use Rattle.abt_runs.specs.declared.part.RunFault.TheVariants as of_runs
 use Rattle.abt_flash.specs.declared.fault.FlashFault.TheVariants as flashes
-use Rattle.abt_disk.specs.World.{World, Held, Spares, HasFailed}
+use Rattle.abt_disk.specs.World.{World, Held, IsReading, KeepsFile, OnlyAt, Spares, HasFailed, HasNotFailed}
 use Rattle.abt_refusals.specs.declared.refusal.HostFault.TheVariants.{Memory}
 use Rattle.sparse_rules.specs.declared.fault.SparseCommandFault.{SparseCommandFault}
 use Rattle.sparse_rules.specs.declared.fault.SparseCommandFault.TheVariants as faults
@@ -54,6 +54,20 @@ pub record OverlaysFiles (inputs : List (List ℕ)) (output : List ℕ) (old new
   pub holds : new.holds onto ≡ flashed_in_turn (replicate (blocks * size) 0) (map old.holds ins.files)
   pub spares : Spares onto old new
   pub shown : shows (line_text (lines.Expanded blocks (blocks * size)) ++ (10 ∷ []))
+
+-- nothing was opened to be written, and no file is written in place
+pub record MayOverlay (held : Held) : Type 0 where
+  pub first : IsReading held
+  pub one : held.part ≡ None
+
+-- What is left of files, whatever the outcome: OUT alone may hold anything else, each IN holds what it held, and no file
+-- is open that is written in place. It is done only where nothing has failed.
+pub record LeavesOverlaid {X F : Type 0} (r : Result X F) (paths : List (List ℕ)) (onto : List ℕ) (held held' : Held)
+    (old new : World) : Type 0 where
+  pub others : OnlyAt held.read onto old new
+  pub inputs : AllByRecursion (λ path. KeepsFile path old new) paths
+  pub closed : held'.part ≡ None
+  pub clean : OnOk r (HasNotFailed held held')
 
 -- 1 where there is one at least
 abbrev pub once_if_any : {X : Type 0} → List X → ℕ

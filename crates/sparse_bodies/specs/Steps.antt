@@ -1,7 +1,7 @@
 -- What each step of the command `expand` of several images leaves.
 use Rattle.std.specs.Prelude.{◌≡◌, ◌⊎◌, ℕ, ◌*◌, ◌<◌, ◌≤◌, List, [], ◌∷◌, ◌++◌, length, map, Option, Some, None}
 use Rattle.std.specs.List.{AllByRecursion}
-use Rattle.std.specs.Prelude.{Bool, true, ◌==◌, ◌&&◌}
+use Rattle.std.specs.Prelude.{Bool, true, IsTrue, ◌==◌, ◌&&◌}
 use Rattle.abt_sparse.specs.Fails.{Fails}
 use Rattle.abt_chunks.specs.declared.progress.Expanded.{Expanded}
 use Rattle.abt_refusals.specs.declared.refusal.HostFault.TheVariants.{Memory}
@@ -86,6 +86,11 @@ IsNotAllOpened (faults.OtherBlocks n) inputs world held held' = HasOtherBlocks i
 IsNotAllOpened (faults.Host f) inputs world held held' = HasFailed held held' ⊎ (f ≡ Memory)
 IsNotAllOpened f inputs world held held' = ⊥
 
+-- no file has changed, and none more is written in place
+pub record OpensAlone (held held' : Held) (old new : World) : Type 0 where
+  pub world : new ≡ old
+  pub part : held'.part ≡ held.part
+
 -- ---- laying
 
 -- why an image is not flashed: a device failed, and the count of what failed rose
@@ -103,3 +108,9 @@ IsNotLaid f n n' = ⊥
 pub record FailsAlone (held held' : Held) : Type 0 where
   pub same : held' ≡ record held { failed = held'.failed }
   pub grown : held.failed ≤ held'.failed
+
+-- The file that is laid over is as long as it was, and of the disk nothing has changed but what has failed.
+pub record LaysAlone (tells : Bool) (long long' : ℕ) (before after : Held) (old new : World) : Type 0 where
+  pub size : long' ≡ long
+  pub world : IsTrue tells → new ≡ old
+  pub held : IsTrue tells → FailsAlone before after

@@ -1,11 +1,11 @@
 //! The command `expand` of one image.
 
-ghost use Rattle.std.specs.Prelude.{◌≡◌, ◌+◌, ◌++◌, [], ◌∷◌, None, IsTrue, IfErr, OnOk, if◌then◌else◌};
+ghost use Rattle.std.specs.Prelude.{◌≡◌, ◌+◌, ◌++◌, [], ◌∷◌, IsTrue, IfErr, OnOk, if◌then◌else◌};
 ghost use Rattle.abt_refusals.specs.Paths.{path_in, path_out};
-ghost use Rattle.abt_disk.specs.World.{IsReading, OnlyAt, KeepsFile, HasNotFailed};
+ghost use Rattle.abt_disk.specs.World.{IsReading};
 ghost use Rattle.abt_output.specs.Shows.{Shows};
 ghost use Rattle.sparse_rules.specs.Lines.{line_text};
-ghost use Rattle.sparse_bodies.specs.Expanding.{Blames, ExpandingSays, ExpandsFile, RefusesFile};
+ghost use Rattle.sparse_bodies.specs.Expanding.{Blames, ExpandingSays, ExpandsFile, LeavesExpanded, RefusesFile};
 
 use abt_chunks::{Expanded, expand};
 use abt_disk::{Disk, Measured, Reasons, ended};
@@ -31,13 +31,10 @@ pub fn expand_one<'a, D: Disk>(
     // it was synced, where that is wanted
     ensures synced { IsTrue D.tells → OnOk result ((D.held disk.new).syncs
         ≡ (D.held disk.old).syncs + (if (D.held disk.old).is_synced then 1 else 0)) }
-    // whatever the outcome, OUT alone may hold anything else, IN holds what it held, and no output is left open
-    ensures others { IsTrue D.tells → OnlyAt (D.held disk.old).read (path_out output.entry) (D.world disk.old)
-        (D.world disk.new) }
-    ensures input { IsTrue D.tells → KeepsFile (path_in input.entry) (D.world disk.old) (D.world disk.new) }
-    ensures closed { IsTrue D.tells → (D.held disk.new).output ≡ None }
-    // it is done only where nothing failed
-    ensures clean { IsTrue D.tells → OnOk result (HasNotFailed (D.held disk.old) (D.held disk.new)) }
+    // whatever the outcome, OUT alone may hold anything else, IN holds what it held, and no output is left open; it is
+    // done only where nothing failed
+    ensures leaves { IsTrue D.tells → LeavesExpanded result (path_in input.entry) (path_out output.entry)
+        (D.held disk.old) (D.held disk.new) (D.world disk.old) (D.world disk.new) }
     // it is refused for a fault that IN has, or where a device or the system failed
     ensures refused { IsTrue D.tells → IfErr result (λ refusal. RefusesFile refusal.fault (path_in input.entry)
         (path_out output.entry) (D.world disk.old) (D.world disk.new) (D.held disk.old) (D.held disk.new)) }

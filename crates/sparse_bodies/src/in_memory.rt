@@ -1,14 +1,13 @@
 //! The commands over a disk in memory, which tells what its files hold: no clause is left that says nothing.
 
-ghost use Rattle.std.specs.Prelude.{◌≡◌, ◌+◌, None, OnOk, IfErr, map, if◌then◌else◌};
-ghost use Rattle.std.specs.List.{AllByRecursion};
+ghost use Rattle.std.specs.Prelude.{◌≡◌, ◌+◌, OnOk, IfErr, map, if◌then◌else◌};
 ghost use Rattle.abt_refusals.specs.Paths.{path_in, path_of, path_out};
 ghost use Rattle.memory_disk.specs.Memory.{world_of, held_of};
-ghost use Rattle.abt_disk.specs.World.{IsReading, OnlyAt, KeepsFile, HasNotFailed};
+ghost use Rattle.abt_disk.specs.World.{IsReading};
 ghost use Rattle.abt_output.specs.Shows.{Shows};
 ghost use Rattle.sparse_rules.specs.ImagePath.{image_path};
-ghost use Rattle.sparse_bodies.specs.Expanding.{ExpandsFile, RefusesFile};
-ghost use Rattle.sparse_bodies.specs.Overlaying.{OverlaysFiles, RefusesOverlay, once_if_any};
+ghost use Rattle.sparse_bodies.specs.Expanding.{ExpandsFile, LeavesExpanded, RefusesFile};
+ghost use Rattle.sparse_bodies.specs.Overlaying.{LeavesOverlaid, MayOverlay, OverlaysFiles, RefusesOverlay, once_if_any};
 
 use crate::expand::expand_one;
 use crate::overlay::expand_several;
@@ -33,10 +32,8 @@ pub fn expand_in_memory<'a>(
         (world_of disk.new) (Shows report.old report.new)) }
     ensures synced { OnOk result ((held_of disk.new).syncs
         ≡ (held_of disk.old).syncs + (if (held_of disk.old).is_synced then 1 else 0)) }
-    ensures others { OnlyAt (held_of disk.old).read (path_out output.entry) (world_of disk.old) (world_of disk.new) }
-    ensures input { KeepsFile (path_in input.entry) (world_of disk.old) (world_of disk.new) }
-    ensures closed { (held_of disk.new).output ≡ None }
-    ensures clean { OnOk result (HasNotFailed (held_of disk.old) (held_of disk.new)) }
+    ensures leaves { LeavesExpanded result (path_in input.entry) (path_out output.entry) (held_of disk.old)
+        (held_of disk.new) (world_of disk.old) (world_of disk.new) }
     ensures refused { IfErr result (λ refusal. RefusesFile refusal.fault (path_in input.entry) (path_out output.entry)
         (world_of disk.old) (world_of disk.new) (held_of disk.old) (held_of disk.new)) }
 {
@@ -53,17 +50,13 @@ pub fn expand_several_in_memory<'a>(
     w: &mut Window,
     m: &mut Meter,
 ) -> Result<(), SparseRefusal<'a>>
-    requires first { IsReading (held_of disk.old) }
-    requires one { (held_of disk.old).part ≡ None }
+    requires { MayOverlay (held_of disk.old) }
     ensures done { OnOk result (OverlaysFiles (map (λ word. image_path word.now) inputs.now) (path_of output.entry)
         (world_of disk.old) (world_of disk.new) (Shows report.old report.new)) }
     ensures synced { OnOk result ((held_of disk.new).syncs
         ≡ (held_of disk.old).syncs + once_if_any (map (λ word. image_path word.now) inputs.now)) }
-    ensures others { OnlyAt (held_of disk.old).read (path_of output.entry) (world_of disk.old) (world_of disk.new) }
-    ensures inputs { AllByRecursion (λ path. KeepsFile path (world_of disk.old) (world_of disk.new))
-        (map (λ word. image_path word.now) inputs.now) }
-    ensures closed { (held_of disk.new).part ≡ None }
-    ensures clean { OnOk result (HasNotFailed (held_of disk.old) (held_of disk.new)) }
+    ensures leaves { LeavesOverlaid result (map (λ word. image_path word.now) inputs.now) (path_of output.entry)
+        (held_of disk.old) (held_of disk.new) (world_of disk.old) (world_of disk.new) }
     ensures refused { IfErr result (λ refusal. RefusesOverlay refusal.fault
         (map (λ word. image_path word.now) inputs.now) (path_of output.entry) (world_of disk.old)
         (world_of disk.new) (held_of disk.old) (held_of disk.new)) }

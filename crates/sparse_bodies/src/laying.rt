@@ -6,7 +6,7 @@ ghost use Rattle.abt_flash.specs.Fault.{FlashingRises};
 ghost use Rattle.abt_flash.specs.Flashing.{Holds};
 ghost use Rattle.abt_sparse.specs.Pieces.{flashed, flashed_in_turn};
 ghost use Rattle.sparse_bodies.specs.Overlaying.{IsImageOf};
-ghost use Rattle.sparse_bodies.specs.Steps.{FailsAlone, IsNotFlashed, IsNotLaid};
+ghost use Rattle.sparse_bodies.specs.Steps.{IsNotFlashed, IsNotLaid, LaysAlone};
 
 use crate::opening::Kept;
 use abt_disk::{Disk, Lasting};
@@ -30,15 +30,14 @@ pub(crate) fn lay_all<'a, D: Disk>(
 ) -> Result<(), SparseRefusal<'a>>
     ensures laid { IsTrue D.tells → OnOk result (D.Part.content onto.new
         ≡ flashed_in_turn (D.Part.content onto.old) (map (λ one. D.At.content one.source) kept.entry.items)) }
-    ensures size { D.Part.size onto.new ≡ D.Part.size onto.old }
     // as often as it was synced, and behind the last byte
     ensures synced { OnOk result ((D.Part.past onto.new).synced
         ≡ (D.Part.past onto.old).synced + length kept.entry.items) }
     ensures settled { IsTrue D.tells → (D.Part.past onto.old).pending ≡ [] →
         OnOk result ((D.Part.past onto.new).pending ≡ []) }
     // of the disk nothing has changed but what has failed, and nothing has failed where all was laid
-    ensures world { IsTrue D.tells → D.world disk.new ≡ D.world disk.old }
-    ensures held { IsTrue D.tells → FailsAlone (D.held disk.old) (D.held disk.new) }
+    ensures alone { LaysAlone D.tells (D.Part.size onto.old) (D.Part.size onto.new) (D.held disk.old) (D.held disk.new)
+        (D.world disk.old) (D.world disk.new) }
     ensures clean { IsTrue D.tells → AllByRecursion (λ one. D.At.read_faults one.source ≡ 0) kept.entry.items →
         OnOk result ((D.held disk.new).failed + D.Part.put_faults onto.new
         ≡ (D.held disk.old).failed + D.Part.put_faults onto.old) }
@@ -75,11 +74,10 @@ fn lay_one<'a, D: Disk>(
 ) -> Result<(), SparseRefusal<'a>>
     ensures laid { IsTrue D.tells → OnOk result (D.Part.content onto.new
         ≡ flashed (D.Part.content onto.old) (D.At.content one.entry.source)) }
-    ensures size { D.Part.size onto.new ≡ D.Part.size onto.old }
     ensures synced { OnOk result ((D.Part.past onto.new).synced ≡ (D.Part.past onto.old).synced + 1) }
     ensures settled { IsTrue D.tells → OnOk result ((D.Part.past onto.new).pending ≡ []) }
-    ensures world { IsTrue D.tells → D.world disk.new ≡ D.world disk.old }
-    ensures held { IsTrue D.tells → FailsAlone (D.held disk.old) (D.held disk.new) }
+    ensures alone { LaysAlone D.tells (D.Part.size onto.old) (D.Part.size onto.new) (D.held disk.old) (D.held disk.new)
+        (D.world disk.old) (D.world disk.new) }
     ensures clean { IsTrue D.tells → OnOk result ((D.held disk.new).failed + D.Part.put_faults onto.new
         ≡ (D.held disk.old).failed + D.Part.put_faults onto.old + D.At.read_faults one.entry.source) }
     ensures refused { IsTrue D.tells → (blocks : ℕ) → (block : ℕ) → D.Part.size onto.old ≡ blocks * block →

@@ -2,11 +2,12 @@
 
 ghost use Rattle.std.specs.Prelude.{◌≡◌, ◌+◌, [], IsTrue, IfOk, IfErr, OnOk, map, min};
 ghost use Rattle.std.specs.List.{AllByRecursion};
+ghost use Rattle.abt_io.specs.Lent.{OnlyReads};
 ghost use Rattle.abt_refusals.specs.Paths.{path_of};
 ghost use Rattle.abt_disk.specs.World.{OpensFile};
 ghost use Rattle.sparse_rules.specs.ImagePath.{image_path};
 ghost use Rattle.sparse_bodies.specs.Overlaying.{IsImageOf};
-ghost use Rattle.sparse_bodies.specs.Steps.{AreOpened, OpensNext, IsShapeOf, is_same_shape};
+ghost use Rattle.sparse_bodies.specs.Steps.{AreOpened, OpensAlone, OpensNext, IsShapeOf, is_same_shape};
 ghost use Rattle.sparse_bodies.specs.Steps.{IsNotAllOpened, IsNotNext, IsNotOpened, IsNotRead};
 
 use abt_disk::{Disk, Lasting};
@@ -60,8 +61,7 @@ pub(crate) fn open_all<'a, D: Disk>(
     ensures clean { IsTrue D.tells → IfOk result (λ all.
         AllByRecursion (λ kept. D.At.read_faults kept.source ≡ 0) all.kept.items) }
     // nothing is written
-    ensures world { IsTrue D.tells → D.world disk.new ≡ D.world disk.old }
-    ensures part { IsTrue D.tells → (D.held disk.new).part ≡ (D.held disk.old).part }
+    ensures alone { IsTrue D.tells → OpensAlone (D.held disk.old) (D.held disk.new) (D.world disk.old) (D.world disk.new) }
     ensures refused { IsTrue D.tells → IfErr result (λ refusal. IsNotAllOpened refusal.fault
         (map (λ word. image_path word.now) inputs.now) (D.world disk.old) (D.held disk.old) (D.held disk.new)) }
 {
@@ -100,8 +100,7 @@ fn open_next<'a, D: Disk>(
     ensures clean { IsTrue D.tells → OnOk result (
         AllByRecursion (λ kept. D.At.read_faults kept.source ≡ 0) all.old.kept.items →
         AllByRecursion (λ kept. D.At.read_faults kept.source ≡ 0) all.new.kept.items) }
-    ensures world { IsTrue D.tells → D.world disk.new ≡ D.world disk.old }
-    ensures part { IsTrue D.tells → (D.held disk.new).part ≡ (D.held disk.old).part }
+    ensures alone { IsTrue D.tells → OpensAlone (D.held disk.old) (D.held disk.new) (D.world disk.old) (D.world disk.new) }
     ensures refused { IsTrue D.tells → IfErr result (λ refusal. IsNotNext refusal.fault all.old.shape all.new.count
         (path_of place.entry) (D.world disk.old) (D.held disk.old) (D.held disk.new)) }
 {
@@ -144,8 +143,7 @@ fn open_one<'a, D: Disk>(
         (D.At.content one.0) (D.held disk.old) (D.held disk.new)) }
     ensures image { IsTrue D.tells → IfOk result (λ one. IsImageOf one.1.blocks one.1.block (D.At.content one.0)) }
     ensures clean { IsTrue D.tells → IfOk result (λ one. D.At.read_faults one.0 ≡ 0) }
-    ensures world { IsTrue D.tells → D.world disk.new ≡ D.world disk.old }
-    ensures part { IsTrue D.tells → (D.held disk.new).part ≡ (D.held disk.old).part }
+    ensures alone { IsTrue D.tells → OpensAlone (D.held disk.old) (D.held disk.new) (D.world disk.old) (D.world disk.new) }
     ensures refused { IsTrue D.tells → IfErr result (λ refusal. IsNotOpened refusal.fault (path_of place.entry)
         (D.world disk.old) (D.held disk.old) (D.held disk.new)) }
 {
@@ -171,8 +169,7 @@ fn shape_of<S: Source + Lasting>(
     m: &mut Meter,
 ) -> Result<Shape, SparseCommandFault>
     ensures image { IsTrue S.tells → IfOk result (λ shape. IsImageOf shape.blocks shape.block (S.content source.old)) }
-    ensures content { IsTrue S.tells → S.content source.new ≡ S.content source.old }
-    ensures clean { OnOk result (S.read_faults source.new ≡ S.read_faults source.old) }
+    ensures reads { OnlyReads result S.Source source.old source.new }
     ensures refused { IsTrue S.tells → IfErr result (λ fault. IsNotRead fault (S.content source.old)
         (S.read_faults source.old) (S.read_faults source.new)) }
 {

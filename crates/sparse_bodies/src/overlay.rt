@@ -1,12 +1,10 @@
 //! The command `expand` of several images, as the pieces of a cut are: they are laid over one another.
 
-ghost use Rattle.std.specs.Prelude.{◌≡◌, ◌+◌, None, IsTrue, IfErr, OnOk, map};
-ghost use Rattle.std.specs.List.{AllByRecursion};
+ghost use Rattle.std.specs.Prelude.{◌≡◌, ◌+◌, IsTrue, IfErr, OnOk, map};
 ghost use Rattle.abt_refusals.specs.Paths.{path_of};
-ghost use Rattle.abt_disk.specs.World.{IsReading, OnlyAt, KeepsFile, HasNotFailed};
 ghost use Rattle.abt_output.specs.Shows.{Shows};
 ghost use Rattle.sparse_rules.specs.ImagePath.{image_path};
-ghost use Rattle.sparse_bodies.specs.Overlaying.{OverlaysFiles, RefusesOverlay, once_if_any};
+ghost use Rattle.sparse_bodies.specs.Overlaying.{LeavesOverlaid, MayOverlay, OverlaysFiles, RefusesOverlay, once_if_any};
 ghost use Rattle.sparse_bodies.specs.Steps.{whole_of_shape};
 
 use crate::expand::printed;
@@ -33,22 +31,17 @@ pub fn expand_several<'a, D: Disk>(
     w: &mut Window,
     m: &mut Meter,
 ) -> Result<(), SparseRefusal<'a>>
-    requires first { IsTrue D.tells → IsReading (D.held disk.old) }
-    requires one { IsTrue D.tells → (D.held disk.old).part ≡ None }
+    requires ready { IsTrue D.tells → MayOverlay (D.held disk.old) }
     // OUT holds the images that the INs hold, one laid over the other; what was printed tells of it
     ensures done { IsTrue D.tells → OnOk result (OverlaysFiles (map (λ word. image_path word.now) inputs.now)
         (path_of output.entry) (D.world disk.old) (D.world disk.new) (Shows report.old report.new)) }
     // where there is an IN, OUT was synced behind its last byte
     ensures synced { IsTrue D.tells → OnOk result ((D.held disk.new).syncs
         ≡ (D.held disk.old).syncs + once_if_any (map (λ word. image_path word.now) inputs.now)) }
-    // whatever the outcome, OUT alone may hold anything else, each IN holds what it held, and no file is left open
-    ensures others { IsTrue D.tells → OnlyAt (D.held disk.old).read (path_of output.entry) (D.world disk.old)
-        (D.world disk.new) }
-    ensures inputs { IsTrue D.tells → AllByRecursion (λ path. KeepsFile path (D.world disk.old) (D.world disk.new))
-        (map (λ word. image_path word.now) inputs.now) }
-    ensures closed { IsTrue D.tells → (D.held disk.new).part ≡ None }
-    // it is done only where nothing failed
-    ensures clean { IsTrue D.tells → OnOk result (HasNotFailed (D.held disk.old) (D.held disk.new)) }
+    // whatever the outcome, OUT alone may hold anything else, each IN holds what it held, and no file is left open; it
+    // is done only where nothing failed
+    ensures leaves { IsTrue D.tells → LeavesOverlaid result (map (λ word. image_path word.now) inputs.now)
+        (path_of output.entry) (D.held disk.old) (D.held disk.new) (D.world disk.old) (D.world disk.new) }
     // it is refused for what the INs hold, or where a device or the system failed
     ensures refused { IsTrue D.tells → IfErr result (λ refusal. RefusesOverlay refusal.fault
         (map (λ word. image_path word.now) inputs.now) (path_of output.entry) (D.world disk.old) (D.world disk.new)

@@ -1,6 +1,6 @@
 -- What a command over sparse images does with the files that its words name, leaves of them, and is refused for.
 use Rattle.std.specs.Prelude.{◌≡◌, ◌<◌, ◌+◌, ◌-◌, ◌++◌, max, ℕ, List, [], ◌∷◌, Option, Some, None, Bool, IsTrue, map}
-use Rattle.std.specs.Prelude.{if◌then◌else◌}
+use Rattle.std.specs.Prelude.{if◌then◌else◌, Result, OnOk}
 use Rattle.std.specs.List.{AllByRecursion}
 use Rattle.abt_refusals.specs.Paths.{output_path}
 use Rattle.abt_words.specs.declared.order.SparseTask.{SparseTask}
@@ -8,7 +8,7 @@ use Rattle.abt_words.specs.declared.order.SparseTask.TheVariants as tasks
 use Rattle.abt_words.specs.declared.order.Pieces.{Pieces}
 use Rattle.abt_output.specs.declared.report.Report.{Report}
 use Rattle.abt_output.specs.Shows.{Shows, unprinted}
-use Rattle.abt_disk.specs.World.{World, Held, OnlyAt, KeepsFile}
+use Rattle.abt_disk.specs.World.{World, Held, OnlyAt, KeepsFile, HasNotFailed}
 use Rattle.abt_disk.specs.InPlace.{SparesOthers}
 use Rattle.sparse_rules.specs.ImagePath.{image_path}
 use Rattle.sparse_rules.specs.declared.fault.SparseCommandFault.{SparseCommandFault}
@@ -96,6 +96,15 @@ DoesTask (tasks.Verify input partition raw) a z = VerifiesImage input.now partit
 
 -- ---- what stays, whatever the outcome
 
+-- so much stays, and it is done only where nothing has failed
+pub record LeavesSpared {X F : Type 0} (r : Result X F) (Spared : State → State → Type 0) (a z : State) : Type 0 where
+  pub spares : Spared a z
+  pub clean : OnOk r (HasNotFailed a.held z.held)
+
+-- every file
+abbrev pub SparesWorld : State → State → Type 0
+SparesWorld a z = z.world ≡ a.world
+
 -- OUT alone may hold anything else, and each IN holds what it held
 abbrev pub SparesExpanded : List (List ℕ) → List ℕ → State → State → Type 0
 SparesExpanded (input ∷ []) output a z = OnlyAt a.held.read (output_path output) a.world z.world
@@ -123,11 +132,11 @@ SparesFlashed input partition (Some p) a z =
 abbrev pub SparesFiles : SparseTask → State → State → Type 0
 SparesFiles (tasks.Expand inputs output) a z =
     SparesExpanded (map (λ word. word.now) inputs.items) output.now a z
-SparesFiles (tasks.List input) a z = z.world ≡ a.world
+SparesFiles (tasks.List input) a z = SparesWorld a z
 SparesFiles (tasks.Sparse input output block) a z = SparesSparsified input.now output.now a z
 SparesFiles (tasks.Cut input limit prefix raw) a z = SparesCut input.now prefix.now a z
 SparesFiles (tasks.Flash input partition raw pieces) a z = SparesFlashed input.now partition.now pieces a z
-SparesFiles (tasks.Verify input partition raw) a z = z.world ≡ a.world
+SparesFiles (tasks.Verify input partition raw) a z = SparesWorld a z
 
 -- of a sparse image that is written over a file none has a part: the file holds what it held, no image, or all of it
 abbrev pub LeavesNoPartOfSparse : (List ℕ → Bool) → SparseTask → State → State → Type 0

@@ -1,8 +1,9 @@
 //! What is to be done with a sparse image, and the command that does it.
 
 ghost use Rattle.std.specs.Prelude.{◌≡◌, None, IsTrue, IfErr, OnOk};
-ghost use Rattle.abt_disk.specs.World.{HasNotFailed, IsReading};
-ghost use Rattle.sparse_commands.specs.Commands.{DoesTask, LeavesNoPartOfSparse, RefusesTask, SparesFiles, state};
+ghost use Rattle.abt_disk.specs.World.{IsReading};
+ghost use Rattle.sparse_commands.specs.Commands.{DoesTask, LeavesNoPartOfSparse, LeavesSpared, RefusesTask};
+ghost use Rattle.sparse_commands.specs.Commands.{SparesFiles, state};
 
 use crate::commands::{
     cut_image, expand_files, flash_pieces, flash_straight, list_image, sparsify, verify_image,
@@ -29,14 +30,14 @@ pub fn sparse_command<'a, D: Disk>(
     // the task is done, by its own command, at the files that its words name
     ensures done { IsTrue D.tells → OnOk result (DoesTask task.entry (state (D.world disk.old) (D.held disk.old)
         report.old) (state (D.world disk.new) (D.held disk.new) report.new)) }
-    // whatever the outcome, what it reads holds what it held, and none has changed but what it is to write
-    ensures spares { IsTrue D.tells → SparesFiles task.entry (state (D.world disk.old) (D.held disk.old) report.old)
+    // whatever the outcome, what it reads holds what it held, and none has changed but what it is to write; it is done
+    // only where nothing failed
+    ensures leaves { IsTrue D.tells → LeavesSpared result (SparesFiles task.entry)
+        (state (D.world disk.old) (D.held disk.old) report.old)
         (state (D.world disk.new) (D.held disk.new) report.new) }
     ensures whole { IsTrue D.tells → LeavesNoPartOfSparse D.is_over task.entry
         (state (D.world disk.old) (D.held disk.old) report.old)
         (state (D.world disk.new) (D.held disk.new) report.new) }
-    // it is done only where nothing failed
-    ensures clean { IsTrue D.tells → OnOk result (HasNotFailed (D.held disk.old) (D.held disk.new)) }
     // it is refused for what its command is refused for
     ensures refused { IsTrue D.tells → IfErr result (λ refusal. RefusesTask refusal.fault task.entry
         (state (D.world disk.old) (D.held disk.old) report.old)

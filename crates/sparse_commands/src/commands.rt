@@ -2,13 +2,17 @@
 
 ghost use Rattle.std.specs.Prelude.{◌≡◌, [], None, Some, IsTrue, IfErr, OnOk, map};
 ghost use Rattle.abt_refusals.specs.Paths.{output_path};
-ghost use Rattle.abt_disk.specs.World.{HasNotFailed, IsReading};
+ghost use Rattle.abt_disk.specs.World.{IsReading};
+ghost use Rattle.abt_disk.specs.DiskCalls.{HasNoPart};
+ghost use Rattle.flash_bodies.specs.Files.{MayFlashPieces};
 ghost use Rattle.image_bodies.specs.Sparsing.{HoldsNoPartOfSparse};
+ghost use Rattle.sparse_bodies.specs.Overlaying.{MayOverlay};
 ghost use Rattle.sparse_commands.specs.Commands.{Cuts, ExpandsImages, FlashesImage, ListsImage, Sparsifies};
 ghost use Rattle.sparse_commands.specs.Commands.{VerifiesImage, state};
 ghost use Rattle.sparse_commands.specs.Commands.{RefusesCutting, RefusesExpand, RefusesFlashing, RefusesListing};
 ghost use Rattle.sparse_commands.specs.Commands.{RefusesSparse, RefusesVerifying};
-ghost use Rattle.sparse_commands.specs.Commands.{SparesCut, SparesExpanded, SparesFlashed, SparesSparsified};
+ghost use Rattle.sparse_commands.specs.Commands.{LeavesSpared, SparesCut, SparesExpanded, SparesFlashed};
+ghost use Rattle.sparse_commands.specs.Commands.{SparesSparsified, SparesWorld};
 
 use crate::places::place;
 use abt_disk::Disk;
@@ -36,15 +40,13 @@ pub(crate) fn expand_files<'a, D: Disk>(
     w: &mut Window,
     m: &mut Meter,
 ) -> Result<(), SparseRefusal<'a>>
-    requires first { IsTrue D.tells → IsReading (D.held disk.old) }
-    requires one { IsTrue D.tells → (D.held disk.old).part ≡ None }
+    requires ready { IsTrue D.tells → MayOverlay (D.held disk.old) }
     ensures done { IsTrue D.tells → OnOk result (ExpandsImages (map (λ word. word.now) inputs.now) output.now
         (state (D.world disk.old) (D.held disk.old) report.old)
         (state (D.world disk.new) (D.held disk.new) report.new)) }
-    ensures spares { IsTrue D.tells → SparesExpanded (map (λ word. word.now) inputs.now) output.now
+    ensures leaves { IsTrue D.tells → LeavesSpared result (SparesExpanded (map (λ word. word.now) inputs.now) output.now)
         (state (D.world disk.old) (D.held disk.old) report.old)
         (state (D.world disk.new) (D.held disk.new) report.new) }
-    ensures clean { IsTrue D.tells → OnOk result (HasNotFailed (D.held disk.old) (D.held disk.new)) }
     ensures refused { IsTrue D.tells → IfErr result (λ refusal. RefusesExpand refusal.fault
         (map (λ word. word.now) inputs.now) output.now
         (state (D.world disk.old) (D.held disk.old) report.old)
@@ -72,12 +74,11 @@ pub(crate) fn sparsify<'a, D: Disk>(
     ensures done { IsTrue D.tells → OnOk result (Sparsifies input.now output.now block
         (state (D.world disk.old) (D.held disk.old) report.old)
         (state (D.world disk.new) (D.held disk.new) report.new)) }
-    ensures spares { IsTrue D.tells → SparesSparsified input.now output.now
+    ensures leaves { IsTrue D.tells → LeavesSpared result (SparesSparsified input.now output.now)
         (state (D.world disk.old) (D.held disk.old) report.old)
         (state (D.world disk.new) (D.held disk.new) report.new) }
     ensures whole { IsTrue D.tells → IsTrue (D.is_over (output_path output.now)) →
         HoldsNoPartOfSparse input.now (output_path output.now) block (D.world disk.old) (D.world disk.new) }
-    ensures clean { IsTrue D.tells → OnOk result (HasNotFailed (D.held disk.old) (D.held disk.new)) }
     ensures refused { IsTrue D.tells → IfErr result (λ refusal. RefusesSparse refusal.fault input.now output.now block
         (state (D.world disk.old) (D.held disk.old) report.old)
         (state (D.world disk.new) (D.held disk.new) report.new)) }
@@ -110,10 +111,9 @@ pub(crate) fn cut_image<'a, D: Disk>(
     ensures done { IsTrue D.tells → OnOk result (Cuts input.now limit prefix.now raw
         (state (D.world disk.old) (D.held disk.old) report.old)
         (state (D.world disk.new) (D.held disk.new) report.new)) }
-    ensures spares { IsTrue D.tells → SparesCut input.now prefix.now
+    ensures leaves { IsTrue D.tells → LeavesSpared result (SparesCut input.now prefix.now)
         (state (D.world disk.old) (D.held disk.old) report.old)
         (state (D.world disk.new) (D.held disk.new) report.new) }
-    ensures clean { IsTrue D.tells → OnOk result (HasNotFailed (D.held disk.old) (D.held disk.new)) }
     ensures refused { IsTrue D.tells → IfErr result (λ refusal. RefusesCutting refusal.fault input.now limit
         prefix.now raw
         (state (D.world disk.old) (D.held disk.old) report.old)
@@ -141,8 +141,9 @@ pub(crate) fn list_image<'a, D: Disk>(
     ensures done { IsTrue D.tells → OnOk result (ListsImage input.now
         (state (D.world disk.old) (D.held disk.old) report.old)
         (state (D.world disk.new) (D.held disk.new) report.new)) }
-    ensures spares { IsTrue D.tells → D.world disk.new ≡ D.world disk.old }
-    ensures clean { IsTrue D.tells → OnOk result (HasNotFailed (D.held disk.old) (D.held disk.new)) }
+    ensures leaves { IsTrue D.tells → LeavesSpared result SparesWorld
+        (state (D.world disk.old) (D.held disk.old) report.old)
+        (state (D.world disk.new) (D.held disk.new) report.new) }
     ensures refused { IsTrue D.tells → IfErr result (λ refusal. RefusesListing refusal.fault input.now
         (state (D.world disk.old) (D.held disk.old) report.old)
         (state (D.world disk.new) (D.held disk.new) report.new)) }
@@ -161,15 +162,13 @@ pub(crate) fn flash_straight<'a, D: Disk>(
     w: &mut Window,
     m: &mut Meter,
 ) -> Result<(), SparseRefusal<'a>>
-    requires first { IsTrue D.tells → (D.held disk.old).begun ≡ [] }
-    requires one { IsTrue D.tells → (D.held disk.old).part ≡ None }
+    requires ready { IsTrue D.tells → HasNoPart (D.held disk.old) }
     ensures done { IsTrue D.tells → OnOk result (FlashesImage input.now partition.now raw None
         (state (D.world disk.old) (D.held disk.old) report.old)
         (state (D.world disk.new) (D.held disk.new) report.new)) }
-    ensures spares { IsTrue D.tells → SparesFlashed input.now partition.now None
+    ensures leaves { IsTrue D.tells → LeavesSpared result (SparesFlashed input.now partition.now None)
         (state (D.world disk.old) (D.held disk.old) report.old)
         (state (D.world disk.new) (D.held disk.new) report.new) }
-    ensures clean { IsTrue D.tells → OnOk result (HasNotFailed (D.held disk.old) (D.held disk.new)) }
     ensures refused { IsTrue D.tells → IfErr result (λ refusal. RefusesFlashing refusal.fault input.now
         partition.now raw None
         (state (D.world disk.old) (D.held disk.old) report.old)
@@ -194,16 +193,13 @@ pub(crate) fn flash_pieces<'a, D: Disk>(
     w: &mut Window,
     m: &mut Meter,
 ) -> Result<(), SparseRefusal<'a>>
-    requires first { IsTrue D.tells → (D.held disk.old).begun ≡ [] }
-    requires one { IsTrue D.tells → (D.held disk.old).part ≡ None }
-    requires through { IsTrue D.tells → (D.held disk.old).spool ≡ None }
+    requires ready { IsTrue D.tells → MayFlashPieces (D.held disk.old) }
     ensures done { IsTrue D.tells → OnOk result (FlashesImage input.now partition.now raw (Some pieces.entry)
         (state (D.world disk.old) (D.held disk.old) report.old)
         (state (D.world disk.new) (D.held disk.new) report.new)) }
-    ensures spares { IsTrue D.tells → SparesFlashed input.now partition.now (Some pieces.entry)
+    ensures leaves { IsTrue D.tells → LeavesSpared result (SparesFlashed input.now partition.now (Some pieces.entry))
         (state (D.world disk.old) (D.held disk.old) report.old)
         (state (D.world disk.new) (D.held disk.new) report.new) }
-    ensures clean { IsTrue D.tells → OnOk result (HasNotFailed (D.held disk.old) (D.held disk.new)) }
     ensures refused { IsTrue D.tells → IfErr result (λ refusal. RefusesFlashing refusal.fault input.now
         partition.now raw (Some pieces.entry)
         (state (D.world disk.old) (D.held disk.old) report.old)
@@ -233,8 +229,9 @@ pub(crate) fn verify_image<'a, D: Disk>(
     ensures done { IsTrue D.tells → OnOk result (VerifiesImage input.now partition.now raw
         (state (D.world disk.old) (D.held disk.old) report.old)
         (state (D.world disk.new) (D.held disk.new) report.new)) }
-    ensures spares { IsTrue D.tells → D.world disk.new ≡ D.world disk.old }
-    ensures clean { IsTrue D.tells → OnOk result (HasNotFailed (D.held disk.old) (D.held disk.new)) }
+    ensures leaves { IsTrue D.tells → LeavesSpared result SparesWorld
+        (state (D.world disk.old) (D.held disk.old) report.old)
+        (state (D.world disk.new) (D.held disk.new) report.new) }
     ensures refused { IsTrue D.tells → IfErr result (λ refusal. RefusesVerifying refusal.fault input.now
         partition.now raw
         (state (D.world disk.old) (D.held disk.old) report.old)

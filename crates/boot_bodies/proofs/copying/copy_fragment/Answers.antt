@@ -1,4 +1,4 @@
-use Rattle.std.proofs.Common.{◌∙◌, sym, subst}
+use Rattle.std.proofs.Common.{◌∙◌, rules, sym, subst}
 use Rattle.abt_sections.specs.Open.{IsOpened}
 use Rattle.boot_bodies.proofs.Causes.{moved_behind, read_first, sum_behind}
 use Rattle.boot_bodies.proofs.copying.copy_fragment.Goals as goal
@@ -7,6 +7,7 @@ pub returns-in-Err-clause-copies : goal.returns-in-Err-clause-copies
 returns-in-Err-clause-copies g c =
     let e = c.in-Err.ensures.reads in
     record {
+      written = search rules;
       content = λ tells. tt;
       clean = tt;
       refused = λ tells opened. read_first c.in-Err.fault _ _ _ (g.S.Source.content c.args.source.now) _ e.cause
@@ -18,6 +19,7 @@ returns-in-Ok-answer-clause-copies g c =
     let k = c.in-Ok.ensures.reads.only in
     let e = c.in-Ok-answer.ensures.moves in
     record {
+      written = search rules;
       content = λ tells. e.reads.content tells ∙ k.content tells;
       clean = sum_behind _ _ _ _ _ k.clean (e.reads.clean, e.writes.clean);
       refused = λ tells opened. tt;
@@ -28,6 +30,7 @@ returns-in-Err-answer-clause-copies g c =
     let k = c.in-Ok.ensures.reads.only in
     let e = c.in-Err-answer.ensures.moves in
     record {
+      written = search rules;
       content = λ tells. tt;
       clean = tt;
       refused = λ tells opened.

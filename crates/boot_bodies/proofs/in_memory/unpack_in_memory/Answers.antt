@@ -7,14 +7,11 @@ returns-clause-done c = c.unpack_file.ensures.done refl
 pub returns-clause-synced : goal.returns-clause-synced
 returns-clause-synced c = c.unpack_file.ensures.synced refl
 
-pub returns-clause-clean : goal.returns-clause-clean
-returns-clause-clean c = c.unpack_file.ensures.clean refl
-
 pub returns-clause-only : goal.returns-clause-only
 returns-clause-only c = c.unpack_file.ensures.only refl
 
-pub returns-clause-input : goal.returns-clause-input
-returns-clause-input c = c.unpack_file.ensures.input refl
+pub returns-clause-keeps : goal.returns-clause-keeps
+returns-clause-keeps c = c.unpack_file.ensures.keeps
 
 pub returns-clause-stands : goal.returns-clause-stands
 returns-clause-stands c = c.unpack_file.ensures.stands refl

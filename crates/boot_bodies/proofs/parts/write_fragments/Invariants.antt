@@ -1,23 +1,16 @@
-use Rattle.std.proofs.Common.{◌≡◌}
 use Rattle.std.specs.Prelude.{IsTrue}
 use Rattle.abt_sections.specs.Header.{view_of}
-use Rattle.abt_disk.specs.Among.{GoesAmong, KeepsMade}
-use Rattle.boot_bodies.specs.Faults.{NoMoreFailed}
 use Rattle.boot_bodies.specs.Lines.{ShowsEach, told_fragments}
-use Rattle.boot_bodies.specs.Unpacking.{FragmentsDone, IsFragmentPath, SyncsMore}
+use Rattle.boot_bodies.specs.Unpacking.{FragmentsDone, IsFragmentPath}
+use Rattle.boot_bodies.proofs.Steps.{Written}
 use Rattle.boot_bodies.proofs.parts.write_fragments.Given as goal
 
 abbrev pub invariant-loop-i : goal.invariant-loop-i
-invariant-loop-i g l = IsTrue g.D.Disk.tells
-    → (g.D.At.Source.content l.source ≡ g.D.At.Source.content l.initial.source)
-    × GoesAmong (IsFragmentPath l.folder (view_of l.image.header) l.i) (g.D.Disk.held l.initial.disk) (g.D.Disk.held l.disk)
-    (g.D.Disk.world l.initial.disk) (g.D.Disk.world l.disk)
-    × KeepsMade (g.D.Disk.held l.initial.disk) (g.D.Disk.held l.disk) (g.D.Disk.world l.initial.disk)
-    (g.D.Disk.world l.disk)
-    × FragmentsDone l.folder (view_of l.image.header) (g.D.At.Source.content l.initial.source) l.i (g.D.Disk.held l.disk)
-    (g.D.Disk.world l.disk)
-    × SyncsMore l.i (g.D.Disk.held l.initial.disk) (g.D.Disk.held l.disk)
-    × NoMoreFailed (g.D.Disk.held l.initial.disk) (g.D.At.Source.read_faults l.initial.source) (g.D.Disk.held l.disk)
-    (g.D.At.Source.read_faults l.source)
-    × ShowsEach (told_fragments (g.D.At.Source.content l.initial.source) (view_of l.image.header) l.i) l.initial.report
-    l.report
+invariant-loop-i g l =
+    let h = view_of l.image.header in
+    let x = g.D.At.Source.content l.initial.source in
+    IsTrue g.D.Disk.tells
+    → Written l.i (IsFragmentPath l.folder h l.i) g.D.At.Source l.initial.source l.source
+    (g.D.Disk.held l.initial.disk) (g.D.Disk.held l.disk) (g.D.Disk.world l.initial.disk) (g.D.Disk.world l.disk)
+    × FragmentsDone l.folder h x l.i (g.D.Disk.held l.disk) (g.D.Disk.world l.disk)
+    × ShowsEach (told_fragments x h l.i) l.initial.report l.report

@@ -1,24 +1,19 @@
-use Rattle.std.proofs.Common.{◌≡◌, map, take}
+use Rattle.std.proofs.Common.{map, take}
 use Rattle.std.specs.Prelude.{IsTrue}
 use Rattle.abt_sections.specs.Header.{places_of, view_of}
-use Rattle.abt_disk.specs.Among.{GoesAmong, KeepsMade}
-use Rattle.boot_bodies.specs.Faults.{NoMoreFailed}
 use Rattle.boot_bodies.specs.Lines.{ShowsEach, told_section}
-use Rattle.boot_bodies.specs.Unpacking.{IsSectionPath, SectionsDone, SyncsMore}
+use Rattle.boot_bodies.specs.Unpacking.{IsSectionPath, SectionsDone}
+use Rattle.boot_bodies.proofs.Steps.{Written}
 use Rattle.boot_bodies.proofs.parts.write_sections.Given as goal
 
 abbrev pub invariant-loop-i : goal.invariant-loop-i
-invariant-loop-i g l = record {
-  shown : ShowsEach (map told_section (take l.i (places_of (view_of l.image.header)))) l.initial.report l.report;
-  told : IsTrue g.D.Disk.tells
-      → (g.D.At.Source.content l.source ≡ g.D.At.Source.content l.initial.source)
-      × GoesAmong (IsSectionPath l.folder (view_of l.image.header) l.i) (g.D.Disk.held l.initial.disk) (g.D.Disk.held l.disk)
-      (g.D.Disk.world l.initial.disk) (g.D.Disk.world l.disk)
-      × KeepsMade (g.D.Disk.held l.initial.disk) (g.D.Disk.held l.disk) (g.D.Disk.world l.initial.disk)
-      (g.D.Disk.world l.disk)
-      × SectionsDone l.folder (view_of l.image.header) (g.D.At.Source.content l.initial.source) l.i (g.D.Disk.held l.disk)
-      (g.D.Disk.world l.disk)
-      × SyncsMore l.i (g.D.Disk.held l.initial.disk) (g.D.Disk.held l.disk)
-      × NoMoreFailed (g.D.Disk.held l.initial.disk) (g.D.At.Source.read_faults l.initial.source) (g.D.Disk.held l.disk)
-      (g.D.At.Source.read_faults l.source);
-}
+invariant-loop-i g l =
+    let h = view_of l.image.header in
+    record {
+      shown : ShowsEach (map told_section (take l.i (places_of h))) l.initial.report l.report;
+      told : IsTrue g.D.Disk.tells
+          → Written l.i (IsSectionPath l.folder h l.i) g.D.At.Source l.initial.source l.source
+          (g.D.Disk.held l.initial.disk) (g.D.Disk.held l.disk) (g.D.Disk.world l.initial.disk) (g.D.Disk.world l.disk)
+          × SectionsDone l.folder h (g.D.At.Source.content l.initial.source) l.i (g.D.Disk.held l.disk)
+          (g.D.Disk.world l.disk);
+    }

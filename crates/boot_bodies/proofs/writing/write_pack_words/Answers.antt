@@ -1,77 +1,54 @@
-use Rattle.std.proofs.Common.{◌∙◌, ap, sym, subst, true}
-use Rattle.abt_disk.proofs.Amongs.{goes_refused, goes_written, keeps_refused, keeps_written}
+use Rattle.std.proofs.Common.{true}
 use Rattle.boot_bodies.proofs.Causes.{host_refused, ok_gives, told_so}
-use Rattle.boot_bodies.proofs.Counts.{copy_failed, end_failed, none_created, part_clean, syncs_ended}
+use Rattle.boot_bodies.proofs.Counts.{copy_failed, end_failed, none_created}
 use Rattle.boot_rules.specs.declared.part_names.Part.TheVariants as parts
 use Rattle.boot_bodies.proofs.Loops.{part_done}
 use Rattle.boot_bodies.proofs.Shown.{shown_some}
+use Rattle.boot_bodies.proofs.Steps.{part_broken, part_refused, part_written}
 use Rattle.boot_bodies.proofs.writing.write_pack_words.Goals as goal
 
-pub returns-in-Err-clause-only : goal.returns-in-Err-clause-only
-returns-in-Err-clause-only g c = λ t.
-    goes_refused _ _ _ _ _ _ _ c.place_of-place.ensures
-    (c.in-Err.ensures.kept t) (c.in-Err.ensures.only t)
-
-pub returns-in-Err-clause-keeps : goal.returns-in-Err-clause-keeps
-returns-in-Err-clause-keeps g c = λ t.
-    keeps_refused _ _ _ _ _ 1 (c.requires.one t) (c.in-Err.ensures.kept t) (c.in-Err.ensures.only t)
-    (c.in-Err.ensures.begun t)
+pub returns-in-Err-clause-writes : goal.returns-in-Err-clause-writes
+returns-in-Err-clause-writes g c = λ t.
+    part_refused c.place_of-place.ensures (c.requires.one t)
+    (c.in-Err.ensures.kept t) (c.in-Err.ensures.only t) (c.in-Err.ensures.begun t)
 
 pub returns-in-Err-clause-refused : goal.returns-in-Err-clause-refused
 returns-in-Err-clause-refused g c = λ t opened.
     host_refused _ _ _ _ _ c.into.ensures (none_created _ _ _ (c.in-Err.ensures.kept t))
 
-pub returns-in-Ok-finish-clause-content : goal.returns-in-Ok-finish-clause-content
-returns-in-Ok-finish-clause-content g c = λ t.
-    ok_gives _ _ c.in-Ok-finish.ensures.done (c.copy_words-onto.ensures.copies.content (g.met.D.Disk.source_told t))
+pub returns-in-Ok-finish-clause-writes : goal.returns-in-Ok-finish-clause-writes
+returns-in-Ok-finish-clause-writes g c = λ t.
+    let copies = c.copy_words-onto.ensures in
+    let done = c.in-Ok-finish.ensures.done in
+    part_written c.place_of-place.ensures
+    (c.in-Ok.ensures.created t) (c.in-Ok-finish.ensures.ends.rest t) _ _ (c.in-Ok-finish.ensures.clean t)
+    (ok_gives _ _ done (copies.content (g.met.D.Disk.source_told t))) (c.in-Ok.ensures.clean t)
+    (ok_gives _ _ done copies.clean)
 
 pub returns-in-Ok-finish-clause-done : goal.returns-in-Ok-finish-clause-done
 returns-in-Ok-finish-clause-done g c = λ t.
     part_done _ _ _ _ _ true _ _ _ _ _ _ _ c.place_of-place.ensures
     c.in-Ok.ensures.empty
     (ok_gives _ _ c.in-Ok-finish.ensures.done (c.copy_words-onto.ensures.written (g.met.D.Disk.source_told t)))
-    (c.in-Ok.ensures.created t) (c.in-Ok-finish.ensures.clean t) (c.in-Ok-finish.ensures.ended t)
-
-pub returns-in-Ok-finish-clause-keeps : goal.returns-in-Ok-finish-clause-keeps
-returns-in-Ok-finish-clause-keeps g c = λ t.
-    keeps_written _ true _ _ _ _ _ _ _ (c.in-Ok.ensures.created t) (c.in-Ok-finish.ensures.clean t)
-    (c.in-Ok-finish.ensures.rest t)
-
-pub returns-in-Ok-finish-clause-only : goal.returns-in-Ok-finish-clause-only
-returns-in-Ok-finish-clause-only g c = λ t.
-    goes_written _ _ true _ _ _ _ _ _ _ c.place_of-place.ensures
-    (c.in-Ok.ensures.created t) (c.in-Ok-finish.ensures.clean t) (c.in-Ok-finish.ensures.rest t)
+    (c.in-Ok.ensures.created t) (c.in-Ok-finish.ensures.clean t) (c.in-Ok-finish.ensures.ends.ended t)
 
 pub returns-in-Ok-finish-clause-shown : goal.returns-in-Ok-finish-clause-shown
 returns-in-Ok-finish-clause-shown g c =
-    shown_some _ c.args.report.now c.finish.new.report parts.Words c.in-Ok-finish.ensures.done c.in-Ok-finish.ensures.shown
+    shown_some _ c.args.report.now c.finish.new.report parts.Words c.in-Ok-finish.ensures.done
+    c.in-Ok-finish.ensures.shown
 
-pub returns-in-Ok-finish-clause-synced : goal.returns-in-Ok-finish-clause-synced
-returns-in-Ok-finish-clause-synced g c = λ t.
-    syncs_ended _ _ _ _ _ _ _ (c.in-Ok.ensures.created t) (c.in-Ok-finish.ensures.clean t)
-
-pub returns-in-Ok-finish-clause-clean : goal.returns-in-Ok-finish-clause-clean
-returns-in-Ok-finish-clause-clean g c = λ t.
-    part_clean _ _ _ _ _ _ _ _ _ _ (c.in-Ok.ensures.created t) (c.in-Ok.ensures.clean t)
-    (ok_gives _ _ c.in-Ok-finish.ensures.done c.copy_words-onto.ensures.copies.clean) (c.in-Ok-finish.ensures.clean t)
-
-pub returns-in-Err-finish-clause-only : goal.returns-in-Err-finish-clause-only
-returns-in-Err-finish-clause-only g c = λ t.
-    goes_written _ _ (c.in-Err-finish.ensures.closed t).0 _ _ _ _ _ _ _ c.place_of-place.ensures
-    (c.in-Ok.ensures.created t) (c.in-Err-finish.ensures.closed t).2 (c.in-Err-finish.ensures.rest t)
-
-pub returns-in-Err-finish-clause-keeps : goal.returns-in-Err-finish-clause-keeps
-returns-in-Err-finish-clause-keeps g c = λ t.
-    keeps_written _ (c.in-Err-finish.ensures.closed t).0 _ _ _ _ _ _ _ (c.in-Ok.ensures.created t)
-    (c.in-Err-finish.ensures.closed t).2 (c.in-Err-finish.ensures.rest t)
+pub returns-in-Err-finish-clause-writes : goal.returns-in-Err-finish-clause-writes
+returns-in-Err-finish-clause-writes g c = λ t.
+    part_broken c.place_of-place.ensures
+    (c.in-Ok.ensures.created t) (c.in-Err-finish.ensures.ends.rest t) (c.in-Err-finish.ensures.closed t)
 
 pub returns-in-Err-finish-clause-refused : goal.returns-in-Err-finish-clause-refused
 returns-in-Err-finish-clause-refused g c = λ t opened.
     let told = g.met.D.Disk.source_told t in
     told_so _ (g.D.At.Source.content c.args.source.now) _ _ _ _ _ _ (c.in-Err-finish.ensures.told t)
-    (c.copy_words-onto.ensures.copies.refused told opened)
+    (c.copy_words-onto.ensures.refused told opened)
     (λ done failed. end_failed _ _ _ _ _ _ _ _ _ _ (c.in-Ok.ensures.created t) (c.in-Ok.ensures.clean t)
-    (ok_gives _ _ done c.copy_words-onto.ensures.copies.clean) failed)
+    (ok_gives _ _ done c.copy_words-onto.ensures.clean) failed)
     (λ failed. copy_failed _ _ _ _ _ _ _ _ _ _ (c.in-Ok.ensures.created t) (c.in-Ok.ensures.clean t)
     (c.in-Err-finish.ensures.counts t) failed)
     (λ done ends.

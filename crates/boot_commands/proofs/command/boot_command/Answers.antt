@@ -12,6 +12,12 @@ returns-in-Pack-clause-spares g c = λ t.
 pub returns-in-Pack-clause-whole : goal.returns-in-Pack-clause-whole
 returns-in-Pack-clause-whole g c = λ t. rw c.in-Pack.is ((c.pack_file.ensures.left t).whole)
 
+pub returns-in-Pack-clause-clean : goal.returns-in-Pack-clause-clean
+returns-in-Pack-clause-clean g c = λ t. (c.pack_file.ensures.left t).clean
+
+pub returns-in-Repack-clause-clean : goal.returns-in-Repack-clause-clean
+returns-in-Repack-clause-clean g c = λ t. (c.repack_file.ensures.left t).clean
+
 pub returns-in-Repack-clause-spares : goal.returns-in-Repack-clause-spares
 returns-in-Repack-clause-spares g c = λ t.
     rw c.in-Repack.is (

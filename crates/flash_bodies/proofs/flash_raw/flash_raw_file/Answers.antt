@@ -1,50 +1,45 @@
-use Rattle.std.proofs.Common.{arith, ap, ◌≡◌, length}
+use Rattle.std.proofs.Common.{rules, arith, ap, ◌≡◌, length}
 use Rattle.flash_bodies.specs.FlashingRaw.{IsFlashedRaw}
 use Rattle.flash_bodies.proofs.Refusals.{raw_untold, handed_on, is_flashed_raw, on_ok, refuses_raw}
 use Rattle.flash_bodies.proofs.Written.{as_long, ran, ran_clean, ran_failed, settled_once}
 use Rattle.flash_bodies.proofs.flash_raw.flash_raw_file.Goals as goal
 
-pub returns-in-Err-clause-input : goal.returns-in-Err-clause-input
-returns-in-Err-clause-input g c = λ t.
-    (ran _ _ _ _ _ _ _ _ _ _ _ _ _ _ _ _ _ (g.D.Part.Partition.past c.flash_blocks-answer.new.onto)
+pub returns-in-Err-clause-leaves : goal.returns-in-Err-clause-leaves
+returns-in-Err-clause-leaves g c = λ t.
+    let all = ran _ _ _ _ _ _ _ _ _ _ _ _ _ _ _ _ _ (g.D.Part.Partition.past c.flash_blocks-answer.new.onto)
     (c.in_ok-source.ensures.opened t) (c.in_ok-source.ensures.world t)
     (c.in_ok-onto.ensures.opened t) (c.in_ok-onto.ensures.world t) (c.let_go_source.ensures.held t) (c.let_go_source.ensures.world t)
-    (c.closed.ensures.ended t) (c.closed.ensures.paths t) (c.closed.ensures.closed t)).kept
+    (c.closed.ensures.ended t) (c.closed.ensures.paths t) (c.closed.ensures.closed t) in
+    record {
+      others = all.others;
+      input = all.kept;
+      clean = tt;
+    }
 
-pub returns-in-Err-clause-others : goal.returns-in-Err-clause-others
-returns-in-Err-clause-others g c = λ t.
-    (ran _ _ _ _ _ _ _ _ _ _ _ _ _ _ _ _ _ (g.D.Part.Partition.past c.flash_blocks-answer.new.onto)
+pub returns-in_err-line_beside-clause-leaves : goal.returns-in_err-line_beside-clause-leaves
+returns-in_err-line_beside-clause-leaves g c = λ t.
+    let all = ran _ _ _ _ _ _ _ _ _ _ _ _ _ _ _ _ _ (g.D.Part.Partition.past c.flash_blocks-answer.new.onto)
     (c.in_ok-source.ensures.opened t) (c.in_ok-source.ensures.world t)
     (c.in_ok-onto.ensures.opened t) (c.in_ok-onto.ensures.world t) (c.let_go_source.ensures.held t) (c.let_go_source.ensures.world t)
-    (c.closed.ensures.ended t) (c.closed.ensures.paths t) (c.closed.ensures.closed t)).others
+    (c.closed.ensures.ended t) (c.closed.ensures.paths t) (c.closed.ensures.closed t) in
+    record {
+      others = all.others;
+      input = all.kept;
+      clean = search rules;
+    }
 
-pub returns-in_err-line_beside-clause-input : goal.returns-in_err-line_beside-clause-input
-returns-in_err-line_beside-clause-input g c = λ t.
-    (ran _ _ _ _ _ _ _ _ _ _ _ _ _ _ _ _ _ (g.D.Part.Partition.past c.flash_blocks-answer.new.onto)
+pub returns-clause-leaves : goal.returns-clause-leaves
+returns-clause-leaves g c = λ t.
+    let all = ran _ _ _ _ _ _ _ _ _ _ _ _ _ _ _ _ _ (g.D.Part.Partition.past c.flash_blocks-answer.new.onto)
     (c.in_ok-source.ensures.opened t) (c.in_ok-source.ensures.world t)
     (c.in_ok-onto.ensures.opened t) (c.in_ok-onto.ensures.world t) (c.let_go_source.ensures.held t) (c.let_go_source.ensures.world t)
-    (c.closed.ensures.ended t) (c.closed.ensures.paths t) (c.closed.ensures.closed t)).kept
-
-pub returns-in_err-line_beside-clause-others : goal.returns-in_err-line_beside-clause-others
-returns-in_err-line_beside-clause-others g c = λ t.
-    (ran _ _ _ _ _ _ _ _ _ _ _ _ _ _ _ _ _ (g.D.Part.Partition.past c.flash_blocks-answer.new.onto)
-    (c.in_ok-source.ensures.opened t) (c.in_ok-source.ensures.world t)
-    (c.in_ok-onto.ensures.opened t) (c.in_ok-onto.ensures.world t) (c.let_go_source.ensures.held t) (c.let_go_source.ensures.world t)
-    (c.closed.ensures.ended t) (c.closed.ensures.paths t) (c.closed.ensures.closed t)).others
-
-pub returns-clause-input : goal.returns-clause-input
-returns-clause-input g c = λ t.
-    (ran _ _ _ _ _ _ _ _ _ _ _ _ _ _ _ _ _ (g.D.Part.Partition.past c.flash_blocks-answer.new.onto)
-    (c.in_ok-source.ensures.opened t) (c.in_ok-source.ensures.world t)
-    (c.in_ok-onto.ensures.opened t) (c.in_ok-onto.ensures.world t) (c.let_go_source.ensures.held t) (c.let_go_source.ensures.world t)
-    (c.closed.ensures.ended t) (c.closed.ensures.paths t) (c.closed.ensures.closed t)).kept
-
-pub returns-clause-others : goal.returns-clause-others
-returns-clause-others g c = λ t.
-    (ran _ _ _ _ _ _ _ _ _ _ _ _ _ _ _ _ _ (g.D.Part.Partition.past c.flash_blocks-answer.new.onto)
-    (c.in_ok-source.ensures.opened t) (c.in_ok-source.ensures.world t)
-    (c.in_ok-onto.ensures.opened t) (c.in_ok-onto.ensures.world t) (c.let_go_source.ensures.held t) (c.let_go_source.ensures.world t)
-    (c.closed.ensures.ended t) (c.closed.ensures.paths t) (c.closed.ensures.closed t)).others
+    (c.closed.ensures.ended t) (c.closed.ensures.paths t) (c.closed.ensures.closed t) in
+    record {
+      others = all.others;
+      input = all.kept;
+      clean = ran_clean _ _ _ _ _ _ _ _ _ _ _ _ _ _ all (c.in_ok-source.ensures.clean t) (c.in_ok-onto.ensures.clean t)
+          (on_ok c.flash_blocks-answer.result c.in-Ok.end.0 _ c.in-Ok.ensures.done c.flash_blocks-answer.ensures.clean);
+    }
 
 pub returns-in-Err-clause-refused : goal.returns-in-Err-clause-refused
 returns-in-Err-clause-refused g c = λ t.
@@ -55,15 +50,6 @@ returns-in-Err-clause-refused g c = λ t.
     refuses_raw c.flash_blocks-answer.result c.in-Err.refusal.fault _ c.args.size _ _ _ _ _ _ _ _ _ c.in-Err.ensures.told
     (ran_failed _ _ _ _ _ _ _ _ _ _ _ _ _ _ all (c.in_ok-source.ensures.clean t) (c.in_ok-onto.ensures.clean t)) all.with_files
     (c.flash_blocks-answer.ensures.lays (g.met.D.Disk.source_told t) (g.met.D.Disk.part_told t))
-
-pub returns-clause-clean : goal.returns-clause-clean
-returns-clause-clean g c = λ t.
-    let all = ran _ _ _ _ _ _ _ _ _ _ _ _ _ _ _ _ _ (g.D.Part.Partition.past c.flash_blocks-answer.new.onto)
-    (c.in_ok-source.ensures.opened t) (c.in_ok-source.ensures.world t)
-    (c.in_ok-onto.ensures.opened t) (c.in_ok-onto.ensures.world t) (c.let_go_source.ensures.held t) (c.let_go_source.ensures.world t)
-    (c.closed.ensures.ended t) (c.closed.ensures.paths t) (c.closed.ensures.closed t) in
-    ran_clean _ _ _ _ _ _ _ _ _ _ _ _ _ _ all (c.in_ok-source.ensures.clean t) (c.in_ok-onto.ensures.clean t)
-    (on_ok c.flash_blocks-answer.result c.in-Ok.end.0 _ c.in-Ok.ensures.done c.flash_blocks-answer.ensures.clean)
 
 pub returns-clause-done : goal.returns-clause-done
 returns-clause-done g c = λ t.

@@ -1,4 +1,4 @@
-use Rattle.std.proofs.Common.{ap, sym, ◌∙◌, ◌≡◌, ◌-◌, arith}
+use Rattle.std.proofs.Common.{rules, ap, sym, ◌∙◌, ◌≡◌, ◌-◌, arith}
 use Rattle.std.specs.Prelude.{max}
 use Rattle.abt_io.specs.Moment.{Past}
 use Rattle.flash_bodies.proofs.Crossing.{as_long_across, crossed, only_both, only_kept}
@@ -8,69 +8,59 @@ use Rattle.flash_bodies.proofs.Refusals.{handed_on}
 use Rattle.flash_bodies.proofs.Written.{of_file}
 use Rattle.flash_bodies.proofs.pieces.flash_pieces_file.Goals as goal
 
-pub returns-in-Err-closed-clause-input : goal.returns-in-Err-closed-clause-input
-returns-in-Err-closed-clause-input g c = λ t.
-    (crossed _ _ _ _ _ _ _ _ _ _ _ _ _ _ _ _ _ _ _ _ _ _
+pub returns-in-Err-closed-clause-leaves : goal.returns-in-Err-closed-clause-leaves
+returns-in-Err-closed-clause-leaves g c = λ t.
+    let all = crossed _ _ _ _ _ _ _ _ _ _ _ _ _ _ _ _ _ _ _ _ _ _
     (g.D.Part.Partition.past c.delivered_through-answer.new.onto) (c.in_ok-source.ensures.opened t)
     (c.in_ok-source.ensures.world t) (c.in_ok-onto.ensures.opened t) (c.in_ok-onto.ensures.world t)
     (c.in_ok-through.ensures.opened t) (c.delivered_through-answer.ensures.closed t)
     (c.delivered_through-answer.ensures.rest t) (c.let_go_source.ensures.held t) (c.let_go_source.ensures.world t)
-    (c.closed.ensures.ended t) (c.closed.ensures.paths t) (c.closed.ensures.closed t)).kept
+    (c.closed.ensures.ended t) (c.closed.ensures.paths t) (c.closed.ensures.closed t) in
+    record {
+      others = all.others;
+      input = all.kept;
+      clean = tt;
+    }
 
-pub returns-in-Err-closed-clause-others : goal.returns-in-Err-closed-clause-others
-returns-in-Err-closed-clause-others g c = λ t.
-    (crossed _ _ _ _ _ _ _ _ _ _ _ _ _ _ _ _ _ _ _ _ _ _
+pub returns-in_err-line_beside-clause-leaves : goal.returns-in_err-line_beside-clause-leaves
+returns-in_err-line_beside-clause-leaves g c = λ t.
+    let all = crossed _ _ _ _ _ _ _ _ _ _ _ _ _ _ _ _ _ _ _ _ _ _
     (g.D.Part.Partition.past c.delivered_through-answer.new.onto) (c.in_ok-source.ensures.opened t)
     (c.in_ok-source.ensures.world t) (c.in_ok-onto.ensures.opened t) (c.in_ok-onto.ensures.world t)
     (c.in_ok-through.ensures.opened t) (c.delivered_through-answer.ensures.closed t)
     (c.delivered_through-answer.ensures.rest t) (c.let_go_source.ensures.held t) (c.let_go_source.ensures.world t)
-    (c.closed.ensures.ended t) (c.closed.ensures.paths t) (c.closed.ensures.closed t)).others
+    (c.closed.ensures.ended t) (c.closed.ensures.paths t) (c.closed.ensures.closed t) in
+    record {
+      others = all.others;
+      input = all.kept;
+      clean = search rules;
+    }
 
-pub returns-in_err-line_beside-clause-input : goal.returns-in_err-line_beside-clause-input
-returns-in_err-line_beside-clause-input g c = λ t.
-    (crossed _ _ _ _ _ _ _ _ _ _ _ _ _ _ _ _ _ _ _ _ _ _
+pub returns-clause-leaves : goal.returns-clause-leaves
+returns-clause-leaves g c = λ t.
+    let all = crossed _ _ _ _ _ _ _ _ _ _ _ _ _ _ _ _ _ _ _ _ _ _
     (g.D.Part.Partition.past c.delivered_through-answer.new.onto) (c.in_ok-source.ensures.opened t)
     (c.in_ok-source.ensures.world t) (c.in_ok-onto.ensures.opened t) (c.in_ok-onto.ensures.world t)
     (c.in_ok-through.ensures.opened t) (c.delivered_through-answer.ensures.closed t)
     (c.delivered_through-answer.ensures.rest t) (c.let_go_source.ensures.held t) (c.let_go_source.ensures.world t)
-    (c.closed.ensures.ended t) (c.closed.ensures.paths t) (c.closed.ensures.closed t)).kept
+    (c.closed.ensures.ended t) (c.closed.ensures.paths t) (c.closed.ensures.closed t) in
+    record {
+      others = all.others;
+      input = all.kept;
+      clean = clean_across c.delivered_through-answer.result c.in-Ok.end.0 _ _ _ _ _ _ _ _ _ _ _ _ _ _ _ _ all
+          (sym c.counted.ensures ∙ c.in-Ok.ensures.done)
+          (none_of _ _ _ (c.in_ok-source.ensures.clean t) (c.in_ok-onto.ensures.clean t) (c.in_ok-through.ensures.clean t))
+          (c.delivered_through-answer.ensures.clean t);
+    }
 
-pub returns-in_err-line_beside-clause-others : goal.returns-in_err-line_beside-clause-others
-returns-in_err-line_beside-clause-others g c = λ t.
-    (crossed _ _ _ _ _ _ _ _ _ _ _ _ _ _ _ _ _ _ _ _ _ _
-    (g.D.Part.Partition.past c.delivered_through-answer.new.onto) (c.in_ok-source.ensures.opened t)
-    (c.in_ok-source.ensures.world t) (c.in_ok-onto.ensures.opened t) (c.in_ok-onto.ensures.world t)
-    (c.in_ok-through.ensures.opened t) (c.delivered_through-answer.ensures.closed t)
-    (c.delivered_through-answer.ensures.rest t) (c.let_go_source.ensures.held t) (c.let_go_source.ensures.world t)
-    (c.closed.ensures.ended t) (c.closed.ensures.paths t) (c.closed.ensures.closed t)).others
-
-pub returns-clause-input : goal.returns-clause-input
-returns-clause-input g c = λ t.
-    (crossed _ _ _ _ _ _ _ _ _ _ _ _ _ _ _ _ _ _ _ _ _ _
-    (g.D.Part.Partition.past c.delivered_through-answer.new.onto) (c.in_ok-source.ensures.opened t)
-    (c.in_ok-source.ensures.world t) (c.in_ok-onto.ensures.opened t) (c.in_ok-onto.ensures.world t)
-    (c.in_ok-through.ensures.opened t) (c.delivered_through-answer.ensures.closed t)
-    (c.delivered_through-answer.ensures.rest t) (c.let_go_source.ensures.held t) (c.let_go_source.ensures.world t)
-    (c.closed.ensures.ended t) (c.closed.ensures.paths t) (c.closed.ensures.closed t)).kept
-
-pub returns-clause-others : goal.returns-clause-others
-returns-clause-others g c = λ t.
-    (crossed _ _ _ _ _ _ _ _ _ _ _ _ _ _ _ _ _ _ _ _ _ _
-    (g.D.Part.Partition.past c.delivered_through-answer.new.onto) (c.in_ok-source.ensures.opened t)
-    (c.in_ok-source.ensures.world t) (c.in_ok-onto.ensures.opened t) (c.in_ok-onto.ensures.world t)
-    (c.in_ok-through.ensures.opened t) (c.delivered_through-answer.ensures.closed t)
-    (c.delivered_through-answer.ensures.rest t) (c.let_go_source.ensures.held t) (c.let_go_source.ensures.world t)
-    (c.closed.ensures.ended t) (c.closed.ensures.paths t) (c.closed.ensures.closed t)).others
-
-pub returns-in_err-through-clause-others : goal.returns-in_err-through-clause-others
-returns-in_err-through-clause-others g c = λ t.
-    only_both _ _ _ _ _ _ (c.in_ok-onto.ensures.world t ∙ c.in_ok-source.ensures.world t)
-    (c.in_err-through.ensures.only t)
-
-pub returns-in_err-through-clause-input : goal.returns-in_err-through-clause-input
-returns-in_err-through-clause-input g c = λ t.
-    only_kept _ _ _ _ _ _ _ _ _ _ _ _ (c.in_ok-source.ensures.opened t) (c.in_ok-source.ensures.world t)
-    (c.in_ok-onto.ensures.opened t) (c.in_ok-onto.ensures.world t) (c.in_err-through.ensures.only t)
+pub returns-in_err-through-clause-leaves : goal.returns-in_err-through-clause-leaves
+returns-in_err-through-clause-leaves g c = λ t. record {
+  others = only_both _ _ _ _ _ _ (c.in_ok-onto.ensures.world t ∙ c.in_ok-source.ensures.world t)
+      (c.in_err-through.ensures.only t);
+  input = only_kept _ _ _ _ _ _ _ _ _ _ _ _ (c.in_ok-source.ensures.opened t) (c.in_ok-source.ensures.world t)
+      (c.in_ok-onto.ensures.opened t) (c.in_ok-onto.ensures.world t) (c.in_err-through.ensures.only t);
+  clean = search rules;
+}
 
 pub returns-in-Err-clause-refused : goal.returns-in-Err-clause-refused
 returns-in-Err-clause-refused g c = λ t.
@@ -92,19 +82,6 @@ returns-in-Err-closed-clause-refused g c = λ t.
     _ _ _ _ _ _ _ _ _ _ _ _ _ all (sym c.counted.ensures ∙ c.in-Err-closed.ensures.told)
     (none_of _ _ _ (c.in_ok-source.ensures.clean t) (c.in_ok-onto.ensures.clean t) (c.in_ok-through.ensures.clean t))
     same (c.delivered_through-answer.ensures.delivers t (ap (λ (q : Past). q.pending) (c.in_ok-onto.ensures.past t)))
-
-pub returns-clause-clean : goal.returns-clause-clean
-returns-clause-clean g c = λ t.
-    let all = crossed _ _ _ _ _ _ _ _ _ _ _ _ _ _ _ _ _ _ _ _ _ _
-    (g.D.Part.Partition.past c.delivered_through-answer.new.onto) (c.in_ok-source.ensures.opened t)
-    (c.in_ok-source.ensures.world t) (c.in_ok-onto.ensures.opened t) (c.in_ok-onto.ensures.world t)
-    (c.in_ok-through.ensures.opened t) (c.delivered_through-answer.ensures.closed t)
-    (c.delivered_through-answer.ensures.rest t) (c.let_go_source.ensures.held t) (c.let_go_source.ensures.world t)
-    (c.closed.ensures.ended t) (c.closed.ensures.paths t) (c.closed.ensures.closed t) in
-    clean_across c.delivered_through-answer.result c.in-Ok.end.0 _ _ _ _ _ _ _ _ _ _ _ _ _ _ _ _ all
-    (sym c.counted.ensures ∙ c.in-Ok.ensures.done)
-    (none_of _ _ _ (c.in_ok-source.ensures.clean t) (c.in_ok-onto.ensures.clean t) (c.in_ok-through.ensures.clean t))
-    (c.delivered_through-answer.ensures.clean t)
 
 pub returns-clause-done : goal.returns-clause-done
 returns-clause-done g c = λ t.

@@ -1,7 +1,8 @@
+use Rattle.std.proofs.Common.{ap, ◌∙◌}
 use Rattle.image_bodies.specs.Cutting.{IsPiecePath}
 use Rattle.image_bodies.proofs.Opened.{if_err}
-use Rattle.abt_disk.proofs.Amongs.{among_behind, among_none}
-use Rattle.image_bodies.proofs.Wholes.{cuts_file_as, keeps_input, refuses_file_as, refuses_unopened}
+use Rattle.abt_disk.proofs.Amongs.{among_none}
+use Rattle.image_bodies.proofs.Wholes.{cuts_file_as, leaves_cut, refuses_file_as, refuses_unopened}
 use Rattle.image_bodies.proofs.cut.cut_file.Goals as goal
 
 pub returns-in-Err-clause-refused : goal.returns-in-Err-clause-refused
@@ -9,25 +10,24 @@ returns-in-Err-clause-refused g c = λ t.
     refuses_unopened _ _ _ _ _ c.in-Err.refusal.fault _ _ _ _ c.into.ensures (c.in-Err.ensures.kept t)
     (c.in-Err.ensures.world t)
 
-pub returns-in-Err-clause-only : goal.returns-in-Err-clause-only
-returns-in-Err-clause-only g c = λ t.
-    among_none (IsPiecePath c.args.order.prefix.now) _ _ _ _ 1 (c.requires.first t).begun (c.in-Err.ensures.kept t)
-    (c.in-Err.ensures.world t)
+pub returns-in-Err-clause-leaves : goal.returns-in-Err-clause-leaves
+returns-in-Err-clause-leaves g c = λ t. record {
+  only = among_none (IsPiecePath c.args.order.prefix.now) _ _ _ _ 1 (c.requires.first t).begun (c.in-Err.ensures.kept t)
+      (c.in-Err.ensures.world t);
+  input = λ f there. ap (λ w. w.holds f) (c.in-Err.ensures.world t);
+  closed = ap (λ k. k.output) (c.in-Err.ensures.kept t) ∙ (c.requires.first t).output;
+  clean = tt;
+}
 
 pub returns-in-Some-clause-done : goal.returns-in-Some-clause-done
 returns-in-Some-clause-done g c = λ t.
     cuts_file_as c.cut_raw.result c.args.order.raw _ _ _ _ _ _ _ _ _ _ _ _ c.in-Some.is (c.requires.first t).begun
     (c.in-Ok.ensures.opened t) (c.in-Ok.ensures.world t) (c.cut_raw.ensures.done t)
 
-pub returns-in-Some-clause-only : goal.returns-in-Some-clause-only
-returns-in-Some-clause-only g c = λ t.
-    among_behind (IsPiecePath c.args.order.prefix.now) _ _ _ _ _ _ _ _ (c.requires.first t).begun
-    (c.in-Ok.ensures.opened t) (c.in-Ok.ensures.world t) (c.cut_raw.ensures.left t).only
-
-pub returns-in-Some-clause-input : goal.returns-in-Some-clause-input
-returns-in-Some-clause-input g c = λ t.
-    keeps_input c.args.order.prefix.now _ _ _ _ _ _ _ _ (c.in-Ok.ensures.opened t) (c.in-Ok.ensures.world t)
-    (c.cut_raw.ensures.left t).only
+pub returns-in-Some-clause-leaves : goal.returns-in-Some-clause-leaves
+returns-in-Some-clause-leaves g c = λ t.
+    leaves_cut c.cut_raw.result c.args.order.prefix.now _ _ _ _ _ _ _ _ (c.requires.first t).begun
+    (c.in-Ok.ensures.opened t) (c.in-Ok.ensures.world t) (c.cut_raw.ensures.leaves t)
 
 pub returns-in-Some-clause-refused : goal.returns-in-Some-clause-refused
 returns-in-Some-clause-refused g c = λ t.
@@ -41,15 +41,10 @@ returns-in-None-clause-done g c = λ t.
     cuts_file_as c.cut_sparse.result c.args.order.raw _ _ _ _ _ _ _ _ _ _ _ _ c.in-None.is (c.requires.first t).begun
     (c.in-Ok.ensures.opened t) (c.in-Ok.ensures.world t) (c.cut_sparse.ensures.done t)
 
-pub returns-in-None-clause-only : goal.returns-in-None-clause-only
-returns-in-None-clause-only g c = λ t.
-    among_behind (IsPiecePath c.args.order.prefix.now) _ _ _ _ _ _ _ _ (c.requires.first t).begun
-    (c.in-Ok.ensures.opened t) (c.in-Ok.ensures.world t) (c.cut_sparse.ensures.left t).only
-
-pub returns-in-None-clause-input : goal.returns-in-None-clause-input
-returns-in-None-clause-input g c = λ t.
-    keeps_input c.args.order.prefix.now _ _ _ _ _ _ _ _ (c.in-Ok.ensures.opened t) (c.in-Ok.ensures.world t)
-    (c.cut_sparse.ensures.left t).only
+pub returns-in-None-clause-leaves : goal.returns-in-None-clause-leaves
+returns-in-None-clause-leaves g c = λ t.
+    leaves_cut c.cut_sparse.result c.args.order.prefix.now _ _ _ _ _ _ _ _ (c.requires.first t).begun
+    (c.in-Ok.ensures.opened t) (c.in-Ok.ensures.world t) (c.cut_sparse.ensures.leaves t)
 
 pub returns-in-None-clause-refused : goal.returns-in-None-clause-refused
 returns-in-None-clause-refused g c = λ t.

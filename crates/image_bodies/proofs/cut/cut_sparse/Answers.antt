@@ -11,7 +11,7 @@ returns-in-Ok-clause-done g c = λ t.
     let size = c.in-Ok.pieces.cutter.runs.header.blk_sz in
     cut_of c.cut_pieces.result None size size c.args.order.limit _ (sparse_list x) _ c.args.order.prefix.now x _ _ _ _ _
     (sparse_image _ _ _ x (is_so x (g.met.D.At.Source.are_bytes c.args.source told)) (c.in-Ok.ensures.opened told))
-    c.in-Ok.ensures.granted refl c.in-Ok.ensures.limit (ap sparse_list (c.sparse_pieces.ensures.content told))
+    c.in-Ok.ensures.granted refl c.in-Ok.ensures.limit (ap sparse_list (c.sparse_pieces.ensures.reads.content told))
     (c.cut_pieces.ensures.done t)
 
 pub returns-in-Ok-clause-refused : goal.returns-in-Ok-clause-refused
@@ -22,7 +22,7 @@ returns-in-Ok-clause-refused g c = λ t.
     if_err c.cut_pieces.result _ _ (λ e why.
     stop_of e.fault None size size c.args.order.limit _ (sparse_list x) _ c.args.order.prefix.now x _ _ _ _ _ _
     (sparse_image _ _ _ x (is_so x (g.met.D.At.Source.are_bytes c.args.source told)) (c.in-Ok.ensures.opened told))
-    refl c.in-Ok.ensures.limit (ap sparse_list (c.sparse_pieces.ensures.content told)) why)
+    refl c.in-Ok.ensures.limit (ap sparse_list (c.sparse_pieces.ensures.reads.content told)) why)
     (c.cut_pieces.ensures.refused t)
 
 pub returns-in-Err-clause-refused : goal.returns-in-Err-clause-refused

@@ -1,22 +1,31 @@
 use Rattle.std.proofs.Common.{arith}
-use Rattle.image_bodies.proofs.Answered.{broken, outside}
+use Rattle.image_bodies.proofs.Answered.{broken, outside, written}
 use Rattle.image_bodies.proofs.Counted.{fails_raw}
 use Rattle.image_bodies.proofs.laying.lay_image.Goals as goal
 
 pub returns-in-Err-clause-broken : goal.returns-in-Err-clause-broken
-returns-in-Err-clause-broken g c = broken _ _ c.requires.empty c.in-Err.ensures.grows.unfinished
+returns-in-Err-clause-broken g c = broken _ _ c.requires.ready.empty c.in-Err.ensures.grows.unfinished
 
-pub returns-in-Ok-clause-fails : goal.returns-in-Ok-clause-fails
-returns-in-Ok-clause-fails g c = record {
-  outside = λ t. tt;
-  clean = omega (arith, c.in-Ok.ensures.reads.clean, c.in-Ok.ensures.writes.clean);
-  cause = λ t. tt;
+pub returns-in-Ok-clause-lays : goal.returns-in-Ok-clause-lays
+returns-in-Ok-clause-lays g c = record {
+  written = λ t. written _ _ _ _ _ _ c.requires.ready.empty c.requires.ready.fits.most (c.in-Ok.ensures.chunks t)
+      c.in-Ok.ensures.written.long (c.in-Ok.ensures.whole t);
+  fails = record {
+    outside = λ t. tt;
+    clean = omega (arith, c.in-Ok.ensures.does.reads.clean, c.in-Ok.ensures.does.writes.clean);
+    cause = λ t. tt;
+  };
 }
 
-pub returns-in-Err-clause-fails : goal.returns-in-Err-clause-fails
-returns-in-Err-clause-fails g c = record {
-  outside = λ t. outside _ _ _ _ _ _ _ _ t c.requires.fits.sized c.requires.fits.few c.in-Err.ensures.cause;
-  clean = tt;
-  cause = λ t. fails_raw _ _ _ _ _ _ _ _ t c.requires.fits.sized c.requires.fits.few c.in-Err.ensures.reads.faults
-      c.in-Err.ensures.writes.faults c.in-Err.ensures.cause;
-}
+pub returns-in-Err-clause-lays : goal.returns-in-Err-clause-lays
+returns-in-Err-clause-lays g c =
+    let e = c.in-Err.ensures.does in
+    let fits = c.requires.ready.fits in
+    record {
+      written = λ t. tt;
+      fails = record {
+        outside = λ t. outside _ _ _ _ _ _ _ _ t fits.sized fits.few e.cause;
+        clean = tt;
+        cause = λ t. fails_raw _ _ _ _ _ _ _ _ t fits.sized fits.few e.reads.faults e.writes.faults e.cause;
+      };
+    }

@@ -1,19 +1,32 @@
 use Rattle.std.proofs.Common.{arith}
-use Rattle.image_bodies.proofs.Answered.{outside}
+use Rattle.image_bodies.proofs.Answered.{outside, written}
 use Rattle.image_bodies.proofs.Counted.{fails_raw}
 use Rattle.image_bodies.proofs.laying.write_image.Goals as goal
 
-pub returns-in-Ok-clause-fails : goal.returns-in-Ok-clause-fails
-returns-in-Ok-clause-fails g c = record {
-  outside = λ t. tt;
-  clean = omega (arith, c.in-Ok.ensures.reads.clean, c.in-Ok.ensures.writes.clean);
-  cause = λ t. tt;
+pub returns-in-Ok : goal.returns-in-Ok
+returns-in-Ok g c = record {
+  lays = record {
+    written = λ t. written _ _ _ _ _ _ c.requires.ready.empty c.requires.ready.fits.most (c.in-Ok.ensures.told t).chunks
+        c.in-Ok.ensures.sparse.long (c.in-Ok.ensures.told t).whole;
+    fails = record {
+      outside = λ t. tt;
+      clean = omega (arith, c.in-Ok.ensures.does.reads.clean, c.in-Ok.ensures.does.writes.clean);
+      cause = λ t. tt;
+    };
+  };
 }
 
-pub returns-in-Err-clause-fails : goal.returns-in-Err-clause-fails
-returns-in-Err-clause-fails g c = record {
-  outside = λ t. outside _ _ _ _ _ _ _ _ t c.requires.fits.sized c.requires.fits.few c.in-Err.ensures.cause;
-  clean = tt;
-  cause = λ t. fails_raw _ _ _ _ _ _ _ _ t c.requires.fits.sized c.requires.fits.few c.in-Err.ensures.reads.faults
-      c.in-Err.ensures.writes.faults c.in-Err.ensures.cause;
-}
+pub returns-in-Err : goal.returns-in-Err
+returns-in-Err g c =
+    let e = c.in-Err.ensures.does in
+    let fits = c.requires.ready.fits in
+    record {
+      lays = record {
+        written = λ t. tt;
+        fails = record {
+          outside = λ t. outside _ _ _ _ _ _ _ _ t fits.sized fits.few e.cause;
+          clean = tt;
+          cause = λ t. fails_raw _ _ _ _ _ _ _ _ t fits.sized fits.few e.reads.faults e.writes.faults e.cause;
+        };
+      };
+    }

@@ -13,7 +13,7 @@ returns g c =
           record {
             holds = holds_piece _ _ _ _ _ _ _ _ (c.write_next-answer.ensures.laid told) c.ended.ensures.done
                 (c.ended.ensures.ended t);
-            closed = beside_answer _ _ _ _ _ _ _ _ (c.requires.clean t) (c.ended.ensures.closed t) fails.clean
+            closed = beside_answer _ _ _ _ _ _ _ _ (c.requires.output.clean t) (c.ended.ensures.closed t) fails.clean
                 (fails.cause told) (answered _ _ c.ended.ensures.done);
             rest = c.ended.ensures.rest t;
             outside = search rules;

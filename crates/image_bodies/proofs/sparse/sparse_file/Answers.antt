@@ -14,8 +14,10 @@ pub returns-in_err-source-clause-left : goal.returns-in_err-source-clause-left
 returns-in_err-source-clause-left g c = λ t. record {
   synced = search rules;
   others = untouched (c.in_err-source.ensures.world t);
+  input = λ f there. ap (λ w. w.holds f) (c.in_err-source.ensures.world t);
   closed = ap (λ k. k.output) (c.in_err-source.ensures.kept t) ∙ (c.requires.first t).output;
   whole = λ o. part_same _ _ _ _ _ (c.in_err-source.ensures.world t);
+  clean = search rules;
 }
 
 -- it has no such blocks
@@ -39,37 +41,32 @@ returns-in_err-image-clause-left g c = λ t. record {
   synced = search rules;
   others = only_behind _ _ _ _ _ _ _ _ (c.in_ok-source.ensures.opened t) (c.in_ok-source.ensures.world t)
       (c.in_err-image.ensures.only t);
+  input = kept_behind _ _ _ _ _ _ _ _ (c.in_ok-source.ensures.opened t) (c.in_ok-source.ensures.world t)
+      (c.in_err-image.ensures.only t);
   closed = ap (λ k. k.output) (c.in_err-image.ensures.kept t) ∙ none_open _ _ _ _ _ (c.in_ok-source.ensures.opened t)
       (c.requires.first t).output;
   whole = λ o. part_emptied (path_of c.args.input) (path_out c.args.output) _ (g.D.Disk.world c.args.disk.now)
       (g.D.Disk.world c.source.new.self) (g.D.Disk.world c.image.new.self) (c.in_ok-source.ensures.world t)
       (c.in_err-image.ensures.empties t);
+  clean = search rules;
 }
-
-pub returns-in_err-image-clause-input : goal.returns-in_err-image-clause-input
-returns-in_err-image-clause-input g c = λ t.
-    kept_behind _ _ _ _ _ _ _ _ (c.in_ok-source.ensures.opened t) (c.in_ok-source.ensures.world t)
-    (c.in_err-image.ensures.only t)
 
 -- the image cannot be written
 
 pub returns-in-Err-write_whole-clause-left : goal.returns-in-Err-write_whole-clause-left
 returns-in-Err-write_whole-clause-left g c = λ t.
     let made = c.in_ok-image.ensures.created t in
+    let only = only_written _ _ _ _ _ _ made (c.in-Err-write_whole.ensures.writes t).rest in
     record {
       synced = tt;
-      others = only_behind _ _ _ _ _ _ _ _ (c.in_ok-source.ensures.opened t) (c.in_ok-source.ensures.world t)
-          (only_written _ _ _ _ _ _ made (c.in-Err-write_whole.ensures.writes t).rest);
+      others = only_behind _ _ _ _ _ _ _ _ (c.in_ok-source.ensures.opened t) (c.in_ok-source.ensures.world t) only;
+      input = kept_behind _ _ _ _ _ _ _ _ (c.in_ok-source.ensures.opened t) (c.in_ok-source.ensures.world t) only;
       closed = ap (λ k. k.output) (c.in-Err-write_whole.ensures.writes t).closed.closed;
       whole = λ o. part_left _ _ _ _ _ _ _ _ _ _ _ _ c.in-Ok.ensures.size (c.in_ok-source.ensures.opened t) made
           (c.in-Err-write_whole.ensures.writes t).rest
           (c.in-Err-write_whole.ensures.broken t (c.in_ok-image.ensures.kind t ∙ o));
+      clean = tt;
     }
-
-pub returns-in-Err-write_whole-clause-input : goal.returns-in-Err-write_whole-clause-input
-returns-in-Err-write_whole-clause-input g c = λ t.
-    kept_behind _ _ _ _ _ _ _ _ (c.in_ok-source.ensures.opened t) (c.in_ok-source.ensures.world t)
-    (only_written _ _ _ _ _ _ (c.in_ok-image.ensures.created t) (c.in-Err-write_whole.ensures.writes t).rest)
 
 pub returns-in-Err-write_whole-clause-refused : goal.returns-in-Err-write_whole-clause-refused
 returns-in-Err-write_whole-clause-refused g c = λ t.
@@ -85,13 +82,7 @@ returns-in-Err-printed-clause-left g c = λ t.
     let made = c.in_ok-image.ensures.created t in
     left_whole _ _ _ _ _ _ c.in-Ok-write_whole.end.0 _ _ _ _ _ _ _ _ _ c.in-Ok.ensures.size
     (c.in_ok-source.ensures.opened t) (c.in_ok-source.ensures.world t) made (c.in-Ok-write_whole.ensures.writes t).holds
-    (c.in-Ok-write_whole.ensures.writes t).rest (c.in-Ok-write_whole.ensures.writes t).closed
-    tt
-
-pub returns-in-Err-printed-clause-input : goal.returns-in-Err-printed-clause-input
-returns-in-Err-printed-clause-input g c = λ t.
-    kept_behind _ _ _ _ _ _ _ _ (c.in_ok-source.ensures.opened t) (c.in_ok-source.ensures.world t)
-    (only_written _ _ _ _ _ _ (c.in_ok-image.ensures.created t) (c.in-Ok-write_whole.ensures.writes t).rest)
+    (c.in-Ok-write_whole.ensures.writes t).rest (c.in-Ok-write_whole.ensures.writes t).closed tt tt
 
 pub returns-in-Err-printed-clause-refused : goal.returns-in-Err-printed-clause-refused
 returns-in-Err-printed-clause-refused g c = λ t.
@@ -112,16 +103,8 @@ returns-in-Ok-printed-clause-left g c = λ t.
     (c.in-Ok-write_whole.ensures.writes t).rest (c.in-Ok-write_whole.ensures.writes t).closed
     (synced_behind _ _ _ _ _ _ _ _ _ _ (c.in_ok-source.ensures.opened t) made
     (c.in-Ok-write_whole.ensures.writes t).closed.failures (c.in-Ok-write_whole.ensures.writes t).closed.closed)
-
-pub returns-in-Ok-printed-clause-input : goal.returns-in-Ok-printed-clause-input
-returns-in-Ok-printed-clause-input g c = λ t.
-    kept_behind _ _ _ _ _ _ _ _ (c.in_ok-source.ensures.opened t) (c.in_ok-source.ensures.world t)
-    (only_written _ _ _ _ _ _ (c.in_ok-image.ensures.created t) (c.in-Ok-write_whole.ensures.writes t).rest)
-
-pub returns-in-Ok-printed-clause-clean : goal.returns-in-Ok-printed-clause-clean
-returns-in-Ok-printed-clause-clean g c = λ t.
-    clean_behind _ _ _ _ _ _ _ _ _ _ (c.in_ok-source.ensures.opened t) (c.in_ok-image.ensures.created t)
-    (c.in-Ok-write_whole.ensures.writes t).closed
+    (clean_behind _ _ _ _ _ _ _ _ _ _ (c.in_ok-source.ensures.opened t) made
+    (c.in-Ok-write_whole.ensures.writes t).closed)
 
 pub returns-in-Ok-printed-clause-done : goal.returns-in-Ok-printed-clause-done
 returns-in-Ok-printed-clause-done g c = λ t.

@@ -1,4 +1,4 @@
-use Rattle.std.proofs.Common.{◌≡◌, ◌+◌, None, sym, subst}
+use Rattle.std.proofs.Common.{rules, ◌≡◌, ◌+◌, None, sym, subst}
 use Rattle.image_bodies.specs.Cutting.{IsPiecePath, piece_path, untold}
 use Rattle.image_bodies.proofs.Wholes.{cuts_between, left_between, left_failed, stops_between, stops_host}
 use Rattle.image_bodies.proofs.turns.cut_pieces.Goals as goal
@@ -6,36 +6,44 @@ use Rattle.image_bodies.proofs.turns.cut_pieces.Goals as goal
 pub returns-in-Err-clause-refused : goal.returns-in-Err-clause-refused
 returns-in-Err-clause-refused g c = λ t.
     stops_host _ c.in-Err.refusal.fault c.args.prefix.now _ _ _ _ _ (c.requires.fresh t).one
-    (c.refuse_image_as_piece.ensures.fails t) (c.refuse_image_as_piece.ensures.world t) c.into.ensures
+    (c.refuse_image_as_piece.ensures.keeps t).fails (c.refuse_image_as_piece.ensures.keeps t).world c.into.ensures
     (c.in-Err.ensures.refused t)
 
-pub returns-in-Err-clause-left : goal.returns-in-Err-clause-left
-returns-in-Err-clause-left g c = λ t.
-    left_failed _ _ _ _ _ (c.requires.fresh t).one (c.refuse_image_as_piece.ensures.fails t)
-    (c.refuse_image_as_piece.ensures.world t)
+pub returns-in-Err-clause-leaves : goal.returns-in-Err-clause-leaves
+returns-in-Err-clause-leaves g c = λ t. record {
+  left = left_failed _ _ _ _ _ (c.requires.fresh t).one (c.refuse_image_as_piece.ensures.keeps t).fails
+      (c.refuse_image_as_piece.ensures.keeps t).world;
+  clean = tt;
+}
 
-pub returns-in-Err-answer-clause-left : goal.returns-in-Err-answer-clause-left
-returns-in-Err-answer-clause-left g c = λ t.
-    left_between (IsPiecePath c.args.prefix.now) _ _ _ _ _ _ _ _ _ (c.in-Ok.ensures.held t)
-    (c.refuse_image_as_piece.ensures.world t) (c.write_pieces-source.ensures.left t) (c.let_go_source.ensures.held t)
-    (c.let_go_source.ensures.world t)
+pub returns-in-Err-answer-clause-leaves : goal.returns-in-Err-answer-clause-leaves
+returns-in-Err-answer-clause-leaves g c = λ t. record {
+  left = left_between (IsPiecePath c.args.prefix.now) _ _ _ _ _ _ _ _ _ (c.in-Ok.ensures.held t)
+      (c.refuse_image_as_piece.ensures.keeps t).world (c.write_pieces-source.ensures.left t)
+      (c.let_go_source.ensures.held t) (c.let_go_source.ensures.world t);
+  clean = tt;
+}
 
-pub returns-in-Ok-tell_all-clause-left : goal.returns-in-Ok-tell_all-clause-left
-returns-in-Ok-tell_all-clause-left g c = λ t.
-    left_between (IsPiecePath c.args.prefix.now) _ _ _ _ _ _ _ _ _ (c.in-Ok.ensures.held t)
-    (c.refuse_image_as_piece.ensures.world t) (c.write_pieces-source.ensures.left t) (c.let_go_source.ensures.held t)
-    (c.let_go_source.ensures.world t)
+pub returns-in-Ok-tell_all-clause-leaves : goal.returns-in-Ok-tell_all-clause-leaves
+returns-in-Ok-tell_all-clause-leaves g c = λ t. record {
+  left = left_between (IsPiecePath c.args.prefix.now) _ _ _ _ _ _ _ _ _ (c.in-Ok.ensures.held t)
+      (c.refuse_image_as_piece.ensures.keeps t).world (c.write_pieces-source.ensures.left t)
+      (c.let_go_source.ensures.held t) (c.let_go_source.ensures.world t);
+  clean = search rules;
+}
 
-pub returns-in-Err-tell_all-clause-left : goal.returns-in-Err-tell_all-clause-left
-returns-in-Err-tell_all-clause-left g c = λ t.
-    left_between (IsPiecePath c.args.prefix.now) _ _ _ _ _ _ _ _ _ (c.in-Ok.ensures.held t)
-    (c.refuse_image_as_piece.ensures.world t) (c.write_pieces-source.ensures.left t) (c.let_go_source.ensures.held t)
-    (c.let_go_source.ensures.world t)
+pub returns-in-Err-tell_all-clause-leaves : goal.returns-in-Err-tell_all-clause-leaves
+returns-in-Err-tell_all-clause-leaves g c = λ t. record {
+  left = left_between (IsPiecePath c.args.prefix.now) _ _ _ _ _ _ _ _ _ (c.in-Ok.ensures.held t)
+      (c.refuse_image_as_piece.ensures.keeps t).world (c.write_pieces-source.ensures.left t)
+      (c.let_go_source.ensures.held t) (c.let_go_source.ensures.world t);
+  clean = tt;
+}
 
 pub returns-in-Err-answer-clause-refused : goal.returns-in-Err-answer-clause-refused
 returns-in-Err-answer-clause-refused g c = λ t.
     stops_between c.in-Err-answer.refusal.fault c.args.prefix.now _ _ _ _ _ _ _ _ _ _ _ (c.in-Ok.ensures.held t)
-    (c.refuse_image_as_piece.ensures.world t) (c.requires.fresh t).clean
+    (c.refuse_image_as_piece.ensures.keeps t).world (c.requires.fresh t).clean
     (rw c.in-Err-answer.is at (c.write_pieces-source.ensures.refused t)) (c.let_go_source.ensures.held t)
     (c.let_go_source.ensures.world t)
 
@@ -44,7 +52,7 @@ returns-in-Ok-tell_all-clause-done g c = λ t. record {
   count = c.in-Ok-answer.files.count;
   all = rw c.in-Ok-answer.is at (c.write_pieces-source.ensures.all t);
   cuts = (cuts_between c.args.prefix.now _ c.in-Ok-answer.files.count c.in-Ok-answer.files.count _ _ _ _ _ _ _ _ _
-      (c.in-Ok.ensures.held t) (c.refuse_image_as_piece.ensures.world t) (rw c.in-Ok-answer.is at (c.write_pieces-source.ensures.done t))
+      (c.in-Ok.ensures.held t) (c.refuse_image_as_piece.ensures.keeps t).world (rw c.in-Ok-answer.is at (c.write_pieces-source.ensures.done t))
       (c.let_go_source.ensures.held t) (c.let_go_source.ensures.world t));
   shown = λ few none. (
     c.write_pieces-source.new.report,
@@ -60,5 +68,5 @@ returns-in-Err-tell_all-clause-refused g c = λ t.
     untold c.in-Err-tell_all.refusal.fault c.into-in-Err-tell_all.ensures c.in-Ok-answer.files.count
     (rw c.in-Ok-answer.is at c.write_pieces-source.ensures.some) (cuts_between c.args.prefix.now _
     c.in-Ok-answer.files.count c.in-Ok-answer.files.count _ _ _ _ _ _ _ _ _ (c.in-Ok.ensures.held t)
-    (c.refuse_image_as_piece.ensures.world t) (rw c.in-Ok-answer.is at (c.write_pieces-source.ensures.done t))
+    (c.refuse_image_as_piece.ensures.keeps t).world (rw c.in-Ok-answer.is at (c.write_pieces-source.ensures.done t))
     (c.let_go_source.ensures.held t) (c.let_go_source.ensures.world t))

@@ -14,20 +14,20 @@ pieces-init g c = record {
   runs = refl;
   limit = refl;
   kept = λ t. refl;
-  told = λ t. c.requires.ready.ready.told t;
+  told = λ t. c.requires.ready.ready.ready.told t;
   stands = record {
-    where_is = inl c.requires.ready.between;
+    where_is = inl c.requires.ready.ready.between;
     inside = g.met.B.BlockRuns.bounded c.args.pieces.cutter.runs c.args.pieces.cutter.start
         c.args.pieces.cutter.sound.within;
-    going = λ between. inl c.requires.first;
-    some = λ done. absurd (not_done _ c.requires.ready.between done);
+    going = λ between. inl c.requires.ready.first;
+    some = λ done. absurd (not_done _ c.requires.ready.ready.between done);
   };
-  counted = c.new-files.ensures.none ∙ sym c.requires.first;
+  counted = c.new-files.ensures.none ∙ sym c.requires.ready.first;
   named = c.new-files.ensures.begins;
   cuts = λ t. subst (λ (n : ℕ). CutsSoFar c.args.prefix.now (pieces c.args.pieces.cutter.limit
       (g.B.BlockRuns.size c.args.pieces.cutter.runs) (g.B.BlockRuns.list c.args.pieces.cutter.runs
       (g.D.At.Source.content c.args.source))) n n (g.D.Disk.held c.args.disk.now) (g.D.Disk.held c.args.disk.now)
-      (g.D.Disk.world c.args.disk.now) (g.D.Disk.world c.args.disk.now)) (sym c.requires.first)
+      (g.D.Disk.world c.args.disk.now) (g.D.Disk.world c.args.disk.now)) (sym c.requires.ready.first)
       (cuts_none _ _ 0 _ _ (c.requires.one t));
   fails = λ t. refl;
 }
@@ -73,7 +73,7 @@ put_piece-answer-requires-clause-ready g c =
       ready = record {
         opened = λ t. subst (λ r. g.B.BlockRuns.opened r (g.D.At.Source.content c.pieces.source)) (sym i.runs)
             (subst (λ x. g.B.BlockRuns.opened c.args.pieces.cutter.runs x) (sym (i.kept t))
-            (c.requires.ready.ready.opened t));
+            (c.requires.ready.ready.ready.opened t));
         told = λ t. rw (sym i.runs, sym (i.kept t)) at (i.told t);
       };
     }

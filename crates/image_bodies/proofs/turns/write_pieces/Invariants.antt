@@ -1,7 +1,6 @@
-use Rattle.std.proofs.Common.{◌≡◌, ◌≤◌, ◌<◌, ◌+◌, ◌-◌, ◌⊎◌}
+use Rattle.std.proofs.Common.{◌≡◌, ◌+◌, ◌-◌}
 use Rattle.std.specs.Prelude.{IsTrue}
 use Rattle.abt_pieces.specs.Cutter.{ToldCutter}
-use Rattle.abt_pieces.specs.declared.stage.Stage.TheVariants.{Between, Done}
 use Rattle.abt_sparse.specs.Pieces.{pieces}
 use Rattle.image_bodies.specs.Cutting.{CutsSoFar}
 use Rattle.image_bodies.proofs.Cuts.{StandsNow, left_of}

@@ -6,7 +6,7 @@ use Rattle.image_bodies.proofs.writing.write_over.Goals as goal
 pub returns-in-Err-finish_image-clause-broken : goal.returns-in-Err-finish_image-clause-broken
 returns-in-Err-finish_image-clause-broken g c = λ t.
     rw (c.let_go_source.ensures.held t) at
-    (left_whole _ c.args.blocks.size (g.D.At.Source.content c.args.source) _ _ _ (c.in-Ok.ensures.written
+    (left_whole _ c.args.blocks.size (g.D.At.Source.content c.args.source) _ _ _ (c.in-Ok.ensures.lays.written
     (g.met.D.Disk.source_told t)) (c.in-Err-finish_image.ensures.left t))
 
 pub returns-in-Err-finish_image-clause-writes : goal.returns-in-Err-finish_image-clause-writes
@@ -27,11 +27,11 @@ returns-in-Err-clause-broken g c = λ t.
 pub returns-in-Err-clause-writes : goal.returns-in-Err-clause-writes
 returns-in-Err-clause-writes g c = λ t.
     let told = g.met.D.Disk.source_told t in
-    let fails = c.in-Err.ensures.fails in
+    let fails = c.in-Err.ensures.lays.fails in
     record {
       holds = tt;
       closed = closes_given_up _ _ _ _ _ _ _ (c.let_go_source.ensures.held t) (c.stopped.ensures.closed t)
-          (omega (arith, fails.cause told, c.requires.read t, c.requires.clean t));
+          (omega (arith, fails.cause told, c.requires.ready.image.read t, c.requires.ready.output.clean t));
       rest = rw (c.let_go_source.ensures.held t, c.let_go_source.ensures.world t) at (c.stopped.ensures.closed t).rest;
       outside = c.stopped.ensures.outside (fails.outside told);
     }

@@ -4,11 +4,8 @@ use Rattle.info_bodies.proofs.in_memory.info_in_memory.Goals as goal
 pub returns-clause-done : goal.returns-clause-done
 returns-clause-done c = c.info_file.ensures.done refl
 
-pub returns-clause-clean : goal.returns-clause-clean
-returns-clause-clean c = c.info_file.ensures.clean refl
-
-pub returns-clause-world : goal.returns-clause-world
-returns-clause-world c = c.info_file.ensures.world refl
+pub returns-clause-leaves : goal.returns-clause-leaves
+returns-clause-leaves c = c.info_file.ensures.leaves
 
 pub returns-clause-begun : goal.returns-clause-begun
 returns-clause-begun c = c.info_file.ensures.begun refl

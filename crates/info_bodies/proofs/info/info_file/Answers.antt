@@ -14,22 +14,25 @@ pub returns-in-Ok-tell_image-clause-done : goal.returns-in-Ok-tell_image-clause-
 returns-in-Ok-tell_image-clause-done g c = λ t.
     tells_file _ _ _ _ _ _ _ _ _ (c.in-Ok.ensures.opened t) (c.in-Ok-tell_image.ensures.done (g.met.D.Disk.source_told t))
 
-pub returns-in-Ok-tell_image-clause-clean : goal.returns-in-Ok-tell_image-clause-clean
-returns-in-Ok-tell_image-clause-clean g c = λ t.
-    none_failed _ _ _ _ _ _ _ _ (c.in-Ok.ensures.opened t) (c.in-Ok.ensures.clean t) c.in-Ok-tell_image.ensures.clean
-    (c.let_go_source.ensures.held t)
-
-pub returns-in-Ok-tell_image-clause-world : goal.returns-in-Ok-tell_image-clause-world
-returns-in-Ok-tell_image-clause-world g c = λ t. c.let_go_source.ensures.world t ∙ c.in-Ok.ensures.world t
+pub returns-in-Ok-tell_image-clause-leaves : goal.returns-in-Ok-tell_image-clause-leaves
+returns-in-Ok-tell_image-clause-leaves g c = record {
+  world = λ t. c.let_go_source.ensures.world t ∙ c.in-Ok.ensures.world t;
+  clean = λ t.
+      none_failed _ _ _ _ _ _ _ _ (c.in-Ok.ensures.opened t) (c.in-Ok.ensures.clean t) c.in-Ok-tell_image.ensures.clean
+      (c.let_go_source.ensures.held t);
+}
 
 pub returns-in-Ok-tell_image-clause-begun : goal.returns-in-Ok-tell_image-clause-begun
 returns-in-Ok-tell_image-clause-begun g c = λ t.
     begun_same _ _ _ _ _ _ _ (c.in-Ok.ensures.opened t) (c.let_go_source.ensures.held t)
 
 -- it was not
-pub returns-in-Err-tell_image-clause-world : goal.returns-in-Err-tell_image-clause-world
-returns-in-Err-tell_image-clause-world g c = λ t.
-    c.let_go_source-in-Err-tell_image.ensures.world t ∙ c.in-Ok.ensures.world t
+pub returns-in-Err-tell_image-clause-leaves : goal.returns-in-Err-tell_image-clause-leaves
+returns-in-Err-tell_image-clause-leaves g c = record {
+  world = λ t.
+      c.let_go_source-in-Err-tell_image.ensures.world t ∙ c.in-Ok.ensures.world t;
+  clean = λ t. tt;
+}
 
 pub returns-in-Err-tell_image-clause-begun : goal.returns-in-Err-tell_image-clause-begun
 returns-in-Err-tell_image-clause-begun g c = λ t.

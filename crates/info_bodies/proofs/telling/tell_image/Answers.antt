@@ -1,5 +1,6 @@
 use Rattle.std.proofs.Common.{rules}
-use Rattle.info_bodies.proofs.Told.{as_told, checked, flawed, info_told, informed, sound, text_alone, text_before, text_checked}
+use Rattle.info_bodies.proofs.Told.{as_told, checked, flawed, info_told, informed, sound, text_alone, text_before}
+use Rattle.info_bodies.proofs.Told.{text_checked}
 use Rattle.info_bodies.proofs.telling.tell_image.Goals as goal
 
 pub returns-in-Err-clause-refused : goal.returns-in-Err-clause-refused
@@ -7,7 +8,8 @@ returns-in-Err-clause-refused g c = λ t.
     info_told _ _ _ _ c.args.report.now (record c.args.report.now { out = c.report_info.new.out }) _ c.in-Err.fault
     c.refused.ensures
     (informed c.in-Err.fault _ c.args.with_check _ _ _ c.args.report.now
-    (record c.args.report.now { out = c.report_info.new.out }) (c.in-Err.ensures.refused t) c.in-Err.ensures.failed)
+    (record c.args.report.now { out = c.report_info.new.out }) (c.in-Err.ensures.refused t)
+    c.in-Err.ensures.leaves.failed)
 
 pub returns-then-not-with_check-clause-done : goal.returns-then-not-with_check-clause-done
 returns-then-not-with_check-clause-done g c = λ t.
@@ -21,14 +23,17 @@ returns-in-Ok-tell_check-clause-done g c = λ t.
     text_checked _ c.args.with_check _ c.args.report.now (record c.args.report.now { out = c.report_info.new.out })
     c.tell_check.new.report (first_of (search (rules, c.if-not-with_check.false), cc))
     (as_told _ _ _ _ _ c.notation_of.ensures (c.in-Ok.ensures.printed t))
-    (sound _ _ _ (g.met.S.Source.are_bytes c.args.source.now t) reported.0.has reported.1 c.in-Ok-tell_check.ensures.good)
+    (sound _ _ _ (g.met.S.Source.are_bytes c.args.source.now t) reported.0.has reported.1
+    c.in-Ok-tell_check.ensures.good)
 
 pub returns-in-Err-tell_check-clause-refused : goal.returns-in-Err-tell_check-clause-refused
 returns-in-Err-tell_check-clause-refused g c = λ t.
     let reported = c.in-Ok.ensures.reported t in
     checked _ _ c.args.with_check c.in-Ok.told.verdict _ _ _ c.args.report.now c.tell_check.new.report
-    c.in-Err-tell_check.refusal.fault (first_of (search (rules, c.if-not-with_check.false), cc)) c.in-Ok.ensures.reads
-    (text_before _ _ c.args.report.now (record c.args.report.now { out = c.report_info.new.out }) c.tell_check.new.report
+    c.in-Err-tell_check.refusal.fault (first_of (search (rules, c.if-not-with_check.false), cc))
+    c.in-Ok.ensures.leaves.reads
+    (text_before _ _ c.args.report.now (record c.args.report.now { out = c.report_info.new.out })
+    c.tell_check.new.report
     (as_told _ _ _ _ _ c.notation_of.ensures (c.in-Ok.ensures.printed t)))
     (λ bad. flawed _ _ _ (g.met.S.Source.are_bytes c.args.source.now t) reported.0.has reported.1 bad)
     c.in-Err-tell_check.ensures.refused

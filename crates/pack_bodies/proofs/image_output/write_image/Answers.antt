@@ -1,9 +1,11 @@
 use Rattle.std.proofs.Common.{refl, ap, ◌∙◌}
 use Rattle.abt_output.specs.Shows.{unprinted}
 use Rattle.abt_disk.proofs.Worlds.{only_written}
+use Rattle.pack_bodies.specs.Sources.{faults_of}
 use Rattle.pack_bodies.specs.Writing.{failed, untold}
-use Rattle.pack_bodies.proofs.Closes.{clean_created, closed_created, failed_created, failed_once, left_unopened, synced_created}
+use Rattle.pack_bodies.proofs.Closes.{closed_created, failed_created, failed_once, left_unopened}
 use Rattle.pack_bodies.proofs.Outputs.{host_outside, judged_stops, lays, left_done, part_emptied, part_left}
+use Rattle.pack_bodies.proofs.Outputs.{ready_image}
 use Rattle.pack_bodies.proofs.image_output.write_image.Goals as goal
 
 -- packing refuses it
@@ -15,6 +17,15 @@ pub returns-in-Err-clause-refused : goal.returns-in-Err-clause-refused
 returns-in-Err-clause-refused g c = λ t.
     judged_stops _ _ _ _ _ _ _ _ (c.in-Err.ensures.refused (g.met.D.Disk.source_told t)) c.refuse.ensures refl refl
 
+-- what the writing asks for
+
+pub write_to-requires : goal.write_to-requires
+write_to-requires g c = record {
+  ready = ready_image (faults_of g.D.At.Source.read_faults) c.in-Ok-image.image g.D.Image.Output.written
+      g.D.Image.Output.write_faults g.D.Onto.Output.written g.D.Onto.Output.write_faults
+      (record { accepted = c.in-Ok.ensures.accepted; nothing = c.requires.nothing }) c.requires.unread c.in-Ok-image.ensures.empty c.in-Ok-image.ensures.clean;
+}
+
 -- OUT cannot be opened
 
 pub returns-in-Err-image-clause-left : goal.returns-in-Err-image-clause-left
@@ -22,6 +33,7 @@ returns-in-Err-image-clause-left g c = λ t. record {
   others = c.in-Err-image.ensures.only t;
   closed = ap (λ k. k.output) (c.in-Err-image.ensures.kept t) ∙ c.requires.one t;
   whole = λ o file at. part_emptied _ _ _ (c.in-Err-image.ensures.empties t file at);
+  clean = tt;
   synced = tt;
 }
 
@@ -39,7 +51,8 @@ returns-in-Err-write_to-clause-left g c = λ t.
       others = only_written _ _ _ _ _ _ made wrote.rest;
       closed = closed_created _ _ _ wrote.closed;
       whole = λ o. part_left _ _ _ _ _ _ _ made wrote.rest
-          (c.in-Err-write_to.ensures.broken t (c.in-Ok-image.ensures.kind t ∙ o));
+          (wrote.broken (c.in-Ok-image.ensures.kind t ∙ o));
+      clean = tt;
       synced = tt;
     }
 
@@ -53,7 +66,7 @@ returns-in-Err-write_to-clause-refused g c = λ t.
 pub returns-in-Err-printed-clause-left : goal.returns-in-Err-printed-clause-left
 returns-in-Err-printed-clause-left g c = λ t.
     let wrote = c.in-Ok-write_to.ensures.writes t in
-    left_done _ _ _ _ _ _ _ _ _ _ (c.in-Ok-image.ensures.created t) wrote.rest wrote.ended wrote.closed tt
+    left_done _ _ _ _ _ _ _ _ _ _ (c.in-Ok-image.ensures.created t) wrote.rest wrote.ended wrote.closed
 
 pub returns-in-Err-printed-clause-refused : goal.returns-in-Err-printed-clause-refused
 returns-in-Err-printed-clause-refused g c = λ t.
@@ -68,11 +81,6 @@ returns-in-Ok-printed-clause-left g c = λ t.
     let made = c.in-Ok-image.ensures.created t in
     let wrote = c.in-Ok-write_to.ensures.writes t in
     left_done _ _ _ _ _ _ _ _ _ _ made wrote.rest wrote.ended wrote.closed
-    (synced_created _ _ _ _ _ _ made wrote.closed)
-
-pub returns-in-Ok-printed-clause-clean : goal.returns-in-Ok-printed-clause-clean
-returns-in-Ok-printed-clause-clean g c = λ t.
-    clean_created _ _ _ _ _ _ (c.in-Ok-image.ensures.created t) (c.in-Ok-write_to.ensures.writes t).closed
 
 pub returns-in-Ok-printed-clause-done : goal.returns-in-Ok-printed-clause-done
 returns-in-Ok-printed-clause-done g c = λ t.

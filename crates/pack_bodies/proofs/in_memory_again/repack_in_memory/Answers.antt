@@ -4,9 +4,6 @@ use Rattle.pack_bodies.proofs.in_memory_again.repack_in_memory.Goals as goal
 pub returns-clause-done : goal.returns-clause-done
 returns-clause-done c = c.repack_file.ensures.done refl
 
-pub returns-clause-clean : goal.returns-clause-clean
-returns-clause-clean c = c.repack_file.ensures.clean refl
-
 pub returns-clause-inputs : goal.returns-clause-inputs
 returns-clause-inputs c = c.repack_file.ensures.inputs refl
 

@@ -10,10 +10,14 @@ returns-in-Err-clause-refused g c = λ t.
     host_image (path_of c.args.place) (g.D.Disk.world c.args.disk.now) _ _ _ _ c.into.ensures
     (source_failed _ _ (c.in-Err.ensures.kept t))
 
-pub returns-in-Err-clause-keeps : goal.returns-in-Err-clause-keeps
-returns-in-Err-clause-keeps g c = λ t. record {
-  world = c.in-Err.ensures.world t;
-  output = ap (λ k. k.output) (c.in-Err.ensures.kept t);
+pub returns-in-Err-clause-opens : goal.returns-in-Err-clause-opens
+returns-in-Err-clause-opens g c = record {
+  opened = λ t. tt;
+  unread = λ t. tt;
+  keeps = λ t. record {
+    world = c.in-Err.ensures.world t;
+    output = ap (λ k. k.output) (c.in-Err.ensures.kept t);
+  };
 }
 
 pub returns-in-Err-open-clause-refused : goal.returns-in-Err-open-clause-refused
@@ -27,22 +31,29 @@ returns-in-Err-open-clause-refused g c = λ t.
     (c.let_go_source.ensures.held t) failed)
     (λ none. absurd none)
 
-pub returns-in-Err-open-clause-keeps : goal.returns-in-Err-open-clause-keeps
-returns-in-Err-open-clause-keeps g c = λ t. record {
-  world = c.let_go_source.ensures.world t ∙ c.in-Ok.ensures.world t;
-  output = ap (λ k. k.output) (c.let_go_source.ensures.held t) ∙ ap (λ k. k.output) (c.in-Ok.ensures.opened t).taken;
+pub returns-in-Err-open-clause-opens : goal.returns-in-Err-open-clause-opens
+returns-in-Err-open-clause-opens g c = record {
+  opened = λ t. tt;
+  unread = λ t. tt;
+  keeps = λ t. record {
+    world = c.let_go_source.ensures.world t ∙ c.in-Ok.ensures.world t;
+    output = ap (λ k. k.output) (c.let_go_source.ensures.held t)
+        ∙ ap (λ k. k.output) (c.in-Ok.ensures.opened t).taken;
+  };
 }
 
-pub returns-in-Ok-open-clause-opened : goal.returns-in-Ok-open-clause-opened
-returns-in-Ok-open-clause-opened g c = λ t.
-    opens_as _ _ _ _ _ _ (c.in-Ok-open.ensures.reads.only.content (g.met.D.Disk.source_told t)) (c.in-Ok.ensures.opened t)
+pub returns-in-Ok-open-clause-opens : goal.returns-in-Ok-open-clause-opens
+returns-in-Ok-open-clause-opens g c =
+    let reads = c.in-Ok-open.ensures.reads.only in
+    record {
+      opened = λ t. opens_as _ _ _ _ _ _ (reads.content (g.met.D.Disk.source_told t)) (c.in-Ok.ensures.opened t);
+      unread = λ t. reads.clean ∙ c.in-Ok.ensures.clean t;
+      keeps = λ t. record {
+        world = c.in-Ok.ensures.world t;
+        output = ap (λ k. k.output) (c.in-Ok.ensures.opened t).taken;
+      };
+    }
 
 pub returns-in-Ok-open-clause-image : goal.returns-in-Ok-open-clause-image
 returns-in-Ok-open-clause-image g c = λ told.
     opened_as _ _ c.in-Ok-open.image (c.in-Ok-open.ensures.reads.only.content told) (c.in-Ok-open.ensures.opens told)
-
-pub returns-in-Ok-open-clause-keeps : goal.returns-in-Ok-open-clause-keeps
-returns-in-Ok-open-clause-keeps g c = λ t. record {
-  world = c.in-Ok.ensures.world t;
-  output = ap (λ k. k.output) (c.in-Ok.ensures.opened t).taken;
-}

@@ -18,7 +18,7 @@ loop-entry-preserved g c =
           made.specs;
       bytes = λ t. map_more (bytes_behind (at.content c.args.own.now.source) c.args.front) _ _ c.args.entries.now
           c.loop-entry.entry-index no_entry (search (rules, arith)) (i.bytes t) (made.bytes t);
-      unread = λ t. made.unread t ∙ i.unread t;
-      held = λ t. made.held t ∙ i.held t;
-      world = λ t. (made.keeps t).world ∙ i.world t;
+      unread = λ t. made.opens.unread t ∙ i.unread t;
+      held = λ t. made.opens.held t ∙ i.held t;
+      world = λ t. (made.opens.keeps t).world ∙ i.world t;
     }

@@ -6,7 +6,6 @@ use Rattle.boot_rules.specs.Carried.{IsTaken}
 use Rattle.pack_bodies.specs.Contents.{packed_image}
 use Rattle.pack_bodies.specs.Packing.{IsPackedBy}
 use Rattle.pack_bodies.specs.Sources.{content_of}
-use Rattle.pack_bodies.proofs.Openings.{failed_still}
 use Rattle.pack_bodies.proofs.Packs.{given_kind, keeps_given, left_behind, opens_kind, packed_by, packs}
 use Rattle.pack_bodies.proofs.Packs.{refuses_filling, refuses_words, refuses_writing, stops_kind}
 use Rattle.pack_bodies.proofs.Closes.{left_unopened}
@@ -30,7 +29,7 @@ contents_of-requires-clause-taken g c =
 
 pub write_image-requires-clause-one : goal.write_image-requires-clause-one
 write_image-requires-clause-one g c = λ t.
-    (c.in-Ok-contents_of.ensures.keeps t).output ∙ (c.requires.first t).output
+    (c.in-Ok-contents_of.ensures.fills.keeps t).output ∙ (c.requires.first t).output
 
 -- the words are wrong
 
@@ -47,24 +46,24 @@ returns-in-Err-clause-left g c = λ t. left_unopened _ _ _ _ _ _ _ _ (c.requires
 
 pub returns-in-Err-contents_of-clause-inputs : goal.returns-in-Err-contents_of-clause-inputs
 returns-in-Err-contents_of-clause-inputs g c = λ t path given f there.
-    ap (λ (u : World). u.holds f) (c.in-Err-contents_of.ensures.keeps t).world
+    ap (λ (u : World). u.holds f) (c.in-Err-contents_of.ensures.fills.keeps t).world
 
 pub returns-in-Err-contents_of-clause-left : goal.returns-in-Err-contents_of-clause-left
 returns-in-Err-contents_of-clause-left g c = λ t.
-    left_unopened _ _ _ _ _ _ _ _ ((c.in-Err-contents_of.ensures.keeps t).output ∙ (c.requires.first t).output)
-    (c.in-Err-contents_of.ensures.keeps t).world
+    left_unopened _ _ _ _ _ _ _ _ ((c.in-Err-contents_of.ensures.fills.keeps t).output ∙ (c.requires.first t).output)
+    (c.in-Err-contents_of.ensures.fills.keeps t).world
 
 pub returns-in-Err-contents_of-clause-refused : goal.returns-in-Err-contents_of-clause-refused
 returns-in-Err-contents_of-clause-refused g c = λ t.
-    refuses_filling _ _ _ _ _ _ _ (c.in-Err-contents_of.ensures.keeps t).world
+    refuses_filling _ _ _ _ _ _ _ (c.in-Err-contents_of.ensures.fills.keeps t).world
     (stops_kind _ _ _ _ _ _ _ _ c.in-Ok.ensures.kind (c.in-Err-contents_of.ensures.refused t))
 
 -- it is not written
 
 pub returns-in-Err-write_image-clause-inputs : goal.returns-in-Err-write_image-clause-inputs
 returns-in-Err-write_image-clause-inputs g c = λ t.
-    keeps_given c.args.command.now _ _ _ _ _ _ (c.in-Ok-contents_of.ensures.keeps t).world
-    (opens_kind _ _ _ _ _ _ c.in-Ok.ensures.kind (c.in-Ok-contents_of.ensures.opened t))
+    keeps_given c.args.command.now _ _ _ _ _ _ (c.in-Ok-contents_of.ensures.fills.keeps t).world
+    (opens_kind _ _ _ _ _ _ c.in-Ok.ensures.kind (c.in-Ok-contents_of.ensures.fills.opened t))
     (c.in-Err-write_image.ensures.left t).others
 
 pub returns-in-Err-write_image-clause-left : goal.returns-in-Err-write_image-clause-left
@@ -72,27 +71,27 @@ returns-in-Err-write_image-clause-left g c = λ t.
     left_behind _ _ _ _ g.D.Disk.is_over (IsPackedBy c.args.command.now (g.D.Disk.world c.args.disk.now))
     (packed_image (content_of g.D.At.Source.content) c.in-Ok-contents_of.contents) (g.D.Disk.world c.args.disk.now)
     (g.D.Disk.world c.contents_of.new.disk) (g.D.Disk.world c.write_image.new.disk) _ _ _ c.output_at-output.ensures
-    (c.in-Ok-contents_of.ensures.keeps t).world (c.in-Ok-contents_of.ensures.opened t)
+    (c.in-Ok-contents_of.ensures.fills.keeps t).world (c.in-Ok-contents_of.ensures.fills.opened t)
     (λ x e. packed_by (content_of g.D.At.Source.content) c.args.command.now (g.D.Disk.world c.args.disk.now) _
     c.in-Ok-contents_of.contents x (c.in-Ok.ensures.known refl)
     (given_kind _ _ _ _ _ c.in-Ok.ensures.kind c.in-Ok.ensures.given)
-    (c.in-Ok-contents_of.ensures.kind ∙ c.in-Ok.ensures.kind) (c.in-Ok-contents_of.ensures.asked t)
+    (c.in-Ok-contents_of.ensures.fills.kind ∙ c.in-Ok.ensures.kind) (c.in-Ok-contents_of.ensures.asked t)
     c.in-Ok-contents_of.ensures.alone e)
     (c.in-Err-write_image.ensures.left t)
 
 pub returns-in-Err-write_image-clause-refused : goal.returns-in-Err-write_image-clause-refused
 returns-in-Err-write_image-clause-refused g c = λ t.
     refuses_writing (content_of g.D.At.Source.content) c.args.command.now _ _ _ _ _ _ _ c.in-Ok-contents_of.contents
-    _ _ _ (c.in-Ok-contents_of.ensures.keeps t).world
-    (opens_kind _ _ _ _ _ _ c.in-Ok.ensures.kind (c.in-Ok-contents_of.ensures.opened t))
+    _ _ _ (c.in-Ok-contents_of.ensures.fills.keeps t).world
+    (opens_kind _ _ _ _ _ _ c.in-Ok.ensures.kind (c.in-Ok-contents_of.ensures.fills.opened t))
     (given_kind _ _ _ _ _ c.in-Ok.ensures.kind c.in-Ok.ensures.given)
-    (c.in-Ok-contents_of.ensures.kind ∙ c.in-Ok.ensures.kind) (c.in-Ok-contents_of.ensures.asked t)
+    (c.in-Ok-contents_of.ensures.fills.kind ∙ c.in-Ok.ensures.kind) (c.in-Ok-contents_of.ensures.asked t)
     (packs c.args.command.now _ _ _ _ _ _ _ unprinted c.output_at-output.ensures
-    (c.in-Ok-contents_of.ensures.keeps t).world
-    (opens_kind _ _ _ _ _ _ c.in-Ok.ensures.kind (c.in-Ok-contents_of.ensures.opened t))
+    (c.in-Ok-contents_of.ensures.fills.keeps t).world
+    (opens_kind _ _ _ _ _ _ c.in-Ok.ensures.kind (c.in-Ok-contents_of.ensures.fills.opened t))
     (packed_by (content_of g.D.At.Source.content) c.args.command.now _ _ c.in-Ok-contents_of.contents _
     (c.in-Ok.ensures.known refl) (given_kind _ _ _ _ _ c.in-Ok.ensures.kind c.in-Ok.ensures.given)
-    (c.in-Ok-contents_of.ensures.kind ∙ c.in-Ok.ensures.kind) (c.in-Ok-contents_of.ensures.asked t)
+    (c.in-Ok-contents_of.ensures.fills.kind ∙ c.in-Ok.ensures.kind) (c.in-Ok-contents_of.ensures.asked t)
     c.in-Ok-contents_of.ensures.alone refl))
     (c.in-Err-write_image.ensures.refused t)
 
@@ -100,8 +99,8 @@ returns-in-Err-write_image-clause-refused g c = λ t.
 
 pub returns-in-Ok-write_image-clause-inputs : goal.returns-in-Ok-write_image-clause-inputs
 returns-in-Ok-write_image-clause-inputs g c = λ t.
-    keeps_given c.args.command.now _ _ _ _ _ _ (c.in-Ok-contents_of.ensures.keeps t).world
-    (opens_kind _ _ _ _ _ _ c.in-Ok.ensures.kind (c.in-Ok-contents_of.ensures.opened t))
+    keeps_given c.args.command.now _ _ _ _ _ _ (c.in-Ok-contents_of.ensures.fills.keeps t).world
+    (opens_kind _ _ _ _ _ _ c.in-Ok.ensures.kind (c.in-Ok-contents_of.ensures.fills.opened t))
     (c.in-Ok-write_image.ensures.left t).others
 
 pub returns-in-Ok-write_image-clause-left : goal.returns-in-Ok-write_image-clause-left
@@ -109,24 +108,21 @@ returns-in-Ok-write_image-clause-left g c = λ t.
     left_behind _ _ _ _ g.D.Disk.is_over (IsPackedBy c.args.command.now (g.D.Disk.world c.args.disk.now))
     (packed_image (content_of g.D.At.Source.content) c.in-Ok-contents_of.contents) (g.D.Disk.world c.args.disk.now)
     (g.D.Disk.world c.contents_of.new.disk) (g.D.Disk.world c.write_image.new.disk) _ _ _ c.output_at-output.ensures
-    (c.in-Ok-contents_of.ensures.keeps t).world (c.in-Ok-contents_of.ensures.opened t)
+    (c.in-Ok-contents_of.ensures.fills.keeps t).world (c.in-Ok-contents_of.ensures.fills.opened t)
     (λ x e. packed_by (content_of g.D.At.Source.content) c.args.command.now (g.D.Disk.world c.args.disk.now) _
     c.in-Ok-contents_of.contents x (c.in-Ok.ensures.known refl)
     (given_kind _ _ _ _ _ c.in-Ok.ensures.kind c.in-Ok.ensures.given)
-    (c.in-Ok-contents_of.ensures.kind ∙ c.in-Ok.ensures.kind) (c.in-Ok-contents_of.ensures.asked t)
+    (c.in-Ok-contents_of.ensures.fills.kind ∙ c.in-Ok.ensures.kind) (c.in-Ok-contents_of.ensures.asked t)
     c.in-Ok-contents_of.ensures.alone e)
     (c.in-Ok-write_image.ensures.left t)
 
-pub returns-in-Ok-write_image-clause-clean : goal.returns-in-Ok-write_image-clause-clean
-returns-in-Ok-write_image-clause-clean g c = λ t.
-    c.in-Ok-write_image.ensures.clean t ∙ failed_still _ _ _ _ (c.in-Ok-contents_of.ensures.opened t)
-
 pub returns-in-Ok-write_image-clause-done : goal.returns-in-Ok-write_image-clause-done
 returns-in-Ok-write_image-clause-done g c = λ t.
-    packs c.args.command.now _ _ _ _ _ _ _ _ c.output_at-output.ensures (c.in-Ok-contents_of.ensures.keeps t).world
-    (opens_kind _ _ _ _ _ _ c.in-Ok.ensures.kind (c.in-Ok-contents_of.ensures.opened t))
+    packs c.args.command.now _ _ _ _ _ _ _ _ c.output_at-output.ensures
+    (c.in-Ok-contents_of.ensures.fills.keeps t).world
+    (opens_kind _ _ _ _ _ _ c.in-Ok.ensures.kind (c.in-Ok-contents_of.ensures.fills.opened t))
     (packed_by (content_of g.D.At.Source.content) c.args.command.now _ _ c.in-Ok-contents_of.contents _
     (c.in-Ok.ensures.known refl) (given_kind _ _ _ _ _ c.in-Ok.ensures.kind c.in-Ok.ensures.given)
-    (c.in-Ok-contents_of.ensures.kind ∙ c.in-Ok.ensures.kind) (c.in-Ok-contents_of.ensures.asked t)
+    (c.in-Ok-contents_of.ensures.fills.kind ∙ c.in-Ok.ensures.kind) (c.in-Ok-contents_of.ensures.asked t)
     c.in-Ok-contents_of.ensures.alone refl)
     (c.in-Ok-write_image.ensures.done t)

@@ -8,4 +8,5 @@ and_true true = refl
 and_true false = refl
 
 pub returns : goal.returns
-returns c = ap (λ b. if b then codes "/dev/stdout" else c.args.word.now) (and_true (bytes_eq c.args.word.now (codes "-")))
+returns c = ap (λ b. if b then codes "/dev/stdout" else c.args.word.now)
+    (and_true (bytes_eq c.args.word.now (codes "-")))

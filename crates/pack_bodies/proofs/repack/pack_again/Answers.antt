@@ -26,36 +26,39 @@ returns-in-Err-clause-refused g c = λ t.
 pub returns-in-Ok-write_again-clause-done : goal.returns-in-Ok-write_again-clause-done
 returns-in-Ok-write_again-clause-done g c = λ t.
     content_done c.args.command.now _ _ _ _ _ _ (Shows c.args.report.now c.write_again.new.report)
-    (c.in-Ok.ensures.content (g.met.D.Disk.source_told t)) (c.in-Ok-write_again.ensures.done t)
+    (c.in-Ok.ensures.reads.content (g.met.D.Disk.source_told t)) (c.in-Ok-write_again.ensures.done t)
 
 pub returns-in-Ok-write_again-clause-clean : goal.returns-in-Ok-write_again-clause-clean
 returns-in-Ok-write_again-clause-clean g c = λ t.
-    nothing_more _ _ _ _ (c.in-Ok-write_again.ensures.clean t) c.in-Ok.ensures.clean
+    nothing_more _ _ _ _ (c.in-Ok-write_again.ensures.left t).clean c.in-Ok.ensures.reads.clean
 
 pub returns-in-Ok-write_again-clause-left : goal.returns-in-Ok-write_again-clause-left
 returns-in-Ok-write_again-clause-left g c = λ t.
     content_left _ c.args.command.now _ _ (view_of c.args.own.now.image.header) (g.D.Disk.world c.args.disk.now)
-    (output_path c.args.command.now.output.now) _ _ _ _ _ (c.in-Ok.ensures.content (g.met.D.Disk.source_told t))
+    (output_path c.args.command.now.output.now) _ _ _ _ _ (c.in-Ok.ensures.reads.content (g.met.D.Disk.source_told t))
     (left_told _ (c.in-Ok-write_again.ensures.left t))
 
 -- it is not
 pub returns-clause-left : goal.returns-clause-left
 returns-clause-left g c = λ t.
     content_left _ c.args.command.now _ _ (view_of c.args.own.now.image.header) (g.D.Disk.world c.args.disk.now)
-    (output_path c.args.command.now.output.now) _ _ _ _ _ (c.in-Ok.ensures.content (g.met.D.Disk.source_told t))
+    (output_path c.args.command.now.output.now) _ _ _ _ _ (c.in-Ok.ensures.reads.content (g.met.D.Disk.source_told t))
     (left_refused _ (c.in-Err-write_again.ensures.left t))
 
 pub returns-clause-refused : goal.returns-clause-refused
 returns-clause-refused g c = λ t.
     content_refused c.args.command.now _ _ _ _ _ _ _ _ unprinted _
-    (c.in-Ok.ensures.content (g.met.D.Disk.source_told t)) (c.in-Err-write_again.ensures.refused t)
-    (λ failed. calls_failed _ _ _ _ c.in-Ok.ensures.clean failed)
+    (c.in-Ok.ensures.reads.content (g.met.D.Disk.source_told t)) (c.in-Err-write_again.ensures.refused t)
+    (λ failed. calls_failed _ _ _ _ c.in-Ok.ensures.reads.clean failed)
 
-pub write_again-requires-clause-opened : goal.write_again-requires-clause-opened
-write_again-requires-clause-opened g c = λ told.
-    subst (λ x. IsOpened x c.args.own.now.image) (sym (c.in-Ok.ensures.content told)) (c.requires.opened told)
-
-pub write_again-requires-clause-entries : goal.write_again-requires-clause-entries
-write_again-requires-clause-entries g c = λ told none.
+pub write_again-requires-clause-own : goal.write_again-requires-clause-own
+write_again-requires-clause-own g c =
     let h = view_of c.args.own.now.image.header in
-    c.in-Ok.ensures.entries told none ∙ ap (λ x. entries_to x h (fragment_count h)) (sym (c.in-Ok.ensures.content told))
+    record {
+      opened = λ told. subst (λ x. IsOpened x c.args.own.now.image) (sym (c.in-Ok.ensures.reads.content told))
+          (c.requires.opened told);
+      kind = c.of_header-kind.ensures;
+      taken = c.in-Ok.ensures.taken;
+      entries = λ told none. c.in-Ok.ensures.entries told none
+          ∙ ap (λ x. entries_to x h (fragment_count h)) (sym (c.in-Ok.ensures.reads.content told));
+    }

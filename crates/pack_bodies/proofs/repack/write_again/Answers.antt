@@ -2,7 +2,7 @@ use Rattle.std.proofs.Common.{◌∙◌, refl}
 use Rattle.abt_output.specs.Shows.{Shows, unprinted}
 use Rattle.pack_bodies.specs.Contents.{packing_of}
 use Rattle.pack_bodies.specs.Sources.{content_of}
-use Rattle.pack_bodies.proofs.Again.{clean_again, filling_refuses, keeps_again, left_again, packs_again, ready}
+use Rattle.pack_bodies.proofs.Again.{filling_refuses, keeps_again, left_again, packs_again, ready}
 use Rattle.pack_bodies.proofs.Again.{stays_kept}
 use Rattle.pack_bodies.proofs.Again.{words_refuse, writing_stops}
 use Rattle.pack_bodies.proofs.Closes.{left_unopened}
@@ -17,53 +17,47 @@ returns-in-Err-clause-left g c = λ t. left_unopened _ _ _ _ _ _ _ _ (c.requires
 
 pub returns-in-Err-clause-refused : goal.returns-in-Err-clause-refused
 returns-in-Err-clause-refused g c = λ t.
-    words_refuse c.args.command.now _ _ _ _ _ _ c.args.kind _ _ _ refl c.requires.kind c.own_fields-own_fields.ensures
+    words_refuse c.args.command.now _ _ _ _ _ _ c.args.kind _ _ _ refl c.requires.own.kind
+    c.own_fields-own_fields.ensures
     c.of_own.ensures c.in-Err.ensures.wrong
 
 -- not all is at hand
 pub returns-in-Err-contents_of-clause-given : goal.returns-in-Err-contents_of-clause-given
 returns-in-Err-contents_of-clause-given g c = λ t.
-    stays_kept c.args.command.now _ _ _ (c.in-Err-contents_of.ensures.keeps t).world
+    stays_kept c.args.command.now _ _ _ (c.in-Err-contents_of.ensures.fills.keeps t).world
 
 pub returns-in-Err-contents_of-clause-left : goal.returns-in-Err-contents_of-clause-left
 returns-in-Err-contents_of-clause-left g c = λ t.
-    left_unopened _ _ _ _ _ _ _ _ ((c.in-Err-contents_of.ensures.keeps t).output ∙ (c.requires.first t).output)
-    (c.in-Err-contents_of.ensures.keeps t).world
+    left_unopened _ _ _ _ _ _ _ _ ((c.in-Err-contents_of.ensures.fills.keeps t).output ∙ (c.requires.first t).output)
+    (c.in-Err-contents_of.ensures.fills.keeps t).world
 
 pub returns-in-Err-contents_of-clause-refused : goal.returns-in-Err-contents_of-clause-refused
 returns-in-Err-contents_of-clause-refused g c = λ t.
-    filling_refuses c.args.command.now _ _ _ _ _ _ _ (c.in-Err-contents_of.ensures.keeps t).world
+    filling_refuses c.args.command.now _ _ _ _ _ _ _ (c.in-Err-contents_of.ensures.fills.keeps t).world
     (c.in-Err-contents_of.ensures.refused t)
 
 pub write_image-requires-clause-one : goal.write_image-requires-clause-one
-write_image-requires-clause-one g c = λ t. (c.in-Ok-contents_of.ensures.keeps t).output ∙ (c.requires.first t).output
+write_image-requires-clause-one g c = λ t.
+    (c.in-Ok-contents_of.ensures.fills.keeps t).output ∙ (c.requires.first t).output
 
 -- it is written
 pub returns-in-Ok-write_image-clause-done : goal.returns-in-Ok-write_image-clause-done
 returns-in-Ok-write_image-clause-done g c = λ t.
     packs_again c.args.command.now _ _ _ _ _ _ _ _
     (ready c.args.command.now _ _ _ _ _ _ c.args.kind _ _ _ (packing_of (content_of g.D.At.Source.content)
-    c.in-Ok-contents_of.contents) _ c.requires.kind c.in-Ok-contents_of.ensures.kind
-    (c.in-Ok-contents_of.ensures.keeps t).world (c.in-Ok-contents_of.ensures.opened t) c.own_fields-own_fields.ensures
+    c.in-Ok-contents_of.contents) _ c.requires.own.kind c.in-Ok-contents_of.ensures.fills.kind
+    (c.in-Ok-contents_of.ensures.fills.keeps t).world (c.in-Ok-contents_of.ensures.fills.opened t)
+    c.own_fields-own_fields.ensures
     c.in-Ok.ensures.given (c.in-Ok-contents_of.ensures.asked t) (c.in-Ok-contents_of.ensures.behind t)) _ _
     (Shows c.args.report.now c.write_image.new.report) c.output_at-output.ensures (c.in-Ok-write_image.ensures.done t)
-
-pub returns-in-Ok-write_image-clause-clean : goal.returns-in-Ok-write_image-clause-clean
-returns-in-Ok-write_image-clause-clean g c = λ t.
-    clean_again c.args.command.now _ _ _ _ _ _ _ _
-    (ready c.args.command.now _ _ _ _ _ _ c.args.kind _ _ _ (packing_of (content_of g.D.At.Source.content)
-    c.in-Ok-contents_of.contents) _ c.requires.kind c.in-Ok-contents_of.ensures.kind
-    (c.in-Ok-contents_of.ensures.keeps t).world (c.in-Ok-contents_of.ensures.opened t) c.own_fields-own_fields.ensures
-    c.in-Ok.ensures.given (c.in-Ok-contents_of.ensures.asked t) (c.in-Ok-contents_of.ensures.behind t))
-    (g.D.Disk.held c.write_image.new.disk)
-    (c.in-Ok-write_image.ensures.clean t)
 
 pub returns-in-Ok-write_image-clause-given : goal.returns-in-Ok-write_image-clause-given
 returns-in-Ok-write_image-clause-given g c = λ t.
     keeps_again c.args.command.now _ _ _ _ _ _ _ _
     (ready c.args.command.now _ _ _ _ _ _ c.args.kind _ _ _ (packing_of (content_of g.D.At.Source.content)
-    c.in-Ok-contents_of.contents) _ c.requires.kind c.in-Ok-contents_of.ensures.kind
-    (c.in-Ok-contents_of.ensures.keeps t).world (c.in-Ok-contents_of.ensures.opened t) c.own_fields-own_fields.ensures
+    c.in-Ok-contents_of.contents) _ c.requires.own.kind c.in-Ok-contents_of.ensures.fills.kind
+    (c.in-Ok-contents_of.ensures.fills.keeps t).world (c.in-Ok-contents_of.ensures.fills.opened t)
+    c.own_fields-own_fields.ensures
     c.in-Ok.ensures.given (c.in-Ok-contents_of.ensures.asked t) (c.in-Ok-contents_of.ensures.behind t)) _ _
     (c.in-Ok-write_image.ensures.left t).others
 
@@ -71,8 +65,9 @@ pub returns-in-Ok-write_image-clause-left : goal.returns-in-Ok-write_image-claus
 returns-in-Ok-write_image-clause-left g c = λ t.
     left_again c.args.command.now _ _ _ _ _ _ _ _
     (ready c.args.command.now _ _ _ _ _ _ c.args.kind _ _ _ (packing_of (content_of g.D.At.Source.content)
-    c.in-Ok-contents_of.contents) _ c.requires.kind c.in-Ok-contents_of.ensures.kind
-    (c.in-Ok-contents_of.ensures.keeps t).world (c.in-Ok-contents_of.ensures.opened t) c.own_fields-own_fields.ensures
+    c.in-Ok-contents_of.contents) _ c.requires.own.kind c.in-Ok-contents_of.ensures.fills.kind
+    (c.in-Ok-contents_of.ensures.fills.keeps t).world (c.in-Ok-contents_of.ensures.fills.opened t)
+    c.own_fields-own_fields.ensures
     c.in-Ok.ensures.given (c.in-Ok-contents_of.ensures.asked t) (c.in-Ok-contents_of.ensures.behind t))
     _ (g.D.Disk.world c.write_image.new.disk) (g.D.Disk.held c.write_image.new.disk) _ g.D.Disk.is_over
     c.output_at-output.ensures (c.in-Ok-write_image.ensures.left t)
@@ -81,8 +76,9 @@ pub returns-in-Err-write_image-clause-given : goal.returns-in-Err-write_image-cl
 returns-in-Err-write_image-clause-given g c = λ t.
     keeps_again c.args.command.now _ _ _ _ _ _ _ _
     (ready c.args.command.now _ _ _ _ _ _ c.args.kind _ _ _ (packing_of (content_of g.D.At.Source.content)
-    c.in-Ok-contents_of.contents) _ c.requires.kind c.in-Ok-contents_of.ensures.kind
-    (c.in-Ok-contents_of.ensures.keeps t).world (c.in-Ok-contents_of.ensures.opened t) c.own_fields-own_fields.ensures
+    c.in-Ok-contents_of.contents) _ c.requires.own.kind c.in-Ok-contents_of.ensures.fills.kind
+    (c.in-Ok-contents_of.ensures.fills.keeps t).world (c.in-Ok-contents_of.ensures.fills.opened t)
+    c.own_fields-own_fields.ensures
     c.in-Ok.ensures.given (c.in-Ok-contents_of.ensures.asked t) (c.in-Ok-contents_of.ensures.behind t)) _ _
     (c.in-Err-write_image.ensures.left t).others
 
@@ -90,8 +86,9 @@ pub returns-in-Err-write_image-clause-left : goal.returns-in-Err-write_image-cla
 returns-in-Err-write_image-clause-left g c = λ t.
     left_again c.args.command.now _ _ _ _ _ _ _ _
     (ready c.args.command.now _ _ _ _ _ _ c.args.kind _ _ _ (packing_of (content_of g.D.At.Source.content)
-    c.in-Ok-contents_of.contents) _ c.requires.kind c.in-Ok-contents_of.ensures.kind
-    (c.in-Ok-contents_of.ensures.keeps t).world (c.in-Ok-contents_of.ensures.opened t) c.own_fields-own_fields.ensures
+    c.in-Ok-contents_of.contents) _ c.requires.own.kind c.in-Ok-contents_of.ensures.fills.kind
+    (c.in-Ok-contents_of.ensures.fills.keeps t).world (c.in-Ok-contents_of.ensures.fills.opened t)
+    c.own_fields-own_fields.ensures
     c.in-Ok.ensures.given (c.in-Ok-contents_of.ensures.asked t) (c.in-Ok-contents_of.ensures.behind t))
     _ (g.D.Disk.world c.write_image.new.disk) (g.D.Disk.held c.write_image.new.disk) _ g.D.Disk.is_over
     c.output_at-output.ensures (c.in-Err-write_image.ensures.left t)
@@ -100,7 +97,8 @@ pub returns-in-Err-write_image-clause-refused : goal.returns-in-Err-write_image-
 returns-in-Err-write_image-clause-refused g c = λ t.
     writing_stops c.args.command.now _ _ _ _ _ _ _ _
     (ready c.args.command.now _ _ _ _ _ _ c.args.kind _ _ _ (packing_of (content_of g.D.At.Source.content)
-    c.in-Ok-contents_of.contents) _ c.requires.kind c.in-Ok-contents_of.ensures.kind
-    (c.in-Ok-contents_of.ensures.keeps t).world (c.in-Ok-contents_of.ensures.opened t) c.own_fields-own_fields.ensures
+    c.in-Ok-contents_of.contents) _ c.requires.own.kind c.in-Ok-contents_of.ensures.fills.kind
+    (c.in-Ok-contents_of.ensures.fills.keeps t).world (c.in-Ok-contents_of.ensures.fills.opened t)
+    c.own_fields-own_fields.ensures
     c.in-Ok.ensures.given (c.in-Ok-contents_of.ensures.asked t) (c.in-Ok-contents_of.ensures.behind t)) _ _ _
     unprinted _ c.output_at-output.ensures (c.in-Err-write_image.ensures.refused t)

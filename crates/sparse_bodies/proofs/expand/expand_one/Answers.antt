@@ -1,10 +1,10 @@
-use Rattle.std.proofs.Common.{◌+◌, true, false, Ok, subst}
+use Rattle.std.proofs.Common.{rules, ◌+◌, true, false, Ok, subst}
 use Rattle.std.specs.Prelude.{is_ok}
 use Rattle.abt_disk.specs.World.{unended}
-use Rattle.abt_disk.proofs.Worlds.{only_written, only_behind, kept_behind}
+use Rattle.abt_disk.proofs.Worlds.{only_written}
 use Rattle.sparse_bodies.specs.Expanding.{ExpandingSays}
 use Rattle.sparse_bodies.proofs.Files.{clean_behind, ends_behind, expands, failed_behind, failed_first, failed_second}
-use Rattle.sparse_bodies.proofs.Files.{handed_on, of_failed, of_unprinted, refuses, rest_behind, synced_once}
+use Rattle.sparse_bodies.proofs.Files.{handed_on, leaves_expanded, of_failed, of_unprinted, refuses, rest_behind, synced_once}
 use Rattle.sparse_bodies.proofs.expand.expand_one.Goals as goal
 
 pub returns-in_err-from-clause-refused : goal.returns-in_err-from-clause-refused
@@ -13,15 +13,11 @@ returns-in_err-from-clause-refused g c = λ t.
     (λ r made. of_failed _ _ _ _ _ _ r.fault (_, made) (failed_first _ _ (c.in_err-from.ensures.kept t)))
     c.from_residual.ensures.1
 
-pub returns-in_err-onto-clause-others : goal.returns-in_err-onto-clause-others
-returns-in_err-onto-clause-others g c = λ t.
-    only_behind _ _ _ _ _ _ _ _ (c.in_ok-from.ensures.opened t) (c.in_ok-from.ensures.world t)
+pub returns-in_err-onto-clause-leaves : goal.returns-in_err-onto-clause-leaves
+returns-in_err-onto-clause-leaves g c = λ t.
+    leaves_expanded _ _ _ _ _ _ _ _ _ _ (c.in_ok-from.ensures.opened t) (c.in_ok-from.ensures.world t)
     (c.in_err-onto.ensures.only t)
-
-pub returns-in_err-onto-clause-input : goal.returns-in_err-onto-clause-input
-returns-in_err-onto-clause-input g c = λ t.
-    kept_behind _ _ _ _ _ _ _ _ (c.in_ok-from.ensures.opened t) (c.in_ok-from.ensures.world t)
-    (c.in_err-onto.ensures.only t)
+    (search rules) (search rules)
 
 pub returns-in_err-onto-clause-refused : goal.returns-in_err-onto-clause-refused
 returns-in_err-onto-clause-refused g c = λ t.
@@ -30,41 +26,34 @@ returns-in_err-onto-clause-refused g c = λ t.
     (failed_second _ _ _ _ _ _ (c.in_ok-from.ensures.opened t) (c.in_err-onto.ensures.kept t)))
     c.from_residual-in_err-onto.ensures.1
 
-pub returns-in-Err-clause-others : goal.returns-in-Err-clause-others
-returns-in-Err-clause-others g c = λ t.
-    only_behind _ _ _ _ _ _ _ _ (c.in_ok-from.ensures.opened t) (c.in_ok-from.ensures.world t)
+pub returns-in-Err-clause-leaves : goal.returns-in-Err-clause-leaves
+returns-in-Err-clause-leaves g c = λ t.
+    leaves_expanded _ _ _ _ _ _ _ _ _ _ (c.in_ok-from.ensures.opened t) (c.in_ok-from.ensures.world t)
     (only_written _ _ _ _ _ _ (c.in_ok-onto.ensures.created t)
     (rest_behind _ _ _ _ _ _ (c.let_go.ensures.held t) (c.let_go.ensures.world t) (c.ended.ensures.rest t)))
+    (search rules) tt
 
-pub returns-in-Err-clause-input : goal.returns-in-Err-clause-input
-returns-in-Err-clause-input g c = λ t.
-    kept_behind _ _ _ _ _ _ _ _ (c.in_ok-from.ensures.opened t) (c.in_ok-from.ensures.world t)
+pub returns-in-Err-printed-clause-leaves : goal.returns-in-Err-printed-clause-leaves
+returns-in-Err-printed-clause-leaves g c = λ t.
+    leaves_expanded _ _ _ _ _ _ _ _ _ _ (c.in_ok-from.ensures.opened t) (c.in_ok-from.ensures.world t)
     (only_written _ _ _ _ _ _ (c.in_ok-onto.ensures.created t)
     (rest_behind _ _ _ _ _ _ (c.let_go.ensures.held t) (c.let_go.ensures.world t) (c.ended.ensures.rest t)))
+    (search rules) tt
 
-pub returns-in-Err-printed-clause-others : goal.returns-in-Err-printed-clause-others
-returns-in-Err-printed-clause-others g c = λ t.
-    only_behind _ _ _ _ _ _ _ _ (c.in_ok-from.ensures.opened t) (c.in_ok-from.ensures.world t)
+pub returns-in-Ok-printed-clause-leaves : goal.returns-in-Ok-printed-clause-leaves
+returns-in-Ok-printed-clause-leaves g c = λ t.
+    leaves_expanded _ _ _ _ _ _ _ _ _ _ (c.in_ok-from.ensures.opened t) (c.in_ok-from.ensures.world t)
     (only_written _ _ _ _ _ _ (c.in_ok-onto.ensures.created t)
     (rest_behind _ _ _ _ _ _ (c.let_go.ensures.held t) (c.let_go.ensures.world t) (c.ended.ensures.rest t)))
-
-pub returns-in-Err-printed-clause-input : goal.returns-in-Err-printed-clause-input
-returns-in-Err-printed-clause-input g c = λ t.
-    kept_behind _ _ _ _ _ _ _ _ (c.in_ok-from.ensures.opened t) (c.in_ok-from.ensures.world t)
-    (only_written _ _ _ _ _ _ (c.in_ok-onto.ensures.created t)
-    (rest_behind _ _ _ _ _ _ (c.let_go.ensures.held t) (c.let_go.ensures.world t) (c.ended.ensures.rest t)))
-
-pub returns-in-Ok-printed-clause-others : goal.returns-in-Ok-printed-clause-others
-returns-in-Ok-printed-clause-others g c = λ t.
-    only_behind _ _ _ _ _ _ _ _ (c.in_ok-from.ensures.opened t) (c.in_ok-from.ensures.world t)
-    (only_written _ _ _ _ _ _ (c.in_ok-onto.ensures.created t)
-    (rest_behind _ _ _ _ _ _ (c.let_go.ensures.held t) (c.let_go.ensures.world t) (c.ended.ensures.rest t)))
-
-pub returns-in-Ok-printed-clause-input : goal.returns-in-Ok-printed-clause-input
-returns-in-Ok-printed-clause-input g c = λ t.
-    kept_behind _ _ _ _ _ _ _ _ (c.in_ok-from.ensures.opened t) (c.in_ok-from.ensures.world t)
-    (only_written _ _ _ _ _ _ (c.in_ok-onto.ensures.created t)
-    (rest_behind _ _ _ _ _ _ (c.let_go.ensures.held t) (c.let_go.ensures.world t) (c.ended.ensures.rest t)))
+    (search rules) (clean_behind c.expanded-answer.result c.in-Ok.end.0 (g.D.Disk.held c.args.disk.now)
+    (g.D.Disk.held c.ended.new.disk) _
+    (g.D.From.Input.read_faults c.expanded-answer.new.from.device) _
+    (g.D.Onto.Output.write_faults c.expanded-answer.new.onto) c.in-Ok.ensures.done
+    c.expanded-answer.ensures.blames (c.in_ok-from.ensures.clean t) (c.in_ok-onto.ensures.clean t)
+    (failed_behind _ _ _ _ _ _ _ _ _ _ _ (g.D.From.Input.read_faults c.expanded-answer.new.from.device)
+    (unended (is_ok c.expanded-answer.result) true + (g.D.Onto.Output.write_faults c.expanded-answer.new.onto)) true
+    (c.in_ok-from.ensures.opened t) (c.in_ok-onto.ensures.created t) (c.let_go.ensures.held t)
+    (c.in-Ok.ensures.closed t)))
 
 pub returns-in-Err-clause-refused : goal.returns-in-Err-clause-refused
 returns-in-Err-clause-refused g c = λ t.
@@ -96,18 +85,6 @@ pub returns-in-Ok-printed-clause-synced : goal.returns-in-Ok-printed-clause-sync
 returns-in-Ok-printed-clause-synced g c = λ t.
     synced_once _ _ _ _ _ _ _ _ _ _ _ _ _ (c.in_ok-from.ensures.opened t) (c.in_ok-onto.ensures.created t)
     (c.let_go.ensures.held t) (c.in-Ok.ensures.closed t)
-
-pub returns-in-Ok-printed-clause-clean : goal.returns-in-Ok-printed-clause-clean
-returns-in-Ok-printed-clause-clean g c = λ t.
-    clean_behind c.expanded-answer.result c.in-Ok.end.0 (g.D.Disk.held c.args.disk.now)
-    (g.D.Disk.held c.ended.new.disk) _
-    (g.D.From.Input.read_faults c.expanded-answer.new.from.device) _
-    (g.D.Onto.Output.write_faults c.expanded-answer.new.onto) c.in-Ok.ensures.done
-    c.expanded-answer.ensures.blames (c.in_ok-from.ensures.clean t) (c.in_ok-onto.ensures.clean t)
-    (failed_behind _ _ _ _ _ _ _ _ _ _ _ (g.D.From.Input.read_faults c.expanded-answer.new.from.device)
-    (unended (is_ok c.expanded-answer.result) true + (g.D.Onto.Output.write_faults c.expanded-answer.new.onto)) true
-    (c.in_ok-from.ensures.opened t) (c.in_ok-onto.ensures.created t) (c.let_go.ensures.held t)
-    (c.in-Ok.ensures.closed t))
 
 pub returns-in-Ok-printed-clause-done : goal.returns-in-Ok-printed-clause-done
 returns-in-Ok-printed-clause-done g c = λ t.

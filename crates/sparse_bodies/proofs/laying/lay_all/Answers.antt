@@ -23,13 +23,13 @@ images-preserved g c =
     let items = c.in-Some.ensures.items in
     let long = ap length items in
     record {
-      size = c.lay_one.ensures.size ∙ i.size;
+      size = c.lay_one.ensures.alone.size ∙ i.size;
       synced = omega (arith, c.in-Ok.ensures.synced, long, i.synced);
       laid = λ t. laid_next _ _ _ _ _ _ (ap (map (λ one. g.D.At.Source.content one.source)) items) (i.laid t)
           (c.in-Ok.ensures.laid t);
       settled = λ t e. c.in-Ok.ensures.settled t;
-      world = λ t. c.lay_one.ensures.world t ∙ i.world t;
-      held = λ t. fails_then _ _ _ (i.held t) (c.lay_one.ensures.held t);
+      world = λ t. c.lay_one.ensures.alone.world t ∙ i.world t;
+      held = λ t. fails_then _ _ _ (i.held t) (c.lay_one.ensures.alone.held t);
       clean = λ t all.
           let all_now = i.clean t all in
           let s = subst (λ q. AllByRecursion (λ one. g.D.At.Source.read_faults one.source ≡ 0) q) items all_now.0 in
@@ -53,8 +53,12 @@ returns-in-Err-clause-refused g c = λ t n b sized images clean.
     laid_as c.in-Err.refusal.fault _ _ _ (omega (arith, all_now.1, s.0))
     (c.in-Err.ensures.refused t n b (i.size ∙ sized) image)
 
-pub returns-in-Err-clause-held : goal.returns-in-Err-clause-held
-returns-in-Err-clause-held g c = λ t. fails_then _ _ _ (c.images.invariant.held t) (c.lay_one.ensures.held t)
+pub returns-in-Err-clause-alone : goal.returns-in-Err-clause-alone
+returns-in-Err-clause-alone g c = record {
+  size = c.lay_one.ensures.alone.size ∙ c.images.invariant.size;
+  world = λ t. c.lay_one.ensures.alone.world t ∙ c.images.invariant.world t;
+  held = λ t. fails_then _ _ _ (c.images.invariant.held t) (c.lay_one.ensures.alone.held t);
+}
 
 pub returns-in-None-clause-laid : goal.returns-in-None-clause-laid
 returns-in-None-clause-laid g c = λ t.

@@ -22,8 +22,12 @@ returns-in-Ok-clause-settled g c = λ t.
     done_so c.flash_one-answer.result c.in-Ok.field-0 _ c.in-Ok.ensures.done
     (c.flash_one-answer.ensures.settled (g.met.D.Disk.part_told t))
 
-pub returns-in-Ok-clause-held : goal.returns-in-Ok-clause-held
-returns-in-Ok-clause-held g c = λ t. let_go_fails _ _ _ (c.let_go_source.ensures.held t)
+pub returns-in-Ok-clause-alone : goal.returns-in-Ok-clause-alone
+returns-in-Ok-clause-alone g c = record {
+  size = c.flash_one-answer.ensures.size;
+  world = λ t. c.let_go_source.ensures.world t;
+  held = λ t. let_go_fails _ _ _ (c.let_go_source.ensures.held t);
+}
 
 pub returns-in-Ok-clause-clean : goal.returns-in-Ok-clause-clean
 returns-in-Ok-clause-clean g c = λ t.
@@ -34,8 +38,12 @@ returns-in-Ok-clause-clean g c = λ t.
     (g.D.Part.Partition.put_faults c.flash_one-answer.new.onto) (c.let_go_source.ensures.held t)
     (even.0 ∙ ap g.D.At.Source.read_faults c.new.ensures.source ∙ c.forget.ensures.faults) even.1
 
-pub returns-in-Err-clause-held : goal.returns-in-Err-clause-held
-returns-in-Err-clause-held g c = λ t. let_go_fails _ _ _ (c.let_go_source.ensures.held t)
+pub returns-in-Err-clause-alone : goal.returns-in-Err-clause-alone
+returns-in-Err-clause-alone g c = record {
+  size = c.flash_one-answer.ensures.size;
+  world = λ t. c.let_go_source.ensures.world t;
+  held = λ t. let_go_fails _ _ _ (c.let_go_source.ensures.held t);
+}
 
 pub returns-in-Err-clause-refused : goal.returns-in-Err-clause-refused
 returns-in-Err-clause-refused g c = λ t blocks block sized image.

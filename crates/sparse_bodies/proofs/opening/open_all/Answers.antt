@@ -25,7 +25,7 @@ loop-input-preserved g c =
           c.loop-input-test.true (i.world t) c.image_place.ensures (i.opened t) (c.in-Ok.ensures.opened t);
       shape = λ t. c.in-Ok.ensures.shape t (i.shape t);
       clean = λ t. c.in-Ok.ensures.clean t (i.clean t);
-      world = λ t. c.open_next.ensures.world t ∙ i.world t;
+      world = λ t. (c.open_next.ensures.alone t).world ∙ i.world t;
     }
 
 pub returns-in-Err-clause-refused : goal.returns-in-Err-clause-refused

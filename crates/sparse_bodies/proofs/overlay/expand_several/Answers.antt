@@ -1,25 +1,27 @@
-use Rattle.std.proofs.Common.{inl, inr, ◌∙◌, refl, sym, ap}
+use Rattle.std.proofs.Common.{rules, inl, inr, ◌∙◌, refl, sym, ap}
 use Rattle.std.proofs.lemmas.List.{length-map}
 use Rattle.sparse_bodies.proofs.Files.{handed_on}
 use Rattle.sparse_bodies.proofs.Overlays.{as_long, failed_in_all, failed_laying, failed_zeros, from_files, from_laying}
-use Rattle.sparse_bodies.proofs.Overlays.{from_opening, ins_kept, lands, others_read, overlays, sized, synced}
+use Rattle.sparse_bodies.proofs.Overlays.{from_opening, lands, leaves_overlaid, overlays, sized, synced}
 use Rattle.sparse_bodies.proofs.Overlays.{zeros_long}
 use Rattle.sparse_bodies.proofs.Lists.{keeps_all_same}
 use Rattle.sparse_bodies.proofs.overlay.expand_several.Goals as goal
 
-pub returns-in-Err-clause-inputs : goal.returns-in-Err-clause-inputs
-returns-in-Err-clause-inputs g c = λ t. keeps_all_same _ _ _ (c.open_all.ensures.world t)
+pub returns-in-Err-clause-leaves : goal.returns-in-Err-clause-leaves
+returns-in-Err-clause-leaves g c = λ t. record {
+  others = search rules;
+  inputs = keeps_all_same _ _ _ (c.open_all.ensures.alone t).world;
+  closed = search rules;
+  clean = tt;
+}
 
 pub returns-in-Err-clause-refused : goal.returns-in-Err-clause-refused
 returns-in-Err-clause-refused g c = λ t. from_opening c.in-Err.refusal.fault _ _ _ _ _ _ (c.in-Err.ensures.refused t)
 
-pub returns-in_err-zeros-clause-others : goal.returns-in_err-zeros-clause-others
-returns-in_err-zeros-clause-others g c = λ t.
-    others_read _ _ _ _ _ _ _ _ (c.in-Ok.ensures.opened t) (c.open_all.ensures.world t) (c.in_err-zeros.ensures.only t)
-
-pub returns-in_err-zeros-clause-inputs : goal.returns-in_err-zeros-clause-inputs
-returns-in_err-zeros-clause-inputs g c = λ t.
-    ins_kept _ _ _ _ _ _ _ _ (c.in-Ok.ensures.opened t) (c.open_all.ensures.world t) (c.in_err-zeros.ensures.only t)
+pub returns-in_err-zeros-clause-leaves : goal.returns-in_err-zeros-clause-leaves
+returns-in_err-zeros-clause-leaves g c = λ t.
+    leaves_overlaid _ _ _ _ _ _ _ _ _ _ (c.in-Ok.ensures.opened t) (c.open_all.ensures.alone t).world (c.in_err-zeros.ensures.only t)
+    (search rules) (search rules)
 
 pub returns-in_err-zeros-clause-refused : goal.returns-in_err-zeros-clause-refused
 returns-in_err-zeros-clause-refused g c = λ t.
@@ -32,25 +34,19 @@ pub close-is_on_output-requires : goal.close-is_on_output-requires
 close-is_on_output-requires g c = record {
   long = λ t.
       let told = g.met.D.Disk.part_told t in
-      as_long _ _ _ _ _ _ _ _ _ _ (c.in_ok-zeros.ensures.made t) (c.lay_all-answer.ensures.world t)
-      (c.lay_all-answer.ensures.held t) (sym (g.met.D.Part.Source.sized c.lay_all-answer.new.onto told)
-      ∙ c.lay_all-answer.ensures.size ∙ g.met.D.Part.Source.sized c.in_ok-zeros.zeros told)
+      as_long _ _ _ _ _ _ _ _ _ _ (c.in_ok-zeros.ensures.made t) (c.lay_all-answer.ensures.alone.world t)
+      (c.lay_all-answer.ensures.alone.held t) (sym (g.met.D.Part.Source.sized c.lay_all-answer.new.onto told)
+      ∙ c.lay_all-answer.ensures.alone.size ∙ g.met.D.Part.Source.sized c.in_ok-zeros.zeros told)
       (c.in_ok-zeros.ensures.zeros t);
 }
 
-pub returns-in-Err-answer-clause-others : goal.returns-in-Err-answer-clause-others
-returns-in-Err-answer-clause-others g c = λ t.
-    others_read _ _ _ _ _ _ _ _ (c.in-Ok.ensures.opened t) refl (lands _ _ _ _ _ _ _ _ _ _ _
-    (c.in_ok-zeros.ensures.made t) (c.open_all.ensures.world t)
-    (c.lay_all-answer.ensures.world t) (c.lay_all-answer.ensures.held t) (c.close-is_on_output.ensures.ended t)
+pub returns-in-Err-answer-clause-leaves : goal.returns-in-Err-answer-clause-leaves
+returns-in-Err-answer-clause-leaves g c = λ t.
+    leaves_overlaid _ _ _ _ _ _ _ _ _ _ (c.in-Ok.ensures.opened t) refl (lands _ _ _ _ _ _ _ _ _ _ _
+    (c.in_ok-zeros.ensures.made t) (c.open_all.ensures.alone t).world
+    (c.lay_all-answer.ensures.alone.world t) (c.lay_all-answer.ensures.alone.held t) (c.close-is_on_output.ensures.ended t)
     (c.close-is_on_output.ensures.paths t))
-
-pub returns-in-Err-answer-clause-inputs : goal.returns-in-Err-answer-clause-inputs
-returns-in-Err-answer-clause-inputs g c = λ t.
-    ins_kept _ _ _ _ _ _ _ _ (c.in-Ok.ensures.opened t) refl (lands _ _ _ _ _ _ _ _ _ _ _
-    (c.in_ok-zeros.ensures.made t) (c.open_all.ensures.world t)
-    (c.lay_all-answer.ensures.world t) (c.lay_all-answer.ensures.held t) (c.close-is_on_output.ensures.ended t)
-    (c.close-is_on_output.ensures.paths t))
+    (search rules) tt
 
 pub returns-in-Err-answer-clause-refused : goal.returns-in-Err-answer-clause-refused
 returns-in-Err-answer-clause-refused g c = λ t.
@@ -69,56 +65,44 @@ returns-in-Err-answer-clause-refused g c = λ t.
     (failed_laying h h2 h3 h4 _ failures counts (c.in_ok-zeros.ensures.clean t))
     (c.in-Err-answer.ensures.refused t s.number s.size long s.all (c.in-Ok.ensures.clean t))
 
-pub returns-in-Err-printed-clause-others : goal.returns-in-Err-printed-clause-others
-returns-in-Err-printed-clause-others g c = λ t.
-    others_read _ _ _ _ _ _ _ _ (c.in-Ok.ensures.opened t) refl (lands _ _ _ _ _ _ _ _ _ _ _
-    (c.in_ok-zeros.ensures.made t) (c.open_all.ensures.world t)
-    (c.lay_all-answer.ensures.world t) (c.lay_all-answer.ensures.held t) (c.close-is_on_output.ensures.ended t)
+pub returns-in-Err-printed-clause-leaves : goal.returns-in-Err-printed-clause-leaves
+returns-in-Err-printed-clause-leaves g c = λ t.
+    leaves_overlaid _ _ _ _ _ _ _ _ _ _ (c.in-Ok.ensures.opened t) refl (lands _ _ _ _ _ _ _ _ _ _ _
+    (c.in_ok-zeros.ensures.made t) (c.open_all.ensures.alone t).world
+    (c.lay_all-answer.ensures.alone.world t) (c.lay_all-answer.ensures.alone.held t) (c.close-is_on_output.ensures.ended t)
     (c.close-is_on_output.ensures.paths t))
-
-pub returns-in-Err-printed-clause-inputs : goal.returns-in-Err-printed-clause-inputs
-returns-in-Err-printed-clause-inputs g c = λ t.
-    ins_kept _ _ _ _ _ _ _ _ (c.in-Ok.ensures.opened t) refl (lands _ _ _ _ _ _ _ _ _ _ _
-    (c.in_ok-zeros.ensures.made t) (c.open_all.ensures.world t)
-    (c.lay_all-answer.ensures.world t) (c.lay_all-answer.ensures.held t) (c.close-is_on_output.ensures.ended t)
-    (c.close-is_on_output.ensures.paths t))
+    (search rules) tt
 
 pub returns-in-Err-printed-clause-refused : goal.returns-in-Err-printed-clause-refused
 returns-in-Err-printed-clause-refused g c = λ t.
     from_files c.into.result.fault _ _ _ _ _ _ (_, c.into.ensures) (inr
     (overlays _ _ _ _ _ _ _ _ _ _ _ _ _ _ _ _ (λ _. Unit {0}) c.whole_of-blocks.ensures (c.in-Ok.ensures.opened t)
-    (c.in-Ok.ensures.shape t) (c.in_ok-zeros.ensures.made t) (c.open_all.ensures.world t)
+    (c.in-Ok.ensures.shape t) (c.in_ok-zeros.ensures.made t) (c.open_all.ensures.alone t).world
     (c.in_ok-zeros.ensures.zeros t)
-    (c.in-Ok-answer.ensures.laid t) (c.lay_all-answer.ensures.world t) (c.lay_all-answer.ensures.held t)
+    (c.in-Ok-answer.ensures.laid t) (c.lay_all-answer.ensures.alone.world t) (c.lay_all-answer.ensures.alone.held t)
     (c.close-is_on_output.ensures.ended t) (c.close-is_on_output.ensures.paths t) tt))
 
-pub returns-in-Ok-printed-clause-others : goal.returns-in-Ok-printed-clause-others
-returns-in-Ok-printed-clause-others g c = λ t.
-    others_read _ _ _ _ _ _ _ _ (c.in-Ok.ensures.opened t) refl (lands _ _ _ _ _ _ _ _ _ _ _
-    (c.in_ok-zeros.ensures.made t) (c.open_all.ensures.world t)
-    (c.lay_all-answer.ensures.world t) (c.lay_all-answer.ensures.held t) (c.close-is_on_output.ensures.ended t)
+pub returns-in-Ok-printed-clause-leaves : goal.returns-in-Ok-printed-clause-leaves
+returns-in-Ok-printed-clause-leaves g c = λ t.
+    leaves_overlaid _ _ _ _ _ _ _ _ _ _ (c.in-Ok.ensures.opened t) refl (lands _ _ _ _ _ _ _ _ _ _ _
+    (c.in_ok-zeros.ensures.made t) (c.open_all.ensures.alone t).world
+    (c.lay_all-answer.ensures.alone.world t) (c.lay_all-answer.ensures.alone.held t) (c.close-is_on_output.ensures.ended t)
     (c.close-is_on_output.ensures.paths t))
-
-pub returns-in-Ok-printed-clause-inputs : goal.returns-in-Ok-printed-clause-inputs
-returns-in-Ok-printed-clause-inputs g c = λ t.
-    ins_kept _ _ _ _ _ _ _ _ (c.in-Ok.ensures.opened t) refl (lands _ _ _ _ _ _ _ _ _ _ _
-    (c.in_ok-zeros.ensures.made t) (c.open_all.ensures.world t)
-    (c.lay_all-answer.ensures.world t) (c.lay_all-answer.ensures.held t) (c.close-is_on_output.ensures.ended t)
-    (c.close-is_on_output.ensures.paths t))
+    (search rules) (search rules)
 
 pub returns-in-Ok-printed-clause-synced : goal.returns-in-Ok-printed-clause-synced
 returns-in-Ok-printed-clause-synced g c = λ t.
     synced _ _ _ _ _ _ _ _ _ (g.D.Part.Partition.past c.in_ok-zeros.zeros)
     (g.D.Part.Partition.past c.lay_all-answer.new.onto) _ _ _ _ _ (c.in-Ok.ensures.opened t)
     (c.in_ok-zeros.ensures.made t)
-    (c.lay_all-answer.ensures.held t) (c.close-is_on_output.ensures.closed t) (c.in_ok-zeros.ensures.past t)
+    (c.lay_all-answer.ensures.alone.held t) (c.close-is_on_output.ensures.closed t) (c.in_ok-zeros.ensures.past t)
     (c.in-Ok-answer.ensures.settled t (ap (λ q. q.pending) (c.in_ok-zeros.ensures.past t)))
     c.in-Ok-answer.ensures.synced (length-map c.in-Ok.all.kept.items _)
 
 pub returns-in-Ok-printed-clause-done : goal.returns-in-Ok-printed-clause-done
 returns-in-Ok-printed-clause-done g c = λ t.
     overlays _ _ _ _ _ _ _ _ _ _ _ _ _ _ _ _ _ c.whole_of-blocks.ensures (c.in-Ok.ensures.opened t)
-    (c.in-Ok.ensures.shape t) (c.in_ok-zeros.ensures.made t) (c.open_all.ensures.world t)
+    (c.in-Ok.ensures.shape t) (c.in_ok-zeros.ensures.made t) (c.open_all.ensures.alone t).world
     (c.in_ok-zeros.ensures.zeros t)
-    (c.in-Ok-answer.ensures.laid t) (c.lay_all-answer.ensures.world t) (c.lay_all-answer.ensures.held t)
+    (c.in-Ok-answer.ensures.laid t) (c.lay_all-answer.ensures.alone.world t) (c.lay_all-answer.ensures.alone.held t)
     (c.close-is_on_output.ensures.ended t) (c.close-is_on_output.ensures.paths t) c.in-Ok-printed.ensures

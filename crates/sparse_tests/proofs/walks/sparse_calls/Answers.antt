@@ -5,7 +5,7 @@ copy-requires-clause-told c = λ tells.
     let part = c.in_ok-next_part.ensures in
     let run = c.in_ok-raw.ensures in
     let image = c.in_ok-runs.ensures in
-    rw (part.reads.content tells, run.reads.content tells, image.reads.content tells) (
+    rw (part.part.source.reads.content tells, run.source.reads.content tells, image.reads.content tells) (
       image.opened tells,
       rw (image.reads.content tells) at (run.told tells).places.0,
     )

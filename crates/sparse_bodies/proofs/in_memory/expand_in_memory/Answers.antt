@@ -1,5 +1,0 @@
-use Rattle.std.proofs.Common.{refl}
-use Rattle.sparse_bodies.proofs.in_memory.expand_in_memory.Goals as goal
-
-pub returns-clause-others : goal.returns-clause-others
-returns-clause-others c = c.expand_one.ensures.others refl
