@@ -1,10 +1,9 @@
 -- What calls leave of what they are lent, one after the other.
-use Rattle.std.proofs.Common.{◌≡◌, ℕ, ◌+◌, ◌≤◌, ◌∙◌, arith, refl, subst, Result, Ok, Err, OnOk, List, sum_by}
+use Rattle.std.proofs.Common.{◌≡◌, ℕ, ◌∙◌, arith, refl, subst, Result, Ok, Err, OnOk}
 use Rattle.std.proofs.Math.Nat.{le_refl, le_trans}
-use Rattle.abt_io.specs.Lent.{NoStep, OneStep, OnlyReads, OnlyReadsAll, OnlyWrites}
+use Rattle.abt_io.specs.Lent.{OnlyReads, OnlyWrites}
 use Rattle.abt_io.specs.declared.device.Source as sources
 use Rattle.abt_io.specs.declared.device.Output as outputs
-use Rattle.abt_io.specs.declared.meter.Meter.{Meter}
 
 -- nothing was done
 pub reads_none : {X E : Type 0} (r : Result X E) {A : Type 0} (s : sources.Ghosts A) (a : A) → OnlyReads r s a a
@@ -76,10 +75,3 @@ writes_ok y d = record {
   clean = d.clean;
   full_faults = d.full_faults;
 }
-
--- steps
-pub no_step : (m : Meter) → NoStep m m
-no_step m = record { steps = refl; greatest = refl }
-
-pub no_steps : {a b z : Meter} → NoStep a b → NoStep b z → NoStep a z
-no_steps k d = record { steps = d.steps ∙ k.steps; greatest = d.greatest ∙ k.greatest }

@@ -1,7 +1,8 @@
 //! A lent slice as a partition.
 
-ghost use Rattle.std.specs.Prelude.{◌≡◌, ◌+◌, length, true, refl};
-ghost use Rattle.abt_io.specs.Moment.{no_past};
+ghost use Rattle.std.specs.Prelude.{◌≡◌, ◌≤◌, ◌+◌, length, true, refl};
+ghost use Rattle.abt_io.specs.Calls.{HasLaid, HasPut, HasSettled, HasSynced};
+ghost use Rattle.abt_io.specs.Moment.{no_past, put_at, settled, wrote};
 
 use crate::bytes::read_part;
 use crate::cells::Cells;
@@ -90,7 +91,17 @@ impl<'a> Partition for SlicePartition<'a> {
 
     ghost reading = { λ s. refl };
 
-    fn write_at(&mut self, at: u64, bytes: &[u8]) -> Result<usize, DeviceFault> {
+    fn write_at(&mut self, at: u64, bytes: &[u8]) -> Result<usize, DeviceFault>
+        requires window { length bytes.now ≤ 65536 }
+        requires fits { at + length bytes.now ≤ length self.old.cells.bytes.now }
+        ensures laid { let p = ⟦<SlicePartition<'a> as Partition>⟧ in HasLaid p.tells p.content p.past result
+            self.old self.new at bytes.now }
+        ensures put { let p = ⟦<SlicePartition<'a> as Partition>⟧ in HasPut p.size p.reads p.given
+            p.read_faults p.puts p.taken p.syncs p.put_faults result self.old self.new (length bytes.now) }
+        ensures bytes { self.new.cells.bytes.now ≡ put_at self.old.cells.bytes.now at bytes.now }
+        ensures past { self.new.history.past
+            ≡ wrote self.old.history.past self.new.cells.bytes.now at (length bytes.now) }
+    {
         let len = bytes.len();
         self.puts.add(1);
         self.taken.add(len as u64);
@@ -101,7 +112,13 @@ impl<'a> Partition for SlicePartition<'a> {
         Ok(len)
     }
 
-    fn sync(&mut self) -> Result<(), DeviceFault> {
+    fn sync(&mut self) -> Result<(), DeviceFault>
+        ensures settled { let p = ⟦<SlicePartition<'a> as Partition>⟧ in HasSettled p.tells p.content p.past
+            result self.old self.new }
+        ensures synced { let p = ⟦<SlicePartition<'a> as Partition>⟧ in HasSynced p.size p.reads p.given
+            p.read_faults p.puts p.taken p.syncs p.put_faults result self.old self.new }
+        ensures past { self.new.history.past ≡ settled self.old.history.past self.old.cells.bytes.now }
+    {
         self.syncs.add(1);
         let mut history = mem::replace(&mut self.history, History::new());
         history.settled(self.cells.all());

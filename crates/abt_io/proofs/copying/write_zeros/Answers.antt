@@ -1,12 +1,13 @@
-use Rattle.std.proofs.Common.{arith, ◌∙◌, ◌≡◌, ◌≤◌, ◌-◌, ◌+◌, ap, refl, length, take, replicate, length-append, ℕ}
+use Rattle.std.proofs.Common.{arith, ◌∙◌, ◌≡◌, ◌+◌, ap, refl, length, replicate, length-append, ℕ}
 use Rattle.std.proofs.lemmas.List.{length-replicate}
-use Rattle.abt_io.proofs.Copied.{zeros_part, zeros_more, zeros_stay, zeros_all}
+use Rattle.abt_io.proofs.Copied.{zeros_more, zeros_stay}
 use Rattle.abt_io.proofs.copying.write_zeros.Goals as goal
 
 pub returns-in-Err-clause-front : goal.returns-in-Err-clause-front
 returns-in-Err-clause-front g c =
     let i = c.loop-at.invariant in
-    zeros_stay _ _ _ c.loop-at.at c.args.n i.written (rw c.in-Err.is at c.write_zeros.ensures.wrote.written) i.within i.long
+    zeros_stay _ _ _ c.loop-at.at c.args.n i.written (rw c.in-Err.is at c.write_zeros.ensures.wrote.written) i.within
+    i.long
 
 pub loop-at-preserved : goal.loop-at-preserved
 loop-at-preserved g c =
@@ -15,7 +16,12 @@ loop-at-preserved g c =
     let some = c.in-Ok.some in
     let written = g.O.Output.written in
     let longer : length (written c.write_zeros.new.self) ≡ length (written c.loop-at.output) + some =
-    omega (arith, ap length e.written, length-append (written c.loop-at.output) (replicate some 0), length-replicate {A = ℕ} some 0) in
+    omega (
+      arith,
+      ap length e.written,
+      length-append (written c.loop-at.output) (replicate some 0),
+      length-replicate {A = ℕ} some 0,
+    ) in
     record {
       within = omega arith;
       long = omega arith;

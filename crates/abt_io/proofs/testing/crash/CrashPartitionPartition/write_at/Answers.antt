@@ -1,34 +1,12 @@
-use Rattle.std.proofs.Common.{rules, length, ◌∙◌, ap, sym, List, ℕ, ◌≡◌, ◌∷◌}
-use Rattle.std.proofs.Math.Nat.{le_refl}
-use Rattle.std.proofs.lemmas.List.{take_all}
-use Rattle.abt_io.specs.Moment.{wrote, put_at}
-use Rattle.abt_io.proofs.Moments.{one_wrote}
-use Rattle.abt_io.proofs.Tracked.{tracked_more, kept_wrote, unsettled_wrote}
+use Rattle.abt_io.proofs.Tracked.{tracked_more}
 use Rattle.abt_io.proofs.testing.crash.CrashPartitionPartition.write_at.Goals as goal
 
 pub invariant_of-self : goal.invariant_of-self
 invariant_of-self c =
     let s = c.args.self.now in
-    let n = length c.args.bytes.now in
-    let pending : c.wrote.new.self.past.pending ≡ (c.args.at, n) ∷ s.history.past.pending = search rules in
-    record { tracked = rw (c.put.ensures.value, c.fill.ensures.value, pending) (tracked_more s.now.bytes.now s.stable.bytes.now s.touched.bytes.now s.history.past.pending c.args.at c.args.bytes.now s.tracked c.requires.fits) }
-
-pub returns-clause-laid : goal.returns-clause-laid
-returns-clause-laid c =
-    let s = c.args.self.now in
-    let n = length c.args.bytes.now in
-    let past : c.wrote.new.self.past ≡ wrote s.history.past c.put.new.self.bytes.now c.args.at n = search rules in
-    let laid = rw c.put.ensures.value at past in
     record {
-      written = λ tells. c.put.ensures.value
-          ∙ ap (λ (l : List ℕ). put_at s.now.bytes.now c.args.at l) (sym (take_all (length c.args.bytes.now) c.args.bytes.now (le_refl _)));
-      kept = λ tells. rw c.put.ensures.value
-          (kept_wrote s.history.past c.wrote.new.self.past s.now.bytes.now c.args.bytes.now c.args.at c.requires.fits laid);
-      moments = λ tells. one_wrote s.history.past c.wrote.new.self.past c.put.new.self.bytes.now c.args.at n past;
-      newest = λ tells. search rules;
-      pending = λ tells. search rules;
-      stays = λ tells. search rules;
-      unsettled = λ tells. rw c.put.ensures.value
-          (unsettled_wrote s.history.past c.wrote.new.self.past s.now.bytes.now c.args.bytes.now c.args.at c.requires.fits laid);
-      synced = search rules;
+      tracked = rw (c.write_at.ensures.bytes, c.fill.ensures.value, c.write_at.ensures.past)
+          (tracked_more s.now.cells.bytes.now s.stable.bytes.now s.touched.bytes.now s.now.history.past.pending
+          c.args.at
+          c.args.bytes.now s.tracked c.requires.fits);
     }
