@@ -28,20 +28,6 @@ number_low (faults.Truncated n) = omega arith
 number_low (faults.Read d) = omega arith
 number_low (faults.Write d) = omega arith
 
-pub number_some : (f : SparseFault) → 0 < number_of f
-number_some faults.Magic = omega arith
-number_some (faults.Major n) = omega arith
-number_some (faults.FileHeaderSize n) = omega arith
-number_some (faults.ChunkHeaderSize n) = omega arith
-number_some (faults.BlockSize n) = omega arith
-number_some (faults.ChunkType i k) = omega arith
-number_some (faults.ChunkLength i) = omega arith
-number_some (faults.TooManyBlocks i) = omega arith
-number_some (faults.TooFewBlocks n) = omega arith
-number_some (faults.Truncated n) = omega arith
-number_some (faults.Read d) = omega arith
-number_some (faults.Write d) = omega arith
-
 -- no part of an image has the fault of a spoiled state
 pub not_spoiled : (q : Pull) (o : AbtPart) → PartIs q o → o.fault ≡ 90 → ⊥
 not_spoiled pulls.Need o is e = absurd (omega (arith, is.1, e))
@@ -53,23 +39,3 @@ not_spoiled (pulls.Gives parts.End) o is e = absurd (omega (arith, is.1, e))
 not_spoiled (pulls.Gives (parts.Fault f)) o is e = absurd (omega (arith, is.1, e, number_low f))
 
 -- ---- states that were left
-
-live_in : (q : Phase) (n d : ℕ) → phase_number q < 3 → n ≡ kept_fault q → d ≡ kept_detail q → (n ≡ 0) × (d ≡ 0)
-live_in phases.Header n d lt e g = (e, g)
-live_in phases.Body n d lt e g = (e, g)
-live_in phases.Done n d lt e g = (e, g)
-live_in (phases.Failed f) n d lt e g = absurd (omega (arith, lt))
-
-kept_in : (q : Phase) (n : ℕ) → 3 ≤ phase_number q → n ≡ kept_fault q → 0 < n
-kept_in phases.Header n lt e = absurd (omega (arith, lt))
-kept_in phases.Body n lt e = absurd (omega (arith, lt))
-kept_in phases.Done n lt e = absurd (omega (arith, lt))
-kept_in (phases.Failed f) n lt e = omega (arith, e, number_some f)
-
--- one that has failed keeps the fault of an image
-pub kept : (s : AbtSparse) (p : Puller) → StandsWhole s p → 3 ≤ s.phase → 0 < s.fault
-kept s p k lt = kept_in p.walk.phase s.fault (let e = k.stands.phase in omega (arith, e, lt)) k.fault
-
--- one that has not keeps none
-pub live : (s : AbtSparse) (p : Puller) → StandsWhole s p → s.phase < 3 → (s.fault ≡ 0) × (s.detail ≡ 0)
-live s p k lt = live_in p.walk.phase s.fault s.detail (let e = k.stands.phase in omega (arith, e, lt)) k.fault k.detail

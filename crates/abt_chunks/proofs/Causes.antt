@@ -24,76 +24,11 @@ use Rattle.abt_chunks.specs.ListingAhead.{at_end, is_between, is_spent}
 use Rattle.abt_chunks.specs.Ahead.{due_of}
 use Rattle.std.proofs.lemmas.Bool.{cases_Bool}
 
-own_fault : (f : SparseFault) → Caused (parts.Fault f) phases.Header 1 0 → full_in_fault f ≡ 0
-own_fault (faults.Read d) h = absurd (omega (arith, h))
-own_fault (faults.Write d) h = absurd h
-own_fault f h = refl
-
-own_body : (f : SparseFault) → Caused (parts.Fault f) phases.Body 1 0 → full_in_fault f ≡ 0
-own_body (faults.Read d) h = absurd (omega (arith, h))
-own_body (faults.Write d) h = absurd h
-own_body f h = refl
-
-own_here : (f : SparseFault) (p : Phase) → IsGoing p → Caused (parts.Fault f) p 1 0 → full_in_fault f ≡ 0
-own_here f phases.Header going h = own_fault f h
-own_here f phases.Body going h = own_body f h
-own_here f phases.Done going h = absurd going
-own_here f (phases.Failed g) going h = absurd going
-
--- a fault of the image hands on no device's
-pub own_part : (q : Part) (p : Phase) → IsGoing p → Caused q p 1 0 → full_in_part q ≡ 0
-own_part (parts.Fault f) p going h = own_here f p going h
-own_part q p going h = refl
-
-pub answer_full : (q : Part) → full_answered (answer_of q) ≡ full_in_part q
-answer_full (parts.Fault f) = refl
-answer_full q = refl
-
--- that a device is full is answered to no part of a walk, and to a failed write where the device says so
-pub none_since : (p : Phase) (q : Part) → (IsGoing p → full_in_part q ≡ 0) → full_since p (answer_of q) ≡ 0
-none_since phases.Header q none = answer_full q ∙ none tt
-none_since phases.Body q none = answer_full q ∙ none tt
-none_since phases.Done q none = refl
-none_since (phases.Failed f) q none = refl
-
 pub since_going : {X : Type 0} (p : Phase) (r : Result X SparseFault) → IsGoing p → full_since p r ≡ full_answered r
 since_going phases.Header r going = refl
 since_going phases.Body r going = refl
 since_going phases.Done r going = absurd going
 since_going (phases.Failed f) r going = absurd going
-
--- a fault of the image blames no device, whatever it did
-caused_header : (f : SparseFault) (r r' : ℕ) → Caused (parts.Fault f) phases.Header 1 0 → Caused (parts.Fault f) phases.Header r r'
-caused_header (faults.Read d) r r' h = absurd (omega (arith, h))
-caused_header (faults.Write d) r r' h = absurd h
-caused_header f r r' h = tt
-
-caused_body : (f : SparseFault) (r r' : ℕ) → Caused (parts.Fault f) phases.Body 1 0 → Caused (parts.Fault f) phases.Body r r'
-caused_body (faults.Read d) r r' h = absurd (omega (arith, h))
-caused_body (faults.Write d) r r' h = absurd h
-caused_body f r r' h = tt
-
-caused_done : (f : SparseFault) (r r' : ℕ) → Caused (parts.Fault f) phases.Done 1 0 → Caused (parts.Fault f) phases.Done r r'
-caused_done (faults.Read d) r r' h = absurd (omega (arith, h))
-caused_done (faults.Write d) r r' h = absurd h
-caused_done f r r' h = tt
-
-caused_fault : (f : SparseFault) (p : Phase) (r r' : ℕ) → Caused (parts.Fault f) p 1 0 → Caused (parts.Fault f) p r r'
-caused_fault f phases.Header r r' h = caused_header f r r' h
-caused_fault f phases.Body r r' h = caused_body f r r' h
-caused_fault f phases.Done r r' h = caused_done f r r' h
-caused_fault f (phases.Failed g) r r' h = h
-
-pub own_caused : (q : Part) (p : Phase) (r r' : ℕ) → Caused q p 1 0 → Caused q p r r'
-own_caused (parts.Fault f) p r r' h = caused_fault f p r r' h
-own_caused q p r r' h = tt
-
--- and a failed read the input, which a walk that is over does not read
-pub read_caused : (d : DeviceFault) (p : Phase) (r r' : ℕ) → r < r' → (IsWalkOver p → r' ≡ r) → Caused (parts.Fault (faults.Read d)) p r r'
-read_caused d phases.Header r r' rose none = rose
-read_caused d phases.Body r r' rose none = rose
-read_caused d phases.Done r r' rose none = rose
-read_caused d (phases.Failed f) r r' rose none = absurd (omega (arith, rose, none tt))
 
 pub asks_none : (turn : Turn) (s : Walk) → AtTurn turn s → IsWalkOver s.phase → ask_of turn s ≡ 0
 asks_none turns.Header s h over = absurd (rw h at over)
@@ -123,31 +58,39 @@ cut_map f P Q g h = g h
 -- ---- how much is read
 
 pub some_of : (n a b : ℕ) → 0 < n → (if n == 0 then a else b) ≡ b
-some_of n a b lt = let e : (n == 0) ≡ false = ne_eqb _ _ (λ q. absurd (omega (arith, q))) in ap (λ (v : Bool). if v then a else b) e
+some_of n a b lt = let e : (n == 0) ≡ false = ne_eqb _ _ (λ q. absurd (omega (arith, q))) in
+    ap (λ (v : Bool). if v then a else b) e
 
 pub none_of : (n a b : ℕ) → n ≡ 0 → (if n == 0 then a else b) ≡ a
 none_of n a b q = let e : (n == 0) ≡ true = eq-eqb _ _ q in ap (λ (v : Bool). if v then a else b) e
 
-data_word : (k : ChunkKind) (due : Bool) (raw words head : ℕ) → due_of k ≡ true → due ≡ true → data_wanted k due raw words head ≡ 4
+data_word : (k : ChunkKind) (due : Bool) (raw words head : ℕ) → due_of k ≡ true → due ≡ true
+    → data_wanted k due raw words head ≡ 4
 data_word kinds.Raw due raw words head d e = absurd cc
 data_word kinds.Fill due raw words head d e = rw e refl
 data_word kinds.Skip due raw words head d e = absurd cc
 data_word kinds.Crc due raw words head d e = rw e refl
 
-data_spent : (k : ChunkKind) (due : Bool) (raw words head : ℕ) → SpentBy k due raw words → data_wanted k due raw words head ≡ head
+data_spent : (k : ChunkKind) (due : Bool) (raw words head : ℕ) → SpentBy k due raw words
+    → data_wanted k due raw words head ≡ head
 data_spent kinds.Raw due raw words head e = none_of raw head raw e
 data_spent kinds.Fill due raw words head e = rw e.0 (none_of words head 0 e.1)
 data_spent kinds.Skip due raw words head e = none_of words head 0 e
 data_spent kinds.Crc due raw words head e = rw e refl
 
-body_wanted : (s : Walk) → s.phase ≡ phases.Body → s.extra ≡ 0 → wanted s ≡ data_wanted s.kind s.due s.raw s.words (head_wanted s)
-body_wanted s p e = ap (λ (q : Phase). wanted_in q s) p ∙ none_of s.extra (data_wanted s.kind s.due s.raw s.words (head_wanted s)) s.extra e
+body_wanted : (s : Walk) → s.phase ≡ phases.Body → s.extra ≡ 0
+    → wanted s ≡ data_wanted s.kind s.due s.raw s.words (head_wanted s)
+body_wanted s p e = ap (λ (q : Phase). wanted_in q s) p
+    ∙ none_of s.extra (data_wanted s.kind s.due s.raw s.words (head_wanted s)) s.extra e
 
 extra_wanted : (s : Walk) → s.phase ≡ phases.Body → 0 < s.extra → wanted s ≡ s.extra
-extra_wanted s p e = ap (λ (q : Phase). wanted_in q s) p ∙ some_of s.extra (data_wanted s.kind s.due s.raw s.words (head_wanted s)) s.extra e
+extra_wanted s p e = ap (λ (q : Phase). wanted_in q s) p
+    ∙ some_of s.extra (data_wanted s.kind s.due s.raw s.words (head_wanted s)) s.extra e
 
-raw_wanted : (k : ChunkKind) (due : Bool) (raw words head : ℕ) → k ≡ kinds.Raw → 0 < raw → data_wanted k due raw words head ≡ raw
-raw_wanted k due raw words head e lt = ap (λ (j : ChunkKind). data_wanted j due raw words head) e ∙ some_of raw head raw lt
+raw_wanted : (k : ChunkKind) (due : Bool) (raw words head : ℕ) → k ≡ kinds.Raw → 0 < raw
+    → data_wanted k due raw words head ≡ raw
+raw_wanted k due raw words head e lt = ap (λ (j : ChunkKind). data_wanted j due raw words head) e
+    ∙ some_of raw head raw lt
 
 pub more_heads : (s : Walk) → s.index < s.header.total_chunks → head_wanted s ≡ 12
 more_heads s lt = ap (λ (v : Bool). if v then 12 else 0) (lt-ltb _ _ lt)
@@ -158,11 +101,15 @@ no_heads s le = ap (λ (v : Bool). if v then 12 else 0) (le-ltb _ _ le)
 pub asked_wanted : (turn : Turn) (s : Walk) → AtTurn turn s → ask_of turn s ≤ wanted s
 asked_wanted turns.Header s h = let e : wanted s ≡ 28 = ap (λ (q : Phase). wanted_in q s) h in omega (arith, e)
 asked_wanted turns.Extra s h = omega (arith, extra_wanted s h.0 h.1)
-asked_wanted turns.Raw s h = let e : wanted s ≡ s.raw = body_wanted s h.0 h.1 ∙ raw_wanted s.kind s.due s.raw s.words (head_wanted s) h.2 h.3 in omega (arith, e)
-asked_wanted turns.Word s h = let e : wanted s ≡ 4 = body_wanted s h.0 h.1 ∙ data_word s.kind s.due s.raw s.words (head_wanted s) h.2 h.3 in omega (arith, e)
+asked_wanted turns.Raw s h = let e : wanted s ≡ s.raw =
+    body_wanted s h.0 h.1 ∙ raw_wanted s.kind s.due s.raw s.words (head_wanted s) h.2 h.3 in omega (arith, e)
+asked_wanted turns.Word s h = let e : wanted s ≡ 4 =
+    body_wanted s h.0 h.1 ∙ data_word s.kind s.due s.raw s.words (head_wanted s) h.2 h.3 in omega (arith, e)
 asked_wanted turns.Fill s h = omega arith
 asked_wanted turns.Gap s h = omega arith
-asked_wanted turns.Chunk s h = let e : wanted s ≡ 12 = body_wanted s h.0 h.1 ∙ data_spent s.kind s.due s.raw s.words (head_wanted s) h.2 ∙ more_heads s h.3 in omega (arith, e)
+asked_wanted turns.Chunk s h = let e : wanted s ≡ 12 =
+    body_wanted s h.0 h.1 ∙ data_spent s.kind s.due s.raw s.words (head_wanted s) h.2 ∙ more_heads s h.3 in
+    omega (arith, e)
 asked_wanted turns.End s h = omega arith
 asked_wanted turns.Over s h = omega arith
 
@@ -192,13 +139,17 @@ at_most_head s = elim (cases_Bool (nat_lt s.index s.header.total_chunks)) [
 pub wanted_between : (s : Walk) → s.phase ≡ phases.Body → at_end s ≡ true → wanted s ≤ 12
 wanted_between s p e =
     let x : s.extra ≡ 0 = eqb-true _ _ (both_left (s.extra == 0) (is_spent s.kind s.due s.raw s.words) e) in
-    let q : wanted s ≡ head_wanted s = body_wanted s p x ∙ data_spent s.kind s.due s.raw s.words (head_wanted s) (spent_by s.kind s.due s.raw s.words (both_right (s.extra == 0) (is_spent s.kind s.due s.raw s.words) e)) in
+    let q : wanted s ≡ head_wanted s =
+    body_wanted s p x ∙ data_spent s.kind s.due s.raw s.words (head_wanted s)
+    (spent_by s.kind s.due s.raw s.words (both_right (s.extra == 0) (is_spent s.kind s.due s.raw s.words) e)) in
     omega (arith, q, at_most_head s)
 
 -- a listing that is refused between two chunks, for what the next one says
-pub bounded_next : (f : SparseFault) (p : Phase) (s : Walk) (a b : ℕ) → s.phase ≡ p → is_between p s ≡ true → (s.phase ≡ phases.Body → UnlessCut f (at_end s ≡ true)) → (IsWalkOver p → b ≡ a) → b - a ≤ wanted s
+pub bounded_next : (f : SparseFault) (p : Phase) (s : Walk) (a b : ℕ) → s.phase ≡ p → is_between p s ≡ true
+    → (s.phase ≡ phases.Body → UnlessCut f (at_end s ≡ true)) → (IsWalkOver p → b ≡ a) → b - a ≤ wanted s
     → UnlessCut f (b ≤ a + 12)
 bounded_next f phases.Header s a b q between refuse over more = absurd cc
-bounded_next f phases.Body s a b q between refuse over more = cut_map f (at_end s ≡ true) (b ≤ a + 12) (λ e. let w = wanted_between s q e in omega (arith, more, w)) (refuse q)
+bounded_next f phases.Body s a b q between refuse over more =
+    cut_map f (at_end s ≡ true) (b ≤ a + 12) (λ e. let w = wanted_between s q e in omega (arith, more, w)) (refuse q)
 bounded_next f phases.Done s a b q between refuse over more = cut_of f (b ≤ a + 12) (omega (arith, over tt))
 bounded_next f (phases.Failed g) s a b q between refuse over more = cut_of f (b ≤ a + 12) (omega (arith, over tt))

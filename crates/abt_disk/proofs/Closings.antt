@@ -14,20 +14,20 @@ pub others_spared : (path x y : List ℕ) (a c : World) (h h' : Held) → OpensP
     → c.at ≡ a.at → SparesOthers path a c
 others_spared path x y a c h h' o ends paths = record {
   paths = paths;
-  files = λ f other. (ends_in path x y a c h h' o ends).1.files f (λ same. other (subst (λ g. a.at path ≡ Some g) (sym same) o.there));
+  files = λ f other. (ends_in path x y a c h h' o ends).1.files f
+      (λ same. other (subst (λ g. a.at path ≡ Some g) (sym same) o.there));
 }
 
-pub keeps_same : (path : List ℕ) (a c : World) → c ≡ a → KeepsFile path a c
-keeps_same path a c same = λ f there. ap (λ w. w.holds f) same
-
 -- a file that is read is not the one that is written in place
-pub apart_from : (input path x y : List ℕ) (a : World) (h0 h h' : Held) (r : OpensFile a input x h0 h) (o : OpensPart a path y h h')
+pub apart_from : (input path x y : List ℕ) (a : World) (h0 h h' : Held) (r : OpensFile a input x h0 h)
+    (o : OpensPart a path y h h')
     → r.file ≢ o.file
 apart_from input path x y a h0 h h' r o same =
     o.free (subst (λ f. Contains h.read f) same
     (subst (λ (g : Held). Contains g.read r.file) (sym r.taken) (Contains-push h0.read r.file)))
 
-pub keeps_read : (input path x y z : List ℕ) (a c : World) (h0 h h' : Held) → OpensFile a input x h0 h → OpensPart a path y h h'
+pub keeps_read : (input path x y z : List ℕ) (a c : World) (h0 h h' : Held) → OpensFile a input x h0 h
+    → OpensPart a path y h h'
     → Ends h'.part z a c → KeepsFile input a c
 keeps_read input path x y z a c h0 h h' r o ends = λ f there.
     (ends_in path y z a c h h' o ends).1.files f (λ same. apart_from input path x y a h0 h h' r o

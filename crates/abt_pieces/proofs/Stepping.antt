@@ -135,15 +135,6 @@ piece_covers_plan one n e = elim (cases_Bool (nat_lt (e + 1) n)) [
   ]
 ]
 
--- a plan that has passed nothing
-pub plan_begins : (K : Cursor → ℕ) (b limit : ℕ) (start : Cursor) (p : Planner) → p.at ≡ start → p.contents ≡
-    contents_before start.block → TakenPlan K b limit start p
-plan_begins K b limit start p at contents =
-    let few = begin_bytes start.block in
-    let bytes : p.contents.bytes ≤ 40 = rw contents few in
-    let here : K p.at ≡ K start = ap K at in
-    record { most = omega (arith, bytes, here); inside = λ u other. omega (arith, bytes, here) }
-
 -- ---- behind a piece
 
 -- how a cutter stands behind a piece of an image of n blocks that ends before block e

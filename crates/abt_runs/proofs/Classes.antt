@@ -189,6 +189,3 @@ never b n m e h = absurd cc
 pub if_none : {P : Type 0} (o : Option RunFault) → o ≡ None → IfNone o P → P
 if_none None e h = h
 if_none (Some f) e h = absurd cc
-
-pub none_is : (o : Option RunFault) → o ≡ None → is_some o ≡ false
-none_is o e = rw e refl

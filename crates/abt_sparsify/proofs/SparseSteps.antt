@@ -232,11 +232,6 @@ pub header_first : (b r : ℕ) (l : List Block) (b' n k : ℕ) → b' ≡ b → 
     spelling b r l ≡ header_record (plain_header b' n k) ++ bytes_of r l
 header_first b r l b' n k e f h = rw (e, f, h) refl
 
-pub answered : (res : Result Written PieceFault) (n m k : ℕ) → n ≡ m → IfOk res (λ a. a.blocks ≡ n) → IfOk res
-    (λ a. a.chunks ≡ k) → IfOk res (λ a. (a.blocks ≡ m) × (a.chunks ≡ k))
-answered (Ok a) n m k e h i = (h ∙ e, i)
-answered (Err f) n m k e h i = tt
-
 -- ---- what is read
 
 pub is_end_place : (n b : ℕ) → b ≤ 65536 → RawPlace n b (end_place n)

@@ -21,45 +21,10 @@ found_later test xs i d below fails = ap (find test) (drop_more xs i d below) �
 pub found_nowhere : {X : Type 0} (test : X → Bool) (xs : List X) (i : ℕ) → length xs ≤ i → find test (drop i xs) ≡ None
 found_nowhere test xs i past = ap (find test) (drop_all i xs past)
 
-taken_in : {X : Type 0} (test : X → Bool) (xs : List X) (i : ℕ) (d : X) → i < length xs → test (get_or xs i d) ≡ true
-    → filter test (drop i xs) ≡ get_or xs i d ∷ filter test (drop (i + 1) xs)
-taken_in test xs i d below holds = ap (filter test) (drop_more xs i d below) ∙ cond-true _ _ _ holds
-
-kept_out : {X : Type 0} (test : X → Bool) (xs : List X) (i : ℕ) (d : X) → i < length xs → test (get_or xs i d) ≡ false
-    → filter test (drop i xs) ≡ filter test (drop (i + 1) xs)
-kept_out test xs i d below fails = ap (filter test) (drop_more xs i d below) ∙ cond-false _ _ _ fails
-
--- one word more was taken over of those that pass the test, or it was passed over; at the end all were
-pub word_taken : {X : Type 0} (test : X → Bool) (word : X → List ℕ) (xs : List X) (i : ℕ) (d : X) (old new all : List
-    (List ℕ)) → i < length xs
-    → test (get_or xs i d) ≡ true → new ≡ old ++ (word (get_or xs i d) ∷ [])
-    → old ++ map word (filter test (drop i xs)) ≡ all
-    → new ++ map word (filter test (drop (i + 1) xs)) ≡ all
-word_taken test word xs i d old new all below holds pushed so_far =
-    ap (λ l. l ++ map word (filter test (drop (i + 1) xs))) pushed
-    ∙ append_assoc old (word (get_or xs i d) ∷ []) (map word (filter test (drop (i + 1) xs)))
-    ∙ ap (λ l. old ++ map word l) (sym (taken_in test xs i d below holds)) ∙ so_far
-
-pub word_passed : {X : Type 0} (test : X → Bool) (word : X → List ℕ) (xs : List X) (i : ℕ) (d : X) (old all : List
-    (List ℕ)) → i < length xs
-    → test (get_or xs i d) ≡ false → old ++ map word (filter test (drop i xs)) ≡ all
-    → old ++ map word (filter test (drop (i + 1) xs)) ≡ all
-word_passed test word xs i d old all below fails so_far =
-    ap (λ l. old ++ map word l) (sym (kept_out test xs i d below fails)) ∙ so_far
-
-pub words_done : {X : Type 0} (test : X → Bool) (word : X → List ℕ) (xs : List X) (i : ℕ) (old all : List (List ℕ))
-    → length xs ≤ i
-    → old ++ map word (filter test (drop i xs)) ≡ all → old ≡ all
-words_done test word xs i old all past so_far =
-    sym (append-nil old) ∙ ap (λ l. old ++ map word (filter test l)) (sym (drop_all i xs past)) ∙ so_far
-
 -- what is left behind one word more
 pub left_behind : (found words : List (List ℕ)) (i : ℕ) → i < length words
     → left_of found (drop i words) ≡ left_of (struck found (get_or words i [])) (drop (i + 1) words)
 left_behind found words i below = ap (left_of found) (drop_more words i [] below)
-
-pub left_at_end : (found words : List (List ℕ)) (i : ℕ) → length words ≤ i → left_of found (drop i words) ≡ found
-left_at_end found words i past = ap (left_of found) (drop_all i words past)
 
 -- what is said behind some words is said
 pub said_behind : (name value : List ℕ) (i : ℕ) (words : List (List ℕ)) → SaysValue name value (drop i words)

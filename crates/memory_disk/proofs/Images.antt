@@ -14,13 +14,5 @@ pub left_put : (o : Option ℕ) (file : ℕ) (ps : List MemoryPath) (fs : List M
 left_put o file ps fs x e below =
     subst (λ o. Leaves o x.bytes.items (world_of_files ps (set fs file x))) (sym e) (inl (holds_new fs file x below))
 
--- a file was made
-pub same_made : (ps ps' : List MemoryPath) (fs fs' : List MemoryFile) (x : MemoryFile) → fs' ≡ fs ++ (x ∷ [])
-    → x.bytes.items ≡ [] → HoldsSame (world_of_files ps fs) (world_of_files ps' fs')
-same_made ps ps' fs fs' x e empty file = ap (λ l. get_or (contents l) file []) e ∙ holds_more fs x empty file
-
-pub empties : (path : List ℕ) (a b : World) → HoldsSame a b → EmptiesAt path a b
-empties path a b same file at = inl (same file)
-
 pub empties_then : (path : List ℕ) (a b c : World) → c ≡ b → EmptiesAt path a b → EmptiesAt path a c
 empties_then path a b c e h = subst (λ w. EmptiesAt path a w) (sym e) h
