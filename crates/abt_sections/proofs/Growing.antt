@@ -1,6 +1,6 @@
 -- What an output was given, write after write.
 use Rattle.std.proofs.Common.{◌≡◌, ℕ, ◌+◌, ◌-◌, ◌≤◌, List, ◌++◌, length, take, refl, sym, ap, ◌∙◌, append_assoc, arith}
-use Rattle.std.proofs.Common.{length-append, length-take, append-nil, drop, take-append-drop}
+use Rattle.std.proofs.Common.{length-append, length-take, drop, take-append-drop}
 use Rattle.std.proofs.lemmas.List.{take-append-le, take_all, take_at, drop_at}
 use Rattle.std.proofs.Math.Seq.{take-append-add}
 use Rattle.abt_io.proofs.Parts.{take_plus}
@@ -15,7 +15,8 @@ begins_stop a b x y e =
     e ∙ ap (λ (l : List ℕ). a ++ l) (sym (take-append-le k x y short))
 
 -- all of x, and then a beginning of y
-pub begins_then : (a b c x y : List ℕ) → b ≡ a ++ x → AppendsFront b c y → length b ≤ length c → AppendsFront a c (x ++ y)
+pub begins_then : (a b c x y : List ℕ) → b ≡ a ++ x → AppendsFront b c y → length b ≤ length c
+    → AppendsFront a c (x ++ y)
 begins_then a b c x y all e le =
     let j = length c - length b in
     let k : length c - length a ≡ length x + j = omega (arith, ap length all, length-append a x) in
@@ -23,11 +24,6 @@ begins_then a b c x y all e le =
     ∙ append_assoc a x (take j y)
     ∙ ap (λ (l : List ℕ). a ++ l) (sym (take-append-add x y j))
     ∙ ap (λ (n : ℕ). a ++ take n (x ++ y)) (sym k)
-
--- nothing came
-pub begins_none : (a x : List ℕ) → AppendsFront a a x
-begins_none a x = let z : length a - length a ≡ 0 = omega arith in sym (ap (λ (n : ℕ). a ++ take n x) z
-    ∙ simp (append-nil))
 
 pub begins_is : (a b x y : List ℕ) → x ≡ y → AppendsFront a b x → AppendsFront a b y
 begins_is a b x y same e = e ∙ ap (λ (l : List ℕ). a ++ take (length b - length a) l) same

@@ -1,13 +1,12 @@
 -- Devices that are lent one after another, out of a slice.
 use Rattle.std.proofs.Common.{◌≡◌, ℕ, zero, suc, ◌+◌, ◌<◌, ◌≤◌, List, [], ◌∷◌, ◌++◌, length, take, map, get_or, set}
 use Rattle.std.proofs.Common.{refl, sym, ap, ◌∙◌, arith, replicate, ◌-◌, Result, Ok, Err}
-use Rattle.std.proofs.Math.Nat.{le_refl}
 use Rattle.std.proofs.lemmas.List.{length-map, map-set, set-get_or, take_all, take_more, take_more_set, get_or_default}
 use Rattle.std.proofs.lemmas.List.{get_or_append_left}
 use Rattle.std.proofs.lemmas.List.Sums.{sum_by-set}
 use Rattle.abt_io.specs.Lent.{OnlyReads, OnlyReadsAll}
 use Rattle.abt_io.specs.declared.device.Source as sources
-use Rattle.abt_sections.proofs.Causes.{on_ok, on_ok_then}
+use Rattle.abt_sections.proofs.Causes.{on_ok_then}
 use Rattle.abt_sections.specs.Fields.{filled}
 
 pub get_map : {S T : Type 0} (f : S → T) (ps : List S) (i : ℕ) (d : S) → get_or (map f ps) i (f d) ≡ f (get_or ps i d)
@@ -65,17 +64,6 @@ pub sizes_all : {S : Type 0} (f : S → ℕ) (ps : List S) (sizes : List ℕ) (i
     → take i (map f ps) ≡ take i sizes → map f ps ≡ take n sizes
 sizes_all f ps sizes i n over is before =
     sym (take_all i (map f ps) (omega (arith, over, length-map ps f))) ∙ before ∙ ap (λ (k : ℕ). take k sizes) is
-
--- what calls leave of several sources: nothing was done
-pub all_none : {X E : Type 0} (r : Result X E) {A : Type 0} (s : sources.Ghosts A) (ps : List A)
-    → OnlyReadsAll r s ps ps
-all_none r s ps = record {
-  content = λ tells. refl;
-  size = λ tells. refl;
-  frame = refl;
-  faults = le_refl _;
-  clean = on_ok r refl;
-}
 
 -- one of them was read, after all of them were
 pub all_part : {X Y E F : Type 0} {y : Y} {r : Result X E} {A : Type 0} (s : sources.Ghosts A) (ps0 ps : List A)

@@ -6,16 +6,6 @@ use Rattle.abt_sections.proofs.Refusals.{reads_on}
 use Rattle.abt_sections.proofs.Verdicts.{verdict_is}
 use Rattle.abt_sections.proofs.checking.compare.Goals as goal
 
-pub returns-in-Err-id_holds-clause-found : goal.returns-in-Err-id_holds-clause-found
-returns-in-Err-id_holds-clause-found g c =
-    let ps = places_of (view_of c.args.image.now.header) in
-    let e = c.in-Ok.ensures.found.reads.only in
-    record {
-      reads = reads_on e c.in-Err-id_holds.ensures.reads (λ changed tells opened. changed tells
-          (ap (λ (l : List ℕ). beyond ps (length l)) (e.content tells) ∙ opened.has.there));
-      value = search rules;
-    }
-
 pub returns-in-Err-fragments_fill-clause-found : goal.returns-in-Err-fragments_fill-clause-found
 returns-in-Err-fragments_fill-clause-found g c =
     let ps = places_of (view_of c.args.image.now.header) in

@@ -1,23 +1,7 @@
-use Rattle.std.proofs.Common.{rules, arith, ap, sym, ◌∙◌, length}
+use Rattle.std.proofs.Common.{rules, arith, sym, ◌∙◌}
 use Rattle.abt_io.proofs.Lent.{reads_ok, reads_then}
-use Rattle.abt_sections.proofs.Refusals.{reads_on}
 use Rattle.abt_sections.proofs.Zeros.{more_zeros, not_zeros}
 use Rattle.abt_sections.proofs.checking.zeros_there.Goals as goal
-
-pub returns-in-Err : goal.returns-in-Err
-returns-in-Err g c =
-    let v = c.loop-done.invariant in
-    record {
-      found = record {
-        reads = reads_on v.reads c.in-Err.ensures.reads (λ changed tells. changed tells (λ some. omega (
-          arith,
-          c.length-length.ensures.told tells,
-          ap length (v.reads.content tells),
-          c.next_ask-ask.ensures.within,
-        )));
-        value = search rules;
-      };
-    }
 
 pub returns-then-not-zero : goal.returns-then-not-zero
 returns-then-not-zero g c =

@@ -1,37 +1,8 @@
-use Rattle.std.proofs.Common.{arith, length-set, get_or}
-use Rattle.abt_sections.proofs.Digests.{hash_next, id_is}
-use Rattle.abt_sections.proofs.Moves.{reads_part}
-use Rattle.abt_sections.proofs.Parts.{all_part, next_part, part_size}
+use Rattle.std.proofs.Common.{arith}
+use Rattle.abt_sections.proofs.Digests.{id_is}
 use Rattle.abt_sections.proofs.hashing.hash_parts.Goals as goal
-
-pub loop-i-preserved : goal.loop-i-preserved
-loop-i-preserved g c =
-    let s = g.S.Source in
-    let v = c.loop-i.invariant in
-    let ps = c.loop-i.parts in
-    let d = c.index-parts-i.result in
-    let old = get_or ps c.loop-i.i d in
-    let e = c.in-Ok.ensures in
-    let new = c.hash_part.new.part in
-    record {
-      long = simp length-set v.long;
-      reads = all_part s _ ps c.loop-i.i d new (omega arith) v.reads e.reads.only;
-      hashed = λ tells.
-          hash_next _ _ _ (next_part s.content ps c.args.parts.now c.loop-i.i d (v.reads.content tells) (omega arith))
-          (e.hashed tells _ (v.hashed tells));
-    }
 
 pub returns-clause-id : goal.returns-clause-id
 returns-clause-id g c = λ tells.
     id_is g.S.Source.content c.args.parts.now c.loop-i.i c.finalize-digest.result c.id_field.result (omega arith)
     (c.finalize-digest.ensures _ (c.loop-i.invariant.hashed tells)) c.id_field.ensures
-
-pub returns-in-Err-clause-reads : goal.returns-in-Err-clause-reads
-returns-in-Err-clause-reads g c =
-    let v = c.loop-i.invariant in
-    let ps = c.loop-i.parts in
-    let i = c.loop-i.i in
-    let d = c.index-parts-i.result in
-    reads_part ps i d _ (omega arith) v.reads c.in-Err.ensures.reads
-    (λ changed tells same. changed tells
-    (part_size g.S.Source.size ps c.args.parts.now i d c.args.sizes.now (v.reads.size tells) same (omega arith)))

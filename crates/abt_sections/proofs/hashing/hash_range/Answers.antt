@@ -1,7 +1,6 @@
 use Rattle.std.proofs.Common.{arith, ap, length}
 use Rattle.abt_io.proofs.Lent.{reads_then}
 use Rattle.abt_sections.proofs.Digests.{hashed_next}
-use Rattle.abt_sections.proofs.Refusals.{reads_on}
 use Rattle.abt_sections.proofs.hashing.hash_range.Goals as goal
 
 pub loop-at-preserved : goal.loop-at-preserved
@@ -16,9 +15,3 @@ loop-at-preserved g c =
       hashed = λ tells t h. hashed_next _ _ _ t c.args.from c.loop-at.at c.next_ask-ask.result (i.reads.content tells)
           (rw (c.part.ensures.value, e.bytes tells) at (c.update.ensures _ (i.hashed tells t h)));
     }
-
-pub returns-in-Err-clause-reads : goal.returns-in-Err-clause-reads
-returns-in-Err-clause-reads g c =
-    let i = c.loop-at.invariant in
-    reads_on i.reads c.in-Err.ensures.reads (λ changed tells there. changed tells (λ some. omega
-    (arith, there (omega arith), ap length (i.reads.content tells))))

@@ -12,7 +12,7 @@ use Rattle.abt_sections.proofs.Sizing.{sizes_are, sum_of_sizes}
 use Rattle.abt_sections.proofs.Canons.{size_is, once_size, once_written}
 use Rattle.abt_sections.proofs.Magic.{opens_as_nothing}
 use Rattle.abt_sections.proofs.Placing.{page_stands}
-use Rattle.abt_sections.proofs.Beginnings.{grows_none, same_sizes}
+use Rattle.abt_sections.proofs.Beginnings.{same_sizes}
 use Rattle.abt_sections.proofs.packing_once.pack_boot_once.Given.{Over}
 use Rattle.abt_sections.proofs.packing_once.pack_boot_once.Goals.{In_ok-sizes}
 use Rattle.abt_sections.proofs.packing_once.pack_boot_once.Goals as goal
@@ -41,38 +41,12 @@ lay_header-requires-clause-zeros g c =
     let old = g.O.Output.written c.args.output.now in
     rw c.position-at.ensures (page_stands old _ c.bytes.result (omega arith) c.in_ok-id.ensures.zeros)
 
-pub returns-in_err-id-clause-once : goal.returns-in_err-id-clause-once
-returns-in_err-id-clause-once g c =
-    omega (arith, c.in_err-id.ensures.once, told g (goal.at.returns-in_err-id-clause-once g c).In_ok-sizes)
-
-pub returns-in_err-lay_header-clause-once : goal.returns-in_err-lay_header-clause-once
-returns-in_err-lay_header-clause-once g c =
-    omega (arith, c.in_ok-id.ensures.once, told g (goal.at.returns-in_err-lay_header-clause-once g c).In_ok-sizes)
-
 pub returns-in_err-lay_header-clause-broken : goal.returns-in_err-lay_header-clause-broken
 returns-in_err-lay_header-clause-broken g c =
     let w = g.O.Output.written in
     let off : IsBrokenOff (w c.args.output.now) (w c.lay_header.new.output) =
     inr (opens_as_nothing _ (rw c.position-at.ensures at c.in_err-lay_header.ensures.lays.broken)) in
     on_err _ off
-
-pub returns-in_err-lay_header-clause-grown : goal.returns-in_err-lay_header-clause-grown
-returns-in_err-lay_header-clause-grown g c =
-    (rw c.position-at.ensures at c.lay_header.ensures.lays.before) ∙ c.in_ok-id.ensures.bytes.grown
-
-pub returns-clause-once : goal.returns-clause-once
-returns-clause-once g c =
-    omega (arith, c.in_ok-id.ensures.once, told g (goal.at.returns-clause-once g c).In_ok-sizes)
-
-pub returns-clause-grown : goal.returns-clause-grown
-returns-clause-grown g c =
-    (rw c.position-at.ensures at c.lay_header.ensures.lays.before) ∙ c.in_ok-id.ensures.bytes.grown
-
-pub returns-in_err-page-clause-grown : goal.returns-in_err-page-clause-grown
-returns-in_err-page-clause-grown g c = grows_none _
-
-pub returns-in_err-sizes-clause-grown : goal.returns-in_err-sizes-clause-grown
-returns-in_err-sizes-clause-grown g c = grows_none _
 
 pub returns-in_err-id-clause-packs : goal.returns-in_err-id-clause-packs
 returns-in_err-id-clause-packs g c =

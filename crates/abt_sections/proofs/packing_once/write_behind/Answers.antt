@@ -1,6 +1,5 @@
-use Rattle.std.proofs.Common.{rules, arith, inr, nat_lt, map, refl}
+use Rattle.std.proofs.Common.{inr, nat_lt, map, refl}
 use Rattle.abt_sections.proofs.Digests.{wanted_id}
-use Rattle.abt_sections.proofs.Growing.{grows_on}
 use Rattle.abt_sections.proofs.Magic.{opens_as_nothing}
 use Rattle.abt_sections.proofs.Placing.{no_magic_yet, page_stands}
 use Rattle.abt_sections.proofs.packing_once.write_behind.Goals as goal
@@ -16,13 +15,3 @@ pub returns-in-Err-move_parts-clause-broken : goal.returns-in-Err-move_parts-cla
 returns-in-Err-move_parts-clause-broken g c =
     inr (opens_as_nothing _ (no_magic_yet _ (page_stands (g.O.Output.written c.args.output.now) _ c.args.page
     c.requires.some (rw c.in-Ok.ensures.written at c.in-Err-move_parts.ensures.bytes.grown))))
-
-pub returns-in-Err-move_parts-clause-bytes : goal.returns-in-Err-move_parts-clause-bytes
-returns-in-Err-move_parts-clause-bytes g c =
-    let e = c.in-Ok.ensures.bytes in
-    search (rules, grows_on _ _ _ e.grown c.in-Err-move_parts.ensures.bytes.grown (omega (arith, e.all)))
-
-pub returns-in-Ok-move_parts-clause-bytes : goal.returns-in-Ok-move_parts-clause-bytes
-returns-in-Ok-move_parts-clause-bytes g c =
-    let e = c.in-Ok.ensures.bytes in
-    search (rules, grows_on _ _ _ e.grown c.in-Ok-move_parts.ensures.bytes.grown (omega (arith, e.all)))

@@ -1,24 +1,9 @@
-use Rattle.std.proofs.Common.{◌≡◌, length, Ok}
+use Rattle.std.proofs.Common.{length, Ok}
 use Rattle.abt_io.proofs.Lent.{reads_none}
 use Rattle.abt_sections.specs.Header.{view_of, places_of}
 use Rattle.abt_sections.proofs.Refusals.{moves_on}
-use Rattle.abt_sections.proofs.Tables.{place_there, same_place}
+use Rattle.abt_sections.proofs.Tables.{place_there}
 use Rattle.abt_sections.proofs.unpacking.unpack.Goals as goal
-
-pub returns-clause-written : goal.returns-clause-written
-returns-clause-written g c = λ p is tells.
-    let same : p ≡ c.section-place.result = same_place _ _ _ _ c.requires is c.section-place.ensures.value in
-    rw same (c.copy_part.ensures.written tells)
-
-pub returns-clause-front : goal.returns-clause-front
-returns-clause-front g c = λ p is tells.
-    let same : p ≡ c.section-place.result = same_place _ _ _ _ c.requires is c.section-place.ensures.value in
-    rw same (c.copy_part.ensures.front tells)
-
-pub returns-clause-bytes : goal.returns-clause-bytes
-returns-clause-bytes g c = λ p is.
-    let same : p ≡ c.section-place.result = same_place _ _ _ _ c.requires is c.section-place.ensures.value in
-    rw same c.copy_part.ensures.bytes
 
 pub returns-clause-moves : goal.returns-clause-moves
 returns-clause-moves g c =

@@ -1,4 +1,4 @@
-use Rattle.std.proofs.Common.{◌+◌, ◌++◌, ℕ, List, arith, length, ap, subst, ◌∙◌}
+use Rattle.std.proofs.Common.{◌++◌, ℕ, List, arith, length, ap, subst, ◌∙◌}
 use Rattle.abt_headers.specs.declared.entry.RamdiskEntry.{RamdiskEntry}
 use Rattle.abt_sections.specs.Header.{view_of, entry_of, ramdisk_at, ramdisk_size, IsWithin}
 use Rattle.abt_sections.proofs.Causes.{on_ok, on_ok_then}
@@ -13,7 +13,8 @@ returns-clause-written g c = λ tells.
     let e = c.in-Ok.ensures in
     let same = fragment_is x _ (view_of c.args.image.now.header) c.args.i c.fragment_at-at.result c.in-Ok.entry
     (e.reads.only.content tells) c.fragment_at-at.ensures.value (e.entry tells) in
-    on_ok_then c.copy_part.result (λ w. w ∙ ap (λ (l : List ℕ). g.O.Output.written c.args.output.now ++ l) same) (c.copy_part.ensures.written tells)
+    on_ok_then c.copy_part.result (λ w. w ∙ ap (λ (l : List ℕ). g.O.Output.written c.args.output.now ++ l) same)
+        (c.copy_part.ensures.written tells)
 
 pub returns-clause-front : goal.returns-clause-front
 returns-clause-front g c = λ tells.
@@ -26,8 +27,11 @@ pub returns-clause-part : goal.returns-clause-part
 returns-clause-part g c = λ tells.
     let x = g.S.Source.content c.args.source.now in
     let h = view_of c.args.image.now.header in
-    let within : IsWithin h (entry_of x h c.args.i) = subst (λ (q : RamdiskEntry). IsWithin h q) (c.in-Ok.ensures.entry tells) c.in-Ok.ensures.within in
-    on_ok c.copy_part.result (part_within x (ramdisk_at h) (ramdisk_size h) (entry_of x h c.args.i).ramdisk_offset (entry_of x h c.args.i).ramdisk_size within)
+    let within : IsWithin h (entry_of x h c.args.i) =
+        subst (λ (q : RamdiskEntry). IsWithin h q) (c.in-Ok.ensures.entry tells) c.in-Ok.ensures.within in
+    on_ok c.copy_part.result
+        (part_within x (ramdisk_at h) (ramdisk_size h) (entry_of x h c.args.i).ramdisk_offset
+        (entry_of x h c.args.i).ramdisk_size within)
 
 pub returns-clause-moves : goal.returns-clause-moves
 returns-clause-moves g c =

@@ -3,7 +3,6 @@ use Rattle.std.specs.List.{concat}
 use Rattle.abt_headers.specs.Vendor.{vendor_view, vendor_page, vendor_record}
 use Rattle.abt_sections.specs.Layout.{padded}
 use Rattle.abt_sections.proofs.Growing.{begins_then, begins_stop}
-use Rattle.abt_sections.proofs.Beginnings.{ok_last}
 use Rattle.abt_sections.proofs.vendor_packing.write_first_sections.Goals as goal
 
 pub returns-in-Err-write_vendor_ramdisk-clause-front : goal.returns-in-Err-write_vendor_ramdisk-clause-front
@@ -29,23 +28,3 @@ returns-clause-front g c = λ tells.
     (rw c.page_size-page.ensures.value at (c.write_part.ensures.front tells))
     c.write_part.ensures.part.moves.writes.least)
     (omega (arith, e.ramdisks.moves.writes.least, c.write_part.ensures.part.moves.writes.least))
-
-pub returns-in-Err-clause-front : goal.returns-in-Err-clause-front
-returns-in-Err-clause-front g c =
-    λ tells.
-    let v = vendor_view c.args.header.now in
-    let page = vendor_page v in
-    let q = padded page (concat (map g.S.Source.content c.args.ramdisks.now)) in
-    let r = padded page (g.S.Source.content c.args.dtb.now) in
-    begins_stop _ _ (padded page (vendor_record v)) (q ++ r) c.in-Err.ensures.appends.front
-
-pub returns-clause-written : goal.returns-clause-written
-returns-clause-written g c =
-    λ tells.
-    let v = vendor_view c.args.header.now in
-    let page = vendor_page v in
-    let q = padded page (concat (map g.S.Source.content c.args.ramdisks.now)) in
-    let r = padded page (g.S.Source.content c.args.dtb.now) in
-    ok_last c.write_part.result _ _ _ _ (padded page (vendor_record v)) q r c.in-Ok.ensures.appends.written
-    (rw c.page_size-page.ensures.value at (c.in-Ok-write_vendor_ramdisk.ensures.ramdisks.written tells))
-    (rw c.page_size-page.ensures.value at (c.write_part.ensures.part.written tells))

@@ -1,14 +1,11 @@
-use Rattle.std.proofs.Common.{rules, ◌≡◌, ◌+◌, ◌++◌, ℕ, List, arith, ap, sym, ◌∙◌, length-set, map, get_or, take, drop}
-use Rattle.std.specs.Prelude.{IsTrue}
+use Rattle.std.proofs.Common.{rules, ◌+◌, ◌++◌, ℕ, List, arith, ap, sym, ◌∙◌, length-set, map, get_or, take, drop}
 use Rattle.std.specs.List.{concat}
 use Rattle.std.proofs.lemmas.List.Sums.{sum_by_more, sum_by_more_le}
 use Rattle.abt_io.proofs.Lent.{writes_then}
 use Rattle.abt_sections.proofs.Growing.{begins_then, begins_stop, begins_is, then_all}
 use Rattle.abt_sections.proofs.Layouts.{concat_next, concat_at}
-use Rattle.abt_sections.proofs.Beginnings.{begins_all}
 use Rattle.abt_sections.proofs.Moves.{moves_part}
 use Rattle.abt_sections.proofs.Parts.{all_part, kept, next_part, part_same}
-use Rattle.std.proofs.lemmas.List.{take_all, length-map}
 use Rattle.abt_sections.proofs.vendor_packing.write_ramdisks.Goals as goal
 
 pub returns-in-Err-clause-bytes : goal.returns-in-Err-clause-bytes
@@ -65,18 +62,4 @@ returns-in-Err-clause-ramdisks g c =
           begins_is _ _ _ _ (concat_at all b i next)
           (begins_stop _ _ (concat (take i all) ++ b) (concat (drop (i + 1) all))
           (begins_then _ _ _ (concat (take i all)) b (v.written tells) (e.front tells) e.part.moves.writes.least));
-    }
-
-pub returns-clause-ramdisks : goal.returns-clause-ramdisks
-returns-clause-ramdisks g c =
-    let all = map g.S.Source.content c.args.ramdisks.now in
-    let w = g.O.Output.written in
-    let written : IsTrue g.S.Source.tells → w c.loop-i.output ≡ w c.args.output.now ++ concat all = λ tells.
-    rw (take_all c.loop-i.i all (omega (arith, length-map c.args.ramdisks.now g.S.Source.content)))
-    at (c.loop-i.invariant.written tells) in
-    record {
-      moves = search rules;
-      lasting = search rules;
-      written = written;
-      front = λ tells. begins_all (w c.args.output.now) (w c.loop-i.output) (concat all) (written tells);
     }

@@ -1,5 +1,5 @@
 use Rattle.std.proofs.Common.{rules, ◌≡◌, ◌+◌, ◌++◌, ℕ, List, arith, ap, sym, ◌∙◌, map, get_or, take}
-use Rattle.std.proofs.lemmas.List.{get_or_default, take_all, length-map}
+use Rattle.std.proofs.lemmas.List.{get_or_default}
 use Rattle.std.proofs.lemmas.List.Sums.{sum_by_more, sum_by_more_le}
 use Rattle.abt_io.proofs.Lent.{writes_ok, writes_then}
 use Rattle.abt_headers.specs.Entry.{entry_record}
@@ -7,7 +7,6 @@ use Rattle.abt_sections.specs.VendorCanon.{table_for}
 use Rattle.abt_sections.proofs.Parts.{get_map}
 use Rattle.abt_sections.proofs.Growing.{begins_then, begins_stop, begins_is, then_all}
 use Rattle.abt_sections.proofs.VendorTables.{table_next, table_front}
-use Rattle.abt_sections.proofs.Beginnings.{begins_all}
 use Rattle.abt_sections.proofs.vendor_packing.write_table.Goals as goal
 
 pub returns-in-Err-clause-appends : goal.returns-in-Err-clause-appends
@@ -62,13 +61,6 @@ loop-i-preserved g c =
       writes = writes_then v.writes (writes_ok tt e.writes);
     }
 
-pub overflow_cast-size : goal.overflow_cast-size
-overflow_cast-size g c =
-    let f = g.S.Source.size in
-    let ps = c.args.ramdisks.now in
-    let rest = sum_by_more_le f ps c.loop-i.i c.index-ramdisks-i.result (omega arith) in
-    omega (arith, c.requires.small, c.length-size.ensures.size, ap f c.index-ramdisks-i.is, rest)
-
 pub overflow_add-offset : goal.overflow_add-offset
 overflow_add-offset g c =
     let f = g.S.Source.size in
@@ -76,14 +68,3 @@ overflow_add-offset g c =
     let rest = sum_by_more_le f ps c.loop-i.i c.index-ramdisks-i.result (omega arith) in
     let size = c.length-size.ensures.size in
     omega (arith, c.loop-i.invariant.offset, c.requires.small, size, ap f c.index-ramdisks-i.is, rest)
-
-pub returns-clause-appends : goal.returns-clause-appends
-returns-clause-appends g c =
-    let fs = c.args.fragments.now in
-    let ns = map g.S.Source.size c.args.ramdisks.now in
-    let i = c.loop-i.i in
-    let a = take_all i fs (omega arith) in
-    let b = take_all i ns (omega (arith, length-map c.args.ramdisks.now g.S.Source.size)) in
-    let w = g.O.Output.written in
-    let written = rw (a, b) at c.loop-i.invariant.written in
-    search (rules, written, begins_all (w c.args.output.now) (w c.loop-i.output) (table_for fs ns 0) written)

@@ -3,10 +3,8 @@ use Rattle.std.proofs.Common.{length-append, map, get_or, take}
 use Rattle.std.specs.Prelude.{OnOk}
 use Rattle.abt_sections.specs.Layout.{padded, zeros_behind}
 use Rattle.abt_sections.specs.VendorCanon.{table_for}
-use Rattle.abt_sections.proofs.Causes.{on_ok, on_ok_then}
+use Rattle.abt_sections.proofs.Causes.{on_ok}
 use Rattle.abt_sections.proofs.Growing.{begins_then, begins_stop, begins_is, then_all, still_stands}
-use Rattle.abt_headers.proofs.Places.{enough_pages}
-use Rattle.abt_sections.proofs.Beginnings.{last_two}
 use Rattle.abt_sections.proofs.vendor_packing.write_table_and_bootconfig.Goals as goal
 
 pub returns-in-Err-write_padding-clause-front : goal.returns-in-Err-write_padding-clause-front
@@ -69,37 +67,3 @@ returns-clause-table g c =
     on_ok c.write_part.result (still_stands w0 t (zeros_behind (get_or c.args.sizes.now 2 0) page) _ _ long
     (subst (λ (l : List ℕ). take (length l) (g.O.Output.written c.write_part.new.output) ≡ l) whole
     c.write_part.ensures.part.bytes.grown))
-
-pub returns-in-Err-clause-bytes : goal.returns-in-Err-clause-bytes
-returns-in-Err-clause-bytes g c =
-    let page = c.args.page in
-    let fits = enough_pages (get_or c.args.sizes.now 2 0) page c.requires.some in
-    let two = last_two page c.args.sizes.now (omega arith) in
-    record { most = omega (arith, c.in-Err.ensures.bytes.most, c.requires.table, fits, two); all = tt }
-
-pub returns-in-Err-write_padding-clause-bytes : goal.returns-in-Err-write_padding-clause-bytes
-returns-in-Err-write_padding-clause-bytes g c =
-    let two = last_two c.args.page c.args.sizes.now (omega arith) in
-    let p = c.in-Err-write_padding.ensures in
-    record { most = omega (arith, c.in-Ok.ensures.bytes.all, p.most, c.requires.table, two); all = tt }
-
-pub returns-clause-bytes : goal.returns-clause-bytes
-returns-clause-bytes g c =
-    let two = last_two c.args.page c.args.sizes.now (omega arith) in
-    let e = c.in-Ok.ensures in
-    let p = c.in-Ok-write_padding.ensures in
-    let b = c.write_part.ensures.part.bytes in
-    record {
-      most = omega (arith, e.bytes.all, p.all, b.most, c.requires.table, two);
-      all = on_ok_then c.write_part.result (λ all. omega (arith, e.bytes.all, p.all, c.requires.table, two, all)) b.all;
-    }
-
-pub returns-in-Err-clause-front : goal.returns-in-Err-clause-front
-returns-in-Err-clause-front g c =
-    λ tells.
-    let page = c.args.page in
-    let t = table_for c.args.fragments.now (map g.S.Source.size c.args.ramdisks.now) 0 in
-    begins_is _ _ _ _ (sym (append_assoc t (zeros_behind (length t) page)
-    (padded page (g.S.Source.content c.args.bootconfig.now) ++ [])))
-    (begins_stop _ _ t (zeros_behind (length t) page ++ (padded page (g.S.Source.content c.args.bootconfig.now) ++ []))
-    c.in-Err.ensures.appends.front)

@@ -2,7 +2,7 @@ use Rattle.std.proofs.Common.{rules, ◌≡◌, ℕ, ◌++◌, ap, sym, arith, l
 use Rattle.std.specs.Prelude.{IsTrue}
 use Rattle.std.specs.List.{concat}
 use Rattle.abt_sections.specs.Layout.{zeros_behind}
-use Rattle.abt_sections.proofs.Growing.{begins_then, begins_is, begins_stop}
+use Rattle.abt_sections.proofs.Growing.{begins_then, begins_is}
 use Rattle.abt_sections.proofs.Beginnings.{ok_padded}
 use Rattle.abt_sections.proofs.vendor_packing.write_vendor_ramdisk.Goals as goal
 
@@ -21,14 +21,4 @@ returns-clause-ramdisks g c =
           (e.ramdisks.written tells) p.written;
       front = λ tells. begins_is _ _ _ _ (ap (λ (k : ℕ). x ++ zeros_behind k c.args.page) (sym (long tells)))
           (begins_then _ _ _ x _ (e.ramdisks.written tells) p.front p.writes.only.least);
-    }
-
-pub returns-in-Err-clause-ramdisks : goal.returns-in-Err-clause-ramdisks
-returns-in-Err-clause-ramdisks g c =
-    let x = concat (map g.S.Source.content c.args.ramdisks.now) in
-    record {
-      moves = search rules;
-      lasting = tt;
-      written = search rules;
-      front = λ tells. begins_stop _ _ x (zeros_behind (length x) c.args.page) (c.in-Err.ensures.ramdisks.front tells);
     }

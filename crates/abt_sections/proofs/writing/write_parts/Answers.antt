@@ -8,8 +8,7 @@ use Rattle.abt_sections.proofs.Growing.{begins_then, begins_stop, begins_is}
 use Rattle.abt_sections.proofs.Growing as growing
 use Rattle.abt_sections.proofs.Layouts.{laid_next, laid_at, laid_less}
 use Rattle.abt_sections.proofs.Moves.{moves_part}
-use Rattle.abt_sections.proofs.Parts.{all_part, next_part, part_size, sizes_all, sizes_next}
-use Rattle.std.proofs.lemmas.List.{take_all, length-map}
+use Rattle.abt_sections.proofs.Parts.{all_part, next_part, part_size, sizes_next}
 use Rattle.abt_sections.proofs.writing.write_parts.Goals as goal
 
 pub returns-in-Err-clause-front : goal.returns-in-Err-clause-front
@@ -75,16 +74,4 @@ loop-i-preserved g c =
       all = omega (arith, v.all, e.part.bytes.all, sum_by_more p c.args.sizes.now i 0 (omega arith));
       writes = writes_then v.writes e.part.moves.writes;
       lasting = sizes_next s.size ps i new c.args.sizes.now (omega arith) (omega arith) v.lasting e.part.lasting.1;
-    }
-
-pub returns-clause-parts : goal.returns-clause-parts
-returns-clause-parts g c =
-    let all = map g.S.Source.content c.args.parts.now in
-    record {
-      moves = search rules;
-      written = λ tells.
-          rw (take_all c.loop-i.i all (omega (arith, length-map c.args.parts.now g.S.Source.content)))
-          at (c.loop-i.invariant.written tells);
-      lasting = sizes_all g.S.Source.size c.loop-i.parts c.args.sizes.now c.loop-i.i (length c.args.parts.now)
-          (omega arith) (omega arith) c.loop-i.invariant.lasting;
     }

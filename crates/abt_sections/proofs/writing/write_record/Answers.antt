@@ -1,7 +1,6 @@
-use Rattle.std.proofs.Common.{rules, length}
-use Rattle.abt_sections.proofs.Growing.{begins_then, begins_stop}
+use Rattle.std.proofs.Common.{rules}
+use Rattle.abt_sections.proofs.Growing.{begins_then}
 use Rattle.abt_sections.proofs.Beginnings.{ok_then}
-use Rattle.abt_sections.specs.Layout.{zeros_behind}
 use Rattle.abt_sections.proofs.writing.write_record.Goals as goal
 
 pub returns-clause-appends : goal.returns-clause-appends
@@ -12,10 +11,3 @@ returns-clause-appends g c =
       front = begins_then _ _ _ _ _ c.in-Ok.ensures.ok p.front p.writes.only.least;
       writes = search rules;
     }
-
-pub returns-in-Err-clause-appends : goal.returns-in-Err-clause-appends
-returns-in-Err-clause-appends g c = search (
-  rules,
-  begins_stop _ _ c.args.bytes.now
-      (zeros_behind (length c.args.bytes.now) c.args.page) c.in-Err.ensures.front,
-)
