@@ -3,7 +3,7 @@ use Rattle.std.proofs.Common.{◌≡◌, ℕ, ◌+◌, ◌<◌, ◌≤◌, List,
 use Rattle.std.specs.Prelude.{if◌then◌else◌}
 use Rattle.std.proofs.lemmas.Bool.{true≢false}
 use Rattle.abt_disk.specs.World.{World, Held, OpensFile, Creates, ended, failing}
-use Rattle.boot_bodies.specs.Faults.{NoMoreFailed, SomeFailed}
+use Rattle.boot_rules.specs.ImageFaults.{NoMoreFailed, SomeFailed}
 use Rattle.boot_bodies.specs.Unpacking.{SyncsMore}
 
 none_more : (b : Bool) (s t : ℕ) → t ≡ s → t ≡ s + (if b then 0 else 0)
@@ -106,18 +106,6 @@ clean_within path bytes w h h' g h'' k r q r' opens none same free clean let_go 
     let f : g.failed ≡ h'.failed + 0 = ap (λ q. q.failed) free in
     let d : k.failed ≡ h''.failed + r' = ap (λ q. q.failed) let_go in
     omega (arith, e, f, d, none, same, clean.stays)
-
--- it was opened, and is no image
-pub open_failed : (path bytes : List ℕ) (w : World) (h h' h'' : Held) (r r' : ℕ) → OpensFile w path bytes h h' → r ≡ 0
-    → h'' ≡ failing r' h' → r < r' → h.failed < h''.failed
-open_failed path bytes w h h' h'' r r' opens none let_go failed =
-    let e : h'.failed ≡ h.failed = ap (λ q. q.failed) opens.taken in
-    let d : h''.failed ≡ h'.failed + r' = ap (λ q. q.failed) let_go in
-    omega (arith, e, d, failed)
-
--- it could not be opened
-pub source_failed : (h h' : Held) → h' ≡ failing 1 h → h.failed < h'.failed
-source_failed h h' same = let e : h'.failed ≡ h.failed + 1 = ap (λ q. q.failed) same in omega (arith, e)
 
 -- it was opened, and a call behind it refused
 pub taken_failed : (path bytes : List ℕ) (w : World) (h h' h'' k : Held) (r : ℕ) → OpensFile w path bytes h h'

@@ -95,14 +95,8 @@ keeps_opened P path bytes h h' h'' a b c opens same goes = λ f there.
 pub keeps_same : (path : List ℕ) (a b : World) → b ≡ a → KeepsFile path a b
 keeps_same path a b same = λ f there. ap (λ w. w.holds f) same
 
-pub opens_as : (path x y : List ℕ) (h h' : Held) (a : World) → y ≡ x → OpensFile a path x h h' → OpensFile a path y h h'
-opens_as path x y h h' a same opens = subst (λ z. OpensFile a path z h h') (sym same) opens
-
 pub has_as : (x y : List ℕ) (image : Image) → y ≡ x → IsOpened x image → HasImage y (view_of image.header)
 has_as x y image same opened = subst (λ z. HasImage z (view_of image.header)) (sym same) opened.has
-
-pub opened_as : (x y : List ℕ) (image : Image) → y ≡ x → IsOpened x image → IsOpened y image
-opened_as x y image same opened = subst (λ z. IsOpened z image) (sym same) opened
 
 -- two counts of what failed are one
 pub twice : (h h' h'' : Held) (m n : ℕ) → h' ≡ failing m h → h'' ≡ failing n h' → h'' ≡ failing (m + n) h

@@ -5,7 +5,7 @@ use Rattle.abt_io.specs.declared.device.Output as outputs
 use Rattle.abt_sections.specs.declared.fault.SectionFault.{SectionFault}
 use Rattle.abt_sections.specs.declared.image.Image.{Image}
 use Rattle.abt_sections.specs.Open.{IsOpened}
-use Rattle.boot_bodies.specs.Faults.{IsFaultOf}
+use Rattle.boot_rules.specs.ImageFaults.{IsFaultOf}
 
 -- After an Ok these bytes were written, the source holds what it held, and neither it nor the output has failed. Where
 -- the image still stands, a refusal is the fault of its bytes or of a device that failed.

@@ -3,7 +3,7 @@ use Rattle.std.specs.Prelude.{◌≡◌, ℕ, Bool, IsTrue, List, Result, OnOk}
 use Rattle.abt_io.specs.declared.device.Source as sources
 use Rattle.abt_disk.specs.World.{World, Held, Ends, SparesRest}
 use Rattle.abt_disk.specs.Among.{GoesAmong, KeepsMade}
-use Rattle.boot_bodies.specs.Faults.{NoMoreFailed}
+use Rattle.boot_rules.specs.ImageFaults.{NoMoreFailed}
 use Rattle.boot_bodies.specs.Unpacking.{SyncsMore}
 
 -- Files of these names were written, and no others were changed; what was begun before is kept. After an Ok the source

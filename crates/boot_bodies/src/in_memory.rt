@@ -6,14 +6,15 @@ ghost use Rattle.memory_disk.specs.Memory.{held_of, world_of};
 ghost use Rattle.abt_disk.specs.World.{HasFailed, IsReading};
 ghost use Rattle.abt_disk.specs.Among.{OnlyAmong};
 ghost use Rattle.abt_disk.specs.DiskCalls.{KeepsInput};
-ghost use Rattle.boot_bodies.specs.Faults.{RefusesImage};
+ghost use Rattle.boot_rules.specs.ImageFaults.{RefusesImage};
 ghost use Rattle.boot_bodies.specs.Lines.{ShowsEach};
 ghost use Rattle.boot_bodies.specs.Unpacking.{IsPartOf, LeavesParts, PartsStand, SyncsParts, Unpacks};
 
-use crate::unpack::{BootOutcome, unpack_file};
+use crate::unpack::unpack_file;
 use abt_io::{Meter, Window};
 use abt_output::Report;
 use abt_refusals::Place;
+use boot_rules::BootOutcome;
 use memory_disk::MemoryDisk;
 
 /// Takes an image apart that a disk in memory holds.

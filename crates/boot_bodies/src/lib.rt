@@ -24,4 +24,4 @@ mod writing;
 pub use in_memory::unpack_in_memory;
 pub use lines::PartLine;
 pub use names::place_of;
-pub use unpack::{BootOutcome, unpack_file};
+pub use unpack::unpack_file;

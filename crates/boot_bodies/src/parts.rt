@@ -4,19 +4,19 @@ ghost use Rattle.std.specs.Prelude.{◌≡◌, ◌<◌, ◌+◌, ℕ, None, IsTr
 ghost use Rattle.abt_sections.specs.Header.{fragment_count, places_of, view_of};
 ghost use Rattle.abt_sections.specs.Open.{IsOpened};
 ghost use Rattle.abt_disk.specs.Among.{GoesAmong};
-ghost use Rattle.boot_bodies.specs.Faults.{IsRefusedOver, SomeFailed};
+ghost use Rattle.boot_rules.specs.ImageFaults.{IsRefusedOver, SomeFailed};
 ghost use Rattle.boot_bodies.specs.Lines.{ShowsEach, told_fragments, told_parts, told_section};
 ghost use Rattle.boot_bodies.specs.Unpacking.{FragmentsDone, IsFragmentPath, IsPartPath, IsSectionPath, PartsBegun};
 ghost use Rattle.boot_bodies.specs.Unpacking.{PartsLeft, SectionsDone, WordsDone, part_total};
 ghost use Rattle.boot_bodies.specs.Writing.{WritesParts};
 
-use crate::unpack::BootOutcome;
 use crate::writing::{write_fragment, write_pack_words, write_section};
 use abt_disk::Disk;
 use abt_io::{Meter, Window};
 use abt_output::Report;
 use abt_refusals::Place;
 use abt_sections::{Image, fragments, sections};
+use boot_rules::BootOutcome;
 
 /// Writes each section, each fragment, and maybe the words.
 pub(crate) fn write_parts<'t, 'a, D: Disk>(

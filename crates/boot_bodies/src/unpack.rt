@@ -5,7 +5,7 @@ ghost use Rattle.abt_refusals.specs.Paths.{path_of};
 ghost use Rattle.abt_disk.specs.World.{HasFailed, IsReading, unless};
 ghost use Rattle.abt_disk.specs.Among.{OnlyAmong};
 ghost use Rattle.abt_disk.specs.DiskCalls.{FailsOnly, KeepsInput};
-ghost use Rattle.boot_bodies.specs.Faults.{RefusesImage};
+ghost use Rattle.boot_rules.specs.ImageFaults.{RefusesImage};
 ghost use Rattle.boot_bodies.specs.Lines.{ShowsEach};
 ghost use Rattle.boot_bodies.specs.Unpacking.{IsPartOf, LeavesParts, PartsStand, SyncsParts, Unpacks};
 
@@ -16,10 +16,7 @@ use abt_io::{Meter, Window};
 use abt_output::Report;
 use abt_refusals::{HostRefusal, Place, Refusal, Sides};
 use abt_sections::{Image, SectionFault, open};
-use boot_rules::{BootCommandFault, part_count, part_of};
-
-/// How a command over boot images ended: the files that it is about are named at `'t`, and its words at `'a`.
-pub type BootOutcome<'t, 'a> = Result<(), Refusal<'t, BootCommandFault<'a>>>;
+use boot_rules::{BootCommandFault, BootOutcome, part_count, part_of};
 
 /// Writes each section and then each ramdisk fragment of an image to a file of a folder, and the words that pack it
 /// again.

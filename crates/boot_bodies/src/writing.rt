@@ -7,7 +7,7 @@ ghost use Rattle.abt_output.specs.Shows.{Shows};
 ghost use Rattle.abt_sections.specs.Header.{entry_of, fragment_count, fragment_of, places_of, view_of};
 ghost use Rattle.abt_sections.specs.Open.{IsOpened};
 ghost use Rattle.abt_disk.specs.Among.{IsMade};
-ghost use Rattle.boot_bodies.specs.Faults.{IsAnswerOf, IsRefusedOver, SomeFailed};
+ghost use Rattle.boot_rules.specs.ImageFaults.{IsAnswerOf, IsRefusedOver, SomeFailed};
 ghost use Rattle.boot_bodies.specs.Lines.{ShowsSection, told_part};
 ghost use Rattle.boot_bodies.specs.Unpacking.{IsFragmentPath, IsSectionPath, SectionDone, WordsDone, path_of_part};
 ghost use Rattle.boot_bodies.specs.Writing.{EndsPart, WritesParts};
@@ -16,13 +16,12 @@ ghost use Rattle.boot_rules.specs.declared.part_names.Part.TheVariants as parts;
 use crate::copying::{copy_fragment, copy_section, copy_words};
 use crate::lines::PartLine;
 use crate::names::place_of;
-use crate::unpack::BootOutcome;
 use abt_disk::{Disk, ended};
 use abt_io::{Meter, Window};
 use abt_output::Report;
 use abt_refusals::{Place, Sides};
 use abt_sections::{Image, SectionFault, section};
-use boot_rules::{BootCommandFault, Part};
+use boot_rules::{BootCommandFault, BootOutcome, Part};
 
 /// Writes section `i` to its file.
 pub(crate) fn write_section<'t, 'a, D: Disk>(

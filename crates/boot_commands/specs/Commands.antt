@@ -8,7 +8,7 @@ use Rattle.abt_output.specs.Shows.{Shows, unprinted}
 use Rattle.abt_disk.specs.Among.{OnlyAmong}
 use Rattle.abt_disk.specs.World.{World, Held, HasFailed, OnlyAt, KeepsFile}
 use Rattle.boot_rules.specs.declared.fault.BootCommandFault.{BootCommandFault}
-use Rattle.boot_bodies.specs.Faults.{RefusesImage}
+use Rattle.boot_rules.specs.ImageFaults.{RefusesImage}
 use Rattle.boot_bodies.specs.Lines.{ShowsEach}
 use Rattle.boot_bodies.specs.Unpacking.{IsPartOf, PartsStand, SyncsParts, Unpacks}
 use Rattle.info_bodies.specs.Informing.{RefusesInfo, TellsFile, notation_of}

@@ -12,6 +12,5 @@
 mod command;
 mod pack_order;
 
-pub use boot_bodies::BootOutcome;
-pub use boot_rules::BootCommandFault;
+pub use boot_rules::{BootCommandFault, BootOutcome};
 pub use command::{BootCommand, Kind, boot_command};

@@ -1,4 +1,5 @@
 pub mod Boards
+pub mod Causes
 pub mod Ranging
 pub mod Refusals
 pub mod Words

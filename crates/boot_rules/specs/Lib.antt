@@ -2,6 +2,7 @@ pub mod Boards
 pub mod Carried
 pub mod Fault
 pub mod Given
+pub mod ImageFaults
 pub mod Parts
 pub mod Ranges
 pub mod RangesLaws

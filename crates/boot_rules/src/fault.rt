@@ -7,7 +7,7 @@ ghost use Rattle.boot_rules.specs.declared.fault.BootCommandFault.TheVariants.{H
 
 use abt_headers::HeaderFault;
 use abt_io::Output;
-use abt_refusals::{HostFault, Place, Side, Told};
+use abt_refusals::{HostFault, Place, Refusal, Side, Told};
 use abt_sections::SectionFault;
 use abt_text::{ShownPath, Text};
 
@@ -29,6 +29,9 @@ pub enum BootCommandFault<'a> {
     /// One of the answers of a check is no.
     CheckFailed,
 }
+
+/// How a command over boot images ended: the files that it is about are named at `'t`, and its words at `'a`.
+pub type BootOutcome<'t, 'a> = Result<(), Refusal<'t, BootCommandFault<'a>>>;
 
 impl From<HostFault> for BootCommandFault<'_> {
     ghost from_gives = { λ host fault. fault ≡ Host host };

@@ -33,7 +33,7 @@ mod part_source;
 pub use anew::anew_of;
 pub use board_ids::set_board_ids;
 pub use contents::{judge, pack_image};
-pub use fault::BootCommandFault;
+pub use fault::{BootCommandFault, BootOutcome};
 pub use loads::{counts_ramdisk, counts_second};
 pub use pack_command::{PackCommand, judge_words};
 pub use pack_fields::with_given;

@@ -58,11 +58,6 @@ lies p (q ∷ ps) n place e there =
 
 -- ---- behind the image
 
-pub behind_is : (x : List ℕ) (h : Header) (end n : ℕ) → end ≡ end_of h → n ≡ length x
-    → take (n - end) (drop end x) ≡ drop (end_of h) x
-behind_is x h end n at all =
-    take_all (n - end) (drop end x) (let d = length-drop end x in omega (arith, d, all)) ∙ ap (λ k. drop k x) at
-
 -- ---- the vendor ramdisk
 
 vendor_place : (f : VendorFront) (tail : Option Tail) (place : Place)

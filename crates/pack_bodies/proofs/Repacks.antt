@@ -12,7 +12,7 @@ use Rattle.abt_output.specs.declared.report.Report.{Report}
 use Rattle.abt_sections.specs.Header.{Header, image_header_at, view_of}
 use Rattle.abt_sections.specs.Open.{IsOpened}
 use Rattle.abt_sections.specs.declared.image.Image.{Image}
-use Rattle.boot_bodies.specs.Faults.{NoMoreFailed, SomeFailed}
+use Rattle.boot_rules.specs.ImageFaults.{NoMoreFailed, SomeFailed}
 use Rattle.boot_rules.specs.declared.fault.BootCommandFault.{BootCommandFault}
 use Rattle.boot_rules.specs.declared.pack_command.PackCommand.{PackCommand}
 use Rattle.pack_bodies.specs.Lines.{counted_in_u64, image_line}

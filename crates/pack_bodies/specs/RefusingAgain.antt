@@ -12,7 +12,7 @@ use Rattle.abt_sections.specs.Open.{IsOpened}
 use Rattle.abt_sections.specs.declared.fault.SectionFault.{SectionFault}
 use Rattle.abt_sections.specs.declared.image.Image.{Image}
 use Rattle.abt_sections.specs.declared.spec.FragmentSpec.{FragmentSpec}
-use Rattle.boot_bodies.specs.Faults.{RefusesImage}
+use Rattle.boot_rules.specs.ImageFaults.{RefusesImage}
 use Rattle.boot_fields.specs.Kind.{kind_of}
 use Rattle.boot_fields.specs.declared.image_kind.ImageKind.{ImageKind}
 use Rattle.boot_rules.specs.Wrong.{IsUntaken, IsWrong}

@@ -20,8 +20,7 @@ use abt_disk::{Disk, ImageTo, Lasting, Reasons, ended};
 use abt_io::{Meter, Source, Window};
 use abt_output::{Carried, Progress, Report};
 use abt_refusals::{HostFault, HostRefusal, Place, Refusal, Sides};
-use boot_bodies::BootOutcome;
-use boot_rules::{BootCommandFault, PartSource};
+use boot_rules::{BootCommandFault, BootOutcome, PartSource};
 use std::alloc::Global;
 
 /// Writes an image to a file, which is created or emptied, and prints how many bytes it has. `-` is standard output.

@@ -13,8 +13,7 @@ ghost use Rattle.pack_bodies.specs.Writing.{LeavesOut};
 use crate::pack::pack_file;
 use abt_io::{Meter, Window};
 use abt_output::Report;
-use boot_bodies::BootOutcome;
-use boot_rules::PackCommand;
+use boot_rules::{BootOutcome, PackCommand};
 use memory_disk::MemoryDisk;
 
 /// Packs the image that the words ask for to a file of a disk in memory.

@@ -14,8 +14,7 @@ use crate::repack::repack_file;
 use abt_io::{Meter, Window};
 use abt_output::Report;
 use abt_refusals::Place;
-use boot_bodies::BootOutcome;
-use boot_rules::PackCommand;
+use boot_rules::{BootOutcome, PackCommand};
 use memory_disk::MemoryDisk;
 
 /// Packs an image that a disk in memory holds again, to a file of that disk.

@@ -5,7 +5,7 @@ ghost use Rattle.abt_disk.specs.World.{HasFailed};
 ghost use Rattle.abt_refusals.specs.Paths.{path_of};
 ghost use Rattle.abt_sections.specs.Header.{view_of};
 ghost use Rattle.abt_sections.specs.Open.{IsOpened};
-ghost use Rattle.boot_bodies.specs.Faults.{RefusesImage};
+ghost use Rattle.boot_rules.specs.ImageFaults.{RefusesImage};
 ghost use Rattle.pack_bodies.specs.Opening.{OpensAgain, OpensOne};
 ghost use Rattle.pack_bodies.specs.Own.{IsOpenOwn, IsOwnPart, kept_behind};
 

@@ -26,9 +26,8 @@ use abt_io::{Meter, Source, Window};
 use abt_output::Report;
 use abt_refusals::Refusal;
 use abt_sections::BootSpec;
-use boot_bodies::BootOutcome;
 use boot_fields::ImageKind;
-use boot_rules::{BootCommandFault, PackCommand, PartSource, judge_words};
+use boot_rules::{BootCommandFault, BootOutcome, PackCommand, PartSource, judge_words};
 
 /// Packs the image that the words ask for, and prints how many bytes it has.
 ///

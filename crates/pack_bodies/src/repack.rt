@@ -8,7 +8,7 @@ ghost use Rattle.abt_sections.specs.Cause.{total};
 ghost use Rattle.abt_sections.specs.Fields.{boot_fields};
 ghost use Rattle.abt_sections.specs.Header.{view_of};
 ghost use Rattle.abt_sections.specs.Open.{IsOpened};
-ghost use Rattle.boot_bodies.specs.Faults.{NoMoreFailed, SomeFailed};
+ghost use Rattle.boot_rules.specs.ImageFaults.{NoMoreFailed, SomeFailed};
 ghost use Rattle.boot_fields.specs.Fields.{text_of};
 ghost use Rattle.boot_fields.specs.Kind.{kind_of, version_of};
 ghost use Rattle.boot_findings.specs.LeftOut.{cmdline_of};
@@ -37,10 +37,9 @@ use abt_io::{Meter, Source, Window};
 use abt_output::Report;
 use abt_refusals::{HostRefusal, Place, Refusal, Sides};
 use abt_sections::BootSpec;
-use boot_bodies::BootOutcome;
 use boot_fields::ImageKind;
 use boot_findings::LeftOut;
-use boot_rules::{BootCommandFault, PackCommand, PackTexts, PartSource, with_given};
+use boot_rules::{BootCommandFault, BootOutcome, PackCommand, PackTexts, PartSource, with_given};
 use std::alloc::Global;
 
 /// Packs an image again, of which parts and fields may be given, and prints how many bytes it has.

@@ -1,6 +1,6 @@
 use Rattle.std.proofs.Common.{◌∙◌, rules, sym, subst}
 use Rattle.abt_sections.specs.Open.{IsOpened}
-use Rattle.boot_bodies.proofs.Causes.{moved_behind, read_first, sum_behind}
+use Rattle.boot_rules.proofs.Causes.{moved_behind, read_first, sum_behind}
 use Rattle.boot_bodies.proofs.copying.copy_fragment.Goals as goal
 
 pub returns-in-Err-clause-copies : goal.returns-in-Err-clause-copies

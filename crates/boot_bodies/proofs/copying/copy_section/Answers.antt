@@ -1,5 +1,5 @@
 use Rattle.std.proofs.Common.{rules}
-use Rattle.boot_bodies.proofs.Causes.{moved, sum_stays}
+use Rattle.boot_rules.proofs.Causes.{moved, sum_stays}
 use Rattle.boot_bodies.proofs.copying.copy_section.Goals as goal
 
 pub returns-in-Ok-clause-copies : goal.returns-in-Ok-clause-copies

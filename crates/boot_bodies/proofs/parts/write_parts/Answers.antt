@@ -4,7 +4,7 @@ use Rattle.abt_sections.specs.Open.{IsOpened}
 use Rattle.boot_bodies.specs.Unpacking.{FragmentsDone, WordsDone, up_to_fragment, up_to_section, up_to_words}
 use Rattle.boot_bodies.specs.Unpacking.{in_fragments, in_sections, in_words, of_fragment, of_section, of_words}
 use Rattle.abt_disk.proofs.Amongs.{goes_then, keeps_then}
-use Rattle.boot_bodies.proofs.Causes.{refused_more}
+use Rattle.boot_rules.proofs.Causes.{refused_more}
 use Rattle.boot_bodies.proofs.Counts.{and_words, no_words, none_then, some_then}
 use Rattle.boot_bodies.proofs.Loops.{fragments_later, goes_fragment, goes_section, goes_words, sections_later}
 use Rattle.boot_bodies.proofs.Shown.{all_shown, all_but_words}

@@ -1,7 +1,7 @@
 use Rattle.std.proofs.Common.{◌≤◌, ◌+◌, refl, sym, subst, arith, rules}
 use Rattle.abt_sections.specs.Open.{IsOpened}
 use Rattle.abt_disk.proofs.Amongs.{goes_more, goes_then}
-use Rattle.boot_bodies.proofs.Causes.{refused_more}
+use Rattle.boot_rules.proofs.Causes.{refused_more}
 use Rattle.boot_bodies.proofs.Counts.{some_then}
 use Rattle.boot_bodies.proofs.Loops.{no_sections, section_any, section_under, sections_later, sections_more}
 use Rattle.boot_bodies.proofs.Shown.{section_shown, silent}

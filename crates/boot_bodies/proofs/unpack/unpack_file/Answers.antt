@@ -3,12 +3,14 @@ use Rattle.abt_refusals.specs.Paths.{path_of}
 use Rattle.boot_bodies.specs.Lines.{ShowsEach}
 use Rattle.boot_bodies.specs.Unpacking.{Unpacks, no_part}
 use Rattle.abt_disk.proofs.Amongs.{among_none}
-use Rattle.boot_bodies.proofs.Causes.{host_image, opened, refuses_file, section_refused}
-use Rattle.boot_bodies.proofs.Counts.{clean_within, failed_within, open_failed, source_failed, syncs_within}
+use Rattle.boot_rules.proofs.Causes.{host_image, open_failed, opened, opened_as, opens_as, refuses_file}
+use Rattle.boot_rules.proofs.Causes.{section_refused}
+use Rattle.boot_rules.proofs.Causes.{source_failed}
+use Rattle.boot_bodies.proofs.Counts.{clean_within, failed_within, syncs_within}
 use Rattle.boot_bodies.proofs.Counts.{taken_failed}
 use Rattle.boot_bodies.proofs.Loops.{begun_later}
 use Rattle.boot_bodies.proofs.Wholes.{has_as, keeps_let_go, keeps_same, leaves_parts, only_let_go, only_opened}
-use Rattle.boot_bodies.proofs.Wholes.{opened_as, opens_as, parts_stand, syncs_parts, twice, unpacks}
+use Rattle.boot_bodies.proofs.Wholes.{parts_stand, syncs_parts, twice, unpacks}
 use Rattle.boot_bodies.proofs.unpack.unpack_file.Goals as goal
 
 -- IN could not be opened

@@ -1,5 +1,5 @@
 use Rattle.std.proofs.Common.{true}
-use Rattle.boot_bodies.proofs.Causes.{host_refused, ok_gives, told_so}
+use Rattle.boot_rules.proofs.Causes.{host_refused, ok_gives, told_so}
 use Rattle.boot_bodies.proofs.Counts.{copy_failed, end_failed, none_created}
 use Rattle.boot_rules.specs.declared.part_names.Part.TheVariants as parts
 use Rattle.boot_bodies.proofs.Loops.{part_done}

@@ -1,5 +1,5 @@
 use Rattle.std.proofs.Common.{◌∙◌, ap, subst, true}
-use Rattle.boot_bodies.proofs.Causes.{host_refused, ok_gives, told_so}
+use Rattle.boot_rules.proofs.Causes.{host_refused, ok_gives, told_so}
 use Rattle.boot_bodies.proofs.Counts.{copy_failed, end_failed, none_created}
 use Rattle.abt_output.specs.Shows.{Shows}
 use Rattle.boot_bodies.specs.Lines.{told_part}

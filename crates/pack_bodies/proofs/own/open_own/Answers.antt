@@ -1,8 +1,8 @@
 use Rattle.std.proofs.Common.{◌∙◌, ap}
 use Rattle.abt_refusals.specs.Paths.{path_of}
-use Rattle.boot_bodies.proofs.Causes.{host_image, opened, refuses_file, section_refused}
-use Rattle.boot_bodies.proofs.Counts.{open_failed, source_failed}
-use Rattle.boot_bodies.proofs.Wholes.{opened_as, opens_as}
+use Rattle.boot_rules.proofs.Causes.{host_image, open_failed, opened, opened_as, opens_as, refuses_file}
+use Rattle.boot_rules.proofs.Causes.{section_refused}
+use Rattle.boot_rules.proofs.Causes.{source_failed}
 use Rattle.pack_bodies.proofs.own.open_own.Goals as goal
 
 pub returns-in-Err-clause-refused : goal.returns-in-Err-clause-refused

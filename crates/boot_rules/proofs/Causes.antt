@@ -1,17 +1,17 @@
 -- Which faults a call answers over an image that stays as it was.
-use Rattle.std.proofs.Common.{◌≡◌, ◌⊎◌, inl, inr, ℕ, ◌+◌, ◌<◌, ◌≤◌, List, Some, Result, Ok, Err, refl, sym, subst, arith}
-use Rattle.std.specs.Prelude.{IfErr, IfOk, IsOk, OnOk}
+use Rattle.std.proofs.Common.{◌≡◌, inl, inr, ℕ, ◌+◌, ◌<◌, ◌≤◌, List, Result, Ok, Err, refl, sym, ap, subst, arith}
+use Rattle.std.specs.Prelude.{IfErr, IsOk, OnOk}
 use Rattle.abt_refusals.specs.declared.refusal.HostFault.{HostFault}
 use Rattle.std.proofs.lemmas.Bool.{false≢true}
-use Rattle.abt_disk.specs.World.{World, Held, OpensFile}
+use Rattle.abt_disk.specs.World.{World, Held, OpensFile, failing}
 use Rattle.abt_sections.specs.declared.fault.SectionFault.{SectionFault}
 use Rattle.abt_sections.specs.declared.fault.SectionFault.TheVariants as sections
 use Rattle.abt_sections.specs.Cause.{MoveCause, OpenCause, ReadCause}
-use Rattle.abt_sections.specs.Open.{RefusedAs}
+use Rattle.abt_sections.specs.declared.image.Image.{Image}
+use Rattle.abt_sections.specs.Open.{IsOpened, RefusedAs}
 use Rattle.boot_rules.specs.declared.fault.BootCommandFault.{BootCommandFault}
 use Rattle.boot_rules.specs.declared.fault.BootCommandFault.TheVariants as faults
-use Rattle.boot_texts.specs.Info.{PrintCause, SectionReadTold, SectionWriteTold}
-use Rattle.boot_bodies.specs.Faults.{IsFaultOf, IsAnswerOf, IsRefusalOf, IsRefusedOver, RefusesImage}
+use Rattle.boot_rules.specs.ImageFaults.{IsFaultOf, IsAnswerOf, IsRefusalOf, IsRefusedOver, RefusesImage}
 
 -- ---- faults of the engine's calls
 
@@ -52,18 +52,6 @@ moved_behind f r q r' w w' x changed clean cause same reads writes =
     fault_more x (q + w < r' + w') (r + w < r' + w') f (λ h. omega (arith, h, clean))
     (moved f q r' w w' x changed cause same reads writes)
 
-pub printed : (X : Type 0) (f : SectionFault) (r r' w w' : ℕ) (x : List ℕ) → PrintCause f r r'
-    → SectionReadTold {X = X} (Err f) r r' → SectionWriteTold f w w' → IsFaultOf x (r + w < r' + w') f
-printed X (sections.Read f) r r' w w' x cause reads writes = omega (arith, cause, writes)
-printed X (sections.Write f) r r' w w' x cause reads writes = omega (arith, reads, writes)
-printed X sections.SourceChanged r r' w w' x cause reads writes = absurd cause
-printed X (sections.Header f) r r' w w' x cause reads writes = absurd cause
-printed X (sections.Entry i) r r' w w' x cause reads writes = absurd cause
-printed X sections.Name r r' w w' x cause reads writes = absurd cause
-printed X sections.CommandLine r r' w w' x cause reads writes = absurd cause
-printed X (sections.SectionTruncated s) r r' w w' x cause reads writes = absurd cause
-printed X (sections.SectionTooLarge s) r r' w w' x cause reads writes = absurd cause
-
 pub opened : (f : SectionFault) (x : List ℕ) (r r' : ℕ) (changed : Type 0) → OpenCause f r r' changed → RefusedAs x f
     → IsFaultOf x (r < r') f
 opened (sections.Read f) x r r' changed cause refused = cause
@@ -102,14 +90,16 @@ of_files answer x P U Q V faults.CheckFailed more stands told = absurd told
 
 -- a fault that is told is one of the bytes, or of a device that failed
 pub told_is : (answer : Result ℕ SectionFault) (x : List ℕ) (P U E Q V : Type 0) (fault : BootCommandFault)
-    → IsAnswerOf answer P U fault → IfErr answer (IsFaultOf x E) → (IsOk answer → P → Q) → (E → Q) → (IsOk answer → U → V)
+    → IsAnswerOf answer P U fault → IfErr answer (IsFaultOf x E) → (IsOk answer → P → Q) → (E → Q)
+    → (IsOk answer → U → V)
     → IsRefusalOf x Q V fault
 told_is (Ok n) x P U E Q V fault told own more late stands = of_files n x P U Q V fault (more refl) (stands refl) told
 told_is (Err f) x P U E Q V fault told own more late stands =
     subst (λ g. IsRefusalOf x Q V g) (sym told) (fault_more x E Q f late own)
 
 pub told_so : (answer : Result ℕ SectionFault) (x : List ℕ) (P U E Q V : Type 0) (fault : BootCommandFault)
-    → IsAnswerOf answer P U fault → IfErr answer (IsFaultOf x E) → (IsOk answer → P → Q) → (E → Q) → (IsOk answer → U → V)
+    → IsAnswerOf answer P U fault → IfErr answer (IsFaultOf x E) → (IsOk answer → P → Q) → (E → Q)
+    → (IsOk answer → U → V)
     → IsRefusedOver x Q V fault
 told_so answer x P U E Q V fault told own more late stands = record {
   refuses = told_is answer x P U E Q V fault told own more late stands;
@@ -132,14 +122,16 @@ file_refuses path bytes held held' world P U Q V (faults.Host f) opens more stan
     inr (stands unprinted)
 file_refuses path bytes held held' world P U Q V (faults.Section f) opens more stands refuses =
     (opens.file, opens.there, subst (λ x. IsFaultOf x Q f) opens.held (fault_more bytes P Q f more refuses))
-file_refuses path bytes held held' world P U Q V (faults.OptionNotCarried name) opens more stands refuses = absurd refuses
+file_refuses path bytes held held' world P U Q V (faults.OptionNotCarried name) opens more stands refuses =
+    absurd refuses
 file_refuses path bytes held held' world P U Q V (faults.BadFragment word) opens more stands refuses = absurd refuses
 file_refuses path bytes held held' world P U Q V (faults.BadNumber word) opens more stands refuses = absurd refuses
 file_refuses path bytes held held' world P U Q V (faults.BadBoardId word) opens more stands refuses = absurd refuses
 file_refuses path bytes held held' world P U Q V faults.CheckFailed opens more stands refuses = absurd refuses
 
 pub refuses_file : (path bytes : List ℕ) (held held' : Held) (world : World) (P U Q V : Type 0)
-    (fault : BootCommandFault) → OpensFile world path bytes held held' → IsRefusedOver bytes P U fault → (P → Q) → (U → V)
+    (fault : BootCommandFault) → OpensFile world path bytes held held' → IsRefusedOver bytes P U fault → (P → Q)
+    → (U → V)
     → RefusesImage path world Q V fault
 refuses_file path bytes held held' world P U Q V fault opens refused more stands =
     file_refuses path bytes held held' world P U Q V fault opens more stands refused.refuses
@@ -173,3 +165,23 @@ section_refused x P U fault f same own = record { refuses = subst (λ g. IsRefus
 pub host_refused : (x : List ℕ) (P U : Type 0) (fault : BootCommandFault) (host : HostFault) → fault ≡ faults.Host host
     → P → IsRefusedOver x P U fault
 host_refused x P U fault host same failed = record { refuses = host_refuses x P U fault host same failed }
+
+-- ---- the file that an image is opened from
+
+pub opens_as : (path x y : List ℕ) (h h' : Held) (a : World) → y ≡ x → OpensFile a path x h h' → OpensFile a path y h h'
+opens_as path x y h h' a same opens = subst (λ z. OpensFile a path z h h') (sym same) opens
+
+pub opened_as : (x y : List ℕ) (image : Image) → y ≡ x → IsOpened x image → IsOpened y image
+opened_as x y image same opened = subst (λ z. IsOpened z image) (sym same) opened
+
+-- it was opened, and is no image
+pub open_failed : (path bytes : List ℕ) (w : World) (h h' h'' : Held) (r r' : ℕ) → OpensFile w path bytes h h' → r ≡ 0
+    → h'' ≡ failing r' h' → r < r' → h.failed < h''.failed
+open_failed path bytes w h h' h'' r r' opens none let_go failed =
+    let e : h'.failed ≡ h.failed = ap (λ q. q.failed) opens.taken in
+    let d : h''.failed ≡ h'.failed + r' = ap (λ q. q.failed) let_go in
+    omega (arith, e, d, failed)
+
+-- it could not be opened
+pub source_failed : (h h' : Held) → h' ≡ failing 1 h → h.failed < h'.failed
+source_failed h h' same = let e : h'.failed ≡ h.failed + 1 = ap (λ q. q.failed) same in omega (arith, e)
