@@ -1,5 +1,6 @@
 -- Bytes that are laid over the front of others, one part behind another.
-use Rattle.std.proofs.Common.{◌≡◌, ℕ, ◌+◌, ◌-◌, ◌≤◌, List, [], ◌++◌, length, take, drop, refl, sym, ◌∙◌, ap, arith, replicate, length-drop}
+use Rattle.std.proofs.Common.{◌≡◌, ℕ, ◌+◌, ◌-◌, ◌≤◌, List, [], ◌++◌, length, take, drop, refl, sym, ◌∙◌, ap, arith}
+use Rattle.std.proofs.Common.{replicate, length-drop}
 use Rattle.std.proofs.lemmas.List.{length-take-le, take_all}
 use Rattle.abt_io.specs.Moment.{put_at}
 use Rattle.abt_io.proofs.Moments.{put_then}
@@ -14,10 +15,6 @@ put_behind p x y at long room =
     ap (λ (k : ℕ). put_at (put_at p 0 x) k y) (let z : at ≡ 0 + length x = omega (arith, long) in z)
     ∙ put_then p x y 0 (omega (arith, room))
 
--- nothing is laid yet
-pub laid_none : (p x : List ℕ) → p ≡ put_at p 0 (take 0 x)
-laid_none p x = sym (put_none p 0)
-
 -- so many bytes more of x
 pub laid_more : (p q r x : List ℕ) (at n more : ℕ) → q ≡ put_at p 0 (take at x) → r ≡ put_at q at (take n (drop at x))
     → at ≤ length x → length x ≤ length p → more ≡ at + n → r ≡ put_at p 0 (take more x)
@@ -28,7 +25,8 @@ laid_more p q r x at n more before now within room is =
     ∙ ap (put_at p 0) (take_plus at n x ∙ ap (λ (k : ℕ). take k x) (sym is))
 
 -- all of x, and zeros behind it
-pub laid_filled : (p q r x zeros : List ℕ) (held need : ℕ) → q ≡ put_at p 0 x → r ≡ put_at q held zeros → held ≡ length x
+pub laid_filled : (p q r x zeros : List ℕ) (held need : ℕ) → q ≡ put_at p 0 x → r ≡ put_at q held zeros
+    → held ≡ length x
     → length x ≤ length p → zeros ≡ replicate (need - held) 0 → r ≡ put_at p 0 (filled_to need x)
 laid_filled p q r x zeros held need before now long room are =
     now ∙ ap (λ (l : List ℕ). put_at l held zeros) before ∙ put_behind p x zeros held long room

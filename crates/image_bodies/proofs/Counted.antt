@@ -25,25 +25,6 @@ fails_raw pieces.TooLarge b long tells r r' w w' t sized few reads writes cause 
 fails_raw (pieces.BadBlock n) b long tells r r' w w' t sized few reads writes cause = absurd (cause.1 sized)
 fails_raw (pieces.LimitTooSmall n) b long tells r r' w w' t sized few reads writes cause = absurd cause
 
--- where a piece was not, too
-pub fails_piece : (e : PieceFault) (tells : Bool) (r r' w w' : ℕ) → IsTrue tells → r ≤ r' → w ≤ w'
-    → CutCause e tells r r' w w' → r + w < r' + w'
-fails_piece (pieces.Read f) tells r r' w w' t reads writes cause = omega (arith, cause.0, writes)
-fails_piece (pieces.Write f) tells r r' w w' t reads writes cause = omega (arith, cause, reads)
-fails_piece pieces.SourceChanged tells r r' w w' t reads writes cause = absurd (false≢true (sym cause ∙ t))
-fails_piece pieces.TooLarge tells r r' w w' t reads writes cause = absurd cause
-fails_piece (pieces.BadBlock n) tells r r' w w' t reads writes cause = absurd cause
-fails_piece (pieces.LimitTooSmall n) tells r r' w w' t reads writes cause = absurd cause
-
-pub outside_piece : (e : PieceFault) (tells : Bool) (r r' w w' : ℕ) → IsTrue tells → CutCause e tells r r' w w'
-    → IsOfPieceDevices e
-outside_piece (pieces.Read f) tells r r' w w' t cause = tt
-outside_piece (pieces.Write f) tells r r' w w' t cause = tt
-outside_piece pieces.SourceChanged tells r r' w w' t cause = absurd (false≢true (sym cause ∙ t))
-outside_piece pieces.TooLarge tells r r' w w' t cause = absurd cause
-outside_piece (pieces.BadBlock n) tells r r' w w' t cause = absurd cause
-outside_piece (pieces.LimitTooSmall n) tells r r' w w' t cause = absurd cause
-
 -- ---- of an output that is closed
 
 -- with so many failures before
@@ -126,7 +107,3 @@ clean_behind input path bytes h h' h'' h''' w a b opened made closes =
       ap (λ k. k.failed) closes.closed,
       closes.clean refl,
     )
-
--- a call was refused at once, or behind a file that was opened
-pub failed_once : (h h' : Held) → h' ≡ failing 1 h → HasFailed h h'
-failed_once h h' now = omega (arith, ap (λ k. k.failed) now)

@@ -178,10 +178,6 @@ refuses_unopened raw limit input prefix fault k h h' a c told now same =
 
 -- ---- of calls that may be refused
 
--- what is not there is not noted
-pub not_there : (o : Option ℕ) → true ≡ is_some o → o ≡ None → ⊥
-not_there o is none = false≢true (sym (is ∙ ap is_some none))
-
 -- ---- between the opening of the image and its end
 
 pub left_failed : (P : List ℕ → Type 0) (h h' : Held) (a b : World) → h.output ≡ None → OnlyFails h h' → b ≡ a
