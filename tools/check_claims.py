@@ -7,8 +7,9 @@ Of the tables of docs/CLAIMS.md:
   - each definition that is to be believed stands in the file of specs/ that is named, and all of them together have fewer than
     1200 lines, with the remarks above them;
   - each claim's function is public (in a crate that only the program stands on it may be private), its contract has a
-    clause of each name, the definitions are there, and so is each must-fail edit, in the function's crate or one below it;
-    where a function names no edit, words say why;
+    clause of each name, the definitions are there, and so is each must-fail edit, in the function's crate or one below it
+    (what stands behind 'more:' in its more-edits/); where a function names no edit, words say why; a claim with further edits
+    has one that the gate tries;
   - each public function of a crate that has a claim is named by one, or in the list of those that no claim names.
 Of the code: no call of the engine counts in a meter of its own, beside the one that it is lent; each loop of the engine ticks
 once in each pass; each lemma of proofs/ is named by another one, by an answer or by a contract.
@@ -156,9 +157,9 @@ def contract(crate, function):
     return None
 
 
-def has_edit(name, names):
-    """Whether one of these crates has a must-fail edit of that name."""
-    return any(os.path.isfile(os.path.join(HERE, "crates", it, "must-fail", name + ".edit")) for it in names)
+def has_edit(name, names, folder="must-fail"):
+    """Whether one of these crates has an edit of that name in the folder."""
+    return any(os.path.isfile(os.path.join(HERE, "crates", it, folder, name + ".edit")) for it in names)
 
 
 def check_definitions(checks, rows):
@@ -174,8 +175,9 @@ def check_definitions(checks, rows):
 
 
 def check_claims(checks, rows, under):
-    function, planted = "", {}
+    function, planted, claim, tried = "", {}, "", {}
     for cells, number in rows:
+        claim = cells[0] or claim
         if words_in(cells[1]):
             function = words_in(cells[1])[0]
         planted[function] = planted.get(function, "") + cells[4]
@@ -190,10 +192,17 @@ def check_claims(checks, rows, under):
             file, _, defined = word.rpartition(".")
             places = [it for it in [crate, *reversed(under[crate])] if definition(it, file, defined)]
             checks.that(places, f"{where}: {word} is defined in {crate} or below it")
-        for edit in words_in(cells[4]):
+        gate, _, more = cells[4].partition("more:")
+        for edit in words_in(gate):
             checks.that(has_edit(edit, [crate, *under[crate]]), f"{where}: there is a must-fail edit {edit}")
+        for edit in words_in(more):
+            checks.that(has_edit(edit, [crate, *under[crate]], "more-edits"), f"{where}: there is a further edit {edit}")
+        tried.setdefault(claim, []).append((bool(words_in(gate)), bool(words_in(more))))
     for function, edits in planted.items():
         checks.that(edits, f"docs/CLAIMS.md: {function} names a must-fail edit, or says why not")
+    for claim, rows_of in tried.items():
+        is_tried = any(gate for gate, _ in rows_of) or not any(more for _, more in rows_of)
+        checks.that(is_tried, f"docs/CLAIMS.md: claim {claim} has a must-fail edit that the gate tries, or names no other")
 
 
 def public_functions(crate):
