@@ -14,7 +14,7 @@ returns-clause-written g c = λ tells.
     let same = fragment_is x _ (view_of c.args.image.now.header) c.args.i c.fragment_at-at.result c.in-Ok.entry
     (e.reads.only.content tells) c.fragment_at-at.ensures.value (e.entry tells) in
     on_ok_then c.copy_part.result (λ w. w ∙ ap (λ (l : List ℕ). g.O.Output.written c.args.output.now ++ l) same)
-        (c.copy_part.ensures.written tells)
+    (c.copy_part.ensures.written tells)
 
 pub returns-clause-front : goal.returns-clause-front
 returns-clause-front g c = λ tells.
@@ -28,10 +28,10 @@ returns-clause-part g c = λ tells.
     let x = g.S.Source.content c.args.source.now in
     let h = view_of c.args.image.now.header in
     let within : IsWithin h (entry_of x h c.args.i) =
-        subst (λ (q : RamdiskEntry). IsWithin h q) (c.in-Ok.ensures.entry tells) c.in-Ok.ensures.within in
+    subst (λ (q : RamdiskEntry). IsWithin h q) (c.in-Ok.ensures.entry tells) c.in-Ok.ensures.within in
     on_ok c.copy_part.result
-        (part_within x (ramdisk_at h) (ramdisk_size h) (entry_of x h c.args.i).ramdisk_offset
-        (entry_of x h c.args.i).ramdisk_size within)
+    (part_within x (ramdisk_at h) (ramdisk_size h) (entry_of x h c.args.i).ramdisk_offset
+    (entry_of x h c.args.i).ramdisk_size within)
 
 pub returns-clause-moves : goal.returns-clause-moves
 returns-clause-moves g c =
