@@ -31,7 +31,8 @@ DOCUMENTS = ("README.md", "CONTRIBUTING.md", "CHANGELOG.md", "docs/*.md")
 OF_THE_PROGRAM = (
     "abt_buffers", "abt_values", "abt_words", "abt_refusals", "abt_disk", "memory_disk", "abt_output", "abt_host",
     "host_disk", "sparse_rules", "sparse_bodies", "image_bodies", "flash_bodies", "sparse_commands", "boot_rules",
-    "boot_bodies", "info_bodies", "pack_bodies", "boot_commands", "abootimg",
+    "boot_bodies", "info_bodies", "pack_inputs", "pack_outputs", "pack_bodies", "boot_commands", "memory_commands",
+    "program_words", "abootimg",
 )
 
 
@@ -40,13 +41,13 @@ MAKE_METERS = ("abootimg", "abt_output", "abt_text", "speed")
 
 # The engine: turns are counted where its code ticks, so each of its loops does.
 ENGINE = (
-    "abt_io", "abt_sparse", "abt_chunks", "abt_runs", "abt_pieces", "abt_sparsify", "abt_placed", "abt_flash", "abt_verify",
-    "abt_headers", "abt_sections",
+    "abt_io", "abt_files", "memory_devices", "abt_sparse", "abt_chunks", "abt_runs", "abt_pieces", "abt_sparsify",
+    "abt_placed", "flash_faults", "abt_flash", "abt_verify", "abt_headers", "abt_sections",
 )
 # How many loops of a file tick nowhere, and why.
 WITHOUT_A_TICK = {
-    "crates/abt_io/src/testing/pick.rt": 1,  # what a crash leaves, in a device of tests that has no meter
-    "crates/abt_io/src/tries.rt": 4,  # a call that a signal interrupted is tried again: no turn, and no call of a device
+    "crates/memory_devices/src/pick.rt": 1,  # what a crash leaves, in a device of tests that has no meter
+    "crates/abt_files/src/tries.rt": 4,  # a call that a signal interrupted is tried again: no turn, and no call of a device
     "crates/abt_runs/src/words.rt": 2,  # the words of one block, for which `tick_words` ticks
 }
 

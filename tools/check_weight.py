@@ -22,7 +22,7 @@ from repository import HERE, crate_lines
 
 # The most functions of a crate, and those that have more; docs/DECISIONS.md says why these are not taken apart.
 FUNCTIONS = 100
-MORE_FUNCTIONS = {"abt_io": 160, "abt_sections": 122}
+MORE_FUNCTIONS = {"abt_sections": 107}
 # How many functions have contracts of more clauses than this.
 LONG_CONTRACTS = {15: 3, 20: 1}
 # How many clauses are, to the letter, one that stands before, in any function of any crate.
@@ -42,7 +42,7 @@ NAMES_DEFINED_TWICE = {
     "with_part": "a window with bytes in it; a placer with blocks taken",
 }
 # The longest line of specs/ and proofs/, and the files from before that have longer ones: each with its checksum.
-COLUMNS, LONG_LISTED, LONG_FILES = 120, os.path.join("tools", "long_lines.txt"), 394
+COLUMNS, LONG_LISTED, LONG_FILES = 120, os.path.join("tools", "long_lines.txt"), 384
 
 FUNCTION = re.compile(r"\s*(?:pub(?:\(\w+\))? )?(?:const )?(?:unsafe )?(?:extern \"C\" )?(?:final )?fn (\w+)")
 CLAUSE = re.compile(r"\s*(?:requires|ensures)\b")

@@ -1,3 +1,1 @@
 pub mod BootDone
-pub mod Mistake
-pub mod WordFiles

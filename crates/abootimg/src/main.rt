@@ -5,17 +5,11 @@
 //! | `main.rt` | the standard streams, the window, and the words |
 //! | `running.rt` | what the words ask for, and the exit status |
 //! | `sparse_task.rt`, `boot_task.rt` | doing it, over any disk |
-//! | `word_files.rt` | the words that stand for the lines of a file |
-//! | `wrong_words.rt` | what is told of words that are wrong |
-//! | `telling.rt` | what else is told beside what a command tells |
 #![tactic(auto)]
 
 mod boot_task;
 mod running;
 mod sparse_task;
-mod telling;
-mod word_files;
-mod wrong_words;
 
 use abt_host::{REFUSED, USAGE};
 use abt_io::{Meter, Window};

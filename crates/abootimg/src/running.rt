@@ -4,9 +4,6 @@ ghost use Rattle.std.specs.Prelude.{◌≤◌};
 
 use crate::boot_task::do_boot;
 use crate::sparse_task::do_sparse;
-use crate::telling::{print, refused};
-use crate::word_files::read_word_files;
-use crate::wrong_words::wrong_words;
 use abt_host::{Reading, answer};
 use abt_io::{Meter, Window};
 use abt_output::{Progress, Report};
@@ -15,6 +12,7 @@ use abt_values::expanded;
 use abt_words::{Order, Task, order_of};
 use boot_commands::BootCommand;
 use host_disk::Host;
+use program_words::{print, read_word_files, refused, wrong_words};
 use sparse_rules::SparseCommandFault;
 use sparse_texts::demo;
 use std::io::IsTerminal;

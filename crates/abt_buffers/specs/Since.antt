@@ -3,7 +3,7 @@ use Rattle.std.specs.Prelude.{◌≡◌, ℕ, List, ◌++◌, take, drop, IsTrue
 use Rattle.abt_io.specs.Frame.{Logged, last_cut, nothing_logged}
 use Rattle.abt_io.specs.declared.device.DeviceFault.{DeviceFault}
 use Rattle.abt_io.specs.declared.device.DeviceFault.TheVariants.{Failed}
-use Rattle.abt_io.specs.declared.files.FileSpool.{FileSpool}
+use Rattle.abt_files.specs.declared.files.FileSpool.{FileSpool}
 use Rattle.abt_buffers.specs.declared.behind.Behind.{Behind}
 
 -- all that a spool took since it was last cleared

@@ -5,7 +5,8 @@ ghost use Rattle.std.proofs.lemmas.Bool.{false≢true};
 ghost use Rattle.abt_buffers.specs.Writes.{ReadsOrFails};
 
 use crate::ahead_file::AheadFile;
-use abt_io::{DeviceFault, FileSource, Source, Tally};
+use abt_files::FileSource;
+use abt_io::{DeviceFault, Source, Tally};
 use std::alloc::{AllocError, Global};
 use std::fs::File;
 use std::io::ErrorKind;

@@ -2,7 +2,7 @@
 
 ghost use Rattle.std.specs.Prelude.{◌≡◌};
 
-use abt_io::FileSource;
+use abt_files::FileSource;
 use std::cell::Cell;
 
 /// A file or a block device whose small reads are answered from what was read before. What it gave so may be in the file

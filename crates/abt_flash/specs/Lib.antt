@@ -1,4 +1,3 @@
-pub mod Fault
 pub mod Laying
 pub mod Stepping
 pub mod Flashing

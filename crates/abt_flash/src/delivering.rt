@@ -18,12 +18,12 @@ ghost use Rattle.abt_flash.specs.Delivering.{GivesPieces};
 ghost use Rattle.abt_flash.specs.Devices.{spool_state, partition_state};
 
 use crate::answer::Delivered;
-use crate::fault::FlashFault;
 use crate::piece::deliver_piece;
 use crate::way::Way;
 use abt_io::{Meter, Partition, Source, Spool, Window};
 use abt_pieces::{Cutter, PieceFault};
 use abt_runs::BlockRuns;
+use flash_faults::FlashFault;
 
 /// Why a piece is not planned.
 fn not_planned(fault: PieceFault) -> FlashFault

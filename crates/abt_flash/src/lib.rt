@@ -5,11 +5,10 @@
 //! partition holds what it held, with the image's raw and fill blocks laid over it, each byte of them written once,
 //! and is synced. At no moment another byte is touched. `deliver` leaves the same by way of the spool, which is
 //! given exactly the pieces of the image, each within the limit; whatever a stop leaves on the way, `resume` mends.
-//! Nothing is read of the partition, and no call takes memory.
+//! Nothing is read of the partition, and no call takes memory. Why all this is refused stands in `flash_faults`.
 //!
 //! | file | what is in it |
 //! |---|---|
-//! | `fault.rt` | why all this is refused: `FlashFault`, and `Cause` of a stop |
 //! | `stage.rt` | `Stage`, and what a flash answers |
 //! | `laying.rt` | what a part of an image asks of the partition, and how that is done |
 //! | `flasher.rt` | `Flasher`, flashing in steps |
@@ -31,7 +30,6 @@
 
 mod answer;
 mod delivering;
-mod fault;
 mod flasher;
 mod flashing;
 mod laying;
@@ -44,7 +42,6 @@ mod stage;
 mod way;
 
 pub use answer::Delivered;
-pub use fault::{Cause, FlashFault};
 pub use flasher::Flasher;
 pub use flashing::flash;
 pub use opened::deliver_runs;

@@ -7,11 +7,11 @@ ghost use Rattle.abt_flash.specs.Way.{ReadFor};
 
 use crate::answer::Delivered;
 use crate::delivering::{deliver_rest, plan_pieces};
-use crate::fault::FlashFault;
 use crate::way::{Forward, Way};
 use abt_io::{Meter, Partition, Source, Spool, Window};
 use abt_pieces::{Cutter, PieceFault};
 use abt_runs::BlockRuns;
+use flash_faults::FlashFault;
 
 /// Why a cutter is not opened.
 fn not_opened(fault: PieceFault) -> FlashFault

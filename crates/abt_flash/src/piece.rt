@@ -16,12 +16,12 @@ ghost use Rattle.abt_pieces.specs.Ready.{ReadyCutter};
 ghost use Rattle.abt_flash.specs.OnePiece.{GivesPiece, LaysPiece, PieceTakes, PieceWork, PieceFails};
 ghost use Rattle.abt_flash.specs.Devices.{spool_state, partition_state};
 
-use crate::fault::{Cause, FlashFault};
 use crate::flashing::flash;
 use crate::way::Way;
 use abt_io::{DeviceFault, Meter, Partition, Source, Spool, Window};
 use abt_pieces::{Cutter, PieceFault};
 use abt_runs::BlockRuns;
+use flash_faults::{Cause, FlashFault};
 
 /// Empties the spool for the next piece.
 fn clear<L: Spool>(spool: &mut L) -> Result<(), Cause>

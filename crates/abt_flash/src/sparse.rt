@@ -6,11 +6,11 @@ ghost use Rattle.abt_flash.specs.Sparse.{SparseDelivered, image_length};
 
 use crate::answer::Delivered;
 use crate::delivering::pieces_before;
-use crate::fault::FlashFault;
 use crate::opened::deliver_behind;
 use crate::way::Forward;
 use abt_io::{Meter, Partition, Source, Spool, Window};
 use abt_runs::{RunFault, SparseRuns};
+use flash_faults::FlashFault;
 
 /// Why an image is not opened.
 pub(crate) fn not_read(fault: RunFault) -> FlashFault

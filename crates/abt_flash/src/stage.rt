@@ -1,6 +1,6 @@
 //! Where a flasher stands, and what a flash answers.
 
-use crate::fault::FlashFault;
+use flash_faults::FlashFault;
 
 /// Where a flasher stands.
 #[derive(Clone, Copy, Debug, PartialEq, Eq, Drop)]

@@ -1,6 +1,6 @@
 -- What a command begins to write.
 use Rattle.std.specs.Prelude.{◌≡◌, ◌≤◌, ℕ, [], Result, IfOk, OnOk}
-use Rattle.abt_io.specs.declared.files.FileSpool.{FileSpool}
+use Rattle.abt_files.specs.declared.files.FileSpool.{FileSpool}
 use Rattle.abt_output.specs.Blank.{IsBlank}
 use Rattle.abt_output.specs.Given.{given_by_writer}
 use Rattle.abt_output.specs.declared.output_file.ImageOutput.{ImageOutput}

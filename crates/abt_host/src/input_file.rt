@@ -7,7 +7,8 @@ ghost use Rattle.std.proofs.lemmas.Bool.{false≢true};
 
 use crate::opening::{Found, Opened, not_opened};
 use abt_disk::{Measured, Reasons};
-use abt_io::{DeviceFault, FromRead, Input};
+use abt_files::FromRead;
+use abt_io::{DeviceFault, Input};
 use abt_refusals::{HostRefusal, Place};
 use std::alloc::Global;
 use std::fs::File;

@@ -11,7 +11,7 @@ use crate::opening::{Access, Opened, not_opened, open_file};
 use crate::streams::Streams;
 use crate::taken::Taken;
 use crate::writing::Writing;
-use abt_io::FileSource;
+use abt_files::FileSource;
 use abt_refusals::{HostFault, HostRefusal, Place};
 use std::alloc::Global;
 use std::fs::File;

@@ -6,6 +6,5 @@ pub mod Moments
 pub mod Overs
 pub mod Parts
 pub mod Steps
-pub mod Tracked
 pub mod WindowMemory
 pub mod Words

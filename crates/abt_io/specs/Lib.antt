@@ -4,13 +4,9 @@ pub mod Called
 pub mod Calls
 pub mod Cause
 pub mod Count
-pub mod Crash
 pub mod Frame
-pub mod FrameLaws
 pub mod Held
-pub mod Inner
 pub mod Lent
 pub mod Moment
 pub mod Over
-pub mod Testing
 pub mod Window

@@ -1,6 +1,6 @@
 //! Runs of bytes: that they are bytes, and copying them from a place and to one.
 
-ghost use Rattle.std.specs.Prelude.{◌≡◌, ◌<◌, ◌≤◌, ◌+◌, ◌-◌, length, take, drop, replicate};
+ghost use Rattle.std.specs.Prelude.{◌≡◌, ◌<◌, ◌≤◌, ◌+◌, ◌-◌, length, min, take, drop};
 ghost use Rattle.abt_io.specs.Bytes.{AreBytes};
 ghost use Rattle.abt_io.specs.Moment.{put_at};
 
@@ -12,8 +12,9 @@ pub fn are_bytes(bytes: &[u8])
     let _bytes = bytes;
 }
 
-/// Copies bytes from a place on, as many as there are and have room.
-pub(crate) fn read_part(bytes: &[u8], at: u64, out: &mut [u8]) -> usize
+/// Copies bytes from a place on, as many as there are and have room, and says how many.
+pub fn read_part(bytes: &[u8], at: u64, out: &mut [u8]) -> usize
+    ensures count { result ≡ min (length out.new) (length bytes.now - at) }
     ensures within { result ≤ length out.new }
     ensures present { result ≤ length bytes.now - at }
     ensures bytes { take result out.new ≡ take result (drop at bytes.now) }
@@ -30,42 +31,12 @@ pub(crate) fn read_part(bytes: &[u8], at: u64, out: &mut [u8]) -> usize
 }
 
 /// Writes bytes at a place.
-pub(crate) fn put_part(into: &mut [u8], at: u64, bytes: &[u8])
+pub fn put_part(into: &mut [u8], at: u64, bytes: &[u8])
     requires { at + length bytes.now ≤ length into.old }
     ensures value { into.new ≡ put_at into.old at bytes.now }
     ensures told { AreBytes into.new }
 {
     let from = at as usize;
     into[from..from + bytes.len()].copy_from_slice(bytes);
-    are_bytes(into);
-}
-
-/// Writes one byte again and again, from a place on.
-pub(crate) fn fill_part(into: &mut [u8], at: u64, n: usize, byte: u8)
-    requires { at + n ≤ length into.old }
-    ensures value { into.new ≡ put_at into.old at (replicate n byte) }
-    ensures told { AreBytes into.new }
-{
-    let from = at as usize;
-    into[from..from + n].fill(byte);
-    are_bytes(into);
-}
-
-/// Makes all of them 0.
-pub(crate) fn clear_part(into: &mut [u8])
-    ensures value { into.new ≡ replicate (length into.old) 0 }
-    ensures told { AreBytes into.new }
-{
-    into.fill(0);
-    are_bytes(into);
-}
-
-/// Takes over as many other bytes.
-pub(crate) fn copy_part(into: &mut [u8], from: &[u8])
-    requires { length from.now ≡ length into.old }
-    ensures value { into.new ≡ from.now }
-    ensures told { AreBytes into.new }
-{
-    into.copy_from_slice(from);
     are_bytes(into);
 }

@@ -31,7 +31,7 @@ pub fn lay_word(w: &mut Window, word: [u8; 4], n: usize, m: &mut Meter)
 }
 
 /// Lays a byte over the first `n` bytes of the window.
-pub(crate) fn lay_byte(w: &mut Window, n: usize, byte: u8)
+pub fn lay_byte(w: &mut Window, n: usize, byte: u8)
     requires { n ≤ 65536 }
     ensures { take n w.new.bytes ≡ replicate n byte }
 {

@@ -12,8 +12,8 @@
 
 ghost use Rattle.abt_laws.specs.WayRound.{BootWay, FoundAgain, FragmentWay, VendorWay};
 
-use abt_sections::packed_holds_parts;
-use abt_sparse::{keeps_raw, one_outcome, reads_back};
+use section_laws::packed_holds_parts;
+use sparse_laws::{keeps_raw, one_outcome, reads_back};
 
 /// Parts that are packed, sent to a partition with room for the image, and unpacked from there, come back byte for
 /// byte: of every version of both kinds of boot image, sparse at any block size or raw, within any limit, at once or

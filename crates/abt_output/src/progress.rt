@@ -3,7 +3,8 @@
 ghost use Rattle.std.specs.Prelude.{◌≡◌, ◌+◌, ◌*◌, ◌-◌, ◌^◌, min, Some, option_map, unwrap_or};
 ghost use Rattle.abt_output.specs.Moved.{Expects};
 
-use abt_io::{Meter, ToWrite, write_out};
+use abt_files::ToWrite;
+use abt_io::{Meter, write_out};
 use abt_text::{ProgressLine, Text};
 use std::time::{Duration, Instant};
 

@@ -6,7 +6,8 @@ ghost use Rattle.abt_output.specs.Shows.{Shows};
 
 use crate::progress::Progress;
 use crate::sink::Sink;
-use abt_io::{DeviceFault, ToWrite};
+use abt_files::ToWrite;
+use abt_io::DeviceFault;
 use abt_refusals::{HostFault, HostRefusal, Place};
 use abt_text::print_line;
 use std::fmt;

@@ -11,7 +11,6 @@ pub mod Digests
 pub mod Entries
 pub mod FieldTexts
 pub mod FragmentLists
-pub mod Fronts
 pub mod Growing
 pub mod Laying
 pub mod Layouts

@@ -18,8 +18,6 @@
 //! - `writing`, `packing`, `vendor_packing`: parts with their padding; whole images. `moving`, `packing_once`: the same
 //!   in one pass.
 //! - `image`, `opening`, `fragment_table`: an opened image, its sections and its ramdisk fragments.
-//! - `laws`: laws about these definitions, for the layers above; `inputs`: that what isn't refused is what they ask
-//!   for.
 //! - `unpacking`, `checking`: taking parts out; comparing an image with what the packer writes.
 #![tactic(auto)]
 
@@ -29,8 +27,6 @@ mod fault;
 mod fragment_table;
 mod hashing;
 mod image;
-mod inputs;
-mod laws;
 mod moving;
 mod opening;
 mod packing;
@@ -49,10 +45,6 @@ pub use fault::SectionFault;
 pub use fragment_table::{fragment, fragments};
 pub use hashing::image_id;
 pub use image::{Image, ImageHeader, section, sections};
-pub use inputs::{boot_input, vendor_input};
-pub use laws::{
-    canonical_is_packed, image_is_whole, no_magic_is_no_image, packed_holds_parts, packed_is_image,
-};
 pub use opening::open;
 pub use packing::pack_boot;
 pub use packing_once::pack_boot_once;

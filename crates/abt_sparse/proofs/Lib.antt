@@ -1,5 +1,4 @@
 pub mod AreAll
-pub mod Rows
 pub mod Greedy
 pub mod Weights
 pub mod Lengths
@@ -11,13 +10,9 @@ pub mod Exactly
 pub mod Gains
 pub mod RunLaws
 pub mod PieceLaws
-pub mod Extra
 pub mod HeadLaws
-pub mod Cuts
 pub mod Spelling
 pub mod Flashing
-pub mod RawLaws
 pub mod Bytewise
 pub mod Totals
 pub mod MendLaws
-pub mod CutShortLaws

@@ -12,4 +12,3 @@ pub mod ChunkHead
 pub mod Pieces
 pub mod Mending
 pub mod Laws
-pub mod Worked

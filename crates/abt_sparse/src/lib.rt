@@ -5,10 +5,10 @@
 //! - `specs/` has the words in which they state their contracts: blocks and what they lay over a device (`Block`),
 //!   chunks and their spellings (`Chunk`), what any bytes are, as one function (`Reading`) and as two relations, 'is
 //!   spelled so' and 'fails so' (`Fails`), runs, weight and cuts (`Runs`, `Gains`), pieces and flashing (`Pieces`).
-//! - `theorems.rt` has the laws of these definitions, each the contract of a function that does nothing: exactly one of
-//!   the two relations holds of any bytes and `outcome` finds it; the spelling of a list of blocks reads back as that
-//!   list; greedy cuts are the fewest; flashing the pieces in turn is flashing the image. `specs/Laws.antt` states
-//!   them, and `proofs/` has their lemmas, which proofs of the layers above cite.
+//! - `specs/Laws.antt` has the laws of these definitions: exactly one of the two relations holds of any bytes and
+//!   `outcome` finds it; the spelling of a list of blocks reads back as that list; greedy cuts are the fewest; flashing
+//!   the pieces in turn is flashing the image. `sparse_laws` proves them, by the lemmas of `proofs/`, which proofs of
+//!   the layers above cite.
 //! - `SparseHeader` and `ChunkHeader` decode and encode, inverse both ways but for the reserved field of a chunk's
 //!   header, and refuse with the first check that fails.
 //!
@@ -20,7 +20,6 @@
 //! | `numbers.rt` | numbers of two and four bytes at a place |
 //! | `header.rt`, `records.rt` | `SparseHeader`, and its 28 bytes |
 //! | `chunk_header.rt` | `ChunkHeader`, and its twelve bytes |
-//! | `theorems.rt` | the laws, and worked images |
 #![tactic(auto)]
 
 mod chunk_header;
@@ -30,7 +29,6 @@ mod header;
 mod kind;
 mod numbers;
 mod records;
-mod theorems;
 
 pub use chunk_header::ChunkHeader;
 pub use chunk_length::{counted_blocks, data_length};
@@ -39,8 +37,3 @@ pub use header::SparseHeader;
 pub use kind::ChunkKind;
 pub use numbers::{u16_at, u32_at};
 pub use records::header_of;
-pub use theorems::{
-    carries_raw, each_piece, ends_early, few_bytes, fewest_pieces, from_piece, has_blocks, in_turn,
-    keeps_raw, lays_blocks, mends, one_code, one_cutting, one_grouping, one_outcome, pieces_read,
-    reads_back, same_from_raw, same_pieces, weighs, worked_faults, worked_images, worked_pieces,
-};

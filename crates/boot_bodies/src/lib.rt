@@ -10,18 +10,15 @@
 //! | `writing.rt` | one part, to a file of its own |
 //! | `copying.rt` | the bytes of a part, from the image to an output |
 //! | `names.rt`, `lines.rt` | the file of a part, and what is printed of it |
-//! | `in_memory.rt` | the command over the disk in memory |
 #![tactic(auto)]
 
 mod copying;
-mod in_memory;
 mod lines;
 mod names;
 mod parts;
 mod unpack;
 mod writing;
 
-pub use in_memory::unpack_in_memory;
 pub use lines::PartLine;
 pub use names::place_of;
 pub use unpack::unpack_file;

@@ -12,8 +12,9 @@ ghost use Rattle.boot_laws.specs.WayBack.{PacksFromParts, SaysImage};
 ghost use Rattle.boot_texts.specs.Words.{image_words};
 
 use abt_io::are_bytes;
-use abt_sections::{Image, ImageHeader, canonical_is_packed, image_is_whole, packed_holds_parts};
+use abt_sections::{Image, ImageHeader};
 use boot_fields::{Address, TextField, address_of, os_version_of, text_field_of};
+use section_laws::{canonical_is_packed, image_is_whole, packed_holds_parts};
 
 /// The words of any header whose fields hold what fields can say each field as it is: numbers, the OS version and its
 /// patch level, and texts as far as their first zero byte.

@@ -1,4 +1,5 @@
 pub mod Boards
+pub mod Calls
 pub mod Causes
 pub mod Ranging
 pub mod Refusals

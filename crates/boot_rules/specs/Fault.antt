@@ -4,6 +4,7 @@ use Rattle.abt_refusals.specs.Host.{is_not_text}
 use Rattle.abt_sections.specs.Fault as section
 use Rattle.abt_headers.specs.declared.fault.HeaderFault.TheVariants as headers
 use Rattle.abt_sections.specs.declared.fault.SectionFault.TheVariants as sections
+use Rattle.boot_rules.specs.Refused.{IsOfMoving}
 use Rattle.boot_rules.specs.declared.fault.BootCommandFault.{BootCommandFault}
 use Rattle.boot_rules.specs.declared.fault.BootCommandFault.TheVariants as faults
 
@@ -34,3 +35,13 @@ of_version n = faults.Section (sections.Header (headers.Version n))
 -- a word says no OS version
 abbrev pub of_os_word : BootCommandFault
 of_os_word = faults.Section (sections.Header headers.Os)
+
+-- a fault of the devices or of files
+abbrev pub IsOutsideBoot : BootCommandFault → Type 0
+IsOutsideBoot (faults.Host f) = Unit {0}
+IsOutsideBoot (faults.Section f) = IsOfMoving f
+IsOutsideBoot (faults.OptionNotCarried name) = ⊥
+IsOutsideBoot (faults.BadFragment word) = ⊥
+IsOutsideBoot (faults.BadNumber word) = ⊥
+IsOutsideBoot (faults.BadBoardId word) = ⊥
+IsOutsideBoot faults.CheckFailed = ⊥

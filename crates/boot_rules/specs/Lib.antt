@@ -7,5 +7,6 @@ pub mod Parts
 pub mod Ranges
 pub mod RangesLaws
 pub mod Refused
+pub mod Sources
 pub mod Unpacked
 pub mod Wrong

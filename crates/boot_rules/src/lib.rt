@@ -13,11 +13,9 @@
 //! | `part_rows.rt` | the parts that an image is packed from, each with its option and its section |
 //! | `part_source.rt`, `measure.rt` | what a part is read from, and one of which only the size counts |
 //! | `contents.rt` | packing the parts of an image of either kind, and what packing refuses of them |
-//! | `anew.rt` | what an image that is packed again is given anew |
 //! | `part_names.rt` | the files that `unpack` writes |
 #![tactic(auto)]
 
-mod anew;
 mod board_ids;
 mod contents;
 mod fault;
@@ -30,7 +28,6 @@ mod part_names;
 mod part_rows;
 mod part_source;
 
-pub use anew::anew_of;
 pub use board_ids::set_board_ids;
 pub use contents::{judge, pack_image};
 pub use fault::{BootCommandFault, BootOutcome};

@@ -1,8 +1,9 @@
 //! Sources that are other bytes after some of their calls.
 
 use crate::samples::{boot, checked, entry, opened, pack, pack_four, pack_parts, unpack_entry};
-use abt_io::{SliceOutput, SliceSource, SwitchSource};
+use abt_io::{SliceOutput, SliceSource};
 use abt_sections::{Packed, SectionFault, fragments};
+use memory_devices::SwitchSource;
 
 /// Another length, and then another entry, stands where the image had one that it accepted.
 #[test]

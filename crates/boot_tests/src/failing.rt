@@ -4,8 +4,9 @@ use crate::samples::{
     FIVE, boot, checked, entry, front, numbers, opened, pack, pack_five, pack_four, pack_parts,
     unpack_entry,
 };
-use abt_io::{Cut, DeviceFault, Faulty, Meter, Output, SliceOutput, SliceSource, Source, Window};
+use abt_io::{DeviceFault, Meter, Output, SliceOutput, SliceSource, Source, Window};
 use abt_sections::{Image, Packed, SectionFault, sections, unpack};
+use memory_devices::{Cut, Faulty};
 use std::process::Abort;
 
 /// A source that gives at most 1,000 bytes a call, whose call `n` fails.

@@ -2,8 +2,10 @@
 
 use crate::samples::{CANONICAL, boot, found, front, pack, pack_five};
 use abt_headers::{HeaderFault, Section};
-use abt_io::{Long, Meter, SliceOutput, SliceSource, Window};
-use abt_sections::{BootSpec, Packed, SectionFault, Verdict, boot_input, image_id};
+use abt_io::{Meter, SliceOutput, SliceSource, Window};
+use abt_sections::{BootSpec, Packed, SectionFault, Verdict, image_id};
+use memory_devices::Long;
+use section_laws::boot_input;
 
 /// Packs the kernel byte `K` alone.
 fn packed(spec: &BootSpec, room: &mut [u8]) -> Result<Packed, SectionFault> {

@@ -2,8 +2,9 @@
 
 use crate::failing::part;
 use crate::samples::{boot, found, front, numbers, pack_five, parts_of};
-use abt_io::{Cut, DeviceFault, Faulty, Meter, Overwrite, SliceOutput, Source, Window};
+use abt_io::{DeviceFault, Meter, Overwrite, SliceOutput, Source, Window};
 use abt_sections::{BootSpec, Packed, SectionFault, pack_boot_once};
+use memory_devices::{Cut, Faulty};
 
 /// Packs a boot image of these parts, as `pack` does.
 fn pack_once<S: Source, O: Overwrite>(

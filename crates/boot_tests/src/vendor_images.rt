@@ -5,7 +5,8 @@ use crate::samples::{
 };
 use abt_headers::{HeaderFault, Section};
 use abt_io::{Meter, SliceOutput, SliceSource, Window};
-use abt_sections::{Packed, SectionFault, fragments, pack_vendor, vendor_input};
+use abt_sections::{Packed, SectionFault, fragments, pack_vendor};
+use section_laws::vendor_input;
 
 #[test]
 fn an_image_of_version_3_is_packed_and_checked(rt: HostRuntime) {

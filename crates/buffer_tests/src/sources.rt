@@ -2,7 +2,8 @@
 
 use crate::made::{Random, bytes, part};
 use abt_buffers::AheadSource;
-use abt_io::{DeviceFault, FileSource, Source};
+use abt_files::FileSource;
+use abt_io::{DeviceFault, Source};
 use std::alloc::Global;
 use std::fs;
 use std::fs::{File, OpenOptions};

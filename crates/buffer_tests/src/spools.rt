@@ -2,7 +2,8 @@
 
 use crate::made::{Random, bytes, part};
 use abt_buffers::{AheadSource, GatheringSpool};
-use abt_io::{DeviceFault, FileSource, FileSpool, Input, Output, Overwrite, Source, Spool, WINDOW};
+use abt_files::{FileSource, FileSpool};
+use abt_io::{DeviceFault, Input, Output, Overwrite, Source, Spool, WINDOW};
 use std::alloc::{Alloc, Global};
 use std::fs;
 use std::fs::{File, OpenOptions};

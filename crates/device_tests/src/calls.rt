@@ -5,6 +5,7 @@
 ghost use Rattle.std.specs.Prelude.{◌≤◌, length};
 
 use abt_io::*;
+use memory_devices::*;
 use std::mem::size_of;
 
 #[test]

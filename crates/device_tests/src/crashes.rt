@@ -2,6 +2,7 @@
 
 use crate::calls::put_and_sync;
 use abt_io::*;
+use memory_devices::*;
 
 /// Writes `AB` from byte 1 on and makes it last, then the same with `CD` from byte 2 on.
 fn two_writes<P: Partition>(partition: &mut P) -> Result<(), DeviceFault> {

@@ -2,6 +2,7 @@
 
 use crate::calls::{copied, filled, filled_at, put_at, through_partition, through_spool};
 use abt_io::*;
+use memory_devices::*;
 
 #[test]
 fn each_call_of_a_spool_fails_in_turn(rt: HostRuntime) {

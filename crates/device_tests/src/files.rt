@@ -2,6 +2,7 @@
 
 use crate::calls::{filled_at, through_partition, through_spool};
 use crate::overwriting::{LAID, laid_behind, written_over};
+use abt_files::*;
 use abt_io::*;
 use std::alloc::Alloc;
 use std::fs;

@@ -2,6 +2,7 @@
 
 use crate::calls::{copied, filled, put, put_at};
 use abt_io::*;
+use memory_devices::*;
 
 #[test]
 fn bytes_are_gathered_and_written_in_any_cut(rt: HostRuntime) {

@@ -2,6 +2,7 @@
 
 use crate::calls::{filled, put};
 use abt_io::*;
+use memory_devices::*;
 use test_data::counting::Counting;
 
 /// Writes these bytes over what stands from a place on. Full, where they reach past the end.

@@ -1,6 +1,7 @@
 //! Readers and writers that are interrupted or fail.
 
 use crate::calls::{filled, put};
+use abt_files::*;
 use abt_io::*;
 use std::io;
 use std::io::{Read, Write};

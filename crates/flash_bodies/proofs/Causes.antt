@@ -2,10 +2,10 @@
 use Rattle.std.proofs.Common.{◌≡◌, ◌<◌, ◌+◌, ℕ, List, Bool, true, length, Option, refl, subst, arith}
 use Rattle.std.specs.Prelude.{Err, IsTrue}
 use Rattle.abt_chunks.specs.Expanding.{UnlessExpandingDevice}
-use Rattle.abt_flash.specs.Fault.{FlashCause}
+use Rattle.flash_faults.specs.Fault.{FlashCause}
 use Rattle.abt_flash.specs.Flashing.{Flashes, Holds}
-use Rattle.abt_flash.specs.declared.fault.FlashFault.{FlashFault}
-use Rattle.abt_flash.specs.declared.fault.FlashFault.TheVariants as flashes
+use Rattle.flash_faults.specs.declared.fault.FlashFault.{FlashFault}
+use Rattle.flash_faults.specs.declared.fault.FlashFault.TheVariants as flashes
 use Rattle.abt_sparse.specs.declared.fault.SparseFault.{SparseFault}
 use Rattle.abt_sparse.specs.declared.fault.SparseFault.TheVariants as of_sparse
 use Rattle.abt_sparse.specs.Fails.{Fails}

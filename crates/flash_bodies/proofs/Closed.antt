@@ -5,11 +5,11 @@ use Rattle.std.specs.Prelude.{Result, Ok, Err, IfOk, IfErr, OnOk, Bool, false, i
 use Rattle.abt_io.specs.declared.device.DeviceFault.{DeviceFault}
 use Rattle.abt_disk.specs.Spools.{closed_spool}
 use Rattle.abt_disk.specs.World.{Held, unless}
-use Rattle.abt_flash.specs.declared.fault.Cause.TheVariants as causes
+use Rattle.flash_faults.specs.declared.fault.Cause.TheVariants as causes
 use Rattle.abt_flash.specs.declared.answer.Delivered.{Delivered}
-use Rattle.abt_flash.specs.declared.fault.Cause.{Cause}
-use Rattle.abt_flash.specs.declared.fault.FlashFault.{FlashFault}
-use Rattle.abt_flash.specs.declared.fault.FlashFault.TheVariants as flashes
+use Rattle.flash_faults.specs.declared.fault.Cause.{Cause}
+use Rattle.flash_faults.specs.declared.fault.FlashFault.{FlashFault}
+use Rattle.flash_faults.specs.declared.fault.FlashFault.TheVariants as flashes
 use Rattle.abt_flash.specs.Delivering.{pieces_in, blocks_in_first}
 use Rattle.flash_bodies.specs.InPieces.{DeliversPieces, IsDelivered, IsStopped, IsUndelivered, StandsUpTo, image_as}
 use Rattle.flash_bodies.specs.Through.{last_from, told}

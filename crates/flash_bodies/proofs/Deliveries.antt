@@ -9,10 +9,10 @@ use Rattle.abt_sparse.specs.Block.{Block, cells, over}
 use Rattle.abt_sparse.specs.Mending.{Mendable}
 use Rattle.abt_sparse.proofs.Lay.{length-over, get_or-over}
 use Rattle.abt_flash.specs.declared.answer.Delivered.{Delivered}
-use Rattle.abt_flash.specs.declared.fault.Cause.{Cause}
-use Rattle.abt_flash.specs.declared.fault.Cause.TheVariants as causes
-use Rattle.abt_flash.specs.declared.fault.FlashFault.{FlashFault}
-use Rattle.abt_flash.specs.declared.fault.FlashFault.TheVariants as flashes
+use Rattle.flash_faults.specs.declared.fault.Cause.{Cause}
+use Rattle.flash_faults.specs.declared.fault.Cause.TheVariants as causes
+use Rattle.flash_faults.specs.declared.fault.FlashFault.{FlashFault}
+use Rattle.flash_faults.specs.declared.fault.FlashFault.TheVariants as flashes
 use Rattle.abt_flash.specs.Delivering.{CountsTo, LaysBlocks, LeavesMendable, MendsBlocks, OnEarly, StopsFor}
 use Rattle.abt_flash.specs.Delivering.{blocks_in_first, pieces_in}
 use Rattle.abt_flash.specs.Devices.{Counts, PartitionState}

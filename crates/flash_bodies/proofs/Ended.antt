@@ -6,7 +6,7 @@ use Rattle.abt_io.specs.Moment.{Past, no_past}
 use Rattle.abt_disk.specs.InPlace.{is_settled, is_settled_in}
 use Rattle.abt_disk.specs.World.{World, Held, HasFailed, HasNotFailed}
 use Rattle.abt_flash.specs.declared.answer.Delivered.{Delivered}
-use Rattle.abt_flash.specs.declared.fault.FlashFault.{FlashFault}
+use Rattle.flash_faults.specs.declared.fault.FlashFault.{FlashFault}
 use Rattle.sparse_rules.specs.declared.fault.SparseCommandFault.{SparseCommandFault}
 use Rattle.sparse_rules.specs.declared.fault.SparseCommandFault.TheVariants as faults
 use Rattle.flash_bodies.specs.Files.{OfFile}

@@ -8,8 +8,8 @@ use Rattle.abt_sparse.specs.Chunk.{Header, Chunk, classed}
 use Rattle.abt_sparse.specs.Fails.{Fails, Spells, SpellsHeader}
 use Rattle.abt_sparse.specs.Pieces.{flashed}
 use Rattle.abt_pieces.specs.Contents.{written_in}
-use Rattle.abt_flash.specs.declared.fault.FlashFault.{FlashFault}
-use Rattle.abt_flash.specs.declared.fault.FlashFault.TheVariants as flashes
+use Rattle.flash_faults.specs.declared.fault.FlashFault.{FlashFault}
+use Rattle.flash_faults.specs.declared.fault.FlashFault.TheVariants as flashes
 use Rattle.abt_disk.specs.World.{World, Held, HasFailed}
 use Rattle.sparse_rules.specs.declared.fault.SparseCommandFault.{SparseCommandFault}
 use Rattle.sparse_rules.specs.declared.fault.SparseCommandFault.TheVariants as faults

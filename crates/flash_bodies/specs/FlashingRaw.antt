@@ -6,8 +6,8 @@ use Rattle.abt_runs.specs.Raw.{RefusedRaw}
 use Rattle.abt_runs.specs.declared.part.RunFault.{RunFault}
 use Rattle.abt_runs.specs.declared.part.RunFault.TheVariants as of_runs
 use Rattle.abt_flash.specs.Raw.{IsFilled}
-use Rattle.abt_flash.specs.declared.fault.FlashFault.{FlashFault}
-use Rattle.abt_flash.specs.declared.fault.FlashFault.TheVariants as flashes
+use Rattle.flash_faults.specs.declared.fault.FlashFault.{FlashFault}
+use Rattle.flash_faults.specs.declared.fault.FlashFault.TheVariants as flashes
 use Rattle.abt_disk.specs.World.{World, Held, HasFailed}
 use Rattle.sparse_rules.specs.declared.fault.SparseCommandFault.{SparseCommandFault}
 use Rattle.sparse_rules.specs.declared.fault.SparseCommandFault.TheVariants as faults

@@ -6,8 +6,8 @@ use Rattle.abt_io.specs.declared.device.Partition as partitions
 use Rattle.abt_sparse.specs.Block.{cells, over}
 use Rattle.abt_sparse.specs.Mending.{Mendable}
 use Rattle.abt_flash.specs.declared.answer.Delivered.{Delivered}
-use Rattle.abt_flash.specs.declared.fault.FlashFault.{FlashFault}
-use Rattle.abt_flash.specs.declared.fault.FlashFault.TheVariants as flashes
+use Rattle.flash_faults.specs.declared.fault.FlashFault.{FlashFault}
+use Rattle.flash_faults.specs.declared.fault.FlashFault.TheVariants as flashes
 use Rattle.abt_flash.specs.Delivering.{ImageBlocks, blocks_behind, blocks_in_first, pieces_in}
 use Rattle.abt_flash.specs.Devices.{Counts}
 use Rattle.abt_flash.specs.Raw.{IsAllowed, RawRefused, raw_image}

@@ -7,9 +7,9 @@ ghost use Rattle.flash_bodies.specs.FlashingRaw.{LaysRaw};
 ghost use Rattle.flash_bodies.specs.Laying.{unlaid};
 
 use crate::laying::lay_filled;
-use abt_flash::FlashFault;
 use abt_io::{CopyFault, Meter, Partition, Source, Window};
 use abt_runs::{BlockRuns, RawRuns, RunFault};
+use flash_faults::FlashFault;
 use sparse_rules::SparseCommandFault;
 
 /// Flashes each block of a raw image once, from the first to the last, and then syncs. How many they were. Nothing is

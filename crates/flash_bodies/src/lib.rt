@@ -11,14 +11,12 @@
 //! | `delivering.rt` | the pieces, by the engine |
 //! | `verify.rt` | whether an image stands on a partition |
 //! | `list.rt` | the header and the chunks of a sparse image |
-//! | `in_memory.rt` | the same commands at a disk in memory |
 #![tactic(auto)]
 
 mod blocks;
 mod delivering;
 mod flash;
 mod flash_raw;
-mod in_memory;
 mod laying;
 mod list;
 mod pieces;
@@ -27,10 +25,6 @@ mod verify;
 
 pub use flash::flash_file;
 pub use flash_raw::flash_raw_file;
-pub use in_memory::{
-    flash_in_memory, flash_pieces_in_memory, flash_raw_in_memory, list_in_memory, verify_in_memory,
-    verify_raw_in_memory,
-};
 pub use list::list_file;
 pub use pieces::flash_pieces_file;
 pub use verify::{verify_file, verify_raw_file};

@@ -9,10 +9,11 @@ ghost use Rattle.flash_bodies.specs.Through.{count_delivered};
 
 use crate::through::delivered_through;
 use abt_disk::{Disk, closed};
-use abt_flash::{Delivered, FlashFault};
+use abt_flash::Delivered;
 use abt_io::{Meter, Source, Window};
 use abt_output::{Carried, Report};
 use abt_refusals::{Place, Sides};
+use flash_faults::FlashFault;
 use sparse_rules::{Line, SparseCommandFault, SparseRefusal, raw_pieces};
 
 /// Flashes an image in pieces of at most so many bytes, from this one on, to a partition, which must be there, and

@@ -2,15 +2,16 @@
 
 ghost use Rattle.std.specs.Prelude.{◌≡◌, ◌≤◌, ◌<◌, ◌+◌, ◌-◌, [], IfErr, IfOk, IsTrue, OnOk, Some, None, false};
 ghost use Rattle.abt_disk.specs.World.{SparesRest};
-ghost use Rattle.abt_flash.specs.declared.fault.Cause.{Cause};
+ghost use Rattle.flash_faults.specs.declared.fault.Cause.{Cause};
 ghost use Rattle.flash_bodies.specs.InPieces.{DeliversPieces, SyncsPieces};
 ghost use Rattle.flash_bodies.specs.Through.{ClosesSpool, told};
 
 use crate::delivering::delivered;
 use abt_disk::Disk;
-use abt_flash::{Cause, Delivered, FlashFault};
+use abt_flash::Delivered;
 use abt_io::{DeviceFault, Meter, Window};
 use abt_output::Carried;
+use flash_faults::{Cause, FlashFault};
 
 /// Flashes the pieces from this one on. All that they went through is in its file then.
 pub(crate) fn delivered_through<D: Disk>(

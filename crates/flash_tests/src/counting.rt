@@ -1,7 +1,8 @@
 //! What a delivery of a thousand chunks, or of a raw image, reads and writes.
 
 use abt_flash::{Delivered, deliver, deliver_raw, deliver_raw_at};
-use abt_io::{Meter, SlicePartition, SliceSource, SliceSpool, Window};
+use abt_io::{Meter, SliceSource, Window};
+use memory_devices::{SlicePartition, SliceSpool};
 use test_data::counting::Counting;
 use test_data::vectors::{HEADER_OF_THOUSAND, ONE_RAW_BLOCK};
 

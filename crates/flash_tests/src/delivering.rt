@@ -1,10 +1,12 @@
 //! Images that go through a spool in pieces.
 
-use abt_flash::FlashFault::{LimitTooSmall, NoSuchPiece, PartitionTooSmall, Sparse, Stopped};
-use abt_flash::{Cause, Delivered, FlashFault, deliver, deliver_runs, resume};
-use abt_io::{DeviceFault, Marred, Meter, SlicePartition, SliceSource, SliceSpool, Window};
+use abt_flash::{Delivered, deliver, deliver_runs, resume};
+use abt_io::{DeviceFault, Meter, SliceSource, Window};
 use abt_runs::SparseRuns;
 use abt_sparse::SparseFault::{TooManyBlocks, Truncated};
+use flash_faults::FlashFault::{LimitTooSmall, NoSuchPiece, PartitionTooSmall, Sparse, Stopped};
+use flash_faults::{Cause, FlashFault};
+use memory_devices::{Marred, SlicePartition, SliceSpool};
 use test_data::counting::Counting;
 use test_data::standing::holds;
 use test_data::vectors::{

@@ -1,8 +1,10 @@
 //! One failing call of each device at each place: what is answered, and what stands.
 
-use abt_flash::FlashFault::{Read, Stopped};
-use abt_flash::{Cause, Delivered, FlashFault, deliver};
-use abt_io::{DeviceFault, Faulty, Meter, SlicePartition, SliceSource, SliceSpool, Window};
+use abt_flash::{Delivered, deliver};
+use abt_io::{DeviceFault, Meter, SliceSource, Window};
+use flash_faults::FlashFault::{Read, Stopped};
+use flash_faults::{Cause, FlashFault};
+use memory_devices::{Faulty, SlicePartition, SliceSpool};
 use test_data::vectors::NO_GAP;
 
 #[derive(Clone, Copy, Drop)]

@@ -1,12 +1,12 @@
 //! The numbers and texts of the faults.
 
-use abt_flash::FlashFault::{
+use abt_io::DeviceFault::Failed;
+use abt_sparse::SparseFault;
+use flash_faults::FlashFault::{
     BadBlock, LimitTooSmall, NoSuchPiece, PartitionTooSmall, Read, SourceChanged, Sparse, Stopped,
     Sync, TooLarge, Write,
 };
-use abt_flash::{Cause, FlashFault};
-use abt_io::DeviceFault::Failed;
-use abt_sparse::SparseFault;
+use flash_faults::{Cause, FlashFault};
 use std::test::Fail;
 
 #[rattlefmt::skip]

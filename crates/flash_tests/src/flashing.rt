@@ -1,10 +1,12 @@
 //! Images that are flashed as they are read.
 
 use abt_chunks::Progress;
-use abt_flash::FlashFault::{PartitionTooSmall, Read, Sparse};
-use abt_flash::{FlashFault, Flashed, Flasher, flash};
-use abt_io::{Cut, DeviceFault, Faulty, Forward, Meter, SlicePartition, SliceSource, Window};
+use abt_flash::{Flashed, Flasher, flash};
+use abt_io::{DeviceFault, Forward, Meter, SliceSource, Window};
 use abt_sparse::SparseFault::{Magic, TooFewBlocks, TooManyBlocks, Truncated};
+use flash_faults::FlashFault;
+use flash_faults::FlashFault::{PartitionTooSmall, Read, Sparse};
+use memory_devices::{Cut, Faulty, SlicePartition};
 use test_data::standing::holds;
 use test_data::vectors::{
     EMPTY, GAP_BETWEEN, LETTERS, LONG_HEADERS, MOST_BLOCKS, NO_GAP, THREE_KINDS, TOO_MANY,

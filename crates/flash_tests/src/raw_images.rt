@@ -1,12 +1,12 @@
 //! Raw images, delivered and resumed without a sparse image between, forward and in one pass.
 
-use abt_flash::FlashFault::{
+use abt_flash::{Delivered, deliver_raw, deliver_raw_at, resume_raw, resume_raw_at};
+use abt_io::{DeviceFault, Meter, SliceSource, Window};
+use flash_faults::FlashFault::{
     BadBlock, LimitTooSmall, NoSuchPiece, PartitionTooSmall, SourceChanged, Stopped, TooLarge,
 };
-use abt_flash::{
-    Cause, Delivered, FlashFault, deliver_raw, deliver_raw_at, resume_raw, resume_raw_at,
-};
-use abt_io::{DeviceFault, Faulty, Long, Meter, SlicePartition, SliceSource, SliceSpool, Window};
+use flash_faults::{Cause, FlashFault};
+use memory_devices::{Faulty, Long, SlicePartition, SliceSpool};
 use test_data::counting::Counting;
 use test_data::standing::holds;
 use test_data::vectors::{MIXED, MIXED_FIRST, MIXED_SECOND, OVER_MIXED};

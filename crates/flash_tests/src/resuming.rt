@@ -1,9 +1,11 @@
 //! A stop at each write, a crash, and resuming from each piece up to the one that was stopped.
 
 use abt_flash::{
-    Delivered, FlashFault, deliver, deliver_raw, deliver_raw_at, resume, resume_raw, resume_raw_at,
+    Delivered, deliver, deliver_raw, deliver_raw_at, resume, resume_raw, resume_raw_at,
 };
-use abt_io::{CrashPartition, Faulty, Meter, Pick, SliceSource, SliceSpool, Window};
+use abt_io::{Meter, SliceSource, Window};
+use flash_faults::FlashFault;
+use memory_devices::{CrashPartition, Faulty, Pick, SliceSpool};
 use test_data::vectors::{MIXED, NO_GAP};
 
 const PICKS: [Pick; 3] = [Pick::Old, Pick::New, Pick::Byte(0x5A)];

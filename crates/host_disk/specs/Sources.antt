@@ -1,6 +1,6 @@
 -- A source that is opened plainly, or read ahead.
 use Rattle.std.specs.Prelude.{ℕ}
-use Rattle.abt_io.specs.declared.files.FileSource.{FileSource}
+use Rattle.abt_files.specs.declared.files.FileSource.{FileSource}
 use Rattle.abt_buffers.specs.declared.ahead.AheadSource.{AheadSource}
 use Rattle.host_disk.specs.declared.source.HostSource.{HostSource}
 use Rattle.host_disk.specs.declared.source.HostSource.TheVariants.{Plain, Ahead}

@@ -5,8 +5,9 @@ ghost use Rattle.std.specs.Prelude.{[], None, false};
 use crate::source::HostSource;
 use abt_buffers::GatheringSpool;
 use abt_disk::{Disk, ImageTo};
+use abt_files::FilePartition;
 use abt_host::{InputFile, Reading, Writing};
-use abt_io::{DeviceFault, FilePartition};
+use abt_io::DeviceFault;
 use abt_output::{ImageFile, ImageOutput, OutputFile};
 use abt_refusals::{HostRefusal, Place};
 

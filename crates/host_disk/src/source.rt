@@ -6,7 +6,8 @@ ghost use Rattle.host_disk.specs.Sources.{number_of_source};
 
 use abt_buffers::{AheadFile, AheadSource};
 use abt_disk::Lasting;
-use abt_io::{DeviceFault, FileSource, Source};
+use abt_files::FileSource;
+use abt_io::{DeviceFault, Source};
 use std::alloc::{AllocError, Global};
 use std::fs::File;
 use std::io::{Seek, SeekFrom};

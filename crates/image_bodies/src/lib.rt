@@ -9,11 +9,9 @@
 //! | `cut.rt` | the body of `cut` |
 //! | `turns.rt`, `pieces.rt` | all pieces of an image, and one of them, each to a file of its own |
 //! | `next_piece.rt` | the calls of the engine for one piece, to a file or a stream |
-//! | `in_memory.rt` | the same over a disk in memory: no clause is left that says nothing |
 #![tactic(auto)]
 
 mod cut;
-mod in_memory;
 mod late_writes;
 mod laying;
 mod next_piece;
@@ -23,5 +21,4 @@ mod turns;
 mod writing;
 
 pub use cut::{Cutting, cut_file};
-pub use in_memory::{cut_in_memory, sparse_in_memory};
 pub use sparse::sparse_file;

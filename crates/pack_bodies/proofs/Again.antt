@@ -23,24 +23,28 @@ use Rattle.boot_rules.specs.declared.pack_command.PackCommand.{PackCommand}
 use Rattle.boot_rules.specs.declared.pack_texts.FragmentText.{FragmentText}
 use Rattle.boot_rules.specs.declared.pack_texts.OptionText.{OptionText}
 use Rattle.boot_rules.specs.declared.pack_texts.PackTexts.{PackTexts}
-use Rattle.pack_bodies.specs.Contents.{Packing, image_from, refusal_from}
+use Rattle.pack_outputs.specs.Contents.{Packing, image_from, refusal_from}
 use Rattle.pack_bodies.specs.Filling.{loaded_at}
-use Rattle.pack_bodies.specs.Lines.{counted_in_u64, image_line}
-use Rattle.pack_bodies.specs.Opening.{OpensMore, StopsOpening, failed, no_memory, no_text}
-use Rattle.pack_bodies.specs.Own.{StandsIn, kept_behind, no_path, own_fields}
+use Rattle.pack_outputs.specs.Lines.{counted_in_u64, image_line}
+use Rattle.pack_inputs.specs.Opening.{OpensMore, StopsOpening, failed, no_memory, no_text}
+use Rattle.pack_inputs.specs.Own.{StandsIn, kept_behind, no_path, own_fields}
 use Rattle.pack_bodies.specs.Packing.{board_id_words}
-use Rattle.pack_bodies.specs.Parts.{ArePartsOf, IsFragmentInput, IsGivenPath, IsPartInput, of_fragment}
-use Rattle.pack_bodies.specs.Parts.{of_part}
-use Rattle.pack_bodies.specs.Refusing.{IsBadBoard}
+use Rattle.pack_inputs.specs.Parts.{ArePartsOf, IsFragmentInput, IsGivenPath, IsPartInput, of_fragment}
+use Rattle.pack_inputs.specs.Parts.{of_part}
+use Rattle.pack_inputs.specs.BadBoards.{IsBadBoard}
 use Rattle.pack_bodies.specs.RefusingAgain as again
-use Rattle.pack_bodies.specs.RefusingAgain.{RefusesAgain, StopsFillingAgain, StopsJudging}
+use Rattle.pack_bodies.specs.RefusingAgain.{RefusesAgain, StopsFillingAgain}
+use Rattle.pack_inputs.specs.Judging as judging
+use Rattle.pack_inputs.specs.Judging.{StopsJudging}
 use Rattle.pack_bodies.specs.Repacking.{AreAskedAgain, AreFieldsAgain, AreFragmentsAgain, IsPackedAgain}
 use Rattle.pack_bodies.specs.Repacking.{KeepsGivenAgain}
 use Rattle.pack_bodies.specs.Repacking.{PacksAgain}
-use Rattle.pack_bodies.specs.Writing.{HoldsNoPartOf, IsOutsideBoot, LaysImage, LeavesOut, StopsWriting}
-use Rattle.pack_bodies.specs.Writing as writing
-use Rattle.pack_bodies.proofs.Closes.{on_ok_by}
-use Rattle.pack_bodies.proofs.Openings.{failed_still, opens_none, opens_then, same_failing, stops_more, stops_then}
+use Rattle.pack_outputs.specs.Writing.{HoldsNoPartOf, LaysImage, LeavesOut, StopsWriting}
+use Rattle.boot_rules.specs.Fault.{IsOutsideBoot}
+use Rattle.pack_outputs.specs.Writing as writing
+use Rattle.pack_bodies.proofs.Left.{on_ok_by}
+use Rattle.pack_inputs.proofs.Openings.{failed_still, opens_none, opens_then, stops_more, stops_then}
+use Rattle.boot_rules.proofs.Calls.{same_failing}
 
 -- ---- ramdisk fragments
 
@@ -329,12 +333,13 @@ untaken_wrong own kind options fragments faults.CheckFailed u = absurd u
 pub judging_refuses : (command : PackCommand) (x : List ℕ) (h : Header) (w w' : World) (P P' Q : Type 0)
     (kind : ImageKind) (f fault : BootCommandFault) → w' ≡ w → kind ≡ kind_of h → fault ≡ f
     → StopsJudging command kind P f → (P → P') → RefusesAgain command x h w w' P' Q fault
-judging_refuses command x h w w' P P' Q kind f fault same is told (again.untaken u) more =
+judging_refuses command x h w w' P P' Q kind f fault same is told (judging.untaken u) more =
     words_refuse command x h w w' P' Q kind (own_fields h) f fault same is refl told
     (untaken_wrong (own_fields h) kind command.texts.options.items command.texts.fragments.items f u)
-judging_refuses command x h w w' P P' Q kind f fault same is told (again.not_read (again.unread outside read)) more =
+judging_refuses command x h w w' P P' Q kind f fault same is told
+    (judging.not_read (judging.unread outside read)) more =
     again.failed (subst IsOutsideBoot (sym told) outside) (more read)
-judging_refuses command x h w w' P P' Q kind f fault same is told (again.not_read (again.no_room memory)) more =
+judging_refuses command x h w w' P P' Q kind f fault same is told (judging.not_read (judging.no_room memory)) more =
     again.no_memory (told ∙ memory) same
 
 pub again_more : (command : PackCommand) (x : List ℕ) (h : Header) (w w' : World) (P P' Q Q' : Type 0)

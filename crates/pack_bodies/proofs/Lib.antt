@@ -1,12 +1,5 @@
 pub mod Again
-pub mod Closes
-pub mod Entries
 pub mod Fillings
-pub mod Gathered
-pub mod Images
-pub mod Magics
-pub mod Openings
-pub mod Outputs
-pub mod Owns
+pub mod Left
 pub mod Packs
 pub mod Repacks

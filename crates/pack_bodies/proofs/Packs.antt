@@ -22,22 +22,24 @@ use Rattle.boot_rules.specs.declared.pack_command.PackCommand.{PackCommand}
 use Rattle.boot_rules.specs.declared.pack_texts.FragmentText.{FragmentText}
 use Rattle.boot_rules.specs.declared.pack_texts.OptionText.{OptionText}
 use Rattle.boot_rules.specs.declared.pack_texts.PackTexts.{PackTexts}
-use Rattle.pack_bodies.specs.Contents.{faults_in, image_from, packed_image, packing_of, refusal_from}
+use Rattle.pack_outputs.specs.Contents.{faults_in, image_from, packed_image, packing_of, refusal_from}
 use Rattle.pack_bodies.specs.Filling.{loaded_at}
-use Rattle.pack_bodies.specs.Lines.{counted_in_u64, image_line}
-use Rattle.pack_bodies.specs.Opening.{OpensMore, StopsOpening}
-use Rattle.pack_bodies.specs.Opening as opening
+use Rattle.pack_outputs.specs.Lines.{counted_in_u64, image_line}
+use Rattle.pack_inputs.specs.Opening.{OpensMore, StopsOpening}
+use Rattle.pack_inputs.specs.Opening as opening
 use Rattle.pack_bodies.specs.Packing.{AreAskedFor, IsPackedBy, KeepsGiven, PacksFile, board_id_words, asked_kind}
 use Rattle.pack_bodies.specs.Packing.{nothing}
-use Rattle.pack_bodies.specs.Parts.{AreFragmentsOf, ArePartsOf, IsFragmentInput, IsGivenPath, IsPartInput}
-use Rattle.pack_bodies.specs.Parts.{of_fragment, of_part}
-use Rattle.pack_bodies.specs.Refusing.{IsBadBoard, RefusesPack, StopsFilling}
+use Rattle.pack_inputs.specs.Parts.{AreFragmentsOf, ArePartsOf, IsFragmentInput, IsGivenPath, IsPartInput}
+use Rattle.pack_inputs.specs.Parts.{of_fragment, of_part}
+use Rattle.pack_inputs.specs.BadBoards.{IsBadBoard}
+use Rattle.pack_bodies.specs.Refusing.{RefusesPack, StopsFilling}
 use Rattle.pack_bodies.specs.Refusing as refusing
-use Rattle.pack_bodies.specs.Writing.{HoldsNoPartOf, IsOutsideBoot, LaysImage, LeavesOut, StopsWriting}
-use Rattle.pack_bodies.specs.Writing as writing
-use Rattle.pack_bodies.specs.declared.contents.Contents.{Contents}
-use Rattle.pack_bodies.proofs.Openings.{failed_still, opens_then, stops_then}
-use Rattle.pack_bodies.proofs.Closes.{on_ok_by}
+use Rattle.pack_outputs.specs.Writing.{HoldsNoPartOf, LaysImage, LeavesOut, StopsWriting}
+use Rattle.boot_rules.specs.Fault.{IsOutsideBoot}
+use Rattle.pack_outputs.specs.Writing as writing
+use Rattle.pack_outputs.specs.declared.contents.Contents.{Contents}
+use Rattle.pack_inputs.proofs.Openings.{failed_still, opens_then, stops_then}
+use Rattle.pack_bodies.proofs.Left.{on_ok_by}
 
 -- ---- what is opened
 

@@ -15,15 +15,15 @@ use Rattle.abt_sections.specs.declared.image.Image.{Image}
 use Rattle.boot_rules.specs.ImageFaults.{NoMoreFailed, SomeFailed}
 use Rattle.boot_rules.specs.declared.fault.BootCommandFault.{BootCommandFault}
 use Rattle.boot_rules.specs.declared.pack_command.PackCommand.{PackCommand}
-use Rattle.pack_bodies.specs.Lines.{counted_in_u64, image_line}
-use Rattle.pack_bodies.specs.Magic.{HoldsNone}
+use Rattle.pack_outputs.specs.Lines.{counted_in_u64, image_line}
+use Rattle.pack_outputs.specs.Magic.{HoldsNone}
 use Rattle.pack_bodies.specs.RefusingAgain.{RefusesAgain, RefusesRepack, not_again}
 use Rattle.pack_bodies.specs.Repacking.{BeginsWith, HoldsNoPartAgain, IsPackedAgain, IsRepackedOf}
 use Rattle.pack_bodies.specs.Repacking.{KeepsGivenAgain}
 use Rattle.pack_bodies.specs.Repacking.{KeepsRead, PacksAgain, RepacksFile}
-use Rattle.pack_bodies.specs.Writing.{HoldsNoPartOf, LeavesOut}
+use Rattle.pack_outputs.specs.Writing.{HoldsNoPartOf, LeavesOut}
 use Rattle.pack_bodies.proofs.Again.{again_more}
-use Rattle.pack_bodies.proofs.Closes.{on_ok_by}
+use Rattle.pack_bodies.proofs.Left.{on_ok_by}
 
 -- ---- what has failed
 

@@ -1,5 +1,7 @@
 -- Where the parts of a boot image are loaded, of which it may have no bytes.
 use Rattle.std.specs.Prelude.{ℕ, Bool, ◌&&◌, ◌==◌, nat_lt, List, [], length, slice_index_or, if◌then◌else◌}
+use Rattle.std.specs.Prelude.{◌≡◌, IsTrue, Result, IfOk, OnOk}
+use Rattle.abt_disk.specs.World.{World, Held}
 use Rattle.abt_sections.specs.Fields.{BootFields}
 use Rattle.boot_fields.specs.Loading.{is_sum}
 use Rattle.boot_fields.specs.declared.fields.Address.TheVariants.{Ramdisk, Second}
@@ -7,6 +9,9 @@ use Rattle.boot_fields.specs.declared.image_kind.ImageKind.{ImageKind}
 use Rattle.boot_fields.specs.declared.image_kind.ImageKind.TheVariants.{Boot, Vendor}
 use Rattle.boot_rules.specs.Given.{words_for}
 use Rattle.boot_rules.specs.declared.pack_texts.OptionText.{OptionText}
+use Rattle.pack_inputs.specs.Opening.{OnlyOpens, OpensMore}
+use Rattle.pack_outputs.specs.Contents.{faults_in}
+use Rattle.pack_outputs.specs.declared.contents.Contents.{Contents}
 
 -- the ramdisk is the second part of a boot image, and the second stage the third of versions 0 to 2
 abbrev pub ramdisk_in : List (List ℕ) → List ℕ
@@ -34,3 +39,12 @@ loaded_where (Vendor n) of_ramdisk of_second parts s = s
 abbrev pub loaded_at : ImageKind → List OptionText → List (List ℕ) → BootFields → BootFields
 loaded_at kind options parts s =
     loaded_where kind (is_sum (words_for options Ramdisk)) (is_sum (words_for options Second)) parts s
+
+-- all is open that an image of this kind is written from, and none of it has failed yet; no file has changed
+pub record FillsAll {P F : Type 0} (tells : Bool) (r : Result (Contents P) F) (its_kind : ImageKind)
+    (named : List ℕ → Type 0) (its_size its_faults : P → ℕ) (h h' : Held) (old new : World) : Type 0 where
+  pub kind : IfOk r (λ c. c.kind ≡ its_kind)
+  pub nothing : IfOk r (λ c. its_size c.nothing ≡ 0)
+  pub unread : IsTrue tells → IfOk r (λ c. faults_in its_faults c ≡ 0)
+  pub opened : IsTrue tells → OnOk r (OpensMore named old h h')
+  pub keeps : IsTrue tells → OnlyOpens h h' old new

@@ -1,13 +1,5 @@
-pub mod Contents
 pub mod Filling
-pub mod Lines
-pub mod Magic
-pub mod Opening
-pub mod Own
 pub mod Packing
-pub mod Parts
 pub mod Refusing
 pub mod RefusingAgain
 pub mod Repacking
-pub mod Sources
-pub mod Writing

@@ -12,11 +12,11 @@ use Rattle.boot_rules.specs.Given.{AreGiven, no_fields}
 use Rattle.boot_rules.specs.Parts.{part_sections}
 use Rattle.boot_rules.specs.declared.pack_command.PackCommand.{PackCommand}
 use Rattle.boot_rules.specs.declared.pack_texts.PackTexts.{PackTexts}
-use Rattle.pack_bodies.specs.Contents.{Packing, image_from}
+use Rattle.pack_outputs.specs.Contents.{Packing, image_from}
 use Rattle.pack_bodies.specs.Filling.{loaded_at}
-use Rattle.pack_bodies.specs.Lines.{image_line, counted_in_u64}
-use Rattle.pack_bodies.specs.Parts.{ArePartsOf, AreFragmentsOf, IsGivenPath}
-use Rattle.pack_bodies.specs.Writing.{HoldsNoPartOf}
+use Rattle.pack_outputs.specs.Lines.{image_line, counted_in_u64}
+use Rattle.pack_inputs.specs.Parts.{ArePartsOf, AreFragmentsOf, IsGivenPath}
+use Rattle.pack_outputs.specs.Writing.{HoldsNoPartOf}
 
 -- These are packed for an image of a kind that has these fields: its parts, by the options, its ramdisk fragments, and
 -- the board ids that the words set. An image of its own may have parts, `own`, and fragments, `Fragments`.

@@ -1,36 +1,21 @@
 -- Why the commands `pack` and `repack` are refused: each fault is so.
-use Rattle.std.specs.Prelude.{◌≡◌, ◌<◌, ℕ, List, length, Some, Contains}
+use Rattle.std.specs.Prelude.{◌≡◌, ℕ, List, length, Some}
 use Rattle.std.specs.Str.{IsUtf8}
 use Rattle.abt_disk.specs.World.{World, Held, HasFailed}
 use Rattle.abt_refusals.specs.declared.refusal.HostFault.{HostFault}
 use Rattle.abt_refusals.specs.declared.refusal.HostFault.TheVariants as hosts
 use Rattle.abt_sections.specs.Fields.{BootFields}
 use Rattle.abt_sections.specs.declared.fault.SectionFault.{SectionFault}
-use Rattle.boot_fields.specs.Board.{BoardFits, IsBoardWord}
-use Rattle.boot_fields.specs.declared.board_word.BoardWord.{BoardWord}
 use Rattle.boot_rules.specs.Given.{AreGiven, no_fields}
 use Rattle.boot_rules.specs.Wrong.{IsWrong}
 use Rattle.boot_rules.specs.declared.fault.BootCommandFault.{BootCommandFault}
 use Rattle.boot_rules.specs.declared.fault.BootCommandFault.TheVariants as faults
 use Rattle.boot_rules.specs.declared.pack_command.PackCommand.{PackCommand}
-use Rattle.pack_bodies.specs.Contents.{Packing, refusal_from}
+use Rattle.pack_outputs.specs.Contents.{Packing, refusal_from}
 use Rattle.pack_bodies.specs.Packing.{AreAskedFor, board_id_words, asked_kind}
-use Rattle.pack_bodies.specs.Parts.{IsGivenPath}
-use Rattle.pack_bodies.specs.Writing.{IsOutsideBoot}
-
--- one of these words is no word of `--board-id`, or there is no fragment of so many that it is about
-pub record IsBadBoardId (words : List (List ℕ)) (count : ℕ) (word : List ℕ) : Type 0 where
-  pub is_one : Contains words word
-  pub sets_none : (b : BoardWord) → IsBoardWord word b → BoardFits b → b.fragment < count → ⊥
-
-abbrev pub IsBadBoard : List (List ℕ) → ℕ → BootCommandFault → Type 0
-IsBadBoard words count (faults.BadBoardId word) = IsBadBoardId words count word.now
-IsBadBoard words count (faults.Host f) = ⊥
-IsBadBoard words count (faults.Section f) = ⊥
-IsBadBoard words count (faults.OptionNotCarried name) = ⊥
-IsBadBoard words count (faults.BadFragment word) = ⊥
-IsBadBoard words count (faults.BadNumber word) = ⊥
-IsBadBoard words count faults.CheckFailed = ⊥
+use Rattle.pack_inputs.specs.Parts.{IsGivenPath}
+use Rattle.boot_rules.specs.Fault.{IsOutsideBoot}
+use Rattle.pack_inputs.specs.BadBoards.{IsBadBoard}
 
 -- why an image is not filled: one of its files was not opened, or a board id is wrong
 pub data StopsFilling (named : List ℕ → Type 0) (words : List (List ℕ)) (count : ℕ) (held held' : Held)

@@ -1,31 +1,26 @@
 -- Why the command `repack` is refused: each fault is so.
-use Rattle.std.specs.Prelude.{◌≡◌, ◌<◌, ℕ, List, length, Some, IsTrue, Result, IfErr}
+use Rattle.std.specs.Prelude.{◌≡◌, ℕ, List, length, Some}
 use Rattle.std.specs.Str.{IsUtf8}
-use Rattle.abt_io.specs.Lent.{OnlyReads}
-use Rattle.abt_io.specs.declared.device.Source as sources
 use Rattle.abt_disk.specs.World.{World, Held, HasFailed}
 use Rattle.abt_refusals.specs.declared.refusal.HostFault.{HostFault}
 use Rattle.abt_refusals.specs.declared.refusal.HostFault.TheVariants as hosts
 use Rattle.abt_sections.specs.Fields.{BootFields}
 use Rattle.abt_sections.specs.Header.{Header}
-use Rattle.abt_sections.specs.Open.{IsOpened}
 use Rattle.abt_sections.specs.declared.fault.SectionFault.{SectionFault}
-use Rattle.abt_sections.specs.declared.image.Image.{Image}
 use Rattle.abt_sections.specs.declared.spec.FragmentSpec.{FragmentSpec}
 use Rattle.boot_rules.specs.ImageFaults.{RefusesImage}
 use Rattle.boot_fields.specs.Kind.{kind_of}
-use Rattle.boot_fields.specs.declared.image_kind.ImageKind.{ImageKind}
-use Rattle.boot_rules.specs.Wrong.{IsUntaken, IsWrong}
+use Rattle.boot_rules.specs.Wrong.{IsWrong}
 use Rattle.boot_rules.specs.declared.fault.BootCommandFault.{BootCommandFault}
 use Rattle.boot_rules.specs.declared.fault.BootCommandFault.TheVariants as faults
 use Rattle.boot_rules.specs.declared.pack_command.PackCommand.{PackCommand}
-use Rattle.pack_bodies.specs.Contents.{Packing, refusal_from}
-use Rattle.pack_bodies.specs.Own.{own_fields}
+use Rattle.pack_outputs.specs.Contents.{Packing, refusal_from}
+use Rattle.pack_inputs.specs.Own.{own_fields}
 use Rattle.pack_bodies.specs.Packing.{board_id_words}
-use Rattle.pack_bodies.specs.Parts.{IsGivenPath}
-use Rattle.pack_bodies.specs.Refusing.{IsBadBoard}
+use Rattle.pack_inputs.specs.Parts.{IsGivenPath}
+use Rattle.pack_inputs.specs.BadBoards.{IsBadBoard}
 use Rattle.pack_bodies.specs.Repacking.{AreAskedAgain, AreFieldsAgain, AreFragmentsAgain, BeginsWith}
-use Rattle.pack_bodies.specs.Writing.{IsOutsideBoot}
+use Rattle.boot_rules.specs.Fault.{IsOutsideBoot}
 
 -- the words are wrong of an image with this header
 abbrev pub IsWrongAgain : PackCommand → Header → BootCommandFault → Type 0
@@ -81,25 +76,6 @@ pub data RefusesRepack (input : List ℕ) (command : PackCommand) (old new : Wor
       → RefusesRepack input command old new held held' Done fault
 
 -- ---- on the way
-
--- why an image is not read again: a read failed, or there was no memory
-pub data IsUnread (Failed : Type 0) (fault : BootCommandFault) : Type 0 where
-  unread : IsOutsideBoot fault → Failed → IsUnread Failed fault
-  no_room : fault ≡ faults.Host hosts.Memory → IsUnread Failed fault
-
--- an image that was opened is only read again, or not read for such a fault
-pub record ReadsOpened {X : Type 0} (r : Result X BootCommandFault) {S : Type 0} (s : sources.Ghosts S) (old new : S)
-    (image : Image) : Type 0 where
-  pub only : OnlyReads r s old new
-  pub refused : IsTrue s.tells → IsOpened (s.content old) image
-      → IfErr r (IsUnread (s.read_faults old < s.read_faults new))
-
--- why the words are not taken by an image of this kind, or it is not read again
-pub data StopsJudging (command : PackCommand) (kind : ImageKind) (Failed : Type 0) (fault : BootCommandFault) : Type 0
-  where
-    untaken : IsUntaken kind command.texts.options.items command.texts.fragments.items fault
-        → StopsJudging command kind Failed fault
-    not_read : IsUnread Failed fault → StopsJudging command kind Failed fault
 
 -- why not all is at hand that an image is packed from again: a call failed, a path is no UTF-8, there is no memory,
 -- or a board id is wrong

@@ -18,14 +18,14 @@ use Rattle.boot_rules.specs.Given.{AreGiven}
 use Rattle.boot_rules.specs.declared.pack_command.PackCommand.{PackCommand}
 use Rattle.boot_rules.specs.declared.pack_texts.FragmentText.{FragmentText}
 use Rattle.boot_rules.specs.declared.pack_texts.PackTexts.{PackTexts}
-use Rattle.pack_bodies.specs.Contents.{Packing, image_from}
-use Rattle.pack_bodies.specs.Lines.{image_line, counted_in_u64}
-use Rattle.pack_bodies.specs.Own.{StandsIn, fragment_bytes, entries_to, kept_behind, own_fields, said_of}
+use Rattle.pack_outputs.specs.Contents.{Packing, image_from}
+use Rattle.pack_outputs.specs.Lines.{image_line, counted_in_u64}
+use Rattle.pack_inputs.specs.Own.{StandsIn, fragment_bytes, entries_to, kept_behind, own_fields, said_of}
 use Rattle.pack_bodies.specs.Packing.{ArePacked, board_id_words}
-use Rattle.pack_bodies.specs.Parts.{AreFragmentsOf, IsGivenPath}
-use Rattle.pack_bodies.specs.Writing.{HoldsNoPartOf}
-use Rattle.pack_bodies.specs.declared.kept.Kept.{Kept}
-use Rattle.pack_bodies.specs.declared.own.Own.{Own}
+use Rattle.pack_inputs.specs.Parts.{AreFragmentsOf, IsGivenPath}
+use Rattle.pack_outputs.specs.Writing.{HoldsNoPartOf}
+use Rattle.pack_inputs.specs.declared.kept.Kept.{Kept}
+use Rattle.pack_inputs.specs.declared.own.Own.{Own}
 
 -- the ramdisk fragments of the image x, in the order of its table
 pub record AreOwnFragments (x : List ℕ) (h : Header) (said : List FragmentSpec) (ramdisks : List (List ℕ)) : Type 0

@@ -6,13 +6,13 @@ ghost use Rattle.boot_fields.specs.Kind.{version_of};
 ghost use Rattle.boot_rules.specs.Parts.{row_count};
 ghost use Rattle.pack_bodies.specs.Filling.{address_where, loaded_at, loaded_where, second_in};
 
-use crate::contents::Contents;
-use crate::ramdisks::Ramdisks;
 use abt_disk::Lasting;
 use abt_io::Source;
 use abt_sections::BootSpec;
 use boot_fields::ImageKind;
 use boot_rules::{PackTexts, PartSource, counts_ramdisk, counts_second};
+use pack_inputs::Ramdisks;
+use pack_outputs::Contents;
 
 /// An image of this kind, with these fields and parts, and what stands behind it.
 pub(crate) fn filled<'f, 't, S: Source + Lasting + Drop>(

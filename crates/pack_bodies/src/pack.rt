@@ -8,19 +8,14 @@ ghost use Rattle.abt_output.specs.Shows.{Shows, unprinted};
 ghost use Rattle.abt_sections.specs.Fields.{boot_fields};
 ghost use Rattle.boot_fields.specs.Kind.{version_of};
 ghost use Rattle.boot_rules.specs.Carried.{IsTaken};
-ghost use Rattle.pack_bodies.specs.Contents.{packing_of};
-ghost use Rattle.pack_bodies.specs.Opening.{FillsAll};
+ghost use Rattle.pack_outputs.specs.Contents.{packing_of};
+ghost use Rattle.pack_bodies.specs.Filling.{FillsAll};
 ghost use Rattle.pack_bodies.specs.Packing.{AreAskedFor, IsPackedBy, KeepsGiven, PacksFile, board_id_words, asked_kind};
-ghost use Rattle.pack_bodies.specs.Parts.{IsGivenPath};
+ghost use Rattle.pack_inputs.specs.Parts.{IsGivenPath};
 ghost use Rattle.pack_bodies.specs.Refusing.{RefusesPack, StopsFilling};
-ghost use Rattle.pack_bodies.specs.Writing.{LeavesOut};
+ghost use Rattle.pack_outputs.specs.Writing.{LeavesOut};
 
-use crate::contents::Contents;
 use crate::filling::filled;
-use crate::image_output::write_image;
-use crate::parts::open_parts;
-use crate::places::output_at;
-use crate::ramdisks::open_fragments;
 use abt_disk::Disk;
 use abt_io::{Meter, Source, Window};
 use abt_output::Report;
@@ -28,6 +23,8 @@ use abt_refusals::Refusal;
 use abt_sections::BootSpec;
 use boot_fields::ImageKind;
 use boot_rules::{BootCommandFault, BootOutcome, PackCommand, PartSource, judge_words};
+use pack_inputs::{open_fragments, open_parts, output_at};
+use pack_outputs::{Contents, write_image};
 
 /// Packs the image that the words ask for, and prints how many bytes it has.
 ///

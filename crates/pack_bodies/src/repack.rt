@@ -12,25 +12,17 @@ ghost use Rattle.boot_rules.specs.ImageFaults.{NoMoreFailed, SomeFailed};
 ghost use Rattle.boot_fields.specs.Fields.{text_of};
 ghost use Rattle.boot_fields.specs.Kind.{kind_of, version_of};
 ghost use Rattle.boot_findings.specs.LeftOut.{cmdline_of};
-ghost use Rattle.pack_bodies.specs.Contents.{packing_of};
-ghost use Rattle.pack_bodies.specs.Opening.{FillsAll, OpensEach};
-ghost use Rattle.pack_bodies.specs.Own.{kept_behind};
-ghost use Rattle.pack_bodies.specs.Parts.{IsFragmentInput, IsGivenPath};
+ghost use Rattle.pack_outputs.specs.Contents.{packing_of};
+ghost use Rattle.pack_bodies.specs.Filling.{FillsAll};
+ghost use Rattle.pack_inputs.specs.Opening.{OpensEach};
+ghost use Rattle.pack_inputs.specs.Own.{kept_behind};
+ghost use Rattle.pack_inputs.specs.Parts.{IsFragmentInput, IsGivenPath};
 ghost use Rattle.pack_bodies.specs.RefusingAgain.{RefusesAgain, RefusesRepack, StopsFillingAgain};
 ghost use Rattle.pack_bodies.specs.Repacking.{AreAskedAgain, AreFragmentsAgain, IsAtHand, IsPackedAgain, IsRepackedOf};
 ghost use Rattle.pack_bodies.specs.Repacking.{KeepsGivenAgain, KeepsRead, PacksAgain, RepacksFile, ShowsFirst};
-ghost use Rattle.pack_bodies.specs.Writing.{LeavesOut};
+ghost use Rattle.pack_outputs.specs.Writing.{LeavesOut};
 
-use crate::contents::Contents;
 use crate::filling::filled;
-use crate::image_output::write_image;
-use crate::kept::{Kept, judged};
-use crate::own::{Own, open_own, trailing_of};
-use crate::own_fields::own_fields;
-use crate::own_ramdisks::own_fragments;
-use crate::parts::open_parts;
-use crate::places::output_at;
-use crate::ramdisks::{Ramdisks, open_fragments};
 use crate::telling::tell_left_out;
 use abt_disk::Disk;
 use abt_io::{Meter, Source, Window};
@@ -40,6 +32,11 @@ use abt_sections::BootSpec;
 use boot_fields::ImageKind;
 use boot_findings::LeftOut;
 use boot_rules::{BootCommandFault, BootOutcome, PackCommand, PackTexts, PartSource, with_given};
+use pack_inputs::{
+    Kept, Own, Ramdisks, judged, open_fragments, open_own, open_parts, output_at, own_fields,
+    own_fragments, trailing_of,
+};
+use pack_outputs::{Contents, write_image};
 use std::alloc::Global;
 
 /// Packs an image again, of which parts and fields may be given, and prints how many bytes it has.

@@ -5,10 +5,10 @@ ghost use Rattle.abt_output.specs.Shows.{Shows};
 ghost use Rattle.abt_output.specs.declared.report.Report.{Report};
 ghost use Rattle.pack_bodies.specs.Repacking.{ShowsFirst};
 
-use crate::lines::LeftOutNote;
 use abt_output::Report;
 use abt_text::Text;
 use boot_findings::LeftOut;
+use std::fmt;
 
 /// Tells on standard error what was left out, if anything was.
 pub(crate) fn tell_left_out(report: &mut Report, left: LeftOut)
@@ -22,4 +22,15 @@ pub(crate) fn tell_left_out(report: &mut Report, left: LeftOut)
     text.short(LeftOutNote(left));
     text.end_line();
     let _ = text.finish();
+}
+
+// What an image that is packed again leaves out.
+#[derive(Drop)]
+struct LeftOutNote(LeftOut);
+
+impl fmt::Display for LeftOutNote {
+    fn fmt<W: fmt::Write>(&self, f: &mut fmt::Formatter<W>) -> fmt::Result {
+        let left = self.0;
+        write!(f, "abootimg: {left}")
+    }
 }

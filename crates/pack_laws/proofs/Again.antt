@@ -35,12 +35,13 @@ use Rattle.boot_rules.specs.declared.pack_texts.OptionText.{OptionText}
 use Rattle.boot_rules.specs.declared.part_names.Part.TheVariants as files
 use Rattle.boot_laws.specs.Said.{IsHeld, SaysFiles, boot_fields_of, is_said, value_of, values_of, vendor_fields_of}
 use Rattle.boot_laws.specs.Said.{without_board}
-use Rattle.boot_laws.specs.WayBack.{PacksFromParts, PacksBoot, PacksVendor, SaysImage, boot_parts_of, ramdisks_of, specs_of}
+use Rattle.boot_laws.specs.WayBack.{PacksFromParts, PacksBoot, PacksVendor, SaysImage, boot_parts_of, ramdisks_of}
+use Rattle.boot_laws.specs.WayBack.{specs_of}
 use Rattle.boot_laws.specs.WayBack.{vendor_part, vendor_parts_of}
 use Rattle.boot_texts.specs.Words.{image_words, words_text}
-use Rattle.pack_bodies.specs.Contents.{Packing, image_from}
+use Rattle.pack_outputs.specs.Contents.{Packing, image_from}
 use Rattle.pack_bodies.specs.Packing.{ArePacked, IsPackedBy, PacksFile, board_id_words, asked_kind, nothing}
-use Rattle.pack_bodies.specs.Parts.{AreFragmentsOf, ArePartsOf}
+use Rattle.pack_inputs.specs.Parts.{AreFragmentsOf, ArePartsOf}
 use Rattle.pack_laws.specs.Said.{GivesNumber, GivesText, IsGivenBy, IsFragmentBy, SaysCommand, number_options}
 use Rattle.pack_laws.specs.Said.{text_options}
 use Rattle.pack_laws.specs.WayBack.{UnpackedPacksAgain}

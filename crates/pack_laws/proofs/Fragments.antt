@@ -12,7 +12,7 @@ use Rattle.boot_rules.specs.declared.pack_texts.FragmentText.{FragmentText}
 use Rattle.boot_rules.specs.declared.part_names.Part.TheVariants as files
 use Rattle.boot_laws.specs.Said.{SaysEach, without_board}
 use Rattle.boot_laws.specs.WayBack.{ramdisks_of, spec_of, specs_of}
-use Rattle.pack_bodies.specs.Parts.{AreFragmentsOf}
+use Rattle.pack_inputs.specs.Parts.{AreFragmentsOf}
 use Rattle.pack_laws.specs.Said.{IsFragmentBy}
 use Rattle.pack_laws.proofs.Parts.{same_bytes}
 

@@ -18,7 +18,7 @@ use Rattle.boot_rules.specs.declared.part_names.Part.TheVariants as files
 use Rattle.boot_laws.specs.Said.{SaysFile, SaysFiles, SaysText, value_of}
 use Rattle.boot_texts.specs.Words.{section_option}
 use Rattle.pack_bodies.specs.Packing.{nothing}
-use Rattle.pack_bodies.specs.Parts.{ArePartsOf, IsPartBy}
+use Rattle.pack_inputs.specs.Parts.{ArePartsOf, IsPartBy}
 use Rattle.pack_laws.specs.Said.{GivesText, IsGivenBy}
 use Rattle.pack_laws.proofs.Options.{Orders, one_given, same_number}
 

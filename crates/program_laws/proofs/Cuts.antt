@@ -9,7 +9,7 @@ use Rattle.abt_sparse.specs.Pieces.{AreCuts, IsPiece, pieces, flashed, flashed_i
 use Rattle.abt_sparse.specs.Reading.{Image, outcome}
 use Rattle.abt_sparse.specs.Runs.{segments}
 use Rattle.abt_sparse.proofs.Bytewise.{expanded_long}
-use Rattle.abt_sparse.proofs.Cuts.{segments_are}
+use Rattle.sparse_laws.proofs.Cuts.{segments_are}
 use Rattle.abt_sparse.proofs.Exactly.{spelled_is}
 use Rattle.abt_sparse.proofs.Flashing.{each_piece, given_is, pieces_flashed}
 use Rattle.abt_sparse.proofs.Lay.{length-over}

@@ -9,10 +9,10 @@ use Rattle.abt_sparse.specs.Fails.{Fails, SpellsHeader}
 use Rattle.abt_sparse.specs.Pieces.{flashed, flashed_in_turn}
 use Rattle.abt_sparse.specs.Reading.{Outcome, Image, Fault}
 use Rattle.abt_sparse.proofs.Exactly.{behind_header, failed_is, spelled_is}
-use Rattle.abt_flash.specs.declared.fault.FlashFault.{FlashFault}
-use Rattle.abt_flash.specs.declared.fault.FlashFault.TheVariants as flashes
+use Rattle.flash_faults.specs.declared.fault.FlashFault.{FlashFault}
+use Rattle.flash_faults.specs.declared.fault.FlashFault.TheVariants as flashes
 use Rattle.abt_flash.specs.declared.stage.Flashed.{Flashed}
-use Rattle.abt_flash.specs.Fault.{FlashCause, FlashingRises}
+use Rattle.flash_faults.specs.Fault.{FlashCause, FlashingRises}
 use Rattle.abt_flash.specs.Flashing.{Flashes, Holds}
 use Rattle.abt_disk.specs.World.{Held, failing}
 use Rattle.sparse_rules.specs.declared.fault.SparseCommandFault.{SparseCommandFault}

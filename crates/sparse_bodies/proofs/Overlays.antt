@@ -9,7 +9,7 @@ use Rattle.abt_io.specs.Moment.{Past, no_past}
 use Rattle.abt_sparse.specs.Pieces.{flashed_in_turn}
 use Rattle.abt_chunks.specs.declared.progress.Expanded.{Expanded}
 use Rattle.abt_runs.specs.declared.part.RunFault.TheVariants as of_runs
-use Rattle.abt_flash.specs.declared.fault.FlashFault.TheVariants as flashes
+use Rattle.flash_faults.specs.declared.fault.FlashFault.TheVariants as flashes
 use Rattle.abt_disk.specs.InPlace.{IsAsLong, MakesZeros, closed_part, is_settled, is_settled_in}
 use Rattle.abt_disk.specs.World.{World, Held, Spares, Ends, OnlyAt, in_output, KeepsFile, HasFailed, HasNotFailed}
 use Rattle.abt_disk.specs.World.{failing}

@@ -6,8 +6,8 @@ use Rattle.abt_sparse.specs.Fails.{Fails}
 use Rattle.abt_chunks.specs.declared.progress.Expanded.{Expanded}
 use Rattle.abt_refusals.specs.declared.refusal.HostFault.TheVariants.{Memory}
 use Rattle.abt_runs.specs.declared.part.RunFault.TheVariants as of_runs
-use Rattle.abt_flash.specs.declared.fault.FlashFault.{FlashFault}
-use Rattle.abt_flash.specs.declared.fault.FlashFault.TheVariants as flashes
+use Rattle.flash_faults.specs.declared.fault.FlashFault.{FlashFault}
+use Rattle.flash_faults.specs.declared.fault.FlashFault.TheVariants as flashes
 use Rattle.abt_disk.specs.World.{World, Held, OpensFile, HasFailed}
 use Rattle.sparse_rules.specs.declared.fault.SparseCommandFault.{SparseCommandFault}
 use Rattle.sparse_rules.specs.declared.fault.SparseCommandFault.TheVariants as faults

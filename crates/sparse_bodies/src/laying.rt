@@ -2,7 +2,7 @@
 
 ghost use Rattle.std.specs.Prelude.{◌≡◌, ◌+◌, ◌*◌, ℕ, [], None, Ok, IsTrue, IfOk, IfErr, OnOk, length, map, IfSome, IsErr};
 ghost use Rattle.std.specs.List.{AllByRecursion};
-ghost use Rattle.abt_flash.specs.Fault.{FlashingRises};
+ghost use Rattle.flash_faults.specs.Fault.{FlashingRises};
 ghost use Rattle.abt_flash.specs.Flashing.{Holds};
 ghost use Rattle.abt_sparse.specs.Pieces.{flashed, flashed_in_turn};
 ghost use Rattle.sparse_bodies.specs.Overlaying.{IsImageOf};
@@ -10,11 +10,12 @@ ghost use Rattle.sparse_bodies.specs.Steps.{IsNotFlashed, IsNotLaid, LaysAlone};
 
 use crate::opening::Kept;
 use abt_disk::{Disk, Lasting};
-use abt_flash::{FlashFault, Flashed, flash};
+use abt_flash::{Flashed, flash};
 use abt_io::{Forward, Meter, Partition, Source, Window};
 use abt_output::{Carried, Progress};
 use abt_refusals::{Place, Sides};
 use abt_sparse::SparseFault;
+use flash_faults::FlashFault;
 use sparse_rules::{SparseCommandFault, SparseRefusal};
 use std::collections::VecDeque;
 

@@ -5,15 +5,12 @@
 //! |---|---|
 //! | `expand.rt` | `expand` of one image |
 //! | `overlay.rt`, `opening.rt`, `laying.rt` | `expand` of several images, which are laid over one another |
-//! | `in_memory.rt` | the same over a disk in memory, where each clause speaks |
 #![tactic(auto)]
 
 mod expand;
-mod in_memory;
 mod laying;
 mod opening;
 mod overlay;
 
 pub use expand::expand_one;
-pub use in_memory::{expand_in_memory, expand_several_in_memory};
 pub use overlay::expand_several;

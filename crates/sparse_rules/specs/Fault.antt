@@ -3,12 +3,12 @@ use Rattle.std.specs.Prelude.{ℕ, ◌==◌, ◌||◌, Bool, false, Option, Some
 use Rattle.abt_sparse.specs.Number as sparse
 use Rattle.abt_runs.specs.Number as run
 use Rattle.abt_pieces.specs.Fault as piece
-use Rattle.abt_flash.specs.Fault as flash
+use Rattle.flash_faults.specs.Fault as flash
 use Rattle.abt_verify.specs.Fault as verify
-use Rattle.abt_flash.specs.declared.fault.Cause.{Cause}
-use Rattle.abt_flash.specs.declared.fault.Cause.TheVariants as causes
-use Rattle.abt_flash.specs.declared.fault.FlashFault.{FlashFault}
-use Rattle.abt_flash.specs.declared.fault.FlashFault.TheVariants as flashes
+use Rattle.flash_faults.specs.declared.fault.Cause.{Cause}
+use Rattle.flash_faults.specs.declared.fault.Cause.TheVariants as causes
+use Rattle.flash_faults.specs.declared.fault.FlashFault.{FlashFault}
+use Rattle.flash_faults.specs.declared.fault.FlashFault.TheVariants as flashes
 use Rattle.abt_refusals.specs.Host.{is_not_text}
 use Rattle.abt_refusals.specs.declared.told.Side.{Side}
 use Rattle.abt_refusals.specs.declared.told.Side.TheVariants as sides

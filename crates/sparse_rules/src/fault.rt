@@ -5,7 +5,6 @@ ghost use Rattle.abt_text.specs.Printed.{Prints};
 ghost use Rattle.sparse_rules.specs.Fault.{sparse_command_fault_number, side_of_cause, side_of_number, wrong_words};
 ghost use Rattle.sparse_rules.specs.declared.fault.SparseCommandFault.TheVariants.{Host};
 
-use abt_flash::{Cause, FlashFault};
 use abt_io::Output;
 use abt_pieces::PieceFault;
 use abt_refusals::{HostFault, HostRefusal, Place, Refusal, Side, Told};
@@ -13,6 +12,7 @@ use abt_runs::RunFault;
 use abt_sparse::SparseFault;
 use abt_text::Text;
 use abt_verify::VerifyFault;
+use flash_faults::{Cause, FlashFault};
 
 /// Why a command of sparse images is refused.
 #[derive(Drop)]

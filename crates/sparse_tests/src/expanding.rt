@@ -1,9 +1,10 @@
 //! Expanding.
 
 use abt_chunks::{Expanded, Expander, Progress, expand};
-use abt_io::{Cut, DeviceFault, Faulty, Forward, Meter, SliceOutput, SliceSource, Window};
+use abt_io::{DeviceFault, Forward, Meter, SliceOutput, SliceSource, Window};
 use abt_sparse::SparseFault;
 use abt_sparse::SparseFault::{Read, Truncated, Write};
+use memory_devices::{Cut, Faulty};
 use test_data::standing::holds;
 use test_data::vectors::{
     EMPTY, FRONT_OF_LONG_CHUNK, GAP_BETWEEN, LONG_HEADERS, NO_GAP, THREE_KINDS, WITH_CHECKSUM,

@@ -1,9 +1,10 @@
 //! Listing.
 
 use abt_chunks::{ChunkInfo, Chunks};
-use abt_io::{DeviceFault, Faulty, Forward, Meter, SliceSource, Window};
+use abt_io::{DeviceFault, Forward, Meter, SliceSource, Window};
 use abt_sparse::SparseFault::{Read, TooManyBlocks, Truncated};
 use abt_sparse::{ChunkKind, SparseFault, SparseHeader};
+use memory_devices::Faulty;
 use test_data::vectors::{LONG_HEADERS, THREE_KINDS, TWO_HALVES, WITH_CHECKSUM};
 
 const RAW: ChunkInfo = ChunkInfo {

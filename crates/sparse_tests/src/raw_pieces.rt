@@ -1,10 +1,11 @@
 //! Cutting raw images: published pieces, by each of the calls that cut.
 
 use crate::expanding::expanded;
-use abt_io::{Cut, DeviceFault, Faulty, Long, Meter, SliceOutput, SliceSource, Window};
+use abt_io::{DeviceFault, Meter, SliceOutput, SliceSource, Window};
 use abt_pieces::{Cutter, Piece, PieceFault, PieceProgress};
 use abt_placed::next_piece_at;
 use abt_runs::RawRuns;
+use memory_devices::{Cut, Faulty, Long};
 use std::test::Fail;
 use test_data::counting::Counting;
 use test_data::vectors::{MIXED, MIXED_FIRST, MIXED_SECOND};

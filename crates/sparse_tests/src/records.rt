@@ -1,12 +1,11 @@
 //! The records at their bytes, each refusal in its turn, and the texts of the faults.
 
 use abt_io::DeviceFault;
-use abt_sparse::{
-    ChunkHeader, ChunkKind, SparseFault, SparseHeader, carries_raw, each_piece, ends_early,
-    few_bytes, fewest_pieces, from_piece, has_blocks, header_of, in_turn, keeps_raw, lays_blocks,
-    mends, one_code, one_cutting, one_grouping, one_outcome, pieces_read, reads_back,
-    same_from_raw, same_pieces, u16_at, u32_at, weighs, worked_faults, worked_images,
-    worked_pieces,
+use abt_sparse::{ChunkHeader, ChunkKind, SparseFault, SparseHeader, header_of, u16_at, u32_at};
+use sparse_laws::{
+    carries_raw, each_piece, ends_early, few_bytes, fewest_pieces, from_piece, has_blocks, in_turn,
+    keeps_raw, lays_blocks, mends, one_code, one_cutting, one_grouping, one_outcome, pieces_read,
+    reads_back, same_from_raw, same_pieces, weighs, worked_faults, worked_images, worked_pieces,
 };
 use std::test::Fail;
 

@@ -1,13 +1,14 @@
 //! What is no image: its first fault, and what an expansion gives before that.
 
 use crate::expanding::{changed, expanded};
-use abt_io::{Cut, Meter, SliceSource, Window};
+use abt_io::{Meter, SliceSource, Window};
 use abt_runs::{RunFault, SparseRuns};
 use abt_sparse::SparseFault;
 use abt_sparse::SparseFault::{
     BlockSize, ChunkHeaderSize, ChunkLength, ChunkType, FileHeaderSize, Magic, Major, TooFewBlocks,
     TooManyBlocks, Truncated,
 };
+use memory_devices::Cut;
 use test_data::standing::holds;
 use test_data::vectors::{LONG_HEADERS, THREE_KINDS, TOO_MANY, TWO_HALVES, WITH_CHECKSUM};
 

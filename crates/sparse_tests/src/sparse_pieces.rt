@@ -1,8 +1,9 @@
 //! Cutting sparse images: published pieces, hostile and changing sources, and devices that fail.
 
-use abt_io::{Faulty, Meter, SliceOutput, SliceSource, SwitchSource, Window};
+use abt_io::{Meter, SliceOutput, SliceSource, Window};
 use abt_pieces::{Cutter, Piece, PieceFault, least_limit};
 use abt_runs::SparseRuns;
+use memory_devices::{Faulty, SwitchSource};
 use test_data::vectors::*;
 
 /// What a cut came to.

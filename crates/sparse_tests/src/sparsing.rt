@@ -3,11 +3,12 @@
 ghost use Rattle.std.specs.Prelude.{◌≤◌, ◌<◌, ◌+◌, ◌*◌, ◌^◌};
 
 use crate::expanding::expanded;
-use abt_io::{Cut, DeviceFault, Faulty, Long, Meter, SliceOutput, SliceSource, Window};
+use abt_io::{DeviceFault, Meter, SliceOutput, SliceSource, Window};
 use abt_pieces::PieceFault;
 use abt_pieces::PieceFault::{BadBlock, SourceChanged, TooLarge};
 use abt_placed::sparsify_at;
 use abt_sparsify::{Written, sparsify};
+use memory_devices::{Cut, Faulty, Long};
 use test_data::vectors::{EMPTY, LETTERS, LETTERS_IMAGE, MIXED, MIXED_IMAGE, WORDS, WORDS_IMAGE};
 
 /// How an image is written.

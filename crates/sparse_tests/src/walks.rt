@@ -1,8 +1,9 @@
 //! Rows whose values come from outside: words of blocks, walks over images, refusals, and sources that fail.
 
-use abt_io::{Cut, DeviceFault, Faulty, Long, Meter, SliceSource, Window};
+use abt_io::{DeviceFault, Meter, SliceSource, Window};
 use abt_runs::{BlockRuns, Opening, Progress, RawRuns, RunFault, RunKind, SparseRuns, equal_word};
 use abt_sparse::SparseFault;
+use memory_devices::{Cut, Faulty, Long};
 use std::test::Fail;
 use test_data::vectors::{GAPS, MIXED, THREE_KINDS};
 

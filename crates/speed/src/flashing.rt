@@ -6,8 +6,9 @@ use crate::images::{BLOCK, Maker};
 use crate::jobs::Size;
 use crate::random::Random;
 use abt_flash::deliver;
-use abt_io::{Meter, SliceSpool, Window};
+use abt_io::{Meter, Window};
 use anyhow::{Result, bail};
+use memory_devices::SliceSpool;
 use std::alloc::Global;
 
 // How many bytes the spool holds.

@@ -5,11 +5,12 @@ use crate::digest::Digest;
 use crate::images::{BLOCK, Maker};
 use crate::jobs::Size;
 use abt_flash::{deliver_raw, deliver_raw_at, resume_raw_at};
-use abt_io::{Meter, SliceOutput, SliceSpool, Window};
+use abt_io::{Meter, SliceOutput, Window};
 use abt_pieces::{Piece, PieceFault};
 use abt_placed::{next_piece_at, sparsify_at};
 use abt_runs::RawRuns;
 use anyhow::{Result, bail};
+use memory_devices::SliceSpool;
 use sparse_rules::PiecesOf;
 use std::alloc::Global;
 

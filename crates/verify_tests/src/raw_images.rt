@@ -1,8 +1,9 @@
 //! Raw images against what stands on a partition.
 
-use abt_io::{Cut, Faulty, Meter, SliceSource, SwitchSource, Window};
+use abt_io::{Meter, SliceSource, Window};
 use abt_verify::VerifyFault::{BadBlock, Differs, SourceChanged};
 use abt_verify::{Verified, VerifyFault, verify_raw};
+use memory_devices::{Cut, Faulty, SwitchSource};
 use test_data::vectors::MIXED;
 
 type Answer = Result<Verified, VerifyFault>;

@@ -1,9 +1,10 @@
 //! Sparse images against what stands on a partition.
 
-use abt_io::{Cut, Faulty, Forward, Meter, SliceSource, Window};
+use abt_io::{Forward, Meter, SliceSource, Window};
 use abt_sparse::SparseFault::{Magic, TooManyBlocks, Truncated};
 use abt_verify::VerifyFault::{Differs, Sparse};
 use abt_verify::{Verified, VerifyFault, verify};
+use memory_devices::{Cut, Faulty};
 use test_data::vectors::{
     EMPTY, GAP_BETWEEN, LETTERS, LONG_HEADERS, NO_GAP, THREE_KINDS, TOO_MANY, WITH_CHECKSUM,
 };

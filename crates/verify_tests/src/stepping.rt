@@ -1,10 +1,11 @@
 //! The machines step by step, and the laws.
 
 use abt_chunks::Progress;
-use abt_io::{Forward, Long, Meter, SlicePartition, SliceSource, Window};
+use abt_io::{Forward, Meter, SliceSource, Window};
 use abt_verify::{
     RawVerifier, Verifier, VerifyFault, unwritten_partition_stays, verifying_is_right,
 };
+use memory_devices::{Long, SlicePartition};
 use test_data::vectors::{MIXED, THREE_KINDS};
 
 #[test]

@@ -1,4 +1,4 @@
-use Rattle.pack_bodies.specs.Sources.{content_of}
+use Rattle.boot_rules.specs.Sources.{content_of}
 use Rattle.pack_bodies.proofs.Fillings.{loaded_as}
 use Rattle.pack_bodies.proofs.filling.filled.Goals as goal
 

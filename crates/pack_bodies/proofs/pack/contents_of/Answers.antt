@@ -3,9 +3,9 @@ use Rattle.std.specs.Borrow.{Bor}
 use Rattle.std.specs.Prelude.{map, option_map}
 use Rattle.abt_sections.specs.Fields.{boot_fields}
 use Rattle.boot_rules.specs.Ranges.{count_in}
-use Rattle.pack_bodies.specs.Parts.{of_part}
-use Rattle.pack_bodies.specs.Sources.{content_of, faults_of}
-use Rattle.pack_bodies.proofs.Openings.{only_then}
+use Rattle.pack_inputs.specs.Parts.{of_part}
+use Rattle.boot_rules.specs.Sources.{content_of, faults_of}
+use Rattle.pack_inputs.proofs.Openings.{only_then}
 use Rattle.pack_bodies.proofs.Packs.{asks, board_stops, both_open, filling_stops, fragments_counted, fragments_stop}
 use Rattle.pack_bodies.proofs.Packs.{unread}
 use Rattle.pack_bodies.proofs.pack.contents_of.Goals as goal

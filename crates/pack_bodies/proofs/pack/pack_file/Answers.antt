@@ -3,12 +3,12 @@ use Rattle.std.specs.List.{All}
 use Rattle.abt_output.specs.Shows.{unprinted}
 use Rattle.abt_disk.specs.World.{World}
 use Rattle.boot_rules.specs.Carried.{IsTaken}
-use Rattle.pack_bodies.specs.Contents.{packed_image}
+use Rattle.pack_outputs.specs.Contents.{packed_image}
 use Rattle.pack_bodies.specs.Packing.{IsPackedBy}
-use Rattle.pack_bodies.specs.Sources.{content_of}
+use Rattle.boot_rules.specs.Sources.{content_of}
 use Rattle.pack_bodies.proofs.Packs.{given_kind, keeps_given, left_behind, opens_kind, packed_by, packs}
 use Rattle.pack_bodies.proofs.Packs.{refuses_filling, refuses_words, refuses_writing, stops_kind}
-use Rattle.pack_bodies.proofs.Closes.{left_unopened}
+use Rattle.pack_outputs.proofs.Closes.{left_unopened}
 use Rattle.pack_bodies.proofs.pack.pack_file.Goals as goal
 
 -- what the steps ask for

@@ -1,11 +1,11 @@
 use Rattle.std.proofs.Common.{◌∙◌, ap, map}
 use Rattle.abt_sections.specs.Cause.{total}
-use Rattle.pack_bodies.specs.Contents.{packing_of}
-use Rattle.pack_bodies.specs.Sources.{content_of, faults_of}
+use Rattle.pack_outputs.specs.Contents.{packing_of}
+use Rattle.boot_rules.specs.Sources.{content_of, faults_of}
 use Rattle.pack_bodies.proofs.Again.{asked_again, behind_stops, board_stops, boards_set, filling_stops, opens_given}
 use Rattle.pack_bodies.proofs.Again.{none_unread, parts_stop}
-use Rattle.pack_bodies.specs.Parts.{IsFragmentInput, of_fragment}
-use Rattle.pack_bodies.proofs.Openings.{only_failing, only_then}
+use Rattle.pack_inputs.specs.Parts.{IsFragmentInput, of_fragment}
+use Rattle.pack_inputs.proofs.Openings.{only_failing, only_then}
 use Rattle.pack_bodies.proofs.repack.contents_of.Goals as goal
 
 pub returns-in-Err-clause-refused : goal.returns-in-Err-clause-refused

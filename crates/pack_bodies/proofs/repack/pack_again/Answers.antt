@@ -3,10 +3,11 @@ use Rattle.abt_refusals.specs.Paths.{output_path}
 use Rattle.abt_output.specs.Shows.{Shows, unprinted}
 use Rattle.abt_sections.specs.Header.{fragment_count, view_of}
 use Rattle.abt_sections.specs.Open.{IsOpened}
-use Rattle.pack_bodies.specs.Own.{entries_to}
+use Rattle.pack_inputs.specs.Own.{entries_to}
 use Rattle.pack_bodies.proofs.Again.{content_done, content_left, content_refused, judging_refuses, stays_kept}
 use Rattle.pack_bodies.proofs.Repacks.{calls_failed, nothing_more, reads_failed}
-use Rattle.pack_bodies.proofs.Closes.{left_refused, left_told, left_unopened}
+use Rattle.pack_bodies.proofs.Left.{left_refused, left_told}
+use Rattle.pack_outputs.proofs.Closes.{left_unopened}
 use Rattle.pack_bodies.proofs.repack.pack_again.Goals as goal
 
 -- the words are wrong, or the image could not be read

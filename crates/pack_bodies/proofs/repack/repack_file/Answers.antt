@@ -4,7 +4,7 @@ use Rattle.abt_refusals.specs.Paths.{path_of}
 use Rattle.pack_bodies.specs.RefusingAgain.{no_image}
 use Rattle.pack_bodies.specs.Repacking.{ShowsFirst}
 use Rattle.pack_bodies.proofs.Repacks.{clean_all, failed_all, keeps_all, left_all, refuses_all, repacks}
-use Rattle.pack_bodies.proofs.Closes.{left_unopened}
+use Rattle.pack_outputs.proofs.Closes.{left_unopened}
 use Rattle.pack_bodies.proofs.Repacks.{keeps_read}
 use Rattle.pack_bodies.proofs.repack.repack_file.Goals as goal
 

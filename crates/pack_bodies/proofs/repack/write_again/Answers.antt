@@ -1,11 +1,11 @@
 use Rattle.std.proofs.Common.{◌∙◌, refl}
 use Rattle.abt_output.specs.Shows.{Shows, unprinted}
-use Rattle.pack_bodies.specs.Contents.{packing_of}
-use Rattle.pack_bodies.specs.Sources.{content_of}
+use Rattle.pack_outputs.specs.Contents.{packing_of}
+use Rattle.boot_rules.specs.Sources.{content_of}
 use Rattle.pack_bodies.proofs.Again.{filling_refuses, keeps_again, left_again, packs_again, ready}
 use Rattle.pack_bodies.proofs.Again.{stays_kept}
 use Rattle.pack_bodies.proofs.Again.{words_refuse, writing_stops}
-use Rattle.pack_bodies.proofs.Closes.{left_unopened}
+use Rattle.pack_outputs.proofs.Closes.{left_unopened}
 use Rattle.pack_bodies.proofs.repack.write_again.Goals as goal
 
 -- the words are wrong

@@ -1,5 +1,0 @@
-use Rattle.abt_sparse.proofs.Rows.{worked_images}
-use Rattle.abt_sparse.proofs.theorems.worked_images.Goals as goal
-
-pub returns : goal.returns
-returns c = worked_images

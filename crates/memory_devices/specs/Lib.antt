@@ -1,0 +1,4 @@
+pub mod Crash
+pub mod FrameLaws
+pub mod Inner
+pub mod Testing

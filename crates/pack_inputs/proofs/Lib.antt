@@ -1,0 +1,4 @@
+pub mod Entries
+pub mod Gathered
+pub mod Openings
+pub mod Owns

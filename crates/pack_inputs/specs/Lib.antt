@@ -1,0 +1,5 @@
+pub mod BadBoards
+pub mod Judging
+pub mod Opening
+pub mod Own
+pub mod Parts

@@ -1,0 +1,4 @@
+pub mod Closes
+pub mod Images
+pub mod Magics
+pub mod Outputs

@@ -1,0 +1,4 @@
+pub mod Contents
+pub mod Lines
+pub mod Magic
+pub mod Writing

@@ -1,0 +1,5 @@
+pub mod CutShortLaws
+pub mod Cuts
+pub mod Extra
+pub mod RawLaws
+pub mod Rows
