@@ -5,8 +5,8 @@
 
 All that it stands on is copied to a temporary folder, without its must-fail edits, and proved there by `rt ci`. What that
 proves is kept on the machine by the checksums of all that was read: a second run, another clone and the gate take it from
-there, and what the gate proved is taken here. Then the program or the library itself is compiled over the proved libraries,
-for x86-64 or for another target, and the program is linked (tools/link.sh).
+there, and what the gate proved is taken here. Then the program or the library itself is proved and compiled over the proved
+libraries, for x86-64 or for another target, and the program is linked (tools/link.sh).
 """
 import argparse
 import os
@@ -18,10 +18,12 @@ import tempfile
 import time
 
 sys.dont_write_bytecode = True
-from repository import HERE, copy_of, crate_at, crate_lines, kit_of, lines_in, with_below
+from repository import HERE, below, copy_of, crate_at, crate_lines, kit_of, lines_in
 
 CRATES = {"program": "abootimg", "library": "abt_c"}
 TOLD = re.compile(r"rt: (\w+) (proved|NOT PROVED|is kept)\b")
+# What one process that proves may hold of memory, in KiB.
+EACH = 3 << 20
 
 
 def clock(seconds):
@@ -31,9 +33,9 @@ def clock(seconds):
 class Progress:
     """Lines that say how far the proofs are, by the lines of code and of proofs behind them."""
 
-    def __init__(self, root, names):
+    def __init__(self, names):
         self.begun, self.done = time.monotonic(), 0
-        self.lengths = {it: lines_in(root, it) for it in names}
+        self.lengths = {it: lines_in(HERE, it) for it in names}
         self.total = sum(self.lengths.values())
         self.line(f"proving {len(names)} crates, {self.total} lines of code and proofs")
 
@@ -45,9 +47,19 @@ class Progress:
         self.line(f"{name}: {'proved by an earlier run' if how == 'is kept' else how}")
 
 
-def prove(rt, root, names, jobs):
-    """Has `rt ci` prove these crates in their folder, and shows how far it is. What it says is shown where it fails."""
-    progress, said = Progress(root, names), []
+def processes(jobs):
+    """How many processes prove one crate: as many as are asked for, or as processors and memory allow."""
+    with open("/proc/meminfo", encoding="ascii") as text:
+        free = int(re.search(r"MemAvailable:\s+(\d+)", text.read())[1])
+    return jobs or max(1, min(len(os.sched_getaffinity(0)), free // EACH, 4))
+
+
+def prove(rt, root, names, jobs, last=()):
+    """Has `rt ci` prove these crates in their folder, and shows how far it is. What it says is shown where it fails.
+
+    The crates that come last are proved later, and counted.
+    """
+    progress, said = Progress([*names, *last]), []
     environment = {**os.environ, **({"RT_JOBS": str(jobs)} if jobs else {})}
     ran = subprocess.Popen(
         [rt, "ci"], cwd=root, env=environment, stdin=subprocess.DEVNULL, stdout=subprocess.PIPE, stderr=subprocess.STDOUT,
@@ -60,12 +72,13 @@ def prove(rt, root, names, jobs):
     if ran.wait():
         print(*said, sep="", end="")
         sys.exit("not proved, as it says above")
+    return progress
 
 
-def compile_over(rt, root, name, lines, names, target, out, kept=""):
-    """Compiles the program or static library over the libraries that were proved; its own functions are proved once more.
+def compile_over(rt, root, name, lines, names, target, out, kept="", jobs=2):
+    """Proves the program or static library over the libraries that were proved, and compiles it.
 
-    With a folder `kept` they are proved once for all targets that are compiled with this folder.
+    With a folder `kept` it is proved once for all targets that are compiled with this folder.
     """
     kit, at = kit_of(rt), crate_at(root, name)
     rlib = {it: os.path.join(crate_at(root, it), "out", "rlib") for it in names if it != name}
@@ -75,7 +88,7 @@ def compile_over(rt, root, name, lines, names, target, out, kept=""):
         words += ["--extern", f"{it}={rlib[it]}/{it}.rlib" if it in rlib else f"{it}={kit}/rlibs/{it}.rlib"]
     for it in rlib.values():
         words += ["-L", f"dependency={it}"]
-    words += ["--antt-project", f"{kit}/rattle/logic/antt-project.json", "--logic-built", f"{kit}/logic_built", "--jobs", "2"]
+    words += ["--antt-project", f"{kit}/rattle/logic/antt-project.json", "--logic-built", f"{kit}/logic_built", "--jobs", str(jobs)]
     words += ["--links", f"{name}=", *(["--crate-type", "staticlib"] if root_file == "src/lib.rt" else [])]
     words += ["--target", target] if target else ["--backend", "llvm"]
     words += ["--incremental", kept] if kept else []
@@ -91,21 +104,21 @@ def build(words, root):
     """Proves in this folder, and leaves what was built as the words want it."""
     lines, uses = crate_lines()
     name = CRATES[words.kind]
-    names = with_below([name], uses)
+    names = below(name, uses)
     copy_of(root, names, lines)
-    prove(words.rt, root, names, words.jobs)
+    progress = prove(words.rt, root, names, words.jobs, [name])
+    copy_of(root, [*names, name], lines)
     out = os.path.abspath(words.out)
     os.makedirs(os.path.dirname(out), exist_ok=True)
-    if words.kind == "library":
-        compile_over(words.rt, root, name, lines, names, words.target, out)
+    made = out if words.kind == "library" or words.target else os.path.join(crate_at(root, name), "out", f"{name}.o")
+    compile_over(words.rt, root, name, lines, names, words.target, made, jobs=processes(words.jobs))
+    progress.told(name, "proved and compiled")
+    if made == out:
         return 0
-    # A program that an earlier run proved comes without its object file.
-    made = os.path.join(crate_at(root, name), "out", f"{name}{'.' + words.target if words.target else ''}.o")
-    if not os.path.isfile(made):
-        compile_over(words.rt, root, name, lines, names, words.target, made)
-    if words.target:
-        shutil.copy(made, out)
-        return 0
+    kit = kit_of(words.rt)
+    subprocess.run(
+        [f"{kit}/bin/rattle-link", "--target", "x86_64-unknown-linux-gnu", "--toolchain", f"{kit}/toolchain", "-o", made[:-2],
+         made, f"{kit}/c/libos_c.a", f"{kit}/c/liblibc_c.a"], check=True)
     return subprocess.run([os.path.join(HERE, "tools/link.sh"), made, out, "--rt", words.rt], check=False).returncode
 
 
