@@ -7,7 +7,9 @@ Counted are the functions of each crate, those whose contracts have more than 15
 repeat an earlier one to the letter, and the names that two files of specs/ define. A count above the figure here fails; one
 below it fails too, until the figure is taken down to it. No line of specs/ and proofs/ is longer than 120 columns, but in
 the files that tools/long_lines.txt lists with their checksums: who changes such a file wraps its lines, and takes it off.
-The last line is 'N passed, M failed'.
+The lines of src/, specs/ and proofs/ are counted by family of crates, and their sum is printed: a family has at most as many
+hundreds as LINES says, and a figure that is too high by more than one hundred is taken down. The last line is 'N passed, M
+failed'.
 """
 import argparse
 import collections
@@ -42,7 +44,41 @@ NAMES_DEFINED_TWICE = {
     "with_part": "a window with bytes in it; a placer with blocks taken",
 }
 # The longest line of specs/ and proofs/, and the files from before that have longer ones: each with its checksum.
-COLUMNS, LONG_LISTED, LONG_FILES = 120, os.path.join("tools", "long_lines.txt"), 384
+COLUMNS, LONG_LISTED, LONG_FILES = 120, os.path.join("tools", "long_lines.txt"), 371
+
+# The crates of each family, and how many hundreds of lines of src/, specs/ and proofs/ they have at most.
+FAMILIES = {
+    "devices": "abt_io abt_files memory_devices",
+    "definitions and reading": "abt_sparse abt_chunks abt_runs",
+    "writing": "abt_pieces abt_sparsify abt_placed",
+    "flashing and verifying": "flash_faults abt_flash abt_verify",
+    "boot images": "abt_headers abt_sections boot_fields boot_texts boot_findings",
+    "system": "abt_text abt_buffers abt_refusals abt_disk abt_output numbered_names host_files abt_host host_disk",
+    "words": "abt_values abt_words program_words abootimg",
+    "commands over sparse images": "sparse_texts sparse_rules flash_bodies sparse_bodies image_bodies sparse_commands",
+    "commands over boot images":
+        "boot_rules boot_bodies info_bodies pack_inputs pack_outputs pack_bodies boot_commands",
+    "laws": "sparse_laws section_laws abt_laws boot_laws pack_laws program_laws",
+    "memory": "memory_disk memory_commands",
+    "for programs in C": "abt_c",
+    "tests and benchmark":
+        "test_data device_tests sparse_tests verify_tests flash_tests boot_tests boot_disk_tests buffer_tests disk_tests speed",
+}
+LINES = {
+    "devices": 61,
+    "definitions and reading": 157,
+    "writing": 165,
+    "flashing and verifying": 119,
+    "boot images": 185,
+    "system": 96,
+    "words": 39,
+    "commands over sparse images": 124,
+    "commands over boot images": 123,
+    "laws": 58,
+    "memory": 33,
+    "for programs in C": 25,
+    "tests and benchmark": 90,
+}
 
 FUNCTION = re.compile(r"\s*(?:pub(?:\(\w+\))? )?(?:const )?(?:unsafe )?(?:extern \"C\" )?(?:final )?fn (\w+)")
 CLAUSE = re.compile(r"\s*(?:requires|ensures)\b")
@@ -82,6 +118,13 @@ def clauses_of(crates):
                 if open_braces <= 0:
                     yield " ".join(clause.split())
                     clause, open_braces = None, 0
+
+
+def lines_of(family):
+    """How many lines of src/, specs/ and proofs/ the crates of a family have."""
+    parts = (("src", "rt"), ("specs", "antt"), ("proofs", "antt"))
+    found = (lines_below(crate, *part) for crate in FAMILIES[family].split() for part in parts)
+    return sum(len(lines) for files in found for _, lines in files)
 
 
 def with_long_lines(crates):
@@ -133,6 +176,13 @@ def main():
     total = sum(clauses.values())
     repeated = total - len(clauses)
     that(repeated == REPEATED_CLAUSES, f"{repeated} of {total} clauses repeat an earlier one; {REPEATED_CLAUSES}")
+    in_families = " ".join(FAMILIES.values()).split()
+    that(sorted(in_families) == sorted(crates), f"each crate is of one family; {set(in_families) ^ set(crates) or 'it is'}")
+    lines = {family: lines_of(family) for family in FAMILIES}
+    for family, many in lines.items():
+        hundreds = LINES.get(family, 0)
+        that(hundreds - 2 < many / 100 <= hundreds, f"{family}: {many} lines; at most {hundreds} hundreds")
+    print(f"{sum(lines.values())} lines of src/, specs/ and proofs/")
     long, listed = dict(with_long_lines(crates)), listed_long()
     for path in sorted(long.keys() | listed.keys()):
         if long.get(path) == listed.get(path):

@@ -49,6 +49,7 @@ from try_faults import CALL, may_trace
 EXPLAINED = (
     (r"^faults", r"^answer: read of .* gives status 0$", "a read ahead that fails is made again for what was asked"),
     (r"^faults", r"^answer: fstat of .* gives status 0$", "an IN whose length is not told counts as it was"),
+    (r"^changes ", r"^(status|stdout|stderr|file \S+)$", "an IN that was written is refused where a piece or the work ends"),
     (r"^changes .*\bexpand\b", r"^(stderr|file \w+)$", "IN ends where it ends now, and more of it may be laid"),
     (r"^changes .*\b(cut|flash)\b", r"^file (got\.p\.\d+|p\.\d+|spool)$", "more of a broken-off piece may be written"),
     (r"^room .*\bflash r part \d+ spool\b", r"^file spool$", "a raw piece that is not finished has no magic number in SPOOL"),

@@ -31,7 +31,8 @@ WRONG = re.compile(r"FAILED|NOT SO|NOT PROVED|NOT REFUSED|BAD EDIT")
 LAST = re.compile(r"(?:[\w ]+: )?(\d+) passed, (\d+) failed")
 
 # Each script over the built program; the others are in tools/quick.py.
-SCRIPTS = ("tools/check_examples.py", "tests/run.py", "tools/try_program.sh", "tools/try_words.sh", "tools/try_places.sh")
+SCRIPTS = ("tools/check_examples.py", "tests/run.py", "tools/try_program.sh", "tools/try_words.sh", "tools/try_places.sh",
+           "tools/try_system.sh", "tools/try_completions.sh")
 
 
 def processor_time():

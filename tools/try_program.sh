@@ -147,7 +147,7 @@ if command -v python3 >/dev/null; then
     on_terminal expand slow shown.raw
     wait $!
     try "expand on a terminal shows how far it is" shows 'expand [0-9.]* MiB  [0-9.]* MiB/s'
-    try "  and erases the line at the end" shows $'MiB/s\033\\[K\r\033\\[Kblocks 733 bytes 3002368'
+    try "  and erases the line at the end" shows $'MiB/s\033\\[K\033\\[?7h\r\r\033\\[Kblocks 733 bytes 3002368'
     try "  and the image is whole" cmp -s -n 3000000 shown.raw long.raw
     slowly long.simg >slow &
     on_terminal expand -q slow shown.raw

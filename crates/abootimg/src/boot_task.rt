@@ -5,19 +5,18 @@ ghost use Rattle.abt_disk.specs.World.{HasNotFailed, IsReading};
 ghost use Rattle.boot_commands.specs.Commands.{SparesKind};
 ghost use Rattle.abootimg.specs.BootDone.{BootDone};
 
+use crate::outcome::told;
 use abt_disk::Disk;
-use abt_host::answer;
 use abt_io::{Meter, Window};
 use abt_output::Report;
 use boot_commands::{BootCommand, boot_command};
-use std::alloc::Global;
 
 /// Does a command over boot images, and answers the exit status.
 pub fn do_boot<D: Disk>(
     disk: &mut D,
     command: &BootCommand<'_>,
     is_verbose: bool,
-    alloc: Global,
+    rt: HostRuntime,
     report: &mut Report,
     w: &mut Window,
     m: &mut Meter,
@@ -34,5 +33,5 @@ pub fn do_boot<D: Disk>(
         (D.world disk.new) (D.held disk.new) }
 {
     let outcome = boot_command(disk, report, command, w, m);
-    answer(outcome, is_verbose, alloc, report)
+    told(outcome, is_verbose, rt, report)
 }

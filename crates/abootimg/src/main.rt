@@ -5,9 +5,11 @@
 //! | `main.rt` | the standard streams, the window, and the words |
 //! | `running.rt` | what the words ask for, and the exit status |
 //! | `sparse_task.rt`, `boot_task.rt` | doing it, over any disk |
+//! | `outcome.rt` | telling what a command answered |
 #![tactic(auto)]
 
 mod boot_task;
+mod outcome;
 mod running;
 mod sparse_task;
 

@@ -4,20 +4,19 @@ ghost use Rattle.std.specs.Prelude.{◌≡◌, ◌≤◌, None, IsTrue};
 ghost use Rattle.abt_disk.specs.World.{HasNotFailed, IsReading};
 ghost use Rattle.sparse_commands.specs.Commands.{DoesTask, SparesFiles, state};
 
+use crate::outcome::told;
 use abt_disk::Disk;
-use abt_host::answer;
 use abt_io::{Meter, Window};
 use abt_output::Report;
 use abt_words::SparseTask;
 use sparse_commands::sparse_command;
-use std::alloc::Global;
 
 /// Does a task of sparse images, and answers the exit status.
 pub fn do_sparse<D: Disk>(
     disk: &mut D,
     task: SparseTask<'_>,
     is_verbose: bool,
-    alloc: Global,
+    rt: HostRuntime,
     report: &mut Report,
     w: &mut Window,
     m: &mut Meter,
@@ -35,6 +34,6 @@ pub fn do_sparse<D: Disk>(
     ensures spares { IsTrue D.tells → SparesFiles task.entry (state (D.world disk.old) (D.held disk.old) report.old)
         (state (D.world disk.new) (D.held disk.new) report.new) }
 {
-    let outcome = sparse_command(disk, report, task, alloc, w, m);
-    answer(outcome, is_verbose, alloc, report)
+    let outcome = sparse_command(disk, report, task, rt.alloc(), w, m);
+    told(outcome, is_verbose, rt, report)
 }

@@ -18,10 +18,9 @@ pub record WritesOrFails (r : Result ℕ DeviceFault) (bytes : List ℕ) : Type 
   pub progress : IfOk r (λ n. 0 < length bytes → 0 < n)
   pub failed : IfErr r (λ e. e ≡ Failed)
 
--- a front of what is lent was read into, and no fault but a failure is answered
-pub record ReadsOrFails (r : Result ℕ DeviceFault) (out : List ℕ) : Type 0 where
-  pub within : count_of r ≤ length out
-  pub failed : IfErr r (λ e. e ≡ Failed)
+-- a front of what is lent was read into
+abbrev pub ReadsWithin : {E : Type 0} → Result ℕ E → List ℕ → Type 0
+ReadsWithin r out = count_of r ≤ length out
 
 -- the same of a write that takes nothing where some of what was held is lost
 pub record WritesUnlost (r : Result ℕ DeviceFault) (bytes : List ℕ) (old new : Behind) : Type 0 where
@@ -69,11 +68,12 @@ pub record KeepsHeld (old new : Behind) : Type 0 where
   pub sent : new.sent.state ≡ old.sent.state
   pub lost : new.is_lost ≡ old.is_lost
 
--- the same, and whether that was told, and no fault but a failure is answered
+-- the same, and whether that was told, and no fault but a failure is answered: then all of it may be lost
 pub record KeepsBehind {X : Type 0} (r : Result X DeviceFault) (old new : Behind) : Type 0 where
   pub held : new.held.items ≡ old.held.items
   pub sent : new.sent.state ≡ old.sent.state
-  pub lost : new.is_lost ≡ old.is_lost
+  pub lost : OnOk r (new.is_lost ≡ old.is_lost)
+  pub still : IsTrue old.is_lost → IsTrue new.is_lost
   pub told : new.is_told ≡ old.is_told
   pub failed : IfErr r (λ e. e ≡ Failed)
 

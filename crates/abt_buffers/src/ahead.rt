@@ -1,10 +1,11 @@
 //! A source that is read ahead: of small reads, as those of headers, one call of the system brings many.
 
-ghost use Rattle.std.specs.Prelude.{◌≡◌, [], false, IfOk};
+ghost use Rattle.std.specs.Prelude.{◌≡◌, ◌≤◌, [], false, IfOk, length};
 ghost use Rattle.std.proofs.lemmas.Bool.{false≢true};
-ghost use Rattle.abt_buffers.specs.Writes.{ReadsOrFails};
+ghost use Rattle.abt_buffers.specs.Writes.{ReadsWithin};
 
 use crate::ahead_file::AheadFile;
+use crate::kept::Kept;
 use abt_files::FileSource;
 use abt_io::{DeviceFault, Source, Tally};
 use std::alloc::{AllocError, Global};
@@ -141,31 +142,33 @@ impl Ahead {
     }
 }
 
-/// One positioned read, once more where a signal came in between.
-pub(crate) fn read_at(file: &File, at: u64, out: &mut [u8]) -> Result<usize, DeviceFault>
-    ensures { ReadsOrFails result out.new }
+/// One positioned read, once more where a signal came in between. Why the call failed, by its number, where it did.
+pub(crate) fn read_at(file: &File, at: u64, out: &mut [u8]) -> Result<usize, Option<i32>>
+    ensures { ReadsWithin result out.new }
 {
     for _ in 0..u64::MAX {
         match file.read_at(out, at) {
             Ok(n) => return Ok(n),
             Err(error) => {
                 if error.kind() != ErrorKind::Interrupted {
-                    return Err(DeviceFault::Failed);
+                    return Err(error.raw_os_error());
                 }
             }
         }
     }
-    Err(DeviceFault::Failed)
+    Err(None)
 }
 
 /// A file or a block device that gives what a `FileSource` gives. A read of at most 256 bytes asks for up to 4 KiB, and
-/// what is held of them answers the reads behind it.
+/// what is held of them answers the reads behind it. What longer reads gave last is kept, so that a raw image is read
+/// once, however small its pieces are.
 #[derive(Drop)]
 pub struct AheadSource {
     from: Rc<AheadFile>,
     alloc: Global,
     // What is held, once a read may be answered from it.
     ahead: Option<Ahead>,
+    kept: Kept,
     reads: Tally,
     given: Tally,
     faults: Tally,
@@ -182,6 +185,7 @@ impl AheadSource {
                 from,
                 alloc,
                 ahead: None,
+                kept: Kept::new(alloc),
                 reads: Tally::new(),
                 given: Tally::new(),
                 faults: Tally::new(),
@@ -204,7 +208,8 @@ impl AheadSource {
         self.from.clone()
     }
 
-    /// A piece begins: what is held of the file is read again before it is given.
+    /// A piece begins: what is held of the file for small reads is read again before it is given. What is kept of longer
+    /// ones is given in the next piece too, so that each byte is read once.
     pub fn forget(&self) {
         self.file().forget();
     }
@@ -217,10 +222,12 @@ impl AheadSource {
         ensures faults { self.new.faults ≡ self.old.faults }
     {
         self.ahead = None;
+        self.kept = Kept::new(self.alloc);
         self.forget();
     }
 
-    /// How long the file is now, if that is less than what was given of it from memory since the piece began.
+    /// How long the file is now, if it is not as it was when it was opened, or has fewer bytes than were given of it from
+    /// memory since the piece began.
     pub fn shorter(&self) -> Option<u64> {
         self.file().shorter()
     }
@@ -258,14 +265,22 @@ impl Source for AheadSource {
             self.given.add(n as u64);
             return Ok(n);
         }
-        match read_at(file, at, out) {
+        let read = match self.kept.give(self.alloc, file, at, out) {
+            Ok(0) => read_at(file, at, out),
+            Ok(n) => {
+                from.gave(at.saturating_add(n as u64));
+                Ok(n)
+            }
+            Err(why) => Err(why),
+        };
+        match read {
             Ok(n) => {
                 self.given.add(n as u64);
                 Ok(n)
             }
-            Err(fault) => {
+            Err(_) => {
                 self.faults.add(1);
-                Err(fault)
+                Err(DeviceFault::Failed)
             }
         }
     }

@@ -5,7 +5,7 @@ ghost use Rattle.std.specs.Prelude.{◌≡◌, ◌≤◌, ◌+◌, ◌<◌, ◌+
 ghost use Rattle.std.specs.Prelude.{◌-◌, length, take};
 ghost use Rattle.abt_io.specs.Count.{count_of};
 ghost use Rattle.abt_io.specs.Moment.{put_at};
-ghost use Rattle.abt_buffers.specs.Writes.{WritesOrFails, WritesUnlost, Flushes, FlushesAll, CutsOff, LiesWithin};
+ghost use Rattle.abt_buffers.specs.Writes.{WritesOrFails, WritesSome, WritesUnlost, Flushes, FlushesAll, CutsOff, LiesWithin};
 ghost use Rattle.abt_buffers.specs.Writes.{KeepsHeld, KeepsBehind};
 
 use crate::held_file::put_held;
@@ -34,6 +34,10 @@ pub(crate) struct Behind {
     is_lost: bool,
     /// A clear was refused for that.
     is_told: bool,
+    /// The file was emptied, since it could not be cut off or blanked: so what it took is lost.
+    is_empty: bool,
+    /// Why the last call of the system failed, where one did.
+    pub(crate) why: Option<i32>,
 }
 
 impl Behind {
@@ -54,6 +58,8 @@ impl Behind {
             stale,
             is_lost: false,
             is_told: false,
+            is_empty: false,
+            why: None,
         }
     }
 
@@ -120,21 +126,28 @@ impl Behind {
                 self.held.clear();
                 Ok(())
             }
-            Err(_) => {
+            Err(error) => {
+                self.why = error.raw_os_error();
                 self.is_lost = true;
                 Err(DeviceFault::Failed)
             }
         }
     }
 
-    // Cuts the file off behind what it took, if anything may stand there.
+    // Cuts the file off behind what it took, if anything may stand there. Where that cannot be done it is emptied, if that
+    // can be.
     fn cut_off(&mut self, file: &File, used: u64) -> Result<(), DeviceFault>
         requires { length self.old.sent.state.bytes + length self.old.held.items ≡ used }
         ensures { CutsOff result self.old self.new }
     {
         let end = used - self.held.len() as u64;
-        if self.stale > end && file.set_len(end).is_err() {
+        if self.stale > end
+            && !self.is_empty
+            && let Err(error) = file.set_len(end)
+        {
+            self.why = error.raw_os_error();
             self.is_lost = true;
+            self.is_empty = file.set_len(0).is_ok();
             return Err(DeviceFault::Failed);
         }
         self.stale = 0;
@@ -154,7 +167,10 @@ impl Behind {
                 self.sent.put(&bytes[..n], used);
                 Ok(n)
             }
-            Err(fault) => Err(fault),
+            Err(why) => {
+                self.why = why;
+                Err(DeviceFault::Failed)
+            }
         }
     }
 
@@ -187,7 +203,10 @@ impl Behind {
                 self.sent.put(&bytes[..n], at);
                 Ok(n)
             }
-            Err(fault) => Err(fault),
+            Err(why) => {
+                self.why = why;
+                Err(DeviceFault::Failed)
+            }
         }
     }
 
@@ -237,7 +256,8 @@ impl Behind {
     }
 
     /// Lays zeros over the front of a file that may hold something, so that nothing there makes an image of it, and leaves
-    /// the rest to be written over. `used` bytes were taken since the last clear.
+    /// the rest to be written over. Where that cannot be done it is emptied, if that can be. `used` bytes were taken since
+    /// the last clear.
     pub(crate) fn blank(&mut self, file: &File, used: u64) -> Result<(), DeviceFault>
         ensures stale { (used ≤ self.new.stale) × (self.old.stale ≤ self.new.stale) }
         ensures keeps { KeepsBehind result self.old self.new }
@@ -249,7 +269,14 @@ impl Behind {
         self.stale = stands.max(MAGIC);
         match file.write_all_at(&[0; MAGIC as usize], 0) {
             Ok(()) => Ok(()),
-            Err(_) => Err(DeviceFault::Failed),
+            Err(error) => {
+                self.why = error.raw_os_error();
+                if file.set_len(0).is_ok() {
+                    self.is_empty = true;
+                    self.is_lost = true;
+                }
+                Err(DeviceFault::Failed)
+            }
         }
     }
 
@@ -264,23 +291,24 @@ impl Behind {
         self.sent = Log::new();
         self.is_lost = false;
         self.is_told = false;
+        self.is_empty = false;
     }
 }
 
-// One write at a place, once more where a signal came in between.
-fn write_at(file: &File, at: u64, bytes: &[u8]) -> Result<usize, DeviceFault>
-    ensures writes { WritesOrFails result bytes.now }
+// One write at a place, once more where a signal came in between. Why the call failed, by its number, where it did.
+fn write_at(file: &File, at: u64, bytes: &[u8]) -> Result<usize, Option<i32>>
+    ensures writes { WritesSome result bytes.now }
 {
     for _ in 0..u64::MAX {
         match file.write_at(bytes, at) {
             Ok(n) if n > 0 || bytes.is_empty() => return Ok(n),
-            Ok(_) => return Err(DeviceFault::Failed),
+            Ok(_) => return Err(None),
             Err(error) => {
                 if error.kind() != ErrorKind::Interrupted {
-                    return Err(DeviceFault::Failed);
+                    return Err(error.raw_os_error());
                 }
             }
         }
     }
-    Err(DeviceFault::Failed)
+    Err(None)
 }

@@ -26,7 +26,8 @@ use std::rc::Rc;
 /// then stands behind what it takes is cut off before bytes are laid over those four, before it is read, and by `settle`.
 /// So this is for who lays a magic number last: a file that has one has nothing of before behind it.
 ///
-/// What it is given may come from a file that is read ahead. It gives nothing of it back where that file is shorter then.
+/// What it is given may come from a file that is read ahead. It gives nothing of it back where that file is another one
+/// then: it has another length or time of modification than when it was opened.
 #[derive(Drop)]
 pub struct GatheringSpool {
     pub spool: FileSpool,
@@ -82,7 +83,14 @@ impl GatheringSpool {
         }
     }
 
-    /// Whether a read was refused since the file is shorter from which all comes.
+    /// Why its last call failed, where one did, by the number of the system's error.
+    pub fn why(&self) -> Option<i32>
+        ensures { result ≡ self.now.behind.why }
+    {
+        self.behind.why
+    }
+
+    /// Whether a read was refused since the file has changed from which all comes.
     pub fn is_from_short(&self) -> bool {
         self.is_from_short
     }
@@ -104,8 +112,9 @@ impl GatheringSpool {
         ensures sends { SendsAll result self.old.spool self.new.spool self.old.behind self.new.behind }
     {
         self.behind.settle(&self.spool.file, self.spool.used)?;
-        if self.spool.seen == 0 && is_shorter(&self.from) {
+        if self.spool.seen == 0 && is_changed(&self.from) {
             self.is_from_short = true;
+            self.behind.why = None;
             return Err(DeviceFault::Failed);
         }
         if let Some(ahead) = &mut self.ahead
@@ -113,7 +122,13 @@ impl GatheringSpool {
         {
             return Ok(out.len());
         }
-        read_at(&self.spool.file, self.spool.seen, out)
+        match read_at(&self.spool.file, self.spool.seen, out) {
+            Ok(n) => Ok(n),
+            Err(why) => {
+                self.behind.why = why;
+                Err(DeviceFault::Failed)
+            }
+        }
     }
 }
 
@@ -284,8 +299,9 @@ impl Spool for GatheringSpool {
         }
         if self.is_keeping {
             cleared(spool, &mut self.behind)?;
-        } else {
-            spool.clear()?;
+        } else if let Err(fault) = spool.clear() {
+            self.behind.why = spool.why;
+            return Err(fault);
         }
         self.behind.forget();
         Ok(())
@@ -320,10 +336,10 @@ fn cleared(spool: &mut FileSpool, behind: &mut Behind) -> Result<(), DeviceFault
     }
 }
 
-// Whether a file from which all comes is shorter than what was given of it from memory.
-fn is_shorter(from: &Option<Rc<AheadFile>>) -> bool {
+// Whether a file from which all comes is not as it was when it was opened.
+fn is_changed(from: &Option<Rc<AheadFile>>) -> bool {
     match from {
-        Some(from) => from.as_ref().shorter().is_some(),
+        Some(from) => from.as_ref().is_changed(),
         None => false,
     }
 }

@@ -7,6 +7,7 @@
 //! | file | has |
 //! |---|---|
 //! | `ahead.rt`, `ahead_file.rt` | a source whose small reads are read ahead, and whether its file still has them |
+//! | `kept.rt` | what was last read of a raw image, in which the next piece begins |
 //! | `gathering.rt`, `behind.rt` | a spool that takes small writes together, and what it holds |
 //! | `held_file.rt`, `room.rt` | a file that takes them together too, and has headers laid late; its memory |
 //! | `under.rt` | a file as what is held back goes to it |
@@ -17,6 +18,7 @@ mod ahead_file;
 mod behind;
 mod gathering;
 mod held_file;
+mod kept;
 mod room;
 mod under;
 

@@ -1,8 +1,8 @@
 -- A file that is written in place: it was there, is opened, and is closed.
 use Rattle.std.specs.Prelude.{◌≡◌, ℕ, ◌+◌, List, [], ◌∷◌, length, Option, Some, None, Bool, false, Contains, nat_lt}
-use Rattle.std.specs.Prelude.{if◌then◌else◌, replicate}
+use Rattle.std.specs.Prelude.{◌<◌, IsTrue, if◌then◌else◌, replicate}
 use Rattle.abt_io.specs.Moment.{Past}
-use Rattle.abt_disk.specs.World.{World, Held, Spares}
+use Rattle.abt_disk.specs.World.{World, Held, Spares, failing}
 
 -- this file more is written, in place
 abbrev pub in_place : ℕ → Held → Held
@@ -32,6 +32,14 @@ closed_part past failures h = record h {
   syncs = h.syncs + (if is_settled past then 1 else 0);
   failed = h.failed + failures;
 }
+
+-- The file that was written in place is closed, and the call that wrote it was answered so. It is done only where
+-- nothing failed at the end, and where the call had done its work it is refused only where something has.
+pub record ClosesPart (is_written is_done : Bool) (past : Past) (failures : ℕ) (old new : Held) : Type 0 where
+  pub more : ℕ
+  pub closed : new ≡ failing more (closed_part past failures old)
+  pub clean : IsTrue is_done → more ≡ 0
+  pub cause : IsTrue is_written → is_done ≡ false → 0 < more
 
 -- the file at this path was created or emptied, and is so many zeros, to be written in place: none that is read or was
 -- begun, and all others are as before

@@ -7,13 +7,15 @@ ghost use Rattle.abt_disk.specs.DiskCalls.{OpensToRead, FailsOnly, RefusesTaken,
 ghost use Rattle.abt_disk.specs.DiskCalls.{CreatesOutput, FinishesOutput, LetsGo, LetsImageGo};
 ghost use Rattle.abt_disk.specs.Images.{is_file, OfImage, Leaves, EmptiesAt};
 ghost use Rattle.abt_disk.specs.InPlace.{IsAsLong, closed_part};
+ghost use Rattle.abt_disk.specs.LeftOver.{IsNextLeft, path_with};
 ghost use Rattle.abt_disk.specs.Spools.{closed_spool, behind_clear};
 ghost use Rattle.abt_disk.specs.World.{World, Held, OpensFile, Creates, OnlyAt, Ends, SparesRest, ended};
 ghost use Rattle.abt_disk.specs.World.{KeepsBegun, failing, unless};
 
 use crate::{ImageTo, Lasting, Late};
-use abt_io::{DeviceFault, Input, Output, Overwrite, Partition, Source, Spool};
+use abt_io::{Input, Output, Overwrite, Partition, Source, Spool};
 use abt_refusals::{HostFault, HostRefusal, Place};
+use std::alloc::AllocError;
 
 /// A device that knows why its last call failed.
 pub trait Reasons {
@@ -113,15 +115,29 @@ pub trait Disk {
         ensures { OpensInPlace tells result (path_of place.entry) Self.Part.content Self.Part.past
             Self.Part.put_faults (held self.old) (held self.new) (world self.old) (world self.new) };
 
+    /// The number of the system's error, where the last call of what is written in place failed.
+    fn why_of_part(&self, part: &Self::Part) -> Option<i32>;
+
+    /// The same of what pieces go through.
+    fn why_of_spool(&self, through: &Self::Through) -> Option<i32>;
+
+    /// Refuses where a file that is read is not as it was when it was opened, as far as the system tells: it has another
+    /// length, or another time of modification. To be asked where the work ends that writes nothing: what closes an output
+    /// or brings it to its end asks it too.
+    fn unchanged<'a>(&mut self) -> Result<(), HostRefusal<'a>>
+        ensures { FailsOnly tells (unless (is_ok result)) (held self.old) (held self.new) (world self.old)
+            (world self.new) };
+
     /// Closes the file that is open in place. It holds what the partition holds, which is as long as it was. Answers
-    /// whether it is where standard output goes.
-    fn close(&mut self, part: Self::Part) -> bool
+    /// whether it is where standard output goes. Refused where the system refuses to close it, or where what was read for
+    /// it has changed.
+    fn close<'a>(&mut self, part: Self::Part, place: Place<'a>) -> Result<bool, HostRefusal<'a>>
         requires long { IsTrue tells → IsAsLong (held self.old).part (Self.Part.content part) (world self.old) }
         ensures ended { IsTrue tells → Ends (held self.old).part (Self.Part.content part) (world self.old)
             (world self.new) }
         ensures paths { IsTrue tells → (world self.new).at ≡ (world self.old).at }
-        ensures closed { IsTrue tells → held self.new ≡ closed_part (Self.Part.past part)
-            (Self.Part.put_faults part) (held self.old) }
+        ensures closed { IsTrue tells → held self.new ≡ failing (unless (is_ok result)) (closed_part
+            (Self.Part.past part) (Self.Part.put_faults part) (held self.old)) }
         ensures rest { IsTrue tells → SparesRest (held self.old).part (world self.old) (world self.new) };
 
     /// Creates or empties a regular file, and makes it so many zeros, to be written in place. Nothing else will do.
@@ -147,10 +163,13 @@ pub trait Disk {
             (held self.old) (held self.new) (world self.old) (world self.new) };
 
     /// Closes the file that pieces went through, which holds what it took since it was cleared last. Refused where a
-    /// byte of that could not be written. Answers whether it was not given back since its source had become shorter.
-    fn close_spool(&mut self, through: Self::Through) -> Result<bool, DeviceFault>
-        ensures long { IsTrue tells → IfOk result (λ is_short. is_short ≡ false) }
-        ensures failed { IfErr result (λ fault. fault ≡ DeviceFault.Failed) }
+    /// byte of that could not be written. Answers whether it was not given back since its source had changed.
+    fn close_spool<'a>(
+        &mut self,
+        through: Self::Through,
+        place: Place<'a>,
+    ) -> Result<bool, HostRefusal<'a>>
+        ensures long { IsTrue tells → IfOk result (λ is_changed. is_changed ≡ false) }
         ensures ended { IsTrue tells → OnOk result (Ends (held self.old).spool (behind_clear
             (Self.Through.Spool.cuts through) (Self.Through.Output.written through)) (world self.old)
             (world self.new)) }
@@ -163,6 +182,12 @@ pub trait Disk {
     fn is_there<'a>(&self, place: Place<'a>) -> Result<bool, HostRefusal<'a>>
         ensures there { IsTrue tells → IfOk result (λ is. is ≡ is_some ((world self.now).at (path_of place.entry))) }
         ensures memory { IfErr result (λ refusal. refusal.fault ≡ HostFault.Memory) };
+
+    /// The least number above this one at which a file is, with that number behind the name that this place has. A system
+    /// that does not show what a folder holds may answer as if only the next number were there.
+    fn left_over(&self, place: Place<'_>, behind: u32) -> Result<Option<u32>, AllocError>
+        ensures { IsTrue tells → IfOk result (IsNextLeft (λ n. (world self.now).at (path_with place.entry n))
+            behind) };
 
     /// Refuses a path that is going to be written where it leads to a file that is read, or that was begun.
     fn refuse_taken<'a>(&mut self, place: Place<'a>) -> Result<(), HostRefusal<'a>>

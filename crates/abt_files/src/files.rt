@@ -91,9 +91,9 @@ impl Source for FileSource {
                 self.given.add(n as u64);
                 Ok(n)
             }
-            Err(fault) => {
+            Err(_) => {
                 self.faults.add(1);
-                Err(fault)
+                Err(DeviceFault::Failed)
             }
         }
     }
@@ -112,6 +112,8 @@ pub struct FilePartition {
     pub syncs: Tally,
     pub synced: Tally,
     pub put_faults: Tally,
+    /// Why its last call failed, where one did.
+    why: Option<i32>,
 }
 
 impl FilePartition {
@@ -132,7 +134,15 @@ impl FilePartition {
             syncs: Tally::new(),
             synced: Tally::new(),
             put_faults: Tally::new(),
+            why: None,
         })
+    }
+
+    /// Why its last call failed, where one did, by the number of the system's error.
+    pub fn why(&self) -> Option<i32>
+        ensures { result ≡ self.now.why }
+    {
+        self.why
     }
 }
 
@@ -173,9 +183,10 @@ impl Source for FilePartition {
                 self.given.add(n as u64);
                 Ok(n)
             }
-            Err(fault) => {
+            Err(why) => {
+                self.why = why;
                 self.read_faults.add(1);
-                Err(fault)
+                Err(DeviceFault::Failed)
             }
         }
     }
@@ -201,9 +212,10 @@ impl Partition for FilePartition {
                 self.taken.add(n as u64);
                 Ok(n)
             }
-            Err(fault) => {
+            Err(why) => {
+                self.why = why;
                 self.put_faults.add(1);
-                Err(fault)
+                Err(DeviceFault::Failed)
             }
         }
     }
@@ -215,7 +227,8 @@ impl Partition for FilePartition {
                 self.synced.add(1);
                 Ok(())
             }
-            Err(_) => {
+            Err(error) => {
+                self.why = error.raw_os_error();
                 self.put_faults.add(1);
                 Err(DeviceFault::Failed)
             }
@@ -242,6 +255,8 @@ pub struct FileSpool {
     pub full_faults: Tally,
     pub clears: Tally,
     pub clear_faults: Tally,
+    /// Why its last call failed, where one did.
+    pub why: Option<i32>,
     pub ghost cut: { cleared ≡ last_cut log.state.cuts },
     pub ghost since: { last_cut log.state.cuts + used ≡ length log.state.bytes },
     pub ghost room: { used ≤ capacity },
@@ -272,6 +287,7 @@ impl FileSpool {
             full_faults: Tally::new(),
             clears: Tally::new(),
             clear_faults: Tally::new(),
+            why: None,
         }
     }
 }
@@ -311,9 +327,10 @@ impl Input for FileSpool {
                 self.seen = self.seen.saturating_add(n as u64);
                 Ok(n)
             }
-            Err(fault) => {
+            Err(why) => {
+                self.why = why;
                 self.read_faults.add(1);
-                Err(fault)
+                Err(DeviceFault::Failed)
             }
         }
     }
@@ -363,7 +380,8 @@ impl Output for FileSpool {
                 self.used = used + taken as u64;
                 Ok(taken)
             }
-            Err(_) => {
+            Err(why) => {
+                self.why = why;
                 self.write_faults.add(1);
                 Err(DeviceFault::Failed)
             }
@@ -389,7 +407,8 @@ impl Overwrite for FileSpool {
                 self.log.put(&bytes[..n], at);
                 Ok(n)
             }
-            Err(_) => {
+            Err(why) => {
+                self.why = why;
                 self.write_faults.add(1);
                 Err(DeviceFault::Failed)
             }
@@ -432,7 +451,8 @@ impl Spool for FileSpool {
                 self.seen = 0;
                 Ok(())
             }
-            Err(_) => {
+            Err(error) => {
+                self.why = error.raw_os_error();
                 self.clear_faults.add(1);
                 Err(DeviceFault::Failed)
             }

@@ -1,13 +1,13 @@
 //! System calls that are tried again where a signal came in between.
 //!
 //! Each is tried at most 2^64 - 1 times: the loops are `for` loops over a range, so they end. Every
-//! error, and a write of a nonempty list that took nothing, is `Failed`.
+//! error, and a write of a nonempty list that took nothing, is a failure, with the number of the
+//! system's error where there is one.
 
 ghost use Rattle.std.specs.Prelude.{◌≡◌, ◌≢◌, ◌<◌, ◌≤◌, Some, None, Ok, Err, IfOk, IfErr, IfSome, length};
-ghost use Rattle.std.specs.IoError.{error_kind};
+ghost use Rattle.std.specs.IoError.{error_kind, raw_os_error};
 ghost use Rattle.abt_io.specs.Count.{count_of};
 
-use abt_io::DeviceFault;
 use std::fs::File;
 use std::io;
 use std::io::{ErrorKind, Read, Write};
@@ -15,19 +15,18 @@ use std::os::unix::fs::FileExt;
 
 // What the answer of a call that has to move at least `least` bytes comes to: nothing where a signal
 // came in between, so that the call is tried again.
-fn moved(answer: io::Result<usize>, least: usize) -> Option<Result<usize, DeviceFault>>
+fn moved(answer: io::Result<usize>, least: usize) -> Option<Result<usize, Option<i32>>>
     ensures within { IfSome result (λ r. count_of r ≤ count_of answer) }
     ensures progress { IfSome result (λ r. IfOk r (λ n. least ≤ n)) }
-    ensures failed { IfSome result (λ r. IfErr r (λ e. e ≡ DeviceFault.Failed)) }
     ensures told { IfOk answer (λ n. least ≤ n → result ≡ Some (Ok n)) }
-    ensures few { IfOk answer (λ n. n < least → result ≡ Some (Err DeviceFault.Failed)) }
+    ensures few { IfOk answer (λ n. n < least → result ≡ Some (Err None)) }
     ensures again { IfErr answer (λ e. error_kind e ≡ ErrorKind.Interrupted → result ≡ None) }
-    ensures given_up { IfErr answer (λ e. error_kind e ≢ ErrorKind.Interrupted → result ≡ Some (Err DeviceFault.Failed)) }
+    ensures given_up { IfErr answer (λ e. error_kind e ≢ ErrorKind.Interrupted → result ≡ Some (Err (raw_os_error e))) }
 {
     match answer {
         Ok(n) => {
             if n < least {
-                return Some(Err(DeviceFault::Failed));
+                return Some(Err(None));
             }
             Some(Ok(n))
         }
@@ -35,29 +34,27 @@ fn moved(answer: io::Result<usize>, least: usize) -> Option<Result<usize, Device
             if error.kind() == ErrorKind::Interrupted {
                 return None;
             }
-            Some(Err(DeviceFault::Failed))
+            Some(Err(error.raw_os_error()))
         }
     }
 }
 
 /// One positioned read.
-pub(crate) fn read_at(file: &File, at: u64, out: &mut [u8]) -> Result<usize, DeviceFault>
+pub(crate) fn read_at(file: &File, at: u64, out: &mut [u8]) -> Result<usize, Option<i32>>
     ensures within { count_of result ≤ length out.new }
-    ensures failed { IfErr result (λ e. e ≡ DeviceFault.Failed) }
 {
     for _ in 0..u64::MAX {
         if let Some(answer) = moved(file.read_at(out, at), 0) {
             return answer;
         }
     }
-    Err(DeviceFault::Failed)
+    Err(None)
 }
 
 /// One positioned write.
-pub(crate) fn write_at(file: &File, at: u64, bytes: &[u8]) -> Result<usize, DeviceFault>
+pub(crate) fn write_at(file: &File, at: u64, bytes: &[u8]) -> Result<usize, Option<i32>>
     ensures within { count_of result ≤ length bytes.now }
     ensures progress { IfOk result (λ n. 0 < length bytes.now → 0 < n) }
-    ensures failed { IfErr result (λ e. e ≡ DeviceFault.Failed) }
 {
     let least = bytes.len().min(1);
     for _ in 0..u64::MAX {
@@ -65,27 +62,25 @@ pub(crate) fn write_at(file: &File, at: u64, bytes: &[u8]) -> Result<usize, Devi
             return answer;
         }
     }
-    Err(DeviceFault::Failed)
+    Err(None)
 }
 
 /// One read.
-pub(crate) fn read<R: Read>(reader: &mut R, out: &mut [u8]) -> Result<usize, DeviceFault>
+pub(crate) fn read<R: Read>(reader: &mut R, out: &mut [u8]) -> Result<usize, Option<i32>>
     ensures within { count_of result ≤ length out.new }
-    ensures failed { IfErr result (λ e. e ≡ DeviceFault.Failed) }
 {
     for _ in 0..u64::MAX {
         if let Some(answer) = moved(reader.read(out), 0) {
             return answer;
         }
     }
-    Err(DeviceFault::Failed)
+    Err(None)
 }
 
 /// One write.
-pub(crate) fn write<W: Write>(writer: &mut W, bytes: &[u8]) -> Result<usize, DeviceFault>
+pub(crate) fn write<W: Write>(writer: &mut W, bytes: &[u8]) -> Result<usize, Option<i32>>
     ensures within { count_of result ≤ length bytes.now }
     ensures progress { IfOk result (λ n. 0 < length bytes.now → 0 < n) }
-    ensures failed { IfErr result (λ e. e ≡ DeviceFault.Failed) }
 {
     let least = bytes.len().min(1);
     for _ in 0..u64::MAX {
@@ -93,5 +88,5 @@ pub(crate) fn write<W: Write>(writer: &mut W, bytes: &[u8]) -> Result<usize, Dev
             return answer;
         }
     }
-    Err(DeviceFault::Failed)
+    Err(None)
 }

@@ -5,9 +5,10 @@ use Rattle.abt_output.specs.Blank.{IsBlank}
 use Rattle.abt_output.specs.Given.{given_by_writer}
 use Rattle.abt_output.specs.declared.output_file.ImageOutput.{ImageOutput}
 use Rattle.abt_output.specs.declared.output_file.OutputFile.{OutputFile}
+use Rattle.abt_host.specs.Streams.{Mixed}
 use Rattle.abt_host.specs.Taken.{Forbidden, Adds, WritesOne}
 use Rattle.abt_host.specs.declared.opening.Opened.{Opened}
-use Rattle.abt_host.specs.declared.taken.Taken.{Taken}
+use Rattle.abt_host.specs.declared.reading.Reading.{Reading}
 use Rattle.abt_host.specs.declared.writing.Writing.{Writing}
 
 -- one more file is written, to which nothing was written yet
@@ -31,7 +32,8 @@ pub record BeginsKeptSpool {F : Type 0} (n : ℕ) (r : Result (FileSpool × ℕ)
   pub stands : IfOk r (λ kept. kept.1 ≤ n)
   pub writes : OnOk r (WritesOne old new)
 
--- what is opened is none of these files, and is one of them from then on
-pub record Admits {F : Type 0} (r : Result Opened F) (old new : Taken) : Type 0 where
-  pub free : IfOk r (λ opened. ¬ Forbidden old opened.found.identity)
-  pub taken : IfOk r (λ opened. Adds old new opened.found.identity)
+-- what is opened is none of the files of this run, and is one of them from then on; and nothing is told among its data
+pub record Admits {F : Type 0} (r : Result Opened F) (old new : Reading) : Type 0 where
+  pub free : IfOk r (λ opened. ¬ Forbidden old.taken opened.found.identity)
+  pub apart : IfOk r (λ opened. ¬ Mixed old.streams opened.found.identity)
+  pub taken : IfOk r (λ opened. Adds old.taken new.taken opened.found.identity)

@@ -1,7 +1,7 @@
 -- The files of a run: what is read, and what is written.
 use Rattle.std.specs.Prelude.{◌≡◌, ◌++◌, ◌∷◌, [], IsTrue, Contains}
-use Rattle.abt_host.specs.Streams.{Reported}
-use Rattle.abt_host.specs.declared.identity.Identity.{Identity}
+use Rattle.abt_host.specs.Streams.{Reported, Mixed}
+use Rattle.host_files.specs.declared.identity.Identity.{Identity}
 use Rattle.abt_host.specs.declared.taken.Taken.{Taken}
 use Rattle.abt_host.specs.declared.reading.Reading.{Reading}
 use Rattle.abt_host.specs.declared.writing.Writing.{Writing}
@@ -20,8 +20,10 @@ pub record ReadsOne (old new : Reading) : Type 0 where
   pub spared : ¬ Reported old.streams file
   pub taken : Adds old.taken new.taken file
 
--- one more file is written: it is none that is read, and none that is written already
+-- one more file is written: it is none that is read, and none that is written already, and nothing is told among its
+-- data
 pub record WritesOne (old new : Writing) : Type 0 where
   pub file : Identity
   pub free : ¬ Forbidden old.reading.taken file
+  pub apart : ¬ Mixed old.reading.streams file
   pub taken : Adds old.reading.taken new.reading.taken file

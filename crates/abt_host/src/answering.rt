@@ -4,10 +4,12 @@ ghost use Rattle.std.specs.Prelude.{◌≡◌, IfErr, OnOk, if◌then◌else◌}
 ghost use Rattle.abt_host.specs.Answering.{PrintsNothing};
 
 use abt_output::Report;
-use abt_refusals::{Place, Refusal, Told};
+use abt_refusals::{Magic, Place, Refusal, Told};
 use abt_text::Text;
 use std::alloc::{AllocError, Global};
-use std::io;
+use std::fs::OpenOptions;
+use std::io::Read;
+use std::{fs, io};
 
 /// Done.
 pub const DONE: u8 = 0;
@@ -23,7 +25,7 @@ pub const USAGE: u8 = 2;
 pub fn answer<F: Told + Drop>(
     outcome: Result<(), Refusal<'_, F>>,
     is_verbose: bool,
-    alloc: Global,
+    rt: HostRuntime,
     report: &mut Report,
 ) -> u8
     ensures done { OnOk outcome.entry (result ≡ 0) }
@@ -36,7 +38,7 @@ pub fn answer<F: Told + Drop>(
         Err(refusal) => refusal,
     };
     if !refusal.about.is_untold {
-        tell(&refusal, is_verbose, alloc, report);
+        tell(&refusal, is_verbose, rt, report);
     }
     if refusal.fault.is_usage() {
         USAGE
@@ -45,9 +47,9 @@ pub fn answer<F: Told + Drop>(
     }
 }
 
-fn tell<F: Told>(refusal: &Refusal<'_, F>, is_verbose: bool, alloc: Global, report: &mut Report) {
+fn tell<F: Told>(refusal: &Refusal<'_, F>, is_verbose: bool, rt: HostRuntime, report: &mut Report) {
     let second = if is_verbose {
-        second_line(alloc, refusal).ok()
+        second_line(rt, refusal).ok()
     } else {
         None
     };
@@ -65,9 +67,13 @@ fn first_line<F: Told>(refusal: &Refusal<'_, F>, report: &mut Report) {
     let _ = text.finish();
 }
 
-fn second_line<F: Told>(alloc: Global, refusal: &Refusal<'_, F>) -> Result<String, AllocError> {
+fn second_line<F: Told>(rt: HostRuntime, refusal: &Refusal<'_, F>) -> Result<String, AllocError> {
+    let alloc = rt.alloc();
     let about = refusal.about;
-    let why = why(alloc, about.why, &refusal.fault)?;
+    let why = match about.advice.or(other_image(rt, refusal)) {
+        Some(advice) => String::from_str(alloc, advice)?,
+        None => why(alloc, about.why, &refusal.fault)?,
+    };
     let why = why.as_str();
     let line = match about.place {
         Some(place) => {
@@ -77,11 +83,28 @@ fn second_line<F: Told>(alloc: Global, refusal: &Refusal<'_, F>) -> Result<Strin
         None => format!(in alloc; "  {why}")?,
     };
     let line = line.as_str();
-    let mended = match refusal.fault.mending_piece() {
-        Some(piece) => format!(in alloc; "{line}; --from {piece} mends it")?,
-        None => String::from_str(alloc, line)?,
-    };
+    let mended = with_mending(alloc, line, refusal.fault.mending_piece(), about.why)?;
     with_unfinished(alloc, mended.as_str(), about.unfinished)
+}
+
+fn with_mending(
+    alloc: Global,
+    line: &str,
+    piece: Option<u32>,
+    number: Option<i32>,
+) -> Result<String, AllocError> {
+    match piece {
+        Some(piece) if is_of_room(number) => {
+            format!(in alloc; "{line}; make room, then --from {piece} mends it")
+        }
+        Some(piece) => format!(in alloc; "{line}; --from {piece} mends it"),
+        None => String::from_str(alloc, line),
+    }
+}
+
+// Whether the system's number says that there is no room: on the device, in a quota, or in a file of that length.
+fn is_of_room(number: Option<i32>) -> bool {
+    matches!(number, Some(28 | 122 | 27))
 }
 
 fn with_unfinished(
@@ -95,6 +118,42 @@ fn with_unfinished(
             format!(in alloc; "{line}; {role} {place} is broken off")
         }
         None => String::from_str(alloc, line),
+    }
+}
+
+// What the file is that was refused for its magic, where it is an image of another kind. Its front is read anew.
+fn other_image<F: Told>(rt: HostRuntime, refusal: &Refusal<'_, F>) -> Option<&'static str> {
+    let missing = refusal.fault.missing_magic()?;
+    let place = refusal.about.place?;
+    if place.is_standard() {
+        return None;
+    }
+    let path = place.path(rt.alloc()).ok()?;
+    let front = front_of(rt, path.as_str()).ok()?;
+    image_of(missing, front)
+}
+
+// The first bytes of a regular file.
+fn front_of(rt: HostRuntime, path: &str) -> io::Result<[u8; 8]> {
+    let mut front = [0; 8];
+    if !fs::metadata(&rt, path)?.is_file() {
+        return Err(io::Error::from(io::ErrorKind::InvalidInput));
+    }
+    let mut how = OpenOptions::new();
+    how.read(true);
+    let mut file = how.open(&rt, path)?;
+    file.read_exact(&mut front)?;
+    Ok(front)
+}
+
+fn image_of(missing: Magic, front: [u8; 8]) -> Option<&'static str> {
+    match missing {
+        Magic::Sparse if front == *b"ANDROID!" => Some("it is a boot image; info shows it"),
+        Magic::Sparse if front == *b"VNDRBOOT" => Some("it is a vendor boot image; info shows it"),
+        Magic::Boot if front.starts_with(b"\x3a\xff\x26\xed") => {
+            Some("it is a sparse image; list shows it")
+        }
+        _ => None,
     }
 }
 

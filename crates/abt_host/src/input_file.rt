@@ -5,15 +5,17 @@ ghost use Rattle.std.specs.Io.Buffered.{reader_buffer, reader_inner};
 ghost use Rattle.std.specs.Prelude.{◌≡◌, ◌<◌, ◌≤◌, [], false, length, take, drop, IsTrue};
 ghost use Rattle.std.proofs.lemmas.Bool.{false≢true};
 
-use crate::opening::{Found, Opened, not_opened};
+use crate::opening::{Opened, not_opened};
 use abt_disk::{Measured, Reasons};
 use abt_files::FromRead;
 use abt_io::{DeviceFault, Input};
 use abt_refusals::{HostRefusal, Place};
+use host_files::{Found, INPUT};
 use std::alloc::Global;
 use std::fs::File;
 use std::io;
 use std::io::{BufRead, BufReader, Read, Seek, SeekFrom};
+use std::os::fd::AsRawFd;
 use std::rt::Stdin;
 
 /// A file or standard input.
@@ -37,8 +39,8 @@ impl InputFile {
         opened: Opened,
         place: Place<'a>,
     ) -> Result<InputFile, HostRefusal<'a>> {
-        let Opened { file, found } = opened;
-        let length = if found.is_file {
+        let Opened { file, found, .. } = opened;
+        let length = if found.is_file() {
             Some(found.length)
         } else {
             None
@@ -68,6 +70,11 @@ impl InputFile {
     /// Its bytes, to be read as any others.
     pub(crate) fn into_reader(self) -> BufReader<Origin> {
         self.from.from.reader
+    }
+
+    /// The descriptor that it is open under.
+    pub fn descriptor(&self) -> i32 {
+        self.from.from.reader.get_ref().descriptor()
     }
 
     /// Why its last call failed, where one did.
@@ -206,14 +213,14 @@ enum Size {
 // A regular file and a block device have a place, which is at their front.
 fn with_place(file: File, found: Found) -> io::Result<Bytes> {
     let mut file = file;
-    if found.is_file {
+    if found.is_file() {
         return Ok(Bytes::Placed {
             file,
             at: 0,
             size: Size::Told,
         });
     }
-    if found.is_block {
+    if found.is_block() {
         let size = file.seek(SeekFrom::End(0))?;
         file.seek(SeekFrom::Start(0))?;
         return Ok(Bytes::Placed {
@@ -233,6 +240,14 @@ pub struct Origin {
 }
 
 impl Origin {
+    fn descriptor(&self) -> i32 {
+        match &self.bytes {
+            Bytes::Stream(file) => file.as_raw_fd(),
+            Bytes::Placed { file, .. } => file.as_raw_fd(),
+            Bytes::Standard(_) => INPUT,
+        }
+    }
+
     // Goes on behind at most so many bytes, none of them beyond the end. It answers how many: none where only a read
     // can tell.
     fn pass(&mut self, most: usize) -> usize

@@ -6,7 +6,7 @@
 //!
 //! | file | has |
 //! |---|---|
-//! | `identity.rt`, `taken.rt`, `streams.rt` | which file it is; the files that no output may be; where reports go |
+//! | `taken.rt`, `streams.rt` | the files that no output may be; where reports go |
 //! | `opening.rt` | one file that is opened: how, and what it has to be |
 //! | `reading.rt`, `writing.rt` | all that is read, and then all that is written |
 //! | `input_file.rt` | what is read forward: a file or standard input; a file is passed over by its place |
@@ -14,7 +14,6 @@
 #![tactic(auto)]
 
 mod answering;
-mod identity;
 mod input_file;
 mod opening;
 mod reading;
@@ -23,8 +22,8 @@ mod taken;
 mod writing;
 
 pub use answering::{DONE, REFUSED, USAGE, answer};
-pub use identity::{Identity, identity_at};
 pub use input_file::{InputFile, Passing};
+pub use opening::not_opened;
 pub use reading::Reading;
 pub use streams::Streams;
 pub use taken::Taken;

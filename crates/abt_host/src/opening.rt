@@ -4,12 +4,12 @@ ghost use Rattle.std.specs.Prelude.{◌≡◌, false};
 ghost use Rattle.std.specs.Fs.{asks_write};
 ghost use Rattle.abt_host.specs.Access.{may_write};
 
-use crate::identity::Identity;
 use abt_refusals::{HostFault, HostRefusal, Place};
+use host_files::{Found, Kind, found_at};
 use std::alloc::Global;
-use std::fs::{File, Metadata, OpenOptions};
-use std::os::unix::fs::FileTypeExt;
-use std::{fs, io};
+use std::fs::{File, OpenOptions};
+use std::io;
+use std::os::fd::AsRawFd;
 
 // The number of 'Is a directory'.
 const IS_A_FOLDER: i32 = 21;
@@ -42,16 +42,18 @@ impl Access {
             Access::Spool => true,
         }
     }
-}
 
-/// What an open file is.
-#[derive(Clone, Copy, Drop)]
-pub struct Found {
-    pub identity: Identity,
-    pub is_file: bool,
-    pub is_block: bool,
-    /// How long a regular file is.
-    pub length: u64,
+    // Nothing but a regular file will do.
+    fn needs_file(self) -> bool {
+        match self {
+            Access::Forward => false,
+            Access::AnyPlace => false,
+            Access::InPlace => false,
+            Access::Create => false,
+            Access::CreateFile => true,
+            Access::Spool => true,
+        }
+    }
 }
 
 /// A file that was just opened.
@@ -59,6 +61,14 @@ pub struct Found {
 pub struct Opened {
     pub file: File,
     pub found: Found,
+    /// Whether it was there before.
+    pub was_there: bool,
+}
+
+impl Opened {
+    pub fn descriptor(&self) -> i32 {
+        self.file.as_raw_fd()
+    }
 }
 
 /// Opens a file. A folder is refused, which opens to be read and then gives no bytes, and what is not of the kind that
@@ -79,6 +89,9 @@ pub fn open_file<'a>(
         Err(error) if is_folder_missing(&error, path.as_str(), access) => {
             Err(HostRefusal::at(HostFault::NoFolder, place, None))
         }
+        Err(error) if is_of_wrong_kind(&error) && access.needs_file() => {
+            Err(not_opened(&error, place).advised("it is no regular file"))
+        }
         Err(error) => Err(not_opened(&error, place)),
     }
 }
@@ -96,20 +109,24 @@ fn is_folder_missing(error: &io::Error, path: &str, access: Access) -> bool {
     access.creates() && error.kind() == io::ErrorKind::NotFound && !path.is_empty()
 }
 
+// Whether a file was refused for what it is, and not by the system.
+fn is_of_wrong_kind(error: &io::Error) -> bool {
+    error.kind() == io::ErrorKind::InvalidInput && error.raw_os_error().is_none()
+}
+
 fn opened_at(rt: HostRuntime, path: &str, access: Access) -> io::Result<Opened> {
-    if let Ok(metadata) = fs::metadata(&rt, path) {
-        require_kind(&metadata, access)?;
+    let before = found_at(rt, path).ok();
+    if let Some(found) = before {
+        require_kind(found.kind, access)?;
     }
     let file = options(access).open(&rt, path)?;
-    let metadata = file.metadata()?;
-    require_kind(&metadata, access)?;
-    let found = Found {
-        identity: Identity::new(&metadata),
-        is_file: metadata.is_file(),
-        is_block: metadata.file_type().is_block_device(),
-        length: metadata.len(),
-    };
-    Ok(Opened { file, found })
+    let found = Found::new(&file.metadata()?);
+    require_kind(found.kind, access)?;
+    Ok(Opened {
+        file,
+        found,
+        was_there: before.is_some(),
+    })
 }
 
 // How the system is asked. What is only read is not opened for more.
@@ -128,18 +145,19 @@ fn options(access: Access) -> OpenOptions
     how
 }
 
-fn require_kind(metadata: &Metadata, access: Access) -> io::Result<()> {
-    if metadata.is_dir() {
+fn require_kind(kind: Kind, access: Access) -> io::Result<()> {
+    if kind == Kind::Folder {
         return Err(io::Error::from_raw_os_error(IS_A_FOLDER));
     }
-    let is_block = metadata.file_type().is_block_device();
+    let is_file = kind == Kind::File;
+    let is_block = kind == Kind::Block;
     let fits = match access {
         Access::Forward => true,
         Access::Create => true,
-        Access::AnyPlace => metadata.is_file() || is_block,
-        Access::InPlace => metadata.is_file() || is_block,
-        Access::CreateFile => metadata.is_file(),
-        Access::Spool => metadata.is_file(),
+        Access::AnyPlace => is_file || is_block,
+        Access::InPlace => is_file || is_block,
+        Access::CreateFile => is_file,
+        Access::Spool => is_file,
     };
     if fits {
         Ok(())

@@ -1,11 +1,10 @@
 //! All that a command reads, which is open before it writes.
 
-ghost use Rattle.std.specs.Prelude.{◌≡◌, ◌≤◌, ◌^◌, [], false, length, string_bytes, IsTrue, OnOk, IfOk, IfErr};
+ghost use Rattle.std.specs.Prelude.{◌≡◌, ◌≤◌, ◌^◌, [], false, true, length, string_bytes, OnOk, IfOk, IfErr};
 ghost use Rattle.abt_host.specs.Access.{may_write};
 ghost use Rattle.abt_host.specs.Streams.{Reported};
 ghost use Rattle.abt_host.specs.Taken.{Adds, ReadsOne};
 
-use crate::identity::{Identity, identity_of_stream};
 use crate::input_file::InputFile;
 use crate::opening::{Access, Opened, not_opened, open_file};
 use crate::streams::Streams;
@@ -13,13 +12,20 @@ use crate::taken::Taken;
 use crate::writing::Writing;
 use abt_files::FileSource;
 use abt_refusals::{HostFault, HostRefusal, Place};
+use host_files::{
+    Found, INPUT, Identity, ReadFiles, StandardSource, found_of, identity_of_stream, is_shown,
+};
 use std::alloc::Global;
 use std::fs::File;
 use std::io;
 use std::io::Read;
+use std::os::fd::AsRawFd;
 
 // How many bytes a file of words has at most.
 const TEXT: u64 = 1 << 20;
+
+// The number of 'Too many open files'.
+const TOO_MANY: i32 = 24;
 
 /// Opens what is read. No output may be one of these files, and no report may land in one.
 #[derive(Drop)]
@@ -28,6 +34,12 @@ pub struct Reading {
     pub alloc: Global,
     pub(crate) taken: Taken,
     pub(crate) streams: Streams,
+    /// What was opened to be read, as it was then.
+    pub(crate) read: ReadFiles,
+    // Whether standard input is read, and the system does not show what it is.
+    pub(crate) is_input_unknown: bool,
+    // Whether block devices may be written that are in use.
+    pub(crate) is_mounted_allowed: bool,
     // Whether each output is synced at its end.
     pub(crate) is_synced: bool,
 }
@@ -42,18 +54,43 @@ impl Reading {
             rt,
             alloc,
             taken: Taken::new(alloc),
-            streams: Streams::of(rt),
+            streams: Streams::of_process(rt),
+            read: ReadFiles::new(rt),
+            is_input_unknown: false,
+            is_mounted_allowed: false,
             is_synced: false,
         }
     }
 
     /// Each output that is a file or a block device is going to be synced at its end.
     pub fn sync_outputs(&mut self)
-        ensures synced { IsTrue self.new.is_synced }
-        ensures taken { self.new.taken ≡ self.old.taken }
-        ensures streams { self.new.streams ≡ self.old.streams }
+        ensures { self.new ≡ record self.old { is_synced = true } }
     {
         self.is_synced = true;
+    }
+
+    /// Block devices may be written that are in use: mounted, or swap.
+    pub fn allow_mounted(&mut self)
+        ensures { self.new ≡ record self.old { is_mounted_allowed = true } }
+    {
+        self.is_mounted_allowed = true;
+    }
+
+    /// Looks again at what is open under this descriptor, which is going to be closed.
+    pub fn let_go(&mut self, descriptor: i32)
+        ensures { self.new ≡ record self.old { read = self.new.read } }
+    {
+        self.read.let_go(descriptor);
+    }
+
+    /// Refuses where a file that was opened to be read has changed since, as far as the system tells.
+    pub fn unchanged<'a>(&self) -> Result<(), HostRefusal<'a>>
+        ensures { IfErr result (λ refusal. refusal.fault ≡ HostFault.Changed) }
+    {
+        match self.read.changed() {
+            Some(place) => Err(HostRefusal::at(HostFault::Changed, place, None)),
+            None => Ok(()),
+        }
     }
 
     /// Opens what is read forward: `-` is standard input, which is no file of ours.
@@ -72,10 +109,12 @@ impl Reading {
     fn standard<'a>(&mut self, place: Place<'a>) -> Result<InputFile, HostRefusal<'a>>
         ensures reads { OnOk result (ReadsOne self.old self.new) }
     {
-        match self.take(identity_of_stream(self.rt, "/dev/stdin"), place) {
-            Ok(()) => InputFile::standard(self.rt, self.alloc),
-            Err(refusal) => Err(refusal),
+        self.take(identity_of_stream(self.rt, self.alloc, INPUT), place)?;
+        match found_of(self.rt, self.alloc, INPUT) {
+            Ok(found) => self.keep(INPUT, found, place)?,
+            Err(_) => self.is_input_unknown = !is_shown(self.rt),
         }
+        InputFile::standard(self.rt, self.alloc)
     }
 
     /// Opens what is read at any place. What is neither a file nor a block device has no length, and is refused.
@@ -86,18 +125,42 @@ impl Reading {
         source_of(file, place)
     }
 
+    /// Standard input as it stands, to be read at any place. Where it is neither a file nor a block device, it has no
+    /// length and is refused.
+    pub fn standard_source<'a>(
+        &mut self,
+        place: Place<'a>,
+    ) -> Result<StandardSource, HostRefusal<'a>>
+        ensures reads { OnOk result (ReadsOne self.old self.new) }
+    {
+        let found = match found_of(self.rt, self.alloc, INPUT) {
+            Ok(found) => found,
+            Err(error) => return Err(not_opened(&error, place)),
+        };
+        self.take(found.identity, place)?;
+        self.keep(INPUT, found, place)?;
+        match StandardSource::new(self.rt, self.alloc, found) {
+            Ok(source) => Ok(source),
+            Err(error) => Err(not_opened(&error, place)),
+        }
+    }
+
     /// A source that is open, to be read a second time beside the first.
     pub fn again<'a>(
-        &self,
+        &mut self,
         source: &FileSource,
         place: Place<'a>,
     ) -> Result<FileSource, HostRefusal<'a>> {
         let Some(file) = &source.file else {
             return Ok(FileSource::empty());
         };
-        match file.try_clone() {
-            Ok(file) => source_of(file, place),
-            Err(error) => Err(not_opened(&error, place)),
+        let second = match file.try_clone() {
+            Ok(second) => second,
+            Err(error) => return Err(not_opened(&error, place)),
+        };
+        match self.read.add_again(file.as_raw_fd(), second.as_raw_fd()) {
+            Ok(()) => source_of(second, place),
+            Err(_) => Err(HostRefusal::memory()),
         }
     }
 
@@ -107,7 +170,7 @@ impl Reading {
         ensures length { IfOk result (λ text. length (string_bytes text) ≤ 2 ^ 20) }
     {
         let input = self.input(place)?;
-        match text_of(self.alloc, input) {
+        match text_of(self.alloc, input, &mut self.read) {
             Ok(text) => Ok(text),
             Err((HostFault::Memory, _)) => Err(HostRefusal::memory()),
             Err((fault, why)) => Err(HostRefusal::at(fault, place, why)),
@@ -127,16 +190,37 @@ impl Reading {
         ensures spared { IfOk result (λ opened. ¬ Reported self.old.streams opened.found.identity) }
         ensures taken { IfOk result (λ opened. Adds self.old.taken self.new.taken opened.found.identity) }
     {
-        let opened = open_file(self.rt, self.alloc, place, access)?;
+        let opened = match open_file(self.rt, self.alloc, place, access) {
+            Ok(opened) => opened,
+            Err(refusal) => return Err(if_too_many(refusal)),
+        };
         self.take(opened.found.identity, place)?;
+        self.keep(opened.descriptor(), opened.found, place)?;
         Ok(opened)
+    }
+
+    // Keeps how a file was when it was opened to be read.
+    fn keep<'a>(
+        &mut self,
+        descriptor: i32,
+        found: Found,
+        place: Place<'a>,
+    ) -> Result<(), HostRefusal<'a>>
+        ensures taken { self.new.taken ≡ self.old.taken }
+        ensures streams { self.new.streams ≡ self.old.streams }
+    {
+        match self.read.add(descriptor, place, found) {
+            Ok(()) => Ok(()),
+            Err(_) => Err(HostRefusal::memory()),
+        }
     }
 
     // No report may land in this file, and no output may be it.
     fn take<'a>(&mut self, identity: Identity, place: Place<'a>) -> Result<(), HostRefusal<'a>>
         ensures spared { OnOk result (¬ Reported self.old.streams identity) }
         ensures taken { OnOk result (Adds self.old.taken self.new.taken identity) }
-        ensures refused { IfErr result (λ refusal. refusal.fault ≡ HostFault.SameFile → Reported self.old.streams identity) }
+        ensures refused { IfErr result (λ refusal. refusal.fault ≡ HostFault.SameFile
+            → Reported self.old.streams identity) }
     {
         self.streams.spare(identity, place)?;
         match self.taken.take(identity) {
@@ -144,6 +228,18 @@ impl Reading {
             Err(_) => Err(HostRefusal::memory()),
         }
     }
+}
+
+// Of too many open files the system says no more than that.
+fn if_too_many(refusal: HostRefusal<'_>) -> HostRefusal<'_>
+    ensures { result.fault ≡ refusal.entry.fault }
+{
+    if refusal.about.why == Some(TOO_MANY) {
+        return refusal.advised(
+            "Too many open files; allow more (ulimit -n), or join fewer at once",
+        );
+    }
+    refusal
 }
 
 fn source_of<'a>(file: File, place: Place<'a>) -> Result<FileSource, HostRefusal<'a>> {
@@ -154,12 +250,19 @@ fn source_of<'a>(file: File, place: Place<'a>) -> Result<FileSource, HostRefusal
 }
 
 // All bytes of a file, as a text of at most so many.
-fn text_of(alloc: Global, input: InputFile) -> Result<String, (HostFault, Option<i32>)>
+fn text_of(
+    alloc: Global,
+    input: InputFile,
+    read: &mut ReadFiles,
+) -> Result<String, (HostFault, Option<i32>)>
     ensures { IfOk result (λ text. length (string_bytes text) ≤ 2 ^ 20) }
 {
     let mut bytes = Vec::new(alloc);
+    let descriptor = input.descriptor();
     let mut front = input.into_reader().take(TEXT + 1);
-    if let Err(error) = front.read_to_end(&mut bytes) {
+    let end = front.read_to_end(&mut bytes);
+    read.let_go(descriptor);
+    if let Err(error) = end {
         return Err(match error.kind() {
             io::ErrorKind::OutOfMemory => (HostFault::Memory, None),
             _ => (HostFault::Read, error.raw_os_error()),

@@ -1,10 +1,10 @@
-//! Where reports go, which must be no file that is read.
+//! Where reports go, which must be no file that is read, and none that data goes to.
 
 ghost use Rattle.std.specs.Prelude.{◌≡◌, ◌↔◌, IsTrue, OnOk, IfErr};
-ghost use Rattle.abt_host.specs.Streams.{Reported};
+ghost use Rattle.abt_host.specs.Streams.{Reported, Mixed};
 
-use crate::identity::{Identity, identity_of_stream};
 use abt_refusals::{HostFault, HostRefusal, Place};
+use host_files::{ERRORS, Identity, OUTPUT, identity_of_stream};
 
 /// What standard output and standard error are.
 #[derive(Clone, Copy, Drop)]
@@ -14,10 +14,11 @@ pub struct Streams {
 }
 
 impl Streams {
-    pub fn of(rt: HostRuntime) -> Streams {
+    pub fn of_process(rt: HostRuntime) -> Streams {
+        let alloc = rt.alloc();
         Streams {
-            out: identity_of_stream(rt, "/dev/stdout"),
-            err: identity_of_stream(rt, "/dev/stderr"),
+            out: identity_of_stream(rt, alloc, OUTPUT),
+            err: identity_of_stream(rt, alloc, ERRORS),
         }
     }
 
@@ -29,9 +30,19 @@ impl Streams {
         ensures untold { IfErr result (λ refusal. IsTrue refusal.about.is_untold ↔ (self.now.err ≡ identity)) }
     {
         let is_untold = self.err == identity;
-        if identity.holds_data && (is_untold || self.out == identity) {
+        if identity.holds_data && is_untold {
+            return Err(HostRefusal::at(HostFault::SameFile, place, None).untold_if(is_untold));
+        }
+        if identity.holds_data && self.out == identity {
             return Err(HostRefusal::at(HostFault::SameFile, place, None).untold_if(is_untold));
         }
         Ok(())
+    }
+
+    /// Whether what is told would stand among the data of an output that is this file.
+    pub fn mixes_with(&self, identity: Identity) -> bool
+        ensures { IsTrue result ↔ Mixed self.now identity }
+    {
+        identity.mixes && self.err == identity
     }
 }

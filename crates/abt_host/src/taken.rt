@@ -3,8 +3,7 @@
 ghost use Rattle.std.specs.Prelude.{◌≡◌, ◌≤◌, ◌↔◌, [], IsTrue, IfOk, OnOk, OnErr, Contains};
 ghost use Rattle.abt_host.specs.Taken.{Forbidden, Adds};
 
-use crate::identity::Identity;
-use crate::opening::Found;
+use host_files::{Found, Identity};
 use std::alloc::{AllocError, Global};
 use std::fs::File;
 use std::io;
@@ -47,20 +46,23 @@ impl Taken {
     pub(crate) fn empty(&self, file: &File, found: Found) -> io::Result<()>
         requires { Contains self.now.files.items found.identity }
     {
-        if found.is_file && found.length > 0 {
+        if found.is_file() && found.length > 0 {
             file.set_len(0)
         } else {
             Ok(())
         }
     }
 
-    /// Lays zeros over the first four bytes of a file that is one of these, so that it is no image, and answers how many
-    /// bytes stand in it. One with fewer, or with more than `most`, or that does not take them, is emptied.
+    /// Lays zeros over the first four bytes of a file that is one of these, so that it is no image, and answers how
+    /// many bytes stand in it. One with fewer, or with more than `most`, or that does not take them, is emptied.
     pub(crate) fn blank(&self, file: &File, found: Found, most: u64) -> io::Result<u64>
         requires { Contains self.now.files.items found.identity }
         ensures { IfOk result (λ stands. stands ≤ most) }
     {
         let is_kept = 4 <= found.length && found.length <= most;
+        if is_kept {
+            file.set_len(found.length)?;
+        }
         if is_kept && file.write_all_at(&[0; 4], 0).is_ok() {
             return Ok(found.length);
         }

@@ -5,18 +5,35 @@ ghost use Rattle.abt_output.specs.Given.{given_by_writer};
 ghost use Rattle.abt_io.specs.Frame.{nothing_logged};
 ghost use Rattle.abt_host.specs.Access.{may_write};
 ghost use Rattle.abt_host.specs.Begins.{BeginsOutput, BeginsImage, BeginsSpool, BeginsKeptSpool, Admits};
+ghost use Rattle.abt_host.specs.Streams.{Mixed};
 ghost use Rattle.abt_host.specs.Taken.{Forbidden, Adds, WritesOne};
 
-use crate::identity::{Identity, identity_at};
 use crate::opening::{Access, Opened, not_opened, open_file};
 use crate::reading::Reading;
 use abt_files::{FilePartition, FileSpool};
 use abt_io::FrontLast;
-use abt_output::{Finished, ImageFile, ImageOutput, OutputFile, Sink};
+use abt_output::{ImageFile, ImageOutput, OutputFile, Sink};
 use abt_refusals::{HostFault, HostRefusal, Place};
-use std::alloc::Global;
+use host_files::{
+    Found, Identity, OUTPUT, found_of, identity_at, is_in_use, is_shared, is_shown, next_number,
+    open_again,
+};
+use std::alloc::{AllocError, Global};
 use std::fs::{File, OpenOptions};
-use std::io;
+use std::{fs, io, mem};
+
+// The number of 'Invalid argument'.
+const INVALID: i32 = 22;
+
+// What can be done where it is not known what standard input is, which an output may be.
+const NOT_KNOWN: &str =
+    "what standard input is can't be known here, without /dev and /proc; name IN by its path";
+
+// Why standard output is not synced where it is not known what it is.
+const NOT_SYNCED: &str = "it can't be synced here, without /dev and /proc";
+
+// What can be done where an output is one that is written already.
+const WRITTEN: &str = "it is written already; name another file";
 
 /// Opens and creates what is written. Each file is looked at, by device and inode, before it is emptied: none is one
 /// that is read, or that is written already.
@@ -27,6 +44,11 @@ pub struct Writing {
     pub reading: Reading,
     // Data goes to where standard output goes: then no report does.
     is_data_on_output: bool,
+    // What is written, or was.
+    written: Vec<Identity>,
+    // Whether the output that is open was created, and what is open to be written in place.
+    is_output_new: bool,
+    is_part_new: bool,
 }
 
 impl Writing {
@@ -36,8 +58,11 @@ impl Writing {
         Writing {
             rt: reading.rt,
             alloc: reading.alloc,
+            written: Vec::new(reading.alloc),
             reading,
             is_data_on_output: false,
+            is_output_new: false,
+            is_part_new: false,
         }
     }
 
@@ -45,9 +70,9 @@ impl Writing {
     pub fn partition<'a>(&mut self, place: Place<'a>) -> Result<FilePartition, HostRefusal<'a>>
         ensures writes { OnOk result (WritesOne self.old self.new) }
     {
-        let Opened { file, found } = open_file(self.rt, self.alloc, place, Access::InPlace)?;
-        self.admit(found.identity, place)?;
-        match FilePartition::new(file) {
+        let opened = self.admitted(place, Access::InPlace)?;
+        self.is_part_new = false;
+        match FilePartition::new(opened.file) {
             Ok(partition) => Ok(partition),
             Err(_) => Err(HostRefusal::at(HostFault::CannotOpen, place, None)),
         }
@@ -60,14 +85,14 @@ impl Writing {
         if place.is_standard() {
             return self.standard(place);
         }
-        let Opened { file, found } = self.created(place, Access::Create)?;
-        let sink = Sink::raw(file, found.is_file);
+        let Opened { file, found, .. } = self.created(place, Access::Create)?;
+        let sink = Sink::raw(file, found.is_file());
         self.buffered(place, sink, found.identity.holds_data)
     }
 
-    /// Creates or empties the file of an image that has a magic. `-` is standard output. Where it is gathered, a regular
-    /// file holds up to 64 KiB of what it took, which are written together where no more have room and at its end: that is
-    /// for who waits for nobody meanwhile.
+    /// Creates or empties the file of an image that has a magic. `-` is standard output. Where it is gathered, a
+    /// regular file holds up to 64 KiB of what it took, which are written together where no more have room and at its
+    /// end: that is for who waits for nobody meanwhile.
     pub fn image<'a>(
         &mut self,
         place: Place<'a>,
@@ -78,14 +103,14 @@ impl Writing {
         if place.is_standard() {
             return Ok(ImageOutput::Stream(self.standard(place)?));
         }
-        let Opened { file, found } = self.created(place, Access::Create)?;
-        let sink = if is_gathered && found.is_file {
+        let Opened { file, found, .. } = self.created(place, Access::Create)?;
+        let sink = if is_gathered && found.is_file() {
             Sink::gathered(self.alloc, file)
         } else {
             Sink::file(file)
         };
         let output = self.buffered(place, sink, found.identity.holds_data)?;
-        if found.is_file {
+        if found.is_file() {
             Ok(ImageOutput::File(FrontLast::new(ImageFile::new(output))))
         } else {
             Ok(ImageOutput::Stream(output))
@@ -96,7 +121,7 @@ impl Writing {
     pub fn plain<'a>(&mut self, place: Place<'a>) -> Result<OutputFile, HostRefusal<'a>>
         ensures { BeginsOutput result self.old self.new }
     {
-        let Opened { file, found } = self.created(place, Access::Create)?;
+        let Opened { file, found, .. } = self.created(place, Access::Create)?;
         self.buffered(place, Sink::file(file), found.identity.holds_data)
     }
 
@@ -126,8 +151,8 @@ impl Writing {
         Ok(FileSpool::new(created.file, limit as u64))
     }
 
-    /// The same, of which a file that is no longer than a piece keeps its pages: its first four bytes are zeros then, and how
-    /// many stand in it is answered too. So this is for who cuts off what he does not write over.
+    /// The same, of which a file that is no longer than a piece keeps its pages: its first four bytes are zeros then,
+    /// and how many stand in it is answered too. So this is for who cuts off what he does not write over.
     pub fn kept_spool<'a>(
         &mut self,
         place: Place<'a>,
@@ -135,16 +160,50 @@ impl Writing {
     ) -> Result<(FileSpool, u64), HostRefusal<'a>>
         ensures { BeginsKeptSpool limit result self.old self.new }
     {
-        let Opened { file, found } = self.admitted(place, Access::Spool)?;
+        let Opened { file, found, .. } = self.admitted(place, Access::Spool)?;
         match self.reading.taken.blank(&file, found, limit as u64) {
             Ok(stands) => Ok((FileSpool::new(file, limit as u64), stands)),
             Err(error) => Err(HostRefusal::at(HostFault::CannotOpen, place, error.raw_os_error())),
         }
     }
 
-    /// What was written in place, by a call that syncs it at its end, is at its end.
-    pub fn written_in_place(&self, synced: FilePartition) -> Finished {
-        Finished::in_place(synced, self.is_data_on_output)
+    /// Whether data goes to where standard output goes.
+    pub fn is_data_on_output(&self) -> bool {
+        self.is_data_on_output
+    }
+
+    /// Closes what was written in place, by a call that synced it at its end. Where outputs are synced and it was
+    /// created, its folder is, so that its name stands there.
+    pub fn close<'a>(
+        &mut self,
+        part: FilePartition,
+        place: Place<'a>,
+    ) -> Result<(), HostRefusal<'a>> {
+        mem::drop(part);
+        let is_new = mem::replace(&mut self.is_part_new, false);
+        self.sync_folder_if(is_new, place)
+    }
+
+    /// What belongs to the end of an output that was closed: where outputs are synced and it was created, its folder
+    /// is, so that its name stands there.
+    pub fn end_output<'a>(&mut self, place: Place<'a>) -> Result<(), HostRefusal<'a>> {
+        let is_new = mem::replace(&mut self.is_output_new, false);
+        self.sync_folder_if(is_new, place)
+    }
+
+    fn sync_folder_if<'a>(&self, is_new: bool, place: Place<'a>) -> Result<(), HostRefusal<'a>> {
+        if !is_new || !self.reading.is_synced {
+            return Ok(());
+        }
+        let Ok(path) = place.path(self.alloc) else {
+            return Err(HostRefusal::memory());
+        };
+        match sync_folder_of(self.rt, path.as_str()) {
+            Ok(()) => Ok(()),
+            Err(error) => {
+                Err(HostRefusal::at(HostFault::Write, place, error.raw_os_error()).begun(place))
+            }
+        }
     }
 
     /// Refuses a path that is going to be written where it is a file that is read, or written already.
@@ -153,10 +212,9 @@ impl Writing {
             return Err(HostRefusal::memory());
         };
         match identity_at(self.rt, path.as_str()) {
-            Some(identity) if self.reading.taken.forbids(identity) => {
-                Err(HostRefusal::at(HostFault::SameFile, place, None))
-            }
-            _ => Ok(()),
+            Some(identity) if self.is_refused(identity) => Err(self.same_file(identity, place)),
+            Some(identity) => self.refuse_shared(identity, place),
+            None => Ok(()),
         }
     }
 
@@ -170,32 +228,60 @@ impl Writing {
         }
     }
 
+    /// The least number above this one at which a file is, with that number behind the name that this place has.
+    pub fn left_over(&self, place: Place<'_>, behind: u32) -> Result<Option<u32>, AllocError> {
+        let prefix = Place {
+            number: None,
+            ..place
+        };
+        let prefix = prefix.path(self.alloc)?;
+        next_number(self.rt, self.alloc, prefix.as_str(), behind)
+    }
+
     // Data goes to standard output.
     fn standard<'a>(&mut self, place: Place<'a>) -> Result<OutputFile, HostRefusal<'a>>
         ensures { BeginsOutput result self.old self.new }
     {
         let identity = self.reading.streams.out;
+        self.refuse_shared(identity, place)?;
         self.admit(identity, place)?;
+        self.look_again(identity, OUTPUT, place)?;
         self.is_data_on_output = true;
-        match self.to_sync(identity) {
+        self.is_output_new = false;
+        match self.to_sync(identity, place) {
             Ok(file) => {
                 let sink = Sink::standard(self.rt.stdout(), file);
                 self.buffered(place, sink, identity.holds_data)
             }
-            Err(error) => Err(not_opened(&error, place)),
+            Err(refusal) => Err(refusal),
         }
     }
 
     // A second handle of the file that standard output is, where it is synced at its end.
-    fn to_sync(&self, output: Identity) -> io::Result<Option<File>> {
-        if !self.reading.is_synced || !output.holds_data {
+    fn to_sync<'a>(
+        &self,
+        output: Identity,
+        place: Place<'a>,
+    ) -> Result<Option<File>, HostRefusal<'a>> {
+        if !self.reading.is_synced {
             return Ok(None);
         }
-        let mut options = OpenOptions::new();
-        match options.write(true).open(&self.rt, "/dev/stdout") {
-            Ok(file) => Ok(Some(file)),
-            Err(error) => Err(error),
+        if !output.holds_data {
+            return self.none_to_sync(place);
         }
+        match opened_output(self.rt, self.alloc) {
+            Ok(file) => Ok(Some(file)),
+            Err(error) => Err(not_opened(&error, place)),
+        }
+    }
+
+    // Where standard output is no file there is nothing to sync, and where it is not known what it is, it can't be
+    // synced.
+    fn none_to_sync<'a>(&self, place: Place<'a>) -> Result<Option<File>, HostRefusal<'a>> {
+        if is_shown(self.rt) || found_of(self.rt, self.alloc, OUTPUT).is_ok() {
+            return Ok(None);
+        }
+        Err(HostRefusal::at(HostFault::CannotOpen, place, None).advised(NOT_SYNCED))
     }
 
     // An output that takes small writes together.
@@ -216,9 +302,14 @@ impl Writing {
     // Opens an output as it is, and empties it once it is known that it is no other file of this run.
     fn created<'a>(&mut self, place: Place<'a>, access: Access) -> Result<Opened, HostRefusal<'a>>
         requires { may_write access ≡ true }
-        ensures { Admits result self.old.reading.taken self.new.reading.taken }
+        ensures { Admits result self.old.reading self.new.reading }
     {
         let opened = self.admitted(place, access)?;
+        match access {
+            Access::Create => self.is_output_new = !opened.was_there,
+            Access::CreateFile => self.is_part_new = !opened.was_there,
+            _ => {}
+        }
         match self.reading.taken.empty(&opened.file, opened.found) {
             Ok(()) => Ok(opened),
             Err(error) => Err(HostRefusal::at(HostFault::CannotOpen, place, error.raw_os_error())),
@@ -228,34 +319,148 @@ impl Writing {
     // Opens an output as it is.
     fn admitted<'a>(&mut self, place: Place<'a>, access: Access) -> Result<Opened, HostRefusal<'a>>
         requires { may_write access ≡ true }
-        ensures { Admits result self.old.reading.taken self.new.reading.taken }
+        ensures { Admits result self.old.reading self.new.reading }
     {
         let opened = open_file(self.rt, self.alloc, place, access)?;
+        self.refuse_shared(opened.found.identity, place)?;
         self.admit(opened.found.identity, place)?;
+        self.look_again(opened.found.identity, opened.descriptor(), place)?;
+        self.refuse_if_unknown(opened.found, place)?;
         Ok(opened)
+    }
+
+    // Refuses a file that holds something where it may be the one that is read as standard input.
+    fn refuse_if_unknown<'a>(&self, found: Found, place: Place<'a>) -> Result<(), HostRefusal<'a>> {
+        if self.reading.is_input_unknown && found.is_file() && found.length > 0 {
+            return Err(HostRefusal::at(HostFault::SameFile, place, None).advised(NOT_KNOWN));
+        }
+        Ok(())
+    }
+
+    // Refuses an output that is open under this descriptor where opening it has made a file that is read this one, and
+    // a block device that is in use.
+    fn look_again<'a>(
+        &self,
+        identity: Identity,
+        descriptor: i32,
+        place: Place<'a>,
+    ) -> Result<(), HostRefusal<'a>> {
+        if identity.holds_data && self.reading.read.is_one_now(identity, descriptor) {
+            return Err(HostRefusal::at(HostFault::SameFile, place, None));
+        }
+        let Some(device) = identity.block() else {
+            return Ok(());
+        };
+        if self.reading.is_mounted_allowed {
+            return Ok(());
+        }
+        match is_in_use(self.rt, self.alloc, device) {
+            Ok(false) => Ok(()),
+            Ok(true) => Err(HostRefusal::at(HostFault::Mounted, place, None)),
+            Err(_) => Err(HostRefusal::memory()),
+        }
     }
 
     // Refuses a file that is read, or that is written already; no further output may be this one.
     fn admit<'a>(&mut self, identity: Identity, place: Place<'a>) -> Result<(), HostRefusal<'a>>
         ensures free { OnOk result (¬ Forbidden self.old.reading.taken identity) }
+        ensures apart { OnOk result (¬ Mixed self.old.reading.streams identity) }
         ensures taken { OnOk result (Adds self.old.reading.taken self.new.reading.taken identity) }
         ensures refused { IfErr result (λ refusal.
-            (refusal.fault ≡ HostFault.SameFile) ↔ Forbidden self.old.reading.taken identity) }
+            (refusal.fault ≡ HostFault.SameFile) ↔ (Forbidden self.old.reading.taken identity
+            ⊎ Mixed self.old.reading.streams identity)) }
+        ensures untold { IfErr result (λ refusal. Mixed self.old.reading.streams identity
+            → IsTrue refusal.about.is_untold) }
         ensures faults { IfErr result (λ refusal.
             (refusal.fault ≡ HostFault.SameFile) ⊎ (refusal.fault ≡ HostFault.Memory)) }
         ensures kept { OnErr result (self.new.reading.taken.files.items ≡ self.old.reading.taken.files.items) }
         ensures on_output { OnOk result (self.old.reading.streams.out ≡ identity → IsTrue self.new.is_data_on_output) }
     {
-        if self.reading.taken.forbids(identity) {
-            return Err(HostRefusal::at(HostFault::SameFile, place, None));
+        if self.is_refused(identity) {
+            return Err(self.same_file(identity, place));
         }
         if self.reading.streams.out == identity {
             self.is_data_on_output = true;
+        }
+        if self.written.push(identity).is_err() {
+            return Err(HostRefusal::memory());
         }
         match self.reading.taken.take(identity) {
             Ok(()) => Ok(()),
             Err(_) => Err(HostRefusal::memory()),
         }
+    }
+
+    // Whether a file is one of this run, or one in which what is told would stand among data.
+    fn is_refused(&self, identity: Identity) -> bool
+        ensures { IsTrue result ↔ (Forbidden self.now.reading.taken identity
+            ⊎ Mixed self.now.reading.streams identity) }
+    {
+        self.reading.taken.forbids(identity) || self.reading.streams.mixes_with(identity)
+    }
+
+    // The refusal of such a file. Nothing is told of one in which that would stand.
+    fn same_file<'a>(&self, identity: Identity, place: Place<'a>) -> HostRefusal<'a>
+        ensures fault { result.fault ≡ HostFault.SameFile }
+        ensures untold { IsTrue result.about.is_untold ↔ Mixed self.now.reading.streams identity }
+    {
+        let is_untold = self.reading.streams.mixes_with(identity);
+        let refusal = HostRefusal::at(HostFault::SameFile, place, None);
+        let refusal = if self.written.as_slice().contains(&identity) {
+            refusal.advised(WRITTEN)
+        } else {
+            refusal
+        };
+        refusal.untold_if(is_untold)
+    }
+
+    // Refuses what stands on a file of this run, or has one stand on it, under another name.
+    fn refuse_shared<'a>(
+        &self,
+        identity: Identity,
+        place: Place<'a>,
+    ) -> Result<(), HostRefusal<'a>> {
+        let is_untold = self.reading.streams.mixes_with(identity);
+        let refusal = HostRefusal::at(HostFault::SameFile, place, None).untold_if(is_untold);
+        let files = self.reading.taken.files.as_slice();
+        match is_shared(self.rt, self.alloc, identity, self.written.as_slice()) {
+            Ok(true) => return Err(refusal.advised(WRITTEN)),
+            Ok(false) => {}
+            Err(_) => return Err(HostRefusal::memory()),
+        }
+        match is_shared(self.rt, self.alloc, identity, files) {
+            Ok(true) => Err(refusal),
+            Ok(false) => Ok(()),
+            Err(_) => Err(HostRefusal::memory()),
+        }
+    }
+}
+
+// Opens standard output once more: to write, or where that is denied to read.
+fn opened_output(rt: HostRuntime, alloc: Global) -> io::Result<File> {
+    let mut to_write = OpenOptions::new();
+    to_write.write(true);
+    match open_again(rt, alloc, OUTPUT, to_write) {
+        Ok(file) => Ok(file),
+        Err(error) if error.kind() == io::ErrorKind::PermissionDenied => {
+            let mut to_read = OpenOptions::new();
+            to_read.read(true);
+            open_again(rt, alloc, OUTPUT, to_read)
+        }
+        Err(error) => Err(error),
+    }
+}
+
+// Syncs the folder that a file stands in. There are file systems that sync no folders.
+fn sync_folder_of(rt: HostRuntime, path: &str) -> io::Result<()> {
+    let whole = fs::canonicalize(&rt, path)?;
+    let Some(folder) = whole.parent() else {
+        return Ok(());
+    };
+    let folder = File::open(&rt, folder)?;
+    match folder.sync_all() {
+        Err(error) if error.raw_os_error() == Some(INVALID) => Ok(()),
+        answer => answer,
     }
 }
 

@@ -73,7 +73,7 @@ impl<D: Source> Source for Carried<'_, D> {
     fn read_at(&mut self, at: u64, out: &mut [u8]) -> Result<usize, DeviceFault> {
         match self.device.read_at(at, out) {
             Ok(n) => {
-                self.progress.advance(n);
+                self.progress.reach(at.saturating_add(n as u64), n);
                 Ok(n)
             }
             Err(fault) => Err(fault),

@@ -1,6 +1,8 @@
-//! How far a command is: one line on a terminal, which is written over as the work goes on, and erased at its end.
+//! How far a command is: one line on a terminal, which is written over as the work goes on, and erased at its end. A
+//! terminal that is narrower cuts it at its margin, since it is drawn while the terminal wraps nothing. The cursor is at its
+//! front, so what comes behind a command that is broken off goes over it.
 
-ghost use Rattle.std.specs.Prelude.{◌≡◌, ◌+◌, ◌*◌, ◌-◌, ◌^◌, min, Some, option_map, unwrap_or};
+ghost use Rattle.std.specs.Prelude.{◌≡◌, ◌+◌, ◌*◌, ◌-◌, ◌^◌, IsTrue, false, true, max, min, Some, option_map, unwrap_or};
 ghost use Rattle.abt_output.specs.Moved.{Expects};
 
 use abt_files::ToWrite;
@@ -12,6 +14,12 @@ use std::time::{Duration, Instant};
 const FIRST: u64 = 1000;
 
 const NEXT: u64 = 200;
+
+// To the front of the line, where what has no room on it is left out.
+const BEGINS: &str = "\r\x1b[?7l";
+
+// The rest of the line erased, and back to its front, where what has no room goes on in the next line again.
+const ENDS: &str = "\x1b[K\x1b[?7h\r";
 
 // To the front of the line, and all of it erased.
 const ERASED: &[u8] = b"\r\x1b[K";
@@ -25,6 +33,8 @@ pub struct Progress {
     pub total: Option<u64>,
     /// How many bytes were moved.
     pub done: u64,
+    // They are those before the place to which its source was read: what is read again does not count again.
+    is_by_place: bool,
     // When it began, where it is to be shown.
     begun: Option<Instant>,
     // When the line was last written, where it stands.
@@ -39,6 +49,7 @@ impl Progress {
             command: "",
             total: None,
             done: 0,
+            is_by_place: false,
             begun: None,
             shown: None,
         }
@@ -51,6 +62,7 @@ impl Progress {
             command,
             total: None,
             done: 0,
+            is_by_place: false,
             begun: Instant::now(&rt).ok(),
             shown: None,
         }
@@ -80,6 +92,26 @@ impl Progress {
     {
         if let Some(total) = self.total {
             self.total = Some(total.saturating_mul(times));
+        }
+    }
+
+    /// From now on it is as far as the place to which its source was read.
+    pub fn follow(&mut self)
+        ensures { self.new ≡ record self.old { is_by_place = true } }
+    {
+        self.is_by_place = true;
+    }
+
+    /// So many bytes more were read, up to this place.
+    pub fn reach(&mut self, place: u64, bytes: usize)
+        ensures followed { IsTrue self.old.is_by_place → self.new.done ≡ max self.old.done place }
+        ensures counted { self.old.is_by_place ≡ false → self.new.done ≡ min (self.old.done + bytes) (2 ^ 64 - 1) }
+        ensures total { self.new.total ≡ self.old.total }
+    {
+        if self.is_by_place {
+            self.advance(place.saturating_sub(self.done) as usize);
+        } else {
+            self.advance(bytes);
         }
     }
 
@@ -129,7 +161,7 @@ impl Progress {
         };
         let mut err = ToWrite::new(self.rt.stderr());
         let mut text = Text::new(&mut err);
-        let _ = text.add(format_args!("\r{line}\x1b[K"));
+        let _ = text.add(format_args!("{BEGINS}{line}{ENDS}"));
         let _ = text.finish();
     }
 }

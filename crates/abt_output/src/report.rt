@@ -77,6 +77,11 @@ impl Report {
         let _ = print_line(&mut self.err, line);
     }
 
+    /// Whether each line of a text is awaited that goes to standard output: it is a terminal.
+    pub fn is_awaited(&self) -> bool {
+        self.out.writer.is_terminal()
+    }
+
     /// The refusal of a text that could not be printed to standard output.
     pub fn cannot_print<'a>(&self) -> HostRefusal<'a> {
         HostRefusal::of(HostFault::Write, self.out.writer.why)

@@ -62,6 +62,11 @@ impl Sink {
         Sink::of(Target::Standard { stdout, file })
     }
 
+    /// Whether it is a terminal that standard output is.
+    pub(crate) fn is_terminal(&self) -> bool {
+        self.target.is_terminal()
+    }
+
     fn of(target: Target) -> Sink
         requires { Follows target [] }
         ensures { result.log.state ≡ nothing_logged }

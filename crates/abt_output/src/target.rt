@@ -9,7 +9,7 @@ use abt_buffers::{HeldFile, SentFile};
 use abt_io::Log;
 use std::fs::File;
 use std::io;
-use std::io::{ErrorKind, Write};
+use std::io::{ErrorKind, IsTerminal, Write};
 use std::os::unix::fs::FileExt;
 use std::rt::Stdout;
 
@@ -30,6 +30,16 @@ pub(crate) enum Target {
 }
 
 impl Target {
+    /// Whether it is a terminal that standard output is.
+    pub(crate) fn is_terminal(&self) -> bool {
+        match self {
+            Target::Standard { stdout, .. } => stdout.is_terminal(),
+            Target::File(_) => false,
+            Target::Holes { .. } => false,
+            Target::Held(_) => false,
+        }
+    }
+
     /// One write, once more where a signal came in between.
     pub(crate) fn put(&mut self, bytes: &[u8]) -> io::Result<usize>
         ensures { PutsFront result bytes.now self.old self.new }

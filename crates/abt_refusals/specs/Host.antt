@@ -8,6 +8,8 @@ abbrev pub is_not_text : HostFault → Bool
 is_not_text faults.CannotOpen = false
 is_not_text faults.NoFolder = false
 is_not_text faults.SameFile = false
+is_not_text faults.Mounted = false
+is_not_text faults.Changed = false
 is_not_text faults.NotText = true
 is_not_text faults.TooLong = true
 is_not_text faults.Read = false

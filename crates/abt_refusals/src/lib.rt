@@ -16,4 +16,4 @@ mod told;
 
 pub use place::Place;
 pub use refusal::{About, HostFault, HostRefusal, Refusal, Sides};
-pub use told::{Side, Told};
+pub use told::{Magic, Side, Told};

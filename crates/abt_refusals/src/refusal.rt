@@ -16,6 +16,8 @@ pub struct About<'a> {
     pub unfinished: Option<Place<'a>>,
     /// Whether nothing is told, since what would be told would land in this file.
     pub is_untold: bool,
+    /// What can be done, where the fault alone does not say it.
+    pub advice: Option<&'a str>,
 }
 
 impl<'a> About<'a> {
@@ -26,6 +28,7 @@ impl<'a> About<'a> {
             why: None,
             unfinished: None,
             is_untold: false,
+            advice: None,
         }
     }
 }
@@ -58,6 +61,10 @@ pub enum HostFault {
     NoFolder,
     /// What would be written is a file that is read, or written already.
     SameFile,
+    /// What would be written is a block device that is in use: its file system is mounted, or it is swap.
+    Mounted,
+    /// A file has changed while it was read.
+    Changed,
     /// A file of words is no text.
     NotText,
     /// A file of words is longer than such a file may be.
@@ -114,6 +121,20 @@ impl<'a> HostRefusal<'a> {
     {
         let about = About {
             unfinished: Some(output),
+            ..self.about
+        };
+        HostRefusal {
+            fault: self.fault,
+            about,
+        }
+    }
+
+    /// The same, of which this says what can be done.
+    pub fn advised(self, advice: &'a str) -> HostRefusal<'a>
+        ensures { result ≡ record self.entry { about = record self.entry.about { advice = result.about.advice } } }
+    {
+        let about = About {
+            advice: Some(advice),
             ..self.about
         };
         HostRefusal {
@@ -203,12 +224,10 @@ impl<'a> Sides<'a> {
     }
 
     /// Pieces go through this one.
-    pub fn through(self, place: Place<'a>) -> Sides<'a> {
+    pub fn through(self, place: Place<'a>, why: Option<i32>) -> Sides<'a> {
+        let place = Some(place);
         Sides {
-            spool: At {
-                place: Some(place),
-                why: None,
-            },
+            spool: At { place, why },
             ..self
         }
     }
@@ -238,6 +257,7 @@ impl<'a> Sides<'a> {
             why,
             unfinished: self.unfinished,
             is_untold: false,
+            advice: None,
         };
         Refusal { fault, about }
     }

@@ -22,6 +22,15 @@ pub enum Side {
     Words,
 }
 
+/// The kinds of images that begin with a magic.
+#[derive(Clone, Copy, Drop)]
+pub enum Magic {
+    /// Sparse images.
+    Sparse,
+    /// Boot images and vendor boot images.
+    Boot,
+}
+
 /// A fault that a user is told of.
 pub trait Told {
     /// The words are wrong, rather than what they name.
@@ -40,6 +49,9 @@ pub trait Told {
     /// What can be done, where the system gives no reason.
     fn advice(&self) -> &'static str;
 
+    /// The kind of image that a file was taken for, and has not the magic of.
+    fn missing_magic(&self) -> Option<Magic>;
+
     /// The piece from which on a flash that was stopped goes on.
     fn mending_piece(&self) -> Option<u32>;
 
@@ -55,6 +67,9 @@ impl HostFault {
             HostFault::CannotOpen => "it is neither a file nor a block device",
             HostFault::NoFolder => "its folder is missing",
             HostFault::SameFile => "it is read, so it is not written; name another file",
+            HostFault::Mounted =>
+                "it is in use: unmount it, or end its use as swap; --mounted writes it all the same",
+            HostFault::Changed => "it changed while it was read; try again when nothing writes it",
             HostFault::NotText => "a file of words is text in UTF-8, with one word a line",
             HostFault::TooLong => "a file of words has at most 1 MiB",
             HostFault::Read => "it cannot be read",
@@ -71,6 +86,8 @@ impl HostFault {
             HostFault::Write => true,
             HostFault::NoFolder => false,
             HostFault::SameFile => false,
+            HostFault::Mounted => false,
+            HostFault::Changed => false,
             HostFault::NotText => false,
             HostFault::TooLong => false,
             HostFault::Memory => false,
@@ -87,6 +104,8 @@ impl HostFault {
             HostFault::CannotOpen => false,
             HostFault::NoFolder => false,
             HostFault::SameFile => false,
+            HostFault::Mounted => false,
+            HostFault::Changed => false,
             HostFault::Read => false,
             HostFault::Write => false,
             HostFault::Memory => false,
@@ -110,6 +129,8 @@ impl HostFault {
             HostFault::CannotOpen => "cannot open ",
             HostFault::NoFolder => "cannot open ",
             HostFault::SameFile => "same file ",
+            HostFault::Mounted => "mounted ",
+            HostFault::Changed => "14 SourceChanged",
             HostFault::NotText => "not UTF-8 ",
             HostFault::TooLong => "too long ",
             HostFault::Read => "11 Read",
@@ -123,6 +144,8 @@ impl HostFault {
             HostFault::CannotOpen => true,
             HostFault::NoFolder => true,
             HostFault::SameFile => true,
+            HostFault::Mounted => true,
+            HostFault::Changed => false,
             HostFault::NotText => true,
             HostFault::TooLong => true,
             HostFault::Read => false,

@@ -23,6 +23,8 @@ pub struct Text<'a, O> {
     pub output: &'a mut O,
     pub held: Held,
     pub fault: Option<DeviceFault>,
+    // Once so much is held, the end of a line sends it.
+    enough: usize,
 }
 
 impl<'a, O: Output> Text<'a, O> {
@@ -37,7 +39,15 @@ impl<'a, O: Output> Text<'a, O> {
             output,
             held: Held::new(),
             fault: None,
+            enough: ENOUGH,
         }
+    }
+
+    /// From now on each line is sent as it ends, for who waits for it, as on a terminal.
+    pub fn send_each_line(&mut self)
+        ensures { self.new ≡ record self.old { enough = 0 } }
+    {
+        self.enough = 0;
     }
 
     /// Adds these bytes.
@@ -70,7 +80,7 @@ impl<'a, O: Output> Text<'a, O> {
         ensures { Prints O.written O.write_faults self.old self.new (10 ∷ []) }
     {
         self.put(b"\n");
-        if self.held.len() < ENOUGH {
+        if self.held.len() < self.enough {
             return;
         }
         self.send();
@@ -155,7 +165,7 @@ impl<'a, O: Output> Text<'a, O> {
     fn end_shown_line(&mut self) -> Result<(), DeviceFault>
         ensures { Prints O.written O.write_faults self.old self.new [] }
     {
-        if self.held.len() < ENOUGH {
+        if self.held.len() < self.enough {
             self.is_whole()
         } else {
             self.finish()

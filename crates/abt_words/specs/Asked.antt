@@ -119,3 +119,4 @@ pub record IsOrderOf (words : List (List ℕ)) (order : Order) : Type 0 where
   pub spelled : AreSpelled words order.command.now all
   pub asks : Asks all order.task
   pub synced : order.is_synced ≡ flag_named (codes "sync") all
+  pub mounted : order.is_mounted_allowed ≡ flag_named (codes "mounted") all

@@ -63,7 +63,7 @@ telling_rows =
     ∷ row (places.ShortFlag 113) values.IsGiven (codes "quiet") ∷ []
 
 abbrev pub writing_rows : List Shape
-writing_rows = flag (codes "sync") ∷ telling_rows
+writing_rows = flag (codes "sync") ∷ flag (codes "mounted") ∷ telling_rows
 
 -- the options that an image is filled by
 abbrev pub option_rows : List Shape
@@ -95,7 +95,8 @@ own_rows_of works.Cut =
     ∷ number (codes "raw") ∷ []
 own_rows_of works.Flash =
     path (codes "IN") ∷ path (codes "PARTITION") ∷ row places.Word values.Number (codes "LIMIT")
-    ∷ path (codes "SPOOL") ∷ number (codes "raw") ∷ row places.Option (values.Count 1) (codes "from") ∷ []
+    ∷ path (codes "SPOOL") ∷ number (codes "raw") ∷ row places.Option (values.Count 1) (codes "from")
+    ∷ flag (codes "mounted") ∷ []
 own_rows_of works.Verify = path (codes "IN") ∷ path (codes "PARTITION") ∷ number (codes "raw") ∷ []
 own_rows_of works.Pack =
     flag (codes "vendor") ∷ row places.Option (values.Count 0) (codes "version")

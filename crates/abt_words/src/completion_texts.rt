@@ -1,24 +1,51 @@
 //! Written by `tools/make_completions.py`: what `completions` prints.
 
 #[rattlefmt::skip]
-pub(crate) const BASH: &str = r#"_abootimg() {
-    local word=${COMP_WORDS[COMP_CWORD]} words= at=1
+pub(crate) const BASH: &str = r#"_abootimg_files() {
+    local found
+    while IFS= read -r found; do
+        COMPREPLY+=("$found")
+    done < <(compgen -f -- "$1")
+}
+_abootimg_word_files() {
+    local found is_plain=yes
+    while IFS= read -r found; do
+        case $found in
+            *[!A-Za-z0-9._/-]*) is_plain= ;;
+        esac
+        if [ -d "$found" ]; then
+            found=$found/
+            compopt -o nospace 2>/dev/null
+        fi
+        COMPREPLY+=("@$found")
+    done < <(compgen -f -- "${1#@}")
+    [ -z "$is_plain" ] || compopt +o filenames 2>/dev/null
+}
+_abootimg() {
+    local word=${2-${COMP_WORDS[COMP_CWORD]}} words= at=1
+    COMPREPLY=()
     while [ "$at" -lt "$COMP_CWORD" ] && [ "${COMP_WORDS[at]#-}" != "${COMP_WORDS[at]}" ]; do
         at=$((at + 1))
     done
-    if [ "$at" = "$COMP_CWORD" ]; then
+    case $word in
+        \\@*) word=${word#?} ;;
+    esac
+    if [ "${word#@}" != "$word" ]; then
+        _abootimg_word_files "$word"
+        return
+    elif [ "$at" = "$COMP_CWORD" ]; then
         words=' expand list sparse cut flash verify pack repack unpack info completions help -v --verbose -q --quiet -h --help -V --version'
     elif [ "${word#-}" != "$word" ]; then
         case ${COMP_WORDS[at]} in
-            expand) words=' --sync -v --verbose -q --quiet -h --help' ;;
+            expand) words=' --sync --mounted -v --verbose -q --quiet -h --help' ;;
             list) words=' -v --verbose -q --quiet -h --help' ;;
-            sparse) words=' --block --sync -v --verbose -q --quiet -h --help' ;;
-            cut) words=' --raw --sync -v --verbose -q --quiet -h --help' ;;
-            flash) words=' --raw --from -v --verbose -q --quiet -h --help' ;;
+            sparse) words=' --block --sync --mounted -v --verbose -q --quiet -h --help' ;;
+            cut) words=' --raw --sync --mounted -v --verbose -q --quiet -h --help' ;;
+            flash) words=' --raw --from --mounted -v --verbose -q --quiet -h --help' ;;
             verify) words=' --raw -v --verbose -q --quiet -h --help' ;;
-            pack) words=' --vendor --version --page --kernel --ramdisk --second --recovery-dtbo --dtb --signature --bootconfig --kernel-addr --ramdisk-addr --tags-addr --second-addr --dtb-addr --base --kernel-offset --ramdisk-offset --second-offset --tags-offset --dtb-offset --os --os-number --name --cmdline --board-id --fragment --escaped --sync -v --verbose -q --quiet -h --help' ;;
-            repack) words=' --page --keep-trailing --kernel --ramdisk --second --recovery-dtbo --dtb --signature --bootconfig --kernel-addr --ramdisk-addr --tags-addr --second-addr --dtb-addr --base --kernel-offset --ramdisk-offset --second-offset --tags-offset --dtb-offset --os --os-number --name --cmdline --board-id --fragment --escaped --sync -v --verbose -q --quiet -h --help' ;;
-            unpack) words=' --words --sync -v --verbose -q --quiet -h --help' ;;
+            pack) words=' --vendor --version --page --kernel --ramdisk --second --recovery-dtbo --dtb --signature --bootconfig --kernel-addr --ramdisk-addr --tags-addr --second-addr --dtb-addr --base --kernel-offset --ramdisk-offset --second-offset --tags-offset --dtb-offset --os --os-number --name --cmdline --board-id --fragment --escaped --sync --mounted -v --verbose -q --quiet -h --help' ;;
+            repack) words=' --page --keep-trailing --kernel --ramdisk --second --recovery-dtbo --dtb --signature --bootconfig --kernel-addr --ramdisk-addr --tags-addr --second-addr --dtb-addr --base --kernel-offset --ramdisk-offset --second-offset --tags-offset --dtb-offset --os --os-number --name --cmdline --board-id --fragment --escaped --sync --mounted -v --verbose -q --quiet -h --help' ;;
+            unpack) words=' --words --sync --mounted -v --verbose -q --quiet -h --help' ;;
             info) words=' --check --hex -v --verbose -q --quiet -h --help' ;;
             completions) words=' -v --verbose -q --quiet -h --help' ;;
         esac
@@ -27,9 +54,10 @@ pub(crate) const BASH: &str = r#"_abootimg() {
     elif [ "${COMP_WORDS[at]}" = help ]; then
         words='expand list sparse cut flash verify pack repack unpack info completions'
     else
-        COMPREPLY=($(compgen -f -- "$word"))
+        _abootimg_files "$word"
         return
     fi
+    compopt +o filenames 2>/dev/null
     COMPREPLY=($(compgen -W "$words" -- "$word"))
 }
 complete -o filenames -F _abootimg abootimg
@@ -42,21 +70,28 @@ _abootimg() {
     while (( at < CURRENT )) && [[ $words[at] == -* ]]; do
         (( at += 1 ))
     done
+    if compset -P @; then
+        _files
+        return
+    fi
     if (( at == CURRENT )); then
         compadd -- expand list sparse cut flash verify pack repack unpack info completions help -v --verbose -q --quiet -h --help -V --version
         return
     fi
-    if [[ $words[CURRENT] == -* ]]; then
+    if [[ $words[CURRENT] == --*=* ]]; then
+        compset -P 1 '*='
+        _files
+    elif [[ $words[CURRENT] == -* ]]; then
         case $words[at] in
-            expand) compadd -- --sync -v --verbose -q --quiet -h --help ;;
+            expand) compadd -- --sync --mounted -v --verbose -q --quiet -h --help ;;
             list) compadd -- -v --verbose -q --quiet -h --help ;;
-            sparse) compadd -- --block --sync -v --verbose -q --quiet -h --help ;;
-            cut) compadd -- --raw --sync -v --verbose -q --quiet -h --help ;;
-            flash) compadd -- --raw --from -v --verbose -q --quiet -h --help ;;
+            sparse) compadd -- --block --sync --mounted -v --verbose -q --quiet -h --help ;;
+            cut) compadd -- --raw --sync --mounted -v --verbose -q --quiet -h --help ;;
+            flash) compadd -- --raw --from --mounted -v --verbose -q --quiet -h --help ;;
             verify) compadd -- --raw -v --verbose -q --quiet -h --help ;;
-            pack) compadd -- --vendor --version --page --kernel --ramdisk --second --recovery-dtbo --dtb --signature --bootconfig --kernel-addr --ramdisk-addr --tags-addr --second-addr --dtb-addr --base --kernel-offset --ramdisk-offset --second-offset --tags-offset --dtb-offset --os --os-number --name --cmdline --board-id --fragment --escaped --sync -v --verbose -q --quiet -h --help ;;
-            repack) compadd -- --page --keep-trailing --kernel --ramdisk --second --recovery-dtbo --dtb --signature --bootconfig --kernel-addr --ramdisk-addr --tags-addr --second-addr --dtb-addr --base --kernel-offset --ramdisk-offset --second-offset --tags-offset --dtb-offset --os --os-number --name --cmdline --board-id --fragment --escaped --sync -v --verbose -q --quiet -h --help ;;
-            unpack) compadd -- --words --sync -v --verbose -q --quiet -h --help ;;
+            pack) compadd -- --vendor --version --page --kernel --ramdisk --second --recovery-dtbo --dtb --signature --bootconfig --kernel-addr --ramdisk-addr --tags-addr --second-addr --dtb-addr --base --kernel-offset --ramdisk-offset --second-offset --tags-offset --dtb-offset --os --os-number --name --cmdline --board-id --fragment --escaped --sync --mounted -v --verbose -q --quiet -h --help ;;
+            repack) compadd -- --page --keep-trailing --kernel --ramdisk --second --recovery-dtbo --dtb --signature --bootconfig --kernel-addr --ramdisk-addr --tags-addr --second-addr --dtb-addr --base --kernel-offset --ramdisk-offset --second-offset --tags-offset --dtb-offset --os --os-number --name --cmdline --board-id --fragment --escaped --sync --mounted -v --verbose -q --quiet -h --help ;;
+            unpack) compadd -- --words --sync --mounted -v --verbose -q --quiet -h --help ;;
             info) compadd -- --check --hex -v --verbose -q --quiet -h --help ;;
             completions) compadd -- -v --verbose -q --quiet -h --help ;;
         esac
@@ -80,6 +115,7 @@ pub(crate) const FISH: &str = r#"complete -c abootimg -n __fish_use_subcommand -
 complete -c abootimg -n __fish_use_subcommand -l quiet -s q -d 'Does not show on a terminal how far the work is'
 complete -c abootimg -n __fish_use_subcommand -f -a expand -d 'Writes the raw image that a sparse image stands for, or several together'
 complete -c abootimg -n '__fish_seen_subcommand_from expand' -l sync -d 'Syncs what it wrote, so that it stands after a loss of power'
+complete -c abootimg -n '__fish_seen_subcommand_from expand' -l mounted -d 'Writes a block device though it is mounted, or in use as swap'
 complete -c abootimg -n '__fish_seen_subcommand_from expand' -l verbose -s v -d 'Tells of a refusal in a second line which file it is about, and why'
 complete -c abootimg -n '__fish_seen_subcommand_from expand' -l quiet -s q -d 'Does not show on a terminal how far the work is'
 complete -c abootimg -n __fish_use_subcommand -f -a list -d 'Prints the header and every chunk of a sparse image'
@@ -88,16 +124,19 @@ complete -c abootimg -n '__fish_seen_subcommand_from list' -l quiet -s q -d 'Doe
 complete -c abootimg -n __fish_use_subcommand -f -a sparse -d 'Writes a raw image as a sparse image'
 complete -c abootimg -n '__fish_seen_subcommand_from sparse' -l block -r -d 'Bytes of a block: a multiple of 4, at most 65536'
 complete -c abootimg -n '__fish_seen_subcommand_from sparse' -l sync -d 'Syncs what it wrote, so that it stands after a loss of power'
+complete -c abootimg -n '__fish_seen_subcommand_from sparse' -l mounted -d 'Writes a block device though it is mounted, or in use as swap'
 complete -c abootimg -n '__fish_seen_subcommand_from sparse' -l verbose -s v -d 'Tells of a refusal in a second line which file it is about, and why'
 complete -c abootimg -n '__fish_seen_subcommand_from sparse' -l quiet -s q -d 'Does not show on a terminal how far the work is'
 complete -c abootimg -n __fish_use_subcommand -f -a cut -d 'Cuts an image into pieces, sparse images that a device takes one by one'
 complete -c abootimg -n '__fish_seen_subcommand_from cut' -l raw -r -d 'IN is a raw image in blocks of N bytes: a multiple of 4, at most 65536'
 complete -c abootimg -n '__fish_seen_subcommand_from cut' -l sync -d 'Syncs what it wrote, so that it stands after a loss of power'
+complete -c abootimg -n '__fish_seen_subcommand_from cut' -l mounted -d 'Writes a block device though it is mounted, or in use as swap'
 complete -c abootimg -n '__fish_seen_subcommand_from cut' -l verbose -s v -d 'Tells of a refusal in a second line which file it is about, and why'
 complete -c abootimg -n '__fish_seen_subcommand_from cut' -l quiet -s q -d 'Does not show on a terminal how far the work is'
 complete -c abootimg -n __fish_use_subcommand -f -a flash -d 'Flashes an image to a partition, whole or in pieces for a download limit'
 complete -c abootimg -n '__fish_seen_subcommand_from flash' -l raw -r -d 'IN is a raw image in blocks of N bytes: a multiple of 4, at most 65536'
 complete -c abootimg -n '__fish_seen_subcommand_from flash' -l from -r -d 'Begins with piece J, counted from 1, and only plans those before it'
+complete -c abootimg -n '__fish_seen_subcommand_from flash' -l mounted -d 'Writes a block device though it is mounted, or in use as swap'
 complete -c abootimg -n '__fish_seen_subcommand_from flash' -l verbose -s v -d 'Tells of a refusal in a second line which file it is about, and why'
 complete -c abootimg -n '__fish_seen_subcommand_from flash' -l quiet -s q -d 'Does not show on a terminal how far the work is'
 complete -c abootimg -n __fish_use_subcommand -f -a verify -d 'Compares an image with what stands on a partition, and writes nothing'
@@ -134,6 +173,7 @@ complete -c abootimg -n '__fish_seen_subcommand_from pack' -l board-id -r -d 'Nu
 complete -c abootimg -n '__fish_seen_subcommand_from pack' -l fragment -r -d 'A ramdisk, before those behind OUT (vendor 4)'
 complete -c abootimg -n '__fish_seen_subcommand_from pack' -l escaped -d 'In paths, texts and NAME \\x and two hexadecimal digits stand for a byte'
 complete -c abootimg -n '__fish_seen_subcommand_from pack' -l sync -d 'Syncs what it wrote, so that it stands after a loss of power'
+complete -c abootimg -n '__fish_seen_subcommand_from pack' -l mounted -d 'Writes a block device though it is mounted, or in use as swap'
 complete -c abootimg -n '__fish_seen_subcommand_from pack' -l verbose -s v -d 'Tells of a refusal in a second line which file it is about, and why'
 complete -c abootimg -n '__fish_seen_subcommand_from pack' -l quiet -s q -d 'Does not show on a terminal how far the work is'
 complete -c abootimg -n __fish_use_subcommand -f -a repack -d 'Writes an image again, with the given parts and fields in place of its own'
@@ -165,11 +205,13 @@ complete -c abootimg -n '__fish_seen_subcommand_from repack' -l board-id -r -d '
 complete -c abootimg -n '__fish_seen_subcommand_from repack' -l fragment -r -d 'A ramdisk, before those behind OUT (vendor 4)'
 complete -c abootimg -n '__fish_seen_subcommand_from repack' -l escaped -d 'In paths, texts and NAME \\x and two hexadecimal digits stand for a byte'
 complete -c abootimg -n '__fish_seen_subcommand_from repack' -l sync -d 'Syncs what it wrote, so that it stands after a loss of power'
+complete -c abootimg -n '__fish_seen_subcommand_from repack' -l mounted -d 'Writes a block device though it is mounted, or in use as swap'
 complete -c abootimg -n '__fish_seen_subcommand_from repack' -l verbose -s v -d 'Tells of a refusal in a second line which file it is about, and why'
 complete -c abootimg -n '__fish_seen_subcommand_from repack' -l quiet -s q -d 'Does not show on a terminal how far the work is'
 complete -c abootimg -n __fish_use_subcommand -f -a unpack -d 'Writes the sections of a boot image or vendor boot image to files'
 complete -c abootimg -n '__fish_seen_subcommand_from unpack' -l words -d 'Also writes DIR/pack.words, with which pack @DIR/pack.words OUT makes the image again'
 complete -c abootimg -n '__fish_seen_subcommand_from unpack' -l sync -d 'Syncs what it wrote, so that it stands after a loss of power'
+complete -c abootimg -n '__fish_seen_subcommand_from unpack' -l mounted -d 'Writes a block device though it is mounted, or in use as swap'
 complete -c abootimg -n '__fish_seen_subcommand_from unpack' -l verbose -s v -d 'Tells of a refusal in a second line which file it is about, and why'
 complete -c abootimg -n '__fish_seen_subcommand_from unpack' -l quiet -s q -d 'Does not show on a terminal how far the work is'
 complete -c abootimg -n __fish_use_subcommand -f -a info -d 'Prints what the header of a boot image or vendor boot image says'
@@ -181,6 +223,7 @@ complete -c abootimg -n __fish_use_subcommand -f -a completions -d 'Prints what 
 complete -c abootimg -n '__fish_seen_subcommand_from completions' -l verbose -s v -d 'Tells of a refusal in a second line which file it is about, and why'
 complete -c abootimg -n '__fish_seen_subcommand_from completions' -l quiet -s q -d 'Does not show on a terminal how far the work is'
 complete -c abootimg -n __fish_use_subcommand -f -a help -d 'Prints the help of a command'
+complete -c abootimg -n 'string match -q -- \'@*\' (commandline -ct)' -a '(complete -C "\'\' "(string sub -s 2 -- (commandline -ct)) | string replace -r -- \'^\' @)'
 complete -c abootimg -n '__fish_seen_subcommand_from completions' -f -a 'bash zsh fish'
 complete -c abootimg -n '__fish_seen_subcommand_from help' -f -a 'expand list sparse cut flash verify pack repack unpack info completions'
 "#;

@@ -15,6 +15,8 @@ pub struct Order<'a> {
     pub is_quiet: bool,
     /// Whether each output is to be synced before the command is done.
     pub is_synced: bool,
+    /// Whether a block device may be written though it is mounted, or in use as swap.
+    pub is_mounted_allowed: bool,
 }
 
 /// What is to be done.

@@ -38,6 +38,7 @@ pub fn order_of<'a, S: AsStr>(alloc: Global, words: &'a [S]) -> Result<Order<'a>
                 is_verbose: answers.is_verbose,
                 is_quiet: is_quiet || answers.flag("quiet"),
                 is_synced: answers.flag("sync"),
+                is_mounted_allowed: answers.flag("mounted"),
             });
         }
     }

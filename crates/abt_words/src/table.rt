@@ -96,11 +96,14 @@ const QUIET: Row = Row { name: "quiet", place: Place::ShortFlag('q'), help: "Doe
 #[rattlefmt::skip]
 const SYNC: Row = Row { name: "sync", help: "Syncs what it wrote, so that it stands after a loss of power", ..FLAG };
 
+#[rattlefmt::skip]
+const MOUNTED: Row = Row { name: "mounted", help: "Writes a block device though it is mounted, or in use as swap", ..FLAG };
+
 // What stands before the command as well, and what most commands have behind their own rows.
 static TELLING: [Row; 2] = [VERBOSE, QUIET];
 
 // The same of those that write files.
-static WRITING: [Row; 3] = [SYNC, VERBOSE, QUIET];
+static WRITING: [Row; 4] = [SYNC, MOUNTED, VERBOSE, QUIET];
 
 // The options that an image is filled by, in the order in which one that isn't carried is named, and files are opened.
 #[rattlefmt::skip]
@@ -131,13 +134,14 @@ static OPTIONS: [Row; 22] = [
 
 // What pack and repack have behind these.
 #[rattlefmt::skip]
-static PACKING: [Row; 8] = [
+static PACKING: [Row; 9] = [
     Row { name: "board-id", place: Place::Options, value_name: "I:K=N", help: "Number K, from 0 to 15, of the board id of fragment I, counted from 0, is N (vendor 4)", ..TEXT },
     Row { name: "fragment", place: Place::Options, value_name: "FRAGMENT", help: "A ramdisk, before those behind OUT (vendor 4)", ..TEXT },
     Row { name: "escaped", help: "In paths, texts and NAME \\x and two hexadecimal digits stand for a byte", ..FLAG },
     Row { name: "OUT", help: "The image, which is created or emptied", ..PATH },
     Row { name: "FRAGMENT", place: Place::LastWords, value: Value::Text, is_required: false, help: "A ramdisk of a vendor 4 image: TYPE:NAME:FILE, TYPE one of none, platform, recovery, dlkm, or a number", ..PATH },
     SYNC,
+    MOUNTED,
     VERBOSE,
     QUIET,
 ];
@@ -183,13 +187,14 @@ static CUT: [Row; 4] = [
 ];
 
 #[rattlefmt::skip]
-static FLASH: [Row; 6] = [
+static FLASH: [Row; 7] = [
     Row { name: "IN", help: SPARSE_IN, ..PATH },
     Row { name: "PARTITION", help: "The partition, a file or a block device, which must be there", ..PATH },
     Row { name: "LIMIT", value: Value::Number, is_required: false, needs: Some("SPOOL"), help: LIMIT, ..PATH },
     Row { name: "SPOOL", is_required: false, help: "The file that each piece is written to and flashed from, which is created or emptied", ..PATH },
     Row { name: "raw", help: RAW, ..NUMBER },
     Row { name: "from", value: Value::Count(1), value_name: "J", needs: Some("SPOOL"), help: "Begins with piece J, counted from 1, and only plans those before it", ..NUMBER },
+    MOUNTED,
 ];
 
 #[rattlefmt::skip]

@@ -7,7 +7,7 @@ ghost use Rattle.boot_rules.specs.declared.fault.BootCommandFault.TheVariants.{H
 
 use abt_headers::HeaderFault;
 use abt_io::Output;
-use abt_refusals::{HostFault, Place, Refusal, Side, Told};
+use abt_refusals::{HostFault, Magic, Place, Refusal, Side, Told};
 use abt_sections::SectionFault;
 use abt_text::{ShownPath, Text};
 
@@ -121,6 +121,13 @@ impl Told for BootCommandFault<'_> {
                 "write I:K=N, with a fragment I of vendor 4, counted from 0, K from 0 to 15, and N in 32 bits"
             }
             BootCommandFault::CheckFailed => "the lines behind the check say why",
+        }
+    }
+
+    fn missing_magic(&self) -> Option<Magic> {
+        match self.number() {
+            Some(20) => Some(Magic::Boot),
+            _ => None,
         }
     }
 

@@ -7,6 +7,8 @@ use abt_io::{DeviceFault, Source};
 use std::alloc::Global;
 use std::fs;
 use std::fs::{File, OpenOptions};
+use std::os::unix::fs::FileExt;
+use std::time::{Duration, UNIX_EPOCH};
 
 // Lengths on both sides of what is read at once, and one that is long.
 const SIZES: [usize; 8] = [0, 1, 255, 257, 4095, 4097, 65_536, 200_001];
@@ -15,6 +17,9 @@ const SIZES: [usize; 8] = [0, 1, 255, 257, 4095, 4097, 65_536, 200_001];
 const ASKS: [usize; 16] = [
     0, 1, 4, 12, 12, 12, 16, 28, 100, 255, 256, 257, 1000, 4095, 4096, 4097,
 ];
+
+// How far a piece is from the next: less than is read of each, as much, and more.
+const PIECES: [u64; 5] = [1, 512, 4096, 4097, 70_000];
 
 // How many bytes an ask has at most.
 const MOST: usize = 4097;
@@ -83,6 +88,46 @@ fn a_source_that_is_read_ahead_gives_what_a_file_gives(rt: HostRuntime) {
     }
 }
 
+/// A raw image is read in pieces that end before the end of what was read for them: where each begins is one row. In the
+/// file that is written meanwhile, what was read before stands as it was.
+#[test]
+fn what_was_read_of_a_raw_image_is_kept_for_the_next_piece(rt: HostRuntime) {
+    for piece in PIECES.iter() {
+        let image = bytes(rt.alloc(), 300_000);
+        fs::write(&rt, "kept.tmp", image.as_slice()).expect(&rt, "is written");
+        let read = File::open(&rt, "kept.tmp").expect(&rt, "opens");
+        let source = FileSource::new(read).expect(&rt, "has a length");
+        let mut source = ahead(rt.alloc(), source).expect(&rt, "there is memory");
+        let mut have = [0; MOST];
+        let mut at = 0;
+        for _ in 0..40u32 {
+            source.forget();
+            let n = answered(&mut source, at, MOST, &mut have).unwrap_or(0);
+            assert!(rt;
+                part(&have, 0, n) == part(image.as_slice(), at, n),
+                "piece {piece}"
+            );
+            let end = at.saturating_add(MOST as u64);
+            assert!(rt; n == MOST || end > 300_000, "piece {piece}");
+            at = at.saturating_add(*piece);
+        }
+    }
+    let image = bytes(rt.alloc(), 300_000);
+    fs::write(&rt, "kept.tmp", image.as_slice()).expect(&rt, "is written");
+    let read = File::open(&rt, "kept.tmp").expect(&rt, "opens");
+    let source = FileSource::new(read).expect(&rt, "has a length");
+    let mut source = ahead(rt.alloc(), source).expect(&rt, "there is memory");
+    let mut have = [0; MOST];
+    assert!(rt; answered(&mut source, 0, MOST, &mut have) == Ok(MOST));
+    fs::write(&rt, "kept.tmp", "").expect(&rt, "is written");
+    source.forget();
+    assert!(rt; answered(&mut source, 1000, MOST, &mut have) == Ok(MOST));
+    assert!(rt; part(&have, 0, MOST) == part(image.as_slice(), 1000, MOST));
+    assert!(rt; source.shorter() == Some(0));
+    source.rest();
+    assert!(rt; answered(&mut source, 1000, MOST, &mut have) == Ok(0));
+}
+
 #[test]
 fn a_source_without_a_file_gives_nothing(rt: HostRuntime) {
     let mut out = [0; MOST];
@@ -109,7 +154,8 @@ fn a_read_that_fails_is_told(rt: HostRuntime) {
     assert!(rt; answered(&mut source, 0, 300, &mut out) == Err(DeviceFault::Failed));
 }
 
-/// A file that got shorter is told where what is missing was given from memory since the piece began, and not else.
+/// A file that got shorter is told where what is missing was given from memory since the piece began, and not else. One of
+/// another length than when it was opened has changed.
 #[test]
 fn a_file_that_got_shorter_is_told(rt: HostRuntime) {
     let mut out = [0; MOST];
@@ -128,6 +174,10 @@ fn a_file_that_got_shorter_is_told(rt: HostRuntime) {
     assert!(rt; source.shorter() == None);
     assert!(rt; answered(&mut source, 100, 12, &mut out) == Ok(12));
     assert!(rt; answered(&mut source, 112, 12, &mut out) == Ok(12));
+    assert!(rt; !source.file().is_changed());
+    assert!(rt; file.set_len(9001).is_ok());
+    assert!(rt; source.shorter() == None);
+    assert!(rt; source.file().is_changed());
     assert!(rt; file.set_len(124).is_ok());
     assert!(rt; source.shorter() == None);
     assert!(rt; file.set_len(123).is_ok());
@@ -137,6 +187,32 @@ fn a_file_that_got_shorter_is_told(rt: HostRuntime) {
     assert!(rt; source.shorter() == None);
     assert!(rt; answered(&mut source, 112, 12, &mut out) == Ok(11));
     assert!(rt; source.shorter() == None);
+    assert!(rt; source.file().is_changed());
+}
+
+/// A file that is as long as before is told where it was written since.
+#[test]
+fn a_file_that_was_written_is_told(rt: HostRuntime) {
+    fs::write(&rt, "written.tmp", "before").expect(&rt, "is written");
+    let past = UNIX_EPOCH.checked_add(Duration::from_secs(1_000_000_000));
+    let past = past.expect(&rt, "is a time");
+    let mut options = OpenOptions::new();
+    let file = options
+        .write(true)
+        .open(&rt, "written.tmp")
+        .expect(&rt, "opens");
+    assert!(rt; file.set_modified(past).is_ok());
+    let read = File::open(&rt, "written.tmp").expect(&rt, "opens");
+    let source = ahead(
+        rt.alloc(),
+        FileSource::new(read).expect(&rt, "has a length"),
+    );
+    let source = source.expect(&rt, "there is memory");
+    assert!(rt; !source.file().is_changed());
+    assert!(rt; file.write_at(b"behind", 0).is_ok());
+    assert!(rt; source.file().is_changed());
+    assert!(rt; file.set_modified(past).is_ok());
+    assert!(rt; !source.file().is_changed());
 }
 
 /// What rests holds nothing any more, and is shorter than nothing that it gave before.

@@ -2,8 +2,8 @@
 
 use crate::made::{Random, bytes, part};
 use abt_buffers::{AheadSource, GatheringSpool};
-use abt_files::{FileSource, FileSpool};
-use abt_io::{DeviceFault, Input, Output, Overwrite, Source, Spool, WINDOW};
+use abt_files::{FilePartition, FileSource, FileSpool};
+use abt_io::{DeviceFault, Input, Output, Overwrite, Partition, Source, Spool, WINDOW};
 use std::alloc::{Alloc, Global};
 use std::fs;
 use std::fs::{File, OpenOptions};
@@ -12,6 +12,9 @@ use std::rt::Files;
 
 // Capacities on both sides of what is held at most, one that takes several windows, and small ones.
 const CAPACITIES: [usize; 6] = [1, 100, 5000, 65_535, 65_537, 300_001];
+
+// Why a file is not written that was opened to be read.
+const NOT_OPEN: i32 = 9;
 
 // How many bytes a call moves.
 const COUNTS: [usize; 16] = [
@@ -213,7 +216,9 @@ fn a_gathered_write_that_fails_is_told_later(rt: HostRuntime) {
     let file = File::open(&rt, "unwritten.tmp").expect(&rt, "opens");
     let mut spool = GatheringSpool::new(rt.alloc(), file, 65_536, None);
     assert!(rt; called(&mut spool, 0, b"ab", &mut []) == Ok(2));
+    assert!(rt; spool.why() == None);
     assert!(rt; called(&mut spool, 6, b"", &mut out) == Err(DeviceFault::Failed));
+    assert!(rt; spool.why() == Some(NOT_OPEN));
     assert!(rt; spool.settle() == Err(DeviceFault::Failed));
     assert!(rt; called(&mut spool, 0, b"ab", &mut []) == Err(DeviceFault::Failed));
     assert!(rt; laid_over(&mut spool, 1, b"b") == Err(DeviceFault::Failed));
@@ -221,6 +226,18 @@ fn a_gathered_write_that_fails_is_told_later(rt: HostRuntime) {
     assert!(rt; spool.settle() == Err(DeviceFault::Failed));
     assert!(rt; !spool.is_from_short());
     assert!(rt; spool.capacity() == 65_536);
+}
+
+/// A partition that can't be written knows why.
+#[test]
+fn a_partition_knows_why_it_failed(rt: HostRuntime) {
+    fs::write(&rt, "unwritten.tmp", "....").expect(&rt, "is written");
+    let file = File::open(&rt, "unwritten.tmp").expect(&rt, "opens");
+    let mut part = FilePartition::new(file).expect(&rt, "has a length");
+    assert!(rt; part.length() == 4);
+    assert!(rt; part.why() == None);
+    assert!(rt; part.write_at(1, b"ab") == Err(DeviceFault::Failed));
+    assert!(rt; part.why() == Some(NOT_OPEN));
 }
 
 /// A spool gives nothing back where the file is shorter that its bytes came from.

@@ -6,9 +6,9 @@ use abt_output::Report;
 use abt_refusals::{HostFault, Place};
 use abt_sparse::SparseFault;
 use memory_disk::{Countdown, Faults, MemoryDisk};
-use sparse_bodies::expand_one;
+use sparse_bodies::{expand_one, expand_several};
 use sparse_rules::SparseCommandFault;
-use test_data::vectors::THREE_KINDS;
+use test_data::vectors::{FIRST_OF_THREE, SECOND_OF_THREE, THREE_KINDS};
 
 const RAW: &[u8] = b"ABCD\x04\x03\x02\x01\0\0\0\0";
 
@@ -145,5 +145,65 @@ fn each_read_and_each_write_fails_in_turn(rt: HostRuntime) {
             _ => false,
         };
         assert!(rt; is_told, "write {n}");
+    }
+}
+
+// The paths of two images, the first of which gives its second block alone and the other its first alone; and the number
+// of the image that is told to be of another cut.
+const TWO_PATHS: [(&'static str, &'static str, Option<u32>); 6] = [
+    ("out.1", "out.2", Some(2)),
+    ("out.2", "out.1", None),
+    ("out.1", "out.02", None),
+    ("out.1", "oat.2", None),
+    ("out.1", "out", None),
+    ("out.9", "out.10", Some(2)),
+];
+
+// What both are laid over one another.
+const LAID: &[u8] = b"ABCD\x04\x03\x02\x01\0\0\0\0";
+
+/// Lays both over one another: the image that is told to be of another cut, and the disk. None, where there is no memory
+/// for it, or it is refused for something else.
+fn laid(
+    rt: HostRuntime,
+    first: &'static str,
+    second: &'static str,
+) -> Option<(Option<u32>, MemoryDisk)> {
+    let paths: [Listed; 3] = [(first, 0), (second, 1), ("raw", 2)];
+    let files: [&[u8]; 3] = [&SECOND_OF_THREE, &FIRST_OF_THREE, b"kept"];
+    let mut disk = disk(rt.alloc(), &paths, &files, true, Faults::none())?;
+    let mut report = Report::new(rt);
+    let output = Place::new("OUT", "raw");
+    let mut w = Window::new();
+    let mut m = Meter::new();
+    let answer = expand_several(
+        &mut disk,
+        &mut report,
+        &[first, second],
+        output,
+        rt.alloc(),
+        &mut w,
+        &mut m,
+    );
+    match answer {
+        Ok(()) => Some((None, disk)),
+        Err(refusal) => match refusal.fault {
+            SparseCommandFault::OtherCut { image } => Some((Some(image), disk)),
+            _ => None,
+        },
+    }
+}
+
+#[test]
+fn a_piece_of_another_cut_is_told(rt: HostRuntime) {
+    for (first, second, told) in TWO_PATHS.iter() {
+        let (image, disk) = laid(rt, first, second).expect(&rt, "there is memory");
+        assert!(rt; image == *told, "{first} {second}");
+        let left = if told.is_some() {
+            b"kept" as &[u8]
+        } else {
+            LAID
+        };
+        assert!(rt; holds(&disk, "raw", left), "{first} {second}");
     }
 }

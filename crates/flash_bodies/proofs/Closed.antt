@@ -83,7 +83,7 @@ IsCause None = ⊥
 IsCause (Some c) = Unit {0}
 
 -- there is a cause only where it could not be
-pub late_failed : (r : Result Bool DeviceFault) (late : Option Cause) (c : Cause)
+pub late_failed : {E : Type 0} (r : Result Bool E) (late : Option Cause) (c : Cause)
     → IfOk r (λ is_short. is_short ≡ false → late ≡ None) → IfOk r (λ is_short. is_short ≡ false) → late ≡ Some c
     → unless (is_ok r) ≡ 1
 late_failed (Ok b) late c none long is = absurd (subst IsCause (sym is ∙ none long) tt)

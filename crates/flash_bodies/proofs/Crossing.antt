@@ -1,10 +1,10 @@
 -- What opening an input, a partition and a file for pieces, and closing them, leave together.
-use Rattle.std.proofs.Common.{◌≡◌, ◌≢◌, ℕ, ◌+◌, ◌<◌, arith, List, [], ◌∷◌, ◌++◌, Bool, true, false, length, Option}
+use Rattle.std.proofs.Common.{◌≡◌, ◌≢◌, ℕ, ◌+◌, ◌<◌, ◌≤◌, arith, List, [], ◌∷◌, ◌++◌, Bool, true, false, length, Option}
 use Rattle.std.proofs.Common.{Some, refl, sym, ◌∙◌, ap, subst}
 use Rattle.std.specs.Prelude.{Result, Ok, Err, Contains, if◌then◌else◌, unwrap_or}
 use Rattle.std.proofs.lemmas.List.Elements.{Contains-append_left, Contains-push}
 use Rattle.abt_io.specs.Moment.{Past}
-use Rattle.abt_disk.specs.InPlace.{OpensPart, IsAsLong, closed_part, in_place, is_settled}
+use Rattle.abt_disk.specs.InPlace.{ClosesPart, OpensPart, IsAsLong, in_place, is_settled}
 use Rattle.abt_disk.specs.Spools.{OpensSpool, closed_spool, through}
 use Rattle.abt_disk.specs.World.{World, Held, Spares, OpensFile, OnlyAt, untouched, in_output, Ends, SparesRest}
 use Rattle.abt_disk.specs.World.{KeepsFile, failing, reading}
@@ -20,6 +20,7 @@ pub record Crossed (input path spool x p p' : List ℕ) (old new : World) (h h3 
   pub others : SparesBoth path spool old new
   pub kept : KeepsFile input old new
   pub began : h3.failed ≡ h.failed
+  pub grew : h3.failed ≤ h4.failed
   pub failed : h'.failed ≡ h4.failed + faults
   pub synced : is_settled past ≡ true → h'.syncs ≡ h.syncs + 1
 
@@ -61,19 +62,24 @@ as_long_across input path spool x p p' a a' a'' a3 a4 a5 h h' h'' h3 h4 h5 n r s
     (long ∙ ap length opened.held ∙ ap length (sym (one.files opened.file
     (apart_third h' h'' opened.file s.file opened.taken s.fresh))))
 
-failed_then : (h4 h5 h6 : Held) (n k : ℕ) (past : Past) → h5 ≡ failing n h4 → h6 ≡ closed_part past k h5
-    → h6.failed ≡ h4.failed + (n + k)
-failed_then h4 h5 h6 n k past l c =
+failed_then : (h4 h5 h6 : Held) (n k : ℕ) (past : Past) (w d : Bool) → h5 ≡ failing n h4
+    → (c : ClosesPart w d past k h5 h6) → h6.failed ≡ h4.failed + (n + k + c.more)
+failed_then h4 h5 h6 n k past w d l c =
     let one : h5.failed ≡ h4.failed + n = ap (λ (q : Held). q.failed) l in
-    let two : h6.failed ≡ h5.failed + k = ap (λ (q : Held). q.failed) c in
+    let two : h6.failed ≡ h5.failed + k + c.more = ap (λ (q : Held). q.failed) c.closed in
     omega (arith, one, two)
 
+grown : (h3 h4 : Held) → ClosesSpool h3 h4 → h3.failed ≤ h4.failed
+grown h3 h4 c = let one : h4.failed ≡ h3.failed + c.failures = ap (λ (q : Held). q.failed) c.closed in omega
+    (arith, one)
+
 pub crossed : (input path spool x p p' : List ℕ) (a a' a'' a3 a4 a5 c : World) (h h' h'' h3 h4 h5 h6 : Held) (n k : ℕ)
-    (past : Past) → OpensFile a input x h h' → a' ≡ a → OpensPart a' path p h' h'' → a'' ≡ a'
+    (past : Past) (w d : Bool) → OpensFile a input x h h' → a' ≡ a → OpensPart a' path p h' h'' → a'' ≡ a'
     → OpensSpool spool h'' h3 a'' a3 → ClosesSpool h3 h4 → SparesRest h3.spool a3 a4 → h5 ≡ failing n h4 → a5 ≡ a4
-    → Ends h5.part p' a5 c → c.at ≡ a5.at → h6 ≡ closed_part past k h5
-    → Crossed input path spool x p p' a c h h3 h4 h6 (n + k) past
-crossed input path spool x p p' a a' a'' a3 a4 a5 c h h' h'' h3 h4 h5 h6 n k past r same o same' s cs rest l last ends
+    → Ends h5.part p' a5 c → c.at ≡ a5.at → (q : ClosesPart w d past k h5 h6)
+    → Crossed input path spool x p p' a c h h3 h4 h6 (n + k + q.more) past
+crossed input path spool x p p' a a' a'' a3 a4 a5 c h h' h'' h3 h4 h5 h6 n k past w d r same o same' s cs rest l last
+    ends
     paths closed =
     let opened : OpensPart a path p h' h'' = subst (λ (w : World). OpensPart w path p h' h'') same o in
     let one : Spares s.file a a5 = spared spool a a' a'' a3 a4 a5 h'' h3 same same' s rest last in
@@ -111,8 +117,9 @@ crossed input path spool x p p' a a' a'' a3 a4 a5 c h h' h'' h3 h4 h5 h6 n k pas
           after.1.files f (λ e. two (is ∙ e)) ∙ one.files f (λ e. three (is ∙ e));
       began = ap (λ (q : Held). q.failed) s.begins ∙ ap (λ (q : Held). q.failed) opened.taken
           ∙ ap (λ (q : Held). q.failed) r.taken;
-      failed = failed_then h4 h5 h6 n k past l closed;
-      synced = λ settled. ap (λ (q : Held). q.syncs) closed
+      grew = grown h3 h4 cs;
+      failed = failed_then h4 h5 h6 n k past w d l closed;
+      synced = λ settled. ap (λ (q : Held). q.syncs) closed.closed
           ∙ ap (λ (t : Bool). h5.syncs + (if t then 1 else 0)) settled
           ∙ ap (λ (q : Held). q.syncs + 1) l ∙ ap (λ (q : Held). q.syncs + 1) cs.closed
           ∙ ap (λ (q : Held). q.syncs + 1) s.begins ∙ ap (λ (q : Held). q.syncs + 1) opened.taken

@@ -1,6 +1,7 @@
 -- What a delivery that was counted says of the command.
-use Rattle.std.proofs.Common.{◌≡◌, ◌<◌, ◌+◌, ℕ, List, [], ◌∷◌, ◌++◌, Option, sym, ◌∙◌, ap, subst, arith, inr}
-use Rattle.std.specs.Prelude.{Result, Ok, Err, IfOk, OnOk, true}
+use Rattle.std.proofs.Common.{◌≡◌, ◌<◌, ◌+◌, ℕ, List, [], ◌∷◌, ◌++◌, ◌≤◌, Option, refl, sym, ◌∙◌, ap, subst, arith}
+use Rattle.std.proofs.Common.{inl, inr}
+use Rattle.std.specs.Prelude.{Result, Ok, Err, IfOk, IfErr, IsOk, OnOk, true}
 use Rattle.std.proofs.lemmas.Bool.{lt-ltb}
 use Rattle.abt_io.specs.Moment.{Past, no_past}
 use Rattle.abt_disk.specs.InPlace.{is_settled, is_settled_in}
@@ -87,6 +88,7 @@ refuses_uncuttable (faults.Flash f) raw limit before input path spool x a c h h'
 refuses_uncuttable (faults.Sparse f) raw limit before input path spool x a c h h' same file is = absurd is.2
 refuses_uncuttable (faults.Verify f) raw limit before input path spool x a c h h' same file is = absurd is.2
 refuses_uncuttable (faults.OtherBlocks i) raw limit before input path spool x a c h h' same file is = absurd is.2
+refuses_uncuttable (faults.OtherCut i) raw limit before input path spool x a c h h' same file is = absurd is.2
 refuses_uncuttable (faults.Host f) raw limit before input path spool x a c h h' same file is = absurd is.2
 
 -- ---- what has failed
@@ -94,33 +96,56 @@ refuses_uncuttable (faults.Host f) raw limit before input path spool x a c h h' 
 pub none_of : (r p w : ℕ) → r ≡ 0 → p ≡ 0 → w ≡ 0 → r + p + w ≡ 0
 none_of r p w one two three = omega (arith, one, two, three)
 
-has_failed_across : (h h3 h4 h' : Held) (n : ℕ) → h3.failed ≡ h.failed → h'.failed ≡ h4.failed + n
+has_failed_across : (h h3 h4 h' : Held) (n m : ℕ) → h3.failed ≡ h.failed → h'.failed ≡ h4.failed + (n + m)
     → h3.failed < h4.failed + n → HasFailed h h'
-has_failed_across h h3 h4 h' n began ended more = omega (arith, began, ended, more)
+has_failed_across h h3 h4 h' n m began ended more = omega (arith, began, ended, more)
 
-none_failed_across : (h h3 h4 h' : Held) (n : ℕ) → h3.failed ≡ h.failed → h'.failed ≡ h4.failed + n
-    → h4.failed + n ≡ h3.failed → HasNotFailed h h'
-none_failed_across h h3 h4 h' n began ended same = omega (arith, began, ended, same)
+unclosed_across : (h h3 h4 h' : Held) (n m : ℕ) → h3.failed ≡ h.failed → h3.failed ≤ h4.failed
+    → h'.failed ≡ h4.failed + (n + m) → 0 < m → HasFailed h h'
+unclosed_across h h3 h4 h' n m began grew ended more = omega (arith, began, grew, ended, more)
 
-pub clean_across : (r : Result Delivered FlashFault) (n none s t : ℕ) (input path spool x p p' : List ℕ) (a c : World)
-    (h h3 h4 h' : Held) (past : Past) → Crossed input path spool x p p' a c h h3 h4 h' (s + t) past
+none_failed_across : (h h3 h4 h' : Held) (n m : ℕ) → h3.failed ≡ h.failed → h'.failed ≡ h4.failed + (n + m)
+    → h4.failed + n ≡ h3.failed → m ≡ 0 → HasNotFailed h h'
+none_failed_across h h3 h4 h' n m began ended same clean = omega (arith, began, ended, same, clean)
+
+pub clean_across : (r : Result Delivered FlashFault) (n none s t m : ℕ) (input path spool x p p' : List ℕ) (a c : World)
+    (h h3 h4 h' : Held) (past : Past) → Crossed input path spool x p p' a c h h3 h4 h' (s + t + m) past
     → count_delivered r ≡ Ok n
-    → none ≡ 0 → OnOk r (none ≡ 0 → h4.failed + (s + t) ≡ h3.failed) → HasNotFailed h h'
-clean_across r n none s t input path spool x p p' a c h h3 h4 h' past all is clean same =
-    none_failed_across h h3 h4 h' (s + t) all.began all.failed
-    (when_done r n (none ≡ 0 → h4.failed + (s + t) ≡ h3.failed) is same clean)
+    → none ≡ 0 → OnOk r (none ≡ 0 → h4.failed + (s + t) ≡ h3.failed) → m ≡ 0 → HasNotFailed h h'
+clean_across r n none s t m input path spool x p p' a c h h3 h4 h' past all is clean same closed =
+    none_failed_across h h3 h4 h' (s + t) m all.began all.failed
+    (when_done r n (none ≡ 0 → h4.failed + (s + t) ≡ h3.failed) is same clean) closed
 
-pub refuses_across : (r : Result Delivered FlashFault) (f : SparseCommandFault) (none s t : ℕ) (raw : Option ℕ)
+-- the fault of the call is told; or it had none, and closing failed
+refuses_ended : (q : Result ℕ SparseCommandFault) (r : Result Delivered FlashFault) (e : SparseCommandFault)
+    (G : Type 0)
+    (raw : Option ℕ) (limit before : ℕ) (input path spool x p p' : List ℕ) (a c : World) (h h' : Held)
+    → q ≡ count_delivered r → IfErr q (λ f. e ≡ f) → (IsOk q → (host : HostFault) × (e ≡ faults.Host host))
+    → (IsOk q → HasFailed h h') → (G → HasFailed h h')
+    → ((P : List ℕ → List ℕ → List ℕ → Type 0) → P x p p' → Across input path spool a c P)
+    → DeliversPieces G raw r limit before x p p' → RefusesPieces e raw limit before input path spool a c h h'
+refuses_ended (Ok n) r e G raw limit before input path spool x p p' a c h h' is told host unclosed go across delivers =
+    subst (λ (z : SparseCommandFault). RefusesPieces z raw limit before input path spool a c h h') (sym (host refl).1)
+    (inl (unclosed refl))
+refuses_ended (Err f) r e G raw limit before input path spool x p p' a c h h' is told host unclosed go across delivers =
+    subst (λ (z : SparseCommandFault). RefusesPieces z raw limit before input path spool a c h h') (sym told)
+    (refuses_pieces r f G raw limit before input path spool x p p' a c h h' (sym is) go across delivers)
+
+pub refuses_across : (q : Result ℕ SparseCommandFault) (r : Result Delivered FlashFault) (e : SparseCommandFault)
+    (none s t m : ℕ) (raw : Option ℕ)
     (limit before before' : ℕ) (input path spool x p p' : List ℕ) (a c : World) (h h3 h4 h' : Held) (past : Past)
-    → Crossed input path spool x p p' a c h h3 h4 h' (s + t) past → count_delivered r ≡ Err f → none ≡ 0
+    → Crossed input path spool x p p' a c h h3 h4 h' (s + t + m) past → q ≡ count_delivered r → IfErr q (λ f. e ≡ f)
+    → (IsOk q → (host : HostFault) × (e ≡ faults.Host host)) → (IsOk q → 0 < m) → none ≡ 0
     → before' ≡ before → DeliversPieces (none ≡ 0 → h3.failed < h4.failed + (s + t)) raw r limit before' x p p'
-    → RefusesPieces f raw limit before input path spool a c h h'
-refuses_across r f none s t raw limit before before' input path spool x p p' a c h h3 h4 h' past all is clean same
-    delivers =
+    → RefusesPieces e raw limit before input path spool a c h h'
+refuses_across q r e none s t m raw limit before before' input path spool x p p' a c h h3 h4 h' past all is told host
+    unclosed clean same delivers =
     let go : (none ≡ 0 → h3.failed < h4.failed + (s + t)) → HasFailed h h' =
-    λ more. has_failed_across h h3 h4 h' (s + t) all.began all.failed (more clean) in
-    refuses_pieces r f (none ≡ 0 → h3.failed < h4.failed + (s + t)) raw limit before input path spool x p p' a c h h'
-    is go
+    λ more. has_failed_across h h3 h4 h' (s + t) m all.began all.failed (more clean) in
+    let late : IsOk q → HasFailed h h' =
+    λ ok. unclosed_across h h3 h4 h' (s + t) m all.began all.grew all.failed (unclosed ok) in
+    refuses_ended q r e (none ≡ 0 → h3.failed < h4.failed + (s + t)) raw limit before input path spool x p p' a c h h'
+    is told host late go
     all.across (subst (λ (k : ℕ). DeliversPieces (none ≡ 0 → h3.failed < h4.failed + (s + t)) raw r limit k x p p') same
     delivers)
 

@@ -1,6 +1,6 @@
 -- A fault that a call answered is one that the command may be refused for.
-use Rattle.std.proofs.Common.{◌≡◌, ◌<◌, ◌⊎◌, inl, inr, ℕ, List, sym, subst}
-use Rattle.std.specs.Prelude.{Result, Ok, Err, OnOk, IfErr, IsErrAnd}
+use Rattle.std.proofs.Common.{◌≡◌, ◌<◌, ◌⊎◌, inl, inr, ℕ, List, refl, sym, subst}
+use Rattle.std.specs.Prelude.{Result, Ok, Err, OnOk, IfErr, IsErrAnd, IsOk}
 use Rattle.abt_refusals.specs.declared.refusal.HostFault.{HostFault}
 use Rattle.abt_disk.specs.World.{World, Held, HasFailed}
 use Rattle.flash_faults.specs.declared.fault.FlashFault.{FlashFault}
@@ -14,14 +14,16 @@ use Rattle.abt_sparse.specs.declared.fault.SparseFault.TheVariants as of_sparse
 use Rattle.flash_bodies.specs.Files.{Between, OfBoth, OfFile}
 use Rattle.flash_bodies.specs.Listing.{IsUnlisted, RefusesList}
 use Rattle.flash_bodies.specs.Flashing.{FlashesUntold, IsFlashed, IsUnflashed, Lays, RefusesFlash}
-use Rattle.flash_bodies.specs.FlashingRaw.{FlashesRawUntold, IsFlashedRaw, IsUnflashedRaw, IsUnlaid, IsUnopened, LaysRaw, RefusesFlashRaw}
+use Rattle.flash_bodies.specs.FlashingRaw.{FlashesRawUntold, IsFlashedRaw, IsUnflashedRaw, IsUnlaid, IsUnopened}
+use Rattle.flash_bodies.specs.FlashingRaw.{LaysRaw, RefusesFlashRaw}
 use Rattle.flash_bodies.specs.Verifying.{Finds, FindsRaw, IsNotThere, IsNotThereRaw, RefusesVerify, RefusesVerifyRaw}
 use Rattle.sparse_rules.specs.declared.fault.SparseCommandFault.{SparseCommandFault}
 use Rattle.sparse_rules.specs.declared.fault.SparseCommandFault.TheVariants as faults
 
 -- ---- of a device: where that its count rose says that something has failed
 
-unflashed_for : (f : FlashFault) (F G : Type 0) (x p p' : List ℕ) → (F → G) → IsUnflashed F f x p p' → IsUnflashed G f x p p'
+unflashed_for : (f : FlashFault) (F G : Type 0) (x p p' : List ℕ) → (F → G) → IsUnflashed F f x p p' → IsUnflashed G f
+    x p p'
 unflashed_for (flashes.Sparse f) F G x p p' go is = is
 unflashed_for (flashes.PartitionTooSmall n) F G x p p' go is = is
 unflashed_for (flashes.Read d) F G x p p' go is = go is
@@ -34,7 +36,8 @@ unflashed_for (flashes.LimitTooSmall n) F G x p p' go is = absurd is
 unflashed_for (flashes.Stopped n c) F G x p p' go is = absurd is
 unflashed_for (flashes.NoSuchPiece n) F G x p p' go is = absurd is
 
-unlaid_for : (f : FlashFault) (F G : Type 0) (b : ℕ) (x p p' : List ℕ) → (F → G) → IsUnlaid F f b x p p' → IsUnlaid G f b x p p'
+unlaid_for : (f : FlashFault) (F G : Type 0) (b : ℕ) (x p p' : List ℕ) → (F → G) → IsUnlaid F f b x p p' → IsUnlaid G
+    f b x p p'
 unlaid_for (flashes.Sparse f) F G b x p p' go is = absurd is
 unlaid_for (flashes.PartitionTooSmall n) F G b x p p' go is = is
 unlaid_for (flashes.Read d) F G b x p p' go is = absurd is
@@ -76,14 +79,22 @@ flash_own (faults.Run f) F input path x p p' a c h h' go with_files lays = absur
 flash_own (faults.Piece f) F input path x p p' a c h h' go with_files lays = absurd lays
 flash_own (faults.Verify f) F input path x p p' a c h h' go with_files lays = absurd lays
 flash_own (faults.OtherBlocks image) F input path x p p' a c h h' go with_files lays = absurd lays
+flash_own (faults.OtherCut image) F input path x p p' a c h h' go with_files lays = absurd lays
 flash_own (faults.Host f) F input path x p p' a c h h' go with_files lays = absurd lays
 
-pub refuses_flash : (answer : Result ℕ SparseCommandFault) (f : SparseCommandFault) (F : Type 0) (input path x p p' : List ℕ)
-    (a c : World) (h h' : Held) → answer ≡ Err f → (F → HasFailed h h')
+-- the fault of the call is told; or it had none, and closing failed
+pub refuses_flash : (answer : Result ℕ SparseCommandFault) (e : SparseCommandFault) (F : Type 0)
+    (input path x p p' : List ℕ)
+    (a c : World) (h h' : Held) → IfErr answer (λ f. e ≡ f) →
+    (IsOk answer → (host : HostFault) × (e ≡ faults.Host host))
+    → (IsOk answer → HasFailed h h') → (F → HasFailed h h')
     → ((P : List ℕ → List ℕ → List ℕ → Type 0) → P x p p' → Between input path a c P)
-    → Lays F answer x p p' → RefusesFlash f input path a c h h'
-refuses_flash answer f F input path x p p' a c h h' is go with_files lays =
-    flash_own f F input path x p p' a c h h' go with_files (subst (λ r. Lays F r x p p') is lays)
+    → Lays F answer x p p' → RefusesFlash e input path a c h h'
+refuses_flash (Ok n) e F input path x p p' a c h h' told host unclosed go with_files lays =
+    subst (λ (z : SparseCommandFault). RefusesFlash z input path a c h h') (sym (host refl).1) (inl (unclosed refl))
+refuses_flash (Err f) e F input path x p p' a c h h' told host unclosed go with_files lays =
+    subst (λ (z : SparseCommandFault). RefusesFlash z input path a c h h') (sym told)
+    (flash_own f F input path x p p' a c h h' go with_files lays)
 
 raw_own : (f : SparseCommandFault) (F : Type 0) (b : ℕ) (input path x p p' : List ℕ) (a c : World) (h h' : Held)
     → (F → HasFailed h h') → ((P : List ℕ → List ℕ → List ℕ → Type 0) → P x p p' → Between input path a c P)
@@ -96,16 +107,23 @@ raw_own (faults.Sparse f) F b input path x p p' a c h h' go with_files lays = ab
 raw_own (faults.Piece f) F b input path x p p' a c h h' go with_files lays = absurd lays
 raw_own (faults.Verify f) F b input path x p p' a c h h' go with_files lays = absurd lays
 raw_own (faults.OtherBlocks image) F b input path x p p' a c h h' go with_files lays = absurd lays
+raw_own (faults.OtherCut image) F b input path x p p' a c h h' go with_files lays = absurd lays
 raw_own (faults.Host f) F b input path x p p' a c h h' go with_files lays = absurd lays
 
-pub refuses_raw : (answer : Result ℕ SparseCommandFault) (f : SparseCommandFault) (F : Type 0) (b : ℕ)
-    (input path x p p' : List ℕ) (a c : World) (h h' : Held) → answer ≡ Err f → (F → HasFailed h h')
-    → ((P : List ℕ → List ℕ → List ℕ → Type 0) → P x p p' → Between input path a c P)
-    → LaysRaw F answer b x p p' → RefusesFlashRaw f b input path a c h h'
-refuses_raw answer f F b input path x p p' a c h h' is go with_files lays =
-    raw_own f F b input path x p p' a c h h' go with_files (subst (λ r. LaysRaw F r b x p p') is lays)
+pub refuses_raw : (answer : Result ℕ SparseCommandFault) (e : SparseCommandFault) (F : Type 0) (b : ℕ)
+    (input path x p p' : List ℕ) (a c : World) (h h' : Held) → IfErr answer (λ f. e ≡ f)
+    → (IsOk answer → (host : HostFault) × (e ≡ faults.Host host)) → (IsOk answer → HasFailed h h')
+    → (F → HasFailed h h') → ((P : List ℕ → List ℕ → List ℕ → Type 0) → P x p p' → Between input path a c P)
+    → LaysRaw F answer b x p p' → RefusesFlashRaw e b input path a c h h'
+refuses_raw (Ok n) e F b input path x p p' a c h h' told host unclosed go with_files lays =
+    subst (λ (z : SparseCommandFault). RefusesFlashRaw z b input path a c h h') (sym (host refl).1)
+    (inl (unclosed refl))
+refuses_raw (Err f) e F b input path x p p' a c h h' told host unclosed go with_files lays =
+    subst (λ (z : SparseCommandFault). RefusesFlashRaw z b input path a c h h') (sym told)
+    (raw_own f F b input path x p p' a c h h' go with_files lays)
 
-pub refuses_verify_raw : (f : SparseCommandFault) (F : Type 0) (b : ℕ) (input path x p : List ℕ) (a : World) (h h' : Held)
+pub refuses_verify_raw : (f : SparseCommandFault) (F : Type 0) (b : ℕ) (input path x p : List ℕ) (a : World)
+    (h h' : Held)
     → (F → HasFailed h h') → ((P : List ℕ → List ℕ → Type 0) → P x p → OfBoth input path a P)
     → FindsRaw F (Err f) b x p → RefusesVerifyRaw f b input path a h h'
 refuses_verify_raw (faults.Verify f) F b input path x p a h h' go with_files finds =
@@ -115,9 +133,11 @@ refuses_verify_raw (faults.Sparse f) F b input path x p a h h' go with_files fin
 refuses_verify_raw (faults.Run f) F b input path x p a h h' go with_files finds = absurd finds
 refuses_verify_raw (faults.Piece f) F b input path x p a h h' go with_files finds = absurd finds
 refuses_verify_raw (faults.OtherBlocks image) F b input path x p a h h' go with_files finds = absurd finds
+refuses_verify_raw (faults.OtherCut image) F b input path x p a h h' go with_files finds = absurd finds
 refuses_verify_raw (faults.Host f) F b input path x p a h h' go with_files finds = absurd finds
 
-pub verify_raw_refusal : (e f : SparseCommandFault) (F : Type 0) (b : ℕ) (input path x p : List ℕ) (a : World) (h h' : Held)
+pub verify_raw_refusal : (e f : SparseCommandFault) (F : Type 0) (b : ℕ) (input path x p : List ℕ) (a : World)
+    (h h' : Held)
     → e ≡ f → (F → HasFailed h h') → ((P : List ℕ → List ℕ → Type 0) → P x p → OfBoth input path a P)
     → FindsRaw F (Err f) b x p → RefusesVerifyRaw e b input path a h h'
 verify_raw_refusal e f F b input path x p a h h' is go with_files finds =
@@ -129,7 +149,8 @@ unlisted_for (of_sparse.Read d) F G W x go is = go is
 unlisted_for (of_sparse.Write d) F G W x go is = is
 unlisted_for f F G W x go is = is
 
-pub list_refusal : (e : SparseCommandFault) (f : SparseFault) (F W : Type 0) (input x : List ℕ) (a : World) (h h' : Held)
+pub list_refusal : (e : SparseCommandFault) (f : SparseFault) (F W : Type 0) (input x : List ℕ) (a : World)
+    (h h' : Held)
     → e ≡ faults.Sparse f → (F → HasFailed h h') → ((P : List ℕ → Type 0) → P x → OfFile input a P) → IsUnlisted F W f x
     → RefusesList e input a h h' W
 list_refusal e f F W input x a h h' is go with_file listed =

@@ -1,9 +1,11 @@
 -- What opening, flashing and closing leave together.
-use Rattle.std.proofs.Common.{◌≡◌, ◌≢◌, ℕ, ◌+◌, ◌<◌, arith, List, [], ◌∷◌, ◌++◌, Bool, true, false, length, Option, Some, refl, sym, ◌∙◌, ap, subst}
+use Rattle.std.proofs.Common.{◌≡◌, ◌≢◌, ℕ, ◌+◌, ◌<◌, arith, List, [], ◌∷◌, ◌++◌, Bool, true, false, length, Option}
+use Rattle.std.proofs.Common.{Some, refl, sym, ◌∙◌, ap, subst}
 use Rattle.std.specs.Prelude.{Result, Ok, Err, if◌then◌else◌}
 use Rattle.abt_io.specs.Moment.{Past, no_past}
-use Rattle.abt_disk.specs.InPlace.{OpensPart, IsAsLong, SparesOthers, closed_part, in_place, is_settled, is_settled_in}
-use Rattle.abt_disk.specs.World.{World, Held, HasFailed, HasNotFailed, Spares, OpensFile, Ends, KeepsFile, failing, reading}
+use Rattle.abt_disk.specs.InPlace.{ClosesPart, OpensPart, IsAsLong, SparesOthers, in_place, is_settled, is_settled_in}
+use Rattle.abt_disk.specs.World.{World, Held, HasFailed, HasNotFailed, Spares, OpensFile, Ends, KeepsFile, failing}
+use Rattle.abt_disk.specs.World.{reading}
 use Rattle.abt_disk.proofs.Closings.{ends_in, apart_from, others_spared, keeps_read}
 use Rattle.flash_bodies.specs.Files.{Between, OfBoth, OfFile}
 
@@ -81,54 +83,64 @@ pub record Ran (input path x p p' : List ℕ) (old new : World) (h h' : Held) (f
   pub failed : h'.failed ≡ h.failed + faults
   pub synced : is_settled past ≡ true → h'.syncs ≡ h.syncs + 1
 
-synced_more : (h h' h'' h3 h4 : Held) (f g n k : ℕ) (past : Past) → h' ≡ reading f h → h'' ≡ in_place g h' → h3 ≡ failing n h''
-    → h4 ≡ closed_part past k h3 → is_settled past ≡ true → h4.syncs ≡ h.syncs + 1
-synced_more h h' h'' h3 h4 f g n k past r o l c settled =
-    ap (λ (q : Held). q.syncs) c ∙ ap (λ (t : Bool). h3.syncs + (if t then 1 else 0)) settled
+synced_more : (h h' h'' h3 h4 : Held) (f g n k : ℕ) (past : Past) (w d : Bool) → h' ≡ reading f h → h'' ≡ in_place g h'
+    → h3 ≡ failing n h'' → ClosesPart w d past k h3 h4 → is_settled past ≡ true → h4.syncs ≡ h.syncs + 1
+synced_more h h' h'' h3 h4 f g n k past w d r o l c settled =
+    ap (λ (q : Held). q.syncs) c.closed ∙ ap (λ (t : Bool). h3.syncs + (if t then 1 else 0)) settled
     ∙ ap (λ (q : Held). q.syncs + 1) l ∙ ap (λ (q : Held). q.syncs + 1) o ∙ ap (λ (q : Held). q.syncs + 1) r
 
-failed_more : (h h' h'' h3 h4 : Held) (f g n k : ℕ) (past : Past) → h' ≡ reading f h → h'' ≡ in_place g h' → h3 ≡ failing n h''
-    → h4 ≡ closed_part past k h3 → h4.failed ≡ h.failed + (n + k)
-failed_more h h' h'' h3 h4 f g n k past r o l c =
+failed_more : (h h' h'' h3 h4 : Held) (f g n k : ℕ) (past : Past) (w d : Bool) → h' ≡ reading f h → h'' ≡ in_place g h'
+    → h3 ≡ failing n h'' → (c : ClosesPart w d past k h3 h4) → h4.failed ≡ h.failed + (n + k + c.more)
+failed_more h h' h'' h3 h4 f g n k past w d r o l c =
     let one : h'.failed ≡ h.failed = ap (λ (q : Held). q.failed) r in
     let two : h''.failed ≡ h'.failed = ap (λ (q : Held). q.failed) o in
     let three : h3.failed ≡ h''.failed + n = ap (λ (q : Held). q.failed) l in
-    let four : h4.failed ≡ h3.failed + k = ap (λ (q : Held). q.failed) c in
+    let four : h4.failed ≡ h3.failed + k + c.more = ap (λ (q : Held). q.failed) c.closed in
     omega (arith, one, two, three, four)
 
 pub ran : (input path x p p' : List ℕ) (a a' a'' b c : World) (h0 h h' h3 h4 : Held) (n k : ℕ) (past : Past)
+    (w d : Bool)
     → OpensFile a input x h0 h → a' ≡ a → OpensPart a' path p h h' → a'' ≡ a' → h3 ≡ failing n h' → b ≡ a''
-    → Ends h3.part p' b c → c.at ≡ b.at → h4 ≡ closed_part past k h3 → Ran input path x p p' a c h0 h4 (n + k) past
-ran input path x p p' a a' a'' b c h0 h h' h3 h4 n k past r same o same' l same'' ends paths closed =
+    → Ends h3.part p' b c → c.at ≡ b.at → (q : ClosesPart w d past k h3 h4)
+    → Ran input path x p p' a c h0 h4 (n + k + q.more) past
+ran input path x p p' a a' a'' b c h0 h h' h3 h4 n k past w d r same o same' l same'' ends paths closed =
     let ended : Ends h'.part p' b c = subst (λ (q : Option ℕ). Ends q p' b c) (ap (λ (q : Held). q.part) l) ends in
     record {
       with_files = λ P so. between input path x p p' a a' b c h0 h h' P r same o (same'' ∙ same') ended so;
       others = others_written path p p' a a' b c h h' same o (same'' ∙ same') ended paths;
       kept = input_kept input path x p p' a a' b c h0 h h' r same o (same'' ∙ same') ended;
-      failed = failed_more h0 h h' h3 h4 r.file o.file n k past r.taken o.taken l closed;
-      synced = λ settled. synced_more h0 h h' h3 h4 r.file o.file n k past r.taken o.taken l closed settled;
+      failed = failed_more h0 h h' h3 h4 r.file o.file n k past w d r.taken o.taken l closed;
+      synced = λ settled. synced_more h0 h h' h3 h4 r.file o.file n k past w d r.taken o.taken l closed settled;
     }
 
 -- so many faults more are one, where a count rose from none; and none, where it did not
-pub ran_failed : (input path x p p' : List ℕ) (old new : World) (h h' : Held) (r t r' t' : ℕ) (past : Past)
-    → Ran input path x p p' old new h h' (r' + t') past → r ≡ 0 → t ≡ 0 → r + t < r' + t' → HasFailed h h'
-ran_failed input path x p p' old new h h' r t r' t' past all none none' rose =
-    let more : h'.failed ≡ h.failed + (r' + t') = all.failed in omega (arith, more, none, none', rose)
+pub ran_failed : (input path x p p' : List ℕ) (old new : World) (h h' : Held) (r t r' t' m : ℕ) (past : Past)
+    → Ran input path x p p' old new h h' (r' + t' + m) past → r ≡ 0 → t ≡ 0 → r + t < r' + t' → HasFailed h h'
+ran_failed input path x p p' old new h h' r t r' t' m past all none none' rose =
+    let more : h'.failed ≡ h.failed + (r' + t' + m) = all.failed in omega (arith, more, none, none', rose)
 
-pub ran_clean : (input path x p p' : List ℕ) (old new : World) (h h' : Held) (r t r' t' : ℕ) (past : Past)
-    → Ran input path x p p' old new h h' (r' + t') past → r ≡ 0 → t ≡ 0 → r' + t' ≡ r + t → HasNotFailed h h'
-ran_clean input path x p p' old new h h' r t r' t' past all none none' same =
-    let more : h'.failed ≡ h.failed + (r' + t') = all.failed in omega (arith, more, none, none', same)
+pub ran_clean : (input path x p p' : List ℕ) (old new : World) (h h' : Held) (r t r' t' m : ℕ) (past : Past)
+    → Ran input path x p p' old new h h' (r' + t' + m) past → r ≡ 0 → t ≡ 0 → r' + t' ≡ r + t → m ≡ 0
+    → HasNotFailed h h'
+ran_clean input path x p p' old new h h' r t r' t' m past all none none' same clean =
+    let more : h'.failed ≡ h.failed + (r' + t' + m) = all.failed in omega (arith, more, none, none', same, clean)
 
--- two files were opened to be read, and let go
-pub failed_two : (h h' h'' h3 h4 : Held) (f g n k : ℕ) → h' ≡ reading f h → h'' ≡ reading g h' → h3 ≡ failing n h''
-    → h4 ≡ failing k h3 → h4.failed ≡ h.failed + (n + k)
-failed_two h h' h'' h3 h4 f g n k r o l c =
+-- closing it was refused
+pub ran_unclosed : (input path x p p' : List ℕ) (old new : World) (h h' : Held) (n m : ℕ) (past : Past)
+    → Ran input path x p p' old new h h' (n + m) past → 0 < m → HasFailed h h'
+ran_unclosed input path x p p' old new h h' n m past all rose =
+    let more : h'.failed ≡ h.failed + (n + m) = all.failed in omega (arith, more, rose)
+
+-- two files were opened to be read, looked at again, and let go
+pub failed_two : (h h' h'' hu h3 h4 : Held) (f g u n k : ℕ) → h' ≡ reading f h → h'' ≡ reading g h' → hu ≡ failing u h''
+    → h3 ≡ failing n hu → h4 ≡ failing k h3 → h4.failed ≡ h.failed + (u + (n + k))
+failed_two h h' h'' hu h3 h4 f g u n k r o s l c =
     let one : h'.failed ≡ h.failed = ap (λ (q : Held). q.failed) r in
     let two : h''.failed ≡ h'.failed = ap (λ (q : Held). q.failed) o in
-    let three : h3.failed ≡ h''.failed + n = ap (λ (q : Held). q.failed) l in
+    let looked : hu.failed ≡ h''.failed + u = ap (λ (q : Held). q.failed) s in
+    let three : h3.failed ≡ hu.failed + n = ap (λ (q : Held). q.failed) l in
     let four : h4.failed ≡ h3.failed + k = ap (λ (q : Held). q.failed) c in
-    omega (arith, one, two, three, four)
+    omega (arith, one, two, looked, three, four)
 
 -- one was
 pub failed_one : (h h' h'' : Held) (f n : ℕ) → h' ≡ reading f h → h'' ≡ failing n h' → h''.failed ≡ h.failed + n
@@ -141,8 +153,9 @@ pub rose_one : (h h' h'' : Held) (f n r : ℕ) → h' ≡ reading f h → h'' �
 rose_one h h' h'' f n r opened gone none rose =
     let more : h''.failed ≡ h.failed + n = failed_one h h' h'' f n opened gone in omega (arith, more, none, rose)
 
-pub rose_two : (h h' h'' h3 h4 : Held) (f g n k r t : ℕ) → h' ≡ reading f h → h'' ≡ reading g h' → h3 ≡ failing n h''
-    → h4 ≡ failing k h3 → r ≡ 0 → t ≡ 0 → r + t < n + k → HasFailed h h4
-rose_two h h' h'' h3 h4 f g n k r t opened opened' gone gone' none none' rose =
-    let more : h4.failed ≡ h.failed + (n + k) = failed_two h h' h'' h3 h4 f g n k opened opened' gone gone' in
+pub rose_two : (h h' h'' hu h3 h4 : Held) (f g u n k r t : ℕ) → h' ≡ reading f h → h'' ≡ reading g h'
+    → hu ≡ failing u h'' → h3 ≡ failing n hu → h4 ≡ failing k h3 → r ≡ 0 → t ≡ 0 → r + t < n + k → HasFailed h h4
+rose_two h h' h'' hu h3 h4 f g u n k r t opened opened' looked gone gone' none none' rose =
+    let more : h4.failed ≡ h.failed + (u + (n + k)) = failed_two h h' h'' hu h3 h4 f g u n k opened opened' looked
+    gone gone' in
     omega (arith, more, none, none', rose)

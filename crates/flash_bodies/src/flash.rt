@@ -51,8 +51,10 @@ pub fn flash_file<'a, D: Disk>(
     let Carried { device: from, .. } = carried;
     let why = from.why();
     disk.let_go(from);
-    let sides = Sides::none().reading(input, why).writing(partition, None);
-    let (blocks, is_on_output) = match closed(disk, answer, onto, sides) {
+    let sides = Sides::none()
+        .reading(input, why)
+        .writing(partition, disk.why_of_part(&onto));
+    let (blocks, is_on_output) = match closed(disk, answer, onto, partition, sides) {
         Ok(end) => end,
         Err(refusal) => return Err(refusal),
     };

@@ -51,8 +51,10 @@ pub fn flash_raw_file<'a, D: Disk>(
     let answer = flash_blocks(&mut carried, size, &mut onto, w, m);
     let Carried { device: source, .. } = carried;
     disk.let_go_source(source);
-    let sides = Sides::none().reading(input, None).writing(partition, None);
-    let (blocks, is_on_output) = match closed(disk, answer, onto, sides) {
+    let sides = Sides::none()
+        .reading(input, None)
+        .writing(partition, disk.why_of_part(&onto));
+    let (blocks, is_on_output) = match closed(disk, answer, onto, partition, sides) {
         Ok(end) => end,
         Err(refusal) => return Err(refusal),
     };

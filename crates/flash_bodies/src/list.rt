@@ -35,7 +35,8 @@ pub fn list_file<'a, D: Disk>(
         (report.old.out.faults.number < report.new.out.faults.number)) }
 {
     let mut from = disk.input(input)?;
-    let answer = listed(&mut from, &mut report.out, w, m);
+    let is_awaited = report.is_awaited();
+    let answer = listed(&mut from, &mut report.out, is_awaited, w, m);
     let why = from.why();
     disk.let_go(from);
     match answer {
@@ -49,10 +50,11 @@ pub fn list_file<'a, D: Disk>(
     }
 }
 
-// Prints the listing of an image.
+// Prints the listing of an image, each line at once where it is awaited.
 fn listed<I: Input, O: Output>(
     from: &mut I,
     out: &mut O,
+    is_awaited: bool,
     w: &mut Window,
     m: &mut Meter,
 ) -> Result<(), SparseFault>
@@ -63,5 +65,5 @@ fn listed<I: Input, O: Output>(
         (I.remaining from.old)) }
     ensures clean { OnOk result (I.read_faults from.new ≡ I.read_faults from.old) }
 {
-    report_list(from, out, w, m)
+    report_list(from, out, is_awaited, w, m)
 }

@@ -56,17 +56,19 @@ pub fn flash_pieces_file<'a, D: Disk>(
     }
     let through = disk.spool(spool, limit, raw.is_some(), &source)?;
     report.progress.expect(source.length(), 1);
+    report.progress.follow();
     let mut carried = Carried {
         device: source,
         progress: &mut report.progress,
     };
-    let answer = delivered_through(
+    let (answer, why) = delivered_through(
         disk,
         &mut carried,
         raw,
         limit,
         from,
         through,
+        spool,
         &mut onto,
         w,
         m,
@@ -75,9 +77,9 @@ pub fn flash_pieces_file<'a, D: Disk>(
     disk.let_go_source(source);
     let sides = Sides::none()
         .reading(input, None)
-        .writing(partition, None)
-        .through(spool);
-    let (count, is_on_output) = match closed(disk, counted(answer), onto, sides) {
+        .writing(partition, disk.why_of_part(&onto))
+        .through(spool, why);
+    let (count, is_on_output) = match closed(disk, counted(answer), onto, partition, sides) {
         Ok(end) => end,
         Err(refusal) => return Err(refusal),
     };

@@ -1,7 +1,8 @@
 //! The pieces of an image to a partition, through a file that is closed behind them.
 
-ghost use Rattle.std.specs.Prelude.{◌≡◌, ◌≤◌, ◌<◌, ◌+◌, ◌-◌, [], IfErr, IfOk, IsTrue, OnOk, Some, None, false};
+ghost use Rattle.std.specs.Prelude.{◌≡◌, ◌≤◌, ◌<◌, ◌+◌, ◌-◌, [], IfErr, IfOk, IsTrue, OnErr, OnOk, Some, None, false};
 ghost use Rattle.abt_disk.specs.World.{SparesRest};
+ghost use Rattle.abt_io.specs.declared.device.DeviceFault.{DeviceFault};
 ghost use Rattle.flash_faults.specs.declared.fault.Cause.{Cause};
 ghost use Rattle.flash_bodies.specs.InPieces.{DeliversPieces, SyncsPieces};
 ghost use Rattle.flash_bodies.specs.Through.{ClosesSpool, told};
@@ -11,20 +12,22 @@ use abt_disk::Disk;
 use abt_flash::Delivered;
 use abt_io::{DeviceFault, Meter, Window};
 use abt_output::Carried;
+use abt_refusals::{HostRefusal, Place};
 use flash_faults::{Cause, FlashFault};
 
 /// Flashes the pieces from this one on. All that they went through is in its file then.
-pub(crate) fn delivered_through<D: Disk>(
+pub(crate) fn delivered_through<'a, D: Disk>(
     disk: &mut D,
     source: &mut Carried<'_, D::At>,
     raw: Option<u32>,
     limit: u32,
     from: u32,
     through: D::Through,
+    spool: Place<'a>,
     onto: &mut D::Part,
     w: &mut Window,
     m: &mut Meter,
-) -> Result<Delivered, FlashFault>
+) -> (Result<Delivered, FlashFault>, Option<i32>)
     requires some { 1 ≤ from }
     requires capacity { limit ≤ D.Through.Spool.size through }
     // what the partition holds, or why not: a device's fault where one has failed of devices that had not yet
@@ -32,10 +35,10 @@ pub(crate) fn delivered_through<D: Disk>(
         (D.At.read_faults source.old.device + D.Part.put_faults onto.old + (D.Through.Output.write_faults through
         + (D.Through.Input.read_faults through + D.Through.Spool.clear_faults through)) ≡ 0
         → (D.held disk.old).failed < (D.held disk.new).failed + (D.At.read_faults source.new.device
-        + D.Part.put_faults onto.new)) raw result limit (from - 1) (D.At.content source.old.device)
+        + D.Part.put_faults onto.new)) raw result.0 limit (from - 1) (D.At.content source.old.device)
         (D.Part.content onto.old) (D.Part.content onto.new) }
-    ensures syncs { SyncsPieces result D.Part.Source D.Part.Partition.own onto.old onto.new }
-    ensures clean { IsTrue D.tells → OnOk result (D.At.read_faults source.old.device + D.Part.put_faults onto.old
+    ensures syncs { SyncsPieces result.0 D.Part.Source D.Part.Partition.own onto.old onto.new }
+    ensures clean { IsTrue D.tells → OnOk result.0 (D.At.read_faults source.old.device + D.Part.put_faults onto.old
         + (D.Through.Output.write_faults through + (D.Through.Input.read_faults through
         + D.Through.Spool.clear_faults through)) ≡ 0 → (D.held disk.new).failed + (D.At.read_faults source.new.device
         + D.Part.put_faults onto.new) ≡ (D.held disk.old).failed) }
@@ -45,20 +48,25 @@ pub(crate) fn delivered_through<D: Disk>(
 {
     let mut through = through;
     let answer = delivered(source, raw, limit, from, &mut through, onto, w, m);
-    let cause = late(disk.close_spool(through));
-    told_of(answer, from, cause)
+    let why = disk.why_of_spool(&through);
+    let (cause, why) = late(disk.close_spool(through, spool), why);
+    (told_of(answer, from, cause), why)
 }
 
-// Why what was delivered is not so: the spool was closed behind it, and refused to be read where IN was shorter.
-fn late(closed: Result<bool, DeviceFault>) -> Option<Cause>
-    ensures settled { IfErr closed (λ fault. result ≡ Some (Cause.SpoolWrite fault)) }
-    ensures shorter { IfOk closed (λ is_short. IsTrue is_short → result ≡ Some Cause.SourceChanged) }
-    ensures none { IfOk closed (λ is_short. is_short ≡ false → result ≡ None) }
+// Why what was delivered is not so: the spool was closed behind it, and refused to be read where IN had changed. And the
+// system's error, where a call of the spool had failed, or this one did.
+fn late<'a>(closed: Result<bool, HostRefusal<'a>>, why: Option<i32>) -> (Option<Cause>, Option<i32>)
+    ensures settled { OnErr closed.entry (result.0 ≡ Some (Cause.SpoolWrite DeviceFault.Failed)) }
+    ensures changed { IfOk closed.entry (λ is_changed. IsTrue is_changed → result.0 ≡ Some Cause.SourceChanged) }
+    ensures none { IfOk closed.entry (λ is_changed. is_changed ≡ false → result.0 ≡ None) }
 {
     match closed {
-        Err(fault) => Some(Cause::SpoolWrite(fault)),
-        Ok(true) => Some(Cause::SourceChanged),
-        Ok(false) => None,
+        Err(refusal) => (
+            Some(Cause::SpoolWrite(DeviceFault::Failed)),
+            why.or(refusal.about.why),
+        ),
+        Ok(true) => (Some(Cause::SourceChanged), why),
+        Ok(false) => (None, why),
     }
 }
 

@@ -1,16 +1,17 @@
 //! The command `verify`: whether an image stands on a partition.
 
-ghost use Rattle.std.specs.Prelude.{◌≡◌, ◌<◌, ◌+◌, [], IsTrue, OnOk, IfErr};
+ghost use Rattle.std.specs.Prelude.{◌≡◌, ◌<◌, ◌+◌, [], IsTrue, OnOk, IfErr, is_ok};
 ghost use Rattle.abt_refusals.specs.Paths.{path_in, path_of};
 ghost use Rattle.abt_output.specs.Shows.{Shows};
-ghost use Rattle.abt_disk.specs.DiskCalls.{LeavesAll};
+ghost use Rattle.abt_disk.specs.DiskCalls.{FailsOnly, LeavesAll};
+ghost use Rattle.abt_disk.specs.World.{unless};
 ghost use Rattle.flash_bodies.specs.Verifying.{Finds, FindsRaw, RefusesVerify, RefusesVerifyRaw, VerifiesFile};
 ghost use Rattle.flash_bodies.specs.Verifying.{VerifiesRawFile};
 
 use abt_disk::{Disk, Measured, Reasons};
 use abt_io::{Input, Meter, Source, Window};
 use abt_output::{Carried, Report};
-use abt_refusals::{Place, Sides};
+use abt_refusals::{HostRefusal, Place, Sides};
 use abt_verify::{verify, verify_raw};
 use sparse_rules::{Line, SparseCommandFault, SparseRefusal};
 
@@ -45,6 +46,7 @@ pub fn verify_file<'a, D: Disk>(
     let answer = compared(&mut carried, &mut against, w, m);
     let Carried { device: from, .. } = carried;
     let why = from.why();
+    let end = unchanged_behind(disk, &answer);
     disk.let_go(from);
     disk.let_go_source(against);
     let blocks = match answer {
@@ -54,6 +56,7 @@ pub fn verify_file<'a, D: Disk>(
             return Err(sides.refuse(fault));
         }
     };
+    end?;
     report.line(Line::Blocks(blocks))?;
     Ok(())
 }
@@ -89,6 +92,7 @@ pub fn verify_raw_file<'a, D: Disk>(
     };
     let answer = compared_raw(&mut carried, size, &mut against, w, m);
     let Carried { device: source, .. } = carried;
+    let end = unchanged_behind(disk, &answer);
     disk.let_go_source(source);
     disk.let_go_source(against);
     let blocks = match answer {
@@ -98,8 +102,23 @@ pub fn verify_raw_file<'a, D: Disk>(
             return Err(sides.refuse(fault));
         }
     };
+    end?;
     report.line(Line::Blocks(blocks))?;
     Ok(())
+}
+
+// Whether what was compared is as it was, where it was compared to its end.
+fn unchanged_behind<'a, D: Disk>(
+    disk: &mut D,
+    answer: &Result<u64, SparseCommandFault>,
+) -> Result<(), HostRefusal<'a>>
+    ensures { FailsOnly D.tells (unless (is_ok result)) (D.held disk.old) (D.held disk.new) (D.world disk.old)
+        (D.world disk.new) }
+{
+    match answer {
+        Ok(_) => disk.unchanged(),
+        Err(_) => Ok(()),
+    }
 }
 
 // How many blocks were compared. (What the engine promises of costs is left behind here, so that no exit above is proved

@@ -6,15 +6,22 @@ use crate::source::HostSource;
 use abt_buffers::GatheringSpool;
 use abt_disk::{Disk, ImageTo};
 use abt_files::FilePartition;
-use abt_host::{InputFile, Reading, Writing};
-use abt_io::DeviceFault;
+use abt_host::{InputFile, Reading, Writing, not_opened};
+use abt_io::Overwrite;
 use abt_output::{ImageFile, ImageOutput, OutputFile};
-use abt_refusals::{HostRefusal, Place};
+use abt_refusals::{HostFault, HostRefusal, Place};
+use host_files::is_standard_input;
+use std::alloc::AllocError;
+
+// How long the magic of an image is at most.
+const MAGIC: usize = 8;
 
 /// What a run does with files. It tells nothing of what they hold.
 #[derive(Drop)]
 pub struct Host {
     writing: Writing,
+    // What goes through a spool is looked at where each piece ends: what changes behind the last one does no harm.
+    is_looked_at: bool,
 }
 
 impl Host {
@@ -22,12 +29,34 @@ impl Host {
     pub fn new(reading: Reading) -> Host {
         Host {
             writing: reading.all_open(),
+            is_looked_at: false,
         }
     }
 
     /// Each output that is a file or a block device is going to be synced at its end.
     pub fn sync_outputs(&mut self) {
         self.writing.reading.sync_outputs();
+    }
+
+    /// Block devices may be written that are in use: mounted, or swap.
+    pub fn allow_mounted(&mut self) {
+        self.writing.reading.allow_mounted();
+    }
+
+    // Refuses where a file that is read has changed which is not looked at where each piece ends.
+    fn unchanged_at_end<'a>(&self) -> Result<(), HostRefusal<'a>> {
+        if self.is_looked_at {
+            return Ok(());
+        }
+        self.writing.reading.unchanged()
+    }
+
+    // Reads standard input at any place.
+    fn standard<'a>(&mut self, place: Place<'a>) -> Result<HostSource, HostRefusal<'a>> {
+        match self.writing.reading.standard_source(place) {
+            Ok(source) => Ok(HostSource::Standard(source)),
+            Err(refusal) => Err(refusal),
+        }
     }
 }
 
@@ -74,6 +103,9 @@ impl Disk for Host {
     }
 
     fn source<'a>(&mut self, place: Place<'a>) -> Result<HostSource, HostRefusal<'a>> {
+        if is_standard_input(&place) {
+            return self.standard(place);
+        }
         match self.writing.reading.source(place) {
             Ok(source) => Ok(HostSource::Plain(source)),
             Err(refusal) => Err(refusal),
@@ -81,6 +113,9 @@ impl Disk for Host {
     }
 
     fn ahead<'a>(&mut self, place: Place<'a>) -> Result<HostSource, HostRefusal<'a>> {
+        if is_standard_input(&place) {
+            return self.standard(place);
+        }
         let source = self.writing.reading.source(place)?;
         match HostSource::ahead(self.writing.alloc, source) {
             Ok(source) => Ok(source),
@@ -93,7 +128,17 @@ impl Disk for Host {
         at: &HostSource,
         place: Place<'a>,
     ) -> Result<HostSource, HostRefusal<'a>> {
-        match self.writing.reading.again(at.source(), place) {
+        let source = match at {
+            HostSource::Plain(source) => source,
+            HostSource::Ahead(source) => &source.file().source,
+            HostSource::Standard(source) => {
+                return match source.again() {
+                    Ok(source) => Ok(HostSource::Standard(source)),
+                    Err(error) => Err(not_opened(&error, place)),
+                };
+            }
+        };
+        match self.writing.reading.again(source, place) {
             Ok(source) => Ok(HostSource::Plain(source)),
             Err(refusal) => Err(refusal),
         }
@@ -103,16 +148,43 @@ impl Disk for Host {
         self.writing.reading.text(place)
     }
 
-    fn let_go(&mut self, _from: InputFile) {}
+    fn let_go(&mut self, from: InputFile) {
+        self.writing.reading.let_go(from.descriptor());
+    }
 
-    fn let_go_source(&mut self, _at: HostSource) {}
+    fn let_go_source(&mut self, at: HostSource) {
+        if let Some(descriptor) = at.descriptor() {
+            self.writing.reading.let_go(descriptor);
+        }
+    }
+
+    fn unchanged<'a>(&mut self) -> Result<(), HostRefusal<'a>> {
+        self.writing.reading.unchanged()
+    }
 
     fn partition<'a>(&mut self, place: Place<'a>) -> Result<FilePartition, HostRefusal<'a>> {
         self.writing.partition(place)
     }
 
-    fn close(&mut self, part: FilePartition) -> bool {
-        self.writing.written_in_place(part).is_data_on_output()
+    fn why_of_part(&self, part: &FilePartition) -> Option<i32> {
+        part.why()
+    }
+
+    fn why_of_spool(&self, through: &GatheringSpool) -> Option<i32> {
+        through.why()
+    }
+
+    fn close<'a>(
+        &mut self,
+        part: FilePartition,
+        place: Place<'a>,
+    ) -> Result<bool, HostRefusal<'a>> {
+        let looked = self.unchanged_at_end();
+        self.writing.close(part, place)?;
+        match looked {
+            Ok(()) => Ok(self.writing.is_data_on_output()),
+            Err(refusal) => Err(refusal),
+        }
     }
 
     fn zeros<'a>(
@@ -133,6 +205,7 @@ impl Disk for Host {
         let Ok(from) = from.shared() else {
             return Err(HostRefusal::memory());
         };
+        self.is_looked_at = from.is_some();
         let alloc = self.writing.alloc;
         if !keeping {
             let through = self.writing.spool(place, limit)?;
@@ -142,16 +215,27 @@ impl Disk for Host {
         Ok(GatheringSpool::keeping(alloc, through.file, through.capacity, from, stands))
     }
 
-    fn close_spool(&mut self, through: GatheringSpool) -> Result<bool, DeviceFault> {
+    fn close_spool<'a>(
+        &mut self,
+        through: GatheringSpool,
+        place: Place<'a>,
+    ) -> Result<bool, HostRefusal<'a>> {
         let mut through = through;
         match through.settle() {
-            Ok(()) => Ok(through.is_from_short()),
-            Err(fault) => Err(fault),
+            Ok(()) => {
+                let is_changed = self.unchanged_at_end().is_err();
+                Ok(through.is_from_short() || is_changed)
+            }
+            Err(_) => Err(HostRefusal::at(HostFault::Write, place, None)),
         }
     }
 
     fn is_there<'a>(&self, place: Place<'a>) -> Result<bool, HostRefusal<'a>> {
         self.writing.is_there(place)
+    }
+
+    fn left_over(&self, place: Place<'_>, behind: u32) -> Result<Option<u32>, AllocError> {
+        self.writing.left_over(place, behind)
     }
 
     fn refuse_taken<'a>(&mut self, place: Place<'a>) -> Result<(), HostRefusal<'a>> {
@@ -167,10 +251,13 @@ impl Disk for Host {
     }
 
     fn finish<'a>(&mut self, onto: OutputFile, place: Place<'a>) -> Result<bool, HostRefusal<'a>> {
-        match onto.finish(place) {
-            Ok(finished) => Ok(finished.is_data_on_output()),
-            Err(refusal) => Err(refusal),
+        if let Err(refusal) = self.writing.reading.unchanged() {
+            onto.give_up();
+            return Err(refusal.begun(place));
         }
+        let finished = onto.finish(place)?;
+        self.writing.end_output(place)?;
+        Ok(finished.is_data_on_output())
     }
 
     fn give_up(&mut self, onto: OutputFile) {
@@ -194,13 +281,29 @@ impl Disk for Host {
         image: ImageFile,
         place: Place<'a>,
     ) -> Result<bool, HostRefusal<'a>> {
-        match image.finish(place) {
-            Ok(finished) => Ok(finished.is_data_on_output()),
-            Err(refusal) => Err(refusal),
+        if let Err(refusal) = self.writing.reading.unchanged() {
+            blank_front(image);
+            return Err(refusal.begun(place));
         }
+        let finished = image.finish(place)?;
+        self.writing.end_output(place)?;
+        Ok(finished.is_data_on_output())
     }
 
     fn give_up_image(&mut self, image: ImageFile) {
-        image.give_up()
+        if self.writing.reading.unchanged().is_err() {
+            blank_front(image);
+        } else {
+            image.give_up()
+        }
     }
+}
+
+// Lets an image go that is not to be taken for one: zeros are laid where its magic is.
+fn blank_front(image: ImageFile) {
+    let mut image = image;
+    let front = image.position().min(MAGIC as u64) as usize;
+    let zeros = [0u8; MAGIC];
+    let _ = image.write_over(0, &zeros[..front]);
+    image.give_up();
 }

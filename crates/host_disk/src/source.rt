@@ -8,9 +8,11 @@ use abt_buffers::{AheadFile, AheadSource};
 use abt_disk::Lasting;
 use abt_files::FileSource;
 use abt_io::{DeviceFault, Source};
+use host_files::StandardSource;
 use std::alloc::{AllocError, Global};
 use std::fs::File;
 use std::io::{Seek, SeekFrom};
+use std::os::fd::AsRawFd;
 use std::rc::Rc;
 
 /// A file or a block device.
@@ -20,6 +22,8 @@ pub enum HostSource {
     Plain(FileSource),
     /// Small reads are answered from what was read before.
     Ahead(AheadSource),
+    /// Standard input, from where it stands.
+    Standard(StandardSource),
 }
 
 impl HostSource {
@@ -31,11 +35,12 @@ impl HostSource {
         }
     }
 
-    /// The file, without what was read before.
-    pub(crate) fn source(&self) -> &FileSource {
+    /// The descriptor that it is open under.
+    pub(crate) fn descriptor(&self) -> Option<i32> {
         match self {
-            HostSource::Plain(source) => source,
-            HostSource::Ahead(source) => &source.file().source,
+            HostSource::Plain(source) => descriptor_of(source),
+            HostSource::Ahead(source) => descriptor_of(&source.file().source),
+            HostSource::Standard(_) => Some(0),
         }
     }
 
@@ -43,6 +48,7 @@ impl HostSource {
     pub(crate) fn shared(&self) -> Result<Option<Rc<AheadFile>>, AllocError> {
         match self {
             HostSource::Plain(_) => Ok(None),
+            HostSource::Standard(_) => Ok(None),
             HostSource::Ahead(source) => match source.shared() {
                 Ok(file) => Ok(Some(file)),
                 Err(error) => Err(error),
@@ -56,14 +62,18 @@ impl Source for HostSource {
 
     ghost content = { λ _. [] };
 
-    ghost size = { λ s. number_of_source ⟦<FileSource as Source>⟧.size ⟦<AheadSource as Source>⟧.size s };
+    ghost size = { λ s. number_of_source ⟦<FileSource as Source>⟧.size ⟦<AheadSource as Source>⟧.size
+        ⟦<StandardSource as Source>⟧.size s };
 
-    ghost reads = { λ s. number_of_source ⟦<FileSource as Source>⟧.reads ⟦<AheadSource as Source>⟧.reads s };
+    ghost reads = { λ s. number_of_source ⟦<FileSource as Source>⟧.reads ⟦<AheadSource as Source>⟧.reads
+        ⟦<StandardSource as Source>⟧.reads s };
 
-    ghost given = { λ s. number_of_source ⟦<FileSource as Source>⟧.given ⟦<AheadSource as Source>⟧.given s };
+    ghost given = { λ s. number_of_source ⟦<FileSource as Source>⟧.given ⟦<AheadSource as Source>⟧.given
+        ⟦<StandardSource as Source>⟧.given s };
 
     ghost read_faults = { λ s. number_of_source ⟦<FileSource as Source>⟧.read_faults
-        ⟦<AheadSource as Source>⟧.read_faults s };
+        ⟦<AheadSource as Source>⟧.read_faults
+        ⟦<StandardSource as Source>⟧.read_faults s };
 
     ghost sized = { λ _ t. absurd (false≢true t) };
 
@@ -73,6 +83,7 @@ impl Source for HostSource {
         match self {
             HostSource::Plain(source) => source.length(),
             HostSource::Ahead(source) => source.length(),
+            HostSource::Standard(source) => source.length(),
         }
     }
 
@@ -80,6 +91,7 @@ impl Source for HostSource {
         match self {
             HostSource::Plain(source) => source.read_at(at, out),
             HostSource::Ahead(source) => source.read_at(at, out),
+            HostSource::Standard(source) => source.read_at(at, out),
         }
     }
 }
@@ -88,6 +100,7 @@ impl Lasting for HostSource {
     fn forget(&mut self) {
         match self {
             HostSource::Plain(_) => {}
+            HostSource::Standard(_) => {}
             HostSource::Ahead(source) => source.forget(),
         }
     }
@@ -95,6 +108,7 @@ impl Lasting for HostSource {
     fn rest(&mut self) {
         match self {
             HostSource::Plain(_) => {}
+            HostSource::Standard(_) => {}
             HostSource::Ahead(source) => source.rest(),
         }
     }
@@ -102,15 +116,31 @@ impl Lasting for HostSource {
     fn shorter(&self) -> Option<u64> {
         match self {
             HostSource::Plain(_) => None,
+            HostSource::Standard(_) => None,
             HostSource::Ahead(source) => source.shorter(),
         }
     }
 
     fn length_now(&mut self) -> u64 {
-        match &self.source().file {
-            Some(file) => end_of(file),
-            None => 0,
+        match self {
+            HostSource::Plain(source) => end_of_source(source),
+            HostSource::Ahead(source) => end_of_source(&source.file().source),
+            HostSource::Standard(source) => source.length_now(),
         }
+    }
+}
+
+fn descriptor_of(source: &FileSource) -> Option<i32> {
+    match &source.file {
+        Some(file) => Some(file.as_raw_fd()),
+        None => None,
+    }
+}
+
+fn end_of_source(source: &FileSource) -> u64 {
+    match &source.file {
+        Some(file) => end_of(file),
+        None => 0,
     }
 }
 

@@ -16,7 +16,8 @@ use Rattle.sparse_rules.specs.declared.lines.Line.TheVariants as lines
 use Rattle.sparse_rules.specs.declared.fault.SparseCommandFault.{SparseCommandFault}
 use Rattle.sparse_rules.specs.declared.fault.SparseCommandFault.TheVariants as faults
 use Rattle.image_bodies.specs.Sparsing.{SparsifiesFile, HoldsNoPartOfSparse, IsOutsideSparse, RefusesRaw}
-use Rattle.image_bodies.specs.Sparsing.{IsWritten, HoldsWritten, LeavesNoneOrSparse, HoldsNoSparse, image_of_raw, blocks_of_raw}
+use Rattle.image_bodies.specs.Sparsing.{IsWritten, HoldsWritten, LeavesNoneOrSparse, HoldsNoSparse, image_of_raw}
+use Rattle.image_bodies.specs.Sparsing.{blocks_of_raw}
 use Rattle.image_bodies.specs.Sparsing.{LeavesImage, chunks_of_raw}
 
 one : (o : Option ℕ) (f g : ℕ) → o ≡ Some f → o ≡ Some g → f ≡ g
@@ -55,7 +56,8 @@ pub part_left : (input output bytes : List ℕ) (size n : ℕ) (h h' h'' : Held)
 part_left input output bytes size n h h' h'' a b c d sized opened made rest left = λ file at.
     let t : Spares made.file c d = after output h' h'' b c d made rest in
     let is : made.file ≡ file = one (d.at output) made.file file (t.paths output made.file made.there) at in
-    let so : LeavesNoneOrSparse size bytes h''.output d = subst (λ k. LeavesNoneOrSparse k bytes h''.output d) sized left in
+    let so : LeavesNoneOrSparse size bytes h''.output d
+    = subst (λ k. LeavesNoneOrSparse k bytes h''.output d) sized left in
     let it : HoldsNoSparse (d.holds made.file) ⊎ (d.holds made.file ≡ image_of_raw size bytes)
     = subst (λ k. LeavesNoneOrSparse size bytes k.output d) made.begins so in
     inr (elim (subst (λ f. HoldsNoSparse (d.holds f) ⊎ (d.holds f ≡ image_of_raw size bytes)) is it) [
@@ -102,7 +104,8 @@ pub left_whole : {X F : Type 0} (r : Result X F) (input output bytes : List ℕ)
     → Creates output h' h'' b c → HoldsWritten n bytes x h''.output c d → SparesRest h''.output c d
     → ClosesOutput true h'' h''' → OnOk r (h'''.syncs ≡ h.syncs + (if h.is_synced then 1 else 0))
     → OnOk r (HasNotFailed h h''') → LeavesImage r input output size over h h''' a d
-left_whole r input output bytes size n x over h h' h'' h''' a b c d sized opened same made has rest closes synced clean =
+left_whole r input output bytes size n x over h h' h'' h''' a b c d sized opened same made has rest closes synced
+    clean =
     record {
       synced = synced;
       others = only_behind _ _ _ _ _ _ _ _ opened same (only_written _ _ _ _ _ _ made rest);
@@ -133,6 +136,7 @@ refuses path size a b h h' Done (faults.Piece f) is failed = (is, failed)
 refuses path size a b h h' Done (faults.Flash f) is failed = absurd is
 refuses path size a b h h' Done (faults.Verify f) is failed = absurd is
 refuses path size a b h h' Done (faults.OtherBlocks image) is failed = absurd is
+refuses path size a b h h' Done (faults.OtherCut image) is failed = absurd is
 refuses path size a b h h' Done (faults.Host f) is failed = inl failed
 
 -- a call of the disk was refused, or only the line
@@ -156,8 +160,10 @@ sparsifies input output bytes size n x h h' h'' a b c d shows sized_as good open
     let spared : Spares made.file a c = subst (λ w. Spares made.file w c) same made.spares in
     let one_ : shows (line_text (lines.Sparse (blocks_of_raw size bytes) x.chunks x.bytes) ++ (10 ∷ []))
     = subst (λ n. shows (line_text (lines.Sparse n x.chunks x.bytes) ++ (10 ∷ []))) it.0.blocks shown in
-    let two : shows (line_text (lines.Sparse (blocks_of_raw size bytes) (chunks_of_raw size bytes) x.bytes) ++ (10 ∷ []))
-    = subst (λ n. shows (line_text (lines.Sparse (blocks_of_raw size bytes) n x.bytes) ++ (10 ∷ []))) it.0.chunks one_ in
+    let two : shows (line_text (lines.Sparse (blocks_of_raw size bytes) (chunks_of_raw size bytes) x.bytes)
+    ++ (10 ∷ []))
+    = subst (λ n. shows (line_text (lines.Sparse (blocks_of_raw size bytes) n x.bytes) ++ (10 ∷ [])))
+    it.0.chunks one_ in
     let three : shows (line_text (lines.Sparse (blocks_of_raw size bytes) (chunks_of_raw size bytes) (length (d.holds
     made.file)))
     ++ (10 ∷ []))

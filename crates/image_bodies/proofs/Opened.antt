@@ -67,6 +67,7 @@ raw_uncut (faults.Sparse f) told size long limit x Failed Same Cut is sized why 
 raw_uncut (faults.Flash f) told size long limit x Failed Same Cut is sized why same = absurd why
 raw_uncut (faults.Verify f) told size long limit x Failed Same Cut is sized why same = absurd why
 raw_uncut (faults.OtherBlocks i) told size long limit x Failed Same Cut is sized why same = absurd why
+raw_uncut (faults.OtherCut i) told size long limit x Failed Same Cut is sized why same = absurd why
 raw_uncut (faults.Host f) told size long limit x Failed Same Cut is sized why same = absurd why
 
 -- ---- a sparse one
@@ -118,4 +119,5 @@ sparse_uncut (faults.Sparse f) told limit x r r' Failed Same Cut all is why fail
 sparse_uncut (faults.Flash f) told limit x r r' Failed Same Cut all is why fails same = absurd why
 sparse_uncut (faults.Verify f) told limit x r r' Failed Same Cut all is why fails same = absurd why
 sparse_uncut (faults.OtherBlocks i) told limit x r r' Failed Same Cut all is why fails same = absurd why
+sparse_uncut (faults.OtherCut i) told limit x r r' Failed Same Cut all is why fails same = absurd why
 sparse_uncut (faults.Host f) told limit x r r' Failed Same Cut all is why fails same = absurd why

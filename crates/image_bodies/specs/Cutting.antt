@@ -1,5 +1,6 @@
 -- What the command `cut` leaves of files, and what it prints.
-use Rattle.std.specs.Prelude.{◌≡◌, ◌≢◌, ◌<◌, ◌≤◌, ◌+◌, ◌*◌, ℕ, List, [], ◌∷◌, ◌++◌, length, Option, Some, None, Bool}
+use Rattle.std.specs.Prelude.{◌≡◌, ◌≢◌, ◌<◌, ◌≤◌, ◌+◌, ◌*◌, ◌^◌, ℕ, List, [], ◌∷◌, ◌++◌, length, Option, Some, None}
+use Rattle.std.specs.Prelude.{Bool}
 use Rattle.std.specs.Prelude.{true, false, IsTrue, Contains, if◌then◌else◌, Result, OnOk, IfOk, IfErr, is_ok}
 use Rattle.abt_io.specs.declared.device.Source as sources
 use Rattle.abt_sparse.specs.Block.{Block, classify}
@@ -70,6 +71,10 @@ piece_path prefix n = numbered prefix (Some n)
 abbrev pub IsPiecePath : List ℕ → List ℕ → Type 0
 IsPiecePath prefix path = (n : ℕ) × (path ≡ piece_path prefix n)
 
+-- no file has the name of a piece behind so many
+abbrev pub IsNoneLeft : List ℕ → ℕ → World → Type 0
+IsNoneLeft prefix count world = (n : ℕ) → count < n → n < 2 ^ 32 → world.at (piece_path prefix n) ≡ None
+
 -- of one of the first m
 pub record IsFirstPiecePath (prefix : List ℕ) (m : ℕ) (path : List ℕ) : Type 0 where
   pub index : ℕ
@@ -102,14 +107,14 @@ pub record CutsSoFar (prefix : List ℕ) (ps : List (List ℕ)) (n m : ℕ) (hel
   pub is_synced : held'.is_synced ≡ held.is_synced
   pub synced : held'.syncs ≡ held.syncs + n * (if held.is_synced then 1 else 0)
 
--- all of them stand, and the last line that was printed has their number, where none of an older cut is left to be noted
+-- all of them stand, and the last line that was printed has their number, where none of an older cut is left to be
+-- noted
 pub record CutsAll (prefix : List ℕ) (ps : List (List ℕ)) (held held' : Held) (old new : World)
     (shows : List ℕ → Type 0) : Type 0 where
   pub count : ℕ
   pub all : count ≡ length ps
   pub cuts : CutsSoFar prefix ps count count held held' old new
-  pub shown : count < 4294967295 → new.at (piece_path prefix (count + 1)) ≡ None
-      → shows (line_text (lines.Pieces count) ++ (10 ∷ []))
+  pub shown : IsNoneLeft prefix count new → shows (line_text (lines.Pieces count) ++ (10 ∷ []))
 
 -- no output is open, and what is read has not failed
 pub record IsUnbegun (held : Held) (reads : ℕ) : Type 0 where
@@ -286,8 +291,7 @@ pub record CutsFile (raw : Option ℕ) (limit : ℕ) (input prefix : List ℕ) (
   pub count : ℕ
   pub all : count ≡ length (pieces limit size blocks)
   pub first : FirstStand prefix from held held' old new (pieces limit size blocks) count count
-  pub shown : count < 4294967295 → new.at (piece_path prefix (count + 1)) ≡ None
-      → shows (line_text (lines.Pieces count) ++ (10 ∷ []))
+  pub shown : IsNoneLeft prefix count new → shows (line_text (lines.Pieces count) ++ (10 ∷ []))
 
 -- What is left of files, whatever the outcome: only such files as pieces have were created or changed, IN holds what it
 -- held, and no output is open. It is done only where nothing has failed.

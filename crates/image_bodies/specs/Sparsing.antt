@@ -94,6 +94,7 @@ IsOutsideSparse (faults.Piece f) = IsOfPieceDevices f
 IsOutsideSparse (faults.Flash f) = ⊥
 IsOutsideSparse (faults.Verify f) = ⊥
 IsOutsideSparse (faults.OtherBlocks image) = ⊥
+IsOutsideSparse (faults.OtherCut image) = ⊥
 IsOutsideSparse (faults.Host f) = Unit {0}
 
 -- the block size is none that the file at this path has, which is told before anything is touched; or a device failed;
@@ -106,6 +107,7 @@ RefusesRaw path size old new held held' Done (faults.Sparse f) = ⊥
 RefusesRaw path size old new held held' Done (faults.Flash f) = ⊥
 RefusesRaw path size old new held held' Done (faults.Verify f) = ⊥
 RefusesRaw path size old new held held' Done (faults.OtherBlocks image) = ⊥
+RefusesRaw path size old new held held' Done (faults.OtherCut image) = ⊥
 
 -- the output that was open was let go, which had failed so often, or more often in the end; no other file has changed
 pub record GivesUp (faults : ℕ) (held held' : Held) (old new : World) : Type 0 where

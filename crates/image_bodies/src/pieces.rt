@@ -64,10 +64,13 @@ pub(crate) fn put_piece<'a, D: Disk, B: BlockRuns + LaysPieces + Drop>(
     }
 }
 
-// Before the first piece it is told how often all is read.
+// Before the first piece it is told how often all is read. What is read once is as far as the place to which it was read.
 fn repeat_first(progress: &mut Progress, number: u32, times: u64) {
     if number == 1 {
         progress.repeat(times);
+        if times == 1 {
+            progress.follow();
+        }
     }
 }
 

@@ -4,8 +4,8 @@ ghost use Rattle.std.specs.Prelude.{◌≡◌, ◌<◌, ◌+◌, ◌++◌, ◌�
 ghost use Rattle.abt_disk.specs.World.{HasFailed};
 ghost use Rattle.abt_output.specs.Shows.{Shows};
 ghost use Rattle.sparse_rules.specs.Lines.{line_text};
-ghost use Rattle.image_bodies.specs.Cutting.{ChangesNoFile, CutsAll, CutsSoFar, IsPiecePath, IsUnbegun, LeavesPieces};
-ghost use Rattle.image_bodies.specs.Cutting.{OnlyLeaves, ReadyFirstPiece, ShowsLast, StopsCut, cut_into, piece_path};
+ghost use Rattle.image_bodies.specs.Cutting.{ChangesNoFile, CutsAll, CutsSoFar, IsNoneLeft, IsPiecePath, IsUnbegun};
+ghost use Rattle.image_bodies.specs.Cutting.{LeavesPieces, OnlyLeaves, ReadyFirstPiece, ShowsLast, StopsCut, cut_into};
 
 use crate::next_piece::LaysPieces;
 use crate::pieces::put_piece;
@@ -16,6 +16,7 @@ use abt_pieces::Piece;
 use abt_refusals::{HostFault, HostRefusal, Place, Sides};
 use abt_runs::BlockRuns;
 use sparse_rules::{LeftOver, Line, PieceFiles, PiecesOf, SparseRefusal, is_piece_name};
+use std::alloc::AllocError;
 
 /// Cuts an image that is open, and prints what its pieces are.
 pub(crate) fn cut_pieces<'a, D: Disk, B: BlockRuns + LaysPieces + Drop>(
@@ -62,30 +63,29 @@ pub(crate) fn cut_pieces<'a, D: Disk, B: BlockRuns + LaysPieces + Drop>(
     }
 }
 
-// Prints how many pieces there were, and notes the next one of an older cut.
+// Prints how many pieces there were, and notes the first one that is left of an older cut.
 #[inline(never)]
 fn tell_all<'a, D: Disk>(
     disk: &D,
     report: &mut Report,
     files: PieceFiles<'a>,
 ) -> Result<(), HostRefusal<'a>>
-    ensures shown { IsTrue D.tells → OnOk result (files.entry.count < 4294967295
-        → (D.world disk.now).at (piece_path files.entry.prefix.now (files.entry.count + 1)) ≡ None
+    ensures shown { IsTrue D.tells → OnOk result (
+        IsNoneLeft files.entry.prefix.now files.entry.count (D.world disk.now)
         → Shows report.old report.new (line_text (Line.Pieces files.entry.count) ++ (10 ∷ []))) }
 {
-    let mut files = files;
     match report.line(Line::Pieces(files.count)) {
         Ok(()) => {}
         Err(refusal) => return Err(refusal),
     }
-    let next = files.next();
-    match disk.is_there(next) {
-        Ok(true) => {
-            report.note(LeftOver(next));
+    let front = files.front();
+    match disk.left_over(front, files.count) {
+        Ok(Some(number)) => {
+            report.note(LeftOver(front.numbered(number)));
             Ok(())
         }
-        Ok(false) => Ok(()),
-        Err(refusal) => Err(refusal),
+        Ok(None) => Ok(()),
+        Err(AllocError) => Err(HostRefusal::memory()),
     }
 }
 

@@ -9,8 +9,8 @@ use crate::{
     MemoryDisk, MemoryImage, MemoryInput, MemoryOutput, MemoryPartition, MemorySource, MemorySpool,
 };
 use abt_disk::{Disk, ImageTo};
-use abt_io::DeviceFault;
 use abt_refusals::{HostFault, HostRefusal, Place};
+use std::alloc::AllocError;
 
 impl Disk for MemoryDisk {
     type From = MemoryInput;
@@ -95,9 +95,33 @@ impl Disk for MemoryDisk {
         }
     }
 
-    fn close(&mut self, part: MemoryPartition) -> bool {
+    fn why_of_part(&self, _part: &MemoryPartition) -> Option<i32> {
+        None
+    }
+
+    fn why_of_spool(&self, _through: &MemorySpool) -> Option<i32> {
+        None
+    }
+
+    fn unchanged<'a>(&mut self) -> Result<(), HostRefusal<'a>> {
+        if self.faults.calls.is_over() {
+            self.failed.add();
+            return Err(HostRefusal::of(HostFault::Changed, None));
+        }
+        Ok(())
+    }
+
+    fn close<'a>(
+        &mut self,
+        part: MemoryPartition,
+        place: Place<'a>,
+    ) -> Result<bool, HostRefusal<'a>> {
         self.put_back(part);
-        false
+        if self.faults.calls.is_over() {
+            self.failed.add();
+            return Err(HostRefusal::at(HostFault::Write, place, None));
+        }
+        Ok(false)
     }
 
     fn zeros<'a>(
@@ -124,14 +148,18 @@ impl Disk for MemoryDisk {
         }
     }
 
-    fn close_spool(&mut self, through: MemorySpool) -> Result<bool, DeviceFault> {
+    fn close_spool<'a>(
+        &mut self,
+        through: MemorySpool,
+        place: Place<'a>,
+    ) -> Result<bool, HostRefusal<'a>> {
         self.add_failures(&through.write_failures);
         self.add_failures(&through.read_failures);
         self.add_failures(&through.clear_failures);
         let is_there = self.put_through(through.bytes);
         if !is_there || self.faults.calls.is_over() {
             self.failed.add();
-            return Err(DeviceFault::Failed);
+            return Err(HostRefusal::at(HostFault::Write, place, None));
         }
         Ok(false)
     }
@@ -141,6 +169,10 @@ impl Disk for MemoryDisk {
             Ok(path) => Ok(self.file_at(path.as_str()).is_some()),
             Err(_) => Err(HostRefusal::memory()),
         }
+    }
+
+    fn left_over(&self, place: Place<'_>, behind: u32) -> Result<Option<u32>, AllocError> {
+        self.next_left(place, behind)
     }
 
     fn refuse_taken<'a>(&mut self, place: Place<'a>) -> Result<(), HostRefusal<'a>> {

@@ -2,12 +2,11 @@
 
 ghost use Rattle.std.specs.Prelude.{◌≡◌, ◌≤◌, ◌+◌, false, length};
 ghost use Rattle.abt_disk.specs.Images.{HasNoFront};
-ghost use Rattle.abt_io.specs.Moment.{put_at};
 ghost use Rattle.memory_disk.specs.Memory.{IsUnused};
 
 use crate::{Countdown, Failures};
 use abt_disk::{Late, Reasons};
-use abt_io::{DeviceFault, Output, Overwrite, Tally};
+use abt_io::{DeviceFault, Output, Overwrite, Tally, put_part};
 
 /// Bytes that were written, and that can be written over. A write fails where there is no memory for it.
 #[derive(Drop)]
@@ -70,7 +69,7 @@ impl Overwrite for MemoryImage {
             self.failed.add();
             return Err(DeviceFault::Failed);
         }
-        put_part(self.bytes.as_mut_slice(), at as usize, bytes);
+        put_part(self.bytes.as_mut_slice(), at, bytes);
         Ok(bytes.len())
     }
 }
@@ -89,14 +88,6 @@ impl Reasons for MemoryImage {
     fn why(&self) -> Option<i32> {
         None
     }
-}
-
-// Writes bytes at a place.
-fn put_part(into: &mut [u8], from: usize, bytes: &[u8])
-    requires { from + length bytes.now ≤ length into.old }
-    ensures { into.new ≡ put_at into.old from bytes.now }
-{
-    into[from..from + bytes.len()].copy_from_slice(bytes);
 }
 
 // The same bytes without the first.

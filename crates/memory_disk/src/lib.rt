@@ -13,6 +13,7 @@
 //! | `input.rt`, `source.rt` | what it opens to be read: forward, and at any place |
 //! | `output.rt`, `image.rt` | what it opens to be written: from its front on, and over |
 //! | `partition.rt`, `spool.rt` | what is written in place, and what pieces go through |
+//! | `left.rt` | what it has left of numbered files |
 //! | `failures.rt`, `countdown.rt` | how often something has failed, and which call fails |
 #![tactic(auto)]
 
@@ -24,6 +25,7 @@ mod disk;
 mod failures;
 mod image;
 mod input;
+mod left;
 mod opening;
 mod output;
 mod partition;

@@ -13,6 +13,7 @@ use std::alloc::{AllocError, Global};
 use std::fmt;
 
 /// Tells of a mistake in the words, or prints a text that they ask for, as `--help` does, and answers the exit status.
+#[inline(never)]
 pub fn wrong_words(
     rt: HostRuntime,
     words: &[&str],

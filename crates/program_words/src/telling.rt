@@ -34,6 +34,7 @@ pub fn print<D: fmt::Display + Drop>(
 }
 
 /// Tells why a run is refused before its command begins, and answers the exit status.
+#[inline(never)]
 pub fn refused(
     rt: HostRuntime,
     refusal: HostRefusal<'_>,
@@ -42,10 +43,5 @@ pub fn refused(
 ) -> u8
     ensures { result ≡ (if is_not_text refusal.entry.fault then 2 else 1) }
 {
-    answer(
-        Err(SparseRefusal::from(refusal)),
-        is_verbose,
-        rt.alloc(),
-        report,
-    )
+    answer(Err(SparseRefusal::from(refusal)), is_verbose, rt, report)
 }

@@ -115,6 +115,7 @@ own input path x old new h h1 k a c (faults.Piece f) r0 r w w' opened first none
 own input path x old new h h1 k a c (faults.Flash f) r0 r w w' opened first none count says blames = absurd says
 own input path x old new h h1 k a c (faults.Verify f) r0 r w w' opened first none count says blames = absurd says
 own input path x old new h h1 k a c (faults.OtherBlocks f) r0 r w w' opened first none count says blames = absurd says
+own input path x old new h h1 k a c (faults.OtherCut f) r0 r w w' opened first none count says blames = absurd says
 own input path x old new h h1 k a c (faults.Host f) r0 r w w' opened first none count says blames = absurd says
 
 -- a fault of files, behind which something has failed

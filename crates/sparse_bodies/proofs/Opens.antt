@@ -2,7 +2,8 @@
 use Rattle.std.proofs.Common.{inl, inr, arith, ◌≡◌, ℕ, suc, ◌+◌, ◌<◌, ◌≤◌, List, [], ◌∷◌, ◌++◌, length, map}
 use Rattle.std.proofs.Common.{min, take, drop, get_or, true, false, Option, Some, None, refl, sym, ◌∙◌, ap, subst}
 use Rattle.std.specs.Prelude.{◌==◌, ◌&&◌}
-use Rattle.std.specs.List.{AllByRecursion}
+use Rattle.std.specs.Prelude.{unwrap_or, Bool}
+use Rattle.std.specs.List.{AllByRecursion, list_any}
 use Rattle.std.proofs.lemmas.Bool.{false≢true, and_parts, eqb-true, eq-eqb}
 use Rattle.std.proofs.lemmas.List.{map-append, append_assoc, append-nil, length-map, length-append, take_all}
 use Rattle.abt_io.specs.Bytes.{AreBytes}
@@ -15,16 +16,22 @@ use Rattle.abt_sparse.proofs.Exactly.{is_so}
 use Rattle.abt_runs.specs.declared.part.RunFault.{RunFault}
 use Rattle.abt_runs.specs.declared.part.RunFault.TheVariants as of_runs
 use Rattle.abt_runs.specs.declared.stage.Stage.TheVariants as stages
-use Rattle.abt_runs.specs.Sparse.{SparseOpened}
+use Rattle.abt_runs.specs.Part.{RunCaused}
+use Rattle.abt_runs.specs.Sparse.{SparseOpened, sparse_list}
 use Rattle.abt_runs.specs.Verdict.{CausedAt, Refuses}
 use Rattle.abt_disk.specs.World.{World, Held, OpensFile, HasFailed, failing, reading}
 use Rattle.sparse_rules.specs.declared.fault.SparseCommandFault.{SparseCommandFault}
 use Rattle.sparse_rules.specs.declared.fault.SparseCommandFault.TheVariants as faults
 use Rattle.sparse_bodies.specs.declared.opening.Shape.{Shape}
 use Rattle.sparse_bodies.specs.Expanding.{FromHost}
-use Rattle.sparse_bodies.specs.Overlaying.{AreImages, StandsBehind, HasOtherBlocks, IsImageOf}
+use Rattle.sparse_bodies.specs.declared.cut_of.CutPiece.{CutPiece}
+use Rattle.sparse_bodies.specs.CutOf.{IsOtherCut, NextPiece, Said, TellsPiece, TellsPieces, is_of_other_cut}
+use Rattle.sparse_bodies.specs.Overlaying.{AreImages, AreInTurn, FileGives, GivesBlock, HasOtherBlocks, HasOtherCut}
+use Rattle.sparse_bodies.specs.Overlaying.{IsImageOf, StandsBehind}
 use Rattle.sparse_bodies.specs.Steps.{AreOpened, OpensNext, IsShapeOf, is_same_shape}
 use Rattle.sparse_bodies.specs.Steps.{IsNotAllOpened, IsNotNext, IsNotOpened, IsNotRead, IsOtherShape}
+use Rattle.sparse_bodies.proofs.GivenSpans.{gives_said, piece_alike, said_gives}
+use Rattle.sparse_bodies.proofs.Turns.{among_apart, among_turned, told_more, turn_more}
 use Rattle.sparse_bodies.proofs.Lists.{all_push, as_many, lead_more, paths_around, paths_long, paths_more}
 
 -- ---- one image
@@ -74,7 +81,46 @@ not_opened (faults.Piece f) path x a h h1 h2 r r' opened none gone is = absurd i
 not_opened (faults.Flash f) path x a h h1 h2 r r' opened none gone is = absurd is
 not_opened (faults.Verify f) path x a h h1 h2 r r' opened none gone is = absurd is
 not_opened (faults.OtherBlocks n) path x a h h1 h2 r r' opened none gone is = absurd is
+not_opened (faults.OtherCut n) path x a h h1 h2 r r' opened none gone is = absurd is
 not_opened (faults.Host f) path x a h h1 h2 r r' opened none gone is = absurd is
+
+-- the blocks that the file at its path gives are those of its bytes
+file_gives : (path x : List ℕ) (a : World) (h h' : Held) (n : ℕ) → OpensFile a path x h h' → GivesBlock x n
+    → FileGives a path n
+file_gives path x a h h' n opened is = record {
+  file = opened.file;
+  there = opened.there;
+  gives = subst (λ z. GivesBlock z n) opened.held is;
+}
+
+gives_file : (path x : List ℕ) (a : World) (h h' : Held) (n : ℕ) → OpensFile a path x h h' → FileGives a path n
+    → GivesBlock x n
+gives_file path x a h h' n opened is =
+    let same : is.file ≡ opened.file = ap (λ o. unwrap_or o 0) (sym is.there ∙ opened.there) in
+    subst (λ z. GivesBlock z n) (ap a.holds same ∙ sym opened.held) is.gives
+
+pub tells_file : (o : Option CutPiece) (path word x : List ℕ) (a : World) (h h' : Held) → OpensFile a path x h h'
+    → word ≡ path → TellsPiece o word (GivesBlock x) → TellsPiece o path (FileGives a path)
+tells_file o path word x a h h' opened same is =
+    piece_alike o path (GivesBlock x) (FileGives a path) (λ n. file_gives path x a h h' n opened)
+    (λ n. gives_file path x a h h' n opened) (subst (λ p. TellsPiece o p (GivesBlock x)) same is)
+
+-- the blocks of an image that was opened are those that its bytes give
+pub tells_bytes : (o : Option CutPiece) (path x : List ℕ) (h : SparseHeader) (long image : ℕ) → AreBytes x
+    → SparseOpened (view h) long image x → TellsPiece o path (Said (sparse_list x)) → TellsPiece o path (GivesBlock x)
+tells_bytes o path x h long image bytes opened is =
+    let spelled = subst (λ o. IsOutcome x o) opened.is_image (is_so x bytes) in
+    piece_alike o path (Said (sparse_list x)) (GivesBlock x)
+    (λ n. said_gives x (view h) opened.chunks opened.rest n spelled) (λ n. gives_said x n) is
+
+-- walking it was refused
+pub not_walked : (e : RunFault) (x : List ℕ) (tells : Bool) (r0 r r' : ℕ) → tells ≡ true → r ≡ r0
+    → RunCaused e tells r r' → IsNotRead (faults.Run e) x r0 r'
+not_walked (of_runs.Sparse f) x tells r0 r r' t same cause = absurd cause
+not_walked (of_runs.Read d) x tells r0 r r' t same cause = let up = cause.0 in omega (arith, same, up)
+not_walked of_runs.TooLarge x tells r0 r r' t same cause = absurd cause
+not_walked of_runs.SourceChanged x tells r0 r r' t same cause = absurd (false≢true (sym cause ∙ t))
+not_walked (of_runs.BadBlock n) x tells r0 r r' t same cause = absurd cause
 
 pub told_so : (f g : SparseCommandFault) (path : List ℕ) (a : World) (h k : Held) → g ≡ f → IsNotOpened f path a h k
     → IsNotOpened g path a h k
@@ -108,13 +154,21 @@ other_shape (Some s) own path x a h h' opened image differs = (
       ∙ same_blocks own.block s.block same.1),
 )
 
-pub next_other : (told : SparseCommandFault) (shape : Option Shape) (own : Shape) (number : ℕ) (path x : List ℕ)
-    (a : World) (h h' k : Held) → told ≡ faults.OtherBlocks number → OpensFile a path x h h'
-    → IsImageOf own.blocks own.block x
-    → is_same_shape shape own ≡ false → IsNotNext told shape number path a h k
-next_other told shape own number path x a h h' k is opened image differs =
-    subst (λ f. IsNotNext f shape number path a h k) (sym is)
+pub next_other : (told : SparseCommandFault) (shape : Option Shape) (pieces : List (Option CutPiece)) (own : Shape)
+    (number : ℕ) (path x : List ℕ) (a : World) (h h' k : Held) → told ≡ faults.OtherBlocks number
+    → OpensFile a path x h h' → IsImageOf own.blocks own.block x → is_same_shape shape own ≡ false
+    → IsNotNext told shape pieces number path a h k
+next_other told shape pieces own number path x a h h' k is opened image differs =
+    subst (λ f. IsNotNext f shape pieces number path a h k) (sym is)
     (refl, other_shape shape own path x a h h' opened image differs)
+
+pub next_cut : (told : SparseCommandFault) (shape : Option Shape) (pieces : List (Option CutPiece))
+    (own : Option CutPiece) (number : ℕ) (path : List ℕ) (a : World) (h k : Held) → told ≡ faults.OtherCut number
+    → TellsPiece own path (FileGives a path) → list_any (is_of_other_cut own) pieces ≡ true
+    → IsNotNext told shape pieces number path a h k
+next_cut told shape pieces own number path a h k is tells turned =
+    subst (λ f. IsNotNext f shape pieces number path a h k) (sym is)
+    (refl, record { own = own; tells = tells; turned = turned })
 
 -- ---- all of them
 
@@ -205,12 +259,33 @@ other_blocks (Some s) a inputs before behind xs path number h h' all is among co
   other = other.3;
 }
 
+other_cut : (shape : Option Shape) (pieces : List (Option CutPiece)) (a : World)
+    (inputs before behind xs : List (List ℕ)) (path : List ℕ) (number : ℕ) (h h' : Held) → AreOpened a before xs h h'
+    → IsShapeOf shape xs → TellsPieces a pieces before → inputs ≡ before ++ (path ∷ behind)
+    → number ≡ min (length before + 1) 4294967295 → IsOtherCut pieces path a → HasOtherCut inputs a number
+unfolding stands
+other_cut shape pieces a inputs before behind xs path number h h' all is told among counted cut =
+    let other = among_turned a cut.own path pieces before cut.tells told cut.turned in
+    record {
+      blocks = blocks_of shape;
+      size = block_of shape;
+      place = length before;
+      path = path;
+      stands = stands shape a inputs before behind xs path h h' all is among;
+      number = counted;
+      other = other.0;
+      before = other.1;
+      turned = other.2;
+    }
+
 -- why not all of them are opened: the images before this one are
-pub not_all : (f : SparseCommandFault) (shape : Option Shape) (a : World) (inputs before behind xs : List (List ℕ))
-    (path : List ℕ) (number : ℕ) (h h1 h2 : Held) → AreOpened a before xs h h1 → IsShapeOf shape xs
+pub not_all : (f : SparseCommandFault) (shape : Option Shape) (pieces : List (Option CutPiece)) (a : World)
+    (inputs before behind xs : List (List ℕ)) (path : List ℕ) (number : ℕ) (h h1 h2 : Held)
+    → AreOpened a before xs h h1 → IsShapeOf shape xs → TellsPieces a pieces before
     → inputs ≡ before ++ (path ∷ behind) → number ≡ min (length before + 1) 4294967295
-    → IsNotNext f shape number path a h1 h2 → IsNotAllOpened f inputs a h h2
-not_all (faults.Run (of_runs.Sparse f)) shape a inputs before behind xs path number h h1 h2 all is among counted why =
+    → IsNotNext f shape pieces number path a h1 h2 → IsNotAllOpened f inputs a h h2
+not_all (faults.Run (of_runs.Sparse f)) shape pieces a inputs before behind xs path number h h1 h2 all is told among
+    counted why =
     record {
       blocks = blocks_of shape;
       size = block_of shape;
@@ -219,24 +294,37 @@ not_all (faults.Run (of_runs.Sparse f)) shape a inputs before behind xs path num
       stands = stands shape a inputs before behind xs path h h1 all is among;
       fault = why;
     }
-not_all (faults.Run (of_runs.Read d)) shape a inputs before behind xs path number h h1 h2 all is among counted why =
+not_all (faults.Run (of_runs.Read d)) shape pieces a inputs before behind xs path number h h1 h2 all is told among
+    counted why =
     still a before xs h h1 h2 all why
-not_all (faults.Run of_runs.TooLarge) shape a inputs before behind xs path number h h1 h2 all is among counted why =
+not_all (faults.Run of_runs.TooLarge) shape pieces a inputs before behind xs path number h h1 h2 all is told among
+    counted why =
     absurd why
-not_all (faults.Run of_runs.SourceChanged) shape a inputs before behind xs path number h h1 h2 all is among counted
+not_all (faults.Run of_runs.SourceChanged) shape pieces a inputs before behind xs path number h h1 h2 all is told among
+    counted
     why = absurd why
-not_all (faults.Run (of_runs.BadBlock n)) shape a inputs before behind xs path number h h1 h2 all is among counted why =
+not_all (faults.Run (of_runs.BadBlock n)) shape pieces a inputs before behind xs path number h h1 h2 all is told among
+    counted why =
     absurd why
-not_all (faults.OtherBlocks n) shape a inputs before behind xs path number h h1 h2 all is among counted why =
+not_all (faults.OtherBlocks n) shape pieces a inputs before behind xs path number h h1 h2 all is told among
+    counted why =
     other_blocks shape a inputs before behind xs path n h h1 all is among (why.0 ∙ counted) why.1
-not_all (faults.Host f) shape a inputs before behind xs path number h h1 h2 all is among counted (inl failed) =
+not_all (faults.OtherCut n) shape pieces a inputs before behind xs path number h h1 h2 all is told among counted why =
+    other_cut shape pieces a inputs before behind xs path n h h1 all is told among (why.0 ∙ counted) why.1
+not_all (faults.Host f) shape pieces a inputs before behind xs path number h h1 h2 all is told among
+    counted (inl failed) =
     inl (still a before xs h h1 h2 all failed)
-not_all (faults.Host f) shape a inputs before behind xs path number h h1 h2 all is among counted (inr memory) =
+not_all (faults.Host f) shape pieces a inputs before behind xs path number h h1 h2 all is told among
+    counted (inr memory) =
     inr memory
-not_all (faults.Sparse f) shape a inputs before behind xs path number h h1 h2 all is among counted why = absurd why
-not_all (faults.Piece f) shape a inputs before behind xs path number h h1 h2 all is among counted why = absurd why
-not_all (faults.Flash f) shape a inputs before behind xs path number h h1 h2 all is among counted why = absurd why
-not_all (faults.Verify f) shape a inputs before behind xs path number h h1 h2 all is among counted why = absurd why
+not_all (faults.Sparse f) shape pieces a inputs before behind xs path number h h1 h2 all is told among
+    counted why = absurd why
+not_all (faults.Piece f) shape pieces a inputs before behind xs path number h h1 h2 all is told among
+    counted why = absurd why
+not_all (faults.Flash f) shape pieces a inputs before behind xs path number h h1 h2 all is told among
+    counted why = absurd why
+not_all (faults.Verify f) shape pieces a inputs before behind xs path number h h1 h2 all is told among
+    counted why = absurd why
 
 -- ---- one turn
 
@@ -248,19 +336,47 @@ step_opened f xs i d a a1 cs ys path h h1 h2 below same is all next =
     subst (λ l. AreOpened a l ys h h2) (ap (λ p. map f (take i xs) ++ (p ∷ [])) is ∙ paths_more f xs i d below)
     (opened_more a (map f (take i xs)) cs ys path h h1 h2 all (subst (λ w. OpensNext w path cs ys h1 h2) same next))
 
+pub step_pieces : {X : Type 0} (f : X → List ℕ) (xs : List X) (i : ℕ) (d : X) (a a1 : World)
+    (pieces pieces' : List (Option CutPiece)) (path : List ℕ) → i < length xs → a1 ≡ a → path ≡ f (get_or xs i d)
+    → TellsPieces a pieces (map f (take i xs)) → NextPiece a1 path pieces pieces'
+    → TellsPieces a pieces' (map f (take (i + 1) xs))
+step_pieces f xs i d a a1 pieces pieces' path below same is all next =
+    let own = next.own in
+    subst (λ l. TellsPieces a pieces' l) (ap (λ p. map f (take i xs) ++ (p ∷ [])) is ∙ paths_more f xs i d below)
+    (subst (λ l. TellsPieces a l (map f (take i xs) ++ (path ∷ []))) (sym next.more)
+    (told_more a pieces (map f (take i xs)) own path all
+    (subst (λ w. TellsPiece own path (FileGives w path)) same next.tells)))
+
+pub step_turn : {X : Type 0} (f : X → List ℕ) (xs : List X) (i : ℕ) (d : X) (a a1 : World)
+    (pieces pieces' : List (Option CutPiece)) (path : List ℕ) → i < length xs → a1 ≡ a → path ≡ f (get_or xs i d)
+    → TellsPieces a pieces (map f (take i xs)) → NextPiece a1 path pieces pieces' → AreInTurn (map f (take i xs)) a
+    → AreInTurn (map f (take (i + 1) xs)) a
+step_turn f xs i d a a1 pieces pieces' path below same is all next turn =
+    subst (λ l. AreInTurn l a) (ap (λ p. map f (take i xs) ++ (p ∷ [])) is ∙ paths_more f xs i d below)
+    (turn_more a (map f (take i xs)) path turn
+    (λ other among. among_apart a next.own path pieces (map f (take i xs)) other
+    (subst (λ w. TellsPiece next.own path (FileGives w path)) same next.tells) all next.apart among))
+
 pub step_refused : {X : Type 0} (f : X → List ℕ) (xs : List X) (i : ℕ) (d : X) (fault : SparseCommandFault)
-    (shape : Option Shape) (a a1 : World) (cs : List (List ℕ)) (path : List ℕ) (number count : ℕ) (h h1 h2 : Held)
+    (shape : Option Shape) (pieces : List (Option CutPiece)) (a a1 : World) (cs : List (List ℕ)) (path : List ℕ)
+    (number count : ℕ) (h h1 h2 : Held)
     → i < length xs → a1 ≡ a → path ≡ f (get_or xs i d) → AreOpened a (map f (take i xs)) cs h h1 → IsShapeOf shape cs
-    → count ≡ min i 4294967295 → number ≡ min (count + 1) 4294967295 → IsNotNext fault shape number path a1 h1 h2
-    → IsNotAllOpened fault (map f xs) a h h2
-step_refused f xs i d fault shape a a1 cs path number count h h1 h2 below same is all shaped so_far counted why =
+    → TellsPieces a pieces (map f (take i xs)) → count ≡ min i 4294967295 → number ≡ min (count + 1) 4294967295
+    → IsNotNext fault shape pieces number path a1 h1 h2 → IsNotAllOpened fault (map f xs) a h h2
+step_refused f xs i d fault shape pieces a a1 cs path number count h h1 h2 below same is all shaped told so_far counted
+    why =
     let long : length (map f (take i xs)) ≡ i = paths_long f xs i (omega (arith, below)) in
     let more : number ≡ min (length (map f (take i xs)) + 1) 4294967295 = omega (arith, long, so_far, counted) in
-    not_all fault shape a (map f xs) (map f (take i xs)) (map f (drop (suc i) xs)) cs path number h h1 h2 all shaped
+    not_all fault shape pieces a (map f xs) (map f (take i xs)) (map f (drop (suc i) xs)) cs path number h h1 h2 all
+    shaped told
     (paths_around f xs i d below ∙ ap (λ p. map f (take i xs) ++ (p ∷ map f (drop (suc i) xs))) (sym is)) more
-    (subst (λ w. IsNotNext fault shape number path w h1 h2) same why)
+    (subst (λ w. IsNotNext fault shape pieces number path w h1 h2) same why)
 
 -- all turns were made
+pub all_in_turn : {X : Type 0} (f : X → List ℕ) (xs : List X) (i : ℕ) (a : World) → length xs ≤ i
+    → AreInTurn (map f (take i xs)) a → AreInTurn (map f xs) a
+all_in_turn f xs i a over turn = subst (λ l. AreInTurn (map f l) a) (take_all i xs over) turn
+
 pub all_opened : {X : Type 0} (f : X → List ℕ) (xs : List X) (i : ℕ) (a : World) (cs : List (List ℕ)) (h h' : Held)
     → length xs ≤ i → AreOpened a (map f (take i xs)) cs h h' → AreOpened a (map f xs) cs h h'
 all_opened f xs i a cs h h' over all = subst (λ l. AreOpened a (map f l) cs h h') (take_all i xs over) all

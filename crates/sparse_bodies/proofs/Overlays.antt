@@ -20,17 +20,18 @@ use Rattle.sparse_rules.specs.declared.lines.Line.TheVariants as lines
 use Rattle.sparse_rules.specs.Lines.{line_text}
 use Rattle.sparse_bodies.specs.declared.opening.Shape.{Shape}
 use Rattle.sparse_bodies.specs.Expanding.{FromHost}
-use Rattle.sparse_bodies.specs.Overlaying.{IsImageOf, LeavesOverlaid, OverlaysFiles, RefusesOverlay, once_if_any}
+use Rattle.sparse_bodies.specs.Overlaying.{AreInTurn, IsImageOf, LeavesOverlaid, OverlaysFiles, RefusesOverlay}
+use Rattle.sparse_bodies.specs.Overlaying.{once_if_any}
 use Rattle.sparse_bodies.specs.Steps.{AreOpened, FailsAlone, IsNotAllOpened, IsNotLaid, IsShapeOf, whole_of_shape}
 use Rattle.sparse_bodies.proofs.Lists.{as_many, each_read, fewer_read, keeps_read, not_among}
 
 -- ---- counts of what has failed
 
 -- all was opened, zeros were made, images were laid, and what was written is closed; so much has failed since
-pub failed_in_all : (a a1 b : World) (inputs xs : List (List ℕ)) (output : List ℕ) (n m : ℕ) (past : Past)
-    (h h1 h2 h3 h4 : Held) → AreOpened a inputs xs h h1 → MakesZeros n output h1 h2 a1 b → h4 ≡ closed_part past m h3
-    → (h2.failed ≡ h.failed) × (h4.failed ≡ h3.failed + m)
-failed_in_all a a1 b inputs xs output n m past h h1 h2 h3 h4 all made closed =
+pub failed_in_all : (a a1 b : World) (inputs xs : List (List ℕ)) (output : List ℕ) (n m u : ℕ) (past : Past)
+    (h h1 h2 h3 h4 : Held) → AreOpened a inputs xs h h1 → MakesZeros n output h1 h2 a1 b
+    → h4 ≡ failing u (closed_part past m h3) → (h2.failed ≡ h.failed) × (h4.failed ≡ h3.failed + m + u)
+failed_in_all a a1 b inputs xs output n m u past h h1 h2 h3 h4 all made closed =
     (ap (λ k. k.failed) made.begins ∙ ap (λ k. k.failed) all.taken, ap (λ k. k.failed) closed)
 
 pub failed_zeros : (a : World) (inputs xs : List (List ℕ)) (h h1 k : Held) → AreOpened a inputs xs h h1
@@ -40,9 +41,19 @@ failed_zeros a inputs xs h h1 k all refused =
     let up : k.failed ≡ h1.failed + 1 = ap (λ q. q.failed) refused in
     omega (arith, first, up)
 
-pub failed_laying : (h h2 h3 h4 : Held) (p p' : ℕ) → (h2.failed ≡ h.failed) × (h4.failed ≡ h3.failed + p') → p ≡ 0
-    → h2.failed + p < h3.failed + p' → HasFailed h h4
-failed_laying h h2 h3 h4 p p' counts none rose = omega (arith, counts.0, counts.1, none, rose)
+pub failed_laying : (h h2 h3 h4 : Held) (p p' u : ℕ) → (h2.failed ≡ h.failed) × (h4.failed ≡ h3.failed + p' + u)
+    → p ≡ 0 → h2.failed + p < h3.failed + p' → HasFailed h h4
+failed_laying h h2 h3 h4 p p' u counts none rose = omega (arith, counts.0, counts.1, none, rose)
+
+-- closing was refused
+pub failed_closing : (h h2 h3 h4 : Held) (p p' u : ℕ) → (h2.failed ≡ h.failed) × (h4.failed ≡ h3.failed + p' + u)
+    → p ≡ 0 → h3.failed + p' ≡ h2.failed + p → u ≡ 1 → HasFailed h h4
+failed_closing h h2 h3 h4 p p' u counts none same one = omega (arith, counts.0, counts.1, none, same, one)
+
+-- nothing has failed
+pub clean_closing : (h h2 h3 h4 : Held) (p p' u : ℕ) → (h2.failed ≡ h.failed) × (h4.failed ≡ h3.failed + p' + u)
+    → p ≡ 0 → h3.failed + p' ≡ h2.failed + p → u ≡ 0 → HasNotFailed h h4
+clean_closing h h2 h3 h4 p p' u counts none same zero = omega (arith, counts.0, counts.1, none, same, zero)
 
 -- ---- what the output holds
 
@@ -103,13 +114,13 @@ sized (Some s) e a inputs xs h h1 whole all is = record {
 
 pub overlays : (shape : Option Shape) (e : Expanded) (a a1 b b' c : World) (inputs xs : List (List ℕ))
     (output y z : List ℕ) (h h1 h2 h3 : Held) (shows : List ℕ → Type 0) → e ≡ whole_of_shape shape
-    → AreOpened a inputs xs h h1 → IsShapeOf shape xs
+    → AreOpened a inputs xs h h1 → IsShapeOf shape xs → AreInTurn inputs a
     → MakesZeros e.bytes output h1 h2 a1 b → a1 ≡ a → z ≡ replicate e.bytes 0
     → y ≡ flashed_in_turn z xs → b' ≡ b → FailsAlone h2 h3 → Ends h3.part y b' c → c.at ≡ b'.at
     → shows (line_text (lines.Expanded e.blocks e.bytes) ++ (10 ∷ []))
     → OverlaysFiles inputs output a c shows
-overlays shape e a a1 b b' c inputs xs output y z h h1 h2 h3 shows whole all is made same zeros laid same' alone ends
-    paths shown =
+overlays shape e a a1 b b' c inputs xs output y z h h1 h2 h3 shows whole all is turn made same zeros laid same' alone
+    ends paths shown =
     let s = sized shape e a inputs xs h h1 whole all is in
     let end = spared a a1 b b' c e.bytes output y h1 h2 h3 made same same' alone ends in
     record {
@@ -120,6 +131,7 @@ overlays shape e a a1 b b' c inputs xs output y z h h1 h2 h3 shows whole all is 
         there = all.there;
         images = subst (λ l. AllByRecursion (IsImageOf s.number s.size) l) all.bytes s.all;
       };
+      turn = turn;
       onto = made.file;
       here = ap (λ g. g output) paths ∙ ap (λ w. w.at output) same' ∙ made.there;
       apart = not_among h.read all.files made.file
@@ -173,11 +185,11 @@ once (x ∷ xs) =
     let more : 0 < suc (length xs) = omega arith in
     ap (λ b. if b then 1 else 0) (lt-ltb 0 (suc (length xs)) more)
 
-pub synced : (a a1 b : World) (inputs xs : List (List ℕ)) (output : List ℕ) (n m k : ℕ) (past past' : Past)
+pub synced : (a a1 b : World) (inputs xs : List (List ℕ)) (output : List ℕ) (n m k u : ℕ) (past past' : Past)
     (h h1 h2 h3 h4 : Held) → AreOpened a inputs xs h h1 → MakesZeros n output h1 h2 a1 b → FailsAlone h2 h3
-    → h4 ≡ closed_part past' m h3 → past ≡ no_past → past'.pending ≡ [] → past'.synced ≡ past.synced + k
+    → h4 ≡ failing u (closed_part past' m h3) → past ≡ no_past → past'.pending ≡ [] → past'.synced ≡ past.synced + k
     → length xs ≡ k → h4.syncs ≡ h.syncs + once_if_any inputs
-synced a a1 b inputs xs output n m k past past' h h1 h2 h3 h4 all made alone closed fresh empty counted items =
+synced a a1 b inputs xs output n m k u past past' h h1 h2 h3 h4 all made alone closed fresh empty counted items =
     let none : past.synced ≡ 0 = ap (λ q. q.synced) fresh in
     let long : length xs ≡ length inputs = as_long_as a inputs xs h h1 all in
     let many : past'.synced ≡ length inputs
@@ -199,6 +211,7 @@ from_opening (faults.Run of_runs.TooLarge) inputs output a c h k why = absurd wh
 from_opening (faults.Run of_runs.SourceChanged) inputs output a c h k why = absurd why
 from_opening (faults.Run (of_runs.BadBlock n)) inputs output a c h k why = absurd why
 from_opening (faults.OtherBlocks n) inputs output a c h k why = why
+from_opening (faults.OtherCut n) inputs output a c h k why = why
 from_opening (faults.Host f) inputs output a c h k (inl failed) = inl failed
 from_opening (faults.Host f) inputs output a c h k (inr memory) = inr (inl memory)
 from_opening (faults.Sparse f) inputs output a c h k why = absurd why
@@ -224,6 +237,7 @@ from_laying (faults.Sparse f) inputs output a c h k n n' up why = absurd why
 from_laying (faults.Piece f) inputs output a c h k n n' up why = absurd why
 from_laying (faults.Verify f) inputs output a c h k n n' up why = absurd why
 from_laying (faults.OtherBlocks m) inputs output a c h k n n' up why = absurd why
+from_laying (faults.OtherCut m) inputs output a c h k n n' up why = absurd why
 from_laying (faults.Host f) inputs output a c h k n n' up why = absurd why
 
 -- a fault of files, behind which something has failed, or all is done

@@ -25,6 +25,7 @@ ExpandingSays (Err (faults.Piece f)) x old new = ⊥
 ExpandingSays (Err (faults.Flash f)) x old new = ⊥
 ExpandingSays (Err (faults.Verify f)) x old new = ⊥
 ExpandingSays (Err (faults.OtherBlocks image)) x old new = ⊥
+ExpandingSays (Err (faults.OtherCut image)) x old new = ⊥
 ExpandingSays (Err (faults.Host f)) x old new = ⊥
 
 -- a fault of files
@@ -66,8 +67,8 @@ pub record ExpandsFile (input output : List ℕ) (old new : World) (shows : List
   pub spares : Spares onto old new
   pub shown : shows (line_text (lines.Expanded header.total_blks (header.total_blks * header.blk_sz)) ++ (10 ∷ []))
 
--- What is left of files, whatever the outcome: OUT alone may hold anything else, IN holds what it held, and no output is
--- open. It is done only where nothing has failed.
+-- What is left of files, whatever the outcome: OUT alone may hold anything else, IN holds what it held, and no output
+-- is open. It is done only where nothing has failed.
 pub record LeavesExpanded {X F : Type 0} (r : Result X F) (from onto : List ℕ) (held held' : Held) (old new : World)
     : Type 0 where
   pub others : OnlyAt held.read onto old new

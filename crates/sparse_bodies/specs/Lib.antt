@@ -1,3 +1,4 @@
+pub mod CutOf
 pub mod Expanding
 pub mod Overlaying
 pub mod Steps

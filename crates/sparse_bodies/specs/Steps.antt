@@ -13,7 +13,9 @@ use Rattle.sparse_rules.specs.declared.fault.SparseCommandFault.{SparseCommandFa
 use Rattle.sparse_rules.specs.declared.fault.SparseCommandFault.TheVariants as faults
 use Rattle.sparse_bodies.specs.declared.opening.Shape.{Shape}
 use Rattle.sparse_bodies.specs.Expanding.{HasFault}
-use Rattle.sparse_bodies.specs.Overlaying.{AreImages, HasFirstFault, HasOtherBlocks, IsImageOf, LeadTo}
+use Rattle.sparse_bodies.specs.declared.cut_of.CutPiece.{CutPiece}
+use Rattle.sparse_bodies.specs.CutOf.{IsOtherCut}
+use Rattle.sparse_bodies.specs.Overlaying.{AreImages, HasFirstFault, HasOtherBlocks, HasOtherCut, IsImageOf, LeadTo}
 
 -- ---- opening
 
@@ -71,18 +73,22 @@ IsOtherShape (Some s) path world =
     (n : ℕ) × (b : ℕ) × AreImages n b (path ∷ []) world × ¬ ((n ≡ s.blocks) × (b ≡ s.block))
 
 -- why the next image is not opened, which has this number
-abbrev pub IsNotNext : SparseCommandFault → Option Shape → ℕ → List ℕ → World → Held → Held → Type 0
-IsNotNext (faults.Run (of_runs.Sparse f)) shape number path world held held' = HasFault path world f
-IsNotNext (faults.Run (of_runs.Read d)) shape number path world held held' = HasFailed held held'
-IsNotNext (faults.OtherBlocks n) shape number path world held held' = (n ≡ number) × IsOtherShape shape path world
-IsNotNext (faults.Host f) shape number path world held held' = HasFailed held held' ⊎ (f ≡ Memory)
-IsNotNext f shape number path world held held' = ⊥
+abbrev pub IsNotNext : SparseCommandFault → Option Shape → List (Option CutPiece) → ℕ → List ℕ → World → Held → Held
+    → Type 0
+IsNotNext (faults.Run (of_runs.Sparse f)) shape pieces number path world held held' = HasFault path world f
+IsNotNext (faults.Run (of_runs.Read d)) shape pieces number path world held held' = HasFailed held held'
+IsNotNext (faults.OtherBlocks n) shape pieces number path world held held' =
+    (n ≡ number) × IsOtherShape shape path world
+IsNotNext (faults.OtherCut n) shape pieces number path world held held' = (n ≡ number) × IsOtherCut pieces path world
+IsNotNext (faults.Host f) shape pieces number path world held held' = HasFailed held held' ⊎ (f ≡ Memory)
+IsNotNext f shape pieces number path world held held' = ⊥
 
 -- why they are not all opened
 abbrev pub IsNotAllOpened : SparseCommandFault → List (List ℕ) → World → Held → Held → Type 0
 IsNotAllOpened (faults.Run (of_runs.Sparse f)) inputs world held held' = HasFirstFault inputs world f
 IsNotAllOpened (faults.Run (of_runs.Read d)) inputs world held held' = HasFailed held held'
 IsNotAllOpened (faults.OtherBlocks n) inputs world held held' = HasOtherBlocks inputs world n
+IsNotAllOpened (faults.OtherCut n) inputs world held held' = HasOtherCut inputs world n
 IsNotAllOpened (faults.Host f) inputs world held held' = HasFailed held held' ⊎ (f ≡ Memory)
 IsNotAllOpened f inputs world held held' = ⊥
 

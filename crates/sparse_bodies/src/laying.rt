@@ -87,7 +87,7 @@ fn lay_one<'a, D: Disk>(
         ((D.held disk.old).failed + D.Part.put_faults onto.old + D.At.read_faults one.entry.source)
         ((D.held disk.new).failed + D.Part.put_faults onto.new)) }
 {
-    let Kept { source, place } = one;
+    let Kept { source, place, .. } = one;
     let mut source = source;
     source.forget();
     let mut carried = Carried {

@@ -5,8 +5,10 @@
 //! |---|---|
 //! | `expand.rt` | `expand` of one image |
 //! | `overlay.rt`, `opening.rt`, `laying.rt` | `expand` of several images, which are laid over one another |
+//! | `cut_of.rt` | whether they are pieces of one cut, as far as can be told |
 #![tactic(auto)]
 
+mod cut_of;
 mod expand;
 mod laying;
 mod opening;

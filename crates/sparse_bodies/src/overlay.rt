@@ -20,7 +20,8 @@ use std::alloc::Global;
 
 /// Lays images over one another in their order: a file of zeros, to which each is flashed in turn. Prints what it has.
 ///
-/// All are read, and their shapes compared, before OUT is created or emptied.
+/// All are read before OUT is created or emptied: their shapes are compared, and of files that have the names of pieces,
+/// as `PREFIX.1`, the blocks that they give. Those of a piece stand before those of the next, or it is of another cut.
 #[inline(never)]
 pub fn expand_several<'a, D: Disk>(
     disk: &mut D,
@@ -55,11 +56,15 @@ pub fn expand_several<'a, D: Disk>(
     let Expanded { blocks, bytes } = whole_of(shape);
     let mut zeros = disk.zeros(output, bytes)?;
     let answer = lay_all(disk, &mut report.progress, kept, &mut zeros, output, w, m);
-    let is_on_output = disk.close(zeros);
+    let end = disk.close(zeros, output);
     match answer {
         Ok(()) => {}
         Err(refusal) => return Err(refusal),
     }
+    let is_on_output = match end {
+        Ok(is_on_output) => is_on_output,
+        Err(refusal) => return Err(refusal.begun(output).into()),
+    };
     match printed(Expanded { blocks, bytes }, is_on_output, report) {
         Ok(()) => Ok(()),
         Err(refusal) => Err(refusal.into()),

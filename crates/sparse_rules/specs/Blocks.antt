@@ -21,4 +21,5 @@ RefusedCut (faults.Sparse fault) size long limit = ⊥
 RefusedCut (faults.Flash fault) size long limit = ⊥
 RefusedCut (faults.Verify fault) size long limit = ⊥
 RefusedCut (faults.OtherBlocks image) size long limit = ⊥
+RefusedCut (faults.OtherCut image) size long limit = ⊥
 RefusedCut (faults.Host fault) size long limit = ⊥

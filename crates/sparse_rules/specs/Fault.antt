@@ -23,6 +23,7 @@ wrong_words (faults.Piece fault) = false
 wrong_words (faults.Flash fault) = false
 wrong_words (faults.Verify fault) = false
 wrong_words (faults.OtherBlocks image) = false
+wrong_words (faults.OtherCut image) = false
 wrong_words (faults.Host fault) = is_not_text fault
 
 -- the number of a fault of an image or a device, which its own crate gives it
@@ -33,6 +34,7 @@ sparse_command_fault_number (faults.Piece fault) = Some (piece.piece_fault_numbe
 sparse_command_fault_number (faults.Flash fault) = Some (flash.flash_fault_number fault)
 sparse_command_fault_number (faults.Verify fault) = Some (verify.verify_fault_number fault)
 sparse_command_fault_number (faults.OtherBlocks image) = Some 36
+sparse_command_fault_number (faults.OtherCut image) = Some 38
 sparse_command_fault_number (faults.Host fault) = None
 
 -- the file that a stopped delivery is about
@@ -45,8 +47,8 @@ side_of_cause (causes.SpoolWrite fault) = sides.Spool
 side_of_cause (causes.SpoolRead fault) = sides.Spool
 side_of_cause causes.SpoolChanged = sides.Spool
 
--- 12 is not written, 17 too small, 18 not synced, 35 another byte, 37 not read: of what is written or compared; 15 is no
--- size of blocks, 16 too small a limit, 31 no piece: of the words; and all others are of what is read
+-- 12 is not written, 17 too small, 18 not synced, 35 another byte, 37 not read: of what is written or compared; 15 is
+-- no size of blocks, 16 too small a limit, 31 no piece: of the words; and all others are of what is read
 abbrev pub side_of_number : ℕ → Side
 side_of_number n =
     if n == 12 || (n == 17 || (n == 18 || (n == 35 || n == 37))) then sides.Output

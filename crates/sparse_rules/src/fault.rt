@@ -7,7 +7,7 @@ ghost use Rattle.sparse_rules.specs.declared.fault.SparseCommandFault.TheVariant
 
 use abt_io::Output;
 use abt_pieces::PieceFault;
-use abt_refusals::{HostFault, HostRefusal, Place, Refusal, Side, Told};
+use abt_refusals::{HostFault, HostRefusal, Magic, Place, Refusal, Side, Told};
 use abt_runs::RunFault;
 use abt_sparse::SparseFault;
 use abt_text::Text;
@@ -29,6 +29,8 @@ pub enum SparseCommandFault {
     Verify(VerifyFault),
     /// This one of several images has another block size or number of blocks than the first.
     OtherBlocks { image: u32 },
+    /// This one of several images is of another cut than a piece before it: its blocks are out of turn.
+    OtherCut { image: u32 },
     /// Of files, whatever they hold.
     Host(HostFault),
 }
@@ -56,6 +58,7 @@ impl SparseCommandFault {
             SparseCommandFault::Flash(fault) => Some(fault.number()),
             SparseCommandFault::Verify(fault) => Some(fault.number()),
             SparseCommandFault::OtherBlocks { .. } => Some(36),
+            SparseCommandFault::OtherCut { .. } => Some(38),
             SparseCommandFault::Host(_) => None,
         }
     }
@@ -73,6 +76,7 @@ impl Told for SparseCommandFault {
             SparseCommandFault::Flash(_) => false,
             SparseCommandFault::Verify(_) => false,
             SparseCommandFault::OtherBlocks { .. } => false,
+            SparseCommandFault::OtherCut { .. } => false,
         }
     }
 
@@ -96,10 +100,23 @@ impl Told for SparseCommandFault {
     fn advice(&self) -> &'static str {
         match self {
             SparseCommandFault::Host(fault) => fault.advice(),
+            SparseCommandFault::Piece(PieceFault::LimitTooSmall { least }) => {
+                advice_of_limit(*least)
+            }
+            SparseCommandFault::Flash(FlashFault::LimitTooSmall { least }) => {
+                advice_of_limit(*least)
+            }
             _ => match self.number() {
                 Some(number) => advice_of_number(number),
                 None => "",
             },
+        }
+    }
+
+    fn missing_magic(&self) -> Option<Magic> {
+        match self.number() {
+            Some(1) => Some(Magic::Sparse),
+            _ => None,
         }
     }
 
@@ -119,6 +136,9 @@ impl Told for SparseCommandFault {
             SparseCommandFault::Verify(fault) => text.short(format_args!("{fault}")),
             SparseCommandFault::OtherBlocks { image } => {
                 text.short(format_args!("36 OtherBlocks image {image}"));
+            }
+            SparseCommandFault::OtherCut { image } => {
+                text.short(format_args!("38 OtherCut image {image}"));
             }
             SparseCommandFault::Host(fault) => fault.put(place, text),
         }
@@ -149,9 +169,18 @@ fn side_of_number(number: u32) -> Side
     }
 }
 
+// Of a limit that is less than so many bytes.
+fn advice_of_limit(least: u64) -> &'static str {
+    if least <= u32::MAX as u64 {
+        "give a LIMIT of so many bytes"
+    } else {
+        "no LIMIT has room for it, so it can't be cut: take smaller blocks"
+    }
+}
+
 fn advice_of_number(number: u32) -> &'static str {
     match number {
-        1 => "it is no sparse image; a raw one is cut and flashed with --raw",
+        1 => "it is no sparse image; a raw one is cut, flashed and verified with --raw",
         2..=9 => "its sparse header or a chunk is damaged; fetch or make it again",
         10 => "it ends there, before its last chunk; fetch or copy it again",
         11 => "it cannot be read",
@@ -159,7 +188,6 @@ fn advice_of_number(number: u32) -> &'static str {
         13 => "it has more blocks than a sparse image can count; choose greater blocks",
         14 => "it changed while it was read; try again when nothing writes it",
         15 => "a block has a multiple of 4 bytes, at most 65536",
-        16 => "give a LIMIT of so many bytes",
         17 => "it has fewer bytes than the image needs; nothing of it was written",
         18 => "it was written, but could not be synced",
         19 => "it failed",
@@ -167,6 +195,7 @@ fn advice_of_number(number: u32) -> &'static str {
         35 => "that byte is not the image's, or is missing; flash it again",
         36 => "it has another block size or number of blocks than the first image",
         37 => "it cannot be read",
+        38 => "its blocks are out of turn with an earlier piece's; remove what an older cut left",
         _ => "",
     }
 }

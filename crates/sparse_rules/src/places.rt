@@ -1,7 +1,7 @@
 //! The files that the words name: an image that is read at any place, and those of pieces.
 
-ghost use Rattle.std.specs.Prelude.{◌≡◌, ◌<◌, ◌+◌, None, Some};
-ghost use Rattle.abt_refusals.specs.Paths.{path_of};
+ghost use Rattle.std.specs.Prelude.{◌≡◌, ◌<◌, ◌+◌, ℕ, None, Some};
+ghost use Rattle.abt_refusals.specs.Paths.{numbered, path_of};
 ghost use Rattle.sparse_rules.specs.ImagePath.{image_path};
 
 use abt_refusals::Place;
@@ -33,6 +33,18 @@ impl<'a> PieceFiles<'a> {
         ensures none { result.count ≡ 0 }
     {
         PieceFiles { prefix, count: 0 }
+    }
+
+    /// The name that all have in front of their numbers.
+    pub fn front(&self) -> Place<'a>
+        ensures { (n : ℕ) → path_of (record result { number = Some n }) ≡ numbered self.now.prefix.now (Some n) }
+    {
+        Place {
+            role: "PIECE",
+            folder: None,
+            name: self.prefix,
+            number: None,
+        }
     }
 
     /// The file of the next piece, which is counted.

@@ -1,6 +1,6 @@
 //! What is printed of a sparse image: its listing, and the demonstration that the program shows without words.
 //!
-//! `report_list` prints exactly the text that the image has, and `demo` its line.
+//! `report_list` prints exactly the text that the image has, also where each line of it is awaited, and `demo` its line.
 //!
 //! | file | has |
 //! |---|---|

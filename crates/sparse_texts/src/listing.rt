@@ -17,10 +17,12 @@ use abt_text::Text;
 /// Prints the header and each chunk of the sparse image at the front of the input.
 ///
 /// A chunk is printed once its data is read, so what stands after a fault are the lines of what came before it. A write
-/// that fails is `Write`.
+/// that fails is `Write`. Where who reads the lines waits for them, as on a terminal, each goes out before what follows
+/// it is read.
 pub fn report_list<I: Input, O: Output>(
     input: &mut I,
     out: &mut O,
+    is_awaited: bool,
     w: &mut Window,
     m: &mut Meter,
 ) -> Result<(), SparseFault>
@@ -38,10 +40,20 @@ pub fn report_list<I: Input, O: Output>(
     ensures clean { OnOk result (O.write_faults out.new ≡ O.write_faults out.old) }
 {
     let mut text = Text::new(out);
+    send_each_line_if(is_awaited, &mut text);
     let listed = lines(input, &mut text, w, m);
     match text.finish() {
         Ok(()) => listed,
         Err(fault) => Err(SparseFault::Write(fault)),
+    }
+}
+
+// Who waits for the lines gets each as it ends.
+fn send_each_line_if<O: Output>(is_awaited: bool, text: &mut Text<'_, O>)
+    ensures { text.new ≡ record text.old { enough = text.new.enough } }
+{
+    if is_awaited {
+        text.send_each_line();
     }
 }
 

@@ -4,20 +4,20 @@ use Rattle.abootimg.proofs.Statuses.{spares_as, status_zero, told_done}
 use Rattle.abootimg.proofs.sparse_task.do_sparse.Goals as goal
 
 pub returns-clause-done : goal.returns-clause-done
-returns-clause-done g c = λ t zero_is. status_zero c.sparse_command-outcome.result c.answer.result _
-    (λ e. wrong_words e.fault) c.answer.ensures.refused zero_is
+returns-clause-done g c = λ t zero_is. status_zero c.sparse_command-outcome.result c.told.result _
+    (λ e. wrong_words e.fault) c.told.ensures.refused zero_is
     (told_done c.sparse_command-outcome.result c.args.task
     (state (g.D.Disk.world c.args.disk.now) (g.D.Disk.held c.args.disk.now) c.args.report.now)
     (g.D.Disk.world c.sparse_command-outcome.new.disk) (g.D.Disk.held c.sparse_command-outcome.new.disk)
-    c.sparse_command-outcome.new.report c.answer.new.report (c.sparse_command-outcome.ensures.done t)
-    c.answer.ensures.quiet)
+    c.sparse_command-outcome.new.report c.told.new.report (c.sparse_command-outcome.ensures.done t)
+    c.told.ensures.quiet)
 
 pub returns-clause-clean : goal.returns-clause-clean
-returns-clause-clean g c = λ t zero_is. status_zero c.sparse_command-outcome.result c.answer.result _
-    (λ e. wrong_words e.fault) c.answer.ensures.refused zero_is (c.sparse_command-outcome.ensures.leaves t).clean
+returns-clause-clean g c = λ t zero_is. status_zero c.sparse_command-outcome.result c.told.result _
+    (λ e. wrong_words e.fault) c.told.ensures.refused zero_is (c.sparse_command-outcome.ensures.leaves t).clean
 
 pub returns-clause-spares : goal.returns-clause-spares
 returns-clause-spares g c = λ t. spares_as c.args.task
     (state (g.D.Disk.world c.args.disk.now) (g.D.Disk.held c.args.disk.now) c.args.report.now)
     (g.D.Disk.world c.sparse_command-outcome.new.disk) (g.D.Disk.held c.sparse_command-outcome.new.disk)
-    c.sparse_command-outcome.new.report c.answer.new.report (c.sparse_command-outcome.ensures.leaves t).spares
+    c.sparse_command-outcome.new.report c.told.new.report (c.sparse_command-outcome.ensures.leaves t).spares

@@ -20,4 +20,5 @@ returns-in-Some-command_named g c =
           )));
       asks = c.in_ok-task_for.ensures.asks;
       synced = c.flag-in-Some-command_named.ensures;
+      mounted = c.flag-in-Some-command_named-2.ensures;
     }

@@ -1,15 +1,15 @@
-use Rattle.std.proofs.Common.{rules, arith, ap, ◌≡◌, length}
+use Rattle.std.proofs.Common.{rules, arith, ap, refl, ◌≡◌, length}
 use Rattle.flash_bodies.specs.Flashing.{IsFlashed}
 use Rattle.flash_bodies.proofs.Refusals.{flash_untold, handed_on, is_flashed, on_ok, refuses_flash}
-use Rattle.flash_bodies.proofs.Written.{as_long, ran, ran_clean, ran_failed, settled_once}
+use Rattle.flash_bodies.proofs.Written.{as_long, ran, ran_clean, ran_failed, ran_unclosed, settled_once}
 use Rattle.flash_bodies.proofs.flash.flash_file.Goals as goal
 
 pub returns-in-Err-clause-leaves : goal.returns-in-Err-clause-leaves
 returns-in-Err-clause-leaves g c = λ t.
-    let all = ran _ _ _ _ _ _ _ _ _ _ _ _ _ _ _ _ _ (g.D.Part.Partition.past c.flashed-answer.new.onto)
+    let all = ran _ _ _ _ _ _ _ _ _ _ _ _ _ _ _ _ _ (g.D.Part.Partition.past c.flashed-answer.new.onto) _ _
     (c.in_ok-from.ensures.opened t) (c.in_ok-from.ensures.world t)
     (c.in_ok-onto.ensures.opened t) (c.in_ok-onto.ensures.world t) (c.let_go.ensures.held t) (c.let_go.ensures.world t)
-    (c.closed.ensures.ended t) (c.closed.ensures.paths t) (c.closed.ensures.closed t) in
+    (c.closed.ensures.ended t) (c.closed.ensures.paths t) (c.in-Err.ensures.closed t) in
     record {
       others = all.others;
       input = all.kept;
@@ -18,10 +18,10 @@ returns-in-Err-clause-leaves g c = λ t.
 
 pub returns-in_err-line_beside-clause-leaves : goal.returns-in_err-line_beside-clause-leaves
 returns-in_err-line_beside-clause-leaves g c = λ t.
-    let all = ran _ _ _ _ _ _ _ _ _ _ _ _ _ _ _ _ _ (g.D.Part.Partition.past c.flashed-answer.new.onto)
+    let all = ran _ _ _ _ _ _ _ _ _ _ _ _ _ _ _ _ _ (g.D.Part.Partition.past c.flashed-answer.new.onto) _ _
     (c.in_ok-from.ensures.opened t) (c.in_ok-from.ensures.world t)
     (c.in_ok-onto.ensures.opened t) (c.in_ok-onto.ensures.world t) (c.let_go.ensures.held t) (c.let_go.ensures.world t)
-    (c.closed.ensures.ended t) (c.closed.ensures.paths t) (c.closed.ensures.closed t) in
+    (c.closed.ensures.ended t) (c.closed.ensures.paths t) (c.in-Ok.ensures.closed t) in
     record {
       others = all.others;
       input = all.kept;
@@ -30,35 +30,38 @@ returns-in_err-line_beside-clause-leaves g c = λ t.
 
 pub returns-clause-leaves : goal.returns-clause-leaves
 returns-clause-leaves g c = λ t.
-    let all = ran _ _ _ _ _ _ _ _ _ _ _ _ _ _ _ _ _ (g.D.Part.Partition.past c.flashed-answer.new.onto)
+    let all = ran _ _ _ _ _ _ _ _ _ _ _ _ _ _ _ _ _ (g.D.Part.Partition.past c.flashed-answer.new.onto) _ _
     (c.in_ok-from.ensures.opened t) (c.in_ok-from.ensures.world t)
     (c.in_ok-onto.ensures.opened t) (c.in_ok-onto.ensures.world t) (c.let_go.ensures.held t) (c.let_go.ensures.world t)
-    (c.closed.ensures.ended t) (c.closed.ensures.paths t) (c.closed.ensures.closed t) in
+    (c.closed.ensures.ended t) (c.closed.ensures.paths t) (c.in-Ok.ensures.closed t) in
     record {
       others = all.others;
       input = all.kept;
-      clean = ran_clean _ _ _ _ _ _ _ _ _ _ _ _ _ _ all (c.in_ok-from.ensures.clean t) (c.in_ok-onto.ensures.clean t)
-          (on_ok c.flashed-answer.result c.in-Ok.end.0 _ c.in-Ok.ensures.done c.flashed-answer.ensures.clean);
+      clean = ran_clean _ _ _ _ _ _ _ _ _ _ _ _ _ _ _ all (c.in_ok-from.ensures.clean t) (c.in_ok-onto.ensures.clean t)
+          (on_ok c.flashed-answer.result c.in-Ok.end.0 _ c.in-Ok.ensures.done c.flashed-answer.ensures.clean)
+          ((c.in-Ok.ensures.closed t).clean refl);
     }
 
 pub returns-in-Err-clause-refused : goal.returns-in-Err-clause-refused
 returns-in-Err-clause-refused g c = λ t.
-    let all = ran _ _ _ _ _ _ _ _ _ _ _ _ _ _ _ _ _ (g.D.Part.Partition.past c.flashed-answer.new.onto)
+    let all = ran _ _ _ _ _ _ _ _ _ _ _ _ _ _ _ _ _ (g.D.Part.Partition.past c.flashed-answer.new.onto) _ _
     (c.in_ok-from.ensures.opened t) (c.in_ok-from.ensures.world t)
     (c.in_ok-onto.ensures.opened t) (c.in_ok-onto.ensures.world t) (c.let_go.ensures.held t) (c.let_go.ensures.world t)
-    (c.closed.ensures.ended t) (c.closed.ensures.paths t) (c.closed.ensures.closed t) in
+    (c.closed.ensures.ended t) (c.closed.ensures.paths t) (c.in-Err.ensures.closed t) in
     refuses_flash c.flashed-answer.result c.in-Err.refusal.fault _ _ _ _ _ _ _ _ _ _ c.in-Err.ensures.told
-    (ran_failed _ _ _ _ _ _ _ _ _ _ _ _ _ _ all (c.in_ok-from.ensures.clean t) (c.in_ok-onto.ensures.clean t)) all.with_files
+    c.in-Err.ensures.host (λ ok. ran_unclosed _ _ _ _ _ _ _ _ _ _ _ _ all ((c.in-Err.ensures.closed t).cause ok refl))
+    (ran_failed _ _ _ _ _ _ _ _ _ _ _ _ _ _ _ all (c.in_ok-from.ensures.clean t) (c.in_ok-onto.ensures.clean t))
+    all.with_files
     (c.flashed-answer.ensures.lays (g.met.D.Disk.told t) (g.met.D.Disk.part_told t))
 
 pub returns-clause-done : goal.returns-clause-done
 returns-clause-done g c = λ t.
     let f = c.flashed-answer.ensures in
     let done = c.in-Ok.ensures.done in
-    let all = ran _ _ _ _ _ _ _ _ _ _ _ _ _ _ _ _ _ (g.D.Part.Partition.past c.flashed-answer.new.onto)
+    let all = ran _ _ _ _ _ _ _ _ _ _ _ _ _ _ _ _ _ (g.D.Part.Partition.past c.flashed-answer.new.onto) _ _
     (c.in_ok-from.ensures.opened t) (c.in_ok-from.ensures.world t)
     (c.in_ok-onto.ensures.opened t) (c.in_ok-onto.ensures.world t) (c.let_go.ensures.held t) (c.let_go.ensures.world t)
-    (c.closed.ensures.ended t) (c.closed.ensures.paths t) (c.closed.ensures.closed t) in
+    (c.closed.ensures.ended t) (c.closed.ensures.paths t) (c.in-Ok.ensures.closed t) in
     record {
       blocks = c.in-Ok.end.0;
       flashed = all.with_files (IsFlashed c.in-Ok.end.0) (is_flashed c.flashed-answer.result c.in-Ok.end.0 _ _ _ _ done
@@ -74,10 +77,10 @@ pub returns-in_err-line_beside-clause-refused : goal.returns-in_err-line_beside-
 returns-in_err-line_beside-clause-refused g c = λ t.
     let f = c.flashed-answer.ensures in
     let done = c.in-Ok.ensures.done in
-    let all = ran _ _ _ _ _ _ _ _ _ _ _ _ _ _ _ _ _ (g.D.Part.Partition.past c.flashed-answer.new.onto)
+    let all = ran _ _ _ _ _ _ _ _ _ _ _ _ _ _ _ _ _ (g.D.Part.Partition.past c.flashed-answer.new.onto) _ _
     (c.in_ok-from.ensures.opened t) (c.in_ok-from.ensures.world t)
     (c.in_ok-onto.ensures.opened t) (c.in_ok-onto.ensures.world t) (c.let_go.ensures.held t) (c.let_go.ensures.world t)
-    (c.closed.ensures.ended t) (c.closed.ensures.paths t) (c.closed.ensures.closed t) in
+    (c.closed.ensures.ended t) (c.closed.ensures.paths t) (c.in-Ok.ensures.closed t) in
     handed_on c.from_residual-in_err-line_beside.result _ _ (λ r made. flash_untold r.fault _ _ _ _ _ _ _ made (record {
       blocks = c.in-Ok.end.0;
       flashed = all.with_files (IsFlashed c.in-Ok.end.0) (is_flashed c.flashed-answer.result c.in-Ok.end.0 _ _ _ _ done

@@ -1,15 +1,16 @@
-use Rattle.std.proofs.Common.{rules, arith, ap, ◌≡◌, length}
+use Rattle.std.proofs.Common.{rules, arith, ap, refl, ◌≡◌, length}
 use Rattle.flash_bodies.specs.FlashingRaw.{IsFlashedRaw}
 use Rattle.flash_bodies.proofs.Refusals.{raw_untold, handed_on, is_flashed_raw, on_ok, refuses_raw}
-use Rattle.flash_bodies.proofs.Written.{as_long, ran, ran_clean, ran_failed, settled_once}
+use Rattle.flash_bodies.proofs.Written.{as_long, ran, ran_clean, ran_failed, ran_unclosed, settled_once}
 use Rattle.flash_bodies.proofs.flash_raw.flash_raw_file.Goals as goal
 
 pub returns-in-Err-clause-leaves : goal.returns-in-Err-clause-leaves
 returns-in-Err-clause-leaves g c = λ t.
-    let all = ran _ _ _ _ _ _ _ _ _ _ _ _ _ _ _ _ _ (g.D.Part.Partition.past c.flash_blocks-answer.new.onto)
+    let all = ran _ _ _ _ _ _ _ _ _ _ _ _ _ _ _ _ _ (g.D.Part.Partition.past c.flash_blocks-answer.new.onto) _ _
     (c.in_ok-source.ensures.opened t) (c.in_ok-source.ensures.world t)
-    (c.in_ok-onto.ensures.opened t) (c.in_ok-onto.ensures.world t) (c.let_go_source.ensures.held t) (c.let_go_source.ensures.world t)
-    (c.closed.ensures.ended t) (c.closed.ensures.paths t) (c.closed.ensures.closed t) in
+    (c.in_ok-onto.ensures.opened t) (c.in_ok-onto.ensures.world t) (c.let_go_source.ensures.held t)
+    (c.let_go_source.ensures.world t)
+    (c.closed.ensures.ended t) (c.closed.ensures.paths t) (c.in-Err.ensures.closed t) in
     record {
       others = all.others;
       input = all.kept;
@@ -18,10 +19,11 @@ returns-in-Err-clause-leaves g c = λ t.
 
 pub returns-in_err-line_beside-clause-leaves : goal.returns-in_err-line_beside-clause-leaves
 returns-in_err-line_beside-clause-leaves g c = λ t.
-    let all = ran _ _ _ _ _ _ _ _ _ _ _ _ _ _ _ _ _ (g.D.Part.Partition.past c.flash_blocks-answer.new.onto)
+    let all = ran _ _ _ _ _ _ _ _ _ _ _ _ _ _ _ _ _ (g.D.Part.Partition.past c.flash_blocks-answer.new.onto) _ _
     (c.in_ok-source.ensures.opened t) (c.in_ok-source.ensures.world t)
-    (c.in_ok-onto.ensures.opened t) (c.in_ok-onto.ensures.world t) (c.let_go_source.ensures.held t) (c.let_go_source.ensures.world t)
-    (c.closed.ensures.ended t) (c.closed.ensures.paths t) (c.closed.ensures.closed t) in
+    (c.in_ok-onto.ensures.opened t) (c.in_ok-onto.ensures.world t) (c.let_go_source.ensures.held t)
+    (c.let_go_source.ensures.world t)
+    (c.closed.ensures.ended t) (c.closed.ensures.paths t) (c.in-Ok.ensures.closed t) in
     record {
       others = all.others;
       input = all.kept;
@@ -30,38 +32,47 @@ returns-in_err-line_beside-clause-leaves g c = λ t.
 
 pub returns-clause-leaves : goal.returns-clause-leaves
 returns-clause-leaves g c = λ t.
-    let all = ran _ _ _ _ _ _ _ _ _ _ _ _ _ _ _ _ _ (g.D.Part.Partition.past c.flash_blocks-answer.new.onto)
+    let all = ran _ _ _ _ _ _ _ _ _ _ _ _ _ _ _ _ _ (g.D.Part.Partition.past c.flash_blocks-answer.new.onto) _ _
     (c.in_ok-source.ensures.opened t) (c.in_ok-source.ensures.world t)
-    (c.in_ok-onto.ensures.opened t) (c.in_ok-onto.ensures.world t) (c.let_go_source.ensures.held t) (c.let_go_source.ensures.world t)
-    (c.closed.ensures.ended t) (c.closed.ensures.paths t) (c.closed.ensures.closed t) in
+    (c.in_ok-onto.ensures.opened t) (c.in_ok-onto.ensures.world t) (c.let_go_source.ensures.held t)
+    (c.let_go_source.ensures.world t)
+    (c.closed.ensures.ended t) (c.closed.ensures.paths t) (c.in-Ok.ensures.closed t) in
     record {
       others = all.others;
       input = all.kept;
-      clean = ran_clean _ _ _ _ _ _ _ _ _ _ _ _ _ _ all (c.in_ok-source.ensures.clean t) (c.in_ok-onto.ensures.clean t)
-          (on_ok c.flash_blocks-answer.result c.in-Ok.end.0 _ c.in-Ok.ensures.done c.flash_blocks-answer.ensures.clean);
+      clean = ran_clean _ _ _ _ _ _ _ _ _ _ _ _ _ _ _ all (c.in_ok-source.ensures.clean t)
+          (c.in_ok-onto.ensures.clean t)
+          (on_ok c.flash_blocks-answer.result c.in-Ok.end.0 _ c.in-Ok.ensures.done
+          c.flash_blocks-answer.ensures.clean) ((c.in-Ok.ensures.closed t).clean refl);
     }
 
 pub returns-in-Err-clause-refused : goal.returns-in-Err-clause-refused
 returns-in-Err-clause-refused g c = λ t.
-    let all = ran _ _ _ _ _ _ _ _ _ _ _ _ _ _ _ _ _ (g.D.Part.Partition.past c.flash_blocks-answer.new.onto)
+    let all = ran _ _ _ _ _ _ _ _ _ _ _ _ _ _ _ _ _ (g.D.Part.Partition.past c.flash_blocks-answer.new.onto) _ _
     (c.in_ok-source.ensures.opened t) (c.in_ok-source.ensures.world t)
-    (c.in_ok-onto.ensures.opened t) (c.in_ok-onto.ensures.world t) (c.let_go_source.ensures.held t) (c.let_go_source.ensures.world t)
-    (c.closed.ensures.ended t) (c.closed.ensures.paths t) (c.closed.ensures.closed t) in
-    refuses_raw c.flash_blocks-answer.result c.in-Err.refusal.fault _ c.args.size _ _ _ _ _ _ _ _ _ c.in-Err.ensures.told
-    (ran_failed _ _ _ _ _ _ _ _ _ _ _ _ _ _ all (c.in_ok-source.ensures.clean t) (c.in_ok-onto.ensures.clean t)) all.with_files
+    (c.in_ok-onto.ensures.opened t) (c.in_ok-onto.ensures.world t) (c.let_go_source.ensures.held t)
+    (c.let_go_source.ensures.world t)
+    (c.closed.ensures.ended t) (c.closed.ensures.paths t) (c.in-Err.ensures.closed t) in
+    refuses_raw c.flash_blocks-answer.result c.in-Err.refusal.fault _ c.args.size _ _ _ _ _ _ _ _ _
+    c.in-Err.ensures.told
+    c.in-Err.ensures.host (λ ok. ran_unclosed _ _ _ _ _ _ _ _ _ _ _ _ all ((c.in-Err.ensures.closed t).cause ok refl))
+    (ran_failed _ _ _ _ _ _ _ _ _ _ _ _ _ _ _ all (c.in_ok-source.ensures.clean t) (c.in_ok-onto.ensures.clean t))
+    all.with_files
     (c.flash_blocks-answer.ensures.lays (g.met.D.Disk.source_told t) (g.met.D.Disk.part_told t))
 
 pub returns-clause-done : goal.returns-clause-done
 returns-clause-done g c = λ t.
     let f = c.flash_blocks-answer.ensures in
     let done = c.in-Ok.ensures.done in
-    let all = ran _ _ _ _ _ _ _ _ _ _ _ _ _ _ _ _ _ (g.D.Part.Partition.past c.flash_blocks-answer.new.onto)
+    let all = ran _ _ _ _ _ _ _ _ _ _ _ _ _ _ _ _ _ (g.D.Part.Partition.past c.flash_blocks-answer.new.onto) _ _
     (c.in_ok-source.ensures.opened t) (c.in_ok-source.ensures.world t)
-    (c.in_ok-onto.ensures.opened t) (c.in_ok-onto.ensures.world t) (c.let_go_source.ensures.held t) (c.let_go_source.ensures.world t)
-    (c.closed.ensures.ended t) (c.closed.ensures.paths t) (c.closed.ensures.closed t) in
+    (c.in_ok-onto.ensures.opened t) (c.in_ok-onto.ensures.world t) (c.let_go_source.ensures.held t)
+    (c.let_go_source.ensures.world t)
+    (c.closed.ensures.ended t) (c.closed.ensures.paths t) (c.in-Ok.ensures.closed t) in
     record {
       blocks = c.in-Ok.end.0;
-      flashed = all.with_files (IsFlashedRaw c.in-Ok.end.0 c.args.size) (is_flashed_raw c.flash_blocks-answer.result c.in-Ok.end.0 c.args.size _ _ _ _ done
+      flashed = all.with_files (IsFlashedRaw c.in-Ok.end.0 c.args.size)
+          (is_flashed_raw c.flash_blocks-answer.result c.in-Ok.end.0 c.args.size _ _ _ _ done
           (f.lays (g.met.D.Disk.source_told t) (g.met.D.Disk.part_told t)));
       synced = all.synced (settled_once (g.D.Part.Partition.past c.in_ok-onto.onto)
           (g.D.Part.Partition.past c.flash_blocks-answer.new.onto) (c.in_ok-onto.ensures.past t)
@@ -74,13 +85,16 @@ pub returns-in_err-line_beside-clause-refused : goal.returns-in_err-line_beside-
 returns-in_err-line_beside-clause-refused g c = λ t.
     let f = c.flash_blocks-answer.ensures in
     let done = c.in-Ok.ensures.done in
-    let all = ran _ _ _ _ _ _ _ _ _ _ _ _ _ _ _ _ _ (g.D.Part.Partition.past c.flash_blocks-answer.new.onto)
+    let all = ran _ _ _ _ _ _ _ _ _ _ _ _ _ _ _ _ _ (g.D.Part.Partition.past c.flash_blocks-answer.new.onto) _ _
     (c.in_ok-source.ensures.opened t) (c.in_ok-source.ensures.world t)
-    (c.in_ok-onto.ensures.opened t) (c.in_ok-onto.ensures.world t) (c.let_go_source.ensures.held t) (c.let_go_source.ensures.world t)
-    (c.closed.ensures.ended t) (c.closed.ensures.paths t) (c.closed.ensures.closed t) in
-    handed_on c.from_residual-in_err-line_beside.result _ _ (λ r made. raw_untold r.fault _ c.args.size _ _ _ _ _ _ made (record {
+    (c.in_ok-onto.ensures.opened t) (c.in_ok-onto.ensures.world t) (c.let_go_source.ensures.held t)
+    (c.let_go_source.ensures.world t)
+    (c.closed.ensures.ended t) (c.closed.ensures.paths t) (c.in-Ok.ensures.closed t) in
+    handed_on c.from_residual-in_err-line_beside.result _ _
+    (λ r made. raw_untold r.fault _ c.args.size _ _ _ _ _ _ made (record {
       blocks = c.in-Ok.end.0;
-      flashed = all.with_files (IsFlashedRaw c.in-Ok.end.0 c.args.size) (is_flashed_raw c.flash_blocks-answer.result c.in-Ok.end.0 c.args.size _ _ _ _ done
+      flashed = all.with_files (IsFlashedRaw c.in-Ok.end.0 c.args.size)
+          (is_flashed_raw c.flash_blocks-answer.result c.in-Ok.end.0 c.args.size _ _ _ _ done
           (f.lays (g.met.D.Disk.source_told t) (g.met.D.Disk.part_told t)));
       synced = all.synced (settled_once (g.D.Part.Partition.past c.in_ok-onto.onto)
           (g.D.Part.Partition.past c.flash_blocks-answer.new.onto) (c.in_ok-onto.ensures.past t)

@@ -1,4 +1,4 @@
-use Rattle.std.proofs.Common.{rules, ap, sym, ◌∙◌, ◌≡◌, ◌-◌, arith}
+use Rattle.std.proofs.Common.{rules, ap, refl, sym, ◌∙◌, ◌≡◌, ◌-◌, arith}
 use Rattle.std.specs.Prelude.{max}
 use Rattle.abt_io.specs.Moment.{Past}
 use Rattle.flash_bodies.proofs.Crossing.{as_long_across, crossed, only_both, only_kept}
@@ -11,11 +11,11 @@ use Rattle.flash_bodies.proofs.pieces.flash_pieces_file.Goals as goal
 pub returns-in-Err-closed-clause-leaves : goal.returns-in-Err-closed-clause-leaves
 returns-in-Err-closed-clause-leaves g c = λ t.
     let all = crossed _ _ _ _ _ _ _ _ _ _ _ _ _ _ _ _ _ _ _ _ _ _
-    (g.D.Part.Partition.past c.delivered_through-answer.new.onto) (c.in_ok-source.ensures.opened t)
+    (g.D.Part.Partition.past c.delivered_through-answer.new.onto) _ _ (c.in_ok-source.ensures.opened t)
     (c.in_ok-source.ensures.world t) (c.in_ok-onto.ensures.opened t) (c.in_ok-onto.ensures.world t)
     (c.in_ok-through.ensures.opened t) (c.delivered_through-answer.ensures.closed t)
     (c.delivered_through-answer.ensures.rest t) (c.let_go_source.ensures.held t) (c.let_go_source.ensures.world t)
-    (c.closed.ensures.ended t) (c.closed.ensures.paths t) (c.closed.ensures.closed t) in
+    (c.closed.ensures.ended t) (c.closed.ensures.paths t) (c.in-Err-closed.ensures.closed t) in
     record {
       others = all.others;
       input = all.kept;
@@ -25,11 +25,11 @@ returns-in-Err-closed-clause-leaves g c = λ t.
 pub returns-in_err-line_beside-clause-leaves : goal.returns-in_err-line_beside-clause-leaves
 returns-in_err-line_beside-clause-leaves g c = λ t.
     let all = crossed _ _ _ _ _ _ _ _ _ _ _ _ _ _ _ _ _ _ _ _ _ _
-    (g.D.Part.Partition.past c.delivered_through-answer.new.onto) (c.in_ok-source.ensures.opened t)
+    (g.D.Part.Partition.past c.delivered_through-answer.new.onto) _ _ (c.in_ok-source.ensures.opened t)
     (c.in_ok-source.ensures.world t) (c.in_ok-onto.ensures.opened t) (c.in_ok-onto.ensures.world t)
     (c.in_ok-through.ensures.opened t) (c.delivered_through-answer.ensures.closed t)
     (c.delivered_through-answer.ensures.rest t) (c.let_go_source.ensures.held t) (c.let_go_source.ensures.world t)
-    (c.closed.ensures.ended t) (c.closed.ensures.paths t) (c.closed.ensures.closed t) in
+    (c.closed.ensures.ended t) (c.closed.ensures.paths t) (c.in-Ok.ensures.closed t) in
     record {
       others = all.others;
       input = all.kept;
@@ -39,18 +39,19 @@ returns-in_err-line_beside-clause-leaves g c = λ t.
 pub returns-clause-leaves : goal.returns-clause-leaves
 returns-clause-leaves g c = λ t.
     let all = crossed _ _ _ _ _ _ _ _ _ _ _ _ _ _ _ _ _ _ _ _ _ _
-    (g.D.Part.Partition.past c.delivered_through-answer.new.onto) (c.in_ok-source.ensures.opened t)
+    (g.D.Part.Partition.past c.delivered_through-answer.new.onto) _ _ (c.in_ok-source.ensures.opened t)
     (c.in_ok-source.ensures.world t) (c.in_ok-onto.ensures.opened t) (c.in_ok-onto.ensures.world t)
     (c.in_ok-through.ensures.opened t) (c.delivered_through-answer.ensures.closed t)
     (c.delivered_through-answer.ensures.rest t) (c.let_go_source.ensures.held t) (c.let_go_source.ensures.world t)
-    (c.closed.ensures.ended t) (c.closed.ensures.paths t) (c.closed.ensures.closed t) in
+    (c.closed.ensures.ended t) (c.closed.ensures.paths t) (c.in-Ok.ensures.closed t) in
     record {
       others = all.others;
       input = all.kept;
-      clean = clean_across c.delivered_through-answer.result c.in-Ok.end.0 _ _ _ _ _ _ _ _ _ _ _ _ _ _ _ _ all
+      clean = clean_across c.delivered_through-answer.result.0 c.in-Ok.end.0 _ _ _ _ _ _ _ _ _ _ _ _ _ _ _ _ _ all
           (sym c.counted.ensures ∙ c.in-Ok.ensures.done)
-          (none_of _ _ _ (c.in_ok-source.ensures.clean t) (c.in_ok-onto.ensures.clean t) (c.in_ok-through.ensures.clean t))
-          (c.delivered_through-answer.ensures.clean t);
+          (none_of _ _ _ (c.in_ok-source.ensures.clean t) (c.in_ok-onto.ensures.clean t)
+          (c.in_ok-through.ensures.clean t))
+          (c.delivered_through-answer.ensures.clean t) ((c.in-Ok.ensures.closed t).clean refl);
     }
 
 pub returns-in_err-through-clause-leaves : goal.returns-in_err-through-clause-leaves
@@ -73,13 +74,15 @@ returns-in-Err-closed-clause-refused g c = λ t.
     let most = c.max-from.ensures in
     let same : c.max-from.result - 1 ≡ max 1 c.args.from - 1 = omega (arith, most) in
     let all = crossed _ _ _ _ _ _ _ _ _ _ _ _ _ _ _ _ _ _ _ _ _ _
-    (g.D.Part.Partition.past c.delivered_through-answer.new.onto) (c.in_ok-source.ensures.opened t)
+    (g.D.Part.Partition.past c.delivered_through-answer.new.onto) _ _ (c.in_ok-source.ensures.opened t)
     (c.in_ok-source.ensures.world t) (c.in_ok-onto.ensures.opened t) (c.in_ok-onto.ensures.world t)
     (c.in_ok-through.ensures.opened t) (c.delivered_through-answer.ensures.closed t)
     (c.delivered_through-answer.ensures.rest t) (c.let_go_source.ensures.held t) (c.let_go_source.ensures.world t)
-    (c.closed.ensures.ended t) (c.closed.ensures.paths t) (c.closed.ensures.closed t) in
-    refuses_across c.delivered_through-answer.result c.in-Err-closed.refusal.fault _ _ _ c.args.raw c.args.limit _ _
-    _ _ _ _ _ _ _ _ _ _ _ _ _ all (sym c.counted.ensures ∙ c.in-Err-closed.ensures.told)
+    (c.closed.ensures.ended t) (c.closed.ensures.paths t) (c.in-Err-closed.ensures.closed t) in
+    refuses_across c.counted.result c.delivered_through-answer.result.0 c.in-Err-closed.refusal.fault _ _ _ _
+    c.args.raw c.args.limit _ _
+    _ _ _ _ _ _ _ _ _ _ _ _ _ all c.counted.ensures c.in-Err-closed.ensures.told c.in-Err-closed.ensures.host
+    (λ ok. (c.in-Err-closed.ensures.closed t).cause ok refl)
     (none_of _ _ _ (c.in_ok-source.ensures.clean t) (c.in_ok-onto.ensures.clean t) (c.in_ok-through.ensures.clean t))
     same (c.delivered_through-answer.ensures.delivers t (ap (λ (q : Past). q.pending) (c.in_ok-onto.ensures.past t)))
 
@@ -89,15 +92,17 @@ returns-clause-done g c = λ t.
     let same : c.max-from.result - 1 ≡ max 1 c.args.from - 1 = omega (arith, most) in
     let d = c.delivered_through-answer.ensures in
     let all = crossed _ _ _ _ _ _ _ _ _ _ _ _ _ _ _ _ _ _ _ _ _ _
-    (g.D.Part.Partition.past c.delivered_through-answer.new.onto) (c.in_ok-source.ensures.opened t)
+    (g.D.Part.Partition.past c.delivered_through-answer.new.onto) _ _ (c.in_ok-source.ensures.opened t)
     (c.in_ok-source.ensures.world t) (c.in_ok-onto.ensures.opened t) (c.in_ok-onto.ensures.world t)
     (c.in_ok-through.ensures.opened t) (c.delivered_through-answer.ensures.closed t)
     (c.delivered_through-answer.ensures.rest t) (c.let_go_source.ensures.held t) (c.let_go_source.ensures.world t)
-    (c.closed.ensures.ended t) (c.closed.ensures.paths t) (c.closed.ensures.closed t) in
-    done_across c.delivered_through-answer.result c.in-Ok.end.0 _ c.args.raw c.args.limit _ _ _ _ _ _ _ _ _ _ _ _ _ _ _
+    (c.closed.ensures.ended t) (c.closed.ensures.paths t) (c.in-Ok.ensures.closed t) in
+    done_across c.delivered_through-answer.result.0 c.in-Ok.end.0 _ c.args.raw c.args.limit _ _ _ _ _ _ _ _ _ _ _ _ _
+    _ _
     (g.D.Part.Partition.past c.in_ok-onto.onto) (g.D.Part.Partition.past c.delivered_through-answer.new.onto) _ all
     (sym c.counted.ensures ∙ c.in-Ok.ensures.done) (c.in_ok-onto.ensures.past t) d.syncs.some
-    d.syncs.synced (d.syncs.settled (g.met.D.Disk.part_told t)) same (d.delivers t (ap (λ (q : Past). q.pending) (c.in_ok-onto.ensures.past t))) c.in_ok-line_beside.ensures
+    d.syncs.synced (d.syncs.settled (g.met.D.Disk.part_told t)) same
+    (d.delivers t (ap (λ (q : Past). q.pending) (c.in_ok-onto.ensures.past t))) c.in_ok-line_beside.ensures
 
 pub returns-in_err-line_beside-clause-refused : goal.returns-in_err-line_beside-clause-refused
 returns-in_err-line_beside-clause-refused g c = λ t.
@@ -105,17 +110,19 @@ returns-in_err-line_beside-clause-refused g c = λ t.
     let same : c.max-from.result - 1 ≡ max 1 c.args.from - 1 = omega (arith, most) in
     let d = c.delivered_through-answer.ensures in
     let all = crossed _ _ _ _ _ _ _ _ _ _ _ _ _ _ _ _ _ _ _ _ _ _
-    (g.D.Part.Partition.past c.delivered_through-answer.new.onto) (c.in_ok-source.ensures.opened t)
+    (g.D.Part.Partition.past c.delivered_through-answer.new.onto) _ _ (c.in_ok-source.ensures.opened t)
     (c.in_ok-source.ensures.world t) (c.in_ok-onto.ensures.opened t) (c.in_ok-onto.ensures.world t)
     (c.in_ok-through.ensures.opened t) (c.delivered_through-answer.ensures.closed t)
     (c.delivered_through-answer.ensures.rest t) (c.let_go_source.ensures.held t) (c.let_go_source.ensures.world t)
-    (c.closed.ensures.ended t) (c.closed.ensures.paths t) (c.closed.ensures.closed t) in
+    (c.closed.ensures.ended t) (c.closed.ensures.paths t) (c.in-Ok.ensures.closed t) in
     handed_on c.from_residual-in_err-line_beside.result _ _ (λ r made. pieces_untold r.fault _ c.args.raw c.args.limit _
-    _ _ _ _ _ _ _ made (done_across c.delivered_through-answer.result c.in-Ok.end.0 _ c.args.raw c.args.limit _ _ _ _ _
+    _ _ _ _ _ _ _ made (done_across c.delivered_through-answer.result.0 c.in-Ok.end.0 _ c.args.raw c.args.limit _ _ _
+    _ _
     _ _ _ _ _ _ _ _ _ _
     (g.D.Part.Partition.past c.in_ok-onto.onto) (g.D.Part.Partition.past c.delivered_through-answer.new.onto) _ all
     (sym c.counted.ensures ∙ c.in-Ok.ensures.done) (c.in_ok-onto.ensures.past t) d.syncs.some
-    d.syncs.synced (d.syncs.settled (g.met.D.Disk.part_told t)) same (d.delivers t (ap (λ (q : Past). q.pending) (c.in_ok-onto.ensures.past t))) tt))
+    d.syncs.synced (d.syncs.settled (g.met.D.Disk.part_told t)) same
+    (d.delivers t (ap (λ (q : Past). q.pending) (c.in_ok-onto.ensures.past t))) tt))
     c.from_residual-in_err-line_beside.ensures.1
 
 pub closed-requires : goal.closed-requires

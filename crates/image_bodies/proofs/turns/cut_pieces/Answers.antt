@@ -1,5 +1,5 @@
-use Rattle.std.proofs.Common.{rules, ◌≡◌, ◌+◌, None, sym, subst}
-use Rattle.image_bodies.specs.Cutting.{IsPiecePath, piece_path, untold}
+use Rattle.std.proofs.Common.{rules, sym, subst}
+use Rattle.image_bodies.specs.Cutting.{IsNoneLeft, IsPiecePath, untold}
 use Rattle.image_bodies.proofs.Wholes.{cuts_between, left_between, left_failed, stops_between, stops_host}
 use Rattle.image_bodies.proofs.turns.cut_pieces.Goals as goal
 
@@ -52,13 +52,13 @@ returns-in-Ok-tell_all-clause-done g c = λ t. record {
   count = c.in-Ok-answer.files.count;
   all = rw c.in-Ok-answer.is at (c.write_pieces-source.ensures.all t);
   cuts = (cuts_between c.args.prefix.now _ c.in-Ok-answer.files.count c.in-Ok-answer.files.count _ _ _ _ _ _ _ _ _
-      (c.in-Ok.ensures.held t) (c.refuse_image_as_piece.ensures.keeps t).world (rw c.in-Ok-answer.is at (c.write_pieces-source.ensures.done t))
+      (c.in-Ok.ensures.held t) (c.refuse_image_as_piece.ensures.keeps t).world
+      (rw c.in-Ok-answer.is at (c.write_pieces-source.ensures.done t))
       (c.let_go_source.ensures.held t) (c.let_go_source.ensures.world t));
-  shown = λ few none. (
+  shown = λ none. (
     c.write_pieces-source.new.report,
-    c.in-Ok-tell_all.ensures.shown t few
-        (subst (λ p. (g.D.Disk.world c.let_go_source.new.self).at (piece_path p (c.in-Ok-answer.files.count + 1)) ≡
-        None)
+    c.in-Ok-tell_all.ensures.shown t
+        (subst (λ p. IsNoneLeft p c.in-Ok-answer.files.count (g.D.Disk.world c.let_go_source.new.self))
         (sym (rw c.in-Ok-answer.is at c.write_pieces-source.ensures.prefix)) none),
   );
 }

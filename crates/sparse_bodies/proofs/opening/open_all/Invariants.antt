@@ -2,6 +2,8 @@ use Rattle.std.proofs.Common.{◌≡◌, map, min, take}
 use Rattle.std.specs.Prelude.{IsTrue}
 use Rattle.std.specs.List.{AllByRecursion}
 use Rattle.sparse_rules.specs.ImagePath.{image_path}
+use Rattle.sparse_bodies.specs.CutOf.{TellsPieces}
+use Rattle.sparse_bodies.specs.Overlaying.{AreInTurn}
 use Rattle.sparse_bodies.specs.Steps.{AreOpened, IsShapeOf}
 use Rattle.sparse_bodies.proofs.opening.open_all.Given as goal
 
@@ -15,5 +17,9 @@ invariant-loop-input g l = record {
   shape : IsTrue g.D.Disk.tells →
       IsShapeOf l.all.shape (map (λ kept. g.D.At.Source.content kept.source) l.all.kept.items);
   clean : IsTrue g.D.Disk.tells → AllByRecursion (λ kept. g.D.At.Source.read_faults kept.source ≡ 0) l.all.kept.items;
+  pieces : IsTrue g.D.Disk.tells → TellsPieces (g.D.Disk.world l.initial.disk)
+      (map (λ kept. kept.piece) l.all.kept.items) (map (λ word. image_path word.now) (take l.input-index l.inputs));
+  turn : IsTrue g.D.Disk.tells → AreInTurn (map (λ word. image_path word.now) (take l.input-index l.inputs))
+      (g.D.Disk.world l.initial.disk);
   world : IsTrue g.D.Disk.tells → g.D.Disk.world l.disk ≡ g.D.Disk.world l.initial.disk;
 }

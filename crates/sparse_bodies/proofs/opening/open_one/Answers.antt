@@ -1,5 +1,5 @@
 use Rattle.sparse_bodies.proofs.Files.{handed_on}
-use Rattle.sparse_bodies.proofs.Opens.{not_opened, refused_once, told_so}
+use Rattle.sparse_bodies.proofs.Opens.{not_opened, refused_once, tells_file, told_so}
 use Rattle.sparse_bodies.proofs.opening.open_one.Goals as goal
 
 pub returns-in_err-source-clause-refused : goal.returns-in_err-source-clause-refused
@@ -12,3 +12,8 @@ returns-in-Err-clause-refused g c = λ t.
     told_so c.in-Err.fault c.refuse.result.fault _ _ _ _ c.refuse.ensures
     (not_opened c.in-Err.fault _ _ _ _ _ _ _ _ (c.in_ok-source.ensures.opened t) (c.in_ok-source.ensures.clean t)
     (c.let_go_source.ensures.held t) (c.in-Err.ensures.refused (g.met.D.Disk.source_told t)))
+
+pub returns-in-Ok-clause-piece : goal.returns-in-Ok-clause-piece
+returns-in-Ok-clause-piece g c = λ t.
+    tells_file c.in-Ok.piece _ c.args.word.now _ _ _ _ (c.in_ok-source.ensures.opened t) c.requires.word
+    (c.in-Ok.ensures.piece (g.met.D.Disk.source_told t))

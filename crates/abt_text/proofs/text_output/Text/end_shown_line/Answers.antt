@@ -1,5 +1,5 @@
 use Rattle.abt_text.proofs.Printing.{printed_none}
 use Rattle.abt_text.proofs.text_output.Text.end_shown_line.Goals as goal
 
-pub returns-then-len-lt-ENOUGH : goal.returns-then-len-lt-ENOUGH
-returns-then-len-lt-ENOUGH g c = printed_none _ _ _
+pub returns-then-len-self : goal.returns-then-len-self
+returns-then-len-self g c = printed_none _ _ _

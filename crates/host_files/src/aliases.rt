@@ -1,0 +1,170 @@
+//! What a file or a block device stands on, so that one storage is known by each of its names.
+
+use crate::identity::{Identity, found_at};
+use crate::sysfs::{add_devices, told_bytes, told_device, told_number, told_sectors};
+use std::alloc::{AllocError, Global};
+
+// How deep devices stand on one another at most, and how many are looked at.
+const MOST: usize = 64;
+
+/// A part of a file or of a block device that is written or read with another one.
+#[derive(Clone, Copy, Drop)]
+pub struct Layer {
+    pub identity: Identity,
+    pub from: u64,
+    /// Where it ends.
+    pub end: u64,
+    /// Whether all of that part is: of what is mapped it is known only that some of it is.
+    pub is_exact: bool,
+}
+
+impl Layer {
+    /// The whole of a file.
+    pub fn whole(identity: Identity) -> Layer {
+        Layer {
+            identity,
+            from: 0,
+            end: u64::MAX,
+            is_exact: true,
+        }
+    }
+
+    /// Whether two have bytes in common. Of two mapped devices on one disk that is not known: they are taken to be
+    /// apart.
+    pub fn meets(&self, other: &Layer) -> bool {
+        let is_one = self.identity == other.identity;
+        let is_common = self.from < other.end && other.from < self.end;
+        is_one && is_common && (self.is_exact || other.is_exact)
+    }
+
+    // The same bytes in what it stands on, behind so many others, where it has so many.
+    fn on(&self, identity: Identity, offset: u64, length: u64) -> Layer {
+        Layer {
+            identity,
+            from: offset.saturating_add(self.from),
+            end: offset.saturating_add(self.end.min(length)),
+            is_exact: self.is_exact,
+        }
+    }
+}
+
+/// Whether a file stands on what one of these stands on, or is it.
+pub fn is_shared(
+    rt: HostRuntime,
+    alloc: Global,
+    identity: Identity,
+    files: &[Identity],
+) -> Result<bool, AllocError> {
+    let mut ours = None;
+    for file in files {
+        if identity.block().is_none() && file.block().is_none() {
+            continue;
+        }
+        if ours.is_none() {
+            ours = Some(layers_of(rt, alloc, identity)?);
+        }
+        let theirs = layers_of(rt, alloc, *file)?;
+        if let Some(ours) = &ours
+            && any_meets(ours.as_slice(), theirs.as_slice())
+        {
+            return Ok(true);
+        }
+    }
+    Ok(false)
+}
+
+fn any_meets(ours: &[Layer], theirs: &[Layer]) -> bool {
+    for our in ours {
+        for their in theirs {
+            if our.meets(their) {
+                return true;
+            }
+        }
+    }
+    false
+}
+
+// A file, and all that it stands on.
+fn layers_of(rt: HostRuntime, alloc: Global, identity: Identity) -> Result<Vec<Layer>, AllocError> {
+    let mut layers = Vec::new(alloc);
+    add_layer(&mut layers, Layer::whole(identity))?;
+    for at in 0..MOST {
+        if at >= layers.len() {
+            break;
+        }
+        let layer = layers[at];
+        if let Some(device) = layer.identity.block() {
+            add_backing(rt, alloc, layer, device, &mut layers)?;
+            add_disk(rt, alloc, layer, device, &mut layers)?;
+            add_mapped(rt, alloc, device, &mut layers)?;
+        }
+    }
+    Ok(layers)
+}
+
+fn add_layer(layers: &mut Vec<Layer>, layer: Layer) -> Result<(), AllocError> {
+    match layers.push(layer) {
+        Ok(()) => Ok(()),
+        Err(_) => Err(AllocError),
+    }
+}
+
+// A loop device stands on a file.
+fn add_backing(
+    rt: HostRuntime,
+    alloc: Global,
+    layer: Layer,
+    device: u64,
+    layers: &mut Vec<Layer>,
+) -> Result<(), AllocError> {
+    let Some(path) = told_bytes(rt, alloc, device, "loop/backing_file")? else {
+        return Ok(());
+    };
+    let Ok(path) = str::from_utf8(path.as_slice()) else {
+        return Ok(());
+    };
+    let Ok(backing) = found_at(rt, path) else {
+        return Ok(());
+    };
+    let offset = told_number(rt, alloc, device, "loop/offset")?.unwrap_or(0);
+    let length = told_sectors(rt, alloc, device, "size")?.unwrap_or(u64::MAX);
+    add_layer(layers, layer.on(backing.identity, offset, length))
+}
+
+// A partition stands on its disk.
+fn add_disk(
+    rt: HostRuntime,
+    alloc: Global,
+    layer: Layer,
+    device: u64,
+    layers: &mut Vec<Layer>,
+) -> Result<(), AllocError> {
+    if told_bytes(rt, alloc, device, "partition")?.is_none() {
+        return Ok(());
+    }
+    let Some(disk) = told_device(rt, alloc, device, "../dev")? else {
+        return Ok(());
+    };
+    let start = told_sectors(rt, alloc, device, "start")?.unwrap_or(0);
+    let length = told_sectors(rt, alloc, device, "size")?.unwrap_or(u64::MAX);
+    add_layer(layers, layer.on(Identity::of_block(disk), start, length))
+}
+
+// A mapped device, and one of several disks, stands somewhere on others.
+fn add_mapped(
+    rt: HostRuntime,
+    alloc: Global,
+    device: u64,
+    layers: &mut Vec<Layer>,
+) -> Result<(), AllocError> {
+    let mut below = Vec::new(alloc);
+    add_devices(rt, alloc, device, "slaves", false, &mut below)?;
+    for number in below.iter() {
+        let layer = Layer {
+            is_exact: false,
+            ..Layer::whole(Identity::of_block(*number))
+        };
+        add_layer(layers, layer)?;
+    }
+    Ok(())
+}

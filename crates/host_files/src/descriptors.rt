@@ -1,0 +1,73 @@
+//! What is open under a descriptor, which std asks by paths alone: a stream by `/dev/stdin` and the like, and where
+//! that is not there, and what else is open, by `/proc/self/fd`.
+
+use std::alloc::Global;
+use std::fs::{File, Metadata, OpenOptions};
+use std::{fs, io};
+
+/// Standard input.
+pub const INPUT: i32 = 0;
+
+/// Standard output.
+pub const OUTPUT: i32 = 1;
+
+/// Standard error.
+pub const ERRORS: i32 = 2;
+
+/// What the system tells of what is open under a descriptor.
+pub fn told_of(rt: HostRuntime, alloc: Global, descriptor: i32) -> io::Result<Metadata> {
+    if let Some(stream) = stream_at(descriptor)
+        && let Ok(told) = fs::metadata(&rt, stream)
+    {
+        return Ok(told);
+    }
+    let path = format!(in alloc; "/proc/self/fd/{descriptor}")?;
+    fs::metadata(&rt, path.as_str())
+}
+
+/// Opens once more what is open under a descriptor.
+pub fn open_again(
+    rt: HostRuntime,
+    alloc: Global,
+    descriptor: i32,
+    how: OpenOptions,
+) -> io::Result<File> {
+    if let Some(stream) = stream_at(descriptor) {
+        match how.open(&rt, stream) {
+            Err(error) if error.kind() == io::ErrorKind::NotFound => {}
+            answer => return answer,
+        }
+    }
+    let path = format!(in alloc; "/proc/self/fd/{descriptor}")?;
+    how.open(&rt, path.as_str())
+}
+
+/// Whether the system shows what is open, so that a descriptor which it does not show is closed.
+pub fn is_shown(rt: HostRuntime) -> bool {
+    fs::metadata(&rt, "/proc/self/fd").is_ok()
+}
+
+/// Where standard input stands: 0 where the system does not show that.
+pub fn place_of_input(rt: HostRuntime, alloc: Global) -> u64 {
+    let Ok(bytes) = fs::read(&rt, "/proc/self/fdinfo/0") else {
+        return 0;
+    };
+    let Ok(text) = String::from_utf8_lossy(alloc, bytes.as_slice()) else {
+        return 0;
+    };
+    for line in text.as_str().lines() {
+        if let Some(place) = line.strip_prefix("pos:") {
+            return place.trim().parse::<u64>().unwrap_or(0);
+        }
+    }
+    0
+}
+
+fn stream_at(descriptor: i32) -> Option<&'static str> {
+    match descriptor {
+        INPUT => Some("/dev/stdin"),
+        OUTPUT => Some("/dev/stdout"),
+        ERRORS => Some("/dev/stderr"),
+        _ => None,
+    }
+}

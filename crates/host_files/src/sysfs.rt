@@ -1,0 +1,134 @@
+//! What Linux tells of block devices, below `/sys/dev/block/MAJOR:MINOR`. Where that is not there, it tells nothing.
+
+use crate::identity::{device_number, device_parts};
+use std::alloc::{AllocError, Global};
+use std::{fs, io};
+
+// How many bytes a sector has, in which lengths are told there.
+const SECTOR: u64 = 512;
+
+/// What stands in a file there, without the line's end.
+pub fn told_bytes(
+    rt: HostRuntime,
+    alloc: Global,
+    device: u64,
+    name: &str,
+) -> Result<Option<Vec<u8>>, AllocError> {
+    let path = path_of(alloc, device, name)?;
+    let mut bytes = match fs::read(&rt, path.as_str()) {
+        Ok(bytes) => bytes,
+        Err(error) if error.kind() == io::ErrorKind::OutOfMemory => return Err(AllocError),
+        Err(_) => return Ok(None),
+    };
+    if bytes.last() == Some(&b'\n') {
+        let _ = bytes.pop();
+    }
+    Ok(Some(bytes))
+}
+
+/// A number of bytes there.
+pub fn told_number(
+    rt: HostRuntime,
+    alloc: Global,
+    device: u64,
+    name: &str,
+) -> Result<Option<u64>, AllocError> {
+    let Some(bytes) = told_bytes(rt, alloc, device, name)? else {
+        return Ok(None);
+    };
+    match str::from_utf8(bytes.as_slice()) {
+        Ok(text) => Ok(text.parse::<u64>().ok()),
+        Err(_) => Ok(None),
+    }
+}
+
+/// A number of sectors there, in bytes.
+pub fn told_sectors(
+    rt: HostRuntime,
+    alloc: Global,
+    device: u64,
+    name: &str,
+) -> Result<Option<u64>, AllocError> {
+    match told_number(rt, alloc, device, name)? {
+        Some(sectors) => Ok(Some(sectors.saturating_mul(SECTOR))),
+        None => Ok(None),
+    }
+}
+
+/// The number of a device that is named there.
+pub fn told_device(
+    rt: HostRuntime,
+    alloc: Global,
+    device: u64,
+    name: &str,
+) -> Result<Option<u64>, AllocError> {
+    let Some(bytes) = told_bytes(rt, alloc, device, name)? else {
+        return Ok(None);
+    };
+    match str::from_utf8(bytes.as_slice()) {
+        Ok(text) => Ok(device_in(text)),
+        Err(_) => Ok(None),
+    }
+}
+
+/// The devices that a folder there names, each in a folder of its own: those of these, where they are to be of a disk's
+/// partitions, that have a file `partition`.
+pub fn add_devices(
+    rt: HostRuntime,
+    alloc: Global,
+    device: u64,
+    folder: &str,
+    are_parts: bool,
+    to: &mut Vec<u64>,
+) -> Result<(), AllocError> {
+    let path = path_of(alloc, device, folder)?;
+    let entries = match fs::read_dir(&rt, path.as_str()) {
+        Ok(entries) => entries,
+        Err(error) if error.kind() == io::ErrorKind::OutOfMemory => return Err(AllocError),
+        Err(_) => return Ok(()),
+    };
+    for entry in entries {
+        let Ok(entry) = entry else {
+            return Ok(());
+        };
+        let name = entry.file_name();
+        let inner = format!(in alloc; "{folder}/{name}")?;
+        add_device(rt, alloc, device, inner.as_str(), are_parts, to)?;
+    }
+    Ok(())
+}
+
+fn add_device(
+    rt: HostRuntime,
+    alloc: Global,
+    device: u64,
+    folder: &str,
+    is_part: bool,
+    to: &mut Vec<u64>,
+) -> Result<(), AllocError> {
+    let partition = format!(in alloc; "{folder}/partition")?;
+    if is_part && told_bytes(rt, alloc, device, partition.as_str())?.is_none() {
+        return Ok(());
+    }
+    let number = format!(in alloc; "{folder}/dev")?;
+    if let Some(found) = told_device(rt, alloc, device, number.as_str())?
+        && !to.as_slice().contains(&found)
+        && to.push(found).is_err()
+    {
+        return Err(AllocError);
+    }
+    Ok(())
+}
+
+/// `MAJOR:MINOR` as one number.
+pub fn device_in(text: &str) -> Option<u64> {
+    let (major, minor) = text.split_once(':')?;
+    let major = major.parse::<u32>().ok()?;
+    let minor = minor.parse::<u32>().ok()?;
+    Some(device_number(major, minor))
+}
+
+fn path_of(alloc: Global, device: u64, name: &str) -> Result<String, AllocError> {
+    let (major, minor) = device_parts(device);
+    format!(in alloc; "/sys/dev/block/{major}:{minor}/{name}")
+}
