@@ -5,6 +5,7 @@
 # make lib        proves and builds the C library, and leaves it as build/libabootimg.a
 # make wasm       builds the C library as a WebAssembly module, build/abootimg.wasm
 # make page       makes the page build/abootimg.html, which shows and expands images in a browser
+# make dist       packs the program, manual page, completions, C library and page into build/abootimg-VERSION-x86_64.tar.gz
 # make install    copies what was built (program, manual page, C library) below PREFIX (/usr/local); proves nothing
 # make man        writes the manual page build/abootimg.1 from docs/COMMANDS.md
 # make compare    compares the commands with AOSP's tools, byte for byte
@@ -17,7 +18,7 @@
 #
 # make, make run and make test need rt, the command of the Rattle toolchain (rt version prints its line), and Python 3.8.
 # What is proved is kept on the machine: make, make test and other clones take from one another what has not changed.
-# With TARGET=aarch64, make, make lib, make test and make install are about ARM64, below build/aarch64/. make test runs the
+# With TARGET=aarch64, make, make lib, make test, make dist and make install are about ARM64, below build/aarch64/. make test runs the
 # cases and the scripts over the program by QEMU. (Debian: gcc-aarch64-linux-gnu, libc6-dev-arm64-cross, qemu-user-static)
 # make JOBS=2     proves two crates at once; without it, as many as processors and memory allow
 
@@ -29,9 +30,11 @@ TARGET ?=
 ifeq ($(TARGET),)
 BUILT = build
 BUILD = tools/build.py
+MACHINE = x86_64
 else ifeq ($(TARGET),aarch64)
 BUILT = build/aarch64
 BUILD = tools/build_places.py
+MACHINE = aarch64
 else
 $(error TARGET is aarch64, or is left out: $(TARGET))
 endif
@@ -42,13 +45,14 @@ MODULE = build/abootimg.wasm
 PAGE = build/abootimg.html
 WEB = $(wildcard web/*.html web/*.css web/*.js) web/build.py
 VERSION = $(shell sed -n 's/^pub const VERSION: &str = "\(.*\)";$$/\1/p' crates/abt_words/src/table.rt)
+ARCHIVE = build/abootimg-$(VERSION)-$(MACHINE).tar.gz
 LIBRARIES = $(shell sed -n 's/^\(\w*\)[: ].*/\1/p' crates.txt | grep -v -e _tests -e _data -e '^abootimg$$')
 
 # All that the program is made from, so that with no change since nothing is proved and rt is not called.
 SOURCES := $(shell find crates \( -name out -o -name must-fail -o -name more-edits \) -prune -o \
 	-type f \( -name '*.rt' -o -name '*.antt' \) -print)
 
-.PHONY: all run quick test lib wasm page install install-lib man compare bench faults edits plant clean help
+.PHONY: all run quick test lib wasm page dist install install-lib man compare bench faults edits plant clean help
 
 all: $(PROGRAM) $(MANUAL)
 
@@ -81,6 +85,11 @@ page: $(PAGE)
 
 $(PAGE): $(MODULE) $(WEB) docs/COMMANDS.md
 	web/build.py $(MODULE) $(PAGE)
+
+dist: $(ARCHIVE)
+
+$(ARCHIVE): $(PROGRAM) $(LIBRARY) $(PAGE) docs/COMMANDS.md include/abootimg.h include/abootimg.pc.in LICENSE tools/make_dist.sh
+	tools/make_dist.sh $(PROGRAM) $(LIBRARY) $(PAGE) $(ARCHIVE)
 
 ifeq ($(TARGET),)
 test:

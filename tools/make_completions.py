@@ -1,9 +1,9 @@
 #!/usr/bin/env python3
-"""make_completions.py [--check]: writes crates/abt_words/src/completion_texts.rt, what `abootimg completions SHELL`
+"""make_completions.py [--check | --print SHELL]: writes crates/abt_words/src/completion_texts.rt, what `abootimg completions SHELL`
 prints, from the table of the command line, crates/abt_words/src/table.rt.
 
 With --check nothing is written: it fails where that file is stale, or where docs/COMMANDS.md leaves out a command, or
-a word or an option of one. Its last line is then 'N passed, M failed'.
+a word or an option of one. Its last line is then 'N passed, M failed'. With --print the text for one shell is printed.
 """
 import re
 import sys
@@ -112,12 +112,39 @@ def names_of(commands):
 
 def bash(commands, before):
     return f"""\
+_abootimg_files() {{
+    local found
+    while IFS= read -r found; do
+        COMPREPLY+=("$found")
+    done < <(compgen -f -- "$1")
+}}
+_abootimg_word_files() {{
+    local found is_plain=yes
+    while IFS= read -r found; do
+        case $found in
+            *[!A-Za-z0-9._/-]*) is_plain= ;;
+        esac
+        if [ -d "$found" ]; then
+            found=$found/
+            compopt -o nospace 2>/dev/null
+        fi
+        COMPREPLY+=("@$found")
+    done < <(compgen -f -- "${{1#@}}")
+    [ -z "$is_plain" ] || compopt +o filenames 2>/dev/null
+}}
 _abootimg() {{
-    local word=${{COMP_WORDS[COMP_CWORD]}} words= at=1
+    local word=${{2-${{COMP_WORDS[COMP_CWORD]}}}} words= at=1
+    COMPREPLY=()
     while [ "$at" -lt "$COMP_CWORD" ] && [ "${{COMP_WORDS[at]#-}}" != "${{COMP_WORDS[at]}}" ]; do
         at=$((at + 1))
     done
-    if [ "$at" = "$COMP_CWORD" ]; then
+    case $word in
+        \\\\@*) word=${{word#?}} ;;
+    esac
+    if [ "${{word#@}}" != "$word" ]; then
+        _abootimg_word_files "$word"
+        return
+    elif [ "$at" = "$COMP_CWORD" ]; then
         words=' {names_of(commands)} help {typed(before)} -V --version'
     elif [ "${{word#-}}" != "$word" ]; then
         case ${{COMP_WORDS[at]}} in
@@ -128,9 +155,10 @@ _abootimg() {{
     elif [ "${{COMP_WORDS[at]}}" = help ]; then
         words='{names_of(commands)}'
     else
-        COMPREPLY=($(compgen -f -- "$word"))
+        _abootimg_files "$word"
         return
     fi
+    compopt +o filenames 2>/dev/null
     COMPREPLY=($(compgen -W "$words" -- "$word"))
 }}
 complete -o filenames -F _abootimg abootimg
@@ -145,11 +173,18 @@ _abootimg() {{
     while (( at < CURRENT )) && [[ $words[at] == -* ]]; do
         (( at += 1 ))
     done
+    if compset -P @; then
+        _files
+        return
+    fi
     if (( at == CURRENT )); then
         compadd -- {names_of(commands)} help {typed(before)} -V --version
         return
     fi
-    if [[ $words[CURRENT] == -* ]]; then
+    if [[ $words[CURRENT] == --*=* ]]; then
+        compset -P 1 '*='
+        _files
+    elif [[ $words[CURRENT] == -* ]]; then
         case $words[at] in
 {joined(commands, "            {}) compadd -- {} ;;")}
         esac
@@ -181,6 +216,11 @@ def fish_option(condition, row):
     return f"-n {condition} -l {row.name}{letter}{value} -d {quoted(row.help)}"
 
 
+# In fish: whether the word at hand is behind an @, and the words for that.
+AT_FILE = "string match -q -- '@*' (commandline -ct)"
+AT_FILES = "(complete -C \"'' \"(string sub -s 2 -- (commandline -ct)) | string replace -r -- '^' @)"
+
+
 def fish(commands, before):
     lines = [fish_option("__fish_use_subcommand", row) for row in before]
     for command in commands:
@@ -188,6 +228,7 @@ def fish(commands, before):
         seen = f"'__fish_seen_subcommand_from {command.name}'"
         lines += [fish_option(seen, row) for row in command.rows if row.is_option]
     lines.append("-n __fish_use_subcommand -f -a help -d 'Prints the help of a command'")
+    lines.append(f"-n {quoted(AT_FILE)} -a {quoted(AT_FILES)}")
     lines.append("-n '__fish_seen_subcommand_from completions' -f -a 'bash zsh fish'")
     lines.append(f"-n '__fish_seen_subcommand_from help' -f -a '{names_of(commands)}'")
     return "".join(f"complete -c abootimg {line}\n" for line in lines)
@@ -237,6 +278,10 @@ def main():
     commands, before = read_table()
     if "--check" in sys.argv[1:]:
         return check(commands, before)
+    if sys.argv[1:2] == ["--print"]:
+        shells = {"bash": bash, "zsh": zsh, "fish": fish}
+        print(shells[sys.argv[2]](commands, before), end="")
+        return 0
     TEXTS.write_text(texts_of(commands, before))
     return 0
 

@@ -1,6 +1,6 @@
 #!/usr/bin/env bash
-# Builds what runs elsewhere than here, and tries it: the C library for ARM64 (by QEMU), the WebAssembly module (in Node), and
-# the page (in Chromium). What takes a command that is not there is not run, and that is said. It ends with a line 'N passed,
+# Builds what runs elsewhere than here, and tries it: the C library for ARM64 (by QEMU), the WebAssembly module (in Node),
+# the page (in Chromium), and the archive that has all of it, unpacked elsewhere. What takes a command that is not there is not run, and that is said. It ends with a line 'N passed,
 # M failed'; the status is 1 where one failed.
 #
 #   tools/try_places.sh             this machine's program is $ABOOTIMG, or build/abootimg; the toolchain's command $RT, or rt
@@ -37,4 +37,41 @@ fi
 make_page() { "$here/web/build.py" abootimg.wasm abootimg.html >out 2>err; }
 try "the page is made" make_page
 script page "$here/web/test_page.py" abootimg.html "$program"
+
+# What make dist leaves, unpacked elsewhere.
+library=$here/build/libabootimg.a
+listed='bin/abootimg
+include/abootimg.h
+lib/libabootimg.a
+lib/pkgconfig/abootimg.pc
+LICENSE
+share/abootimg/abootimg.html
+share/bash-completion/completions/abootimg
+share/fish/vendor_completions.d/abootimg.fish
+share/man/man1/abootimg.1
+share/zsh/site-functions/_abootimg'
+make_dist() { "$here/tools/make_dist.sh" "$program" "$library" abootimg.html dist/abootimg-it.tar.gz >out 2>err; }
+unpacked() { mkdir -p else/where && tar -C else/where -xzf dist/abootimg-it.tar.gz 2>err; }
+has_all() { [ "$(cd else/where/abootimg-it && find . -type f | sed 's,^./,,' | LC_ALL=C sort -f)" = "$listed" ]; }
+expands_there() {
+    else/where/abootimg-it/bin/abootimg expand "$here/examples/libsparse.simg" raw >out 2>err &&
+        cmp -s raw "$here/examples/libsparse.raw"
+}
+completes() { "$program" completions bash | cmp -s - else/where/abootimg-it/share/bash-completion/completions/abootimg; }
+links() {
+    local words
+    words=$(PKG_CONFIG_PATH=$room/else/where/abootimg-it/lib/pkgconfig pkg-config --cflags --libs abootimg 2>err) || return 1
+    cc "$here/examples/expand.c" $words -o linked 2>err && ./linked "$here/examples/short.simg" raw >out 2>err &&
+        cmp -s raw "$here/examples/short.raw"
+}
+if [ -e "$library" ]; then
+    try "the archive is made" make_dist
+    try "  and unpacked elsewhere" unpacked
+    try "  it has all that it shall have, and nothing else" has_all
+    try "  its program expands an image" expands_there
+    try "  its completions are the program's" completes
+    lacks "a program in C with its library" cc pkg-config || try "  a program in C is built with its library" links
+else
+    echo "NOT RUN  the archive: there is no ${library#"$here"/}"
+fi
 tried
