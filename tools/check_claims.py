@@ -1,20 +1,23 @@
 #!/usr/bin/env python3
-"""Holds docs/CLAIMS.md, and what the other documents name, to the repository.
+"""Compares docs/CLAIMS.md, docs/claims.tsv and the names in the other documents with the repository.
 
   tools/check_claims.py [--show]
 
-Of the tables of docs/CLAIMS.md:
-  - each definition that is to be believed stands in the file of specs/ that is named, and all of them together have fewer than
-    1200 lines, with the remarks above them;
-  - each claim's function is public (in a crate that only the program stands on it may be private), its contract has a
+Of docs/claims.tsv, whose head explains its columns:
+  - each definition that must be believed is defined in the file of specs/ that is named, and all of them together have fewer
+    than 1200 lines, with the comments above them;
+  - each claim's function is public (in a crate that only the program depends on it may be private), its contract has a
     clause of each name, the definitions are there, and so is each must-fail edit, in the function's crate or one below it
-    (what stands behind 'more:' in its more-edits/); where a function names no edit, words say why; a claim with further edits
-    has one that the gate tries;
+    (further edits in its more-edits/); where a function names no edit, words say why; a claim with further edits has one
+    that the gate tries;
   - each public function of a crate that has a claim is named by one, or in the list of those that no claim names.
-Of the code: no call of the engine counts in a meter of its own, beside the one that it is lent; each loop of the engine ticks
+Of docs/CLAIMS.md: the claims are numbered in turn, each of them has rows in docs/claims.tsv, and no other number has; the page
+has at most 400 lines.
+Of the code: no call of the engine counts in a meter of its own, beside the one that it borrows; each loop of the engine ticks
 once in each pass; each lemma of proofs/ is named by another one, by an answer or by a contract.
-Of all documents: no line is longer than 120 columns, each file that a link or a path in backquotes names is there, and each
-crate of crates.txt is told of in docs/ARCHITECTURE.md. The last line is 'N passed, M failed'.
+Of all documents: no line is longer than 120 columns, each file that a link or a path in backquotes names is there, and
+docs/ARCHITECTURE.md describes each crate of crates.txt. What a page names by its crate is there too (`check_names` says which
+names these are, and when one is there). The last line is 'N passed, M failed'.
 """
 import argparse
 import functools
@@ -26,6 +29,10 @@ import sys
 
 HERE = os.path.dirname(os.path.dirname(os.path.abspath(__file__)))
 MOST_LINES = 1200
+MOST_PAGE_LINES = 400
+PAGE, ROWS = "docs/CLAIMS.md", "docs/claims.tsv"
+# How many columns a row has, by its first one. A number there is that of a claim, whose rows may leave columns empty.
+COLUMNS = {"definition": 5, "claim": 7, "unclaimed": 4}
 DOCUMENTS = ("README.md", "CONTRIBUTING.md", "CHANGELOG.md", "docs/*.md")
 # What these do is called by the program alone, and most of it only in its own crate.
 OF_THE_PROGRAM = (
@@ -44,6 +51,7 @@ ENGINE = (
     "abt_io", "abt_files", "memory_devices", "abt_sparse", "abt_chunks", "abt_runs", "abt_pieces", "abt_sparsify",
     "abt_placed", "flash_faults", "abt_flash", "abt_verify", "abt_headers", "abt_sections",
 )
+
 # How many loops of a file tick nowhere, and why.
 WITHOUT_A_TICK = {
     "crates/memory_devices/src/pick.rt": 1,  # what a crash leaves, in a device of tests that has no meter
@@ -112,6 +120,22 @@ def words_in(cell):
     return re.findall(r"`([^`]+)`", cell)
 
 
+def rows_of_claims(checks):
+    """The rows of docs/claims.tsv by their kind, each as its cells and its line number. What a row leaves out is empty."""
+    rows = {kind: [] for kind in COLUMNS}
+    for number, line in enumerate(lines_of(ROWS), 1):
+        if line.startswith("#") or not line:
+            continue
+        cells = line.split("\t")
+        kind = "claim" if cells[0].isdecimal() else cells[0]
+        lacks = COLUMNS.get(kind, 0) - len(cells)
+        is_whole = lacks == 0 and all(cells) or kind == "claim" and lacks >= 0 and all(cells[:2])
+        is_row = is_whole and all(it == " ".join(it.split()) for it in cells)
+        if checks.that(is_row, f"{ROWS}, line {number} is a row of a known kind, with its columns and single blanks"):
+            rows[kind].append((cells + [""] * lacks, number))
+    return rows
+
+
 def definition(crate, file, name):
     """How many lines a definition has in a file of specs/, with the remark above it, or None."""
     path = f"crates/{crate}/specs/{file}.antt"
@@ -165,45 +189,54 @@ def has_edit(name, names, folder="must-fail"):
 
 def check_definitions(checks, rows):
     total = 0
-    for cells, number in rows:
-        names, places = words_in(cells[0]), words_in(cells[1])
-        crate, _, file = places[0].partition("/") if places else ("", "", "")
-        for name in names:
+    for (_, names, files, *_), number in rows:
+        places = [it.partition("/")[::2] for it in files.split()]
+        for name in names.split():
+            crate, file = next((it for it in places if definition(*it, name)), places[0])
             lines = definition(crate, file, name)
             total += lines or 0
-            checks.that(lines, f"line {number}: {crate}/specs/{file}.antt defines {name}")
+            checks.that(lines, f"{ROWS}, line {number}: {crate}/specs/{file}.antt defines {name}")
     checks.that(0 < total < MOST_LINES, f"the definitions to be believed have {total} lines, fewer than {MOST_LINES}")
 
 
 def check_claims(checks, rows, under):
-    function, planted, claim, tried = "", {}, "", {}
-    for cells, number in rows:
-        claim = cells[0] or claim
-        if words_in(cells[1]):
-            function = words_in(cells[1])[0]
-        planted[function] = planted.get(function, "") + cells[4]
+    planted, tried = {}, {}
+    for (claim, function, of_contract, defined_by, gate, more, why_none), number in rows:
+        planted[function] = planted.get(function, "") + gate + more + why_none
         crate, _, name = function.partition("::")
         clauses = contract(crate, name) if crate in under else None
-        where = f"line {number}: {function}"
+        where = f"{ROWS}, line {number}: {function}"
         if not checks.that(clauses is not None, f"{where} is a function of claims with a contract"):
             continue
-        for clause in words_in(cells[2]):
+        for clause in of_contract.split():
             checks.that(clause in clauses, f"{where} has a clause {clause}")
-        for word in words_in(cells[3]):
+        for word in defined_by.split():
             file, _, defined = word.rpartition(".")
             places = [it for it in [crate, *reversed(under[crate])] if definition(it, file, defined)]
             checks.that(places, f"{where}: {word} is defined in {crate} or below it")
-        gate, _, more = cells[4].partition("more:")
-        for edit in words_in(gate):
+        for edit in gate.split():
             checks.that(has_edit(edit, [crate, *under[crate]]), f"{where}: there is a must-fail edit {edit}")
-        for edit in words_in(more):
+        for edit in more.split():
             checks.that(has_edit(edit, [crate, *under[crate]], "more-edits"), f"{where}: there is a further edit {edit}")
-        tried.setdefault(claim, []).append((bool(words_in(gate)), bool(words_in(more))))
+        tried.setdefault(claim, []).append((bool(gate), bool(more)))
     for function, edits in planted.items():
-        checks.that(edits, f"docs/CLAIMS.md: {function} names a must-fail edit, or says why not")
+        checks.that(edits, f"{ROWS}: {function} names a must-fail edit, or says why not")
     for claim, rows_of in tried.items():
         is_tried = any(gate for gate, _ in rows_of) or not any(more for _, more in rows_of)
-        checks.that(is_tried, f"docs/CLAIMS.md: claim {claim} has a must-fail edit that the gate tries, or names no other")
+        checks.that(is_tried, f"{ROWS}: claim {claim} has a must-fail edit that the gate tries, or names no other")
+
+
+def check_page(checks, rows):
+    """Of docs/CLAIMS.md: its claims are those that have rows, and are numbered in turn."""
+    section = "\n".join(lines_of(PAGE)).partition("\n## 2.")[2].partition("\n## 3.")[0]
+    numbers = re.findall(r"(?m)^(\d+)\. ", section)
+    with_rows = {cells[0] for cells, _ in rows}
+    for at, number in enumerate(numbers, 1):
+        checks.that(number == str(at), f"{PAGE}: claim {number} has its turn")
+        checks.that(number in with_rows, f"{ROWS}: claim {number} has rows")
+    checks.that(with_rows <= set(numbers), f"{PAGE} has each claim that has rows: {len(with_rows)}")
+    length = len("\n".join(lines_of(PAGE)).rstrip("\n").split("\n"))
+    checks.that(length <= MOST_PAGE_LINES, f"{PAGE} has {length} lines, at most {MOST_PAGE_LINES}")
 
 
 def public_functions(crate):
@@ -219,20 +252,18 @@ def public_functions(crate):
                 yield (owner if found[1] else "") + found[2]
 
 
-def check_public(checks, claims, under):
-    """Of docs/CLAIMS.md: each public function of a crate that has a claim is named, by a claim or by the list of the others."""
-    named = {word for cells, _ in claims for word in words_in(cells[1])}
-    text = "\n".join(lines_of("docs/CLAIMS.md")).partition("\n## 5.")[2]
-    for crates_told, rest in re.findall(r"(?ms)^- ((?:`\w+`,? ?)+): (.*?)\.$(?=\n-|\n*\Z)", text):
-        for crate in words_in(crates_told):
-            checks.that(crate in under, f"docs/CLAIMS.md, section 5: there is a crate {crate}")
-            of_crate = set(public_functions(crate))
-            for word in words_in(rest):
-                checks.that(word in of_crate, f"docs/CLAIMS.md, section 5: {crate} has a public function {word}")
-            named |= {f"{crate}::{it}" for it in (of_crate if rest.startswith("all others") else words_in(rest))}
+def check_public(checks, claims, others, under):
+    """Each public function of a crate that has a claim is named, by a claim or by a row of those that no claim names."""
+    named = {cells[1] for cells, _ in claims}
+    for (_, crate, functions, _), number in others:
+        checks.that(crate in under, f"{ROWS}, line {number}: there is a crate {crate}")
+        of_crate = set(public_functions(crate))
+        for name in functions.split():
+            checks.that(name in of_crate or name == "*", f"{ROWS}, line {number}: {crate} has a public function {name}")
+        named |= {f"{crate}::{it}" for it in (of_crate if functions == "*" else functions.split())}
     for crate in sorted({it.partition("::")[0] for it in named} & set(under)):
         for function in public_functions(crate):
-            checks.that(f"{crate}::{function}" in named, f"docs/CLAIMS.md names {crate}::{function}")
+            checks.that(f"{crate}::{function}" in named, f"{ROWS} names {crate}::{function}")
 
 
 def check_documents(checks, under):
@@ -265,6 +296,82 @@ def check_documents(checks, under):
     told = "\n".join(lines_of("docs/ARCHITECTURE.md"))
     for crate in under:
         checks.that(f"`{crate}`" in told, f"docs/ARCHITECTURE.md tells of the crate {crate}")
+
+
+@functools.lru_cache(maxsize=None)
+def names_of(crate):
+    """The names that the files of src/ define or hand on: those of a block both alone and behind the name of its type."""
+    item = re.compile(r"\s*(?:(?:pub(?:\(\w+\))?|const|unsafe|final|ghost|extern \"C\") )*"
+                      r"(?:(?:fn|struct|enum|union|trait|type|mod|const|static) )?(\w+)(?=[\s:(<;,={]|$)")
+    block = re.compile(r"(?:pub(?:\(\w+\))? )?(?:impl|trait|enum|struct)\b(?:<.*?>+)?(?: .* for)? (\w+)")
+    keyword = re.compile(r"\b(?:fn|struct|enum|union|trait|type|mod|const|static|ghost)\b")
+    names = set()
+    for path in glob.glob(os.path.join(HERE, "crates", crate, "src", "**", "*.rt"), recursive=True):
+        names.add(os.path.basename(path))
+        names.add(os.path.basename(path)[:-3])
+        owner = ""
+        for line in (it.split("//")[0].rstrip() for it in lines_of(os.path.relpath(path, HERE))):
+            found = item.match(line)
+            inside = block.match(line)
+            if found and (keyword.search(line[: found.end()]) or (owner and re.match(r" {4}(?:pub )?[\w]+(?:[:({,]| \{|$)", line))):
+                names |= {found[1], f"{owner}::{found[1]}"} if owner and line.startswith(" ") else {found[1]}
+            owner = inside[1] if inside else "" if line.startswith("}") else owner
+        handed = re.findall(r"(?ms)^pub use ([^;]*);", "\n".join(lines_of(os.path.relpath(path, HERE))))
+        names.update(word for it in handed for word in re.findall(r"\w+", it))
+    return names
+
+
+def has_other(crate, name):
+    """Whether a crate has a file of definitions, a definition or an edit of this name."""
+    specs = [os.path.basename(it)[:-5] for it in glob.glob(os.path.join(HERE, "crates", crate, "specs", "*.antt"))]
+    is_edit = has_edit(name, [crate]) or has_edit(name, [crate], "more-edits")
+    return is_edit or name in specs or any(definition(crate, it, name) for it in specs)
+
+
+def names_in(text, under):
+    """What a page names by its crate: the crate, the name behind it, and the words as they stand there."""
+    for span in re.findall(r"`([^`]+)`", text):
+        for crate, name in re.findall(r"(?<![\w:])(\w+)::(\w+(?:::\w+)*)", span):
+            if crate in under:
+                yield crate, name, f"{crate}::{name}"
+    for name, word, crate in re.findall(r"`(\w+)`\s+(of|in)\s+`(\w+)`", text):
+        if crate in under:
+            yield crate, name, f"{name} {word} {crate}"
+    for crate, section in re.findall(r"(?ms)^#+ `(\w+)`$(.*?)(?=^#|\Z)", text):
+        for name in re.findall(r"`(\w+\.rt)`", section):
+            if crate in under:
+                yield crate, name, f"{crate}/src/{name}"
+
+
+def paths_in(text):
+    """The paths of crates that a page names, from the repository's top on."""
+    for span in re.findall(r"`([^`]+)`", text):
+        yield from re.findall(r"(?<![\w/])crates/[\w./*-]*[\w*]", span)
+        yield from (f"crates/{it}" for it in re.findall(r"(?<![\w/])\w+/src/[\w/]+\.rt", span))
+
+
+def check_names(checks, claims, under):
+    """What a page names by its crate is there: of README.md, CONTRIBUTING.md and docs/, outside code blocks.
+
+    So are the functions of the rows of claims.
+
+    Such names are in backquotes: `crate::name` and `crate::Type::name`; `name` of (or in) `crate`; `file.rt` in a section that
+    is headed by the crate; paths `crate/src/file.rt` and `crates/..`, where * is any letters. Paths with NAME are examples, and
+    crates/*/out is made by the tools. A path is there where a file or folder is. A name is there where src/ of the crate has a
+    file of this name, defines it (by fn, struct, enum, trait, type, mod, const, static or ghost, or as a variant or a field), or
+    hands it on by `pub use`. Behind a type's name it must be defined in a block of that type: its enum, struct, impl or trait.
+    `name` of `crate` may also be a file or a definition of specs/, or an edit.
+    """
+    pages = [os.path.relpath(it, HERE) for pattern in DOCUMENTS for it in glob.glob(os.path.join(HERE, pattern))]
+    for path in sorted({*pages, ROWS} - {"CHANGELOG.md"}):
+        text = re.sub(r"(?ms)^```.*?^```$", "", "\n".join(lines_of(path)))
+        if path == ROWS:
+            text = "\n".join(f"`{cells[1]}`" for cells, _ in claims)
+        found = {it: bool(glob.glob(os.path.join(HERE, it))) for it in paths_in(text) if not re.search(r"NAME|/out$", it)}
+        for crate, name, words in names_in(text, under):
+            found[words] = name in names_of(crate) or (" " in words and has_other(crate, name))
+        for words, is_there in sorted(found.items()):
+            checks.that(is_there, f"{path}: {words} is there")
 
 
 def check_rules(checks, rows):
@@ -349,18 +456,18 @@ def main():
     parser.add_argument("--show", action="store_true", help="print each check, also where it passes")
     checks = Checks(parser.parse_args().show)
     under = crates()
-    rows = list(tables("docs/CLAIMS.md"))
-    definitions = [(cells, number) for head, cells, number in rows if head[0] == "definitions"]
-    claims = [(cells, number) for head, cells, number in rows if head[0] == "claim"]
-    checks.that(definitions and claims, "docs/CLAIMS.md has tables of definitions and of claims")
-    check_definitions(checks, definitions)
-    check_claims(checks, claims, under)
-    check_public(checks, claims, under)
+    rows = rows_of_claims(checks)
+    checks.that(rows["definition"] and rows["claim"], f"{ROWS} has rows of definitions and of claims")
+    check_definitions(checks, rows["definition"])
+    check_claims(checks, rows["claim"], under)
+    check_page(checks, rows["claim"])
+    check_public(checks, rows["claim"], rows["unclaimed"], under)
     check_rules(checks, [(cells, number) for head, cells, number in tables("docs/ARCHITECTURE.md") if head[0] == "rule"])
     check_meters(checks, under)
     check_ticks(checks)
     check_lemmas(checks, under)
     check_documents(checks, under)
+    check_names(checks, rows["claim"], under)
     print(f"{checks.passed} passed, {checks.failed} failed")
     return 1 if checks.failed else 0
 

@@ -18,7 +18,8 @@ sys.dont_write_bytecode = True
 from repository import HERE, crate_at, crate_lines
 
 SCRIPTS = (
-    ("tools/check_claims.py",), ("tools/check_weight.py",), ("tools/edits.py", "--check"), ("tools/make_completions.py", "--check"))
+    ("tools/check_claims.py",), ("tools/check_weight.py",), ("tools/check_prose.py",), ("tools/edits.py", "--check"),
+    ("tools/make_completions.py", "--check"))
 LAST = re.compile(r"(?:[\w ]+: )?(\d+) passed, (\d+) failed")
 TESTED = re.compile(r"test result: \w+\. (\d+) passed; (\d+) failed")
 WRONG = re.compile(r"error|FAILED|failed|panicked|NOT SO|fault")
