@@ -7,8 +7,9 @@
 # make page       makes the page build/abootimg.html, which shows and expands images in a browser
 # make dist       packs the program, manual page, completions, C library and page into build/abootimg-VERSION-x86_64.tar.gz
 # make install    copies what was built (program, manual page, C library) below PREFIX (/usr/local); proves nothing
+# make install LINKS=1   also makes links to the program with the names of AOSP's tools, which it then stands in for
 # make man        writes the manual page build/abootimg.1 from docs/COMMANDS.md
-# make compare    compares the commands with AOSP's tools, byte for byte
+# make compare    compares the commands with AOSP's tools, byte for byte, and random calls under their names
 # make bench      times the commands against AOSP's tools (needs 8 GiB of disk)
 # make faults     has each system call of each command fail once (needs strace)
 # make edits      tries every must-fail edit, those of the gate and all others (hours)
@@ -26,6 +27,7 @@ RT ?= rt
 JOBS ?= 0
 PREFIX ?= /usr/local
 DESTDIR ?=
+LINKS ?=
 TARGET ?=
 ifeq ($(TARGET),)
 BUILT = build
@@ -45,6 +47,9 @@ MODULE = build/abootimg.wasm
 PAGE = build/abootimg.html
 WEB = $(wildcard web/*.html web/*.css web/*.js) web/build.py
 VERSION = $(shell sed -n 's/^pub const VERSION: &str = "\(.*\)";$$/\1/p' crates/abt_words/src/table.rt)
+TOOLS = simg2img img2simg mkbootimg
+EMPTY =
+COMMA = ,
 ARCHIVE = build/abootimg-$(VERSION)-$(MACHINE).tar.gz
 LIBRARIES = $(shell sed -n 's/^\(\w*\)[: ].*/\1/p' crates.txt | grep -v -e _tests -e _data -e '^abootimg$$')
 
@@ -106,6 +111,7 @@ install: $(MANUAL)
 	install -d $(DESTDIR)$(PREFIX)/bin $(DESTDIR)$(PREFIX)/share/man/man1
 	install -m 755 $(PROGRAM) $(DESTDIR)$(PREFIX)/bin/abootimg
 	install -m 644 $(MANUAL) $(DESTDIR)$(PREFIX)/share/man/man1/abootimg.1
+	@test -z '$(LINKS)' || for tool in $(TOOLS); do ln -sf abootimg $(DESTDIR)$(PREFIX)/bin/$$tool || exit 1; done
 	@test ! -f $(LIBRARY) || $(MAKE) --no-print-directory install-lib
 	@test ! -f $(MODULE) || install -D -m 644 $(MODULE) $(DESTDIR)$(PREFIX)/share/abootimg/abootimg.wasm
 	@test ! -f $(PAGE) || install -D -m 644 $(PAGE) $(DESTDIR)$(PREFIX)/share/abootimg/abootimg.html
@@ -122,6 +128,7 @@ compare: $(PROGRAM)
 	ABOOTIMG=$(PROGRAM) tools/pieces_simg2img.sh
 	ABOOTIMG=$(PROGRAM) tools/mkbootimg_interop.sh
 	ABOOTIMG=$(PROGRAM) tools/flash_loop.sh
+	tools/compare_names.py '$(PROGRAM) as' --names $(subst $(EMPTY) $(EMPTY),$(COMMA),$(TOOLS))
 
 bench: $(PROGRAM)
 	bench/table.py --program $(PROGRAM)

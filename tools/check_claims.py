@@ -5,7 +5,7 @@
 
 Of docs/claims.tsv, whose head explains its columns:
   - each definition that must be believed is defined in the file of specs/ that is named, and all of them together have fewer
-    than 1200 lines, with the comments above them;
+    than 1300 lines, with the comments above them;
   - each claim's function is public (in a crate that only the program depends on it may be private), its contract has a
     clause of each name, the definitions are there, and so is each must-fail edit, in the function's crate or one below it
     (further edits in its more-edits/); where a function names no edit, words say why; a claim with further edits has one
@@ -28,7 +28,7 @@ import subprocess
 import sys
 
 HERE = os.path.dirname(os.path.dirname(os.path.abspath(__file__)))
-MOST_LINES = 1200
+MOST_LINES = 1300
 MOST_PAGE_LINES = 400
 PAGE, ROWS = "docs/CLAIMS.md", "docs/claims.tsv"
 # How many columns a row has, by its first one. A number there is that of a claim, whose rows may leave columns empty.
@@ -36,15 +36,15 @@ COLUMNS = {"definition": 5, "claim": 7, "unclaimed": 4}
 DOCUMENTS = ("README.md", "CONTRIBUTING.md", "CHANGELOG.md", "docs/*.md")
 # What these do is called by the program alone, and most of it only in its own crate.
 OF_THE_PROGRAM = (
-    "abt_buffers", "abt_values", "abt_words", "abt_refusals", "abt_disk", "memory_disk", "abt_output", "abt_host",
-    "host_disk", "sparse_rules", "sparse_bodies", "image_bodies", "flash_bodies", "sparse_commands", "boot_rules",
-    "boot_bodies", "info_bodies", "pack_inputs", "pack_outputs", "pack_bodies", "boot_commands", "memory_commands",
-    "program_words", "abootimg",
+    "sys_devices", "abt_values", "abt_words", "tool_words", "abt_refusals", "abt_disk", "memory_disk", "abt_report",
+    "abt_output", "abt_host", "host_disk", "sparse_rules", "sparse_bodies", "image_bodies", "flash_bodies",
+    "sparse_commands", "boot_rules", "boot_bodies", "info_bodies", "pack_inputs", "pack_outputs", "pack_bodies", "boot_commands",
+    "memory_commands", "program_words", "abootimg",
 )
 
 
 # The program begins to count, as the benchmark does, and what it prints and shows is counted by nobody.
-MAKE_METERS = ("abootimg", "abt_output", "abt_text", "speed")
+MAKE_METERS = ("abootimg", "abt_report", "abt_text", "speed")
 
 # The engine: turns are counted where its code ticks, so each of its loops does.
 ENGINE = (
@@ -55,7 +55,7 @@ ENGINE = (
 # How many loops of a file tick nowhere, and why.
 WITHOUT_A_TICK = {
     "crates/memory_devices/src/pick.rt": 1,  # what a crash leaves, in a device of tests that has no meter
-    "crates/abt_files/src/tries.rt": 4,  # a call that a signal interrupted is tried again: no turn, and no call of a device
+    "crates/abt_files/src/tries.rt": 2,  # a call that a signal interrupted is tried again: no turn, and no call of a device
     "crates/abt_runs/src/words.rt": 2,  # the words of one block, for which `tick_words` ticks
 }
 

@@ -31,7 +31,7 @@ LONG_CONTRACTS = {15: 3, 20: 1}
 REPEATED_CLAUSES = 553
 # The names that two files define, each with what it says in the one and in the other.
 NAMES_DEFINED_TWICE = {
-    "Begins": "of a spool's bytes, of which they are a front; of a text, which has grown by one",
+    "Begins": "of a spool's and of a file's bytes, of which they are a front; of a text, which has grown by one",
     "Header": "of a sparse image (`sparse_header_t`); of a boot image of either kind",
     "LaysBlocks": "a law of definitions; what a delivery leaves on a partition",
     "Leaves": "what an output holds that was broken off; the phase that an answer leaves",
@@ -44,17 +44,18 @@ NAMES_DEFINED_TWICE = {
     "with_part": "a window with bytes in it; a placer with blocks taken",
 }
 # The longest line of specs/ and proofs/, and the files from before that have longer ones: each with its checksum.
-COLUMNS, LONG_LISTED, LONG_FILES = 120, os.path.join("tools", "long_lines.txt"), 371
+COLUMNS, LONG_LISTED, LONG_FILES = 120, os.path.join("tools", "long_lines.txt"), 361
 
 # The crates of each family, and how many hundreds of lines of src/, specs/ and proofs/ they have at most.
 FAMILIES = {
-    "devices": "abt_io abt_files memory_devices",
+    "devices": "abt_io abt_files sys_file sys_devices sys_outputs memory_devices memory_files",
     "definitions and reading": "abt_sparse abt_chunks abt_runs",
     "writing": "abt_pieces abt_sparsify abt_placed",
     "flashing and verifying": "flash_faults abt_flash abt_verify",
     "boot images": "abt_headers abt_sections boot_fields boot_texts boot_findings",
-    "system": "abt_text abt_buffers abt_refusals abt_disk abt_output numbered_names host_files abt_host host_disk",
-    "words": "abt_values abt_words program_words abootimg",
+    "system":
+        "abt_text abt_refusals abt_disk abt_report abt_output numbered_names host_files abt_host host_disk",
+    "words": "abt_values abt_words tool_words program_words abootimg",
     "commands over sparse images": "sparse_texts sparse_rules flash_bodies sparse_bodies image_bodies sparse_commands",
     "commands over boot images":
         "boot_rules boot_bodies info_bodies pack_inputs pack_outputs pack_bodies boot_commands",
@@ -62,22 +63,23 @@ FAMILIES = {
     "memory": "memory_disk memory_commands",
     "for programs in C": "abt_c",
     "tests and benchmark":
-        "test_data device_tests sparse_tests verify_tests flash_tests boot_tests boot_disk_tests buffer_tests disk_tests speed",
+        "test_data device_tests sparse_tests verify_tests flash_tests boot_tests boot_disk_tests buffer_tests ahead_tests "
+        "spool_tests disk_tests speed",
 }
 LINES = {
-    "devices": 61,
+    "devices": 94,
     "definitions and reading": 157,
     "writing": 165,
     "flashing and verifying": 119,
     "boot images": 185,
-    "system": 96,
-    "words": 39,
+    "system": 76,
+    "words": 60,
     "commands over sparse images": 124,
     "commands over boot images": 123,
     "laws": 58,
     "memory": 33,
     "for programs in C": 25,
-    "tests and benchmark": 90,
+    "tests and benchmark": 104,
 }
 
 FUNCTION = re.compile(r"\s*(?:pub(?:\(\w+\))? )?(?:const )?(?:unsafe )?(?:extern \"C\" )?(?:final )?fn (\w+)")

@@ -14,6 +14,7 @@ ROOT = Path(__file__).resolve().parent.parent
 TABLE = ROOT / "crates/abt_words/src/table.rt"
 TEXTS = ROOT / "crates/abt_words/src/completion_texts.rt"
 COMMANDS = ROOT / "docs/COMMANDS.md"
+TOOLS = ROOT / "crates/tool_words/src/tools.rt"
 
 
 # ---- reading the table
@@ -94,6 +95,13 @@ def read_table():
     return commands, rows["TELLING"]
 
 
+def tools():
+    """The names behind `as`, each followed by a blank but the last: those of the tools whose words are read."""
+    text = TOOLS.read_text()
+    names = dict(re.findall(r'Tool::(\w+) => "(\w+)",', text))
+    return " ".join(names[it] for it in re.findall(r"Tool::(\w+)", re.search(r"^.*=> None,$", text, re.M)[0]))
+
+
 # ---- the texts
 
 def typed(rows):
@@ -145,7 +153,9 @@ _abootimg() {{
         _abootimg_word_files "$word"
         return
     elif [ "$at" = "$COMP_CWORD" ]; then
-        words=' {names_of(commands)} help {typed(before)} -V --version'
+        words=' {names_of(commands)} help as {typed(before)} -V --version'
+    elif [ "${{COMP_WORDS[1]}}" = as ] && [ "$COMP_CWORD" = 2 ]; then
+        words='{tools()}'
     elif [ "${{word#-}}" != "$word" ]; then
         case ${{COMP_WORDS[at]}} in
 {joined(commands, "            {}) words=' {}' ;;")}
@@ -178,7 +188,11 @@ _abootimg() {{
         return
     fi
     if (( at == CURRENT )); then
-        compadd -- {names_of(commands)} help {typed(before)} -V --version
+        compadd -- {names_of(commands)} help as {typed(before)} -V --version
+        return
+    fi
+    if [[ $words[2] == as ]] && (( CURRENT == 3 )); then
+        compadd -- {tools()}
         return
     fi
     if [[ $words[CURRENT] == --*=* ]]; then
@@ -228,6 +242,8 @@ def fish(commands, before):
         seen = f"'__fish_seen_subcommand_from {command.name}'"
         lines += [fish_option(seen, row) for row in command.rows if row.is_option]
     lines.append("-n __fish_use_subcommand -f -a help -d 'Prints the help of a command'")
+    lines.append("-n __fish_use_subcommand -f -a as -d 'Reads the words as one of AOSP\\'s tools does'")
+    lines.append(f"-n 'test (count (commandline -opc)) = 2; and __fish_seen_subcommand_from as' -f -a '{tools()}'")
     lines.append(f"-n {quoted(AT_FILE)} -a {quoted(AT_FILES)}")
     lines.append("-n '__fish_seen_subcommand_from completions' -f -a 'bash zsh fish'")
     lines.append(f"-n '__fish_seen_subcommand_from help' -f -a '{names_of(commands)}'")

@@ -84,7 +84,7 @@ def main():
         if kind == "head":
             level, title = re.match(r"(#+) (.*)", lines[0]).groups()
             if len(level) > 1:
-                print((".SH " if len(level) == 2 else ".SS ") + inline(title).upper())
+                print((".SH " if len(level) == 2 else ".SS ") + inline(title.upper()))
         elif kind == "code":
             print(".PP\n.EX")
             print("\n".join("\\&" + escaped(it) if it.startswith((".", "'")) else escaped(it) for it in lines))

@@ -4,8 +4,8 @@ use Rattle.std.specs.Prelude.{Result, Ok, Err, IfErr, OnOk}
 use Rattle.abt_words.specs.declared.order.SparseTask.{SparseTask}
 use Rattle.abt_words.specs.declared.order.SparseTask.TheVariants as tasks
 use Rattle.abt_disk.specs.World.{World, Held}
-use Rattle.abt_output.specs.declared.report.Report.{Report}
-use Rattle.abt_output.specs.declared.progress.Progress.{Progress}
+use Rattle.abt_report.specs.declared.report.Report.{Report}
+use Rattle.abt_report.specs.declared.progress.Progress.{Progress}
 use Rattle.abt_host.specs.Answering.{PrintsNothing}
 use Rattle.sparse_commands.specs.Commands.{DoesTask, ExpandsImages, SparesExpanded, SparesFiles, State, state}
 

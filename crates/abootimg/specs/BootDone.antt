@@ -1,6 +1,6 @@
 -- What status 0 tells of a command over boot images.
 use Rattle.abt_disk.specs.World.{World, Held}
-use Rattle.abt_output.specs.declared.report.Report.{Report}
+use Rattle.abt_report.specs.declared.report.Report.{Report}
 use Rattle.abt_host.specs.Answering.{PrintsNothing}
 use Rattle.boot_commands.specs.Commands.{DoesKind}
 use Rattle.boot_commands.specs.declared.command.Kind.{Kind}

@@ -7,15 +7,16 @@ ghost use Rattle.abootimg.specs.BootDone.{BootDone};
 
 use crate::outcome::told;
 use abt_disk::Disk;
+use abt_host::Telling;
 use abt_io::{Meter, Window};
-use abt_output::Report;
+use abt_report::Report;
 use boot_commands::{BootCommand, boot_command};
 
 /// Does a command over boot images, and answers the exit status.
 pub fn do_boot<D: Disk>(
     disk: &mut D,
     command: &BootCommand<'_>,
-    is_verbose: bool,
+    how: Telling,
     rt: HostRuntime,
     report: &mut Report,
     w: &mut Window,
@@ -33,5 +34,5 @@ pub fn do_boot<D: Disk>(
         (D.world disk.new) (D.held disk.new) }
 {
     let outcome = boot_command(disk, report, command, w, m);
-    told(outcome, is_verbose, rt, report)
+    told(outcome, how, rt, report)
 }

@@ -4,6 +4,7 @@
 //! |---|---|
 //! | `main.rt` | the standard streams, the window, and the words |
 //! | `running.rt` | what the words ask for, and the exit status |
+//! | `tool.rt` | the same under the name of one of AOSP's tools |
 //! | `sparse_task.rt`, `boot_task.rt` | doing it, over any disk |
 //! | `outcome.rt` | telling what a command answered |
 #![tactic(auto)]
@@ -12,15 +13,18 @@ mod boot_task;
 mod outcome;
 mod running;
 mod sparse_task;
+mod tool;
 
 use abt_host::{REFUSED, USAGE};
 use abt_io::{Meter, Window};
-use abt_output::Report;
+use abt_report::Report;
 use running::{demonstrate, run};
 use std::fs::{File, OpenOptions};
 use std::os::fd::{AsRawFd, IntoRawFd};
 use std::process::ExitCode;
 use std::{env, io};
+use tool::run_tool;
+use tool_words::called;
 
 fn main(rt: HostRuntime) -> ExitCode {
     hold_standard_streams(rt);
@@ -45,7 +49,8 @@ fn null_device(rt: HostRuntime) -> io::Result<File> {
     how.read(true).write(true).open(&rt, "/dev/null")
 }
 
-// Puts the window on the heap once, and does what the words ask for, or without words the demonstration.
+// Puts the window on the heap once, and does what the words ask for: of a tool of AOSP where they call one, or without
+// words the demonstration.
 fn start(rt: HostRuntime) -> u8 {
     let mut report = Report::new(rt);
     let Ok(mut window) = Box::new(rt.alloc(), Window::new()) else {
@@ -60,10 +65,12 @@ fn start(rt: HostRuntime) -> u8 {
     let Ok(words) = args.collect::<Vec<String>>(rt.alloc()) else {
         return no_memory(&mut report);
     };
-    if words.len() < 2 {
-        return demonstrate(rt, &mut report, w, &mut m);
+    let words = words.as_slice();
+    match called(words) {
+        Some((tool, words)) => run_tool(rt, tool, words, &mut report, w, &mut m),
+        None if words.len() < 2 => demonstrate(rt, &mut report, w, &mut m),
+        None => run(rt, words, &mut report, w, &mut m),
     }
-    run(rt, words.as_slice(), &mut report, w, &mut m)
 }
 
 // The words can't be read: for want of memory, or one of them isn't text.

@@ -3,16 +3,16 @@
 ghost use Rattle.std.specs.Prelude.{◌≡◌, IfErr, OnOk, if◌then◌else◌};
 ghost use Rattle.abt_host.specs.Answering.{PrintsNothing};
 
-use abt_host::answer;
-use abt_output::Report;
+use abt_host::{Telling, answer};
 use abt_refusals::{Refusal, Told};
+use abt_report::Report;
 
 /// The exit status of what a command answered, which is told. What the text takes of the stack is not taken while a command
 /// runs, since it has a call of its own.
 #[inline(never)]
 pub(crate) fn told<F: Told + Drop>(
     end: Result<(), Refusal<'_, F>>,
-    is_verbose: bool,
+    how: Telling,
     rt: HostRuntime,
     report: &mut Report,
 ) -> u8
@@ -20,5 +20,5 @@ pub(crate) fn told<F: Told + Drop>(
     ensures quiet { OnOk end.entry (PrintsNothing report.old report.new) }
     ensures refused { IfErr end.entry (λ refusal. result ≡ (if F.wrong_words refusal.fault then 2 else 1)) }
 {
-    answer(end, is_verbose, rt, report)
+    answer(end, how, rt, report)
 }

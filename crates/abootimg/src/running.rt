@@ -4,10 +4,10 @@ ghost use Rattle.std.specs.Prelude.{◌≤◌};
 
 use crate::boot_task::do_boot;
 use crate::sparse_task::do_sparse;
-use abt_host::{Reading, answer};
+use abt_host::{Reading, Telling, answer};
 use abt_io::{Meter, Window};
-use abt_output::{Progress, Report};
 use abt_refusals::{HostRefusal, Refusal};
+use abt_report::{Progress, Report};
 use abt_values::expanded;
 use abt_words::{Order, Task, WordsFault, order_of};
 use boot_commands::BootCommand;
@@ -17,6 +17,9 @@ use sparse_rules::SparseCommandFault;
 use sparse_texts::demo;
 use std::alloc::Global;
 use std::io::IsTerminal;
+
+// The name before the first line of a refusal.
+const PROGRAM: &str = "abootimg";
 
 /// Does what the words ask for, of which the first is the program's name, and answers the exit status.
 ///
@@ -33,18 +36,38 @@ pub fn run(
 {
     let alloc = rt.alloc();
     let is_terminal = rt.stderr().is_terminal();
-    let is_told_more = is_terminal || ask_for_more(words);
-    let mut disk = Host::new(Reading::new(rt));
+    let how = telling(is_terminal || ask_for_more(words));
+    let mut disk = Host::new(rt, Reading::new(rt));
     let texts = match read_word_files(&mut disk, words, alloc) {
         Ok(texts) => texts,
-        Err(refusal) => return refused(rt, refusal, is_told_more, report),
+        Err(refusal) => return refused(rt, refusal, how, report),
     };
     let Ok(words) = expanded(alloc, words, texts.as_slice()) else {
-        return refused(rt, HostRefusal::memory(), is_told_more, report);
+        return refused(rt, HostRefusal::memory(), how, report);
     };
     match ordered(alloc, words.as_slice()) {
-        Ok(order) => carry_out(rt, order, &mut disk, is_terminal, report, w, m),
-        Err(fault) => wrong_words(rt, words.as_slice(), &fault, is_terminal, report),
+        Ok(order) => {
+            let how = telling(order.is_verbose || is_terminal);
+            if is_terminal && !order.is_quiet {
+                report.progress = Progress::shown(rt, order.command);
+            }
+            carry_out(rt, order, &mut disk, how, report, w, m)
+        }
+        Err(fault) => wrong_words(
+            rt,
+            None,
+            words.as_slice(),
+            &fault,
+            telling(is_terminal),
+            report,
+        ),
+    }
+}
+
+fn telling(is_verbose: bool) -> Telling {
+    Telling {
+        program: PROGRAM,
+        is_verbose,
     }
 }
 
@@ -76,39 +99,36 @@ pub fn demonstrate(rt: HostRuntime, report: &mut Report, w: &mut Window, m: &mut
         Ok(()) => Ok(()),
         Err(fault) => Err(Refusal::of(SparseCommandFault::Sparse(fault))),
     };
-    answer(outcome, false, rt, report)
+    answer(outcome, telling(false), rt, report)
 }
 
+/// Does what an order asks for, and answers the exit status.
 #[inline(never)]
-fn carry_out(
+pub(crate) fn carry_out(
     rt: HostRuntime,
     order: Order<'_>,
-    disk: &mut Host,
-    is_terminal: bool,
+    disk: &mut Host<HostRuntime>,
+    how: Telling,
     report: &mut Report,
     w: &mut Window,
     m: &mut Meter,
 ) -> u8
     ensures { result ≤ 2 }
 {
-    let is_verbose = order.is_verbose || is_terminal;
     if order.is_synced {
         disk.sync_outputs();
     }
     if order.is_mounted_allowed {
         disk.allow_mounted();
     }
-    if is_terminal && !order.is_quiet {
-        report.progress = Progress::shown(rt, order.command);
-    }
     match order.task {
-        Task::Sparse(task) => do_sparse(disk, task, is_verbose, rt, report, w, m),
+        Task::Sparse(task) => do_sparse(disk, task, how, rt, report, w, m),
         Task::Boot(task) => {
             let Ok(command) = BootCommand::new(rt.alloc(), task) else {
-                return refused(rt, HostRefusal::memory(), is_verbose, report);
+                return refused(rt, HostRefusal::memory(), how, report);
             };
-            do_boot(disk, &command, is_verbose, rt, report, w, m)
+            do_boot(disk, &command, how, rt, report, w, m)
         }
-        Task::Completions(shell) => print(rt, shell.completions(), is_verbose, report),
+        Task::Completions(shell) => print(rt, shell.completions(), how, report),
     }
 }

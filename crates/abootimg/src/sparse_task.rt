@@ -6,8 +6,9 @@ ghost use Rattle.sparse_commands.specs.Commands.{DoesTask, SparesFiles, state};
 
 use crate::outcome::told;
 use abt_disk::Disk;
+use abt_host::Telling;
 use abt_io::{Meter, Window};
-use abt_output::Report;
+use abt_report::Report;
 use abt_words::SparseTask;
 use sparse_commands::sparse_command;
 
@@ -15,7 +16,7 @@ use sparse_commands::sparse_command;
 pub fn do_sparse<D: Disk>(
     disk: &mut D,
     task: SparseTask<'_>,
-    is_verbose: bool,
+    how: Telling,
     rt: HostRuntime,
     report: &mut Report,
     w: &mut Window,
@@ -35,5 +36,5 @@ pub fn do_sparse<D: Disk>(
         (state (D.world disk.new) (D.held disk.new) report.new) }
 {
     let outcome = sparse_command(disk, report, task, rt.alloc(), w, m);
-    told(outcome, is_verbose, rt, report)
+    told(outcome, how, rt, report)
 }

@@ -8,10 +8,8 @@ ghost use Rattle.std.specs.Prelude.{◌≡◌, ◌≢◌, ◌<◌, ◌≤◌, So
 ghost use Rattle.std.specs.IoError.{error_kind, raw_os_error};
 ghost use Rattle.abt_io.specs.Count.{count_of};
 
-use std::fs::File;
 use std::io;
 use std::io::{ErrorKind, Read, Write};
-use std::os::unix::fs::FileExt;
 
 // What the answer of a call that has to move at least `least` bytes comes to: nothing where a signal
 // came in between, so that the call is tried again.
@@ -37,32 +35,6 @@ fn moved(answer: io::Result<usize>, least: usize) -> Option<Result<usize, Option
             Some(Err(error.raw_os_error()))
         }
     }
-}
-
-/// One positioned read.
-pub(crate) fn read_at(file: &File, at: u64, out: &mut [u8]) -> Result<usize, Option<i32>>
-    ensures within { count_of result ≤ length out.new }
-{
-    for _ in 0..u64::MAX {
-        if let Some(answer) = moved(file.read_at(out, at), 0) {
-            return answer;
-        }
-    }
-    Err(None)
-}
-
-/// One positioned write.
-pub(crate) fn write_at(file: &File, at: u64, bytes: &[u8]) -> Result<usize, Option<i32>>
-    ensures within { count_of result ≤ length bytes.now }
-    ensures progress { IfOk result (λ n. 0 < length bytes.now → 0 < n) }
-{
-    let least = bytes.len().min(1);
-    for _ in 0..u64::MAX {
-        if let Some(answer) = moved(file.write_at(bytes, at), least) {
-            return answer;
-        }
-    }
-    Err(None)
 }
 
 /// One read.

@@ -1,6 +1,6 @@
 -- What a report has of an answer.
 use Rattle.std.specs.Prelude.{◌≡◌}
-use Rattle.abt_output.specs.declared.report.Report.{Report}
+use Rattle.abt_report.specs.declared.report.Report.{Report}
 
 -- nothing was printed: only how far the command is may have been erased
 abbrev pub PrintsNothing : Report → Report → Type 0

@@ -3,8 +3,8 @@
 ghost use Rattle.std.specs.Prelude.{◌≡◌, IfErr, OnOk, if◌then◌else◌};
 ghost use Rattle.abt_host.specs.Answering.{PrintsNothing};
 
-use abt_output::Report;
 use abt_refusals::{Magic, Place, Refusal, Told};
+use abt_report::Report;
 use abt_text::Text;
 use std::alloc::{AllocError, Global};
 use std::fs::OpenOptions;
@@ -20,11 +20,20 @@ pub const REFUSED: u8 = 1;
 /// The words are wrong, as standard error tells.
 pub const USAGE: u8 = 2;
 
+/// How a fault is told.
+#[derive(Clone, Copy)]
+pub struct Telling {
+    /// The name that the program was called by, before the first line.
+    pub program: &'static str,
+    /// Whether there is a second line.
+    pub is_verbose: bool,
+}
+
 /// The exit status of an outcome, whose fault is told to the user: in one line, and where it was asked for in a second
 /// one, which names the file and says why. Nothing is told where it would land in a file that is read.
 pub fn answer<F: Told + Drop>(
     outcome: Result<(), Refusal<'_, F>>,
-    is_verbose: bool,
+    how: Telling,
     rt: HostRuntime,
     report: &mut Report,
 ) -> u8
@@ -38,7 +47,7 @@ pub fn answer<F: Told + Drop>(
         Err(refusal) => refusal,
     };
     if !refusal.about.is_untold {
-        tell(&refusal, is_verbose, rt, report);
+        tell(&refusal, how, rt, report);
     }
     if refusal.fault.is_usage() {
         USAGE
@@ -47,21 +56,22 @@ pub fn answer<F: Told + Drop>(
     }
 }
 
-fn tell<F: Told>(refusal: &Refusal<'_, F>, is_verbose: bool, rt: HostRuntime, report: &mut Report) {
-    let second = if is_verbose {
+fn tell<F: Told>(refusal: &Refusal<'_, F>, how: Telling, rt: HostRuntime, report: &mut Report) {
+    let second = if how.is_verbose {
         second_line(rt, refusal).ok()
     } else {
         None
     };
-    first_line(refusal, report);
+    first_line(refusal, how.program, report);
     if let Some(line) = second {
         report.note(line.as_str());
     }
 }
 
-fn first_line<F: Told>(refusal: &Refusal<'_, F>, report: &mut Report) {
+fn first_line<F: Told>(refusal: &Refusal<'_, F>, program: &str, report: &mut Report) {
     let mut text = Text::new(&mut report.err);
-    text.word("abootimg: ");
+    text.word(program);
+    text.word(": ");
     refusal.fault.put(refusal.about.place, &mut text);
     text.end_line();
     let _ = text.finish();

@@ -21,7 +21,7 @@ mod streams;
 mod taken;
 mod writing;
 
-pub use answering::{DONE, REFUSED, USAGE, answer};
+pub use answering::{DONE, REFUSED, Telling, USAGE, answer};
 pub use input_file::{InputFile, Passing};
 pub use opening::not_opened;
 pub use reading::Reading;

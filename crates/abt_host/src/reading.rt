@@ -10,7 +10,6 @@ use crate::opening::{Access, Opened, not_opened, open_file};
 use crate::streams::Streams;
 use crate::taken::Taken;
 use crate::writing::Writing;
-use abt_files::FileSource;
 use abt_refusals::{HostFault, HostRefusal, Place};
 use host_files::{
     Found, INPUT, Identity, ReadFiles, StandardSource, found_of, identity_of_stream, is_shown,
@@ -20,6 +19,7 @@ use std::fs::File;
 use std::io;
 use std::io::Read;
 use std::os::fd::AsRawFd;
+use sys_devices::FileSource;
 
 // How many bytes a file of words has at most.
 const TEXT: u64 = 1 << 20;
@@ -118,7 +118,7 @@ impl Reading {
     }
 
     /// Opens what is read at any place. What is neither a file nor a block device has no length, and is refused.
-    pub fn source<'a>(&mut self, place: Place<'a>) -> Result<FileSource, HostRefusal<'a>>
+    pub fn source<'a>(&mut self, place: Place<'a>) -> Result<FileSource<File>, HostRefusal<'a>>
         ensures reads { OnOk result (ReadsOne self.old self.new) }
     {
         let Opened { file, .. } = self.opened(place, Access::AnyPlace)?;
@@ -148,9 +148,9 @@ impl Reading {
     /// A source that is open, to be read a second time beside the first.
     pub fn again<'a>(
         &mut self,
-        source: &FileSource,
+        source: &FileSource<File>,
         place: Place<'a>,
-    ) -> Result<FileSource, HostRefusal<'a>> {
+    ) -> Result<FileSource<File>, HostRefusal<'a>> {
         let Some(file) = &source.file else {
             return Ok(FileSource::empty());
         };
@@ -242,7 +242,7 @@ fn if_too_many(refusal: HostRefusal<'_>) -> HostRefusal<'_>
     refusal
 }
 
-fn source_of<'a>(file: File, place: Place<'a>) -> Result<FileSource, HostRefusal<'a>> {
+fn source_of<'a>(file: File, place: Place<'a>) -> Result<FileSource<File>, HostRefusal<'a>> {
     match FileSource::new(file) {
         Ok(source) => Ok(source),
         Err(_) => Err(HostRefusal::at(HostFault::CannotOpen, place, None)),

@@ -4,14 +4,12 @@ ghost use Rattle.std.specs.Prelude.{◌≡◌, ◌↔◌, ◌⊎◌, [], true, I
 ghost use Rattle.abt_output.specs.Given.{given_by_writer};
 ghost use Rattle.abt_io.specs.Frame.{nothing_logged};
 ghost use Rattle.abt_host.specs.Access.{may_write};
-ghost use Rattle.abt_host.specs.Begins.{BeginsOutput, BeginsImage, BeginsSpool, BeginsKeptSpool, Admits};
+ghost use Rattle.abt_host.specs.Begins.{BeginsOutput, BeginsImage, BeginsKeptSpool, Admits};
 ghost use Rattle.abt_host.specs.Streams.{Mixed};
 ghost use Rattle.abt_host.specs.Taken.{Forbidden, Adds, WritesOne};
 
 use crate::opening::{Access, Opened, not_opened, open_file};
 use crate::reading::Reading;
-use abt_files::{FilePartition, FileSpool};
-use abt_io::FrontLast;
 use abt_output::{ImageFile, ImageOutput, OutputFile, Sink};
 use abt_refusals::{HostFault, HostRefusal, Place};
 use host_files::{
@@ -21,6 +19,7 @@ use host_files::{
 use std::alloc::{AllocError, Global};
 use std::fs::{File, OpenOptions};
 use std::{fs, io, mem};
+use sys_devices::FilePartition;
 
 // The number of 'Invalid argument'.
 const INVALID: i32 = 22;
@@ -67,7 +66,10 @@ impl Writing {
     }
 
     /// Opens what is written in place, which must be there.
-    pub fn partition<'a>(&mut self, place: Place<'a>) -> Result<FilePartition, HostRefusal<'a>>
+    pub fn partition<'a>(
+        &mut self,
+        place: Place<'a>,
+    ) -> Result<FilePartition<File>, HostRefusal<'a>>
         ensures writes { OnOk result (WritesOne self.old self.new) }
     {
         let opened = self.admitted(place, Access::InPlace)?;
@@ -79,14 +81,18 @@ impl Writing {
     }
 
     /// Creates or empties the file of a raw image, in which zeros may be holes. `-` is standard output.
-    pub fn raw<'a>(&mut self, place: Place<'a>) -> Result<OutputFile, HostRefusal<'a>>
+    pub fn raw<'a>(&mut self, place: Place<'a>) -> Result<OutputFile<File>, HostRefusal<'a>>
         ensures { BeginsOutput result self.old self.new }
     {
         if place.is_standard() {
             return self.standard(place);
         }
         let Opened { file, found, .. } = self.created(place, Access::Create)?;
-        let sink = Sink::raw(file, found.is_file());
+        let sink = if found.is_file() {
+            Sink::holes(file)
+        } else {
+            Sink::stream(file)
+        };
         self.buffered(place, sink, found.identity.holds_data)
     }
 
@@ -97,7 +103,7 @@ impl Writing {
         &mut self,
         place: Place<'a>,
         is_gathered: bool,
-    ) -> Result<ImageOutput, HostRefusal<'a>>
+    ) -> Result<ImageOutput<File>, HostRefusal<'a>>
         ensures { BeginsImage result self.old self.new }
     {
         if place.is_standard() {
@@ -107,22 +113,22 @@ impl Writing {
         let sink = if is_gathered && found.is_file() {
             Sink::gathered(self.alloc, file)
         } else {
-            Sink::file(file)
+            Sink::stream(file)
         };
         let output = self.buffered(place, sink, found.identity.holds_data)?;
         if found.is_file() {
-            Ok(ImageOutput::File(FrontLast::new(ImageFile::new(output))))
+            Ok(ImageOutput::File(ImageFile::new(output)))
         } else {
             Ok(ImageOutput::Stream(output))
         }
     }
 
     /// Creates or empties a file.
-    pub fn plain<'a>(&mut self, place: Place<'a>) -> Result<OutputFile, HostRefusal<'a>>
+    pub fn plain<'a>(&mut self, place: Place<'a>) -> Result<OutputFile<File>, HostRefusal<'a>>
         ensures { BeginsOutput result self.old self.new }
     {
         let Opened { file, found, .. } = self.created(place, Access::Create)?;
-        self.buffered(place, Sink::file(file), found.identity.holds_data)
+        self.buffered(place, Sink::stream(file), found.identity.holds_data)
     }
 
     /// Creates or empties a regular file, and makes it so many zeros, to be written in place. Nothing else will do.
@@ -130,7 +136,7 @@ impl Writing {
         &mut self,
         place: Place<'a>,
         bytes: u64,
-    ) -> Result<FilePartition, HostRefusal<'a>>
+    ) -> Result<FilePartition<File>, HostRefusal<'a>>
         ensures writes { OnOk result (WritesOne self.old self.new) }
     {
         if place.is_standard() {
@@ -143,12 +149,12 @@ impl Writing {
         }
     }
 
-    /// Creates or empties the file that pieces of so many bytes go through, which is read again.
-    pub fn spool<'a>(&mut self, place: Place<'a>, limit: u32) -> Result<FileSpool, HostRefusal<'a>>
-        ensures { BeginsSpool limit result self.old self.new }
+    /// Creates or empties the file that pieces go through, which is read again.
+    pub fn spool<'a>(&mut self, place: Place<'a>) -> Result<File, HostRefusal<'a>>
+        ensures { OnOk result (WritesOne self.old self.new) }
     {
         let created = self.created(place, Access::Spool)?;
-        Ok(FileSpool::new(created.file, limit as u64))
+        Ok(created.file)
     }
 
     /// The same, of which a file that is no longer than a piece keeps its pages: its first four bytes are zeros then,
@@ -157,12 +163,12 @@ impl Writing {
         &mut self,
         place: Place<'a>,
         limit: u32,
-    ) -> Result<(FileSpool, u64), HostRefusal<'a>>
+    ) -> Result<(File, u64), HostRefusal<'a>>
         ensures { BeginsKeptSpool limit result self.old self.new }
     {
         let Opened { file, found, .. } = self.admitted(place, Access::Spool)?;
         match self.reading.taken.blank(&file, found, limit as u64) {
-            Ok(stands) => Ok((FileSpool::new(file, limit as u64), stands)),
+            Ok(stands) => Ok((file, stands)),
             Err(error) => Err(HostRefusal::at(HostFault::CannotOpen, place, error.raw_os_error())),
         }
     }
@@ -176,7 +182,7 @@ impl Writing {
     /// created, its folder is, so that its name stands there.
     pub fn close<'a>(
         &mut self,
-        part: FilePartition,
+        part: FilePartition<File>,
         place: Place<'a>,
     ) -> Result<(), HostRefusal<'a>> {
         mem::drop(part);
@@ -239,7 +245,7 @@ impl Writing {
     }
 
     // Data goes to standard output.
-    fn standard<'a>(&mut self, place: Place<'a>) -> Result<OutputFile, HostRefusal<'a>>
+    fn standard<'a>(&mut self, place: Place<'a>) -> Result<OutputFile<File>, HostRefusal<'a>>
         ensures { BeginsOutput result self.old self.new }
     {
         let identity = self.reading.streams.out;
@@ -288,9 +294,9 @@ impl Writing {
     fn buffered<'a>(
         &self,
         place: Place<'a>,
-        sink: Sink,
+        sink: Sink<File>,
         holds_data: bool,
-    ) -> Result<OutputFile, HostRefusal<'a>>
+    ) -> Result<OutputFile<File>, HostRefusal<'a>>
         requires { sink.log.state ≡ nothing_logged }
         ensures empty { IfOk result (λ output. given_by_writer output.to.writer ≡ []) }
         ensures data { IfOk result (λ output. output.is_data_on_output ≡ self.now.is_data_on_output) }
@@ -465,7 +471,7 @@ fn sync_folder_of(rt: HostRuntime, path: &str) -> io::Result<()> {
 }
 
 // Makes an empty file so many zeros. Why it could not be done, by the number of the system's error.
-fn zeros_in(file: File, bytes: u64) -> Result<FilePartition, Option<i32>> {
+fn zeros_in(file: File, bytes: u64) -> Result<FilePartition<File>, Option<i32>> {
     if let Err(error) = file.set_len(bytes) {
         return Err(error.raw_os_error());
     }

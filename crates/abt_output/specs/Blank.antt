@@ -5,6 +5,6 @@ use Rattle.abt_output.specs.declared.output_file.ImageOutput.{ImageOutput}
 use Rattle.abt_output.specs.declared.output_file.ImageOutput.TheVariants.{File, Stream}
 
 -- nothing was written to it
-abbrev pub IsBlank : ImageOutput → Type 0
-IsBlank (File front) = given_by_writer front.output.output.to.writer ≡ []
+abbrev pub IsBlank : {F : Type 0} {g : _} → ImageOutput F g → Type 0
+IsBlank (File image) = given_by_writer image.output.to.writer ≡ []
 IsBlank (Stream output) = given_by_writer output.to.writer ≡ []

@@ -1,5 +1,4 @@
 pub mod Blank
+pub mod Ends
 pub mod Follows
 pub mod Given
-pub mod Moved
-pub mod Shows

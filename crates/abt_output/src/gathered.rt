@@ -1,22 +1,25 @@
 //! An output that takes small writes together. What it was given is what the system took and what it holds still.
 
 ghost use Rattle.std.specs.Prelude.{◌≡◌, ◌+◌, false, IfOk, OnErr};
+ghost use Rattle.abt_output.specs.Ends.{EndsWith};
 ghost use Rattle.abt_output.specs.Given.{given_by_writer, PutsOver, SettlesWriter, LaysZeros};
 
 use crate::sink::Sink;
-use abt_io::{DeviceFault, Log, Output, Tally};
+use crate::target::Ended;
+use abt_io::{DeviceFault, Output, Tally};
 use std::io::{BufWriter, Write};
+use sys_file::SystemFile;
 
 /// A file, a pipe, a device or standard output, which is written from its front on.
 #[derive(Drop)]
-pub struct Gathered {
-    pub writer: BufWriter<Sink>,
+pub struct Gathered<F: SystemFile + Drop> {
+    pub writer: BufWriter<Sink<F>>,
     pub calls: Tally,
     pub faults: Tally,
 }
 
-impl Gathered {
-    pub(crate) fn new(writer: BufWriter<Sink>) -> Gathered
+impl<F: SystemFile + Drop> Gathered<F> {
+    pub(crate) fn new(writer: BufWriter<Sink<F>>) -> Gathered<F>
         ensures { result.writer ≡ writer }
     {
         Gathered {
@@ -61,10 +64,11 @@ impl Gathered {
         let _ = given_up(self.writer);
     }
 
-    /// Sends what it holds, and has it synced, where that is wanted. Answers what the system took: all that it was given.
-    /// Why that could not be done, by the number of the system's error; then it is sent as far as that goes.
-    pub(crate) fn finish(self, is_synced: bool) -> Result<Log, Option<i32>>
-        ensures { IfOk result (λ sent. sent.state.bytes ≡ given_by_writer self.writer) }
+    /// Sends what it holds, and has it synced, where that is wanted. Answers all that it was given, and the file that holds
+    /// that, where there is one. Why that could not be done, by the number of the system's error; then it is sent as far as
+    /// that goes.
+    pub(crate) fn finish(self, is_synced: bool) -> Result<Ended<F>, Option<i32>>
+        ensures { IfOk result (EndsWith F.tells F.stands F.past is_synced (given_by_writer self.writer)) }
     {
         match self.writer.into_inner() {
             Ok(sink) => sink.end(is_synced),
@@ -74,7 +78,7 @@ impl Gathered {
 }
 
 // Sends what a writer holds, as far as that goes, and answers why its last call had failed.
-fn given_up(writer: BufWriter<Sink>) -> Option<i32> {
+fn given_up<F: SystemFile + Drop>(writer: BufWriter<Sink<F>>) -> Option<i32> {
     let mut writer = writer;
     let why = writer.get_ref().why;
     let _ = writer.flush();
@@ -83,7 +87,11 @@ fn given_up(writer: BufWriter<Sink>) -> Option<i32> {
 }
 
 // Sends what a writer holds, and writes at a place.
-fn put_through(writer: &mut BufWriter<Sink>, at: u64, bytes: &[u8]) -> Result<usize, DeviceFault>
+fn put_through<F: SystemFile + Drop>(
+    writer: &mut BufWriter<Sink<F>>,
+    at: u64,
+    bytes: &[u8],
+) -> Result<usize, DeviceFault>
     ensures { PutsOver result at bytes.now writer.old writer.new }
 {
     if writer.flush().is_err() {
@@ -93,7 +101,10 @@ fn put_through(writer: &mut BufWriter<Sink>, at: u64, bytes: &[u8]) -> Result<us
 }
 
 // Sends what a writer holds, and makes its file longer by a hole. How many zeros that gave it.
-fn lay_through(writer: &mut BufWriter<Sink>, n: u64) -> Result<u64, DeviceFault>
+fn lay_through<F: SystemFile + Drop>(
+    writer: &mut BufWriter<Sink<F>>,
+    n: u64,
+) -> Result<u64, DeviceFault>
     ensures { LaysZeros result n writer.old writer.new }
 {
     if writer.flush().is_err() {
@@ -102,7 +113,7 @@ fn lay_through(writer: &mut BufWriter<Sink>, n: u64) -> Result<u64, DeviceFault>
     Ok(writer.get_mut().lay_hole(n))
 }
 
-impl Output for Gathered {
+impl<F: SystemFile + Drop> Output for Gathered<F> {
     ghost written = { λ o. given_by_writer o.writer };
 
     ghost is_full = { λ _. false };

@@ -1,25 +1,27 @@
 //! The file of an image that has a magic. It takes small writes together, as those of chunk headers, and can be written
 //! over.
 
-ghost use Rattle.std.specs.Prelude.{◌≡◌, [], false, length, IfOk};
+ghost use Rattle.std.specs.Prelude.{◌≡◌, [], false, IsTrue, is_some, length, IfOk};
+ghost use Rattle.abt_output.specs.Ends.{EndsWith};
 ghost use Rattle.abt_output.specs.Given.{given_by_writer};
 
 use crate::output_file::{Finished, OutputFile};
 use abt_disk::{Late, Reasons};
 use abt_io::{DeviceFault, Output, Overwrite};
 use abt_refusals::{HostRefusal, Place};
+use sys_file::SystemFile;
 
 /// A regular file that is written from its front on, and over what was written.
 #[derive(Drop)]
-pub struct ImageFile {
-    pub output: OutputFile,
+pub struct ImageFile<F: SystemFile + Drop> {
+    pub output: OutputFile<F>,
     used: u64,
     ghost long: { used ≡ length (given_by_writer output.to.writer) },
 }
 
-impl ImageFile {
+impl<F: SystemFile + Drop> ImageFile<F> {
     /// Begins at the front of this output, which is an empty file.
-    pub fn new(output: OutputFile) -> ImageFile
+    pub fn new(output: OutputFile<F>) -> ImageFile<F>
         requires { given_by_writer output.to.writer ≡ [] }
         ensures { result.output ≡ output }
     {
@@ -32,8 +34,11 @@ impl ImageFile {
     }
 
     /// Brings it to its end.
-    pub fn finish<'a>(self, place: Place<'a>) -> Result<Finished, HostRefusal<'a>>
-        ensures { IfOk result (λ finished. finished.sent.state.bytes ≡ given_by_writer self.output.to.writer) }
+    pub fn finish<'a>(self, place: Place<'a>) -> Result<Finished<F>, HostRefusal<'a>>
+        ensures ends { IfOk result (λ finished. EndsWith F.tells F.stands F.past self.output.is_synced
+            (given_by_writer self.output.to.writer) finished.ended) }
+        ensures there { IfOk result (λ finished. IsTrue self.output.has_file
+            → IsTrue (is_some finished.ended.file)) }
     {
         self.output.finish(place)
     }
@@ -44,7 +49,7 @@ impl ImageFile {
     }
 }
 
-impl Output for ImageFile {
+impl<F: SystemFile + Drop> Output for ImageFile<F> {
     ghost written = { λ o. given_by_writer o.output.to.writer };
 
     ghost is_full = { λ _. false };
@@ -72,7 +77,7 @@ impl Output for ImageFile {
     }
 }
 
-impl Overwrite for ImageFile {
+impl<F: SystemFile + Drop> Overwrite for ImageFile<F> {
     fn position(&self) -> u64 {
         self.used
     }
@@ -82,7 +87,7 @@ impl Overwrite for ImageFile {
     }
 }
 
-impl Late for ImageFile {
+impl<F: SystemFile + Drop> Late for ImageFile<F> {
     fn settle(&mut self) -> Result<(), DeviceFault> {
         match self.output.settle() {
             Ok(()) => Ok(()),
@@ -94,7 +99,7 @@ impl Late for ImageFile {
     }
 }
 
-impl Reasons for ImageFile {
+impl<F: SystemFile + Drop> Reasons for ImageFile<F> {
     fn why(&self) -> Option<i32> {
         self.output.why()
     }

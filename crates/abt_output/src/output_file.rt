@@ -1,72 +1,73 @@
 //! An output that is written from its front on, and how it is brought to its end.
 
-ghost use Rattle.std.specs.Prelude.{◌≡◌, [], false, IfOk};
+ghost use Rattle.std.specs.Prelude.{◌≡◌, [], false, IsTrue, is_some, IfOk};
+ghost use Rattle.abt_output.specs.Ends.{EndsWith};
+ghost use Rattle.abt_output.specs.Follows.{has_file};
 ghost use Rattle.abt_output.specs.Given.{given_by_writer, SettlesWriter};
 ghost use Rattle.abt_io.specs.Frame.{nothing_logged};
 
 use crate::gathered::Gathered;
 use crate::image_file::ImageFile;
 use crate::sink::Sink;
+use crate::target::Ended;
 use abt_disk::Reasons;
-use abt_files::FilePartition;
-use abt_io::{DeviceFault, FrontLast, Log, Output};
+use abt_io::{DeviceFault, Output};
 use abt_refusals::{HostFault, HostRefusal, Place};
 use std::alloc::Global;
 use std::io::BufWriter;
+use sys_file::SystemFile;
 
 // How many bytes are taken together at most: a page, since no hole is smaller.
 const PAGE: usize = 4096;
 
 /// A file, a pipe, a device or standard output, which takes small writes together.
 #[derive(Drop)]
-pub struct OutputFile {
-    pub to: Gathered,
-    // Whether it is synced at its end.
-    is_synced: bool,
+pub struct OutputFile<F: SystemFile + Drop> {
+    pub to: Gathered<F>,
+    /// Whether it is synced at its end.
+    pub is_synced: bool,
+    /// Whether its bytes go to a file that is written at places.
+    pub has_file: bool,
     // Whether data goes to where standard output goes.
     is_data_on_output: bool,
 }
 
-/// An output that is at its end: the system took all that was written.
+/// An output that is at its end.
 #[derive(Drop)]
-pub struct Finished {
-    /// What the system took.
-    pub(crate) sent: Log,
+pub struct Finished<F> {
+    /// All that it was given, and its file.
+    pub ended: Ended<F>,
     is_data_on_output: bool,
 }
 
-impl Finished {
-    /// What was written in place, by a call that syncs it at its end, is at its end.
-    pub fn in_place(_synced: FilePartition, is_data_on_output: bool) -> Finished {
-        Finished {
-            sent: Log::new(),
-            is_data_on_output,
-        }
-    }
-
+impl<F: Drop> Finished<F> {
     /// Whether data went to where standard output goes.
     pub fn is_data_on_output(&self) -> bool {
         self.is_data_on_output
     }
 }
 
-impl OutputFile {
+impl<F: SystemFile + Drop> OutputFile<F> {
     /// An output that takes small writes together, and is synced at its end where that is wanted.
     pub fn new<'a>(
         alloc: Global,
         place: Place<'a>,
-        sink: Sink,
+        sink: Sink<F>,
         is_synced: bool,
         is_data_on_output: bool,
-    ) -> Result<OutputFile, HostRefusal<'a>>
+    ) -> Result<OutputFile<F>, HostRefusal<'a>>
         requires { sink.log.state ≡ nothing_logged }
         ensures empty { IfOk result (λ output. given_by_writer output.to.writer ≡ []) }
         ensures data { IfOk result (λ output. output.is_data_on_output ≡ is_data_on_output) }
+        ensures synced { IfOk result (λ output. output.is_synced ≡ is_synced) }
+        ensures file { IfOk result (λ output. output.has_file ≡ has_file sink.target) }
     {
+        let has_file = sink.has_file();
         match BufWriter::with_capacity(alloc, PAGE, sink) {
             Ok(writer) => Ok(OutputFile {
                 to: Gathered::new(writer),
                 is_synced,
+                has_file,
                 is_data_on_output,
             }),
             Err(_) => Err(HostRefusal::memory().begun(place)),
@@ -88,17 +89,25 @@ impl OutputFile {
     }
 
     /// Brings it to its end: what it holds is sent, and it is synced, where that is wanted.
-    pub fn finish<'a>(self, place: Place<'a>) -> Result<Finished, HostRefusal<'a>>
-        ensures { IfOk result (λ finished. finished.sent.state.bytes ≡ given_by_writer self.to.writer) }
+    pub fn finish<'a>(self, place: Place<'a>) -> Result<Finished<F>, HostRefusal<'a>>
+        ensures ends { IfOk result (λ finished. EndsWith F.tells F.stands F.past self.is_synced
+            (given_by_writer self.to.writer) finished.ended) }
+        ensures there { IfOk result (λ finished. IsTrue self.has_file → IsTrue (is_some finished.ended.file)) }
     {
+        let has_file = self.has_file;
         let is_data_on_output = self.is_data_on_output;
-        match self.to.finish(self.is_synced) {
-            Ok(sent) => Ok(Finished {
-                sent,
-                is_data_on_output,
-            }),
-            Err(why) => Err(HostRefusal::at(HostFault::Write, place, why).begun(place)),
-        }
+        let why = match self.to.finish(self.is_synced) {
+            // A writer that takes bytes together tells what its sink was given, and not that it is the same one.
+            Ok(ended) if has_file && ended.file.is_none() => None,
+            Ok(ended) => {
+                return Ok(Finished {
+                    ended,
+                    is_data_on_output,
+                });
+            }
+            Err(why) => why,
+        };
+        Err(HostRefusal::at(HostFault::Write, place, why).begun(place))
     }
 
     /// Sends what it took together, where the work before failed.
@@ -107,7 +116,7 @@ impl OutputFile {
     }
 }
 
-impl Output for OutputFile {
+impl<F: SystemFile + Drop> Output for OutputFile<F> {
     ghost written = { λ o. given_by_writer o.to.writer };
 
     ghost is_full = { λ _. false };
@@ -127,7 +136,7 @@ impl Output for OutputFile {
     }
 }
 
-impl Reasons for OutputFile {
+impl<F: SystemFile + Drop> Reasons for OutputFile<F> {
     fn why(&self) -> Option<i32> {
         self.to.why()
     }
@@ -135,9 +144,9 @@ impl Reasons for OutputFile {
 
 /// Where an image goes that has a magic.
 #[derive(Drop)]
-pub enum ImageOutput {
-    /// A regular file, in which the magic is laid last: what is broken off has none.
-    File(FrontLast<ImageFile>),
+pub enum ImageOutput<F: SystemFile + Drop> {
+    /// A regular file, which can be written over: so the magic is laid last, and what is broken off has none.
+    File(ImageFile<F>),
     /// A pipe, a device or standard output, which is written from its front on.
-    Stream(OutputFile),
+    Stream(OutputFile<F>),
 }

@@ -1,75 +1,68 @@
 //! Where bytes go, and all that was given there.
 
-ghost use Rattle.std.specs.Prelude.{◌≡◌, ◌<◌, ◌≤◌, [], Some, length, take, replicate, IfOk, OnErr};
-ghost use Rattle.abt_io.specs.Frame.{nothing_logged, and_bytes};
+ghost use Rattle.std.specs.Prelude.{◌≡◌, [], Some, IsTrue, is_some, take, IfOk, OnErr};
+ghost use Rattle.abt_io.specs.Frame.{nothing_logged};
 ghost use Rattle.abt_io.specs.Over.{and_put};
-ghost use Rattle.abt_buffers.specs.Writes.{WritesOrFails};
-ghost use Rattle.abt_output.specs.Follows.{Follows, SettlesTarget};
+ghost use Rattle.abt_output.specs.Ends.{EndsWith};
+ghost use Rattle.abt_output.specs.Follows.{Follows, has_file, SettlesTarget, StartsAt, StartsFile};
+ghost use Rattle.abt_output.specs.Follows.{WritesOrFails};
+ghost use Rattle.sys_outputs.specs.Given.{LaysHole};
 
-use crate::target::Target;
-use abt_buffers::{HeldFile, Room, SentFile};
+use crate::target::{Ended, Target};
 use abt_io::{DeviceFault, Log};
 use std::alloc::Global;
 use std::fs::File;
 use std::io;
 use std::io::Write;
 use std::rt::Stdout;
+use sys_file::SystemFile;
+use sys_outputs::{HeldFile, HoleFile, Room};
 
 /// A writer that keeps all that it was given, and why it failed. The system took all of that, but for what a gathered file
 /// holds until its end.
 #[derive(Drop)]
-pub struct Sink {
-    target: Target,
+pub struct Sink<F: SystemFile + Drop> {
+    target: Target<F>,
     pub why: Option<i32>,
     pub log: Log,
     ghost follows: { Follows target log.state.bytes },
 }
 
-impl Sink {
-    /// A file, which is given all bytes.
-    pub fn file(file: File) -> Sink
+impl<F: SystemFile + Drop> Sink<F> {
+    /// A file, a pipe or a device, which is given all bytes.
+    pub fn stream(file: File) -> Sink<F>
         ensures { result.log.state ≡ nothing_logged }
     {
-        Sink::of(Target::File(file))
+        Sink::of(Target::Stream(file))
     }
 
-    /// The file of a raw image, which is empty. In a regular one zeros may be holes.
-    pub fn raw(file: File, is_regular: bool) -> Sink
-        ensures { result.log.state ≡ nothing_logged }
+    /// A regular file that is empty, in which zeros may be holes.
+    pub fn holes(file: F) -> Sink<F>
+        requires { IsTrue F.tells → F.stands file ≡ [] }
+        ensures { StartsFile result.log.state (has_file result.target) }
     {
-        if is_regular {
-            Sink::of(Target::Holes { file, length: 0 })
-        } else {
-            Sink::of(Target::File(file))
-        }
+        Sink::of(Target::Holes(HoleFile::new(file)))
     }
 
     /// A regular file that is empty. It holds up to 64 KiB of what it was given last, and lays headers there in memory;
-    /// where there is no memory for that, it is given all bytes.
-    pub fn gathered(alloc: Global, file: File) -> Sink
-        ensures { result.log.state ≡ nothing_logged }
+    /// where there is no memory for that, each write goes to the file at once.
+    pub fn gathered(alloc: Global, file: F) -> Sink<F>
+        requires { IsTrue F.tells → F.stands file ≡ [] }
+        ensures { StartsFile result.log.state (has_file result.target) }
     {
-        Sink::of(match Room::new(alloc) {
-            Ok(room) => Target::Held(HeldFile::new(SentFile::new(file), room)),
-            Err(_) => Target::File(file),
-        })
+        Sink::of(Target::Held(HeldFile::new(file, Room::new(alloc))))
     }
 
     /// Standard output, and a handle of its file where that is going to be synced.
-    pub fn standard(stdout: Stdout, file: Option<File>) -> Sink
+    pub fn standard(stdout: Stdout, file: Option<File>) -> Sink<F>
         ensures { result.log.state ≡ nothing_logged }
     {
         Sink::of(Target::Standard { stdout, file })
     }
 
-    /// Whether it is a terminal that standard output is.
-    pub(crate) fn is_terminal(&self) -> bool {
-        self.target.is_terminal()
-    }
-
-    fn of(target: Target) -> Sink
+    fn of(target: Target<F>) -> Sink<F>
         requires { Follows target [] }
-        ensures { result.log.state ≡ nothing_logged }
+        ensures { StartsAt target result.target result.log.state }
     {
         Sink {
             target,
@@ -97,6 +90,13 @@ impl Sink {
         }
     }
 
+    /// Whether its bytes go to a file that is written at places.
+    pub(crate) fn has_file(&self) -> bool
+        ensures { result ≡ has_file self.now.target }
+    {
+        self.target.has_file()
+    }
+
     /// Whether so many zeros may be a hole.
     pub(crate) fn takes_hole(&self, n: u64) -> bool {
         self.target.takes_hole(n)
@@ -104,8 +104,7 @@ impl Sink {
 
     /// Makes the file longer by a hole of at most so many zeros, and answers how many: 0 where that cannot be done.
     pub(crate) fn lay_hole(&mut self, n: u64) -> u64
-        ensures within { result ≤ n }
-        ensures laid { self.new.log.state ≡ and_bytes self.old.log.state (replicate result 0) }
+        ensures { LaysHole n result self.old.log.state self.new.log.state }
     {
         let laid = self.target.lay_hole(n);
         self.log.append_zeros(laid);
@@ -125,20 +124,20 @@ impl Sink {
         }
     }
 
-    /// Has all written that it holds, and synced, where that is wanted, and answers what the system took: all that was
-    /// given. Why that could not be done, by the number of the system's error. A file is closed then; standard output
-    /// stays open.
-    pub(crate) fn end(self, is_synced: bool) -> Result<Log, Option<i32>>
-        ensures { IfOk result (λ sent. sent.state.bytes ≡ self.log.state.bytes) }
+    /// Has all written that it holds, and synced, where that is wanted. It answers all that it was given, and its file. Why
+    /// that could not be done, by the number of the system's error: then its file is closed. Standard output stays open.
+    pub(crate) fn end(self, is_synced: bool) -> Result<Ended<F>, Option<i32>>
+        ensures ends { IfOk result (EndsWith F.tells F.stands F.past is_synced self.log.state.bytes) }
+        ensures there { IfOk result (λ ended. IsTrue (has_file self.target) → IsTrue (is_some ended.file)) }
     {
         match self.target.end(self.log, is_synced) {
-            Ok(sent) => Ok(sent),
+            Ok(ended) => Ok(ended),
             Err(error) => Err(error.raw_os_error()),
         }
     }
 }
 
-impl Write for Sink {
+impl<F: SystemFile + Drop> Write for Sink<F> {
     ghost contents = { λ s. Some s.log.state.bytes };
 
     fn write(&mut self, bytes: &[u8]) -> io::Result<usize> {

@@ -1,2 +1,3 @@
+pub mod AospNumber
 pub mod NumberWord
 pub mod WordFile

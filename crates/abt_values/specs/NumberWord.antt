@@ -1,7 +1,10 @@
 -- Words that write a number: `4096`, `0x1000`, `4K`.
-use Rattle.std.specs.Prelude.{◌≡◌, ℕ, ◌*◌, ◌<◌, ◌^◌, List, [], ◌∷◌, ◌++◌, ◌⊎◌}
+use Rattle.std.specs.Prelude.{◌≡◌, ℕ, ◌*◌, ◌<◌, ◌^◌, List, [], ◌∷◌, ◌++◌, ◌⊎◌, Some, codes}
 use Rattle.abt_values.specs.declared.rows.Value.{Value}
-use Rattle.abt_values.specs.declared.rows.Value.TheVariants.{File, Number, LongNumber, Count, Text, CommandLine, Os, Name, IsGiven}
+use Rattle.abt_values.specs.declared.rows.Value.TheVariants.{File, Number, LongNumber, Count, Text, CommandLine, Os}
+use Rattle.abt_values.specs.declared.rows.Value.TheVariants.{Name, IsGiven, PythonNumber, LongPythonNumber, OsVersion}
+use Rattle.abt_values.specs.declared.rows.Value.TheVariants.{PatchLevel, NotTaken}
+use Rattle.abt_values.specs.AospNumber.{os_version, patch_level, python_number}
 use Rattle.std.specs.Str.Parse.{IsNumeral, digits_value}
 
 -- digits of a radix alone, at least one, and the number that they write
@@ -11,7 +14,8 @@ pub record IsDigits (radix : ℕ) (word : List ℕ) (n : ℕ) : Type 0 where
 
 -- a letter behind the digits, and what it stands for: K, M and G
 abbrev pub IsScale : ℕ → ℕ → Type 0
-IsScale letter n = ((letter ≡ 75) × (n ≡ 1024)) ⊎ (((letter ≡ 77) × (n ≡ 1048576)) ⊎ ((letter ≡ 71) × (n ≡ 1073741824)))
+IsScale letter n = ((letter ≡ 75) × (n ≡ 1024))
+    ⊎ (((letter ≡ 77) × (n ≡ 1048576)) ⊎ ((letter ≡ 71) × (n ≡ 1073741824)))
 
 pub record IsScaled (word : List ℕ) (n : ℕ) : Type 0 where
   pub digits : List ℕ
@@ -47,3 +51,8 @@ IsRead CommandLine word n = n ≡ 0
 IsRead Os word n = n ≡ 0
 IsRead (Name names) word n = n ≡ 0
 IsRead IsGiven word n = n ≡ 0
+IsRead PythonNumber word n = (python_number word ≡ Some n) × (n < 2 ^ 32)
+IsRead LongPythonNumber word n = python_number word ≡ Some n
+IsRead OsVersion word n = os_version word ≡ Some n
+IsRead PatchLevel word n = patch_level word ≡ Some n
+IsRead NotTaken word n = (word ≡ codes "false") × (n ≡ 0)

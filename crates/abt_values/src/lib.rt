@@ -1,6 +1,7 @@
 //! What single words of a command line mean: numbers, files of words, and the values that a row of the table takes.
 #![tactic(auto)]
 
+mod aosp_numbers;
 mod numbers;
 mod rows;
 mod word_files;

@@ -3,6 +3,7 @@
 ghost use Rattle.std.specs.Prelude.{◌≡◌, ◌≢◌, ◌<◌, ◌≤◌, ◌^◌, ℕ, List, [], ◌∷◌, ◌++◌, Some, None, IfSome};
 ghost use Rattle.abt_values.specs.NumberWord.{IsDecimal, IsDigits, IsNumber, IsRead, IsScale};
 
+use crate::aosp_numbers::{os_version, patch_level, python_number};
 use crate::rows::Value;
 
 /// Reads a number: `4096`, `0x1000`, or `4K`, `1M` and `2G` in powers of 1024. Nothing stands before it or behind it,
@@ -84,6 +85,12 @@ pub fn number_in(value: Value, word: &str) -> Option<u64>
         Value::Os => Some(0),
         Value::Name(_) => Some(0),
         Value::IsGiven => Some(0),
+        Value::PythonNumber => narrow(python_number(word)?),
+        Value::LongPythonNumber => python_number(word),
+        Value::OsVersion => os_version(word),
+        Value::PatchLevel => patch_level(word),
+        Value::NotTaken if word == "false" => Some(0),
+        Value::NotTaken => None,
     }
 }
 

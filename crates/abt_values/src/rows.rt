@@ -43,6 +43,8 @@ pub enum Place {
     Flag,
     /// The same, or a hyphen and this letter.
     ShortFlag(char),
+    /// `-N VALUE`, where the name N is a letter.
+    Letter,
 }
 
 /// What the value of a row is.
@@ -66,6 +68,16 @@ pub enum Value {
     Name(&'static [&'static str]),
     /// Whether it was given.
     IsGiven,
+    /// A number of 32 bits, as Python reads it.
+    PythonNumber,
+    /// The same of 64 bits.
+    LongPythonNumber,
+    /// An OS version, `A.B.C`, as mkbootimg reads it.
+    OsVersion,
+    /// A patch level, `YYYY-MM`, as mkbootimg reads it.
+    PatchLevel,
+    /// None: it is refused where it is given.
+    NotTaken,
 }
 
 impl Row {

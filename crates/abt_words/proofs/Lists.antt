@@ -1,7 +1,7 @@
 -- Lists that a loop goes through, one element further.
 use Rattle.std.proofs.Common.{◌+◌, zero, suc, ◌≡◌, ℕ, ◌<◌, ◌≤◌, List, [], ◌∷◌, ◌++◌, Option, Some, None, refl, sym, ◌∙◌}
 use Rattle.std.proofs.Common.{ap, subst, drop, length, map, get_or}
-use Rattle.std.specs.Prelude.{Bool, true, false, cond, codes}
+use Rattle.std.specs.Prelude.{Bool, true, false, cond}
 use Rattle.std.specs.List.{filter, find}
 use Rattle.std.proofs.lemmas.List.{drop_all, drop_more, append-nil, append_assoc}
 use Rattle.std.proofs.lemmas.Bool.{cond-true, cond-false}
@@ -27,31 +27,34 @@ pub left_behind : (found words : List (List ℕ)) (i : ℕ) → i < length words
 left_behind found words i below = ap (left_of found) (drop_more words i [] below)
 
 -- what is said behind some words is said
-pub said_behind : (name value : List ℕ) (i : ℕ) (words : List (List ℕ)) → SaysValue name value (drop i words)
-    → SaysValue name value words
-said_behind name value zero words s = s
-said_behind name value (suc i) [] s = s
-said_behind name value (suc i) (w ∷ ws) s = behind w ws (said_behind name value i ws s)
+pub said_behind : (front name value : List ℕ) (i : ℕ) (words : List (List ℕ))
+    → SaysValue front name value (drop i words)
+    → SaysValue front name value words
+said_behind front name value zero words s = s
+said_behind front name value (suc i) [] s = s
+said_behind front name value (suc i) (w ∷ ws) s = behind w ws (said_behind front name value i ws s)
 
 -- a word is an option with a value, or the option before its value
-pub said_joined : (name value : List ℕ) (words : List (List ℕ)) (i : ℕ) (word rest : List ℕ) → i < length words
+pub said_joined : (front name value : List ℕ) (words : List (List ℕ)) (i : ℕ) (word rest : List ℕ)
+    → i < length words
     → get_or words i [] ≡ word
-    → word ≡ codes "--" ++ (name ++ rest) → rest ≡ 61 ∷ value → SaysValue name value (drop i words)
-said_joined name value words i word rest below here front back =
-    subst (SaysValue name value) (sym (drop_more words i [] below))
-    (subst (λ w. SaysValue name value (w ∷ drop (i + 1) words)) (sym (here ∙ front
-    ∙ ap (λ r. codes "--" ++ (name ++ r)) back))
+    → word ≡ front ++ (name ++ rest) → rest ≡ 61 ∷ value → SaysValue front name value (drop i words)
+said_joined front name value words i word rest below here begins back =
+    subst (SaysValue front name value) (sym (drop_more words i [] below))
+    (subst (λ w. SaysValue front name value (w ∷ drop (i + 1) words)) (sym (here ∙ begins
+    ∙ ap (λ r. front ++ (name ++ r)) back))
     (joined (drop (i + 1) words)))
 
-pub said_apart : (name value : List ℕ) (words : List (List ℕ)) (i : ℕ) (word rest next : List ℕ) → i < length words
+pub said_apart : (front name value : List ℕ) (words : List (List ℕ)) (i : ℕ) (word rest next : List ℕ)
+    → i < length words
     → i + 1 < length words
-    → get_or words i [] ≡ word → word ≡ codes "--" ++ (name ++ rest) → rest ≡ [] → get_or words (i + 1) [] ≡ next
+    → get_or words i [] ≡ word → word ≡ front ++ (name ++ rest) → rest ≡ [] → get_or words (i + 1) [] ≡ next
     → next ≡ value
-    → SaysValue name value (drop i words)
-said_apart name value words i word rest next below more here front none there is =
-    subst (SaysValue name value) (sym (drop_more words i [] below
+    → SaysValue front name value (drop i words)
+said_apart front name value words i word rest next below more here begins none there is =
+    subst (SaysValue front name value) (sym (drop_more words i [] below
     ∙ ap (λ l. get_or words i [] ∷ l) (drop_more words (i + 1) [] more)))
-    (subst (λ w. SaysValue name value (w ∷ (get_or words (i + 1) [] ∷ drop (i + 1 + 1) words)))
-    (sym (here ∙ front ∙ ap (λ r. codes "--" ++ (name ++ r)) none ∙ ap (λ n. codes "--" ++ n) (append-nil name)))
-    (subst (λ v. SaysValue name value ((codes "--" ++ name) ∷ (v ∷ drop (i + 1 + 1) words))) (sym (there ∙ is))
+    (subst (λ w. SaysValue front name value (w ∷ (get_or words (i + 1) [] ∷ drop (i + 1 + 1) words)))
+    (sym (here ∙ begins ∙ ap (λ r. front ++ (name ++ r)) none ∙ ap (λ n. front ++ n) (append-nil name)))
+    (subst (λ v. SaysValue front name value ((front ++ name) ∷ (v ∷ drop (i + 1 + 1) words))) (sym (there ∙ is))
     (apart (drop (i + 1 + 1) words))))

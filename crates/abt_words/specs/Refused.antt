@@ -2,7 +2,7 @@
 use Rattle.std.specs.Prelude.{◌≡◌, ◌↔◌, ◌<◌, ◌^◌, ℕ, List, Bool, IsTrue, string_bytes}
 use Rattle.abt_values.specs.declared.rows.Value.{Value}
 use Rattle.abt_words.specs.declared.fault.WordsFault.{WordsFault}
-use Rattle.abt_words.specs.declared.fault.WordsFault.TheVariants.{Usage, BadNumber, Memory}
+use Rattle.abt_words.specs.declared.fault.WordsFault.TheVariants.{Usage, BadNumber, NotTaken, Memory}
 use Rattle.abt_values.specs.NumberWord.{IsNumber, IsRead}
 
 -- a word that writes a number of 64 bits
@@ -18,5 +18,7 @@ pub record IsToldOf (value : Value) (word told : List ℕ) (is_number : Bool) : 
 -- a refusal of such a word, or of want of memory
 abbrev pub TellsNoNumber : Value → List ℕ → Bool → WordsFault → Type 0
 TellsNoNumber value word is_verbose (Usage error) = ⊥
-TellsNoNumber value word is_verbose (BadNumber told is_number asked) = IsToldOf value word (string_bytes told) is_number × (asked ≡ is_verbose)
+TellsNoNumber value word is_verbose (BadNumber told is_number asked) =
+    IsToldOf value word (string_bytes told) is_number × (asked ≡ is_verbose)
 TellsNoNumber value word is_verbose Memory = Unit {0}
+TellsNoNumber value word is_verbose (NotTaken instead) = (n : ℕ) → IsRead value word n → ⊥

@@ -19,6 +19,7 @@ is_word places.Option = false
 is_word places.Options = false
 is_word places.Flag = false
 is_word (places.ShortFlag letter) = false
+is_word places.Letter = false
 
 -- the answers to such rows, in the order of the table
 abbrev pub placed_words : List Answer → List (List ℕ)
@@ -36,19 +37,21 @@ left_of found (word ∷ words) = left_of (struck found word) words
 
 -- ---- options and flags
 
--- an option has this value: `--NAME=VALUE`, or `--NAME` and then VALUE
-pub data SaysValue (name value : List ℕ) : List (List ℕ) → Type 0 where
-  joined : (rest : List (List ℕ)) → SaysValue name value ((codes "--" ++ (name ++ (61 ∷ value))) ∷ rest)
-  apart : (rest : List (List ℕ)) → SaysValue name value ((codes "--" ++ name) ∷ (value ∷ rest))
-  behind : (word : List ℕ) (words : List (List ℕ)) → SaysValue name value words → SaysValue name value (word ∷ words)
+-- an option has this value: `--NAME=VALUE`, or `--NAME` and then VALUE; `--` is its front, or `-`
+pub data SaysValue (front name value : List ℕ) : List (List ℕ) → Type 0 where
+  joined : (rest : List (List ℕ)) → SaysValue front name value ((front ++ (name ++ (61 ∷ value))) ∷ rest)
+  apart : (rest : List (List ℕ)) → SaysValue front name value ((front ++ name) ∷ (value ∷ rest))
+  behind : (word : List ℕ) (words : List (List ℕ)) → SaysValue front name value words
+      → SaysValue front name value (word ∷ words)
 
 -- an option's value is said, or is the one that it has where none is; a flag that was given is said
 abbrev pub IsSaidBy : List (List ℕ) → Place → List ℕ → Option (List ℕ) → List ℕ → Type 0
 IsSaidBy words places.Word name default word = Unit {0}
 IsSaidBy words places.Words name default word = Unit {0}
 IsSaidBy words places.LastWords name default word = Unit {0}
-IsSaidBy words places.Option name default word = (default ≡ Some word) ⊎ SaysValue name word words
-IsSaidBy words places.Options name default word = (default ≡ Some word) ⊎ SaysValue name word words
+IsSaidBy words places.Option name default word = (default ≡ Some word) ⊎ SaysValue (codes "--") name word words
+IsSaidBy words places.Options name default word = (default ≡ Some word) ⊎ SaysValue (codes "--") name word words
+IsSaidBy words places.Letter name default word = SaysValue (codes "-") name word words
 IsSaidBy words places.Flag name default word = word ≡ codes "true" → Contains words (codes "--" ++ name)
 IsSaidBy words (places.ShortFlag letter) name default word = Unit {0}
 

@@ -3,20 +3,20 @@
 ghost use Rattle.std.specs.Prelude.{◌≡◌, ◌++◌, IfOk, IfErr, OnOk, map, option_map, unwrap_or, nat_lt, Some, None};
 ghost use Rattle.std.specs.Prelude.{Contains, List, [], ◌∷◌, if◌then◌else◌};
 ghost use Rattle.abt_values.specs.NumberWord.{IsRead};
-ghost use Rattle.abt_words.specs.Asked.{IsGiven, answer_named, flag_named, number_named, word_named, words_named};
+ghost use Rattle.abt_words.specs.Asked.{IsGiven, answer_named, answer_number, flag_named, number_named, word_named, words_named};
 ghost use Rattle.abt_words.specs.Refused.{TellsNoNumber};
 ghost use Rattle.abt_words.specs.Table.{AreFrom, AreRows, Shape, rows_of, shape_of};
 
 use crate::fault::WordsFault;
 use crate::order::Given;
 use crate::rows::CommandRow;
-use abt_values::{Row, number_in, number_word};
+use abt_values::{Row, Value, number_in, number_word};
 use clap::ArgMatches;
 use std::alloc::{AllocError, Global};
 
 /// A word that was given, or that a row has where none is.
 #[derive(Clone, Copy)]
-pub(crate) struct Answer<'a> {
+pub struct Answer<'a> {
     pub row: &'static Row,
     pub word: &'a str,
     /// The number that the word writes, where the row is one of numbers, else 0.
@@ -38,6 +38,7 @@ impl<'a> Answer<'a> {
     {
         match number_in(row.value, word) {
             Some(number) => Ok(Answer { row, word, number }),
+            None if is_not_taken(row.value) => Err(WordsFault::NotTaken(row.help)),
             None => Err(WordsFault::BadNumber {
                 word: String::from_str(alloc, word)?,
                 is_number: number_word(word).is_some(),
@@ -49,7 +50,7 @@ impl<'a> Answer<'a> {
 
 /// The answers of a command, in the order of its table.
 #[derive(Drop)]
-pub(crate) struct Answers<'a> {
+pub struct Answers<'a> {
     pub all: Vec<Answer<'a>>,
     /// Whether a refusal is to have its second line.
     pub is_verbose: bool,
@@ -72,6 +73,22 @@ impl<'a> Answers<'a> {
         answers.read_rows(alloc, command.own_rows(), found)?;
         answers.read_rows(alloc, command.filling_rows(), found)?;
         answers.read_rows(alloc, command.shared_rows(), found)?;
+        Ok(answers)
+    }
+
+    /// What a parse found for the rows of a tool.
+    pub fn of_rows(
+        alloc: Global,
+        rows: &'static [Row],
+        found: &ArgMatches<'a>,
+    ) -> Result<Answers<'a>, WordsFault>
+        ensures { IfOk result (λ answers. AreFrom (map shape_of rows.now) answers.all.items) }
+    {
+        let mut answers = Answers {
+            all: Vec::new(alloc),
+            is_verbose: false,
+        };
+        answers.read_rows(alloc, rows, found)?;
         Ok(answers)
     }
 
@@ -117,7 +134,7 @@ impl<'a> Answers<'a> {
     }
 
     /// The first answer of this name.
-    pub(crate) fn find(&self, name: &str) -> Option<Answer<'a>>
+    pub fn find(&self, name: &str) -> Option<Answer<'a>>
         ensures { result ≡ answer_named name.now self.now.all.items }
     {
         for answer in &self.all {
@@ -129,7 +146,7 @@ impl<'a> Answers<'a> {
     }
 
     /// The first word of this name.
-    pub(crate) fn word(&self, name: &str) -> Option<&'a str>
+    pub fn word(&self, name: &str) -> Option<&'a str>
         ensures { option_map (λ word. word.now) result ≡ option_map (λ a. a.word.now) (answer_named name.now
             self.now.all.items) }
     {
@@ -137,14 +154,14 @@ impl<'a> Answers<'a> {
     }
 
     /// The same of a word that a parse always finds.
-    pub(crate) fn given_word(&self, name: &str) -> &'a str
+    pub fn given_word(&self, name: &str) -> &'a str
         ensures { result.now ≡ word_named name.now self.now.all.items }
     {
         self.word(name).unwrap_or("")
     }
 
     /// The number of this name.
-    pub(crate) fn number(&self, name: &str) -> Option<u32>
+    pub fn number(&self, name: &str) -> Option<u32>
         ensures { result ≡ number_named name.now self.now.all.items }
     {
         match self.find(name) {
@@ -154,10 +171,20 @@ impl<'a> Answers<'a> {
     }
 
     /// The same of a number that a parse always finds.
-    pub(crate) fn given_number(&self, name: &str) -> u32
+    pub fn given_number(&self, name: &str) -> u32
         ensures { result ≡ unwrap_or (number_named name.now self.now.all.items) 0 }
     {
         self.number(name).unwrap_or(0)
+    }
+
+    /// The number of this name, which may have 64 bits; 0 where there is none.
+    pub fn long_number(&self, name: &str) -> u64
+        ensures { result ≡ answer_number (answer_named name.now self.now.all.items) }
+    {
+        match self.find(name) {
+            Some(answer) => answer.number,
+            None => 0,
+        }
     }
 
     /// What the option of this row was given.
@@ -179,14 +206,14 @@ impl<'a> Answers<'a> {
     }
 
     /// Whether this flag was given.
-    pub(crate) fn flag(&self, name: &str) -> bool
+    pub fn flag(&self, name: &str) -> bool
         ensures { result ≡ flag_named name.now self.now.all.items }
     {
         self.given_word(name) == "true"
     }
 
     /// Every word of this name, behind those that are there already.
-    pub(crate) fn push_words(&self, name: &str, words: &mut Vec<&'a str>) -> Result<(), AllocError>
+    pub fn push_words(&self, name: &str, words: &mut Vec<&'a str>) -> Result<(), AllocError>
         ensures { OnOk result (map (λ s. s.now) words.new.items ≡ map (λ s. s.now) words.old.items
             ++ words_named name.now self.now.all.items) }
     {
@@ -197,6 +224,14 @@ impl<'a> Answers<'a> {
             words.push(answer.word)?;
         }
         Ok(())
+    }
+}
+
+// Whether the value is one that no word gives.
+fn is_not_taken(value: Value) -> bool {
+    match value {
+        Value::NotTaken => true,
+        _ => false,
     }
 }
 

@@ -34,7 +34,9 @@ _abootimg() {
         _abootimg_word_files "$word"
         return
     elif [ "$at" = "$COMP_CWORD" ]; then
-        words=' expand list sparse cut flash verify pack repack unpack info completions help -v --verbose -q --quiet -h --help -V --version'
+        words=' expand list sparse cut flash verify pack repack unpack info completions help as -v --verbose -q --quiet -h --help -V --version'
+    elif [ "${COMP_WORDS[1]}" = as ] && [ "$COMP_CWORD" = 2 ]; then
+        words='simg2img img2simg mkbootimg'
     elif [ "${word#-}" != "$word" ]; then
         case ${COMP_WORDS[at]} in
             expand) words=' --sync --mounted -v --verbose -q --quiet -h --help' ;;
@@ -75,7 +77,11 @@ _abootimg() {
         return
     fi
     if (( at == CURRENT )); then
-        compadd -- expand list sparse cut flash verify pack repack unpack info completions help -v --verbose -q --quiet -h --help -V --version
+        compadd -- expand list sparse cut flash verify pack repack unpack info completions help as -v --verbose -q --quiet -h --help -V --version
+        return
+    fi
+    if [[ $words[2] == as ]] && (( CURRENT == 3 )); then
+        compadd -- simg2img img2simg mkbootimg
         return
     fi
     if [[ $words[CURRENT] == --*=* ]]; then
@@ -223,6 +229,8 @@ complete -c abootimg -n __fish_use_subcommand -f -a completions -d 'Prints what 
 complete -c abootimg -n '__fish_seen_subcommand_from completions' -l verbose -s v -d 'Tells of a refusal in a second line which file it is about, and why'
 complete -c abootimg -n '__fish_seen_subcommand_from completions' -l quiet -s q -d 'Does not show on a terminal how far the work is'
 complete -c abootimg -n __fish_use_subcommand -f -a help -d 'Prints the help of a command'
+complete -c abootimg -n __fish_use_subcommand -f -a as -d 'Reads the words as one of AOSP\'s tools does'
+complete -c abootimg -n 'test (count (commandline -opc)) = 2; and __fish_seen_subcommand_from as' -f -a 'simg2img img2simg mkbootimg'
 complete -c abootimg -n 'string match -q -- \'@*\' (commandline -ct)' -a '(complete -C "\'\' "(string sub -s 2 -- (commandline -ct)) | string replace -r -- \'^\' @)'
 complete -c abootimg -n '__fish_seen_subcommand_from completions' -f -a 'bash zsh fish'
 complete -c abootimg -n '__fish_seen_subcommand_from help' -f -a 'expand list sparse cut flash verify pack repack unpack info completions'

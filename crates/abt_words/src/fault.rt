@@ -20,6 +20,8 @@ pub enum WordsFault {
         /// Whether the refusal is to have its second line.
         is_verbose: bool,
     },
+    /// A tool does what is asked for and this program doesn't: what does it.
+    NotTaken(&'static str),
     /// Memory was wanted and refused.
     Memory,
 }

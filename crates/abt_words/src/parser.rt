@@ -30,7 +30,8 @@ fn command<'a>(alloc: Global, row: &'static CommandRow) -> Result<Command<'a>, A
     with_rows(alloc, command, row.shared_rows())
 }
 
-fn with_rows<'a>(
+/// The parser with an argument for each of these rows.
+pub fn with_rows<'a>(
     alloc: Global,
     command: Command<'a>,
     rows: &'static [Row],
@@ -72,13 +73,17 @@ fn named<'a>(arg: Arg<'a>, row: &'static Row) -> Arg<'a> {
         Place::Option | Place::Options => arg.long(row.name).value_name(row.value_name),
         Place::Flag => arg.long(row.name),
         Place::ShortFlag(letter) => arg.short(letter).long(row.name),
+        Place::Letter => match row.name.chars().next() {
+            Some(letter) => arg.short(letter).value_name(row.value_name),
+            None => arg,
+        },
         _ => arg,
     }
 }
 
 fn action_of(place: Place) -> ArgAction {
     match place {
-        Place::Word | Place::Words | Place::Option => ArgAction::Set,
+        Place::Word | Place::Words | Place::Option | Place::Letter => ArgAction::Set,
         Place::LastWords | Place::Options => ArgAction::Append,
         Place::Flag | Place::ShortFlag(_) => ArgAction::SetTrue,
     }

@@ -88,7 +88,8 @@ fn task_for<'a>(alloc: Global, work: Work, answers: &Answers<'a>) -> Result<Task
 
 // ---- sparse images
 
-fn expand<'a>(alloc: Global, answers: &Answers<'a>) -> Result<Task<'a>, AllocError>
+/// The task of `expand`.
+pub fn expand<'a>(alloc: Global, answers: &Answers<'a>) -> Result<Task<'a>, AllocError>
     ensures work { IfOk result (λ task. work_of task ≡ works.Expand) }
     ensures asks { IfOk result (Asks answers.now.all.items) }
 {

@@ -11,7 +11,7 @@ pub(crate) struct CommandRow {
 
 /// What a command does.
 #[derive(Clone, Copy)]
-pub(crate) enum Work {
+pub enum Work {
     Expand,
     List,
     Sparse,

@@ -25,8 +25,8 @@ pub(crate) fn are_spelled<S: AsStr>(
     Ok(are_in_turn(words, placed.as_slice()) && stand(words, answers))
 }
 
-// The name of the command, and the words that answer rows by their place.
-fn placed_in<'a>(
+/// The name of the command, and the words that answer rows by their place.
+pub fn placed_in<'a>(
     alloc: Global,
     command: &'a str,
     answers: &[Answer<'a>],
@@ -49,12 +49,12 @@ fn is_placed(place: Place) -> bool
 {
     match place {
         Place::Word | Place::Words | Place::LastWords => true,
-        Place::Option | Place::Options | Place::Flag | Place::ShortFlag(_) => false,
+        Place::Option | Place::Options | Place::Letter | Place::Flag | Place::ShortFlag(_) => false,
     }
 }
 
-// Whether these stand among the words in turn.
-fn are_in_turn<S: AsStr>(words: &[S], placed: &[&str]) -> bool
+/// Whether these stand among the words in turn.
+pub fn are_in_turn<S: AsStr>(words: &[S], placed: &[&str]) -> bool
     ensures { IsTrue result → left_of (map (λ s. s.now) placed.now) (map S.text words.now) ≡ [] }
 {
     let mut left = placed;
@@ -87,47 +87,48 @@ fn stand<S: AsStr>(words: &[S], answers: &[Answer<'_>]) -> bool
     true
 }
 
-// Whether its number is the one that its word writes.
-fn is_read(answer: &Answer<'_>) -> bool
+/// Whether its number is the one that its word writes.
+pub fn is_read(answer: &Answer<'_>) -> bool
     ensures { IsTrue result → IsRead answer.now.row.now.value answer.now.word.now answer.now.number }
 {
     number_in(answer.row.value, answer.word) == Some(answer.number)
 }
 
-// Whether an option or a flag is said.
-fn is_said<S: AsStr>(words: &[S], answer: &Answer<'_>) -> bool
+/// Whether an option or a flag is said.
+pub fn is_said<S: AsStr>(words: &[S], answer: &Answer<'_>) -> bool
     ensures { IsTrue result → IsSaid (map S.text words.now) answer.now }
 {
     let row = answer.row;
     match row.place {
         Place::Word | Place::Words | Place::LastWords | Place::ShortFlag(_) => true,
         Place::Option | Place::Options => {
-            row.default == Some(answer.word) || says_value(words, row.name, answer.word)
+            row.default == Some(answer.word) || says_value(words, "--", row.name, answer.word)
         }
+        Place::Letter => says_value(words, "-", row.name, answer.word),
         Place::Flag => answer.word != "true" || says_flag(words, row.name),
     }
 }
 
 // Whether an option has this value.
-fn says_value<S: AsStr>(words: &[S], name: &str, value: &str) -> bool
-    ensures { IsTrue result → SaysValue name.now value.now (map S.text words.now) }
+fn says_value<S: AsStr>(words: &[S], front: &str, name: &str, value: &str) -> bool
+    ensures { IsTrue result → SaysValue front.now name.now value.now (map S.text words.now) }
 {
     for i in 0..words.len() {
-        if says_value_at(words, i, name, value) {
+        if says_value_at(words, i, front, name, value) {
             return true;
         }
     }
     false
 }
 
-// Whether it has it by the word at a place.
-fn says_value_at<S: AsStr>(words: &[S], at: usize, name: &str, value: &str) -> bool
-    ensures { IsTrue result → SaysValue name.now value.now (drop at (map S.text words.now)) }
+/// Whether an option has this value by the word at a place.
+pub fn says_value_at<S: AsStr>(words: &[S], at: usize, front: &str, name: &str, value: &str) -> bool
+    ensures { IsTrue result → SaysValue front.now name.now value.now (drop at (map S.text words.now)) }
 {
     if at >= words.len() {
         return false;
     }
-    let Some(rest) = behind_name(words[at].as_str(), name) else {
+    let Some(rest) = behind_name(words[at].as_str(), front, name) else {
         return false;
     };
     if let Some(said) = value_in(rest) {
@@ -154,16 +155,16 @@ fn says_flag<S: AsStr>(words: &[S], name: &str) -> bool
     ensures { IsTrue result → Contains (map S.text words.now) (codes "--" ++ name.now) }
 {
     for word in words {
-        if behind_name(word.as_str(), name) == Some("") {
+        if behind_name(word.as_str(), "--", name) == Some("") {
             return true;
         }
     }
     false
 }
 
-// What stands behind `--NAME` in a word.
-fn behind_name<'a>(word: &'a str, name: &str) -> Option<&'a str>
-    ensures { IfSome result (λ rest. word.now ≡ (codes "--" ++ (name.now ++ rest.now))) }
+// What stands behind `--NAME` in a word, or behind another front and the name.
+fn behind_name<'a>(word: &'a str, front: &str, name: &str) -> Option<&'a str>
+    ensures { IfSome result (λ rest. word.now ≡ (front.now ++ (name.now ++ rest.now))) }
 {
-    word.strip_prefix("--")?.strip_prefix(name)
+    word.strip_prefix(front)?.strip_prefix(name)
 }

@@ -21,12 +21,13 @@ pub(crate) const ABOUT: &str =
 pub(crate) const AFTER_HELP: &str =
     "Without a command, expands a small built-in image and prints its bytes.\n\
      A word @FILE stands for the lines of that file, @@TEXT for @TEXT.\n\
+     abootimg as NAME WORDS.. reads the words as AOSP's tool NAME does: simg2img, img2simg, mkbootimg.\n\
      Exit status: 0 done, 1 refused, 2 wrong use.";
 
 // ---- what rows have in common
 
-// A word that must be given, the path of a file.
-const PATH: Row = Row {
+/// A word that must be given, the path of a file.
+pub const PATH: Row = Row {
     name: "",
     place: Place::Word,
     value: Value::File,
@@ -49,24 +50,24 @@ const NUMBER: Row = Row {
     ..PATH
 };
 
-// `--NAME`.
-const FLAG: Row = Row {
+/// `--NAME`.
+pub const FLAG: Row = Row {
     place: Place::Flag,
     value: Value::IsGiven,
     is_required: false,
     ..PATH
 };
 
-// The path of a part of an image.
-const PART: Row = Row {
+/// The path of a part of an image.
+pub const PART: Row = Row {
     place: Place::Option,
     value_name: "FILE",
     is_required: false,
     ..PATH
 };
 
-// A text behind `--NAME`.
-const TEXT: Row = Row {
+/// A text behind `--NAME`.
+pub const TEXT: Row = Row {
     place: Place::Option,
     value: Value::Text,
     value_name: "TEXT",

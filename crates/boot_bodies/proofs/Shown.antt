@@ -1,18 +1,20 @@
 -- Lines that were shown one after another.
-use Rattle.std.proofs.Common.{◌≡◌, ℕ, suc, ◌+◌, ◌<◌, Bool, true, false, List, [], ◌∷◌, ◌++◌, Result, Ok, Err, map, take, length, get_or, refl, sym, ◌∙◌, ap, subst, arith}
+use Rattle.std.proofs.Common.{◌≡◌, ℕ, suc, ◌+◌, ◌<◌, Bool, true, false, List, [], ◌∷◌, ◌++◌, Result, Ok, Err, map}
+use Rattle.std.proofs.Common.{take, length, get_or, refl, sym, ◌∙◌, ap, subst, arith}
 use Rattle.std.specs.Prelude.{IsOk, IfOk, slice_index_or}
 use Rattle.std.proofs.Math.Seq.{take-suc}
 use Rattle.std.proofs.lemmas.Bool.{false≢true, true≢false}
 use Rattle.std.proofs.lemmas.List.{get_or_default, map-append}
 use Rattle.abt_headers.specs.declared.sections.Place.{Place}
 use Rattle.abt_headers.specs.declared.sections.Section.TheVariants as kinds
-use Rattle.abt_output.specs.Shows.{GoesOut, Shows}
-use Rattle.abt_output.specs.declared.report.Report.{Report}
+use Rattle.abt_report.specs.Shows.{GoesOut, Shows}
+use Rattle.abt_report.specs.declared.report.Report.{Report}
 use Rattle.abt_sections.specs.Header.{Header, places_of, fragment_count, entry_of}
 use Rattle.abt_sections.specs.declared.fault.SectionFault.{SectionFault}
 use Rattle.boot_rules.specs.declared.part_names.Part.{Part}
 use Rattle.boot_rules.specs.declared.part_names.Part.TheVariants as parts
-use Rattle.boot_bodies.specs.Lines.{IsSilent, ShowsEach, told_fragments, told_part, told_parts, told_section, told_words}
+use Rattle.boot_bodies.specs.Lines.{IsSilent, ShowsEach, told_fragments, told_part, told_parts, told_section}
+use Rattle.boot_bodies.specs.Lines.{told_words}
 use Rattle.boot_bodies.specs.Unpacking.{section_part}
 
 pub silent : (a : Report) → IsSilent a a
@@ -71,9 +73,11 @@ section_shown h i a b c there each shows =
     let found : p ≡ slice_index_or places i p = get_or_default places i some_place p there in
     let next : suc i ≡ i + 1 = omega arith in
     let more : map told_section (take i places) ++ (told_section p ∷ []) ≡ map told_section (take (i + 1) places) =
-    sym (map-append told_section (take i places) (p ∷ [])) ∙ ap (map told_section) (sym (take-suc places i some_place there))
+    sym (map-append told_section (take i places) (p ∷ []))
+    ∙ ap (map told_section) (sym (take-suc places i some_place there))
     ∙ ap (λ k. map told_section (take k places)) next in
-    subst (λ l. ShowsEach l a c) more (one_more (map told_section (take i places)) (told_section p) a b c each (shows p found))
+    subst (λ l. ShowsEach l a c) more
+    (one_more (map told_section (take i places)) (told_section p) a b c each (shows p found))
 
 -- one fragment more
 pub fragment_shown : (x y : List ℕ) (h : Header) (n : ℕ) (a b c : Report) → y ≡ x
@@ -81,7 +85,8 @@ pub fragment_shown : (x y : List ℕ) (h : Header) (n : ℕ) (a b c : Report) �
     → ShowsEach (told_fragments x h (n + 1)) a c
 fragment_shown x y h n a b c same each shows =
     let next : suc n ≡ n + 1 = omega arith in
-    let line : told_part (parts.Fragment n) (entry_of y h n).ramdisk_size ≡ told_part (parts.Fragment n) (entry_of x h n).ramdisk_size =
+    let line : told_part (parts.Fragment n) (entry_of y h n).ramdisk_size
+    ≡ told_part (parts.Fragment n) (entry_of x h n).ramdisk_size =
     ap (λ z. told_part (parts.Fragment n) (entry_of z h n).ramdisk_size) same in
     subst (λ k. ShowsEach (told_fragments x h k) a c) next
     (one_more (told_fragments x h n) (told_part (parts.Fragment n) (entry_of x h n).ramdisk_size) a b c each

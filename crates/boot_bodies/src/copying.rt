@@ -8,7 +8,7 @@ ghost use Rattle.boot_bodies.specs.Copying.{CopiesPart};
 ghost use Rattle.boot_texts.specs.Words.{image_words, words_text};
 
 use abt_io::{Meter, Output, Source, Window};
-use abt_output::{Carried, Progress};
+use abt_report::{Carried, Progress};
 use abt_sections::{Image, SectionFault, fragment, section, unpack, unpack_fragment};
 use boot_texts::write_words;
 

@@ -13,8 +13,8 @@ ghost use Rattle.boot_bodies.specs.Writing.{WritesParts};
 use crate::writing::{write_fragment, write_pack_words, write_section};
 use abt_disk::Disk;
 use abt_io::{Meter, Window};
-use abt_output::Report;
 use abt_refusals::Place;
+use abt_report::Report;
 use abt_sections::{Image, fragments, sections};
 use boot_rules::BootOutcome;
 

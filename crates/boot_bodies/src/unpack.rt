@@ -13,8 +13,8 @@ use crate::names::place_of;
 use crate::parts::write_parts;
 use abt_disk::Disk;
 use abt_io::{Meter, Window};
-use abt_output::Report;
 use abt_refusals::{HostRefusal, Place, Refusal, Sides};
+use abt_report::Report;
 use abt_sections::{Image, SectionFault, open};
 use boot_rules::{BootCommandFault, BootOutcome, part_count, part_of};
 

@@ -3,7 +3,7 @@
 ghost use Rattle.std.specs.Prelude.{◌≡◌, ◌<◌, ◌≤◌, ◌+◌, None, Ok, Err, Bool, ℕ, true, MatchResult, IsTrue, IsOk};
 ghost use Rattle.std.specs.Prelude.{IfOk, IfErr, OnOk, length};
 ghost use Rattle.abt_disk.specs.World.{Ends, ended};
-ghost use Rattle.abt_output.specs.Shows.{Shows};
+ghost use Rattle.abt_report.specs.Shows.{Shows};
 ghost use Rattle.abt_sections.specs.Header.{entry_of, fragment_count, fragment_of, places_of, view_of};
 ghost use Rattle.abt_sections.specs.Open.{IsOpened};
 ghost use Rattle.abt_disk.specs.Among.{IsMade};
@@ -18,8 +18,8 @@ use crate::lines::PartLine;
 use crate::names::place_of;
 use abt_disk::{Disk, ended};
 use abt_io::{Meter, Window};
-use abt_output::Report;
 use abt_refusals::{Place, Sides};
+use abt_report::Report;
 use abt_sections::{Image, SectionFault, section};
 use boot_rules::{BootCommandFault, BootOutcome, Part};
 

@@ -3,8 +3,8 @@ use Rattle.std.specs.Prelude.{◌≡◌, ◌+◌, ℕ, List, Bool, IsTrue, if◌
 use Rattle.abt_refusals.specs.Paths.{output_path}
 use Rattle.abt_words.specs.declared.order.BootTask.{BootTask}
 use Rattle.abt_words.specs.declared.order.BootTask.TheVariants as tasks
-use Rattle.abt_output.specs.declared.report.Report.{Report}
-use Rattle.abt_output.specs.Shows.{Shows, unprinted}
+use Rattle.abt_report.specs.declared.report.Report.{Report}
+use Rattle.abt_report.specs.Shows.{Shows, unprinted}
 use Rattle.abt_disk.specs.Among.{OnlyAmong}
 use Rattle.abt_disk.specs.World.{World, Held, HasFailed, OnlyAt, KeepsFile}
 use Rattle.boot_rules.specs.declared.fault.BootCommandFault.{BootCommandFault}

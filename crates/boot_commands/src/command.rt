@@ -8,8 +8,8 @@ ghost use Rattle.boot_commands.specs.Commands.{DoesKind, IsKindOf, LeavesNoPartO
 use crate::pack_order::command_of;
 use abt_disk::Disk;
 use abt_io::{Meter, Window};
-use abt_output::Report;
 use abt_refusals::Place;
+use abt_report::Report;
 use abt_words::BootTask;
 use boot_bodies::unpack_file;
 use boot_rules::{BootOutcome, PackCommand};

@@ -5,8 +5,8 @@ ghost use Rattle.abt_disk.specs.World.{IsReading};
 
 use crate::orders::{kernel_alone, nothing_given};
 use abt_io::{Meter, Window};
-use abt_output::Report;
 use abt_refusals::Place;
+use abt_report::Report;
 use boot_bodies::unpack_file;
 use info_bodies::info_file;
 use memory_disk::MemoryDisk;

@@ -1,14 +1,16 @@
 //! A file that breaks off has the same bytes where what it is given last is held, as where it is given each at once.
 
-ghost use Rattle.std.specs.Prelude.{◌≡◌};
+ghost use Rattle.std.specs.Prelude.{[], false};
 ghost use Rattle.std.specs.Io.{WritesAtMost};
-ghost use Rattle.abt_io.specs.Frame.{nothing_logged};
+ghost use Rattle.std.proofs.lemmas.Bool.{false≢true};
+ghost use Rattle.abt_io.specs.Moment.{no_past};
 
 use crate::made::{Random, bytes, part};
-use abt_buffers::{HeldFile, Room, Under};
-use abt_io::Log;
+use abt_io::read_part;
 use std::alloc::Global;
 use std::io;
+use sys_file::{Stamp, SystemFile};
+use sys_outputs::{HeldFile, Room};
 
 // What the system refuses a write with that goes beyond the longest file.
 const TOO_LONG: i32 = 27;
@@ -29,23 +31,18 @@ const TURNS: u32 = 1500;
 struct Broken {
     bytes: Vec<u8>,
     room: usize,
-    sent: Log,
 }
 
 impl Broken {
-    fn new(alloc: Global, room: usize) -> Broken
-        ensures { result.sent.state ≡ nothing_logged }
-    {
+    fn new(alloc: Global, room: usize) -> Broken {
         Broken {
             bytes: Vec::new(alloc),
             room,
-            sent: Log::new(),
         }
     }
 
     fn write(&mut self, at: u64, bytes: &[u8]) -> io::Result<usize>
-        ensures bound { WritesAtMost result bytes.now }
-        ensures sent { self.new.sent.state ≡ self.old.sent.state }
+        ensures { WritesAtMost result bytes.now }
     {
         let at = at.min(self.room as u64) as usize;
         let n = bytes.len().min(self.room - at);
@@ -62,17 +59,37 @@ impl Broken {
     }
 }
 
-impl Under for Broken {
-    ghost stands = { λ b. b.sent.state.bytes };
+impl SystemFile for Broken {
+    ghost tells = { false };
 
-    fn put_at(&mut self, at: u64, bytes: &[u8]) -> io::Result<usize> {
-        match self.write(at, bytes) {
-            Ok(n) => {
-                self.sent.put(&bytes[..n], at);
-                Ok(n)
-            }
-            Err(error) => Err(error),
-        }
+    ghost stands = { λ _. [] };
+
+    ghost past = { λ _. no_past };
+
+    ghost are_bytes = { λ _ t. absurd (false≢true t) };
+
+    fn length(&self) -> io::Result<u64> {
+        Ok(self.bytes.len() as u64)
+    }
+
+    fn stamp(&self) -> Option<Stamp> {
+        None
+    }
+
+    fn read_at(&self, at: u64, out: &mut [u8]) -> io::Result<usize> {
+        Ok(read_part(self.bytes.as_slice(), at, out))
+    }
+
+    fn write_at(&mut self, at: u64, bytes: &[u8]) -> io::Result<usize> {
+        self.write(at, bytes)
+    }
+
+    fn set_len(&mut self, _n: u64) -> io::Result<()> {
+        Err(io::Error::from_raw_os_error(TOO_LONG))
+    }
+
+    fn sync(&mut self) -> io::Result<()> {
+        Ok(())
     }
 }
 
@@ -92,13 +109,13 @@ struct AtOnce {
 
 impl Form for AtOnce {
     fn put(&mut self, bytes: &[u8]) -> Option<usize> {
-        let n = self.file.put_at(self.length, bytes).ok()?;
+        let n = self.file.write(self.length, bytes).ok()?;
         self.length = self.length.saturating_add(n as u64);
         Some(n)
     }
 
     fn put_over(&mut self, at: u64, bytes: &[u8]) -> Option<usize> {
-        self.file.put_at(at, bytes).ok()
+        self.file.write(at, bytes).ok()
     }
 }
 
@@ -177,7 +194,7 @@ fn a_file_that_breaks_off_is_the_same_where_bytes_are_held(rt: HostRuntime) {
             file: Broken::new(rt.alloc(), room),
             length: 0,
         };
-        let held = Room::new(rt.alloc()).ok().expect(&rt, "there is memory");
+        let held = Room::new(rt.alloc());
         let mut other = HeldFile::new(Broken::new(rt.alloc(), room), held);
         let one_took = given(&mut one, text.as_slice(), image);
         let took = given(&mut other, text.as_slice(), image);
@@ -191,12 +208,12 @@ fn a_file_that_breaks_off_is_the_same_where_bytes_are_held(rt: HostRuntime) {
 /// A file comes to its end with all that it was given, or to none.
 #[test]
 fn a_file_ends_with_all_that_it_was_given(rt: HostRuntime) {
-    let held = Room::new(rt.alloc()).ok().expect(&rt, "there is memory");
+    let held = Room::new(rt.alloc());
     let mut file = HeldFile::new(Broken::new(rt.alloc(), 30), held);
     assert!(rt; Form::put(&mut file, b"abcdefghijklmnopqrstuvwxyz") == Some(26));
     let ended = file.end().ok().expect(&rt, "ends");
     assert!(rt; ended.bytes.as_slice() == b"abcdefghijklmnopqrstuvwxyz".as_slice());
-    let held = Room::new(rt.alloc()).ok().expect(&rt, "there is memory");
+    let held = Room::new(rt.alloc());
     let mut file = HeldFile::new(Broken::new(rt.alloc(), 20), held);
     assert!(rt; Form::put(&mut file, b"abcdefghijklmnopqrstuvwxyz") == Some(26));
     assert!(rt; file.end().is_err());
@@ -205,7 +222,7 @@ fn a_file_ends_with_all_that_it_was_given(rt: HostRuntime) {
 /// A header behind the front is laid over what is held, and one at the front in the file, behind all else.
 #[test]
 fn the_front_is_laid_in_the_file(rt: HostRuntime) {
-    let held = Room::new(rt.alloc()).ok().expect(&rt, "there is memory");
+    let held = Room::new(rt.alloc());
     let mut file = HeldFile::new(Broken::new(rt.alloc(), 100), held);
     assert!(rt; Form::put(&mut file, b"abcdefghijklmnopqrstuvwxyz") == Some(26));
     assert!(rt; Form::put_over(&mut file, 8, b"............") == Some(12));

@@ -6,6 +6,7 @@ use abt_host::{Reading, Writing};
 use abt_io::{DeviceFault, Output, Overwrite, WINDOW};
 use abt_output::{ImageFile, ImageOutput};
 use abt_refusals::Place;
+use std::fs::File;
 
 // How many bytes a call writes: of a fragmented image, of one with headers alone, and of one in long runs.
 const MIXES: [[usize; 8]; 3] = [
@@ -21,9 +22,9 @@ const TURNS: [u64; 3] = [400, 3000, 30];
 const HEADERS: [usize; 6] = [12, 12, 12, 12, 4, 28];
 
 /// The file of an image.
-fn file(output: ImageOutput) -> Option<ImageFile> {
+fn file(output: ImageOutput<File>) -> Option<ImageFile<File>> {
     match output {
-        ImageOutput::File(front) => Some(front.output),
+        ImageOutput::File(image) => Some(image),
         ImageOutput::Stream(_) => None,
     }
 }
@@ -56,8 +57,8 @@ fn place(random: &mut Random, position: u64, is_near: bool) -> Option<u64> {
 
 /// The same calls of both: whether they answered the same.
 fn written(
-    one: &mut ImageFile,
-    other: &mut ImageFile,
+    one: &mut ImageFile<File>,
+    other: &mut ImageFile<File>,
     text: &[u8],
     image: u64,
     random: &mut Random,

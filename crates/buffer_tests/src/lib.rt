@@ -1,4 +1,4 @@
-//! Tests of what `abt_buffers` reads ahead and writes late, alone and in the file of an image: in many made orders of
+//! Tests of what `sys_devices` reads ahead and writes late, alone and in the file of an image: in many made orders of
 //! calls it does what the form does that moves all bytes at once.
 //!
 //! What a real file holds is beyond a proof, so here both forms are held to one another on files in the folder where the
@@ -7,6 +7,7 @@
 //! | file | what it holds together |
 //! |---|---|
 //! | `made.rt` | the bytes and the numbers that the calls are made with |
+//! | `file_spool.rt` | the spool that `spools.rt` compares with: each call is one of its file |
 //! | `sources.rt` | a source that is read ahead, and a `FileSource` |
 //! | `spools.rt` | a spool that gathers, and a `FileSpool` |
 //! | `images.rt` | the file of an image that is gathered, and one that is not |
@@ -16,6 +17,8 @@
 
 #[cfg(test)]
 mod broken_off;
+#[cfg(test)]
+mod file_spool;
 #[cfg(test)]
 mod host_sources;
 #[cfg(test)]

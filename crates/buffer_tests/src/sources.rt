@@ -1,14 +1,13 @@
 //! A source that is read ahead gives what a `FileSource` gives.
 
 use crate::made::{Random, bytes, part};
-use abt_buffers::AheadSource;
-use abt_files::FileSource;
 use abt_io::{DeviceFault, Source};
 use std::alloc::Global;
 use std::fs;
 use std::fs::{File, OpenOptions};
 use std::os::unix::fs::FileExt;
 use std::time::{Duration, UNIX_EPOCH};
+use sys_devices::{AheadSource, FileSource};
 
 // Lengths on both sides of what is read at once, and one that is long.
 const SIZES: [usize; 8] = [0, 1, 255, 257, 4095, 4097, 65_536, 200_001];
@@ -37,7 +36,7 @@ fn answered<S: Source>(
 }
 
 /// The same file, read ahead.
-fn ahead(alloc: Global, source: FileSource) -> Option<AheadSource> {
+fn ahead(alloc: Global, source: FileSource<File>) -> Option<AheadSource<File>> {
     AheadSource::new(alloc, source).ok()
 }
 
@@ -142,11 +141,9 @@ fn a_source_without_a_file_gives_nothing(rt: HostRuntime) {
 fn a_read_that_fails_is_told(rt: HostRuntime) {
     let mut out = [0; MOST];
     let folder = File::open(&rt, ".").expect(&rt, "opens");
-    let source = FileSource {
-        file: Some(folder),
-        size: 100_000,
-        ..FileSource::empty()
-    };
+    let mut source = FileSource::empty();
+    source.file = Some(folder);
+    source.size = 100_000;
     let source = ahead(rt.alloc(), source);
     let mut source = source.expect(&rt, "there is memory");
     assert!(rt; answered(&mut source, 0, 12, &mut out) == Err(DeviceFault::Failed));

@@ -1,14 +1,14 @@
 //! A spool that gathers takes and gives what a `FileSpool` does, and has the same in its file once it is read or settled.
 
+use crate::file_spool::FileSpool;
 use crate::made::{Random, bytes, part};
-use abt_buffers::{AheadSource, GatheringSpool};
-use abt_files::{FilePartition, FileSource, FileSpool};
 use abt_io::{DeviceFault, Input, Output, Overwrite, Partition, Source, Spool, WINDOW};
 use std::alloc::{Alloc, Global};
 use std::fs;
 use std::fs::{File, OpenOptions};
 use std::process::Abort;
 use std::rt::Files;
+use sys_devices::{AheadSource, FilePartition, FileSource, GatheringSpool};
 
 // Capacities on both sides of what is held at most, one that takes several windows, and small ones.
 const CAPACITIES: [usize; 6] = [1, 100, 5000, 65_535, 65_537, 300_001];
@@ -76,11 +76,11 @@ fn laid_over<S: Spool + Overwrite>(
 }
 
 /// A spool over a file that is empty, which may keep its pages.
-fn gathering(alloc: Global, file: File, capacity: usize, is_keeping: bool) -> GatheringSpool {
+fn gathering(alloc: Global, file: File, capacity: usize, is_keeping: bool) -> GatheringSpool<File> {
     if is_keeping {
         GatheringSpool::keeping(alloc, file, capacity as u64, None, 0)
     } else {
-        GatheringSpool::new(alloc, file, capacity as u64, None)
+        GatheringSpool::new(alloc, file, capacity as u64, None, 0)
     }
 }
 
@@ -138,7 +138,7 @@ fn a_spool_that_gathers_does_what_a_file_does(rt: HostRuntime) {
 #[test]
 fn a_spool_that_gathers_is_written_late(rt: HostRuntime) {
     let mut out = [0u8; 3];
-    let mut spool = GatheringSpool::new(rt.alloc(), opened(&rt, "late.tmp"), 65_536, None);
+    let mut spool = GatheringSpool::new(rt.alloc(), opened(&rt, "late.tmp"), 65_536, None, 0);
     fs::write(&rt, "abc.tmp", "abc").expect(&rt, "is written");
     fs::write(&rt, "empty.tmp", "").expect(&rt, "is written");
     assert!(rt; called(&mut spool, 0, b"abc", &mut []) == Ok(3));
@@ -148,7 +148,7 @@ fn a_spool_that_gathers_is_written_late(rt: HostRuntime) {
     assert!(rt; same(&rt, "late.tmp", "abc.tmp"));
     let many = bytes(rt.alloc(), 16_384);
     fs::write(&rt, "many.tmp", many.as_slice()).expect(&rt, "is written");
-    let mut spool = GatheringSpool::new(rt.alloc(), opened(&rt, "late.tmp"), 65_536, None);
+    let mut spool = GatheringSpool::new(rt.alloc(), opened(&rt, "late.tmp"), 65_536, None, 0);
     assert!(rt; called(&mut spool, 0, many.as_slice(), &mut []) == Ok(16_384));
     assert!(rt; same(&rt, "late.tmp", "many.tmp"));
 }
@@ -157,7 +157,7 @@ fn a_spool_that_gathers_is_written_late(rt: HostRuntime) {
 /// clear nowhere.
 #[test]
 fn what_a_spool_holds_is_laid_over(rt: HostRuntime) {
-    let mut spool = GatheringSpool::new(rt.alloc(), opened(&rt, "late.tmp"), 65_536, None);
+    let mut spool = GatheringSpool::new(rt.alloc(), opened(&rt, "late.tmp"), 65_536, None, 0);
     fs::write(&rt, "empty.tmp", "").expect(&rt, "is written");
     fs::write(&rt, "laid.tmp", "ABCD..yz").expect(&rt, "is written");
     assert!(rt; called(&mut spool, 0, b"........", &mut []) == Ok(8));
@@ -214,7 +214,7 @@ fn a_gathered_write_that_fails_is_told_later(rt: HostRuntime) {
     let mut out = [0u8; 2];
     fs::write(&rt, "unwritten.tmp", "....").expect(&rt, "is written");
     let file = File::open(&rt, "unwritten.tmp").expect(&rt, "opens");
-    let mut spool = GatheringSpool::new(rt.alloc(), file, 65_536, None);
+    let mut spool = GatheringSpool::new(rt.alloc(), file, 65_536, None, 0);
     assert!(rt; called(&mut spool, 0, b"ab", &mut []) == Ok(2));
     assert!(rt; spool.why() == None);
     assert!(rt; called(&mut spool, 6, b"", &mut out) == Err(DeviceFault::Failed));
@@ -251,7 +251,7 @@ fn a_spool_is_not_read_where_its_source_got_shorter(rt: HostRuntime) {
     let source = AheadSource::new(rt.alloc(), from);
     let mut source = source.ok().expect(&rt, "there is memory");
     let from = source.shared().ok();
-    let mut spool = GatheringSpool::new(rt.alloc(), opened(&rt, "through.tmp"), 65_536, from);
+    let mut spool = GatheringSpool::new(rt.alloc(), opened(&rt, "through.tmp"), 65_536, from, 0);
     assert!(rt; !spool.is_from_short());
     assert!(rt; called(&mut spool, 9, b"", &mut []) == Ok(0));
     assert!(rt; source.read_at(100, &mut out) == Ok(12));

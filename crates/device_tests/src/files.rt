@@ -2,13 +2,14 @@
 
 use crate::calls::{filled_at, through_partition, through_spool};
 use crate::overwriting::{LAID, laid_behind, written_over};
-use abt_files::*;
 use abt_io::*;
 use std::alloc::Alloc;
 use std::fs;
 use std::fs::{File, OpenOptions};
 use std::process::Abort;
 use std::rt::Files;
+use sys_devices::{FilePartition, FileSource, GatheringSpool};
+use sys_file::SystemFile;
 
 /// A file of this name with this text, opened for reading and writing.
 fn opened<R: Files + Abort>(rt: &R, name: &str, text: &str) -> R::File {
@@ -34,7 +35,8 @@ fn a_file_is_read_at_any_place(rt: HostRuntime) {
     assert!(rt; source.length() == 6);
     assert!(rt; filled_at(&mut source, 2, &mut out).count == 4);
     assert!(rt; out == *b"cdef");
-    assert!(rt; filled_at(&mut FileSource::empty(), 0, &mut out).count == 0);
+    let mut nothing: FileSource<File> = FileSource::empty();
+    assert!(rt; filled_at(&mut nothing, 0, &mut out).count == 0);
 }
 
 #[test]
@@ -50,7 +52,7 @@ fn a_file_is_written_at_a_place_and_read_back(rt: HostRuntime) {
 #[test]
 fn a_spool_file_holds_its_capacity_and_is_emptied(rt: HostRuntime) {
     let mut out = [0u8; 6];
-    let mut spool = FileSpool::new(opened(&rt, "spool.tmp", ""), 4);
+    let mut spool = GatheringSpool::new(rt.alloc(), opened(&rt, "spool.tmp", ""), 4, None, 0);
     assert!(rt; spool.capacity() == 4);
     assert!(rt; through_spool(&mut spool, b"abcdef", &mut out) == Ok(4));
     assert!(rt; through_spool(&mut spool, b"xyz", &mut out) == Ok(3));
@@ -62,7 +64,7 @@ fn a_spool_file_holds_its_capacity_and_is_emptied(rt: HostRuntime) {
 fn a_spool_file_is_written_over_behind_its_clear(rt: HostRuntime) {
     for (at, want, left) in LAID {
         let mut out = *b"....";
-        let mut spool = FileSpool::new(opened(&rt, "laid.tmp", ""), 6);
+        let mut spool = GatheringSpool::new(rt.alloc(), opened(&rt, "laid.tmp", ""), 6, None, 0);
         assert!(rt; laid_behind(&mut spool, at, &mut out) == want, "place {at}");
         assert!(rt; out == left, "place {at}");
         assert!(rt; spool.position() == 10, "place {at}");
@@ -71,17 +73,10 @@ fn a_spool_file_is_written_over_behind_its_clear(rt: HostRuntime) {
 
 #[test]
 fn a_spool_file_that_was_never_cleared_is_written_over(rt: HostRuntime) {
-    let mut spool = FileSpool::new(opened(&rt, "uncleared.tmp", ""), 8);
+    let mut spool = GatheringSpool::new(rt.alloc(), opened(&rt, "uncleared.tmp", ""), 8, None, 0);
     assert!(rt; written_over(&mut spool, 1, b"XYZ") == Ok(()));
+    assert!(rt; spool.settle() == Ok(()));
     assert!(rt; has(&rt, "uncleared.tmp", "aXYZefgh"));
-}
-
-#[test]
-fn bytes_of_a_file_are_written_over(rt: HostRuntime) {
-    let mut output = FileOutput::new(opened(&rt, "over.tmp", ""));
-    assert!(rt; written_over(&mut output, 0, b"XY") == Ok(()));
-    assert!(rt; output.position() == 8);
-    assert!(rt; has(&rt, "over.tmp", "XYcdefgh"));
 }
 
 /// The system refuses to sync a device that keeps nothing, so a sync that answers Ok there asked for none.
@@ -98,11 +93,8 @@ fn a_file_opened_for_reading_takes_nothing(rt: HostRuntime) {
     let mut out = [0u8; 2];
     fs::write(&rt, "refused.tmp", "....").expect(&rt, "is written");
     let file = File::open(&rt, "refused.tmp").expect(&rt, "opens");
-    let mut spool = FileSpool::new(file, 4);
+    let mut spool = GatheringSpool::new(rt.alloc(), file, 4, None, 0);
     assert!(rt; through_spool(&mut spool, b"ab", &mut out) == Err(DeviceFault::Failed));
-    let file = File::open(&rt, "refused.tmp").expect(&rt, "opens");
-    let mut output = FileOutput::new(file);
-    assert!(rt; written_over(&mut output, 0, b"XY") == Err(DeviceFault::Failed));
     let file = File::open(&rt, "refused.tmp").expect(&rt, "opens");
     let mut partition = FilePartition::new(file).expect(&rt, "has a length");
     assert!(rt; through_partition(&mut partition, 0, b"ab", &mut out) == Err(DeviceFault::Failed));

@@ -6,8 +6,8 @@ ghost use Rattle.abt_disk.specs.World.{IsReading};
 
 use crate::made::{Listed, disk};
 use abt_io::{Meter, Window};
-use abt_output::Report;
 use abt_refusals::Place;
+use abt_report::Report;
 use flash_bodies::{
     flash_file, flash_pieces_file, flash_raw_file, list_file, verify_file, verify_raw_file,
 };

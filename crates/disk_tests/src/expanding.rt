@@ -2,8 +2,8 @@
 
 use crate::made::{Listed, disk, holds};
 use abt_io::{Meter, Window};
-use abt_output::Report;
 use abt_refusals::{HostFault, Place};
+use abt_report::Report;
 use abt_sparse::SparseFault;
 use memory_disk::{Countdown, Faults, MemoryDisk};
 use sparse_bodies::{expand_one, expand_several};

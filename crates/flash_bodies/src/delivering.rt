@@ -5,7 +5,7 @@ ghost use Rattle.flash_bodies.specs.InPieces.{DeliversPieces, SyncsPieces};
 
 use abt_flash::{Delivered, resume, resume_raw_at};
 use abt_io::{Meter, Overwrite, Partition, Source, Spool, Window};
-use abt_output::Carried;
+use abt_report::Carried;
 use flash_faults::FlashFault;
 
 /// Flashes the pieces from this one on, of a raw image in one pass over it.

@@ -3,7 +3,7 @@
 ghost use Rattle.std.specs.Prelude.{◌≡◌, ◌+◌, ◌<◌, IsTrue, OnOk, IfErr};
 ghost use Rattle.abt_refusals.specs.Paths.{path_in, path_of};
 ghost use Rattle.abt_disk.specs.InPlace.{SparesOthers};
-ghost use Rattle.abt_output.specs.Shows.{Shows};
+ghost use Rattle.abt_report.specs.Shows.{Shows};
 ghost use Rattle.abt_disk.specs.DiskCalls.{HasNoPart};
 ghost use Rattle.flash_bodies.specs.Files.{LeavesOthers};
 ghost use Rattle.flash_bodies.specs.Flashing.{FlashesFile, Lays, RefusesFlash, SyncsOnce};
@@ -11,8 +11,8 @@ ghost use Rattle.flash_bodies.specs.Flashing.{FlashesFile, Lays, RefusesFlash, S
 use abt_disk::{Disk, Measured, Reasons, closed};
 use abt_flash::flash;
 use abt_io::{Input, Meter, Partition, Window};
-use abt_output::{Carried, Report};
 use abt_refusals::{Place, Sides};
+use abt_report::{Carried, Report};
 use sparse_rules::{Line, SparseCommandFault, SparseRefusal};
 
 /// Flashes an image to a partition, which must be there, and prints how many blocks it was. The image is read forward,

@@ -3,7 +3,7 @@
 ghost use Rattle.std.specs.Prelude.{IsTrue, OnOk, IfErr};
 ghost use Rattle.abt_refusals.specs.Paths.{path_of};
 ghost use Rattle.abt_disk.specs.InPlace.{SparesOthers};
-ghost use Rattle.abt_output.specs.Shows.{Shows};
+ghost use Rattle.abt_report.specs.Shows.{Shows};
 ghost use Rattle.abt_disk.specs.DiskCalls.{HasNoPart};
 ghost use Rattle.flash_bodies.specs.Files.{LeavesOthers};
 ghost use Rattle.flash_bodies.specs.FlashingRaw.{FlashesRawFile, RefusesFlashRaw};
@@ -11,8 +11,8 @@ ghost use Rattle.flash_bodies.specs.FlashingRaw.{FlashesRawFile, RefusesFlashRaw
 use crate::blocks::flash_blocks;
 use abt_disk::{Disk, closed};
 use abt_io::{Meter, Source, Window};
-use abt_output::{Carried, Report};
 use abt_refusals::{Place, Sides};
+use abt_report::{Carried, Report};
 use sparse_rules::{Line, SparseCommandFault, SparseRefusal};
 
 /// Flashes a raw image in blocks of so many bytes to a partition, which must be there, and prints how many they were. It

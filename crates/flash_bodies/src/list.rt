@@ -8,8 +8,8 @@ ghost use Rattle.flash_bodies.specs.Listing.{IsListed, IsUnlisted, RefusesList};
 
 use abt_disk::{Disk, Reasons};
 use abt_io::{Input, Meter, Output, Window};
-use abt_output::Report;
 use abt_refusals::{Place, Sides};
+use abt_report::Report;
 use abt_sparse::SparseFault;
 use sparse_rules::{SparseCommandFault, SparseRefusal};
 use sparse_texts::report_list;

@@ -2,7 +2,7 @@
 
 ghost use Rattle.std.specs.Prelude.{◌≡◌, ◌≤◌, ◌-◌, max, [], None, IsTrue, OnOk, IfErr};
 ghost use Rattle.abt_refusals.specs.Paths.{path_of};
-ghost use Rattle.abt_output.specs.Shows.{Shows};
+ghost use Rattle.abt_report.specs.Shows.{Shows};
 ghost use Rattle.flash_bodies.specs.Files.{LeavesOthers, MayFlashPieces};
 ghost use Rattle.flash_bodies.specs.InPieces.{FlashesPieces, IsUncuttable, RefusesPieces, SparesBoth};
 ghost use Rattle.flash_bodies.specs.Through.{count_delivered};
@@ -11,8 +11,8 @@ use crate::through::delivered_through;
 use abt_disk::{Disk, closed};
 use abt_flash::Delivered;
 use abt_io::{Meter, Source, Window};
-use abt_output::{Carried, Report};
 use abt_refusals::{Place, Sides};
+use abt_report::{Carried, Report};
 use flash_faults::FlashFault;
 use sparse_rules::{Line, SparseCommandFault, SparseRefusal, raw_pieces};
 

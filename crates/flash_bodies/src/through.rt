@@ -11,8 +11,8 @@ use crate::delivering::delivered;
 use abt_disk::Disk;
 use abt_flash::Delivered;
 use abt_io::{DeviceFault, Meter, Window};
-use abt_output::Carried;
 use abt_refusals::{HostRefusal, Place};
+use abt_report::Carried;
 use flash_faults::{Cause, FlashFault};
 
 /// Flashes the pieces from this one on. All that they went through is in its file then.

@@ -2,7 +2,7 @@
 
 ghost use Rattle.std.specs.Prelude.{◌≡◌, ◌<◌, ◌+◌, [], IsTrue, OnOk, IfErr, is_ok};
 ghost use Rattle.abt_refusals.specs.Paths.{path_in, path_of};
-ghost use Rattle.abt_output.specs.Shows.{Shows};
+ghost use Rattle.abt_report.specs.Shows.{Shows};
 ghost use Rattle.abt_disk.specs.DiskCalls.{FailsOnly, LeavesAll};
 ghost use Rattle.abt_disk.specs.World.{unless};
 ghost use Rattle.flash_bodies.specs.Verifying.{Finds, FindsRaw, RefusesVerify, RefusesVerifyRaw, VerifiesFile};
@@ -10,8 +10,8 @@ ghost use Rattle.flash_bodies.specs.Verifying.{VerifiesRawFile};
 
 use abt_disk::{Disk, Measured, Reasons};
 use abt_io::{Input, Meter, Source, Window};
-use abt_output::{Carried, Report};
 use abt_refusals::{HostRefusal, Place, Sides};
+use abt_report::{Carried, Report};
 use abt_verify::{verify, verify_raw};
 use sparse_rules::{Line, SparseCommandFault, SparseRefusal};
 

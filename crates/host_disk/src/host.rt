@@ -3,31 +3,35 @@
 ghost use Rattle.std.specs.Prelude.{[], None, false};
 
 use crate::source::HostSource;
-use abt_buffers::GatheringSpool;
 use abt_disk::{Disk, ImageTo};
-use abt_files::FilePartition;
 use abt_host::{InputFile, Reading, Writing, not_opened};
 use abt_io::Overwrite;
 use abt_output::{ImageFile, ImageOutput, OutputFile};
 use abt_refusals::{HostFault, HostRefusal, Place};
 use host_files::is_standard_input;
 use std::alloc::AllocError;
+use std::fs::File;
+use sys_devices::{FilePartition, GatheringSpool};
 
 // How long the magic of an image is at most.
 const MAGIC: usize = 8;
 
 /// What a run does with files. It tells nothing of what they hold.
 #[derive(Drop)]
-pub struct Host {
+pub struct Host<R> {
+    // The runtime of this run. It is a parameter since the prover takes an impl of a trait whose types have arguments only
+    // where the impl has one.
+    rt: R,
     writing: Writing,
     // What goes through a spool is looked at where each piece ends: what changes behind the last one does no harm.
     is_looked_at: bool,
 }
 
-impl Host {
+impl<R: Drop> Host<R> {
     /// Begins with what is open to be read, if anything is.
-    pub fn new(reading: Reading) -> Host {
+    pub fn new(rt: R, reading: Reading) -> Host<R> {
         Host {
+            rt,
             writing: reading.all_open(),
             is_looked_at: false,
         }
@@ -52,7 +56,7 @@ impl Host {
     }
 
     // Reads standard input at any place.
-    fn standard<'a>(&mut self, place: Place<'a>) -> Result<HostSource, HostRefusal<'a>> {
+    fn standard<'a>(&mut self, place: Place<'a>) -> Result<HostSource<File>, HostRefusal<'a>> {
         match self.writing.reading.standard_source(place) {
             Ok(source) => Ok(HostSource::Standard(source)),
             Err(refusal) => Err(refusal),
@@ -60,18 +64,18 @@ impl Host {
     }
 }
 
-impl Disk for Host {
+impl<R: Drop> Disk for Host<R> {
     type From = InputFile;
 
-    type Onto = OutputFile;
+    type Onto = OutputFile<File>;
 
-    type At = HostSource;
+    type At = HostSource<File>;
 
-    type Part = FilePartition;
+    type Part = FilePartition<File>;
 
-    type Image = ImageFile;
+    type Image = ImageFile<File>;
 
-    type Through = GatheringSpool;
+    type Through = GatheringSpool<File>;
 
     ghost tells = { false };
 
@@ -102,7 +106,7 @@ impl Disk for Host {
         self.writing.reading.input(place)
     }
 
-    fn source<'a>(&mut self, place: Place<'a>) -> Result<HostSource, HostRefusal<'a>> {
+    fn source<'a>(&mut self, place: Place<'a>) -> Result<HostSource<File>, HostRefusal<'a>> {
         if is_standard_input(&place) {
             return self.standard(place);
         }
@@ -112,7 +116,7 @@ impl Disk for Host {
         }
     }
 
-    fn ahead<'a>(&mut self, place: Place<'a>) -> Result<HostSource, HostRefusal<'a>> {
+    fn ahead<'a>(&mut self, place: Place<'a>) -> Result<HostSource<File>, HostRefusal<'a>> {
         if is_standard_input(&place) {
             return self.standard(place);
         }
@@ -125,9 +129,9 @@ impl Disk for Host {
 
     fn again<'a>(
         &mut self,
-        at: &HostSource,
+        at: &HostSource<File>,
         place: Place<'a>,
-    ) -> Result<HostSource, HostRefusal<'a>> {
+    ) -> Result<HostSource<File>, HostRefusal<'a>> {
         let source = match at {
             HostSource::Plain(source) => source,
             HostSource::Ahead(source) => &source.file().source,
@@ -152,7 +156,7 @@ impl Disk for Host {
         self.writing.reading.let_go(from.descriptor());
     }
 
-    fn let_go_source(&mut self, at: HostSource) {
+    fn let_go_source(&mut self, at: HostSource<File>) {
         if let Some(descriptor) = at.descriptor() {
             self.writing.reading.let_go(descriptor);
         }
@@ -162,21 +166,21 @@ impl Disk for Host {
         self.writing.reading.unchanged()
     }
 
-    fn partition<'a>(&mut self, place: Place<'a>) -> Result<FilePartition, HostRefusal<'a>> {
+    fn partition<'a>(&mut self, place: Place<'a>) -> Result<FilePartition<File>, HostRefusal<'a>> {
         self.writing.partition(place)
     }
 
-    fn why_of_part(&self, part: &FilePartition) -> Option<i32> {
+    fn why_of_part(&self, part: &FilePartition<File>) -> Option<i32> {
         part.why()
     }
 
-    fn why_of_spool(&self, through: &GatheringSpool) -> Option<i32> {
+    fn why_of_spool(&self, through: &GatheringSpool<File>) -> Option<i32> {
         through.why()
     }
 
     fn close<'a>(
         &mut self,
-        part: FilePartition,
+        part: FilePartition<File>,
         place: Place<'a>,
     ) -> Result<bool, HostRefusal<'a>> {
         let looked = self.unchanged_at_end();
@@ -191,7 +195,7 @@ impl Disk for Host {
         &mut self,
         place: Place<'a>,
         bytes: u64,
-    ) -> Result<FilePartition, HostRefusal<'a>> {
+    ) -> Result<FilePartition<File>, HostRefusal<'a>> {
         self.writing.zeros(place, bytes)
     }
 
@@ -200,24 +204,24 @@ impl Disk for Host {
         place: Place<'a>,
         limit: u32,
         keeping: bool,
-        from: &HostSource,
-    ) -> Result<GatheringSpool, HostRefusal<'a>> {
+        from: &HostSource<File>,
+    ) -> Result<GatheringSpool<File>, HostRefusal<'a>> {
         let Ok(from) = from.shared() else {
             return Err(HostRefusal::memory());
         };
         self.is_looked_at = from.is_some();
         let alloc = self.writing.alloc;
         if !keeping {
-            let through = self.writing.spool(place, limit)?;
-            return Ok(GatheringSpool::new(alloc, through.file, through.capacity, from));
+            let file = self.writing.spool(place)?;
+            return Ok(GatheringSpool::new(alloc, file, limit as u64, from, 0));
         }
-        let (through, stands) = self.writing.kept_spool(place, limit)?;
-        Ok(GatheringSpool::keeping(alloc, through.file, through.capacity, from, stands))
+        let (file, stands) = self.writing.kept_spool(place, limit)?;
+        Ok(GatheringSpool::keeping(alloc, file, limit as u64, from, stands))
     }
 
     fn close_spool<'a>(
         &mut self,
-        through: GatheringSpool,
+        through: GatheringSpool<File>,
         place: Place<'a>,
     ) -> Result<bool, HostRefusal<'a>> {
         let mut through = through;
@@ -242,25 +246,29 @@ impl Disk for Host {
         self.writing.refuse_taken(place)
     }
 
-    fn plain<'a>(&mut self, place: Place<'a>) -> Result<OutputFile, HostRefusal<'a>> {
+    fn plain<'a>(&mut self, place: Place<'a>) -> Result<OutputFile<File>, HostRefusal<'a>> {
         self.writing.plain(place)
     }
 
-    fn raw<'a>(&mut self, place: Place<'a>) -> Result<OutputFile, HostRefusal<'a>> {
+    fn raw<'a>(&mut self, place: Place<'a>) -> Result<OutputFile<File>, HostRefusal<'a>> {
         self.writing.raw(place)
     }
 
-    fn finish<'a>(&mut self, onto: OutputFile, place: Place<'a>) -> Result<bool, HostRefusal<'a>> {
+    fn finish<'a>(
+        &mut self,
+        onto: OutputFile<File>,
+        place: Place<'a>,
+    ) -> Result<bool, HostRefusal<'a>> {
         if let Err(refusal) = self.writing.reading.unchanged() {
             onto.give_up();
             return Err(refusal.begun(place));
         }
-        let finished = onto.finish(place)?;
+        let is_data_on_output = onto.finish(place)?.is_data_on_output();
         self.writing.end_output(place)?;
-        Ok(finished.is_data_on_output())
+        Ok(is_data_on_output)
     }
 
-    fn give_up(&mut self, onto: OutputFile) {
+    fn give_up(&mut self, onto: OutputFile<File>) {
         onto.give_up()
     }
 
@@ -268,9 +276,9 @@ impl Disk for Host {
         &mut self,
         place: Place<'a>,
         is_gathered: bool,
-    ) -> Result<ImageTo<ImageFile, OutputFile>, HostRefusal<'a>> {
+    ) -> Result<ImageTo<ImageFile<File>, OutputFile<File>>, HostRefusal<'a>> {
         match self.writing.image(place, is_gathered) {
-            Ok(ImageOutput::File(front)) => Ok(ImageTo::File(front.output)),
+            Ok(ImageOutput::File(image)) => Ok(ImageTo::File(image)),
             Ok(ImageOutput::Stream(output)) => Ok(ImageTo::Stream(output)),
             Err(refusal) => Err(refusal),
         }
@@ -278,19 +286,19 @@ impl Disk for Host {
 
     fn finish_image<'a>(
         &mut self,
-        image: ImageFile,
+        image: ImageFile<File>,
         place: Place<'a>,
     ) -> Result<bool, HostRefusal<'a>> {
         if let Err(refusal) = self.writing.reading.unchanged() {
             blank_front(image);
             return Err(refusal.begun(place));
         }
-        let finished = image.finish(place)?;
+        let is_data_on_output = image.finish(place)?.is_data_on_output();
         self.writing.end_output(place)?;
-        Ok(finished.is_data_on_output())
+        Ok(is_data_on_output)
     }
 
-    fn give_up_image(&mut self, image: ImageFile) {
+    fn give_up_image(&mut self, image: ImageFile<File>) {
         if self.writing.reading.unchanged().is_err() {
             blank_front(image);
         } else {
@@ -300,7 +308,7 @@ impl Disk for Host {
 }
 
 // Lets an image go that is not to be taken for one: zeros are laid where its magic is.
-fn blank_front(image: ImageFile) {
+fn blank_front(image: ImageFile<File>) {
     let mut image = image;
     let front = image.position().min(MAGIC as u64) as usize;
     let zeros = [0u8; MAGIC];

@@ -4,31 +4,33 @@ ghost use Rattle.std.specs.Prelude.{[], false};
 ghost use Rattle.std.proofs.lemmas.Bool.{false≢true};
 ghost use Rattle.host_disk.specs.Sources.{number_of_source};
 
-use abt_buffers::{AheadFile, AheadSource};
 use abt_disk::Lasting;
-use abt_files::FileSource;
 use abt_io::{DeviceFault, Source};
 use host_files::StandardSource;
 use std::alloc::{AllocError, Global};
 use std::fs::File;
-use std::io::{Seek, SeekFrom};
 use std::os::fd::AsRawFd;
 use std::rc::Rc;
+use sys_devices::{AheadFile, AheadSource, FileSource};
+use sys_file::SystemFile;
 
 /// A file or a block device.
 #[derive(Drop)]
-pub enum HostSource {
+pub enum HostSource<F: SystemFile + Drop> {
     /// Each read is made as it is asked for.
-    Plain(FileSource),
+    Plain(FileSource<F>),
     /// Small reads are answered from what was read before.
-    Ahead(AheadSource),
+    Ahead(AheadSource<F>),
     /// Standard input, from where it stands.
     Standard(StandardSource),
 }
 
-impl HostSource {
+impl HostSource<File> {
     /// The same, of which small reads are answered from what was read before.
-    pub(crate) fn ahead(alloc: Global, source: FileSource) -> Result<HostSource, AllocError> {
+    pub(crate) fn ahead(
+        alloc: Global,
+        source: FileSource<File>,
+    ) -> Result<HostSource<File>, AllocError> {
         match AheadSource::new(alloc, source) {
             Ok(source) => Ok(HostSource::Ahead(source)),
             Err(error) => Err(error),
@@ -45,7 +47,7 @@ impl HostSource {
     }
 
     /// The file that is read ahead, if it is, for what goes through a spool.
-    pub(crate) fn shared(&self) -> Result<Option<Rc<AheadFile>>, AllocError> {
+    pub(crate) fn shared(&self) -> Result<Option<Rc<AheadFile<File>>>, AllocError> {
         match self {
             HostSource::Plain(_) => Ok(None),
             HostSource::Standard(_) => Ok(None),
@@ -57,22 +59,22 @@ impl HostSource {
     }
 }
 
-impl Source for HostSource {
+impl<F: SystemFile + Drop> Source for HostSource<F> {
     ghost tells = { false };
 
     ghost content = { λ _. [] };
 
-    ghost size = { λ s. number_of_source ⟦<FileSource as Source>⟧.size ⟦<AheadSource as Source>⟧.size
+    ghost size = { λ s. number_of_source ⟦<FileSource<F> as Source>⟧.size ⟦<AheadSource<F> as Source>⟧.size
         ⟦<StandardSource as Source>⟧.size s };
 
-    ghost reads = { λ s. number_of_source ⟦<FileSource as Source>⟧.reads ⟦<AheadSource as Source>⟧.reads
+    ghost reads = { λ s. number_of_source ⟦<FileSource<F> as Source>⟧.reads ⟦<AheadSource<F> as Source>⟧.reads
         ⟦<StandardSource as Source>⟧.reads s };
 
-    ghost given = { λ s. number_of_source ⟦<FileSource as Source>⟧.given ⟦<AheadSource as Source>⟧.given
+    ghost given = { λ s. number_of_source ⟦<FileSource<F> as Source>⟧.given ⟦<AheadSource<F> as Source>⟧.given
         ⟦<StandardSource as Source>⟧.given s };
 
-    ghost read_faults = { λ s. number_of_source ⟦<FileSource as Source>⟧.read_faults
-        ⟦<AheadSource as Source>⟧.read_faults
+    ghost read_faults = { λ s. number_of_source ⟦<FileSource<F> as Source>⟧.read_faults
+        ⟦<AheadSource<F> as Source>⟧.read_faults
         ⟦<StandardSource as Source>⟧.read_faults s };
 
     ghost sized = { λ _ t. absurd (false≢true t) };
@@ -96,7 +98,7 @@ impl Source for HostSource {
     }
 }
 
-impl Lasting for HostSource {
+impl<F: SystemFile + Drop> Lasting for HostSource<F> {
     fn forget(&mut self) {
         match self {
             HostSource::Plain(_) => {}
@@ -122,30 +124,28 @@ impl Lasting for HostSource {
     }
 
     fn length_now(&mut self) -> u64 {
-        match self {
-            HostSource::Plain(source) => end_of_source(source),
-            HostSource::Ahead(source) => end_of_source(&source.file().source),
-            HostSource::Standard(source) => source.length_now(),
-        }
+        end_of(self)
     }
 }
 
-fn descriptor_of(source: &FileSource) -> Option<i32> {
+fn descriptor_of(source: &FileSource<File>) -> Option<i32> {
     match &source.file {
         Some(file) => Some(file.as_raw_fd()),
         None => None,
     }
 }
 
-fn end_of_source(source: &FileSource) -> u64 {
-    match &source.file {
-        Some(file) => end_of(file),
-        None => 0,
+fn end_of<F: SystemFile + Drop>(source: &HostSource<F>) -> u64 {
+    match source {
+        HostSource::Plain(source) => end_of_source(source),
+        HostSource::Ahead(source) => end_of_source(&source.file().source),
+        HostSource::Standard(source) => source.length_now(),
     }
 }
 
-// How long a file is, or 0.
-fn end_of(file: &File) -> u64 {
-    let mut file = file;
-    file.seek(SeekFrom::End(0)).unwrap_or(0)
+fn end_of_source<F: SystemFile + Drop>(source: &FileSource<F>) -> u64 {
+    match &source.file {
+        Some(file) => file.length().unwrap_or(0),
+        None => 0,
+    }
 }

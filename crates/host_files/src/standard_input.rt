@@ -5,18 +5,18 @@ ghost use Rattle.std.proofs.lemmas.Bool.{false≢true};
 
 use crate::descriptors::{INPUT, open_again, place_of_input};
 use crate::identity::Found;
-use abt_files::FileSource;
 use abt_io::{DeviceFault, Source};
 use abt_refusals::Place;
 use std::alloc::Global;
 use std::fs::{File, OpenOptions};
 use std::io;
-use std::io::{Seek, SeekFrom};
+use sys_devices::FileSource;
+use sys_file::SystemFile;
 
 /// Standard input, of which the byte at its place is the first.
 #[derive(Drop)]
 pub struct StandardSource {
-    pub source: FileSource,
+    pub source: FileSource<File>,
     // Where it stands.
     base: u64,
     size: u64,
@@ -56,8 +56,7 @@ impl StandardSource {
     pub fn length_now(&self) -> u64 {
         match &self.source.file {
             Some(file) => {
-                let mut file = file;
-                let end = file.seek(SeekFrom::End(0)).unwrap_or(0);
+                let end = SystemFile::length(file).unwrap_or(0);
                 end.saturating_sub(self.base)
             }
             None => 0,
@@ -81,11 +80,11 @@ impl Source for StandardSource {
 
     ghost size = { λ s. s.size };
 
-    ghost reads = { λ s. ⟦<FileSource as Source>⟧.reads s.source };
+    ghost reads = { λ s. ⟦<FileSource<File> as Source>⟧.reads s.source };
 
-    ghost given = { λ s. ⟦<FileSource as Source>⟧.given s.source };
+    ghost given = { λ s. ⟦<FileSource<File> as Source>⟧.given s.source };
 
-    ghost read_faults = { λ s. ⟦<FileSource as Source>⟧.read_faults s.source };
+    ghost read_faults = { λ s. ⟦<FileSource<File> as Source>⟧.read_faults s.source };
 
     ghost sized = { λ _ t. absurd (false≢true t) };
 

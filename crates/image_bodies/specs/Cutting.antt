@@ -33,8 +33,8 @@ use Rattle.sparse_rules.specs.Lines.{line_text}
 use Rattle.sparse_rules.specs.declared.fault.SparseCommandFault.{SparseCommandFault}
 use Rattle.sparse_rules.specs.declared.fault.SparseCommandFault.TheVariants as faults
 use Rattle.sparse_rules.specs.declared.lines.Line.TheVariants as lines
-use Rattle.abt_output.specs.Shows.{Shows}
-use Rattle.abt_output.specs.declared.report.Report.{Report}
+use Rattle.abt_report.specs.Shows.{Shows}
+use Rattle.abt_report.specs.declared.report.Report.{Report}
 use Rattle.image_bodies.specs.Sparsing.{IsOutsideSparse}
 use Rattle.abt_disk.specs.Among.{GoesAmong, IsMade, KeepsMade, OnlyAmong}
 

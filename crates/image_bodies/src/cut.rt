@@ -14,8 +14,8 @@ ghost use Rattle.image_bodies.specs.Cutting.{LeavesCut, LeavesPieces, RefusesCut
 use crate::turns::cut_pieces;
 use abt_disk::{Disk, Lasting};
 use abt_io::{Meter, Source, Window};
-use abt_output::Report;
 use abt_refusals::{Place, Sides};
+use abt_report::Report;
 use abt_runs::{RunFault, SparseRuns};
 use abt_sparse::SparseFault;
 use sparse_rules::{PiecesOf, SparseCommandFault, SparseRefusal, raw_pieces};

@@ -4,8 +4,8 @@ ghost use Rattle.std.specs.Prelude.{◌+◌, OnErr};
 ghost use Rattle.image_bodies.specs.Sparsing.{HoldsNoSparse, LaysSparseImage, ReadyToLay};
 
 use abt_io::{Meter, Output, Overwrite, Source, Window};
-use abt_output::Carried;
 use abt_placed::sparsify_at;
+use abt_report::Carried;
 use abt_sparsify::{Written, sparsify};
 use sparse_rules::{Blocks, SparseCommandFault};
 

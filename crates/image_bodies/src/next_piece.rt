@@ -8,10 +8,10 @@ ghost use Rattle.image_bodies.specs.Sparsing.{OnlyDevicesFail};
 
 use abt_disk::Lasting;
 use abt_io::{FrontLast, Meter, Output, Overwrite, Window};
-use abt_output::Carried;
 use abt_pieces::{Cutter, Piece, PieceFault};
 use abt_placed::next_piece_at;
 use abt_refusals::HostFault;
+use abt_report::Carried;
 use abt_runs::{BlockRuns, RawRuns, SparseRuns};
 use sparse_rules::SparseCommandFault;
 

@@ -9,9 +9,9 @@ use crate::late_writes::stopped;
 use crate::next_piece::{LaysPieces, write_next};
 use abt_disk::{Disk, ImageTo, Lasting, Reasons, ended};
 use abt_io::{Meter, Window};
-use abt_output::{Carried, Progress};
 use abt_pieces::Piece;
 use abt_refusals::{HostFault, HostRefusal, Place, Sides};
+use abt_report::{Carried, Progress};
 use abt_runs::BlockRuns;
 use sparse_rules::{PiecesOf, SparseCommandFault, SparseRefusal};
 

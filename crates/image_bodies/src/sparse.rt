@@ -2,7 +2,7 @@
 
 ghost use Rattle.std.specs.Prelude.{◌++◌, ◌∷◌, [], IsTrue, IfErr, OnOk};
 ghost use Rattle.abt_disk.specs.World.{IsReading};
-ghost use Rattle.abt_output.specs.Shows.{Shows, unprinted};
+ghost use Rattle.abt_report.specs.Shows.{Shows, unprinted};
 ghost use Rattle.abt_refusals.specs.Paths.{path_of, path_out};
 ghost use Rattle.sparse_rules.specs.Lines.{line_text};
 ghost use Rattle.image_bodies.specs.Sparsing.{LeavesImage, RefusesRaw, SparsifiesFile};
@@ -10,8 +10,8 @@ ghost use Rattle.image_bodies.specs.Sparsing.{LeavesImage, RefusesRaw, Sparsifie
 use crate::writing::write_whole;
 use abt_disk::Disk;
 use abt_io::{Meter, Source, Window};
-use abt_output::Report;
 use abt_refusals::{HostRefusal, Place, Sides};
+use abt_report::Report;
 use abt_sparsify::Written;
 use sparse_rules::{Line, SparseCommandFault, SparseRefusal, blocks_of};
 

@@ -2,7 +2,7 @@
 
 ghost use Rattle.std.specs.Prelude.{◌≡◌, ◌<◌, ◌+◌, ◌++◌, ◌∷◌, ◌⊎◌, [], None, length, IsTrue, IfOk, IfErr, OnOk};
 ghost use Rattle.abt_disk.specs.World.{HasFailed};
-ghost use Rattle.abt_output.specs.Shows.{Shows};
+ghost use Rattle.abt_report.specs.Shows.{Shows};
 ghost use Rattle.sparse_rules.specs.Lines.{line_text};
 ghost use Rattle.image_bodies.specs.Cutting.{ChangesNoFile, CutsAll, CutsSoFar, IsNoneLeft, IsPiecePath, IsUnbegun};
 ghost use Rattle.image_bodies.specs.Cutting.{LeavesPieces, OnlyLeaves, ReadyFirstPiece, ShowsLast, StopsCut, cut_into};
@@ -11,9 +11,9 @@ use crate::next_piece::LaysPieces;
 use crate::pieces::put_piece;
 use abt_disk::Disk;
 use abt_io::{Meter, Window};
-use abt_output::{Carried, Report};
 use abt_pieces::Piece;
 use abt_refusals::{HostFault, HostRefusal, Place, Sides};
+use abt_report::{Carried, Report};
 use abt_runs::BlockRuns;
 use sparse_rules::{LeftOver, Line, PieceFiles, PiecesOf, SparseRefusal, is_piece_name};
 use std::alloc::AllocError;

@@ -8,8 +8,8 @@ use crate::late_writes::stopped;
 use crate::laying::{lay_image, write_image};
 use abt_disk::{Disk, ImageTo, Reasons, ended};
 use abt_io::{Meter, Window};
-use abt_output::{Carried, Progress};
 use abt_refusals::{Place, Sides};
+use abt_report::{Carried, Progress};
 use abt_sparsify::Written;
 use sparse_rules::{Blocks, SparseRefusal};
 

@@ -1,9 +1,10 @@
 -- What a check finds, and which faults are told.
-use Rattle.std.proofs.Common.{◌≡◌, ◌<◌, ◌+◌, ◌⊎◌, inl, inr, ℕ, List, Some, Bool, true, false, IsTrue, ◌&&◌, Result, Ok, Err, refl, sym, ◌∙◌, ap, subst, arith}
+use Rattle.std.proofs.Common.{◌≡◌, ◌<◌, ◌+◌, ◌⊎◌, inl, inr, ℕ, List, Some, Bool, true, false, IsTrue, ◌&&◌, Result}
+use Rattle.std.proofs.Common.{Ok, Err, refl, sym, ◌∙◌, ap, subst, arith}
 use Rattle.std.proofs.lemmas.Bool.{true≢false}
 use Rattle.abt_disk.specs.World.{World, Held, OpensFile, failing}
 use Rattle.abt_headers.proofs.Fields.{IsBytes}
-use Rattle.abt_output.specs.declared.report.Report.{Report}
+use Rattle.abt_report.specs.declared.report.Report.{Report}
 use Rattle.abt_refusals.specs.declared.refusal.HostFault.{HostFault}
 use Rattle.abt_sections.proofs.Canonical.{canonical_iff}
 use Rattle.abt_sections.specs.Canonical.{StartsAsPacked}
@@ -19,7 +20,8 @@ use Rattle.boot_rules.specs.declared.fault.BootCommandFault.{BootCommandFault}
 use Rattle.boot_rules.specs.declared.fault.BootCommandFault.TheVariants as faults
 use Rattle.boot_texts.specs.Info.{InfoCause, Reports, SectionWriteTold}
 use Rattle.boot_texts.specs.declared.info_lines.Notation.{Notation}
-use Rattle.info_bodies.specs.Informing.{IsCheckRefusal, IsFailedHost, IsFlawedImage, IsInfoFault, IsInfoRefusal, IsSound, IsSoundImage}
+use Rattle.info_bodies.specs.Informing.{IsCheckRefusal, IsFailedHost, IsFlawedImage, IsInfoFault, IsInfoRefusal}
+use Rattle.info_bodies.specs.Informing.{IsSound, IsSoundImage}
 use Rattle.info_bodies.specs.Informing.{RefusesInfo, TellsFile, TellsImage, TellsText, is_good}
 
 -- ---- the verdict
@@ -113,7 +115,8 @@ flaw_told v failed fault same bad = subst (λ g. IsCheckRefusal v failed g) (sym
 
 -- of the check, behind the text
 pub checked : (x : List ℕ) (o : Notation) (with_check : Bool) (v : Verdict) (r q r' : ℕ) (old new : Report)
-    (fault : BootCommandFault) → IsTrue with_check → q ≡ r → TellsText o x old new → (is_good v ≡ false → IsFlawedImage x)
+    (fault : BootCommandFault) → IsTrue with_check → q ≡ r → TellsText o x old new → (is_good v ≡ false
+    → IsFlawedImage x)
     → IsCheckRefusal v (q < r') fault → IsInfoRefusal x o with_check (r < r') old new fault
 checked x o with_check v r q r' old new (faults.Host f) wanted same text flaw told = (wanted, text)
 checked x o with_check v r q r' old new (faults.Section (sections.Read f)) wanted same text flaw told =
@@ -124,8 +127,10 @@ checked x o with_check v r q r' old new (faults.Section (sections.Header f)) wan
 checked x o with_check v r q r' old new (faults.Section (sections.Entry i)) wanted same text flaw told = absurd told
 checked x o with_check v r q r' old new (faults.Section sections.Name) wanted same text flaw told = absurd told
 checked x o with_check v r q r' old new (faults.Section sections.CommandLine) wanted same text flaw told = absurd told
-checked x o with_check v r q r' old new (faults.Section (sections.SectionTruncated s)) wanted same text flaw told = absurd told
-checked x o with_check v r q r' old new (faults.Section (sections.SectionTooLarge s)) wanted same text flaw told = absurd told
+checked x o with_check v r q r' old new (faults.Section (sections.SectionTruncated s)) wanted same text flaw told =
+    absurd told
+checked x o with_check v r q r' old new (faults.Section (sections.SectionTooLarge s)) wanted same text flaw told =
+    absurd told
 checked x o with_check v r q r' old new (faults.OptionNotCarried name) wanted same text flaw told = absurd told
 checked x o with_check v r q r' old new (faults.BadFragment word) wanted same text flaw told = absurd told
 checked x o with_check v r q r' old new (faults.BadNumber word) wanted same text flaw told = absurd told
@@ -150,7 +155,8 @@ refusal_more : (x : List ℕ) (o : Notation) (with_check : Bool) (P Q : Type 0) 
     (fault : BootCommandFault) → (P → Q) → IsInfoRefusal x o with_check P old new fault
     → IsInfoRefusal x o with_check Q old new fault
 refusal_more x o with_check P Q old new (faults.Host f) more refuses = refuses
-refusal_more x o with_check P Q old new (faults.Section f) more refuses = fault_more x with_check P Q old new f more refuses
+refusal_more x o with_check P Q old new (faults.Section f) more refuses =
+    fault_more x with_check P Q old new f more refuses
 refusal_more x o with_check P Q old new (faults.OptionNotCarried name) more refuses = absurd refuses
 refusal_more x o with_check P Q old new (faults.BadFragment word) more refuses = absurd refuses
 refusal_more x o with_check P Q old new (faults.BadNumber word) more refuses = absurd refuses
@@ -168,7 +174,12 @@ refuses path x o with_check world h h' k r r' old new fault opens none let_go to
       opens.file,
       opens.there,
       subst (λ z. IsInfoRefusal z o with_check (h.failed < k.failed) old new fault) opens.held
-          (refusal_more x o with_check (r < r') (h.failed < k.failed) old new fault (λ failed. omega (arith, e, d, failed)) told),
+          (refusal_more x o with_check (r < r') (h.failed < k.failed) old new fault (λ failed. omega (
+            arith,
+            e,
+            d,
+            failed,
+          )) told),
     )
 
 pub refuses_host : (other : Type 0) (h k : Held) (fault : BootCommandFault) (host : HostFault)

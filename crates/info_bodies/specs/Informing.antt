@@ -2,7 +2,7 @@
 use Rattle.std.specs.Prelude.{◌≡◌, ◌<◌, ◌⊎◌, ℕ, List, Some, Bool, true, false, not, IsTrue, ◌&&◌}
 use Rattle.abt_disk.specs.World.{World}
 use Rattle.abt_refusals.specs.declared.refusal.HostFault.{HostFault}
-use Rattle.abt_output.specs.declared.report.Report.{Report}
+use Rattle.abt_report.specs.declared.report.Report.{Report}
 use Rattle.abt_sections.specs.declared.checking.Verdict.{Verdict}
 use Rattle.abt_sections.specs.declared.fault.SectionFault.{SectionFault}
 use Rattle.abt_sections.specs.declared.fault.SectionFault.TheVariants as sections

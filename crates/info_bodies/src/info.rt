@@ -9,8 +9,8 @@ ghost use Rattle.info_bodies.specs.Informing.{RefusesInfo, TellsFile, notation_o
 use crate::telling::tell_image;
 use abt_disk::Disk;
 use abt_io::{Meter, Window};
-use abt_output::Report;
 use abt_refusals::{Place, Refusal};
+use abt_report::Report;
 use boot_rules::BootCommandFault;
 
 /// How the command ended: the file that it is about is named at `'t`, and its words at `'a`.

@@ -5,8 +5,8 @@ ghost use Rattle.info_bodies.specs.Informing as spec;
 
 use crate::info::InfoOutcome;
 use abt_io::{Meter, Source, Window};
-use abt_output::Report;
 use abt_refusals::{HostRefusal, Place, Refusal, Sides};
+use abt_report::Report;
 use abt_sections::{SectionFault, Verdict};
 use boot_findings::{Findings, find_reasons};
 use boot_rules::BootCommandFault;

@@ -4,14 +4,14 @@ ghost use Rattle.std.specs.Prelude.{◌≡◌, ◌+◌, OnOk, IfErr, map, if◌t
 ghost use Rattle.abt_refusals.specs.Paths.{path_in, path_of, path_out};
 ghost use Rattle.memory_disk.specs.Memory.{world_of, held_of};
 ghost use Rattle.abt_disk.specs.World.{IsReading};
-ghost use Rattle.abt_output.specs.Shows.{Shows};
+ghost use Rattle.abt_report.specs.Shows.{Shows};
 ghost use Rattle.sparse_rules.specs.ImagePath.{image_path};
 ghost use Rattle.sparse_bodies.specs.Expanding.{ExpandsFile, LeavesExpanded, RefusesFile};
 ghost use Rattle.sparse_bodies.specs.Overlaying.{LeavesOverlaid, MayOverlay, OverlaysFiles, RefusesOverlay, once_if_any};
 
 use abt_io::{Meter, Window};
-use abt_output::Report;
 use abt_refusals::Place;
+use abt_report::Report;
 use memory_disk::MemoryDisk;
 use sparse_bodies::{expand_one, expand_several};
 use sparse_rules::SparseRefusal;

@@ -4,7 +4,7 @@ ghost use Rattle.std.specs.Prelude.{◌≡◌, ◌<◌, ◌-◌, ◌++◌, max, 
 ghost use Rattle.abt_refusals.specs.Paths.{path_in, path_of};
 ghost use Rattle.abt_disk.specs.InPlace.{SparesOthers};
 ghost use Rattle.memory_disk.specs.Memory.{held_of, world_of};
-ghost use Rattle.abt_output.specs.Shows.{Shows};
+ghost use Rattle.abt_report.specs.Shows.{Shows};
 ghost use Rattle.abt_disk.specs.DiskCalls.{HasNoPart, LeavesAll};
 ghost use Rattle.flash_bodies.specs.Files.{LeavesOthers, MayFlashPieces, OfFile};
 ghost use Rattle.flash_bodies.specs.Flashing.{FlashesFile, RefusesFlash};
@@ -14,8 +14,8 @@ ghost use Rattle.flash_bodies.specs.Listing.{IsListed, RefusesList};
 ghost use Rattle.flash_bodies.specs.Verifying.{RefusesVerify, RefusesVerifyRaw, VerifiesFile, VerifiesRawFile};
 
 use abt_io::{Meter, Window};
-use abt_output::Report;
 use abt_refusals::Place;
+use abt_report::Report;
 use flash_bodies::{
     flash_file, flash_pieces_file, flash_raw_file, list_file, verify_file, verify_raw_file,
 };

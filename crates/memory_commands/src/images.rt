@@ -4,14 +4,14 @@ ghost use Rattle.std.specs.Prelude.{IfErr, OnOk};
 ghost use Rattle.abt_disk.specs.Images.{is_over};
 ghost use Rattle.memory_disk.specs.Memory.{held_of, world_of};
 ghost use Rattle.abt_disk.specs.World.{IsReading};
-ghost use Rattle.abt_output.specs.Shows.{Shows, unprinted};
+ghost use Rattle.abt_report.specs.Shows.{Shows, unprinted};
 ghost use Rattle.abt_refusals.specs.Paths.{path_of, path_out};
 ghost use Rattle.image_bodies.specs.Sparsing.{LeavesImage, RefusesRaw, SparsifiesFile};
 ghost use Rattle.image_bodies.specs.Cutting.{CutsFile, LeavesCut, RefusesCut, ShowsLast};
 
 use abt_io::{Meter, Window};
-use abt_output::Report;
 use abt_refusals::Place;
+use abt_report::Report;
 use image_bodies::{Cutting, cut_file, sparse_file};
 use memory_disk::MemoryDisk;
 use sparse_rules::SparseRefusal;

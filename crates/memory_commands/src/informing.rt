@@ -8,8 +8,8 @@ ghost use Rattle.info_bodies.specs.Informing.{RefusesInfo, TellsFile, notation_o
 ghost use Rattle.memory_disk.specs.Memory.{held_of, world_of};
 
 use abt_io::{Meter, Window};
-use abt_output::Report;
 use abt_refusals::Place;
+use abt_report::Report;
 use info_bodies::{InfoOutcome, info_file};
 use memory_disk::MemoryDisk;
 

@@ -4,14 +4,14 @@ ghost use Rattle.std.specs.Prelude.{IfErr, OnOk};
 ghost use Rattle.abt_refusals.specs.Paths.{output_path};
 ghost use Rattle.abt_disk.specs.Images.{is_over};
 ghost use Rattle.abt_disk.specs.World.{IsReading};
-ghost use Rattle.abt_output.specs.Shows.{Shows, unprinted};
+ghost use Rattle.abt_report.specs.Shows.{Shows, unprinted};
 ghost use Rattle.memory_disk.specs.Memory.{held_of, world_of};
 ghost use Rattle.pack_bodies.specs.Packing.{IsPackedBy, KeepsGiven, PacksFile};
 ghost use Rattle.pack_bodies.specs.Refusing.{RefusesPack};
 ghost use Rattle.pack_outputs.specs.Writing.{LeavesOut};
 
 use abt_io::{Meter, Window};
-use abt_output::Report;
+use abt_report::Report;
 use boot_rules::{BootOutcome, PackCommand};
 use memory_disk::MemoryDisk;
 use pack_bodies::pack_file;

@@ -1,7 +1,7 @@
 //! The command `repack` over the disk in memory, as `pack` stands in `in_memory.rt`.
 
 ghost use Rattle.std.specs.Prelude.{IfErr, OnOk};
-ghost use Rattle.abt_output.specs.Shows.{unprinted};
+ghost use Rattle.abt_report.specs.Shows.{unprinted};
 ghost use Rattle.abt_disk.specs.Images.{is_over};
 ghost use Rattle.abt_disk.specs.World.{IsReading};
 ghost use Rattle.abt_refusals.specs.Paths.{output_path, path_of};
@@ -11,8 +11,8 @@ ghost use Rattle.pack_bodies.specs.Repacking.{IsRepackedOf, KeepsRead, RepacksFi
 ghost use Rattle.pack_outputs.specs.Writing.{LeavesOut};
 
 use abt_io::{Meter, Window};
-use abt_output::Report;
 use abt_refusals::Place;
+use abt_report::Report;
 use boot_rules::{BootOutcome, PackCommand};
 use memory_disk::MemoryDisk;
 use pack_bodies::repack_file;

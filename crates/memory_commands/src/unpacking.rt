@@ -11,8 +11,8 @@ ghost use Rattle.boot_bodies.specs.Lines.{ShowsEach};
 ghost use Rattle.boot_bodies.specs.Unpacking.{IsPartOf, LeavesParts, PartsStand, SyncsParts, Unpacks};
 
 use abt_io::{Meter, Window};
-use abt_output::Report;
 use abt_refusals::Place;
+use abt_report::Report;
 use boot_bodies::unpack_file;
 use boot_rules::BootOutcome;
 use memory_disk::MemoryDisk;

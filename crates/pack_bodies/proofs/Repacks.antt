@@ -7,8 +7,8 @@ use Rattle.abt_refusals.specs.Paths.{output_path}
 use Rattle.abt_disk.specs.World.{World, Held, HasFailed, HasNotFailed, KeepsFile, OnlyAt, OpensFile, Spares, failing}
 use Rattle.abt_disk.specs.World.{untouched, in_output}
 use Rattle.std.proofs.Common.{append_assoc, append-nil, true, false}
-use Rattle.abt_output.specs.Shows.{GoesOut, Shows}
-use Rattle.abt_output.specs.declared.report.Report.{Report}
+use Rattle.abt_report.specs.Shows.{GoesOut, Shows}
+use Rattle.abt_report.specs.declared.report.Report.{Report}
 use Rattle.abt_sections.specs.Header.{Header, image_header_at, view_of}
 use Rattle.abt_sections.specs.Open.{IsOpened}
 use Rattle.abt_sections.specs.declared.image.Image.{Image}

@@ -8,8 +8,8 @@ use Rattle.abt_sections.specs.Header.{Header, fragment_count, view_of}
 use Rattle.abt_sections.specs.Open.{HasImage, IsOpened}
 use Rattle.abt_sections.specs.declared.spec.FragmentSpec.{FragmentSpec}
 use Rattle.abt_disk.specs.World.{World, Spares, KeepsFile}
-use Rattle.abt_output.specs.Shows.{Shows}
-use Rattle.abt_output.specs.declared.report.Report.{Report}
+use Rattle.abt_report.specs.Shows.{Shows}
+use Rattle.abt_report.specs.declared.report.Report.{Report}
 use Rattle.abt_disk.specs.Among.{FileHolds}
 use Rattle.boot_fields.specs.Kind.{kind_of}
 use Rattle.boot_fields.specs.declared.image_kind.ImageKind.{ImageKind}

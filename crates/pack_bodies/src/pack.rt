@@ -4,7 +4,7 @@ ghost use Rattle.std.specs.Prelude.{◌≡◌, ◌+◌, [], IsTrue, IfErr, IfOk,
 ghost use Rattle.std.specs.List.{All};
 ghost use Rattle.abt_refusals.specs.Paths.{output_path};
 ghost use Rattle.abt_disk.specs.World.{IsReading};
-ghost use Rattle.abt_output.specs.Shows.{Shows, unprinted};
+ghost use Rattle.abt_report.specs.Shows.{Shows, unprinted};
 ghost use Rattle.abt_sections.specs.Fields.{boot_fields};
 ghost use Rattle.boot_fields.specs.Kind.{version_of};
 ghost use Rattle.boot_rules.specs.Carried.{IsTaken};
@@ -18,8 +18,8 @@ ghost use Rattle.pack_outputs.specs.Writing.{LeavesOut};
 use crate::filling::filled;
 use abt_disk::Disk;
 use abt_io::{Meter, Source, Window};
-use abt_output::Report;
 use abt_refusals::Refusal;
+use abt_report::Report;
 use abt_sections::BootSpec;
 use boot_fields::ImageKind;
 use boot_rules::{BootCommandFault, BootOutcome, PackCommand, PartSource, judge_words};

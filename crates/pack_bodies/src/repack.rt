@@ -2,7 +2,7 @@
 
 ghost use Rattle.std.specs.Prelude.{◌≡◌, ◌+◌, ◌++◌, [], IsTrue, IfErr, IfOk, OnOk, map};
 ghost use Rattle.abt_disk.specs.World.{HasFailed, IsReading};
-ghost use Rattle.abt_output.specs.Shows.{Shows, unprinted};
+ghost use Rattle.abt_report.specs.Shows.{Shows, unprinted};
 ghost use Rattle.abt_refusals.specs.Paths.{output_path, path_of};
 ghost use Rattle.abt_sections.specs.Cause.{total};
 ghost use Rattle.abt_sections.specs.Fields.{boot_fields};
@@ -26,8 +26,8 @@ use crate::filling::filled;
 use crate::telling::tell_left_out;
 use abt_disk::Disk;
 use abt_io::{Meter, Source, Window};
-use abt_output::Report;
 use abt_refusals::{HostRefusal, Place, Refusal, Sides};
+use abt_report::Report;
 use abt_sections::BootSpec;
 use boot_fields::ImageKind;
 use boot_findings::LeftOut;

@@ -1,11 +1,11 @@
 //! What is told of an image that was packed again, beside its line.
 
 ghost use Rattle.std.specs.Prelude.{ℕ, List};
-ghost use Rattle.abt_output.specs.Shows.{Shows};
-ghost use Rattle.abt_output.specs.declared.report.Report.{Report};
+ghost use Rattle.abt_report.specs.Shows.{Shows};
+ghost use Rattle.abt_report.specs.declared.report.Report.{Report};
 ghost use Rattle.pack_bodies.specs.Repacking.{ShowsFirst};
 
-use abt_output::Report;
+use abt_report::Report;
 use abt_text::Text;
 use boot_findings::LeftOut;
 use std::fmt;

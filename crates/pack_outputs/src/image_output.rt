@@ -3,7 +3,7 @@
 ghost use Rattle.std.specs.Prelude.{◌≡◌, ◌++◌, ◌∷◌, [], None, IsTrue, IfErr, OnOk, false, true};
 ghost use Rattle.abt_disk.specs.DiskCalls.{LetsImageGo};
 ghost use Rattle.abt_disk.specs.Images.{OfImage, is_file};
-ghost use Rattle.abt_output.specs.Shows.{Shows, unprinted};
+ghost use Rattle.abt_report.specs.Shows.{Shows, unprinted};
 ghost use Rattle.abt_refusals.specs.Paths.{path_out};
 ghost use Rattle.boot_rules.specs.Refused.{IsJudged};
 ghost use Rattle.pack_outputs.specs.Contents.{faults_in, packed_image, packing_of, refusal_from, refusal_in};
@@ -19,8 +19,8 @@ use crate::lines::ImageLine;
 use crate::packing::{pack_contents, refusal_of};
 use abt_disk::{Disk, ImageTo, Lasting, Reasons, ended};
 use abt_io::{Meter, Source, Window};
-use abt_output::{Carried, Progress, Report};
 use abt_refusals::{HostFault, HostRefusal, Place, Refusal, Sides};
+use abt_report::{Carried, Progress, Report};
 use boot_rules::{BootCommandFault, BootOutcome, PartSource};
 use std::alloc::Global;
 

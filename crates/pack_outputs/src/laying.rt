@@ -9,7 +9,7 @@ use crate::magic_last::MagicLast;
 use crate::packing::{is_read_once, pack_contents, pack_once};
 use abt_disk::Lasting;
 use abt_io::{Meter, Overwrite, Source, Window};
-use abt_output::{Carried, Progress};
+use abt_report::{Carried, Progress};
 use abt_sections::SectionFault;
 use boot_rules::PartSource;
 

@@ -4,94 +4,139 @@ ghost use Rattle.std.specs.Prelude.{◌≡◌, ◌≢◌, ◌≤◌};
 ghost use Rattle.program_words.specs.Mistake.{IsMistake};
 
 use crate::telling::{print, refused};
-use abt_host::USAGE;
-use abt_output::Report;
+use abt_host::{Telling, USAGE};
 use abt_refusals::HostRefusal;
+use abt_report::Report;
 use abt_text::{ShownPath, Text};
 use abt_words::{WordsFault, order_of};
 use std::alloc::{AllocError, Global};
+use std::convert::AsStr;
 use std::fmt;
+use tool_words::{Tool, orders_of};
 
 /// Tells of a mistake in the words, or prints a text that they ask for, as `--help` does, and answers the exit status.
+/// The words may be those of a tool.
 #[inline(never)]
-pub fn wrong_words(
+pub fn wrong_words<S: AsStr>(
     rt: HostRuntime,
-    words: &[&str],
+    tool: Option<Tool>,
+    words: &[S],
     fault: &WordsFault,
-    is_terminal: bool,
+    how: Telling,
     report: &mut Report,
 ) -> u8
     ensures mistake { IsMistake fault.now → result ≢ 0 }
     ensures status { result ≤ 2 }
 {
     match fault {
-        WordsFault::Memory => refused(rt, HostRefusal::memory(), is_terminal, report),
+        WordsFault::Memory => refused(rt, HostRefusal::memory(), how, report),
         WordsFault::BadNumber {
             word,
             is_number,
             is_verbose,
         } => {
-            let is_verbose = *is_verbose || is_terminal;
-            tell_bad_number(word.as_str(), *is_number, is_verbose, report)
+            let how = Telling {
+                program: how.program,
+                is_verbose: *is_verbose || how.is_verbose,
+            };
+            tell_bad_number(word.as_str(), advice(tool, *is_number), how, report);
+            USAGE
         }
-        WordsFault::Usage(error) if !error.use_stderr() => print(rt, error, is_terminal, report),
+        WordsFault::NotTaken(instead) => {
+            tell_not_taken(instead, how, report);
+            USAGE
+        }
+        WordsFault::Usage(error) if !error.use_stderr() => print(rt, error, how, report),
         WordsFault::Usage(_) => match shown_words(rt.alloc(), words) {
-            Ok(shown) => wrong_use(rt, shown.as_slice(), is_terminal, report),
-            Err(_) => refused(rt, HostRefusal::memory(), is_terminal, report),
+            Ok(shown) => wrong_use(rt, tool, shown.as_slice(), how, report),
+            Err(_) => refused(rt, HostRefusal::memory(), how, report),
         },
     }
 }
 
 /// The line of a word that is no number, or one of 4 GiB or more.
 #[derive(Clone, Copy, Drop)]
-struct BadNumber<'a>(&'a str);
+struct BadNumber<'a> {
+    program: &'a str,
+    word: &'a str,
+}
 
 impl fmt::Display for BadNumber<'_> {
     fn fmt<W: fmt::Write>(&self, f: &mut fmt::Formatter<W>) -> fmt::Result {
-        let word = ShownPath(self.0);
-        write!(f, "abootimg: bad number {word}")
+        let program = self.program;
+        let word = ShownPath(self.word);
+        write!(f, "{program}: bad number {word}")
     }
 }
 
-fn tell_bad_number(word: &str, is_number: bool, is_verbose: bool, report: &mut Report) -> u8
-    ensures { result ≡ 2 }
-{
-    report.note(BadNumber(word));
-    if is_verbose {
-        report.note(if is_number {
-            "  it must be below 4 GiB, so at most 4294967295"
-        } else {
-            "  write it as 4096, 0x1000, 4K, 1M or 1G"
-        });
+// How a number is written.
+fn advice(tool: Option<Tool>, is_number: bool) -> &'static str {
+    match tool {
+        _ if is_number => "  it must be below 4 GiB, so at most 4294967295",
+        Some(_) => "  write it as 4096 or 0x1000",
+        None => "  write it as 4096, 0x1000, 4K, 1M or 1G",
     }
-    USAGE
+}
+
+fn tell_bad_number(word: &str, advice: &str, how: Telling, report: &mut Report) {
+    report.note(BadNumber {
+        program: how.program,
+        word,
+    });
+    if how.is_verbose {
+        report.note(advice);
+    }
+}
+
+// A line of what a tool does and this program doesn't, with what does it.
+fn tell_not_taken(instead: &str, how: Telling, report: &mut Report) {
+    let mut text = Text::new(&mut report.err);
+    text.word(how.program);
+    text.word(": ");
+    text.word(instead);
+    text.end_line();
+    let _ = text.finish();
 }
 
 // A mistake in words that are shown already: what the parser says of them.
-fn wrong_use(rt: HostRuntime, shown: &[String], is_verbose: bool, report: &mut Report) -> u8
+fn wrong_use(
+    rt: HostRuntime,
+    tool: Option<Tool>,
+    shown: &[String],
+    how: Telling,
+    report: &mut Report,
+) -> u8
     ensures mistake { result ≢ 0 }
     ensures status { result ≤ 2 }
 {
-    match order_of(rt.alloc(), shown) {
-        Err(WordsFault::Usage(error)) => {
+    match fault_of(rt.alloc(), tool, shown) {
+        Some(WordsFault::Usage(error)) => {
             let Ok(told) = format!(in rt.alloc(); "{error}") else {
-                return refused(rt, HostRefusal::memory(), is_verbose, report);
+                return refused(rt, HostRefusal::memory(), how, report);
             };
             let mut text = Text::new(&mut report.err);
             text.word(told.as_str());
             let _ = text.finish();
             USAGE
         }
-        Err(WordsFault::Memory) => refused(rt, HostRefusal::memory(), is_verbose, report),
+        Some(WordsFault::Memory) => refused(rt, HostRefusal::memory(), how, report),
         _ => USAGE,
     }
 }
 
+// Why these words are refused.
+fn fault_of(alloc: Global, tool: Option<Tool>, words: &[String]) -> Option<WordsFault> {
+    match tool {
+        Some(tool) => orders_of(alloc, tool, words, &[]).err(),
+        None => order_of(alloc, words).err(),
+    }
+}
+
 // Each word as paths are shown.
-fn shown_words(alloc: Global, words: &[&str]) -> Result<Vec<String>, AllocError> {
+fn shown_words<S: AsStr>(alloc: Global, words: &[S]) -> Result<Vec<String>, AllocError> {
     let mut shown = Vec::new(alloc);
     for word in words {
-        let word = ShownPath(word);
+        let word = ShownPath(word.as_str());
         shown.push(format!(in alloc; "{word}")?)?;
     }
     Ok(shown)

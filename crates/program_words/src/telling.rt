@@ -3,9 +3,9 @@
 ghost use Rattle.std.specs.Prelude.{◌≡◌, ◌≤◌, ◌++◌, IfSome, if◌then◌else◌};
 ghost use Rattle.abt_refusals.specs.Host.{is_not_text};
 
-use abt_host::{DONE, answer};
-use abt_output::Report;
+use abt_host::{DONE, Telling, answer};
 use abt_refusals::HostRefusal;
+use abt_report::Report;
 use abt_text::Text;
 use sparse_rules::SparseRefusal;
 use std::fmt;
@@ -14,7 +14,7 @@ use std::fmt;
 pub fn print<D: fmt::Display + Drop>(
     rt: HostRuntime,
     shown: D,
-    is_verbose: bool,
+    how: Telling,
     report: &mut Report,
 ) -> u8
     ensures done { result ≡ 0 → IfSome (D.output shown) (λ told. report.new.out.log.state.bytes ≡
@@ -22,7 +22,7 @@ pub fn print<D: fmt::Display + Drop>(
     ensures status { result ≤ 2 }
 {
     let Ok(shown) = format!(in rt.alloc(); "{shown}") else {
-        return refused(rt, HostRefusal::memory(), is_verbose, report);
+        return refused(rt, HostRefusal::memory(), how, report);
     };
     let mut text = Text::new(&mut report.out);
     text.word(shown.as_str());
@@ -30,18 +30,13 @@ pub fn print<D: fmt::Display + Drop>(
     if is_whole {
         return DONE;
     }
-    refused(rt, report.cannot_print(), is_verbose, report)
+    refused(rt, report.cannot_print(), how, report)
 }
 
 /// Tells why a run is refused before its command begins, and answers the exit status.
 #[inline(never)]
-pub fn refused(
-    rt: HostRuntime,
-    refusal: HostRefusal<'_>,
-    is_verbose: bool,
-    report: &mut Report,
-) -> u8
+pub fn refused(rt: HostRuntime, refusal: HostRefusal<'_>, how: Telling, report: &mut Report) -> u8
     ensures { result ≡ (if is_not_text refusal.entry.fault then 2 else 1) }
 {
-    answer(Err(SparseRefusal::from(refusal)), is_verbose, rt, report)
+    answer(Err(SparseRefusal::from(refusal)), how, rt, report)
 }

@@ -3,15 +3,15 @@
 ghost use Rattle.std.specs.Prelude.{◌≡◌, ◌+◌, ◌++◌, [], ◌∷◌, IsTrue, IfErr, OnOk, if◌then◌else◌};
 ghost use Rattle.abt_refusals.specs.Paths.{path_in, path_out};
 ghost use Rattle.abt_disk.specs.World.{IsReading};
-ghost use Rattle.abt_output.specs.Shows.{Shows};
+ghost use Rattle.abt_report.specs.Shows.{Shows};
 ghost use Rattle.sparse_rules.specs.Lines.{line_text};
 ghost use Rattle.sparse_bodies.specs.Expanding.{Blames, ExpandingSays, ExpandsFile, LeavesExpanded, RefusesFile};
 
 use abt_chunks::{Expanded, expand};
 use abt_disk::{Disk, Measured, Reasons, ended};
 use abt_io::{Input, Meter, Output, Window};
-use abt_output::{Carried, Report};
 use abt_refusals::{HostRefusal, Place, Sides};
+use abt_report::{Carried, Report};
 use sparse_rules::{Line, SparseCommandFault, SparseRefusal};
 
 /// Writes the raw image of a sparse one, and prints what it has. `-` is standard input, and standard output.

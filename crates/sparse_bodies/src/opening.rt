@@ -14,8 +14,8 @@ ghost use Rattle.sparse_bodies.specs.Steps.{IsNotAllOpened, IsNotNext, IsNotOpen
 use crate::cut_of::{CutPiece, is_of_other_cut, path_of_word, piece_of};
 use abt_disk::{Disk, Lasting};
 use abt_io::{Meter, Source, Window};
-use abt_output::Progress;
 use abt_refusals::{HostFault, Place, Sides};
+use abt_report::Progress;
 use abt_runs::{RunFault, SparseRuns};
 use abt_sparse::SparseFault;
 use sparse_rules::{SparseCommandFault, SparseRefusal, image_place};

@@ -2,7 +2,7 @@
 
 ghost use Rattle.std.specs.Prelude.{◌≡◌, ◌+◌, IsTrue, IfErr, OnOk, map};
 ghost use Rattle.abt_refusals.specs.Paths.{path_of};
-ghost use Rattle.abt_output.specs.Shows.{Shows};
+ghost use Rattle.abt_report.specs.Shows.{Shows};
 ghost use Rattle.sparse_rules.specs.ImagePath.{image_path};
 ghost use Rattle.sparse_bodies.specs.Overlaying.{LeavesOverlaid, MayOverlay, OverlaysFiles, RefusesOverlay, once_if_any};
 ghost use Rattle.sparse_bodies.specs.Steps.{whole_of_shape};
@@ -13,8 +13,8 @@ use crate::opening::{Opened, Shape, open_all};
 use abt_chunks::Expanded;
 use abt_disk::Disk;
 use abt_io::{Meter, Window};
-use abt_output::Report;
 use abt_refusals::Place;
+use abt_report::Report;
 use sparse_rules::SparseRefusal;
 use std::alloc::Global;
 

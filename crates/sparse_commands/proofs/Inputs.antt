@@ -4,7 +4,7 @@ use Rattle.std.specs.Prelude.{IsTrue, Result, Ok, Err, IfErr, OnOk}
 use Rattle.std.specs.List.{AllByRecursion}
 use Rattle.abt_refusals.specs.Paths.{output_path}
 use Rattle.abt_disk.specs.World.{World, OnlyAt, KeepsFile}
-use Rattle.abt_output.specs.Shows.{Shows}
+use Rattle.abt_report.specs.Shows.{Shows}
 use Rattle.image_bodies.specs.Sparsing.{HoldsNoPartOfSparse}
 use Rattle.sparse_rules.specs.ImagePath.{image_path}
 use Rattle.sparse_rules.specs.declared.fault.SparseCommandFault.{SparseCommandFault}

@@ -6,8 +6,8 @@ use Rattle.abt_refusals.specs.Paths.{output_path}
 use Rattle.abt_words.specs.declared.order.SparseTask.{SparseTask}
 use Rattle.abt_words.specs.declared.order.SparseTask.TheVariants as tasks
 use Rattle.abt_words.specs.declared.order.Pieces.{Pieces}
-use Rattle.abt_output.specs.declared.report.Report.{Report}
-use Rattle.abt_output.specs.Shows.{Shows, unprinted}
+use Rattle.abt_report.specs.declared.report.Report.{Report}
+use Rattle.abt_report.specs.Shows.{Shows, unprinted}
 use Rattle.abt_disk.specs.World.{World, Held, OnlyAt, KeepsFile, HasNotFailed}
 use Rattle.abt_disk.specs.InPlace.{SparesOthers}
 use Rattle.sparse_rules.specs.ImagePath.{image_path}

@@ -10,7 +10,7 @@ use crate::commands::{
 };
 use abt_disk::Disk;
 use abt_io::{Meter, Window};
-use abt_output::Report;
+use abt_report::Report;
 use abt_words::SparseTask;
 use sparse_rules::SparseRefusal;
 use std::alloc::Global;

@@ -17,7 +17,7 @@ ghost use Rattle.sparse_commands.specs.Commands.{SparesSparsified, SparesWorld};
 use crate::places::place;
 use abt_disk::Disk;
 use abt_io::{Meter, Window};
-use abt_output::Report;
+use abt_report::Report;
 use abt_words::Pieces;
 use flash_bodies::{
     flash_file, flash_pieces_file, flash_raw_file, list_file, verify_file, verify_raw_file,

@@ -13,7 +13,8 @@ returns-in-Some-value_in g c =
     let here : get_or (map text words) i [] ≡ c.as_str.result.now =
     get_or-map text words i c.index-words-at.result [] (omega (arith, c.if-at-words.false))
     ∙ ap text (sym c.index-words-at.is) ∙ sym c.as_str.ensures in
-    λ is. said_joined c.args.name.now c.args.value.now (map text words) i c.as_str.result.now c.in-Some.rest.now
+    λ is. said_joined c.args.front.now c.args.name.now c.args.value.now (map text words) i c.as_str.result.now
+    c.in-Some.rest.now
     (omega (arith, length-map words text, c.if-at-words.false)) here c.in-Some.ensures
     (c.in-Some-value_in.ensures ∙ ap (λ v. 61 ∷ v) ((bytes_eq-Decides c.in-Some-value_in.said.now c.args.value.now).0
     (sym c.eq.ensures ∙ is)))
@@ -29,7 +30,8 @@ returns g c =
     let next : get_or (map text words) (i + 1) [] ≡ c.as_str-2.result.now =
     get_or-map text words (i + 1) c.index-words-at-2.result [] (omega (arith, c.if-at-words-2.false))
     ∙ ap text (sym c.index-words-at-2.is) ∙ sym c.as_str-2.ensures in
-    λ is. said_apart c.args.name.now c.args.value.now (map text words) i c.as_str.result.now c.in-Some.rest.now
+    λ is. said_apart c.args.front.now c.args.name.now c.args.value.now (map text words) i c.as_str.result.now
+    c.in-Some.rest.now
     c.as_str-2.result.now
     (omega (arith, length-map words text, c.if-at-words.false)) (omega (
       arith,

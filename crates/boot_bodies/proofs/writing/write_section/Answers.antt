@@ -1,7 +1,7 @@
 use Rattle.std.proofs.Common.{◌∙◌, ap, subst, true}
 use Rattle.boot_rules.proofs.Causes.{host_refused, ok_gives, told_so}
 use Rattle.boot_bodies.proofs.Counts.{copy_failed, end_failed, none_created}
-use Rattle.abt_output.specs.Shows.{Shows}
+use Rattle.abt_report.specs.Shows.{Shows}
 use Rattle.boot_bodies.specs.Lines.{told_part}
 use Rattle.boot_bodies.specs.Unpacking.{section_part}
 use Rattle.boot_bodies.proofs.Loops.{part_done, same_path, same_section, section_named}

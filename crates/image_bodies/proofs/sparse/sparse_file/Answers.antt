@@ -4,7 +4,7 @@ use Rattle.abt_refusals.specs.Paths.{path_of, path_out}
 use Rattle.abt_disk.proofs.Worlds.{only_written, only_behind, kept_behind, synced_behind}
 use Rattle.image_bodies.proofs.Files.{left_unbegun, left_whole, none_open, part_same, part_emptied, part_left}
 use Rattle.image_bodies.proofs.Files.{no_blocks, refuses, refuses_host, sparsifies}
-use Rattle.abt_output.specs.Shows.{unprinted}
+use Rattle.abt_report.specs.Shows.{unprinted}
 use Rattle.image_bodies.proofs.Counted.{clean_behind, failed_behind}
 use Rattle.image_bodies.proofs.sparse.sparse_file.Goals as goal
 

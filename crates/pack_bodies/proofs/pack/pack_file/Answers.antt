@@ -1,6 +1,6 @@
 use Rattle.std.proofs.Common.{ap, refl, sym, subst, ◌∙◌}
 use Rattle.std.specs.List.{All}
-use Rattle.abt_output.specs.Shows.{unprinted}
+use Rattle.abt_report.specs.Shows.{unprinted}
 use Rattle.abt_disk.specs.World.{World}
 use Rattle.boot_rules.specs.Carried.{IsTaken}
 use Rattle.pack_outputs.specs.Contents.{packed_image}

@@ -1,6 +1,6 @@
 use Rattle.std.proofs.Common.{◌∙◌, ap, refl, subst, sym}
 use Rattle.abt_refusals.specs.Paths.{output_path}
-use Rattle.abt_output.specs.Shows.{Shows, unprinted}
+use Rattle.abt_report.specs.Shows.{Shows, unprinted}
 use Rattle.abt_sections.specs.Header.{fragment_count, view_of}
 use Rattle.abt_sections.specs.Open.{IsOpened}
 use Rattle.pack_inputs.specs.Own.{entries_to}

@@ -1,5 +1,5 @@
 use Rattle.std.proofs.Common.{◌∙◌}
-use Rattle.abt_output.specs.Shows.{Shows, unprinted}
+use Rattle.abt_report.specs.Shows.{Shows, unprinted}
 use Rattle.abt_refusals.specs.Paths.{path_of}
 use Rattle.pack_bodies.specs.RefusingAgain.{no_image}
 use Rattle.pack_bodies.specs.Repacking.{ShowsFirst}

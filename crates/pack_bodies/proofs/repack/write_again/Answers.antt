@@ -1,5 +1,5 @@
 use Rattle.std.proofs.Common.{◌∙◌, refl}
-use Rattle.abt_output.specs.Shows.{Shows, unprinted}
+use Rattle.abt_report.specs.Shows.{Shows, unprinted}
 use Rattle.pack_outputs.specs.Contents.{packing_of}
 use Rattle.boot_rules.specs.Sources.{content_of}
 use Rattle.pack_bodies.proofs.Again.{filling_refuses, keeps_again, left_again, packs_again, ready}

@@ -1,5 +1,5 @@
 use Rattle.std.proofs.Common.{refl, ap, ◌∙◌}
-use Rattle.abt_output.specs.Shows.{unprinted}
+use Rattle.abt_report.specs.Shows.{unprinted}
 use Rattle.abt_disk.proofs.Worlds.{only_written}
 use Rattle.boot_rules.specs.Sources.{faults_of}
 use Rattle.pack_outputs.specs.Writing.{failed, untold}

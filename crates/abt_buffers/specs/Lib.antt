@@ -1,2 +1,0 @@
-pub mod Since
-pub mod Writes

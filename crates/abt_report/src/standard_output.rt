@@ -1,0 +1,92 @@
+//! Standard output, as a report is printed to it, or a file in its place.
+
+ghost use Rattle.std.specs.Prelude.{◌≡◌, Some};
+ghost use Rattle.std.specs.Io.{WritesAtMost};
+ghost use Rattle.abt_io.specs.Frame.{nothing_logged};
+
+use abt_io::Log;
+use std::fs::File;
+use std::io;
+use std::io::{IsTerminal, Write};
+use std::rt::Stdout;
+
+// Where the bytes go.
+#[derive(Drop)]
+enum Place {
+    Standard(Stdout),
+    File(File),
+}
+
+impl Place {
+    fn write(&mut self, bytes: &[u8]) -> io::Result<usize>
+        ensures { WritesAtMost result bytes.now }
+    {
+        match self {
+            Place::Standard(stdout) => stdout.write(bytes),
+            Place::File(file) => file.write(bytes),
+        }
+    }
+}
+
+/// Standard output. It keeps all that it was given, and why it failed.
+#[derive(Drop)]
+pub struct StandardOutput {
+    place: Place,
+    /// The number of the system's error where its last call failed.
+    pub why: Option<i32>,
+    pub log: Log,
+}
+
+impl StandardOutput {
+    pub fn new(stdout: Stdout) -> StandardOutput
+        ensures { result.log.state ≡ nothing_logged }
+    {
+        StandardOutput::to(Place::Standard(stdout))
+    }
+
+    /// A file that is given in its place what is printed.
+    pub fn in_file(file: File) -> StandardOutput
+        ensures { result.log.state ≡ nothing_logged }
+    {
+        StandardOutput::to(Place::File(file))
+    }
+
+    fn to(place: Place) -> StandardOutput
+        ensures { result.log.state ≡ nothing_logged }
+    {
+        StandardOutput {
+            place,
+            why: None,
+            log: Log::new(),
+        }
+    }
+
+    /// Whether it is a terminal.
+    pub(crate) fn is_terminal(&self) -> bool {
+        match &self.place {
+            Place::Standard(stdout) => stdout.is_terminal(),
+            Place::File(_) => false,
+        }
+    }
+}
+
+impl Write for StandardOutput {
+    ghost contents = { λ s. Some s.log.state.bytes };
+
+    fn write(&mut self, bytes: &[u8]) -> io::Result<usize> {
+        match self.place.write(bytes) {
+            Ok(n) => {
+                self.log.append(&bytes[..n]);
+                Ok(n)
+            }
+            Err(error) => {
+                self.why = error.raw_os_error();
+                Err(error)
+            }
+        }
+    }
+
+    fn flush(&mut self) -> io::Result<()> {
+        Ok(())
+    }
+}

@@ -1,0 +1,14 @@
+use Rattle.std.proofs.Common.{[], map, refl}
+use Rattle.std.specs.Prelude.{Contains}
+use Rattle.std.proofs.lemmas.List.Elements.{All-nil, All-same}
+use Rattle.abt_words.specs.declared.answers.Answer.{Answer}
+use Rattle.abt_words.specs.Table.{shape_of}
+use Rattle.abt_words.proofs.Among.{rows_last}
+use Rattle.abt_words.proofs.answers.Answers.of_rows.Goals as goal
+
+pub returns : goal.returns
+returns c =
+    let table = map shape_of c.args.rows.now in
+    let P = λ (a : Answer). Contains table (shape_of a.row.now) in
+    c.in_ok-read_rows.ensures table (All-same P c.new.result.items [] c.new.ensures.items (All-nil P))
+    (rows_last c.args.rows.now table refl)

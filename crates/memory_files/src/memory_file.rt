@@ -1,0 +1,123 @@
+//! A file in memory, which tells what it holds.
+
+ghost use Rattle.std.specs.Prelude.{◌≡◌, ◌≤◌, ◌+◌, ◌-◌, ◌++◌, IsTrue, false, true, length, take, replicate};
+ghost use Rattle.abt_io.specs.Bytes.{AreBytes};
+ghost use Rattle.abt_io.specs.Moment.{put_at};
+
+use abt_io::{History, are_bytes, put_part, read_part};
+use std::io;
+use std::io::ErrorKind;
+use sys_file::{Stamp, SystemFile};
+
+/// Bytes that are read and written as a file is. The call of this number fails, counted down from there, and behind it
+/// none does.
+#[derive(Drop)]
+pub struct MemoryFile {
+    pub bytes: Vec<u8>,
+    pub left: u64,
+    pub history: History,
+    pub ghost told: { AreBytes bytes.items },
+}
+
+impl MemoryFile {
+    /// These bytes.
+    pub fn new(bytes: Vec<u8>, left: u64) -> MemoryFile
+        ensures { result.bytes ≡ bytes }
+    {
+        are_bytes(bytes.as_slice());
+        MemoryFile {
+            bytes,
+            left,
+            history: History::new(),
+        }
+    }
+
+    // Whether it is the next call that fails.
+    fn is_over(&mut self) -> bool
+        ensures { (self.new.bytes ≡ self.old.bytes) × (self.new.history ≡ self.old.history) }
+    {
+        if self.left == 0 {
+            return false;
+        }
+        self.left -= 1;
+        self.left == 0
+    }
+}
+
+impl SystemFile for MemoryFile {
+    ghost tells = { true };
+
+    ghost stands = { λ f. f.bytes.items };
+
+    ghost past = { λ f. f.history.past };
+
+    ghost are_bytes = { λ f _. f.told };
+
+    fn length(&self) -> io::Result<u64> {
+        Ok(self.bytes.len() as u64)
+    }
+
+    fn stamp(&self) -> Option<Stamp> {
+        Some(Stamp {
+            length: self.bytes.len() as u64,
+            second: 0,
+            nanosecond: 0,
+        })
+    }
+
+    fn read_at(&self, at: u64, out: &mut [u8]) -> io::Result<usize> {
+        Ok(read_part(self.bytes.as_slice(), at, out))
+    }
+
+    fn write_at(&mut self, at: u64, bytes: &[u8]) -> io::Result<usize> {
+        if self.is_over() {
+            return Err(io::Error::from(ErrorKind::Other));
+        }
+        if !lay(&mut self.bytes, at, bytes) {
+            return Err(io::Error::from(ErrorKind::StorageFull));
+        }
+        let n = bytes.len();
+        self.history.wrote(self.bytes.as_slice(), at, n as u64);
+        Ok(n)
+    }
+
+    fn set_len(&mut self, n: u64) -> io::Result<()> {
+        if self.is_over() {
+            return Err(io::Error::from(ErrorKind::Other));
+        }
+        let Ok(n) = usize::try_from(n) else {
+            return Err(io::Error::from(ErrorKind::FileTooLarge));
+        };
+        match self.bytes.resize(n, 0) {
+            Ok(()) => {
+                are_bytes(self.bytes.as_slice());
+                Ok(())
+            }
+            Err(_) => Err(io::Error::from(ErrorKind::StorageFull)),
+        }
+    }
+
+    fn sync(&mut self) -> io::Result<()> {
+        self.history.settled(self.bytes.as_slice());
+        Ok(())
+    }
+}
+
+// Lays bytes at a place of these, and answers whether there was room for them.
+fn lay(bytes: &mut Vec<u8>, at: u64, part: &[u8]) -> bool
+    requires { at ≤ length bytes.old.items }
+    ensures laid { IsTrue result → bytes.new.items ≡ put_at bytes.old.items at part.now }
+    ensures kept { result ≡ false → bytes.new.items ≡ bytes.old.items }
+    ensures told { AreBytes bytes.new.items }
+{
+    let n = part.len();
+    let len = bytes.len();
+    let end = at as usize + n;
+    if end < n || (end > len && bytes.resize(end, 0).is_err()) {
+        are_bytes(bytes.as_slice());
+        return false;
+    }
+    put_part(bytes.as_mut_slice(), at, part);
+    are_bytes(bytes.as_slice());
+    true
+}

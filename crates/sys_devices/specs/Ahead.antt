@@ -1,0 +1,18 @@
+-- What was read ahead of a file.
+use Rattle.std.specs.Prelude.{ℕ, List, Option, IfSome, take}
+use Rattle.sys_devices.specs.Places.{FoundAt}
+use Rattle.sys_devices.specs.declared.held.Held.{Held}
+use Rattle.sys_devices.specs.declared.ahead.Ahead.{Ahead}
+
+-- what is held is a part of the file
+abbrev pub HoldsPart : List ℕ → Held → Type 0
+HoldsPart content h = FoundAt content h.at (take h.count h.bytes.items)
+
+-- the same of both parts
+pub record HoldsBoth (content : List ℕ) (a : Ahead) : Type 0 where
+  pub one : HoldsPart content a.one
+  pub other : HoldsPart content a.other
+
+-- the same where anything is held
+abbrev pub HoldsAny : List ℕ → Option Ahead → Type 0
+HoldsAny content o = IfSome o (HoldsBoth content)

@@ -1,0 +1,4 @@
+pub mod Ahead
+pub mod Past
+pub mod Places
+pub mod Writes

@@ -1,0 +1,88 @@
+-- What a device that holds bytes back does: `sent` went to its file, and `held` goes behind that.
+use Rattle.std.specs.Prelude.{◌≡◌, ◌<◌, ◌≤◌, ◌+◌, ◌++◌, ◌⊎◌, [], ℕ, List, Bool, IsTrue, false, Result, IfOk, IfErr}
+use Rattle.std.specs.Prelude.{OnOk, OnErr, IsErr, length, take, drop, replicate}
+use Rattle.abt_io.specs.Count.{count_of}
+use Rattle.abt_io.specs.Frame.{Logged, last_cut, nothing_logged}
+use Rattle.abt_io.specs.declared.device.DeviceFault.{DeviceFault}
+use Rattle.abt_io.specs.declared.device.DeviceFault.TheVariants.{Failed}
+use Rattle.sys_file.specs.File.{Begins}
+
+-- all that a spool took since it was last cleared
+abbrev pub since_cut : Logged → List ℕ
+since_cut g = drop (last_cut g.cuts) g.bytes
+
+-- no magic number stands in a file: it is empty, or begins with four zeros
+abbrev pub LeavesNoMagic : List ℕ → Type 0
+LeavesNoMagic content = (content ≡ []) ⊎ Begins (replicate 4 0) content
+
+-- a front of these bytes was taken, and no empty one of some bytes; nothing where some of what was held is lost
+pub record TakesSome (r : Result ℕ DeviceFault) (bytes : List ℕ) (lost lost' : Bool) : Type 0 where
+  pub within : count_of r ≤ length bytes
+  pub progress : IfOk r (λ n. 0 < length bytes → 0 < n)
+  pub failed : IfErr r (λ e. e ≡ Failed)
+  pub still : IsTrue lost → IsErr r
+  pub found : OnOk r (lost' ≡ false)
+
+-- the same of one write, behind all that was sent
+pub record SendsSome (r : Result ℕ DeviceFault) (bytes held held' sent sent' : List ℕ) (lost lost' : Bool)
+    (used used' : ℕ) : Type 0 where
+  pub takes : TakesSome r bytes lost lost'
+  pub more_sent : sent' ≡ sent ++ take (count_of r) bytes
+  pub same_held : held' ≡ held
+  pub more_used : used' ≡ used + count_of r
+
+-- all that was held was written, or some of it is lost, now or before, and is still held
+pub record Flushes {X : Type 0} (r : Result X DeviceFault) (held held' sent sent' : List ℕ) (lost lost' : Bool)
+    (used used' : ℕ) : Type 0 where
+  pub none : OnOk r (held' ≡ [])
+  pub whole : sent' ++ held' ≡ sent ++ held
+  pub grows : Begins sent sent'
+  pub found : OnOk r (lost' ≡ false)
+  pub is_lost : OnErr r (IsTrue lost')
+  pub still : IsTrue lost → IsErr r
+  pub failed : IfErr r (λ e. e ≡ Failed)
+  pub same_used : used' ≡ used
+
+-- nothing was taken yet, since it was cleared; or what was taken is as it was, and lost
+pub record Clears {X : Type 0} (r : Result X DeviceFault) (held held' sent sent' : List ℕ) (lost' : Bool) : Type 0 where
+  pub none : OnOk r (held' ≡ [])
+  pub empty : OnOk r (sent' ≡ [])
+  pub found : OnOk r (lost' ≡ false)
+  pub kept_held : OnErr r (held' ≡ held)
+  pub kept_sent : OnErr r (sent' ≡ sent)
+  pub is_lost : OnErr r (IsTrue lost')
+  pub failed : IfErr r (λ e. e ≡ Failed)
+
+-- a new spool: nothing was taken, and in its file stands what stood there
+pub record StartsSpool (log : Logged) (capacity asked : ℕ) (lost : Bool) (stale stands : ℕ) : Type 0 where
+  pub nothing : log ≡ nothing_logged
+  pub as_asked : capacity ≡ asked
+  pub found : lost ≡ false
+  pub as_stood : stale ≡ stands
+
+-- what was taken is as it was
+pub record LeavesTaken (held held' : List ℕ) (sent sent' : Logged) (lost lost' : Bool) (used used' : ℕ)
+    : Type 0 where
+  pub same_held : held' ≡ held
+  pub same_sent : sent' ≡ sent
+  pub same_lost : lost' ≡ lost
+  pub same_used : used' ≡ used
+
+-- the same but for what is held, where bytes were laid over it
+pub record LaysHeld (laid : Bool) (held held' : List ℕ) (sent sent' : Logged) (lost lost' : Bool) (used used' : ℕ)
+    : Type 0 where
+  pub kept : laid ≡ false → held' ≡ held
+  pub same_sent : sent' ≡ sent
+  pub same_lost : lost' ≡ lost
+  pub same_used : used' ≡ used
+
+-- nothing stands behind what was sent any more, or what was taken is lost
+pub record CutsBehind {X : Type 0} (r : Result X DeviceFault) (held held' : List ℕ) (sent sent' : Logged)
+    (lost lost' : Bool) (used used' stale' : ℕ) : Type 0 where
+  pub cut : OnOk r (stale' ≡ 0)
+  pub same_held : held' ≡ held
+  pub same_sent : sent' ≡ sent
+  pub kept : OnOk r (lost' ≡ lost)
+  pub is_lost : OnErr r (IsTrue lost')
+  pub failed : IfErr r (λ e. e ≡ Failed)
+  pub same_used : used' ≡ used

@@ -1,0 +1,186 @@
+//! Bytes of a file that were read before they were asked for.
+
+ghost use Rattle.std.specs.Prelude.{◌≡◌, ◌<◌, ◌≤◌, ◌+◌, ◌-◌, ℕ, List, IsTrue, IfOk, length, take, drop};
+ghost use Rattle.abt_io.specs.Count.{count_of};
+ghost use Rattle.sys_devices.specs.Ahead.{HoldsPart};
+ghost use Rattle.sys_devices.specs.Places.{FoundAt};
+
+use std::alloc::{AllocError, Global};
+use std::io;
+use sys_file::{SystemFile, read_at};
+
+/// Bytes of a file, and where they stand there. Those behind the first `count` are nothing.
+#[derive(Drop)]
+pub(crate) struct Held {
+    bytes: Vec<u8>,
+    at: u64,
+    count: usize,
+}
+
+impl Held {
+    /// Nothing is held, and it has no memory for that.
+    pub(crate) fn empty(alloc: Global) -> Held
+        ensures { (c : List ℕ) → HoldsPart c result }
+    {
+        Held {
+            bytes: Vec::new(alloc),
+            at: 0,
+            count: 0,
+        }
+    }
+
+    /// Nothing is held, and it has memory for so many bytes.
+    pub(crate) fn new(alloc: Global, room: usize) -> Result<Held, AllocError>
+        ensures { IfOk result (λ h. (c : List ℕ) → HoldsPart c h) }
+    {
+        let mut bytes = Vec::with_capacity(alloc, room)?;
+        bytes.resize(room, 0)?;
+        Ok(Held {
+            bytes,
+            at: 0,
+            count: 0,
+        })
+    }
+
+    /// Whether it has no memory.
+    pub(crate) fn is_empty(&self) -> bool {
+        self.bytes.is_empty()
+    }
+
+    /// Holds nothing any more.
+    pub(crate) fn forget(&mut self)
+        ensures { (c : List ℕ) → HoldsPart c self.new }
+    {
+        self.count = 0;
+    }
+
+    // The bytes that are held from a place on.
+    fn found(&self, at: u64) -> &[u8]
+        ensures { (c : List ℕ) → HoldsPart c self.now → FoundAt c at result.now }
+    {
+        let held = self.count.min(self.bytes.len());
+        if at < self.at || at - self.at >= held as u64 {
+            return &[];
+        }
+        let from = (at - self.at) as usize;
+        &self.bytes[from..held]
+    }
+
+    /// Gives the bytes at a place, where all that are asked for are held.
+    pub(crate) fn give(&self, at: u64, out: &mut [u8]) -> bool
+        ensures { IsTrue result → (c : List ℕ) → HoldsPart c self.now → FoundAt c at out.new }
+    {
+        let found = self.found(at);
+        let ask = out.len();
+        if found.len() < ask {
+            return false;
+        }
+        out.copy_from_slice(&found[..ask]);
+        true
+    }
+
+    /// Gives the first bytes at a place that are held, and answers how many.
+    pub(crate) fn give_some(&self, at: u64, out: &mut [u8]) -> usize
+        ensures within { result ≤ length out.new }
+        ensures given { (c : List ℕ) → HoldsPart c self.now → FoundAt c at (take result out.new) }
+    {
+        let found = self.found(at);
+        let n = found.len().min(out.len());
+        out[..n].copy_from_slice(&found[..n]);
+        n
+    }
+
+    /// Gives the first bytes at a place that are held, behind the first ones of these, and answers how many.
+    pub(crate) fn give_behind(&self, at: u64, first: usize, out: &mut [u8]) -> usize
+        requires { first ≤ length out.old }
+        ensures first { take first out.new ≡ take first out.old }
+        ensures within { first + result ≤ length out.new }
+        ensures given { (c : List ℕ) → HoldsPart c self.now → FoundAt c at (take result (drop first out.new)) }
+    {
+        self.give_some(at, &mut out[first..])
+    }
+
+    /// Whether a place is the one behind the bytes that are held, or among them.
+    pub(crate) fn leads_to(&self, at: u64) -> bool {
+        self.count > 0 && at >= self.at && at - self.at <= self.count as u64
+    }
+
+    /// Reads the bytes at a place, at most so many. Nothing is held where that fails.
+    pub(crate) fn fill<F: SystemFile>(&mut self, file: &F, at: u64, most: usize)
+        ensures { IsTrue F.tells → HoldsPart (F.stands file.now) self.new }
+    {
+        let n = read_past(file, at, 0, most, self.bytes.as_mut_slice()).unwrap_or(0);
+        self.at = at;
+        self.count = n;
+    }
+
+    /// Reads the bytes at a place, at most so many: behind those that are held where they lead to it, and in their
+    /// place where not. At most so many of them stay, the last ones.
+    pub(crate) fn go_on<F: SystemFile>(&mut self, file: &F, at: u64, most: usize) -> io::Result<()>
+        ensures { IsTrue F.tells → HoldsPart (F.stands file.now) self.old → HoldsPart (F.stands file.now) self.new }
+    {
+        self.stay(at, most);
+        let last = self.count;
+        match read_past(file, at, last, most, self.bytes.as_mut_slice()) {
+            Ok(n) => {
+                self.count = last + n;
+                Ok(())
+            }
+            Err(error) => Err(error),
+        }
+    }
+
+    // All that are held, if they lead to a place, or none.
+    fn last(&self, at: u64, held: usize) -> usize
+        ensures within { result ≤ held }
+        ensures fits { result ≤ at }
+        ensures leads { 0 < result → at ≡ self.now.at + held }
+    {
+        if at >= self.at && at - self.at == held as u64 {
+            held
+        } else {
+            0
+        }
+    }
+
+    // Moves the last bytes that are held to the front, at most so many, where they lead to a place. No others are held
+    // any more.
+    fn stay(&mut self, at: u64, most: usize)
+        ensures holds { (c : List ℕ) → HoldsPart c self.old → HoldsPart c self.new }
+        ensures place { self.new.at + self.new.count ≡ at }
+        ensures within { self.new.count ≤ length self.new.bytes.items }
+    {
+        let held = self.count.min(self.bytes.len());
+        let last = self.last(at, held).min(most);
+        move_front(self.bytes.as_mut_slice(), held - last, last);
+        self.at = at - last as u64;
+        self.count = last;
+    }
+}
+
+// Moves so many bytes from a place to the front.
+fn move_front(bytes: &mut [u8], from: usize, n: usize)
+    requires { from + n ≤ length bytes.old }
+    ensures long { length bytes.new ≡ length bytes.old }
+    ensures moved { take n bytes.new ≡ take n (drop from bytes.old) }
+{
+    bytes.copy_within(from..from + n, 0);
+}
+
+// Reads the bytes at a place into these, at most so many, behind the first ones. Answers how many.
+fn read_past<F: SystemFile>(
+    file: &F,
+    at: u64,
+    first: usize,
+    most: usize,
+    into: &mut [u8],
+) -> io::Result<usize>
+    requires { first ≤ length into.old }
+    ensures first { take first into.new ≡ take first into.old }
+    ensures long { length into.new ≡ length into.old }
+    ensures within { first + count_of result ≤ length into.new }
+    ensures read { IsTrue F.tells → FoundAt (F.stands file.now) at (take (count_of result) (drop first into.new)) }
+{
+    let end = into.len().min(first.saturating_add(most));
+    read_at(file, at, &mut into[first..end])
+}

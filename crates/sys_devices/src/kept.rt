@@ -1,0 +1,93 @@
+//! What was last read of a raw image: a piece ends before the block that has no room in it, and the next one begins there.
+
+ghost use Rattle.std.specs.Prelude.{◌<◌, ◌≤◌, ◌^◌, ℕ, List, IsTrue, length, take};
+ghost use Rattle.abt_io.specs.Count.{count_of};
+ghost use Rattle.sys_devices.specs.Ahead.{HoldsPart};
+ghost use Rattle.sys_devices.specs.Places.{FoundAt};
+
+use crate::held::Held;
+use std::alloc::Global;
+use std::io;
+use sys_file::SystemFile;
+
+/// How many bytes are read at once.
+const ROOM: usize = 65_536;
+
+/// A read that asks for no more goes past what is kept.
+const FEW: usize = 256;
+
+/// So many times a piece is read to be kept, since it may end soon. Of a longer one a little of its end is read again.
+const TIMES: u32 = 8;
+
+/// What is kept of a file from piece to piece, and when. It is kept from its front, and from each place that was just
+/// read and is read again: a piece has ended before that, and another begins.
+#[derive(Drop)]
+pub(crate) struct Kept {
+    // Bytes of the file, the last ones that were given among them: as many as a window has, and as many behind them. Where
+    // there is no memory for them, each read is made as it is asked for.
+    held: Held,
+    // How many times more the file is read to be kept.
+    left: u32,
+    // Where the last read began, and where it ended.
+    from: u64,
+    past: u64,
+}
+
+impl Kept {
+    /// Nothing is kept, and it has no memory for that.
+    pub(crate) fn new(alloc: Global) -> Kept
+        ensures { (c : List ℕ) → HoldsPart c result.held }
+    {
+        Kept {
+            held: Held::empty(alloc),
+            left: 0,
+            from: 0,
+            past: 0,
+        }
+    }
+
+    /// Gives the first bytes at a place, where they are kept or read to be, and answers how many. Those behind them are to
+    /// be read as they are asked for: that tells where the file ends. Why the call failed, where it did.
+    pub(crate) fn give<F: SystemFile>(
+        &mut self,
+        alloc: Global,
+        file: &F,
+        at: u64,
+        out: &mut [u8],
+    ) -> io::Result<usize>
+        requires holds { IsTrue F.tells → HoldsPart (F.stands file.now) self.old.held }
+        requires told { IsTrue F.tells → length (F.stands file.now) < 2 ^ 64 }
+        ensures holds { IsTrue F.tells → HoldsPart (F.stands file.now) self.new.held }
+        ensures within { count_of result ≤ length out.new }
+        ensures given { IsTrue F.tells → FoundAt (F.stands file.now) at (take (count_of result) out.new) }
+    {
+        if out.len() <= FEW {
+            return Ok(0);
+        }
+        self.look(alloc, at, out.len());
+        let n = self.held.give_some(at, out);
+        if n == out.len() || self.left == 0 || self.held.is_empty() {
+            return Ok(n);
+        }
+        self.left -= 1;
+        let next = at.saturating_add(n as u64);
+        self.held.go_on(file, next, ROOM)?;
+        Ok(n + self.held.give_behind(next, n, out))
+    }
+
+    // So many bytes are read at a place. It is looked whether a piece begins there, which is read to be kept.
+    fn look(&mut self, alloc: Global, at: u64, bytes: usize)
+        ensures { (c : List ℕ) → HoldsPart c self.old.held → HoldsPart c self.new.held }
+    {
+        if at == 0 || (at >= self.from && at < self.past) {
+            self.left = TIMES;
+            if self.held.is_empty()
+                && let Ok(held) = Held::new(alloc, 2 * ROOM)
+            {
+                self.held = held;
+            }
+        }
+        self.from = at;
+        self.past = at.saturating_add(bytes as u64);
+    }
+}

@@ -1,0 +1,4 @@
+pub mod Bytes
+pub mod Fronts
+pub mod Pasts
+pub mod Puts

@@ -1,0 +1,74 @@
+//! One call of the system, which is made again where a signal came in between. Nowhere else is one tried again.
+
+ghost use Rattle.std.specs.Prelude.{◌≡◌, ◌<◌, ◌≤◌, ◌+◌, ◌^◌, IsTrue, IfOk, length};
+ghost use Rattle.sys_file.specs.File.{ReadsAt, WritesAt, WritesAll, WritesFrom};
+ghost use Rattle.sys_file.specs.Past.{LaysWithin};
+
+use crate::SystemFile;
+use std::io;
+use std::io::ErrorKind;
+
+/// One read.
+pub fn read_at<F: SystemFile>(file: &F, at: u64, out: &mut [u8]) -> io::Result<usize>
+    ensures { ReadsAt F.tells (F.stands file.now) result at out.new }
+{
+    for _ in 0..u64::MAX {
+        match file.read_at(at, out) {
+            Ok(n) => return Ok(n),
+            Err(error) => {
+                if error.kind() != ErrorKind::Interrupted {
+                    return Err(error);
+                }
+            }
+        }
+    }
+    Err(io::Error::from(ErrorKind::Interrupted))
+}
+
+/// One write. It takes some of what there is.
+pub fn write_at<F: SystemFile>(file: &mut F, at: u64, bytes: &[u8]) -> io::Result<usize>
+    requires { IsTrue F.tells → at ≤ length (F.stands file.old) }
+    ensures writes { WritesAt F.tells (F.stands file.old) (F.stands file.new) result at bytes.now }
+    ensures progress { IfOk result (λ n. 0 < length bytes.now → 0 < n) }
+    ensures lays { IsTrue F.tells → at + length bytes.now ≤ length (F.stands file.old) → LaysWithin (F.stands file.old)
+        (F.stands file.new) (F.past file.old) (F.past file.new) result at (length bytes.now) }
+{
+    for _ in 0..u64::MAX {
+        match file.write_at(at, bytes) {
+            Ok(n) if n > 0 || bytes.is_empty() => return Ok(n),
+            Ok(_) => return Err(io::Error::from(ErrorKind::WriteZero)),
+            Err(error) => {
+                if error.kind() != ErrorKind::Interrupted {
+                    return Err(error);
+                }
+            }
+        }
+    }
+    Err(io::Error::from(ErrorKind::Interrupted))
+}
+
+/// Writes these bytes at a place, and answers how many were written, and whether all.
+pub fn write_front<F: SystemFile>(file: &mut F, at: u64, bytes: &[u8]) -> (usize, io::Result<()>)
+    requires stands { IsTrue F.tells → at ≤ length (F.stands file.old) }
+    requires fits { at + length bytes.now < 2 ^ 64 }
+    ensures { WritesFrom F.tells (F.stands file.old) (F.stands file.new) result.0 result.1 at bytes.now }
+{
+    let mut done = 0;
+    while done < bytes.len() {
+        match write_at(file, at + done as u64, &bytes[done..]) {
+            Ok(n) => done += n,
+            Err(error) => return (done, Err(error)),
+        }
+    }
+    (done, Ok(()))
+}
+
+/// Writes all of these bytes at a place.
+pub fn write_all<F: SystemFile>(file: &mut F, at: u64, bytes: &[u8]) -> io::Result<()>
+    requires stands { IsTrue F.tells → at ≤ length (F.stands file.old) }
+    requires fits { at + length bytes.now < 2 ^ 64 }
+    ensures { WritesAll F.tells (F.stands file.old) (F.stands file.new) result at bytes.now }
+{
+    let (_, result) = write_front(file, at, bytes);
+    result
+}

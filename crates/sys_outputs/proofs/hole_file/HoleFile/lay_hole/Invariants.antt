@@ -1,0 +1,13 @@
+use Rattle.std.proofs.Common.{◌≡◌, ◌≤◌, ℕ}
+use Rattle.sys_outputs.proofs.hole_file.HoleFile.lay_hole.Given as goal
+
+-- nothing was given yet
+pub record Tries (some n : ℕ) (same : Type 0) : Type 0 where
+  pub within : some ≤ n
+  pub given : same
+
+abbrev pub invariant-loop-some : goal.invariant-loop-some
+invariant-loop-some g l = Tries l.some l.n (l.self.given.state ≡ l.fn.self.given.state)
+
+abbrev pub decreases-loop-some : goal.decreases-loop-some
+decreases-loop-some g l = l.some

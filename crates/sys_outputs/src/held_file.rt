@@ -1,0 +1,282 @@
+//! A regular file that takes small writes together, and lays headers in memory over what it holds still: so the header
+//! of a chunk, which is laid once the chunk's length is known, mostly takes no call of its own.
+//!
+//! Where a write fails, the file is as if each header had been laid by a call of its own, behind all that was given
+//! before it: a header is taken back where not all of that was written. Such a file comes to no end, and neither does one
+//! of which a write of many bytes failed, or one over bytes that it was given.
+
+ghost use Rattle.std.specs.Prelude.{◌≡◌, ◌<◌, ◌≤◌, ◌+◌, ◌^◌, [], false, IsTrue, length, IfOk, OnOk, OnErr};
+ghost use Rattle.abt_io.specs.Frame.{nothing_logged, and_bytes};
+ghost use Rattle.abt_io.specs.Over.{and_put};
+ghost use Rattle.sys_outputs.specs.Given.{PutsBehind, PutsFrom, TakesOrKeeps};
+ghost use Rattle.sys_outputs.specs.Late.{whole, HasRoomBehind, TakesBack, HoldsAsMuch};
+
+use crate::room::Room;
+use abt_io::{FRONT, Log, WINDOW};
+use std::io;
+use std::io::ErrorKind;
+use sys_file::{SystemFile, put_held, write_at, write_front};
+
+// How many bytes are held at most.
+pub(crate) const ROOM: usize = WINDOW;
+
+// A write of so many bytes or more is not held: what copying them costs is what a call does.
+const LARGE: usize = 16_384;
+
+// How long a header is that is laid in memory.
+const HEADER: usize = 12;
+
+// How many are laid before all is sent.
+pub(crate) const MOST: usize = 256;
+
+/// A header that was laid over bytes that are held.
+#[derive(Clone, Copy, Drop)]
+pub(crate) struct Laid {
+    from: usize,
+    /// How many bytes were held then.
+    behind: usize,
+    /// What stood there.
+    before: [u8; HEADER],
+}
+
+impl Laid {
+    // Takes it back where fewer bytes were written than it was laid behind, in the file too.
+    fn take_back<F: SystemFile>(&self, file: &mut F, sent: u64, done: usize, held: &mut Vec<u8>)
+        requires { HasRoomBehind F.tells sent done (F.stands file.old) held.old.items }
+        ensures { TakesBack F.tells sent (F.stands file.old) (F.stands file.new) held.old.items held.new.items }
+    {
+        let from = self.from;
+        if done >= self.behind || from > held.len() || held.len() - from < HEADER {
+            return;
+        }
+        put_held(held, from as u64, &self.before);
+        if from < done {
+            let some = (done - from).min(HEADER);
+            let _ = write_front(file, sent + from as u64, &self.before[..some]);
+        }
+    }
+}
+
+/// A file that was just created or emptied. What is held goes behind the bytes that were sent: by `settle` and `end`, and
+/// not where it is dropped.
+#[derive(Drop)]
+pub struct HeldFile<F: SystemFile + Drop> {
+    file: F,
+    sent: u64,
+    held: Vec<u8>,
+    laid: Vec<Laid>,
+    /// A write failed of what is held, and a header may have been taken back; or one of many bytes, or over others, which
+    /// may have left anything.
+    is_failed: bool,
+    /// All that it was given.
+    pub given: Log,
+    ghost sends: { IsTrue F.tells → sent ≤ length (F.stands file) },
+    ghost stand: { IsTrue F.tells → is_failed ≡ false → length (F.stands file) ≤ sent + length held.items },
+    ghost fits: { sent + length held.items < 2 ^ 64 },
+    ghost faithful: { IsTrue F.tells → is_failed ≡ false → whole (F.stands file) sent held.items ≡ given.state.bytes },
+}
+
+impl<F: SystemFile + Drop> HeldFile<F> {
+    /// Nothing is held yet, and nothing stands in the file.
+    pub fn new(file: F, room: Room) -> HeldFile<F>
+        requires { IsTrue F.tells → F.stands file ≡ [] }
+        ensures { result.given.state ≡ nothing_logged }
+    {
+        let Room { held, laid } = room;
+        HeldFile {
+            file,
+            sent: 0,
+            held,
+            laid,
+            is_failed: false,
+            given: Log::new(),
+        }
+    }
+
+    /// Takes some of these bytes: it holds them, or where they have no room, or are many, it sends what it holds, and some
+    /// of them.
+    pub fn put(&mut self, bytes: &[u8]) -> io::Result<usize>
+        ensures { PutsBehind result bytes.now self.old.given.state self.new.given.state }
+    {
+        let held = self.held.len() as u64;
+        if bytes.len() as u64 > u64::MAX - self.sent - held {
+            return Err(io::Error::from(ErrorKind::InvalidInput));
+        }
+        if self.holds(bytes) {
+            return Ok(bytes.len());
+        }
+        self.settle()?;
+        match write_at(&mut self.file, self.sent, bytes) {
+            Ok(n) => {
+                self.sent += n as u64;
+                self.given.append(&bytes[..n]);
+                Ok(n)
+            }
+            Err(error) => {
+                self.is_failed = true;
+                Err(error)
+            }
+        }
+    }
+
+    // Holds these bytes behind those that are held, if they are few and have room.
+    fn holds(&mut self, bytes: &[u8]) -> bool
+        requires { self.old.sent + length self.old.held.items + length bytes.now < 2 ^ 64 }
+        ensures { TakesOrKeeps result self.old.given.state self.new.given.state
+            (and_bytes self.old.given.state bytes.now) self.old.sent self.new.sent self.old.held.items
+            self.new.held.items }
+    {
+        let room = self
+            .held
+            .capacity()
+            .min(ROOM)
+            .saturating_sub(self.held.len());
+        if bytes.len() >= LARGE || bytes.len() > room {
+            return false;
+        }
+        match self.held.extend_from_slice(bytes) {
+            Ok(()) => {
+                self.given.append(bytes);
+                true
+            }
+            Err(_) => false,
+        }
+    }
+
+    /// Writes a front of these bytes over what was taken. What stands at the front, as the magic does, is laid once all
+    /// else is in the file. Why the call failed, by its number, where it did.
+    pub fn put_over(&mut self, at: u64, bytes: &[u8]) -> Result<usize, Option<i32>>
+        ensures { PutsFrom result at bytes.now self.old.given.state self.new.given.state }
+    {
+        let end = self.sent + self.held.len() as u64;
+        if at > end || bytes.len() as u64 > end - at {
+            return Err(None);
+        }
+        if self.lays(at, bytes) {
+            return Ok(bytes.len());
+        }
+        if let Err(error) = self.settle() {
+            return Err(error.raw_os_error());
+        }
+        match write_at(&mut self.file, at, bytes) {
+            Ok(n) => {
+                self.given.put(&bytes[..n], at);
+                Ok(n)
+            }
+            Err(error) => {
+                self.is_failed = true;
+                Err(error.raw_os_error())
+            }
+        }
+    }
+
+    // Lays a header over bytes that are held, if all of them are, and it is not at the front.
+    fn lays(&mut self, at: u64, bytes: &[u8]) -> bool
+        ensures { TakesOrKeeps result self.old.given.state self.new.given.state
+            (and_put self.old.given.state at bytes.now) self.old.sent self.new.sent self.old.held.items
+            self.new.held.items }
+    {
+        if at < FRONT as u64 || at < self.sent {
+            return false;
+        }
+        let behind = self.held.len();
+        let from = at - self.sent;
+        if bytes.len() != HEADER || behind < HEADER || from > (behind - HEADER) as u64 {
+            return false;
+        }
+        let from = from as usize;
+        let mut before = [0; HEADER];
+        before.copy_from_slice(&self.held[from..from + HEADER]);
+        let laid = Laid {
+            from,
+            behind,
+            before,
+        };
+        if self.laid.len() >= MOST || self.laid.push(laid).is_err() {
+            return false;
+        }
+        put_held(&mut self.held, from as u64, bytes);
+        self.given.put(bytes, at);
+        true
+    }
+
+    /// Sends what it holds. Where that fails it is held on, and sent to the same place by the next call.
+    pub fn settle(&mut self) -> io::Result<()>
+        ensures none { OnOk result (self.new.held.items ≡ []) }
+        ensures reach { OnOk result (self.new.sent ≡ self.old.sent + length self.old.held.items) }
+        ensures all { OnOk result (IsTrue F.tells → self.new.is_failed ≡ false
+            → F.stands self.new.file ≡ self.new.given.state.bytes) }
+        ensures held { OnErr result (length self.new.held.items ≡ length self.old.held.items) }
+        ensures sent { OnErr result (self.new.sent ≡ self.old.sent) }
+        ensures still { OnOk result (self.new.is_failed ≡ self.old.is_failed) }
+        ensures given { self.new.given.state ≡ self.old.given.state }
+    {
+        let (done, result) = write_front(&mut self.file, self.sent, self.held.as_slice());
+        if result.is_err() {
+            self.take_back(done);
+            return result;
+        }
+        self.sent += self.held.len() as u64;
+        self.held.clear();
+        self.laid.clear();
+        Ok(())
+    }
+
+    /// The file, with what was sent to it.
+    pub fn file(&self) -> &F
+        ensures { result.now ≡ self.now.file }
+    {
+        &self.file
+    }
+
+    // Takes the headers back that were laid behind more than was written.
+    fn take_back(&mut self, done: usize)
+        requires { IsTrue F.tells → self.old.sent + done ≤ length (F.stands self.old.file) }
+        ensures { HoldsAsMuch self.old.held.items self.new.held.items self.old.sent self.new.sent self.old.given.state
+            self.new.given.state }
+    {
+        if self.laid.is_empty() {
+            return;
+        }
+        self.is_failed = true;
+        take_all_back(
+            self.laid.as_slice(),
+            &mut self.file,
+            self.sent,
+            done,
+            &mut self.held,
+        );
+        self.laid.clear();
+    }
+
+    /// The file, where it took all that was given. Where it did not, what it holds is sent once more, as far as that goes.
+    pub fn end(self) -> io::Result<F>
+        ensures { IsTrue F.tells → IfOk result (λ file. F.stands file ≡ self.given.state.bytes) }
+    {
+        let mut held = self;
+        if let Err(error) = held.settle() {
+            let _ = held.settle();
+            return Err(error);
+        }
+        if held.is_failed {
+            return Err(io::Error::from(ErrorKind::WriteZero));
+        }
+        Ok(held.file)
+    }
+}
+
+// Takes headers back, the last one first.
+fn take_all_back<F: SystemFile>(
+    laid: &[Laid],
+    file: &mut F,
+    sent: u64,
+    done: usize,
+    held: &mut Vec<u8>,
+)
+    requires { HasRoomBehind F.tells sent done (F.stands file.old) held.old.items }
+    ensures { TakesBack F.tells sent (F.stands file.old) (F.stands file.new) held.old.items held.new.items }
+{
+    for one in laid.iter().rev() {
+        one.take_back(file, sent, done, held);
+    }
+}

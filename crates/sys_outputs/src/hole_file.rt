@@ -1,0 +1,183 @@
+//! A regular file in which zeros may be a hole, which takes no room and no time.
+//!
+//! A hole is laid by a change of the file's length, behind all that it was given. Where that fails, or a write does,
+//! anything may stand there: it is cut off before the next hole, and at the end. Where a write over given bytes failed,
+//! the file comes to no end.
+
+ghost use Rattle.std.specs.Prelude.{◌≡◌, ◌<◌, ◌≤◌, ◌+◌, ◌^◌, [], false, IsTrue, length, replicate, max};
+ghost use Rattle.std.specs.Prelude.{IfOk, OnOk};
+ghost use Rattle.abt_io.specs.Frame.{nothing_logged, and_bytes};
+ghost use Rattle.sys_file.specs.File.{Begins};
+ghost use Rattle.sys_outputs.specs.Given.{PutsBehind, PutsFrom, LaysHole, StaysGiven};
+
+use abt_io::Log;
+use std::io;
+use std::io::ErrorKind;
+use sys_file::{SystemFile, write_at};
+
+// No hole of a file is smaller.
+const PAGE: u64 = 4096;
+
+/// A file that was just created or emptied. It holds what it was given after every call that did not fail.
+#[derive(Drop)]
+pub struct HoleFile<F: SystemFile + Drop> {
+    file: F,
+    /// How many bytes it was given.
+    used: u64,
+    /// Up to here anything may stand behind them, since a call failed.
+    stale: u64,
+    /// A write failed over bytes that it was given.
+    is_failed: bool,
+    /// All that it was given.
+    pub given: Log,
+    ghost place: { length given.state.bytes ≡ used },
+    ghost reaches: { IsTrue F.tells → used ≤ length (F.stands file) },
+    ghost stands: { IsTrue F.tells → is_failed ≡ false → Begins given.state.bytes (F.stands file) },
+    ghost ends: { IsTrue F.tells → length (F.stands file) ≤ max stale used },
+}
+
+impl<F: SystemFile + Drop> HoleFile<F> {
+    /// Nothing stands in the file.
+    pub fn new(file: F) -> HoleFile<F>
+        requires { IsTrue F.tells → F.stands file ≡ [] }
+        ensures { result.given.state ≡ nothing_logged }
+    {
+        HoleFile {
+            file,
+            used: 0,
+            stale: 0,
+            is_failed: false,
+            given: Log::new(),
+        }
+    }
+
+    /// Takes some of these bytes, by one write behind all that it was given. Zeros are a hole, if the file can have one.
+    pub fn put(&mut self, bytes: &[u8]) -> io::Result<usize>
+        ensures { PutsBehind result bytes.now self.old.given.state self.new.given.state }
+    {
+        if bytes.len() as u64 > u64::MAX - self.used {
+            return Err(io::Error::from(ErrorKind::InvalidInput));
+        }
+        if is_zero(bytes) && self.grows(bytes.len() as u64) {
+            return Ok(bytes.len());
+        }
+        match write_at(&mut self.file, self.used, bytes) {
+            Ok(n) => {
+                self.used += n as u64;
+                self.given.append(&bytes[..n]);
+                Ok(n)
+            }
+            Err(error) => {
+                self.stale = self.stale.max(self.used + bytes.len() as u64);
+                Err(error)
+            }
+        }
+    }
+
+    /// Makes the file longer by so many zeros at once, or where it cannot be so long by half as many, and so on. It answers
+    /// by how many: 0 where it is by no page.
+    pub fn lay_hole(&mut self, n: u64) -> u64
+        ensures { LaysHole n result self.old.given.state self.new.given.state }
+    {
+        let mut some = n;
+        while some >= PAGE {
+            if some <= u64::MAX - self.used && self.grows(some) {
+                return some;
+            }
+            some /= 2;
+        }
+        0
+    }
+
+    // Makes the file longer by so many zeros, if it can be so long and nothing else stands there.
+    fn grows(&mut self, n: u64) -> bool
+        requires { self.old.used + n < 2 ^ 64 }
+        ensures grown { IsTrue result → self.new.given.state ≡ and_bytes self.old.given.state (replicate n 0) }
+        ensures kept { result ≡ false → self.new.given.state ≡ self.old.given.state }
+        ensures used { result ≡ false → self.new.used ≡ self.old.used }
+    {
+        if self.cut_off().is_err() {
+            return false;
+        }
+        let end = self.used + n;
+        if self.file.set_len(end).is_err() {
+            self.stale = self.stale.max(end);
+            return false;
+        }
+        self.used = end;
+        self.given.append_zeros(n);
+        true
+    }
+
+    // Cuts off what may stand behind all that it was given.
+    fn cut_off(&mut self) -> io::Result<()>
+        ensures cut { OnOk result (self.new.stale ≤ self.new.used) }
+        ensures keeps { StaysGiven self.old.given.state self.new.given.state self.old.used self.new.used
+            self.old.is_failed self.new.is_failed }
+    {
+        if self.stale <= self.used {
+            return Ok(());
+        }
+        match self.file.set_len(self.used) {
+            Ok(()) => {
+                self.stale = 0;
+                Ok(())
+            }
+            Err(error) => Err(error),
+        }
+    }
+
+    /// Writes a front of these bytes over what it was given. Why the call failed, by its number, where it did.
+    pub fn put_over(&mut self, at: u64, bytes: &[u8]) -> Result<usize, Option<i32>>
+        ensures { PutsFrom result at bytes.now self.old.given.state self.new.given.state }
+    {
+        if at > self.used || bytes.len() as u64 > self.used - at {
+            return Err(None);
+        }
+        match write_at(&mut self.file, at, bytes) {
+            Ok(n) => {
+                self.given.put(&bytes[..n], at);
+                Ok(n)
+            }
+            Err(error) => {
+                self.is_failed = true;
+                Err(error.raw_os_error())
+            }
+        }
+    }
+
+    /// The file, which holds all that was given and nothing behind it.
+    pub fn end(self) -> io::Result<F>
+        ensures { IsTrue F.tells → IfOk result (λ file. F.stands file ≡ self.given.state.bytes) }
+    {
+        let mut ended = self;
+        if ended.is_failed {
+            return Err(io::Error::from(ErrorKind::WriteZero));
+        }
+        match ended.cut_off() {
+            Ok(()) => Ok(ended.file),
+            Err(error) => Err(error),
+        }
+    }
+}
+
+// Most data that isn't zero shows it at an end. What is left is looked at as a whole, which is fast.
+fn is_zero(bytes: &[u8]) -> bool
+    ensures { IsTrue result → bytes.now ≡ replicate (length bytes.now) 0 }
+{
+    match (bytes.first(), bytes.last()) {
+        (Some(0), Some(0)) => bits_of(bytes) == 0,
+        _ => false,
+    }
+}
+
+// The bits that any of these bytes has.
+fn bits_of(bytes: &[u8]) -> u8
+    ensures { result ≡ 0 → bytes.now ≡ replicate (length bytes.now) 0 }
+{
+    let mut all = 0;
+    for byte in bytes {
+        all |= *byte;
+    }
+    all
+}

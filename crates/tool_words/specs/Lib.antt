@@ -1,0 +1,3 @@
+pub mod Mkbootimg
+pub mod Shortened
+pub mod Tools

@@ -1,0 +1,148 @@
+-- The words of AOSP's tools, and the orders that they ask for.
+use Rattle.std.specs.Prelude.{◌≡◌, ◌⊎◌, ℕ, List, [], ◌∷◌, ◌++◌, Option, Some, None, false, codes, get_or, unwrap_or}
+use Rattle.std.specs.Prelude.{bytes_eq, if◌then◌else◌}
+use Rattle.abt_values.specs.declared.rows.Place.TheVariants as places
+use Rattle.abt_values.specs.declared.rows.Value.TheVariants as values
+use Rattle.abt_words.specs.declared.answers.Answer.{Answer}
+use Rattle.tool_words.specs.declared.mkbootimg.Image.{Image}
+use Rattle.abt_words.specs.declared.order.Order.{Order}
+use Rattle.abt_words.specs.declared.order.SparseTask.TheVariants as sparse
+use Rattle.abt_words.specs.declared.order.Task.{Task}
+use Rattle.abt_words.specs.declared.order.Task.TheVariants as tasks
+use Rattle.abt_words.specs.declared.rows.Work.TheVariants as works
+use Rattle.tool_words.specs.declared.orders.Orders.{Orders}
+use Rattle.tool_words.specs.declared.tools.Tool.{Tool}
+use Rattle.tool_words.specs.declared.tools.Tool.TheVariants as tools
+use Rattle.abt_words.specs.Asked.{Asks, number_named, word_named}
+use Rattle.tool_words.specs.Mkbootimg.{AreImagesOf, PacksImage}
+use Rattle.tool_words.specs.Shortened.{AreSpelledIn}
+use Rattle.abt_words.specs.Table.{AreFrom, Shape, flag, part, path, row, usual, work_of}
+
+-- ---- which tool it is
+
+abbrev pub tool_name : Tool → List ℕ
+tool_name tools.Simg2img = codes "simg2img"
+tool_name tools.Img2simg = codes "img2simg"
+tool_name tools.Mkbootimg = codes "mkbootimg"
+tool_name tools.Simg2simg = codes "simg2simg"
+tool_name tools.UnpackBootimg = codes "unpack_bootimg"
+tool_name tools.Append2simg = codes "append2simg"
+tool_name tools.SimgDump = codes "simg_dump"
+
+-- a path ends in this name, alone or behind a folder
+abbrev pub IsLastPart : List ℕ → List ℕ → Type 0
+IsLastPart name path = (path ≡ name) ⊎ ((folder : List ℕ) × (path ≡ folder ++ (47 ∷ name)))
+
+abbrev pub IsBehindAs : List (List ℕ) → List (List ℕ) → Type 0
+IsBehindAs words own = (program : List ℕ) × (words ≡ program ∷ (codes "as" ∷ own))
+
+-- the words call a tool, and these are its own: all, or those behind `as`
+pub record IsCalled (words : List (List ℕ)) (tool : Tool) (own : List (List ℕ)) : Type 0 where
+  pub name : IsLastPart (tool_name tool) (get_or own 0 [])
+  pub behind : (own ≡ words) ⊎ IsBehindAs words own
+
+-- ---- the tables
+
+-- a number as Python reads it, with the one that stands where none is given
+abbrev pub python : List ℕ → List ℕ → Shape
+python name word = usual word (row places.Option values.PythonNumber name)
+
+abbrev pub refused : List ℕ → Shape
+refused name = row places.Option values.NotTaken name
+
+abbrev pub mkbootimg_rows : List Shape
+mkbootimg_rows =
+    part (codes "kernel") ∷ part (codes "ramdisk") ∷ part (codes "second") ∷ part (codes "dtb")
+    ∷ part (codes "recovery_dtbo") ∷ part (codes "recovery_acpio")
+    ∷ row places.Option values.CommandLine (codes "cmdline")
+    ∷ row places.Option values.CommandLine (codes "vendor_cmdline")
+    ∷ python (codes "base") (codes "0x10000000") ∷ python (codes "kernel_offset") (codes "0x00008000")
+    ∷ python (codes "ramdisk_offset") (codes "0x01000000") ∷ python (codes "second_offset") (codes "0x00f00000")
+    ∷ usual (codes "0x01f00000") (row places.Option values.LongPythonNumber (codes "dtb_offset"))
+    ∷ usual (codes "0") (row places.Option values.OsVersion (codes "os_version"))
+    ∷ usual (codes "0") (row places.Option values.PatchLevel (codes "os_patch_level"))
+    ∷ python (codes "tags_offset") (codes "0x00000100") ∷ row places.Option values.Text (codes "board")
+    ∷ python (codes "pagesize") (codes "2048") ∷ flag (codes "id") ∷ python (codes "header_version") (codes "0")
+    ∷ part (codes "output") ∷ row places.Letter values.File (codes "o") ∷ part (codes "vendor_boot")
+    ∷ part (codes "vendor_ramdisk") ∷ part (codes "vendor_bootconfig")
+    ∷ refused (codes "ramdisk_type") ∷ refused (codes "ramdisk_name") ∷ refused (codes "vendor_ramdisk_fragment")
+    ∷ refused (codes "gki_signing_algorithm") ∷ refused (codes "gki_signing_key")
+    ∷ refused (codes "gki_signing_signature_args") ∷ refused (codes "gki_signing_avbtool_path")
+    ∷ refused (codes "board_id") ∷ []
+
+abbrev pub tool_rows : Tool → List Shape
+tool_rows tools.Simg2img = row places.Words values.File (codes "IN") ∷ path (codes "OUT") ∷ []
+tool_rows tools.Img2simg =
+    path (codes "IN") ∷ path (codes "OUT") ∷ row places.Word (values.Count 1024) (codes "BLOCK")
+    ∷ row (places.ShortFlag 115) values.NotTaken (codes "s") ∷ []
+tool_rows tools.Mkbootimg = mkbootimg_rows
+tool_rows tool = []
+
+-- ---- what the answers ask for
+
+-- the path of what a word names, where `-` is the file that standard input is
+abbrev pub standard_or : List ℕ → List ℕ
+standard_or word = if bytes_eq word (codes "-") then codes "/proc/self/fd/0" else word
+
+-- `sparse` in blocks of BLOCK bytes, or of 4096
+abbrev pub AsksBlocks : List Answer → Task → Type 0
+AsksBlocks all (tasks.Sparse (sparse.Sparse input output block)) =
+    (input.now ≡ standard_or (word_named (codes "IN") all))
+    × (output.now ≡ word_named (codes "OUT") all) × (block ≡ unwrap_or (number_named (codes "BLOCK") all) 4096)
+AsksBlocks all task = ⊥
+
+abbrev pub AsksTask : Tool → List Answer → Task → Type 0
+AsksTask tools.Simg2img all task = (work_of task ≡ works.Expand) × Asks all task
+AsksTask tools.Img2simg all task = AsksBlocks all task
+AsksTask tool all task = ⊥
+
+-- an order of a tool, without what its words can't ask for
+pub record IsToolOrder (tool : Tool) (order : Order) : Type 0 where
+  pub command : order.command.now ≡ tool_name tool
+  pub synced : order.is_synced ≡ false
+  pub mounted : order.is_mounted_allowed ≡ false
+
+-- one order alone
+pub record AsksAlone (tool : Tool) (all : List Answer) (orders : Orders) : Type 0 where
+  pub first : IsToolOrder tool orders.first
+  pub asks : AsksTask tool all orders.first.task
+  pub second : orders.second ≡ None
+
+-- ---- images
+
+-- an order packs an image
+pub record Packs (all : List Answer) (image : Image) (order : Order) : Type 0 where
+  pub order_is : IsToolOrder tools.Mkbootimg order
+  pub image_is : PacksImage all image order.task
+
+abbrev pub PacksSecond : List Answer → Option Image → Option Order → Type 0
+PacksSecond all None None = Unit {0}
+PacksSecond all (Some image) (Some order) = Packs all image order
+PacksSecond all image order = ⊥
+
+-- the vendor boot image first, and then the boot image; or the boot image alone
+abbrev pub PacksImages : List Answer → Option Image → Option Image → Orders → Type 0
+PacksImages all (Some vendor) boot orders = Packs all vendor orders.first × PacksSecond all boot orders.second
+PacksImages all None (Some boot) orders = Packs all boot orders.first × (orders.second ≡ None)
+PacksImages all None None orders = ⊥
+
+pub record AsksImages (all : List Answer) (orders : Orders) : Type 0 where
+  pub vendor : Option Image
+  pub boot : Option Image
+  pub images : AreImagesOf all vendor boot
+  pub packs : PacksImages all vendor boot orders
+
+-- ---- orders
+
+abbrev pub AsksOrders : Tool → List Answer → Orders → Type 0
+AsksOrders tools.Simg2img all orders = AsksAlone tools.Simg2img all orders
+AsksOrders tools.Img2simg all orders = AsksAlone tools.Img2simg all orders
+AsksOrders tools.Mkbootimg all orders = AsksImages all orders
+AsksOrders tool all orders = ⊥
+
+-- the words ask for them: answers to rows of the tool's table stand among the words, and ask for these
+pub record AreOrdersOf (tool : Tool) (words : List (List ℕ)) (orders : Orders) : Type 0 where
+  pub all : List Answer
+  pub from : AreFrom (tool_rows tool) all
+  pub spelled : AreSpelledIn (tool_rows tool) words (get_or words 0 []) all
+  pub asks : AsksOrders tool all orders
