@@ -7,13 +7,15 @@ use crate::digest::Digest;
 use crate::images::{Maker, WORD};
 use crate::jobs::Size;
 use crate::random::Random;
-use abt_files::{FileSource, ToWrite};
+use abt_files::ToWrite;
 use abt_io::{Meter, Source, Window};
 use abt_pieces::{Piece, PieceFault};
 use abt_runs::SparseRuns;
 use anyhow::{Result, bail};
 use sparse_rules::PiecesOf;
 use std::alloc::Global;
+use std::fs::File;
+use sys_devices::FileSource;
 
 fn next_piece<S: Source>(
     pieces: &mut PiecesOf<SparseRuns>,
@@ -75,7 +77,7 @@ pub fn cut_single(
 
 /// The image of a file at many limits.
 pub fn cut_file(
-    source: &mut FileSource,
+    source: &mut FileSource<File>,
     seed: u64,
     w: &mut Window,
     m: &mut Meter,

@@ -6,11 +6,11 @@ use crate::digest::Digest;
 use crate::flashing::deliver_mixed;
 use crate::raw::write_raw;
 use crate::reading::read_all;
-use abt_files::FileSource;
 use abt_io::{Meter, Window};
 use anyhow::{Context, Result, bail};
 use std::alloc::Global;
 use std::fs::File;
+use sys_devices::FileSource;
 
 /// How large a job is.
 #[derive(Clone, Copy, Drop)]
