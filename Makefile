@@ -47,7 +47,7 @@ MODULE = build/abootimg.wasm
 PAGE = build/abootimg.html
 WEB = $(wildcard web/*.html web/*.css web/*.js) web/build.py
 VERSION = $(shell sed -n 's/^pub const VERSION: &str = "\(.*\)";$$/\1/p' crates/abt_words/src/table.rt)
-TOOLS = simg2img img2simg mkbootimg
+TOOLS = simg2img img2simg simg2simg mkbootimg unpack_bootimg
 EMPTY =
 COMMA = ,
 ARCHIVE = build/abootimg-$(VERSION)-$(MACHINE).tar.gz

@@ -5,7 +5,7 @@
 
 Of docs/claims.tsv, whose head explains its columns:
   - each definition that must be believed is defined in the file of specs/ that is named, and all of them together have fewer
-    than 1300 lines, with the comments above them;
+    than 1450 lines, with the comments above them;
   - each claim's function is public (in a crate that only the program depends on it may be private), its contract has a
     clause of each name, the definitions are there, and so is each must-fail edit, in the function's crate or one below it
     (further edits in its more-edits/); where a function names no edit, words say why; a claim with further edits has one
@@ -28,7 +28,7 @@ import subprocess
 import sys
 
 HERE = os.path.dirname(os.path.dirname(os.path.abspath(__file__)))
-MOST_LINES = 1300
+MOST_LINES = 1450
 MOST_PAGE_LINES = 400
 PAGE, ROWS = "docs/CLAIMS.md", "docs/claims.tsv"
 # How many columns a row has, by its first one. A number there is that of a claim, whose rows may leave columns empty.
@@ -38,7 +38,7 @@ DOCUMENTS = ("README.md", "CONTRIBUTING.md", "CHANGELOG.md", "docs/*.md")
 OF_THE_PROGRAM = (
     "sys_devices", "abt_values", "abt_words", "tool_words", "abt_refusals", "abt_disk", "memory_disk", "abt_report",
     "abt_output", "abt_host", "host_disk", "sparse_rules", "sparse_bodies", "image_bodies", "flash_bodies",
-    "sparse_commands", "boot_rules", "boot_bodies", "info_bodies", "pack_inputs", "pack_outputs", "pack_bodies", "boot_commands",
+    "sparse_commands", "boot_rules", "boot_bodies", "aosp_bodies", "info_bodies", "pack_inputs", "pack_outputs", "pack_bodies", "boot_commands",
     "memory_commands", "program_words", "abootimg",
 )
 
@@ -52,12 +52,32 @@ ENGINE = (
     "abt_placed", "flash_faults", "abt_flash", "abt_verify", "abt_headers", "abt_sections",
 )
 
+# The bodies of commands, whose loops over what is read and written tick too.
+BODIES = ("flash_bodies", "sparse_bodies", "image_bodies", "pack_inputs")
+
+# What asks the system for anything, and is trusted, and how many lines of code that is at most; what prints a report and
+# holds the standard streams; and what is no part of the program.
+SYSTEM = ("crates/sys_file/src/os_file.rt", "crates/os_system/src/os_file.rt", "crates/os_system/src/os_system.rt")
+MOST_TRUSTED = 199
+STREAMS = (
+    "crates/abt_report/src/report.rt", "crates/abt_report/src/standard_output.rt", "crates/abootimg/src/main.rt",
+    "crates/abootimg/src/tool.rt", "crates/abootimg/src/image_id.rt",
+)
+OUTSIDE = ("speed", "abt_c")
+
 # How many loops of a file tick nowhere, and why.
 WITHOUT_A_TICK = {
     "crates/memory_devices/src/pick.rt": 1,  # what a crash leaves, in a device of tests that has no meter
     "crates/abt_files/src/tries.rt": 2,  # a call that a signal interrupted is tried again: no turn, and no call of a device
     "crates/abt_runs/src/words.rt": 2,  # the words of one block, for which `tick_words` ticks
+    "crates/sparse_bodies/src/opening.rt": 1,  # numbers of pieces are compared: nothing is read
+    "crates/image_bodies/src/turns.rt": 1,  # the names of pieces are looked at, before anything is read
+    "crates/pack_inputs/src/own_ramdisks.rt": 1,  # files are opened: so are those of the two below
+    "crates/pack_inputs/src/parts.rt": 1,
+    "crates/pack_inputs/src/ramdisks.rt": 1,
 }
+# Files of which a loop ticks in the one arm that goes on.
+TICK_IN_AN_ARM = ("crates/sparse_bodies/src/laying.rt",)
 
 
 class Checks:
@@ -392,6 +412,20 @@ def check_meters(checks, under):
         checks.that(not made, f"{crate} makes no meter{': ' + ', '.join(made) if made else ''}")
 
 
+def check_system(checks, under):
+    """What asks the system for anything is in the files that are trusted, and they are short."""
+    asks = re.compile(r"^use (?:std::(?:fs|os)\b|std::rt::|std::\{[^}]*\bfs\b|os\b|libc\b)")
+    for crate in (it for it in under if it not in OUTSIDE and not it.endswith("_tests")):
+        for path in sorted(glob.glob(os.path.join(HERE, "crates", crate, "src", "**", "*.rt"), recursive=True)):
+            path = os.path.relpath(path, HERE)
+            if path not in SYSTEM and path not in STREAMS:
+                used = [it for it in lines_of(path) if asks.match(it)]
+                checks.that(not used, f"{path} asks the system for nothing{': ' + used[0] if used else ''}")
+    lines = [it.strip() for path in SYSTEM for it in lines_of(path)]
+    code = [it for it in lines if it and not re.match(r"//|use |ghost |#", it)]
+    checks.that(len(code) <= MOST_TRUSTED, f"{len(code)} lines of code are trusted of the system, at most {MOST_TRUSTED}")
+
+
 def loops_of(path):
     """Of each loop of a file the line number, and the statements of its body that stand at the body's own depth.
 
@@ -411,11 +445,13 @@ def loops_of(path):
 
 def check_ticks(checks):
     """A loop's tick is its first statement; or its last, where no pass that goes on leaves it out."""
-    for crate in ENGINE:
+    for crate in ENGINE + BODIES:
         for path in sorted(glob.glob(os.path.join(HERE, "crates", crate, "src", "**", "*.rt"), recursive=True)):
             path = os.path.relpath(path, HERE)
             without, loops = [], list(loops_of(path))
             for number, own, body in loops:
+                if path in TICK_IN_AN_ARM and [it.strip() for it in body].count("m.tick();") == 1:
+                    continue
                 goes_on = any(re.search(r"\bcontinue\b", it) for it in body)
                 if own[:1] != ["m.tick();"] and (own[-1:] != ["m.tick();"] or goes_on):
                     without.append(number)
@@ -464,6 +500,7 @@ def main():
     check_public(checks, rows["claim"], rows["unclaimed"], under)
     check_rules(checks, [(cells, number) for head, cells, number in tables("docs/ARCHITECTURE.md") if head[0] == "rule"])
     check_meters(checks, under)
+    check_system(checks, under)
     check_ticks(checks)
     check_lemmas(checks, under)
     check_documents(checks, under)

@@ -24,18 +24,17 @@ from repository import HERE, crate_lines
 
 # The most functions of a crate, and those that have more; docs/DECISIONS.md says why these are not taken apart.
 FUNCTIONS = 100
-MORE_FUNCTIONS = {"abt_sections": 107}
+MORE_FUNCTIONS = {"abt_sections": 107, "abt_words": 104, "aosp_texts": 106, "tool_words": 101}
 # How many functions have contracts of more clauses than this.
 LONG_CONTRACTS = {15: 3, 20: 1}
 # How many clauses are, to the letter, one that stands before, in any function of any crate.
-REPEATED_CLAUSES = 553
+REPEATED_CLAUSES = 602
 # The names that two files define, each with what it says in the one and in the other.
 NAMES_DEFINED_TWICE = {
     "Begins": "of a spool's and of a file's bytes, of which they are a front; of a text, which has grown by one",
     "Header": "of a sparse image (`sparse_header_t`); of a boot image of either kind",
     "LaysBlocks": "a law of definitions; what a delivery leaves on a partition",
     "Leaves": "what an output holds that was broken off; the phase that an answer leaves",
-    "Stands": "bytes on a partition; an answer among the words",
     "expansion": "of blocks; of words `@FILE`",
     "laid": "cells over zeros; parts one after another, each padded",
     "left_of": "of a chunk; of a byte behind a crash; of words that were met",
@@ -44,7 +43,7 @@ NAMES_DEFINED_TWICE = {
     "with_part": "a window with bytes in it; a placer with blocks taken",
 }
 # The longest line of specs/ and proofs/, and the files from before that have longer ones: each with its checksum.
-COLUMNS, LONG_LISTED, LONG_FILES = 120, os.path.join("tools", "long_lines.txt"), 361
+COLUMNS, LONG_LISTED, LONG_FILES = 120, os.path.join("tools", "long_lines.txt"), 349
 
 # The crates of each family, and how many hundreds of lines of src/, specs/ and proofs/ they have at most.
 FAMILIES = {
@@ -52,13 +51,13 @@ FAMILIES = {
     "definitions and reading": "abt_sparse abt_chunks abt_runs",
     "writing": "abt_pieces abt_sparsify abt_placed",
     "flashing and verifying": "flash_faults abt_flash abt_verify",
-    "boot images": "abt_headers abt_sections boot_fields boot_texts boot_findings",
+    "boot images": "abt_headers abt_sections boot_fields boot_texts aosp_texts boot_findings",
     "system":
-        "abt_text abt_refusals abt_disk abt_report abt_output numbered_names host_files abt_host host_disk",
+        "abt_text abt_refusals abt_disk abt_report abt_output numbered_names os_system host_files abt_host host_disk",
     "words": "abt_values abt_words tool_words program_words abootimg",
     "commands over sparse images": "sparse_texts sparse_rules flash_bodies sparse_bodies image_bodies sparse_commands",
     "commands over boot images":
-        "boot_rules boot_bodies info_bodies pack_inputs pack_outputs pack_bodies boot_commands",
+        "boot_rules boot_bodies aosp_bodies info_bodies pack_inputs pack_outputs pack_bodies boot_commands",
     "laws": "sparse_laws section_laws abt_laws boot_laws pack_laws program_laws",
     "memory": "memory_disk memory_commands",
     "for programs in C": "abt_c",
@@ -67,17 +66,17 @@ FAMILIES = {
         "spool_tests disk_tests speed",
 }
 LINES = {
-    "devices": 94,
+    "devices": 98,
     "definitions and reading": 157,
     "writing": 165,
     "flashing and verifying": 119,
-    "boot images": 185,
-    "system": 76,
-    "words": 60,
-    "commands over sparse images": 124,
-    "commands over boot images": 123,
+    "boot images": 212,
+    "system": 82,
+    "words": 94,
+    "commands over sparse images": 131,
+    "commands over boot images": 135,
     "laws": 58,
-    "memory": 33,
+    "memory": 28,
     "for programs in C": 25,
     "tests and benchmark": 104,
 }

@@ -1,9 +1,10 @@
 #!/usr/bin/env python3
-"""make_completions.py [--check | --print SHELL]: writes crates/abt_words/src/completion_texts.rt, what `abootimg completions SHELL`
-prints, from the table of the command line, crates/abt_words/src/table.rt.
+"""make_completions.py [--check | --print SHELL | --tools]: writes crates/abt_words/src/completion_texts.rt, what
+`abootimg completions SHELL` prints, from the table of the command line, crates/abt_words/src/table.rt.
 
 With --check nothing is written: it fails where that file is stale, or where docs/COMMANDS.md leaves out a command, or
-a word or an option of one. Its last line is then 'N passed, M failed'. With --print the text for one shell is printed.
+a word or an option of one. Its last line is then 'N passed, M failed'. With --print the text for one shell is printed,
+and with --tools the names of AOSP's tools whose words the program reads.
 """
 import re
 import sys
@@ -99,7 +100,8 @@ def tools():
     """The names behind `as`, each followed by a blank but the last: those of the tools whose words are read."""
     text = TOOLS.read_text()
     names = dict(re.findall(r'Tool::(\w+) => "(\w+)",', text))
-    return " ".join(names[it] for it in re.findall(r"Tool::(\w+)", re.search(r"^.*=> None,$", text, re.M)[0]))
+    refused = re.findall(r"Tool::(\w+) => Some\(", text)
+    return " ".join(names[it] for it in names if it not in refused)
 
 
 # ---- the texts
@@ -297,6 +299,9 @@ def main():
     if sys.argv[1:2] == ["--print"]:
         shells = {"bash": bash, "zsh": zsh, "fish": fish}
         print(shells[sys.argv[2]](commands, before), end="")
+        return 0
+    if sys.argv[1:] == ["--tools"]:
+        print(tools())
         return 0
     TEXTS.write_text(texts_of(commands, before))
     return 0

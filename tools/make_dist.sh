@@ -1,7 +1,8 @@
 #!/usr/bin/env bash
 # Packs what was built into an archive: the program, its manual page and completions, the C library with its header and a file
-# for pkg-config, the page for a browser, and the licence. They stand below one folder as they do below PREFIX, so the archive
-# is unpacked anywhere, or with --strip-components=1 below /usr/local.
+# for pkg-config, the page for a browser, a script that makes the links with the names of AOSP's tools, and the licence. They
+# stand below one folder as they do below PREFIX, so the archive is unpacked anywhere, or with --strip-components=1 below
+# /usr/local.
 #
 #   tools/make_dist.sh PROGRAM LIBRARY PAGE OUT      OUT is a path whose name is FOLDER.tar.gz
 set -eu
@@ -16,6 +17,13 @@ top=$room/$name
 
 install -D -m 755 "$program" "$top/bin/abootimg"
 mkdir -p "$top/share/man/man1" "$top/lib/pkgconfig"
+{
+    echo '#!/bin/sh'
+    echo '# Makes links to abootimg, in its folder, with the names of the tools of AOSP that it stands in for.'
+    echo 'cd "$(dirname "$0")" || exit 1'
+    echo "for tool in $("$here/tools/make_completions.py" --tools); do ln -sf abootimg \"\$tool\" || exit 1; done"
+} >"$top/bin/make_links"
+chmod 755 "$top/bin/make_links"
 "$here/tools/make_man.py" "$here/docs/COMMANDS.md" >"$top/share/man/man1/abootimg.1"
 completions() { mkdir -p "$(dirname "$top/share/$2")" && "$here/tools/make_completions.py" --print "$1" >"$top/share/$2"; }
 completions bash bash-completion/completions/abootimg

@@ -119,6 +119,10 @@ def call_of_simg2simg(maker):
         peculiar.add("a MAX without room for a block")
     elif number < 56:
         peculiar.add("a MAX below 56")
+    if not re.fullmatch("[0-9]+", text):
+        peculiar.add("a MAX that is not digits alone")
+    elif int(text) >= 2**32:
+        peculiar.add("a MAX of 4 GiB or more")
     return Call("simg2simg", words, files, None, {"a"}, peculiar)
 
 
@@ -191,18 +195,10 @@ def main_units(maker, version, files, outputs):
     return units + ([["--id"]] if chance_of(maker, 40) else [])
 
 
-def not_there(words, version, outputs):
+def not_there(words):
     """What ours has not of mkbootimg's words."""
     found = set()
-    if any(re.match("--(vendor_ramdisk_f|ramdisk_[tn]|board_id)", it) for it in words):
-        found.add("a fragment")
-    if "--id" in words and version < 3 and ("output" in [name for name, _ in outputs]):
-        found.add("--id")
-    if not outputs:
-        found.add("no output")
-    if any(re.match("-o.", it) for it in words):
-        found.add("-oFILE")
-    if any(re.fullmatch(r"(--\w+=)?(\s+\S*|\S*\s+|[+-][0-9].*)", it) and re.search("[0-9]", it) for it in words):
+    if any(re.fullmatch(r"(--\w+=)?(\s+\S*\s*|\S*\s+|[+-][0-9].*)", it) and re.search("[0-9]", it) for it in words):
         found.add("a sign or a blank in a number")
     return found
 
@@ -242,7 +238,8 @@ def call_of_mkbootimg(maker, has_fourth=True):
     if chance_of(maker, 3) and "kernel" in words:
         words[words.index("kernel")], stdin = "-", "kernel"
         peculiar.add("standard input")
-    if names & set(words) & set(FILES) and len([it for it in words if it in names]) > 1:
+    values = [it.rpartition("=")[2] for it in words]
+    if names & set(values) & set(FILES) and len([it for it in values if it in names]) > 1:
         peculiar.add("an output that is an input")
     if "-h" in words:
         peculiar.add("help")
@@ -250,11 +247,12 @@ def call_of_mkbootimg(maker, has_fourth=True):
         peculiar.add("an empty recovery DTBO")
     if any(len(it.encode()) > 511 for it in words):
         peculiar.add("a long command line")
+    options = [it.partition("=")[0] for it in words if it.startswith("--")]
+    if len(options) > len(set(options)):
+        peculiar.add("a value that another replaces")
     if chance_of(maker, 20):
         files["boot.img"] = maker.data(maker.one(10, 100_000))
-    peculiar |= not_there(words, version, outputs) | taken_here(words, version, outputs)
-    if version == 2 and not files["dtb"]:
-        peculiar.add("an empty dtb")
+    peculiar |= not_there(words) | taken_here(words, version, outputs)
     return Call("mkbootimg", words, files, stdin, set(files) - names, peculiar)
 
 

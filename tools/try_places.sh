@@ -41,6 +41,7 @@ script page "$here/web/test_page.py" abootimg.html "$program"
 # What make dist leaves, unpacked elsewhere.
 library=$here/build/libabootimg.a
 listed='bin/abootimg
+bin/make_links
 include/abootimg.h
 lib/libabootimg.a
 lib/pkgconfig/abootimg.pc
@@ -57,6 +58,11 @@ expands_there() {
     else/where/abootimg-it/bin/abootimg expand "$here/examples/libsparse.simg" raw >out 2>err &&
         cmp -s raw "$here/examples/libsparse.raw"
 }
+makes_links() {
+    else/where/abootimg-it/bin/make_links 2>err && rm -f raw &&
+        else/where/abootimg-it/bin/simg2img "$here/examples/libsparse.simg" raw >out 2>err &&
+        cmp -s raw "$here/examples/libsparse.raw"
+}
 completes() { "$program" completions bash | cmp -s - else/where/abootimg-it/share/bash-completion/completions/abootimg; }
 links() {
     local words
@@ -69,6 +75,7 @@ if [ -e "$library" ]; then
     try "  and unpacked elsewhere" unpacked
     try "  it has all that it shall have, and nothing else" has_all
     try "  its program expands an image" expands_there
+    try "  its script makes the links, and a link is the tool" makes_links
     try "  its completions are the program's" completes
     lacks "a program in C with its library" cc pkg-config || try "  a program in C is built with its library" links
 else

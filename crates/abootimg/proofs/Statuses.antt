@@ -7,6 +7,8 @@ use Rattle.abt_disk.specs.World.{World, Held}
 use Rattle.abt_report.specs.declared.report.Report.{Report}
 use Rattle.abt_report.specs.declared.progress.Progress.{Progress}
 use Rattle.abt_host.specs.Answering.{PrintsNothing}
+use Rattle.sparse_rules.specs.PieceNames.{naming}
+use Rattle.sparse_commands.proofs.Told.{cuts_as}
 use Rattle.sparse_commands.specs.Commands.{DoesTask, ExpandsImages, SparesExpanded, SparesFiles, State, state}
 
 not_zero : (n : ℕ) (wrong : Bool) → n ≡ cond wrong 2 1 → n ≡ 0 → ⊥
@@ -21,25 +23,28 @@ status_zero (Err e) n P wrong refused zero_is is = absurd (not_zero n (wrong e) 
 
 -- ---- how far it is has no part in what is done, nor in what stays
 
-expands_as : (words : List (List ℕ)) (output : List ℕ) (a : State) (w : World) (h : Held) (r : Report) (p : Progress)
-    → ExpandsImages words output a (state w h r) → ExpandsImages words output a (state w h (record r { progress = p }))
-expands_as [] output a w h r p is = is
-expands_as (x ∷ []) output a w h r p is = is
-expands_as (x ∷ (y ∷ rest)) output a w h r p is = is
+expands_as : (on : List ℕ → Bool) (words : List (List ℕ)) (output : List ℕ) (a : State) (w : World) (h : Held)
+    (r : Report) (p : Progress)
+    → ExpandsImages on words output a (state w h r)
+    → ExpandsImages on words output a (state w h (record r { progress = p }))
+expands_as on [] output a w h r p is = is
+expands_as on (x ∷ []) output a w h r p is = is
+expands_as on (x ∷ (y ∷ rest)) output a w h r p is = is
 
-does_as : (task : SparseTask) (a : State) (w : World) (h : Held) (r : Report) (p : Progress)
-    → DoesTask task a (state w h r) → DoesTask task a (state w h (record r { progress = p }))
-does_as (tasks.Expand inputs output) a w h r p is =
-    expands_as (map (λ word. word.now) inputs.items) output.now a w h r p is
-does_as (tasks.List input) a w h r p is = is
-does_as (tasks.Sparse input output block) a w h r p is = is
-does_as (tasks.Cut input limit prefix raw) a w h r p is = is
-does_as (tasks.Flash input partition None None) a w h r p is = is
-does_as (tasks.Flash input partition (Some size) None) a w h r p is = is
-does_as (tasks.Flash input partition None (Some pieces)) a w h r p is = is
-does_as (tasks.Flash input partition (Some size) (Some pieces)) a w h r p is = is
-does_as (tasks.Verify input partition None) a w h r p is = is
-does_as (tasks.Verify input partition (Some size)) a w h r p is = is
+does_as : (on : List ℕ → Bool) (task : SparseTask) (a : State) (w : World) (h : Held) (r : Report) (p : Progress)
+    → DoesTask on task a (state w h r) → DoesTask on task a (state w h (record r { progress = p }))
+does_as on (tasks.Expand inputs output) a w h r p is =
+    expands_as on (map (λ word. word.now) inputs.items) output.now a w h r p is
+does_as on (tasks.List input) a w h r p is = is
+does_as on (tasks.Sparse input output block) a w h r p is = is
+does_as on (tasks.Cut input limit prefix from_zero raw) a w h r p is =
+    cuts_as input.now limit (naming prefix.now from_zero) raw a w h r p is
+does_as on (tasks.Flash input partition None None) a w h r p is = is
+does_as on (tasks.Flash input partition (Some size) None) a w h r p is = is
+does_as on (tasks.Flash input partition None (Some pieces)) a w h r p is = is
+does_as on (tasks.Flash input partition (Some size) (Some pieces)) a w h r p is = is
+does_as on (tasks.Verify input partition None) a w h r p is = is
+does_as on (tasks.Verify input partition (Some size)) a w h r p is = is
 
 spares_expanded_as : (words : List (List ℕ)) (output : List ℕ) (a : State) (w : World) (h : Held) (r r' : Report)
     → SparesExpanded words output a (state w h r) → SparesExpanded words output a (state w h r')
@@ -53,7 +58,7 @@ spares_as (tasks.Expand inputs output) a w h r r' is =
     spares_expanded_as (map (λ word. word.now) inputs.items) output.now a w h r r' is
 spares_as (tasks.List input) a w h r r' is = is
 spares_as (tasks.Sparse input output block) a w h r r' is = is
-spares_as (tasks.Cut input limit prefix raw) a w h r r' is = is
+spares_as (tasks.Cut input limit prefix from_zero raw) a w h r r' is = is
 spares_as (tasks.Flash input partition raw None) a w h r r' is = is
 spares_as (tasks.Flash input partition raw (Some pieces)) a w h r r' is = is
 spares_as (tasks.Verify input partition raw) a w h r r' is = is
@@ -63,8 +68,10 @@ both_told (Ok x) P Q R join p q = join p q
 both_told (Err e) P Q R join p q = tt
 
 -- the answer behind it prints nothing
-pub told_done : {X E : Type 0} (result : Result X E) (task : SparseTask) (a : State) (w : World) (h : Held)
-    (r r' : Report) → OnOk result (DoesTask task a (state w h r)) → OnOk result (PrintsNothing r r')
-    → OnOk result (DoesTask task a (state w h r'))
-told_done result task a w h r r' done quiet = both_told result _ _ _
-    (λ is same. subst (λ q. DoesTask task a (state w h q)) (sym same) (does_as task a w h r r'.progress is)) done quiet
+pub told_done : {X E : Type 0} (on : List ℕ → Bool) (result : Result X E) (task : SparseTask) (a : State) (w : World)
+    (h : Held)
+    (r r' : Report) → OnOk result (DoesTask on task a (state w h r)) → OnOk result (PrintsNothing r r')
+    → OnOk result (DoesTask on task a (state w h r'))
+told_done on result task a w h r r' done quiet = both_told result _ _ _
+    (λ is same. subst (λ q. DoesTask on task a (state w h q)) (sym same)
+    (does_as on task a w h r r'.progress is)) done quiet

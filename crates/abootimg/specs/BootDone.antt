@@ -1,13 +1,14 @@
 -- What status 0 tells of a command over boot images.
+use Rattle.std.specs.Prelude.{ℕ, List, Bool}
 use Rattle.abt_disk.specs.World.{World, Held}
 use Rattle.abt_report.specs.declared.report.Report.{Report}
 use Rattle.abt_host.specs.Answering.{PrintsNothing}
 use Rattle.boot_commands.specs.Commands.{DoesKind}
 use Rattle.boot_commands.specs.declared.command.Kind.{Kind}
 
--- it was done, and nothing was printed behind what it told
-pub record BootDone (kind : Kind) (world : World) (held : Held) (report : Report) (world' : World) (held' : Held)
-    (report' : Report) : Type 0 where
+-- it was done, where these outputs are where standard output goes, and nothing was printed behind what it told
+pub record BootDone (on_output : List ℕ → Bool) (kind : Kind) (world : World) (held : Held) (report : Report)
+    (world' : World) (held' : Held) (report' : Report) : Type 0 where
   pub told : Report
-  pub does : DoesKind kind world held report world' held' told
+  pub does : DoesKind on_output kind world held report world' held' told
   pub behind : PrintsNothing told report'

@@ -1,1 +1,2 @@
 pub mod BootDone
+pub mod OrderDone

@@ -25,8 +25,8 @@ pub fn do_boot<D: Disk>(
     requires first { IsTrue D.tells → IsReading (D.held disk.old) }
     ensures status { result ≤ 2 }
     // the status is 0 only where it is done, and what was printed tells of it
-    ensures done { IsTrue D.tells → result ≡ 0 → BootDone command.now.kind (D.world disk.old) (D.held disk.old)
-        report.old (D.world disk.new) (D.held disk.new) report.new }
+    ensures done { IsTrue D.tells → result ≡ 0 → BootDone D.on_output command.now.kind (D.world disk.old)
+        (D.held disk.old) report.old (D.world disk.new) (D.held disk.new) report.new }
     // and where nothing failed
     ensures clean { IsTrue D.tells → result ≡ 0 → HasNotFailed (D.held disk.old) (D.held disk.new) }
     // whatever the status, what it reads holds what it held, and none has changed but what it is to write

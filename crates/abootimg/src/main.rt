@@ -4,16 +4,22 @@
 //! |---|---|
 //! | `main.rt` | the standard streams, the window, and the words |
 //! | `running.rt` | what the words ask for, and the exit status |
+//! | `beginning.rt` | what is said of all outputs, before it is done |
 //! | `tool.rt` | the same under the name of one of AOSP's tools |
+//! | `image_id.rt` | printing the id of a boot image |
+//! | `unpack_image.rt` | unpacking an image as unpack_bootimg does |
 //! | `sparse_task.rt`, `boot_task.rt` | doing it, over any disk |
 //! | `outcome.rt` | telling what a command answered |
 #![tactic(auto)]
 
+mod beginning;
 mod boot_task;
+mod image_id;
 mod outcome;
 mod running;
 mod sparse_task;
 mod tool;
+mod unpack_image;
 
 use abt_host::{REFUSED, USAGE};
 use abt_io::{Meter, Window};

@@ -1,7 +1,9 @@
 //! Doing what the words ask for, and the exit status.
 
-ghost use Rattle.std.specs.Prelude.{◌≤◌};
+ghost use Rattle.std.specs.Prelude.{◌≡◌, ◌≤◌, IsTrue};
+ghost use Rattle.abootimg.specs.OrderDone.{IsReadyForOrder, OrderDone};
 
+use crate::beginning::{Beginning, begin};
 use crate::boot_task::do_boot;
 use crate::sparse_task::do_sparse;
 use abt_host::{Reading, Telling, answer};
@@ -12,6 +14,7 @@ use abt_values::expanded;
 use abt_words::{Order, Task, WordsFault, order_of};
 use boot_commands::BootCommand;
 use host_disk::Host;
+use os_system::OsSystem;
 use program_words::{print, read_word_files, refused, wrong_words};
 use sparse_rules::SparseCommandFault;
 use sparse_texts::demo;
@@ -37,7 +40,7 @@ pub fn run(
     let alloc = rt.alloc();
     let is_terminal = rt.stderr().is_terminal();
     let how = telling(is_terminal || ask_for_more(words));
-    let mut disk = Host::new(rt, Reading::new(rt));
+    let mut disk = Host::new(Reading::new(OsSystem { rt }));
     let texts = match read_word_files(&mut disk, words, alloc) {
         Ok(texts) => texts,
         Err(refusal) => return refused(rt, refusal, how, report),
@@ -104,23 +107,23 @@ pub fn demonstrate(rt: HostRuntime, report: &mut Report, w: &mut Window, m: &mut
 
 /// Does what an order asks for, and answers the exit status.
 #[inline(never)]
-pub(crate) fn carry_out(
+#[tactic(auto, using(crate::proofs::Orders::does_from, crate::proofs::Orders::boot_from))]
+pub(crate) fn carry_out<D: Beginning>(
     rt: HostRuntime,
     order: Order<'_>,
-    disk: &mut Host<HostRuntime>,
+    disk: &mut D,
     how: Telling,
     report: &mut Report,
     w: &mut Window,
     m: &mut Meter,
 ) -> u8
-    ensures { result ≤ 2 }
+    requires ready { IsTrue D.tells → IsReadyForOrder (D.held disk.old) }
+    ensures status { result ≤ 2 }
+    // the status is 0 only where all is done that the order says, and its outputs are synced where it says so
+    ensures done { IsTrue D.tells → result ≡ 0 → OrderDone D.on_output order.entry (D.world disk.old)
+        (D.held disk.old) report.old (D.world disk.new) (D.held disk.new) report.new }
 {
-    if order.is_synced {
-        disk.sync_outputs();
-    }
-    if order.is_mounted_allowed {
-        disk.allow_mounted();
-    }
+    begin(disk, order.is_synced, order.is_mounted_allowed);
     match order.task {
         Task::Sparse(task) => do_sparse(disk, task, how, rt, report, w, m),
         Task::Boot(task) => {

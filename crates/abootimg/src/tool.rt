@@ -1,6 +1,8 @@
 //! Doing what the words of one of AOSP's tools ask for, and the exit status.
 
+use crate::image_id::print_id;
 use crate::running::carry_out;
+use crate::unpack_image::unpack_image;
 use abt_disk::Disk;
 use abt_files::ToWrite;
 use abt_host::{DONE, Reading, Telling, USAGE};
@@ -8,19 +10,22 @@ use abt_io::{Meter, Window};
 use abt_refusals::{HostRefusal, Place};
 use abt_report::{Report, StandardOutput};
 use abt_values::Value;
-use abt_words::{BootTask, Task, WordsFault};
+use abt_words::{Answer, BootTask, Order, Task, WordsFault};
 use host_disk::Host;
+use os_system::OsSystem;
 use program_words::{refused, wrong_words};
 use std::alloc::Global;
 use std::fs;
 use std::fs::OpenOptions;
 use std::io::IsTerminal;
-use tool_words::{Orders, Tool, orders_of, texts_of};
+use tool_words::{Orders, Parted, Tool, orders_of, part_words, texts_of};
 
 /// Does what the words of a tool ask for, of which the first calls it, and answers the exit status.
 ///
 /// A tool prints nothing that it isn't asked for. The text of a fault goes to standard error, behind the tool's name. No
-/// word stands for the lines of a file.
+/// word stands for the lines of a file. What this takes of the stack is not taken of what the program does under its own
+/// name.
+#[inline(never)]
 pub fn run_tool(
     rt: HostRuntime,
     tool: Tool,
@@ -33,11 +38,11 @@ pub fn run_tool(
         program: tool.name(),
         is_verbose: rt.stderr().is_terminal(),
     };
-    let status = match texts_of(rt.alloc(), tool, words) {
-        Ok(texts) => match ordered(rt.alloc(), tool, words, texts.as_slice()) {
-            Ok(orders) => do_orders(rt, orders, how, report, w, m),
-            Err(fault) => wrong_words(rt, Some(tool), words, &fault, how, report),
-        },
+    let status = match parted_for(rt.alloc(), tool, words) {
+        Ok(parted) => {
+            let words = parted.others.as_slice();
+            do_parted(rt, tool, words, parted.said.as_slice(), how, report, w, m)
+        }
         Err(fault) => wrong_words(rt, Some(tool), words, &fault, how, report),
     };
     if status == USAGE {
@@ -47,18 +52,51 @@ pub fn run_tool(
     }
 }
 
+// The words apart: those of mkbootimg that say something of ramdisk fragments, and the others.
+fn parted_for<'a>(
+    alloc: Global,
+    tool: Tool,
+    words: &'a [String],
+) -> Result<Parted<'a>, WordsFault> {
+    match tool {
+        Tool::Mkbootimg => part_words(alloc, words),
+        _ => Ok(Parted::of_others(alloc, words)?),
+    }
+}
+
+// Does what these words ask for.
+fn do_parted<'a>(
+    rt: HostRuntime,
+    tool: Tool,
+    words: &'a [&'a str],
+    said: &'a [Answer<'a>],
+    how: Telling,
+    report: &mut Report,
+    w: &mut Window,
+    m: &mut Meter,
+) -> u8 {
+    match texts_of(rt.alloc(), tool, words, said) {
+        Ok(texts) => match ordered(rt.alloc(), tool, &*words, &*said, texts.as_slice()) {
+            Ok(orders) => do_orders(rt, orders, how, report, w, m),
+            Err(fault) => wrong_words(rt, Some(tool), words, &fault, how, report),
+        },
+        Err(fault) => wrong_words(rt, Some(tool), words, &fault, how, report),
+    }
+}
+
 // The orders that the words tell. What reading them takes of the stack is free again while they are carried out.
 #[inline(never)]
 fn ordered<'a>(
     alloc: Global,
     tool: Tool,
-    words: &'a [String],
+    words: &'a [&'a str],
+    said: &'a [Answer<'a>],
     texts: &'a [String],
 ) -> Result<Orders<'a>, WordsFault> {
-    orders_of(alloc, tool, words, texts)
+    orders_of(alloc, tool, words, said, texts)
 }
 
-// Does the first order, and the second where the first is done.
+// Does the first order, and the second where the first is done. Then an id is printed, where that is asked for.
 fn do_orders(
     rt: HostRuntime,
     orders: Orders<'_>,
@@ -67,28 +105,106 @@ fn do_orders(
     w: &mut Window,
     m: &mut Meter,
 ) -> u8 {
-    let Orders { first, second } = orders;
-    let mut disk = Host::new(rt, Reading::new(rt));
+    let Orders {
+        first,
+        second,
+        id_of,
+        unpack,
+    } = orders;
+    if let Some(image) = unpack {
+        return unpack_image(rt, image, how, report, w, m);
+    }
+    let mut disk = Host::new(Reading::new(OsSystem { rt }));
+    if let Some(instead) = refusal_of_orders(rt, &first, &second) {
+        let words: [&str; 0] = [];
+        return wrong_words(
+            rt,
+            None,
+            &words,
+            &WordsFault::NotTaken(instead),
+            how,
+            report,
+        );
+    }
     silence(rt, report);
     if let Some(order) = &second
         && let Err(refusal) = spare_inputs(rt, &mut disk, &order.task)
     {
         return refused(rt, refusal, how, report);
     }
-    let status = carry_out(rt, first, &mut disk, how, report, w, m);
-    if status != DONE {
-        return status;
+    if let Some(order) = first {
+        let status = carry_out(rt, order, &mut disk, how, report, w, m);
+        if status != DONE {
+            return status;
+        }
     }
-    match second {
-        Some(order) => carry_out(rt, order, &mut disk, how, report, w, m),
+    if let Some(order) = second {
+        let status = carry_out(rt, order, &mut disk, how, report, w, m);
+        if status != DONE {
+            return status;
+        }
+    }
+    match id_of {
+        Some(path) => print_id(rt, path, how),
         None => DONE,
+    }
+}
+
+// Why images are not made of their files.
+fn refusal_of_orders(
+    rt: HostRuntime,
+    first: &Option<Order<'_>>,
+    second: &Option<Order<'_>>,
+) -> Option<&'static str> {
+    if let Some(order) = first
+        && let Some(instead) = refusal_of_parts(rt, &order.task)
+    {
+        return Some(instead);
+    }
+    if let Some(order) = second {
+        return refusal_of_parts(rt, &order.task);
+    }
+    None
+}
+
+// Why an image is not made of its files: mkbootimg refuses one of them that is empty, or gives it a place all the same.
+fn refusal_of_parts(rt: HostRuntime, task: &Task<'_>) -> Option<&'static str> {
+    let Task::Boot(BootTask::Pack(order)) = task else {
+        return None;
+    };
+    for given in order.given.as_slice() {
+        if let Some(instead) = refusal_of_empty(given.row.name, order.version)
+            && let Some(word) = given.word
+            && is_empty_file(rt, word)
+        {
+            return Some(instead);
+        }
+    }
+    None
+}
+
+// What is told of an empty file of this option, where it is refused.
+fn refusal_of_empty(name: &str, version: u32) -> Option<&'static str> {
+    if name == "recovery-dtbo" {
+        return Some("the recovery DTBO is not empty: leave it out");
+    }
+    if name == "dtb" && version == 2 {
+        return Some("the device tree blob of header version 2 is not empty");
+    }
+    None
+}
+
+fn is_empty_file(rt: HostRuntime, path: &str) -> bool {
+    match fs::metadata(&rt, path) {
+        Ok(found) => found.is_file() && found.len() == 0,
+        Err(_) => false,
     }
 }
 
 // No output is a file that a later order reads: each such file is opened once before the first order is carried out.
 fn spare_inputs<'a>(
     rt: HostRuntime,
-    disk: &mut Host<HostRuntime>,
+    disk: &mut Host<OsSystem>,
     task: &Task<'a>,
 ) -> Result<(), HostRefusal<'a>> {
     let Task::Boot(BootTask::Pack(order)) = task else {

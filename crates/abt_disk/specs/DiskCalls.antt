@@ -73,12 +73,14 @@ pub record CreatesOutput {A F : Type 0} (tells : Bool) (r : Result A F) (path : 
   pub only : IsTrue tells → OnErr r (OnlyAt h.read path before after)
   pub begun : IsTrue tells → OnErr r (KeepsBegun h.begun before after)
 
--- the output that is open is brought to its end, and holds these bytes, or the call is refused
-pub record FinishesOutput {A F : Type 0} (tells : Bool) (r : Result A F) (bytes : List ℕ) (failures : ℕ) (h h' : Held)
-    (before after : World) : Type 0 where
+-- the output that is open is brought to its end, and holds these bytes, or the call is refused; it is answered whether
+-- that is where standard output goes
+pub record FinishesOutput {F : Type 0} (tells : Bool) (r : Result Bool F) (is_on_output : Bool) (bytes : List ℕ)
+    (failures : ℕ) (h h' : Held) (before after : World) : Type 0 where
   pub ended : IsTrue tells → OnOk r (Ends h.output bytes before after)
   pub closed : IsTrue tells → h' ≡ worlds.ended (is_ok r) (unless (is_ok r) + failures) h
   pub rest : IsTrue tells → SparesRest h.output before after
+  pub stream : IsTrue tells → IfOk r (λ is. is ≡ is_on_output)
 
 -- the output that is open is let go
 pub record LetsGo (tells : Bool) (failures : ℕ) (h h' : Held) (before after : World) : Type 0 where

@@ -3,6 +3,7 @@
 ghost use Rattle.std.specs.Prelude.{◌≡◌, IsTrue, IsOk, IfOk, IfErr, Ok, is_ok};
 ghost use Rattle.abt_disk.specs.InPlace.{ClosesPart, IsAsLong};
 ghost use Rattle.abt_disk.specs.World.{Ends, SparesRest};
+ghost use Rattle.abt_refusals.specs.Paths.{path_of};
 ghost use Rattle.abt_refusals.specs.declared.refusal.HostFault.{HostFault};
 
 use crate::Disk;
@@ -27,6 +28,7 @@ pub fn closed<'a, D: Disk, T: Drop, F: Told + From<HostFault> + Drop>(
     ensures closed { IsTrue D.tells → ClosesPart (is_ok answer) (is_ok result) (D.Part.past part)
         (D.Part.put_faults part) (D.held disk.old) (D.held disk.new) }
     ensures rest { IsTrue D.tells → SparesRest (D.held disk.old).part (D.world disk.old) (D.world disk.new) }
+    ensures stream { IsTrue D.tells → IfOk result (λ end. end.1 ≡ D.on_output (path_of place.entry)) }
 {
     let end = disk.close(part, place);
     match answer {

@@ -65,6 +65,9 @@ pub trait Disk {
     /// Which paths lead to regular files, where an image can be written over.
     ghost is_over: { List ℕ → Bool };
 
+    /// Which paths lead to where standard output goes.
+    ghost on_output: { List ℕ → Bool };
+
     /// Opens what is read forward. `-` is standard input.
     fn input<'a>(&mut self, place: Place<'a>) -> Result<Self::From, HostRefusal<'a>>
         requires first { IsTrue tells → (held self.old).begun ≡ [] }
@@ -138,7 +141,8 @@ pub trait Disk {
         ensures paths { IsTrue tells → (world self.new).at ≡ (world self.old).at }
         ensures closed { IsTrue tells → held self.new ≡ failing (unless (is_ok result)) (closed_part
             (Self.Part.past part) (Self.Part.put_faults part) (held self.old)) }
-        ensures rest { IsTrue tells → SparesRest (held self.old).part (world self.old) (world self.new) };
+        ensures rest { IsTrue tells → SparesRest (held self.old).part (world self.old) (world self.new) }
+        ensures stream { IsTrue tells → IfOk result (λ is. is ≡ on_output (path_of place.entry)) };
 
     /// Creates or empties a regular file, and makes it so many zeros, to be written in place. Nothing else will do.
     fn zeros<'a>(&mut self, place: Place<'a>, bytes: u64) -> Result<Self::Part, HostRefusal<'a>>
@@ -232,8 +236,8 @@ pub trait Disk {
     /// Brings the output that is open to its end: all that it took is in its file, and synced where that is wanted.
     /// Answers whether it is where standard output goes.
     fn finish<'a>(&mut self, onto: Self::Onto, place: Place<'a>) -> Result<bool, HostRefusal<'a>>
-        ensures { FinishesOutput tells result (Self.Onto.written onto) (Self.Onto.write_faults onto)
-            (held self.old) (held self.new) (world self.old) (world self.new) };
+        ensures { FinishesOutput tells result (on_output (path_out place.entry)) (Self.Onto.written onto)
+            (Self.Onto.write_faults onto) (held self.old) (held self.new) (world self.old) (world self.new) };
 
     /// Lets the output go that is open, where the work before failed.
     fn give_up(&mut self, onto: Self::Onto)
@@ -253,7 +257,8 @@ pub trait Disk {
             (world self.new)) }
         ensures closed { IsTrue tells → held self.new ≡ ended (is_ok result)
             (unless (is_ok result) + Self.Image.Output.write_faults image) (held self.old) }
-        ensures rest { IsTrue tells → SparesRest (held self.old).output (world self.old) (world self.new) };
+        ensures rest { IsTrue tells → SparesRest (held self.old).output (world self.old) (world self.new) }
+        ensures stream { IsTrue tells → IfOk result (λ is. is ≡ on_output (path_out place.entry)) };
 
     /// Lets the image go that is open, where the work before failed. Its file holds what was written, or nothing at its
     /// front.

@@ -2,6 +2,7 @@
 
 ghost use Rattle.std.specs.Prelude.{◌≡◌, ◌+◌, IsTrue, IsOk, IfOk, IfErr, OnOk, Ok, is_ok};
 ghost use Rattle.abt_disk.specs.World.{Ends, SparesRest, ended, unended};
+ghost use Rattle.abt_refusals.specs.Paths.{path_out};
 ghost use Rattle.abt_refusals.specs.declared.refusal.HostFault.{HostFault};
 
 use crate::{Disk, Reasons};
@@ -22,6 +23,7 @@ pub fn ended<'a, D: Disk, T: Drop, F: Told + From<HostFault> + Drop>(
     ensures closed { IsTrue D.tells → D.held disk.new ≡ ended (is_ok result)
         (unended (is_ok answer) (is_ok result) + D.Onto.write_faults onto) (D.held disk.old) }
     ensures rest { IsTrue D.tells → SparesRest (D.held disk.old).output (D.world disk.old) (D.world disk.new) }
+    ensures stream { IsTrue D.tells → IfOk result (λ end. end.1 ≡ D.on_output (path_out output.entry)) }
     ensures told { IfErr answer (λ fault. IfErr result (λ refusal. refusal.fault ≡ fault)) }
     ensures host { IsOk answer → IfErr result (λ refusal. (fault : HostFault) × F.from_gives fault refusal.fault) }
 {

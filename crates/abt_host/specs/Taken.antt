@@ -3,8 +3,7 @@ use Rattle.std.specs.Prelude.{◌≡◌, ◌++◌, ◌∷◌, [], IsTrue, Contai
 use Rattle.abt_host.specs.Streams.{Reported, Mixed}
 use Rattle.host_files.specs.declared.identity.Identity.{Identity}
 use Rattle.abt_host.specs.declared.taken.Taken.{Taken}
-use Rattle.abt_host.specs.declared.reading.Reading.{Reading}
-use Rattle.abt_host.specs.declared.writing.Writing.{Writing}
+use Rattle.abt_host.specs.declared.streams.Streams.{Streams}
 
 -- no output may be this file: it holds data, and is read, or written already
 abbrev pub Forbidden : Taken → Identity → Type 0
@@ -15,15 +14,15 @@ abbrev pub Adds : Taken → Taken → Identity → Type 0
 Adds old new file = new.files.items ≡ old.files.items ++ (file ∷ [])
 
 -- one more file is read: no report lands in it, and no output may be it from then on
-pub record ReadsOne (old new : Reading) : Type 0 where
+pub record ReadsOne (streams : Streams) (taken taken' : Taken) : Type 0 where
   pub file : Identity
-  pub spared : ¬ Reported old.streams file
-  pub taken : Adds old.taken new.taken file
+  pub spared : ¬ Reported streams file
+  pub added : Adds taken taken' file
 
 -- one more file is written: it is none that is read, and none that is written already, and nothing is told among its
 -- data
-pub record WritesOne (old new : Writing) : Type 0 where
+pub record WritesOne (streams : Streams) (taken taken' : Taken) : Type 0 where
   pub file : Identity
-  pub free : ¬ Forbidden old.reading.taken file
-  pub apart : ¬ Mixed old.reading.streams file
-  pub taken : Adds old.reading.taken new.reading.taken file
+  pub free : ¬ Forbidden taken file
+  pub apart : ¬ Mixed streams file
+  pub added : Adds taken taken' file

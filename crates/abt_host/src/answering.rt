@@ -3,13 +3,15 @@
 ghost use Rattle.std.specs.Prelude.{◌≡◌, IfErr, OnOk, if◌then◌else◌};
 ghost use Rattle.abt_host.specs.Answering.{PrintsNothing};
 
+use crate::origin::Origin;
 use abt_refusals::{Magic, Place, Refusal, Told};
 use abt_report::Report;
 use abt_text::Text;
+use os_system::OsSystem;
 use std::alloc::{AllocError, Global};
-use std::fs::OpenOptions;
+use std::io;
 use std::io::Read;
-use std::{fs, io};
+use sys_file::{Kind, Opening, System};
 
 /// Done.
 pub const DONE: u8 = 0;
@@ -47,7 +49,7 @@ pub fn answer<F: Told + Drop>(
         Err(refusal) => refusal,
     };
     if !refusal.about.is_untold {
-        tell(&refusal, how, rt, report);
+        tell(&refusal, how, &mut OsSystem { rt }, report);
     }
     if refusal.fault.is_usage() {
         USAGE
@@ -56,9 +58,14 @@ pub fn answer<F: Told + Drop>(
     }
 }
 
-fn tell<F: Told>(refusal: &Refusal<'_, F>, how: Telling, rt: HostRuntime, report: &mut Report) {
+fn tell<F: Told, S: System>(
+    refusal: &Refusal<'_, F>,
+    how: Telling,
+    system: &mut S,
+    report: &mut Report,
+) {
     let second = if how.is_verbose {
-        second_line(rt, refusal).ok()
+        second_line(system, refusal).ok()
     } else {
         None
     };
@@ -77,10 +84,13 @@ fn first_line<F: Told>(refusal: &Refusal<'_, F>, program: &str, report: &mut Rep
     let _ = text.finish();
 }
 
-fn second_line<F: Told>(rt: HostRuntime, refusal: &Refusal<'_, F>) -> Result<String, AllocError> {
-    let alloc = rt.alloc();
+fn second_line<F: Told, S: System>(
+    system: &mut S,
+    refusal: &Refusal<'_, F>,
+) -> Result<String, AllocError> {
+    let alloc = system.alloc();
     let about = refusal.about;
-    let why = match about.advice.or(other_image(rt, refusal)) {
+    let why = match about.advice.or(other_image(system, refusal)) {
         Some(advice) => String::from_str(alloc, advice)?,
         None => why(alloc, about.why, &refusal.fault)?,
     };
@@ -132,26 +142,27 @@ fn with_unfinished(
 }
 
 // What the file is that was refused for its magic, where it is an image of another kind. Its front is read anew.
-fn other_image<F: Told>(rt: HostRuntime, refusal: &Refusal<'_, F>) -> Option<&'static str> {
+fn other_image<F: Told, S: System>(
+    system: &mut S,
+    refusal: &Refusal<'_, F>,
+) -> Option<&'static str> {
     let missing = refusal.fault.missing_magic()?;
     let place = refusal.about.place?;
     if place.is_standard() {
         return None;
     }
-    let path = place.path(rt.alloc()).ok()?;
-    let front = front_of(rt, path.as_str()).ok()?;
+    let path = place.path(system.alloc()).ok()?;
+    let front = front_of(system, path.as_str()).ok()?;
     image_of(missing, front)
 }
 
 // The first bytes of a regular file.
-fn front_of(rt: HostRuntime, path: &str) -> io::Result<[u8; 8]> {
-    let mut front = [0; 8];
-    if !fs::metadata(&rt, path)?.is_file() {
+fn front_of<S: System>(system: &mut S, path: &str) -> io::Result<[u8; 8]> {
+    if system.look(path)?.kind != Kind::File {
         return Err(io::Error::from(io::ErrorKind::InvalidInput));
     }
-    let mut how = OpenOptions::new();
-    how.read(true);
-    let mut file = how.open(&rt, path)?;
+    let mut front = [0; 8];
+    let mut file = Origin::stream(system.open(path, Opening::Read)?);
     file.read_exact(&mut front)?;
     Ok(front)
 }

@@ -1,170 +1,154 @@
 //! What is read forward: a file, or standard input.
 
-ghost use Rattle.std.specs.Io.{ReadsAtMost};
-ghost use Rattle.std.specs.Io.Buffered.{reader_buffer, reader_inner};
-ghost use Rattle.std.specs.Prelude.{◌≡◌, ◌<◌, ◌≤◌, [], false, length, take, drop, IsTrue};
-ghost use Rattle.std.proofs.lemmas.Bool.{false≢true};
+ghost use Rattle.std.specs.Io.Buffered.{reader_buffer, reader_capacity, reader_inner, reader_remaining};
+ghost use Rattle.std.specs.Prelude.{◌≡◌, ◌<◌, ◌≤◌, false, length, take, drop, IsTrue, is_some};
+ghost use Rattle.abt_io.specs.Bytes.{AreBytes};
+ghost use Rattle.abt_host.specs.Forward.{bytes_of_known, ReaderGoesPast};
+ghost use Rattle.abt_host.specs.Left.{left_of};
+ghost use Rattle.abt_host.specs.Opens.{WasOpened};
 
 use crate::opening::{Opened, not_opened};
+use crate::origin::Origin;
 use abt_disk::{Measured, Reasons};
-use abt_files::FromRead;
-use abt_io::{DeviceFault, Input};
+use abt_io::{DeviceFault, Input, Tally};
 use abt_refusals::{HostRefusal, Place};
-use host_files::{Found, INPUT};
 use std::alloc::Global;
-use std::fs::File;
-use std::io;
-use std::io::{BufRead, BufReader, Read, Seek, SeekFrom};
-use std::os::fd::AsRawFd;
-use std::rt::Stdin;
+use std::io::{BufRead, BufReader, Read};
+use sys_file::SystemFile;
 
-/// A file or standard input.
+/// A file or standard input. It is read through a buffer, so that headers of chunks, which are small, come many at a time. A
+/// read that asks for as much as the buffer holds, as those of raw data do, goes around it once it is empty. Bytes that nobody
+/// wants are not read: a file that has a place goes on behind them.
 #[derive(Drop)]
-pub struct InputFile {
-    pub from: Passing,
+pub struct InputFile<F: SystemFile + Drop> {
+    reader: BufReader<Origin<F>>,
     /// How long a regular file is.
-    pub length: Option<u64>,
+    length: Option<u64>,
+    calls: Tally,
+    count: Tally,
+    faults: Tally,
+    ghost told: { IsTrue F.tells → IsTrue (is_some (reader_remaining (left_of F.tells F.stands F.place) reader)) },
+    ghost bytes: { IsTrue F.tells → AreBytes (bytes_of_known (reader_remaining (left_of F.tells F.stands F.place) reader)) },
 }
 
-impl InputFile {
-    pub(crate) fn standard<'a>(
-        rt: HostRuntime,
-        alloc: Global,
-    ) -> Result<InputFile, HostRefusal<'a>> {
-        InputFile::buffered(alloc, Bytes::Standard(rt.stdin()), None)
+impl<F: SystemFile + Drop> InputFile<F> {
+    pub(crate) fn standard<'a>(alloc: Global, file: F) -> Result<InputFile<F>, HostRefusal<'a>> {
+        InputFile::buffered(alloc, Origin::stream(file), None)
     }
 
     pub(crate) fn of_file<'a>(
         alloc: Global,
-        opened: Opened,
+        opened: Opened<F>,
         place: Place<'a>,
-    ) -> Result<InputFile, HostRefusal<'a>> {
-        let Opened { file, found, .. } = opened;
-        let length = if found.is_file() {
-            Some(found.length)
+    ) -> Result<InputFile<F>, HostRefusal<'a>>
+        requires { WasOpened F.tells F.stands F.place F.past false opened }
+    {
+        let length = if opened.found.is_file() {
+            Some(opened.found.length)
         } else {
             None
         };
-        match with_place(file, found) {
-            Ok(bytes) => InputFile::buffered(alloc, bytes, length),
+        match Origin::of_opened(opened) {
+            Ok(origin) => InputFile::buffered(alloc, origin, length),
             Err(error) => Err(not_opened(&error, place)),
         }
     }
 
     fn buffered<'a>(
         alloc: Global,
-        bytes: Bytes,
+        origin: Origin<F>,
         length: Option<u64>,
-    ) -> Result<InputFile, HostRefusal<'a>> {
-        match BufReader::new(alloc, Origin { bytes, why: None }) {
+    ) -> Result<InputFile<F>, HostRefusal<'a>> {
+        match BufReader::new(alloc, origin) {
             Ok(reader) => Ok(InputFile {
-                from: Passing {
-                    from: FromRead::new(reader),
-                },
+                reader,
                 length,
+                calls: Tally::new(),
+                count: Tally::new(),
+                faults: Tally::new(),
             }),
             Err(_) => Err(HostRefusal::memory()),
         }
     }
 
     /// Its bytes, to be read as any others.
-    pub(crate) fn into_reader(self) -> BufReader<Origin> {
-        self.from.from.reader
+    pub(crate) fn into_reader(self) -> BufReader<Origin<F>> {
+        self.reader
     }
 
-    /// The descriptor that it is open under.
-    pub fn descriptor(&self) -> i32 {
-        self.from.from.reader.get_ref().descriptor()
+    /// The file that is read.
+    pub fn file(&self) -> &F {
+        &self.reader.get_ref().file
     }
 
     /// Why its last call failed, where one did.
     pub fn why(&self) -> Option<i32> {
-        self.from.from.reader.get_ref().why
+        self.reader.get_ref().why
     }
 }
 
-impl Input for InputFile {
-    ghost tells = { false };
+impl<F: SystemFile + Drop> Input for InputFile<F> {
+    ghost tells = { F.tells };
 
-    ghost remaining = { λ _. [] };
+    ghost remaining = { λ s. bytes_of_known (reader_remaining (left_of F.tells F.stands F.place) s.reader) };
 
-    ghost reads = { λ s. ⟦<Passing as Input>⟧.reads s.from };
+    ghost reads = { λ s. s.calls.number };
 
-    ghost given = { λ s. ⟦<Passing as Input>⟧.given s.from };
+    ghost given = { λ s. s.count.number };
 
-    ghost read_faults = { λ s. ⟦<Passing as Input>⟧.read_faults s.from };
+    ghost read_faults = { λ s. s.faults.number };
 
-    ghost are_bytes = { λ _ t. absurd (false≢true t) };
+    ghost are_bytes = { λ s t. s.bytes t };
 
     fn read(&mut self, out: &mut [u8]) -> Result<usize, DeviceFault> {
-        self.from.read(out)
+        self.calls.add(1);
+        if take_held(&mut self.reader, out) {
+            self.count.add(out.len() as u64);
+            return Ok(out.len());
+        }
+        match self.reader.read(out) {
+            Ok(n) => {
+                self.count.add(n as u64);
+                Ok(n)
+            }
+            Err(_) => {
+                self.faults.add(1);
+                Err(DeviceFault::Failed)
+            }
+        }
     }
 
     fn pass(&mut self, room: &mut [u8]) -> Result<usize, DeviceFault> {
-        self.from.pass(room)
+        let n = passed(&mut self.reader, room.len());
+        if n == 0 {
+            return self.read(room);
+        }
+        self.calls.add(1);
+        self.count.add(n as u64);
+        Ok(n)
     }
 }
 
-impl Reasons for InputFile {
+impl<F: SystemFile + Drop> Reasons for InputFile<F> {
     fn why(&self) -> Option<i32> {
-        self.from.from.reader.get_ref().why
+        self.reader.get_ref().why
     }
 }
 
-impl Measured for InputFile {
+impl<F: SystemFile + Drop> Measured for InputFile<F> {
     fn known_length(&self) -> Option<u64> {
         self.length
     }
 }
 
-/// Reads through a buffer, so that headers of chunks, which are small, come many at a time. A read that asks for as
-/// much as the buffer holds, as those of raw data do, goes around it once it is empty. Bytes that nobody wants are not
-/// read: a file that has a place goes on behind them.
-#[derive(Drop)]
-pub struct Passing {
-    from: FromRead<BufReader<Origin>>,
-}
-
-impl Input for Passing {
-    ghost tells = { false };
-
-    ghost remaining = { λ _. [] };
-
-    ghost reads = { λ s. s.from.calls.number };
-
-    ghost given = { λ s. s.from.count.number };
-
-    ghost read_faults = { λ s. s.from.faults.number };
-
-    ghost are_bytes = { λ _ t. absurd (false≢true t) };
-
-    fn read(&mut self, out: &mut [u8]) -> Result<usize, DeviceFault> {
-        if take_held(&mut self.from.reader, out) {
-            self.from.calls.add(1);
-            self.from.count.add(out.len() as u64);
-            return Ok(out.len());
-        }
-        self.from.read(out)
-    }
-
-    fn pass(&mut self, room: &mut [u8]) -> Result<usize, DeviceFault> {
-        let n = passed(&mut self.from.reader, room.len());
-        if n == 0 {
-            return self.from.read(room);
-        }
-        self.from.calls.add(1);
-        self.from.count.add(n as u64);
-        Ok(n)
-    }
-}
-
 // Gives what is asked for where the buffer holds all of it, as it does of most headers: what a read of the reader gives
 // then.
-fn take_held(reader: &mut BufReader<Origin>, out: &mut [u8]) -> bool
+fn take_held<F: SystemFile + Drop>(reader: &mut BufReader<Origin<F>>, out: &mut [u8]) -> bool
     ensures found { IsTrue result → (0 < length out.old) × (length out.old ≤ length (reader_buffer reader.old)) }
     ensures bytes { IsTrue result → out.new ≡ take (length out.old) (reader_buffer reader.old) }
     ensures rest { IsTrue result → reader_buffer reader.new ≡ drop (length out.old) (reader_buffer reader.old) }
     ensures inner { reader_inner reader.new ≡ reader_inner reader.old }
+    ensures capacity { reader_capacity reader.new ≡ reader_capacity reader.old }
     ensures kept { result ≡ false → (out.new ≡ out.old) × (reader.new ≡ reader.old) }
     ensures length { length out.new ≡ length out.old }
 {
@@ -180,9 +164,12 @@ fn take_held(reader: &mut BufReader<Origin>, out: &mut [u8]) -> bool
     true
 }
 
-// Passes over bytes that the buffer holds, or where it holds none over those that come next: at most so many.
-fn passed(reader: &mut BufReader<Origin>, most: usize) -> usize
-    ensures { result ≤ most }
+// GoesPast over bytes that the buffer holds, or where it holds none over those that come next: at most so many.
+fn passed<F: SystemFile + Drop>(reader: &mut BufReader<Origin<F>>, most: usize) -> usize
+    ensures { ReaderGoesPast F.tells result most (reader_buffer reader.old) (reader_buffer reader.new)
+        (reader_capacity reader.old) (reader_capacity reader.new) (F.stands (reader_inner reader.old).file)
+        (F.stands (reader_inner reader.new).file) (F.place (reader_inner reader.old).file)
+        (F.place (reader_inner reader.new).file) }
 {
     let n = reader.buffer().len().min(most);
     if n == 0 {
@@ -190,120 +177,4 @@ fn passed(reader: &mut BufReader<Origin>, most: usize) -> usize
     }
     reader.consume(n);
     n
-}
-
-#[derive(Drop)]
-enum Bytes {
-    /// What is only read, as a pipe.
-    Stream(File),
-    /// A file that has a place, and where its next byte is.
-    Placed { file: File, at: u64, size: Size },
-    Standard(Stdin),
-}
-
-/// How long a file is.
-#[derive(Clone, Copy, Drop)]
-enum Size {
-    /// A regular file tells it, and may change.
-    Told,
-    /// A block device is always as long.
-    Fixed(u64),
-}
-
-// A regular file and a block device have a place, which is at their front.
-fn with_place(file: File, found: Found) -> io::Result<Bytes> {
-    let mut file = file;
-    if found.is_file() {
-        return Ok(Bytes::Placed {
-            file,
-            at: 0,
-            size: Size::Told,
-        });
-    }
-    if found.is_block() {
-        let size = file.seek(SeekFrom::End(0))?;
-        file.seek(SeekFrom::Start(0))?;
-        return Ok(Bytes::Placed {
-            file,
-            at: 0,
-            size: Size::Fixed(size),
-        });
-    }
-    Ok(Bytes::Stream(file))
-}
-
-/// A reader that keeps why it failed.
-#[derive(Drop)]
-pub struct Origin {
-    bytes: Bytes,
-    why: Option<i32>,
-}
-
-impl Origin {
-    fn descriptor(&self) -> i32 {
-        match &self.bytes {
-            Bytes::Stream(file) => file.as_raw_fd(),
-            Bytes::Placed { file, .. } => file.as_raw_fd(),
-            Bytes::Standard(_) => INPUT,
-        }
-    }
-
-    // Goes on behind at most so many bytes, none of them beyond the end. It answers how many: none where only a read
-    // can tell.
-    fn pass(&mut self, most: usize) -> usize
-        ensures { result ≤ most }
-    {
-        match &mut self.bytes {
-            Bytes::Stream(_) => 0,
-            Bytes::Standard(_) => 0,
-            Bytes::Placed { file, at, size } => {
-                let left = size_of(file, *size).saturating_sub(*at);
-                let n = left.min(most as u64);
-                if n == 0 {
-                    return 0;
-                }
-                let behind = at.saturating_add(n);
-                match file.seek(SeekFrom::Start(behind)) {
-                    Ok(_) => {
-                        *at = behind;
-                        n as usize
-                    }
-                    Err(_) => 0,
-                }
-            }
-        }
-    }
-}
-
-fn size_of(file: &File, size: Size) -> u64 {
-    match size {
-        Size::Fixed(bytes) => bytes,
-        Size::Told => match file.metadata() {
-            Ok(metadata) => metadata.len(),
-            Err(_) => 0,
-        },
-    }
-}
-
-impl Read for Origin {
-    fn read(&mut self, bytes: &mut [u8]) -> io::Result<usize> {
-        let answer = match &mut self.bytes {
-            Bytes::Stream(file) => file.read(bytes),
-            Bytes::Standard(stdin) => stdin.read(bytes),
-            Bytes::Placed { file, at, .. } => read_on(file, at, bytes),
-        };
-        if let Err(error) = &answer {
-            self.why = error.raw_os_error();
-        }
-        answer
-    }
-}
-
-// Reads at the place of a file, which goes on behind what came.
-fn read_on(file: &mut File, at: &mut u64, bytes: &mut [u8]) -> io::Result<usize>
-    ensures { ReadsAtMost result bytes.new }
-{
-    let n = file.read(bytes)?;
-    *at = at.saturating_add(n as u64);
-    Ok(n)
 }

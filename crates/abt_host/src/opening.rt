@@ -1,15 +1,14 @@
 //! One file that is opened: how, and what it has to be.
 
-ghost use Rattle.std.specs.Prelude.{◌≡◌, false};
-ghost use Rattle.std.specs.Fs.{asks_write};
-ghost use Rattle.abt_host.specs.Access.{may_write};
+ghost use Rattle.std.specs.Prelude.{◌≡◌, IfOk};
+ghost use Rattle.sys_file.specs.System.{creates};
+ghost use Rattle.abt_host.specs.Access.{may_write, may_create, asks_to_write};
+ghost use Rattle.abt_host.specs.Opens.{WasOpened};
 
 use abt_refusals::{HostFault, HostRefusal, Place};
-use host_files::{Found, Kind, found_at};
-use std::alloc::Global;
-use std::fs::{File, OpenOptions};
+use host_files::{Found, found_at};
 use std::io;
-use std::os::fd::AsRawFd;
+use sys_file::{Kind, Opening, System};
 
 // The number of 'Is a directory'.
 const IS_A_FOLDER: i32 = 21;
@@ -58,33 +57,28 @@ impl Access {
 
 /// A file that was just opened.
 #[derive(Drop)]
-pub struct Opened {
-    pub file: File,
+pub struct Opened<F> {
+    pub file: F,
     pub found: Found,
     /// Whether it was there before.
     pub was_there: bool,
 }
 
-impl Opened {
-    pub fn descriptor(&self) -> i32 {
-        self.file.as_raw_fd()
-    }
-}
-
-/// Opens a file. A folder is refused, which opens to be read and then gives no bytes, and what is not of the kind that
+/// WasOpened a file. A folder is refused, which opens to be read and then gives no bytes, and what is not of the kind that
 /// the access needs.
 ///
 /// A pipe is told by its path, before it is opened, where a file is needed: opening one can wait for ever.
-pub fn open_file<'a>(
-    rt: HostRuntime,
-    alloc: Global,
+pub fn open_file<'a, S: System>(
+    system: &mut S,
     place: Place<'a>,
     access: Access,
-) -> Result<Opened, HostRefusal<'a>> {
-    let Ok(path) = place.path(alloc) else {
+) -> Result<Opened<S::File>, HostRefusal<'a>>
+    ensures { IfOk result (WasOpened S.File.tells S.File.stands S.File.place S.File.past (may_create access)) }
+{
+    let Ok(path) = place.path(system.alloc()) else {
         return Err(HostRefusal::memory());
     };
-    match opened_at(rt, path.as_str(), access) {
+    match opened_at(system, path.as_str(), access) {
         Ok(opened) => Ok(opened),
         Err(error) if is_folder_missing(&error, path.as_str(), access) => {
             Err(HostRefusal::at(HostFault::NoFolder, place, None))
@@ -114,13 +108,15 @@ fn is_of_wrong_kind(error: &io::Error) -> bool {
     error.kind() == io::ErrorKind::InvalidInput && error.raw_os_error().is_none()
 }
 
-fn opened_at(rt: HostRuntime, path: &str, access: Access) -> io::Result<Opened> {
-    let before = found_at(rt, path).ok();
+fn opened_at<S: System>(system: &mut S, path: &str, access: Access) -> io::Result<Opened<S::File>>
+    ensures { IfOk result (WasOpened S.File.tells S.File.stands S.File.place S.File.past (may_create access)) }
+{
+    let before = found_at(system, path).ok();
     if let Some(found) = before {
         require_kind(found.kind, access)?;
     }
-    let file = options(access).open(&rt, path)?;
-    let found = Found::new(&file.metadata()?);
+    let file = system.open(path, opening(access))?;
+    let found = Found::new(&system.stat(&file)?);
     require_kind(found.kind, access)?;
     Ok(Opened {
         file,
@@ -130,19 +126,18 @@ fn opened_at(rt: HostRuntime, path: &str, access: Access) -> io::Result<Opened> 
 }
 
 // How the system is asked. What is only read is not opened for more.
-fn options(access: Access) -> OpenOptions
-    ensures { asks_write result ≡ may_write access }
+fn opening(access: Access) -> Opening
+    ensures writes { asks_to_write result ≡ may_write access }
+    ensures creates { creates result ≡ may_create access }
 {
-    let mut how = OpenOptions::new();
     match access {
-        Access::Forward => how.read(true),
-        Access::AnyPlace => how.read(true),
-        Access::InPlace => how.write(true),
-        Access::Create => how.write(true).create(true),
-        Access::CreateFile => how.write(true).create(true),
-        Access::Spool => how.read(true).write(true).create(true),
-    };
-    how
+        Access::Forward => Opening::Read,
+        Access::AnyPlace => Opening::Read,
+        Access::InPlace => Opening::Write,
+        Access::Create => Opening::Create,
+        Access::CreateFile => Opening::Create,
+        Access::Spool => Opening::CreateAndRead,
+    }
 }
 
 fn require_kind(kind: Kind, access: Access) -> io::Result<()> {

@@ -1,7 +1,9 @@
 //! All that a command reads, which is open before it writes.
 
-ghost use Rattle.std.specs.Prelude.{◌≡◌, ◌≤◌, ◌^◌, [], false, true, length, string_bytes, OnOk, IfOk, IfErr};
-ghost use Rattle.abt_host.specs.Access.{may_write};
+ghost use Rattle.std.specs.Prelude.{◌≡◌, ◌≤◌, ◌^◌, [], false, true, IsTrue, length, string_bytes, OnOk, IfOk, IfErr};
+ghost use Rattle.sys_file.specs.File.{file_bytes};
+ghost use Rattle.abt_host.specs.Access.{may_write, may_create};
+ghost use Rattle.abt_host.specs.Opens.{WasOpened};
 ghost use Rattle.abt_host.specs.Streams.{Reported};
 ghost use Rattle.abt_host.specs.Taken.{Adds, ReadsOne};
 
@@ -13,13 +15,13 @@ use crate::writing::Writing;
 use abt_refusals::{HostFault, HostRefusal, Place};
 use host_files::{
     Found, INPUT, Identity, ReadFiles, StandardSource, found_of, identity_of_stream, is_shown,
+    standard_source,
 };
 use std::alloc::Global;
-use std::fs::File;
 use std::io;
 use std::io::Read;
-use std::os::fd::AsRawFd;
 use sys_devices::FileSource;
+use sys_file::{System, SystemFile};
 
 // How many bytes a file of words has at most.
 const TEXT: u64 = 1 << 20;
@@ -27,10 +29,10 @@ const TEXT: u64 = 1 << 20;
 // The number of 'Too many open files'.
 const TOO_MANY: i32 = 24;
 
-/// Opens what is read. No output may be one of these files, and no report may land in one.
+/// WasOpened what is read. No output may be one of these files, and no report may land in one.
 #[derive(Drop)]
-pub struct Reading {
-    pub rt: HostRuntime,
+pub struct Reading<S: System + Drop> {
+    pub system: S,
     pub alloc: Global,
     pub(crate) taken: Taken,
     pub(crate) streams: Streams,
@@ -44,18 +46,19 @@ pub struct Reading {
     pub(crate) is_synced: bool,
 }
 
-impl Reading {
+impl<S: System + Drop> Reading<S> {
     /// Nothing is open.
-    pub fn new(rt: HostRuntime) -> Reading
+    pub fn new(system: S) -> Reading<S>
         ensures { result.taken.files.items ≡ [] }
     {
-        let alloc = rt.alloc();
+        let alloc = system.alloc();
+        let streams = Streams::of_system(&system);
         Reading {
-            rt,
+            system,
             alloc,
             taken: Taken::new(alloc),
-            streams: Streams::of_process(rt),
-            read: ReadFiles::new(rt),
+            streams,
+            read: ReadFiles::new(alloc),
             is_input_unknown: false,
             is_mounted_allowed: false,
             is_synced: false,
@@ -80,22 +83,22 @@ impl Reading {
     pub fn let_go(&mut self, descriptor: i32)
         ensures { self.new ≡ record self.old { read = self.new.read } }
     {
-        self.read.let_go(descriptor);
+        self.read.let_go(&self.system, descriptor);
     }
 
     /// Refuses where a file that was opened to be read has changed since, as far as the system tells.
     pub fn unchanged<'a>(&self) -> Result<(), HostRefusal<'a>>
         ensures { IfErr result (λ refusal. refusal.fault ≡ HostFault.Changed) }
     {
-        match self.read.changed() {
+        match self.read.changed(&self.system) {
             Some(place) => Err(HostRefusal::at(HostFault::Changed, place, None)),
             None => Ok(()),
         }
     }
 
-    /// Opens what is read forward: `-` is standard input, which is no file of ours.
-    pub fn input<'a>(&mut self, place: Place<'a>) -> Result<InputFile, HostRefusal<'a>>
-        ensures reads { OnOk result (ReadsOne self.old self.new) }
+    /// WasOpened what is read forward: `-` is standard input, which is no file of ours.
+    pub fn input<'a>(&mut self, place: Place<'a>) -> Result<InputFile<S::File>, HostRefusal<'a>>
+        ensures reads { OnOk result (ReadsOne self.old.streams self.old.taken self.new.taken) }
     {
         if place.is_standard() {
             return self.standard(place);
@@ -106,20 +109,21 @@ impl Reading {
         }
     }
 
-    fn standard<'a>(&mut self, place: Place<'a>) -> Result<InputFile, HostRefusal<'a>>
-        ensures reads { OnOk result (ReadsOne self.old self.new) }
+    fn standard<'a>(&mut self, place: Place<'a>) -> Result<InputFile<S::File>, HostRefusal<'a>>
+        ensures reads { OnOk result (ReadsOne self.old.streams self.old.taken self.new.taken) }
     {
-        self.take(identity_of_stream(self.rt, self.alloc, INPUT), place)?;
-        match found_of(self.rt, self.alloc, INPUT) {
+        let identity = identity_of_stream(&self.system, INPUT);
+        self.take(identity, place)?;
+        match found_of(&self.system, INPUT) {
             Ok(found) => self.keep(INPUT, found, place)?,
-            Err(_) => self.is_input_unknown = !is_shown(self.rt),
+            Err(_) => self.is_input_unknown = !is_shown(&self.system),
         }
-        InputFile::standard(self.rt, self.alloc)
+        InputFile::standard(self.alloc, self.system.input())
     }
 
-    /// Opens what is read at any place. What is neither a file nor a block device has no length, and is refused.
-    pub fn source<'a>(&mut self, place: Place<'a>) -> Result<FileSource<File>, HostRefusal<'a>>
-        ensures reads { OnOk result (ReadsOne self.old self.new) }
+    /// WasOpened what is read at any place. What is neither a file nor a block device has no length, and is refused.
+    pub fn source<'a>(&mut self, place: Place<'a>) -> Result<FileSource<S::File>, HostRefusal<'a>>
+        ensures reads { OnOk result (ReadsOne self.old.streams self.old.taken self.new.taken) }
     {
         let Opened { file, .. } = self.opened(place, Access::AnyPlace)?;
         source_of(file, place)
@@ -130,16 +134,16 @@ impl Reading {
     pub fn standard_source<'a>(
         &mut self,
         place: Place<'a>,
-    ) -> Result<StandardSource, HostRefusal<'a>>
-        ensures reads { OnOk result (ReadsOne self.old self.new) }
+    ) -> Result<StandardSource<S::File>, HostRefusal<'a>>
+        ensures reads { OnOk result (ReadsOne self.old.streams self.old.taken self.new.taken) }
     {
-        let found = match found_of(self.rt, self.alloc, INPUT) {
+        let found = match found_of(&self.system, INPUT) {
             Ok(found) => found,
             Err(error) => return Err(not_opened(&error, place)),
         };
         self.take(found.identity, place)?;
         self.keep(INPUT, found, place)?;
-        match StandardSource::new(self.rt, self.alloc, found) {
+        match standard_source(&mut self.system, found) {
             Ok(source) => Ok(source),
             Err(error) => Err(not_opened(&error, place)),
         }
@@ -148,17 +152,21 @@ impl Reading {
     /// A source that is open, to be read a second time beside the first.
     pub fn again<'a>(
         &mut self,
-        source: &FileSource<File>,
+        source: &FileSource<S::File>,
         place: Place<'a>,
-    ) -> Result<FileSource<File>, HostRefusal<'a>> {
+    ) -> Result<FileSource<S::File>, HostRefusal<'a>>
+        ensures { IsTrue S.File.tells → IfOk result (λ again. file_bytes S.File.stands again.file
+            ≡ file_bytes S.File.stands source.now.file) }
+    {
         let Some(file) = &source.file else {
             return Ok(FileSource::empty());
         };
-        let second = match file.try_clone() {
+        let second = match self.system.again(file) {
             Ok(second) => second,
             Err(error) => return Err(not_opened(&error, place)),
         };
-        match self.read.add_again(file.as_raw_fd(), second.as_raw_fd()) {
+        let first = self.system.descriptor(file);
+        match self.read.add_again(first, self.system.descriptor(&second)) {
             Ok(()) => source_of(second, place),
             Err(_) => Err(HostRefusal::memory()),
         }
@@ -166,11 +174,11 @@ impl Reading {
 
     /// The text of a file, which is UTF-8 and at most 1 MiB.
     pub fn text<'a>(&mut self, place: Place<'a>) -> Result<String, HostRefusal<'a>>
-        ensures reads { OnOk result (ReadsOne self.old self.new) }
+        ensures reads { OnOk result (ReadsOne self.old.streams self.old.taken self.new.taken) }
         ensures length { IfOk result (λ text. length (string_bytes text) ≤ 2 ^ 20) }
     {
         let input = self.input(place)?;
-        match text_of(self.alloc, input, &mut self.read) {
+        match text_of(&self.system, &mut self.read, input) {
             Ok(text) => Ok(text),
             Err((HostFault::Memory, _)) => Err(HostRefusal::memory()),
             Err((fault, why)) => Err(HostRefusal::at(fault, place, why)),
@@ -178,24 +186,30 @@ impl Reading {
     }
 
     /// All that is read is open.
-    pub fn all_open(self) -> Writing
+    pub fn all_open(self) -> Writing<S>
         ensures { result.reading ≡ self }
     {
         Writing::new(self)
     }
 
-    // Opens a file that is read.
-    fn opened<'a>(&mut self, place: Place<'a>, access: Access) -> Result<Opened, HostRefusal<'a>>
+    // WasOpened a file that is read.
+    fn opened<'a>(
+        &mut self,
+        place: Place<'a>,
+        access: Access,
+    ) -> Result<Opened<S::File>, HostRefusal<'a>>
         requires { may_write access ≡ false }
         ensures spared { IfOk result (λ opened. ¬ Reported self.old.streams opened.found.identity) }
         ensures taken { IfOk result (λ opened. Adds self.old.taken self.new.taken opened.found.identity) }
+        ensures opens { IfOk result (WasOpened S.File.tells S.File.stands S.File.place S.File.past (may_create access)) }
     {
-        let opened = match open_file(self.rt, self.alloc, place, access) {
+        let opened = match open_file(&mut self.system, place, access) {
             Ok(opened) => opened,
             Err(refusal) => return Err(if_too_many(refusal)),
         };
         self.take(opened.found.identity, place)?;
-        self.keep(opened.descriptor(), opened.found, place)?;
+        let descriptor = self.system.descriptor(&opened.file);
+        self.keep(descriptor, opened.found, place)?;
         Ok(opened)
     }
 
@@ -242,7 +256,12 @@ fn if_too_many(refusal: HostRefusal<'_>) -> HostRefusal<'_>
     refusal
 }
 
-fn source_of<'a>(file: File, place: Place<'a>) -> Result<FileSource<File>, HostRefusal<'a>> {
+fn source_of<'a, F: SystemFile + Drop>(
+    file: F,
+    place: Place<'a>,
+) -> Result<FileSource<F>, HostRefusal<'a>>
+    ensures { IfOk result (λ source. file_bytes F.stands source.file ≡ F.stands file) }
+{
     match FileSource::new(file) {
         Ok(source) => Ok(source),
         Err(_) => Err(HostRefusal::at(HostFault::CannotOpen, place, None)),
@@ -250,18 +269,18 @@ fn source_of<'a>(file: File, place: Place<'a>) -> Result<FileSource<File>, HostR
 }
 
 // All bytes of a file, as a text of at most so many.
-fn text_of(
-    alloc: Global,
-    input: InputFile,
+fn text_of<S: System + Drop>(
+    system: &S,
     read: &mut ReadFiles,
+    input: InputFile<S::File>,
 ) -> Result<String, (HostFault, Option<i32>)>
     ensures { IfOk result (λ text. length (string_bytes text) ≤ 2 ^ 20) }
 {
-    let mut bytes = Vec::new(alloc);
-    let descriptor = input.descriptor();
+    let mut bytes = Vec::new(system.alloc());
+    let descriptor = system.descriptor(input.file());
     let mut front = input.into_reader().take(TEXT + 1);
     let end = front.read_to_end(&mut bytes);
-    read.let_go(descriptor);
+    read.let_go(system, descriptor);
     if let Err(error) = end {
         return Err(match error.kind() {
             io::ErrorKind::OutOfMemory => (HostFault::Memory, None),

@@ -5,6 +5,7 @@ ghost use Rattle.abt_host.specs.Streams.{Reported, Mixed};
 
 use abt_refusals::{HostFault, HostRefusal, Place};
 use host_files::{ERRORS, Identity, OUTPUT, identity_of_stream};
+use sys_file::System;
 
 /// What standard output and standard error are.
 #[derive(Clone, Copy, Drop)]
@@ -14,11 +15,10 @@ pub struct Streams {
 }
 
 impl Streams {
-    pub fn of_process(rt: HostRuntime) -> Streams {
-        let alloc = rt.alloc();
+    pub fn of_system<S: System>(system: &S) -> Streams {
         Streams {
-            out: identity_of_stream(rt, alloc, OUTPUT),
-            err: identity_of_stream(rt, alloc, ERRORS),
+            out: identity_of_stream(system, OUTPUT),
+            err: identity_of_stream(system, ERRORS),
         }
     }
 

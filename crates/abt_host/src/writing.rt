@@ -1,9 +1,10 @@
 //! All that a command writes, once all that it reads is open.
 
-ghost use Rattle.std.specs.Prelude.{◌≡◌, ◌↔◌, ◌⊎◌, [], true, IsTrue, OnOk, OnErr, IfOk, IfErr};
+ghost use Rattle.std.specs.Prelude.{◌≡◌, ◌↔◌, ◌⊎◌, ◌≤◌, [], true, IsTrue, OnOk, OnErr, IfOk, IfErr, length, replicate};
 ghost use Rattle.abt_output.specs.Given.{given_by_writer};
 ghost use Rattle.abt_io.specs.Frame.{nothing_logged};
-ghost use Rattle.abt_host.specs.Access.{may_write};
+ghost use Rattle.abt_host.specs.Access.{may_write, may_create};
+ghost use Rattle.abt_host.specs.Opens.{WasOpened, OpensEmpty};
 ghost use Rattle.abt_host.specs.Begins.{BeginsOutput, BeginsImage, BeginsKeptSpool, Admits};
 ghost use Rattle.abt_host.specs.Streams.{Mixed};
 ghost use Rattle.abt_host.specs.Taken.{Forbidden, Adds, WritesOne};
@@ -17,9 +18,9 @@ use host_files::{
     open_again,
 };
 use std::alloc::{AllocError, Global};
-use std::fs::{File, OpenOptions};
-use std::{fs, io, mem};
+use std::{io, mem};
 use sys_devices::FilePartition;
+use sys_file::{Opening, System, SystemFile};
 
 // The number of 'Invalid argument'.
 const INVALID: i32 = 22;
@@ -34,13 +35,12 @@ const NOT_SYNCED: &str = "it can't be synced here, without /dev and /proc";
 // What can be done where an output is one that is written already.
 const WRITTEN: &str = "it is written already; name another file";
 
-/// Opens and creates what is written. Each file is looked at, by device and inode, before it is emptied: none is one
+/// WasOpened and creates what is written. Each file is looked at, by device and inode, before it is emptied: none is one
 /// that is read, or that is written already.
 #[derive(Drop)]
-pub struct Writing {
-    pub rt: HostRuntime,
+pub struct Writing<S: System + Drop> {
     pub alloc: Global,
-    pub reading: Reading,
+    pub reading: Reading<S>,
     // Data goes to where standard output goes: then no report does.
     is_data_on_output: bool,
     // What is written, or was.
@@ -50,12 +50,11 @@ pub struct Writing {
     is_part_new: bool,
 }
 
-impl Writing {
-    pub(crate) fn new(reading: Reading) -> Writing
+impl<S: System + Drop> Writing<S> {
+    pub(crate) fn new(reading: Reading<S>) -> Writing<S>
         ensures { result.reading ≡ reading }
     {
         Writing {
-            rt: reading.rt,
             alloc: reading.alloc,
             written: Vec::new(reading.alloc),
             reading,
@@ -65,12 +64,13 @@ impl Writing {
         }
     }
 
-    /// Opens what is written in place, which must be there.
+    /// WasOpened what is written in place, which must be there.
     pub fn partition<'a>(
         &mut self,
         place: Place<'a>,
-    ) -> Result<FilePartition<File>, HostRefusal<'a>>
-        ensures writes { OnOk result (WritesOne self.old self.new) }
+    ) -> Result<FilePartition<S::File>, HostRefusal<'a>>
+        ensures writes { OnOk result (WritesOne self.old.reading.streams self.old.reading.taken
+            self.new.reading.taken) }
     {
         let opened = self.admitted(place, Access::InPlace)?;
         self.is_part_new = false;
@@ -81,8 +81,9 @@ impl Writing {
     }
 
     /// Creates or empties the file of a raw image, in which zeros may be holes. `-` is standard output.
-    pub fn raw<'a>(&mut self, place: Place<'a>) -> Result<OutputFile<File>, HostRefusal<'a>>
-        ensures { BeginsOutput result self.old self.new }
+    pub fn raw<'a>(&mut self, place: Place<'a>) -> Result<OutputFile<S::File>, HostRefusal<'a>>
+        ensures { BeginsOutput result self.old.reading.streams self.old.reading.taken
+            self.new.reading.taken }
     {
         if place.is_standard() {
             return self.standard(place);
@@ -103,8 +104,9 @@ impl Writing {
         &mut self,
         place: Place<'a>,
         is_gathered: bool,
-    ) -> Result<ImageOutput<File>, HostRefusal<'a>>
-        ensures { BeginsImage result self.old self.new }
+    ) -> Result<ImageOutput<S::File>, HostRefusal<'a>>
+        ensures { BeginsImage result self.old.reading.streams self.old.reading.taken
+            self.new.reading.taken }
     {
         if place.is_standard() {
             return Ok(ImageOutput::Stream(self.standard(place)?));
@@ -124,8 +126,9 @@ impl Writing {
     }
 
     /// Creates or empties a file.
-    pub fn plain<'a>(&mut self, place: Place<'a>) -> Result<OutputFile<File>, HostRefusal<'a>>
-        ensures { BeginsOutput result self.old self.new }
+    pub fn plain<'a>(&mut self, place: Place<'a>) -> Result<OutputFile<S::File>, HostRefusal<'a>>
+        ensures { BeginsOutput result self.old.reading.streams self.old.reading.taken
+            self.new.reading.taken }
     {
         let Opened { file, found, .. } = self.created(place, Access::Create)?;
         self.buffered(place, Sink::stream(file), found.identity.holds_data)
@@ -136,8 +139,9 @@ impl Writing {
         &mut self,
         place: Place<'a>,
         bytes: u64,
-    ) -> Result<FilePartition<File>, HostRefusal<'a>>
-        ensures writes { OnOk result (WritesOne self.old self.new) }
+    ) -> Result<FilePartition<S::File>, HostRefusal<'a>>
+        ensures writes { OnOk result (WritesOne self.old.reading.streams self.old.reading.taken
+            self.new.reading.taken) }
     {
         if place.is_standard() {
             return Err(HostRefusal::at(HostFault::CannotOpen, place, None));
@@ -150,8 +154,10 @@ impl Writing {
     }
 
     /// Creates or empties the file that pieces go through, which is read again.
-    pub fn spool<'a>(&mut self, place: Place<'a>) -> Result<File, HostRefusal<'a>>
-        ensures { OnOk result (WritesOne self.old self.new) }
+    pub fn spool<'a>(&mut self, place: Place<'a>) -> Result<S::File, HostRefusal<'a>>
+        ensures writes { OnOk result (WritesOne self.old.reading.streams self.old.reading.taken
+            self.new.reading.taken) }
+        ensures empty { IsTrue S.File.tells → IfOk result (λ file. S.File.stands file ≡ []) }
     {
         let created = self.created(place, Access::Spool)?;
         Ok(created.file)
@@ -163,11 +169,17 @@ impl Writing {
         &mut self,
         place: Place<'a>,
         limit: u32,
-    ) -> Result<(File, u64), HostRefusal<'a>>
-        ensures { BeginsKeptSpool limit result self.old self.new }
+    ) -> Result<(S::File, u64), HostRefusal<'a>>
+        ensures begins { BeginsKeptSpool limit result self.old.reading.streams self.old.reading.taken
+            self.new.reading.taken }
+        ensures long { IsTrue S.File.tells → IfOk result (λ kept. length (S.File.stands kept.0) ≤ kept.1) }
     {
-        let Opened { file, found, .. } = self.admitted(place, Access::Spool)?;
-        match self.reading.taken.blank(&file, found, limit as u64) {
+        let Opened {
+            mut file,
+            found,
+            ..
+        } = self.admitted(place, Access::Spool)?;
+        match self.reading.taken.blank(&mut file, found, limit as u64) {
             Ok(stands) => Ok((file, stands)),
             Err(error) => Err(HostRefusal::at(HostFault::CannotOpen, place, error.raw_os_error())),
         }
@@ -182,7 +194,7 @@ impl Writing {
     /// created, its folder is, so that its name stands there.
     pub fn close<'a>(
         &mut self,
-        part: FilePartition<File>,
+        part: FilePartition<S::File>,
         place: Place<'a>,
     ) -> Result<(), HostRefusal<'a>> {
         mem::drop(part);
@@ -197,14 +209,18 @@ impl Writing {
         self.sync_folder_if(is_new, place)
     }
 
-    fn sync_folder_if<'a>(&self, is_new: bool, place: Place<'a>) -> Result<(), HostRefusal<'a>> {
+    fn sync_folder_if<'a>(
+        &mut self,
+        is_new: bool,
+        place: Place<'a>,
+    ) -> Result<(), HostRefusal<'a>> {
         if !is_new || !self.reading.is_synced {
             return Ok(());
         }
         let Ok(path) = place.path(self.alloc) else {
             return Err(HostRefusal::memory());
         };
-        match sync_folder_of(self.rt, path.as_str()) {
+        match sync_folder_of(&mut self.reading.system, path.as_str()) {
             Ok(()) => Ok(()),
             Err(error) => {
                 Err(HostRefusal::at(HostFault::Write, place, error.raw_os_error()).begun(place))
@@ -217,7 +233,7 @@ impl Writing {
         let Ok(path) = place.path(self.alloc) else {
             return Err(HostRefusal::memory());
         };
-        match identity_at(self.rt, path.as_str()) {
+        match identity_at(&self.reading.system, path.as_str()) {
             Some(identity) if self.is_refused(identity) => Err(self.same_file(identity, place)),
             Some(identity) => self.refuse_shared(identity, place),
             None => Ok(()),
@@ -229,7 +245,7 @@ impl Writing {
         ensures { IfErr result (λ refusal. refusal.fault ≡ HostFault.Memory) }
     {
         match place.path(self.alloc) {
-            Ok(path) => Ok(identity_at(self.rt, path.as_str()).is_some()),
+            Ok(path) => Ok(identity_at(&self.reading.system, path.as_str()).is_some()),
             Err(_) => Err(HostRefusal::memory()),
         }
     }
@@ -241,12 +257,13 @@ impl Writing {
             ..place
         };
         let prefix = prefix.path(self.alloc)?;
-        next_number(self.rt, self.alloc, prefix.as_str(), behind)
+        next_number(&self.reading.system, prefix.as_str(), behind)
     }
 
     // Data goes to standard output.
-    fn standard<'a>(&mut self, place: Place<'a>) -> Result<OutputFile<File>, HostRefusal<'a>>
-        ensures { BeginsOutput result self.old self.new }
+    fn standard<'a>(&mut self, place: Place<'a>) -> Result<OutputFile<S::File>, HostRefusal<'a>>
+        ensures { BeginsOutput result self.old.reading.streams self.old.reading.taken
+            self.new.reading.taken }
     {
         let identity = self.reading.streams.out;
         self.refuse_shared(identity, place)?;
@@ -256,7 +273,7 @@ impl Writing {
         self.is_output_new = false;
         match self.to_sync(identity, place) {
             Ok(file) => {
-                let sink = Sink::standard(self.rt.stdout(), file);
+                let sink = Sink::stream(self.reading.system.output(file));
                 self.buffered(place, sink, identity.holds_data)
             }
             Err(refusal) => Err(refusal),
@@ -265,17 +282,20 @@ impl Writing {
 
     // A second handle of the file that standard output is, where it is synced at its end.
     fn to_sync<'a>(
-        &self,
+        &mut self,
         output: Identity,
         place: Place<'a>,
-    ) -> Result<Option<File>, HostRefusal<'a>> {
+    ) -> Result<Option<S::File>, HostRefusal<'a>>
+        ensures data { self.new.is_data_on_output ≡ self.old.is_data_on_output }
+        ensures taken { self.new.reading.taken ≡ self.old.reading.taken }
+    {
         if !self.reading.is_synced {
             return Ok(None);
         }
         if !output.holds_data {
             return self.none_to_sync(place);
         }
-        match opened_output(self.rt, self.alloc) {
+        match opened_output(&mut self.reading.system) {
             Ok(file) => Ok(Some(file)),
             Err(error) => Err(not_opened(&error, place)),
         }
@@ -283,8 +303,9 @@ impl Writing {
 
     // Where standard output is no file there is nothing to sync, and where it is not known what it is, it can't be
     // synced.
-    fn none_to_sync<'a>(&self, place: Place<'a>) -> Result<Option<File>, HostRefusal<'a>> {
-        if is_shown(self.rt) || found_of(self.rt, self.alloc, OUTPUT).is_ok() {
+    fn none_to_sync<'a>(&self, place: Place<'a>) -> Result<Option<S::File>, HostRefusal<'a>> {
+        let system = &self.reading.system;
+        if is_shown(system) || found_of(system, OUTPUT).is_ok() {
             return Ok(None);
         }
         Err(HostRefusal::at(HostFault::CannotOpen, place, None).advised(NOT_SYNCED))
@@ -294,9 +315,9 @@ impl Writing {
     fn buffered<'a>(
         &self,
         place: Place<'a>,
-        sink: Sink<File>,
+        sink: Sink<S::File>,
         holds_data: bool,
-    ) -> Result<OutputFile<File>, HostRefusal<'a>>
+    ) -> Result<OutputFile<S::File>, HostRefusal<'a>>
         requires { sink.log.state ≡ nothing_logged }
         ensures empty { IfOk result (λ output. given_by_writer output.to.writer ≡ []) }
         ensures data { IfOk result (λ output. output.is_data_on_output ≡ self.now.is_data_on_output) }
@@ -305,32 +326,46 @@ impl Writing {
         OutputFile::new(self.alloc, place, sink, is_synced, self.is_data_on_output)
     }
 
-    // Opens an output as it is, and empties it once it is known that it is no other file of this run.
-    fn created<'a>(&mut self, place: Place<'a>, access: Access) -> Result<Opened, HostRefusal<'a>>
-        requires { may_write access ≡ true }
-        ensures { Admits result self.old.reading self.new.reading }
+    // WasOpened an output as it is, and empties it once it is known that it is no other file of this run.
+    fn created<'a>(
+        &mut self,
+        place: Place<'a>,
+        access: Access,
+    ) -> Result<Opened<S::File>, HostRefusal<'a>>
+        requires { may_create access ≡ true }
+        ensures admits { Admits result self.old.reading.streams self.old.reading.taken
+            self.new.reading.taken }
+        ensures empty { IfOk result (λ opened. OpensEmpty S.File.tells S.File.stands S.File.place S.File.past
+            opened.file) }
     {
-        let opened = self.admitted(place, access)?;
+        let mut opened = self.admitted(place, access)?;
         match access {
             Access::Create => self.is_output_new = !opened.was_there,
             Access::CreateFile => self.is_part_new = !opened.was_there,
             _ => {}
         }
-        match self.reading.taken.empty(&opened.file, opened.found) {
+        match self.reading.taken.empty(&mut opened.file, opened.found) {
             Ok(()) => Ok(opened),
             Err(error) => Err(HostRefusal::at(HostFault::CannotOpen, place, error.raw_os_error())),
         }
     }
 
-    // Opens an output as it is.
-    fn admitted<'a>(&mut self, place: Place<'a>, access: Access) -> Result<Opened, HostRefusal<'a>>
+    // WasOpened an output as it is.
+    fn admitted<'a>(
+        &mut self,
+        place: Place<'a>,
+        access: Access,
+    ) -> Result<Opened<S::File>, HostRefusal<'a>>
         requires { may_write access ≡ true }
-        ensures { Admits result self.old.reading self.new.reading }
+        ensures admits { Admits result self.old.reading.streams self.old.reading.taken
+            self.new.reading.taken }
+        ensures opens { IfOk result (WasOpened S.File.tells S.File.stands S.File.place S.File.past (may_create access)) }
     {
-        let opened = open_file(self.rt, self.alloc, place, access)?;
+        let opened = open_file(&mut self.reading.system, place, access)?;
+        let descriptor = self.reading.system.descriptor(&opened.file);
         self.refuse_shared(opened.found.identity, place)?;
         self.admit(opened.found.identity, place)?;
-        self.look_again(opened.found.identity, opened.descriptor(), place)?;
+        self.look_again(opened.found.identity, descriptor, place)?;
         self.refuse_if_unknown(opened.found, place)?;
         Ok(opened)
     }
@@ -351,7 +386,8 @@ impl Writing {
         descriptor: i32,
         place: Place<'a>,
     ) -> Result<(), HostRefusal<'a>> {
-        if identity.holds_data && self.reading.read.is_one_now(identity, descriptor) {
+        let system = &self.reading.system;
+        if identity.holds_data && self.reading.read.is_one_now(system, identity, descriptor) {
             return Err(HostRefusal::at(HostFault::SameFile, place, None));
         }
         let Some(device) = identity.block() else {
@@ -360,7 +396,7 @@ impl Writing {
         if self.reading.is_mounted_allowed {
             return Ok(());
         }
-        match is_in_use(self.rt, self.alloc, device) {
+        match is_in_use(system, device) {
             Ok(false) => Ok(()),
             Ok(true) => Err(HostRefusal::at(HostFault::Mounted, place, None)),
             Err(_) => Err(HostRefusal::memory()),
@@ -429,12 +465,13 @@ impl Writing {
         let is_untold = self.reading.streams.mixes_with(identity);
         let refusal = HostRefusal::at(HostFault::SameFile, place, None).untold_if(is_untold);
         let files = self.reading.taken.files.as_slice();
-        match is_shared(self.rt, self.alloc, identity, self.written.as_slice()) {
+        let system = &self.reading.system;
+        match is_shared(system, identity, self.written.as_slice()) {
             Ok(true) => return Err(refusal.advised(WRITTEN)),
             Ok(false) => {}
             Err(_) => return Err(HostRefusal::memory()),
         }
-        match is_shared(self.rt, self.alloc, identity, files) {
+        match is_shared(system, identity, files) {
             Ok(true) => Err(refusal),
             Ok(false) => Ok(()),
             Err(_) => Err(HostRefusal::memory()),
@@ -442,36 +479,37 @@ impl Writing {
     }
 }
 
-// Opens standard output once more: to write, or where that is denied to read.
-fn opened_output(rt: HostRuntime, alloc: Global) -> io::Result<File> {
-    let mut to_write = OpenOptions::new();
-    to_write.write(true);
-    match open_again(rt, alloc, OUTPUT, to_write) {
+// WasOpened standard output once more: to write, or where that is denied to read.
+fn opened_output<S: System>(system: &mut S) -> io::Result<S::File> {
+    match open_again(system, OUTPUT, Opening::Write) {
         Ok(file) => Ok(file),
         Err(error) if error.kind() == io::ErrorKind::PermissionDenied => {
-            let mut to_read = OpenOptions::new();
-            to_read.read(true);
-            open_again(rt, alloc, OUTPUT, to_read)
+            open_again(system, OUTPUT, Opening::Read)
         }
         Err(error) => Err(error),
     }
 }
 
 // Syncs the folder that a file stands in. There are file systems that sync no folders.
-fn sync_folder_of(rt: HostRuntime, path: &str) -> io::Result<()> {
-    let whole = fs::canonicalize(&rt, path)?;
-    let Some(folder) = whole.parent() else {
+fn sync_folder_of<S: System>(system: &mut S, path: &str) -> io::Result<()> {
+    let whole = system.whole_path(path)?;
+    let Some((folder, _)) = whole.as_str().rsplit_once('/') else {
         return Ok(());
     };
-    let folder = File::open(&rt, folder)?;
-    match folder.sync_all() {
+    let folder = if folder.is_empty() { "/" } else { folder };
+    let mut folder = system.open(folder, Opening::Read)?;
+    match folder.sync() {
         Err(error) if error.raw_os_error() == Some(INVALID) => Ok(()),
         answer => answer,
     }
 }
 
 // Makes an empty file so many zeros. Why it could not be done, by the number of the system's error.
-fn zeros_in(file: File, bytes: u64) -> Result<FilePartition<File>, Option<i32>> {
+fn zeros_in<F: SystemFile + Drop>(file: F, bytes: u64) -> Result<FilePartition<F>, Option<i32>>
+    requires { OpensEmpty F.tells F.stands F.place F.past file }
+    ensures { IsTrue F.tells → IfOk result (λ part. F.stands part.file ≡ replicate bytes 0) }
+{
+    let mut file = file;
     if let Err(error) = file.set_len(bytes) {
         return Err(error.raw_os_error());
     }

@@ -1,7 +1,7 @@
 //! The file of an image that has a magic. It takes small writes together, as those of chunk headers, and can be written
 //! over.
 
-ghost use Rattle.std.specs.Prelude.{◌≡◌, [], false, IsTrue, is_some, length, IfOk};
+ghost use Rattle.std.specs.Prelude.{◌≡◌, [], false, length, IfOk};
 ghost use Rattle.abt_output.specs.Ends.{EndsWith};
 ghost use Rattle.abt_output.specs.Given.{given_by_writer};
 
@@ -35,10 +35,8 @@ impl<F: SystemFile + Drop> ImageFile<F> {
 
     /// Brings it to its end.
     pub fn finish<'a>(self, place: Place<'a>) -> Result<Finished<F>, HostRefusal<'a>>
-        ensures ends { IfOk result (λ finished. EndsWith F.tells F.stands F.past self.output.is_synced
+        ensures { IfOk result (λ finished. EndsWith F.tells F.stands F.past self.output.is_synced
             (given_by_writer self.output.to.writer) finished.ended) }
-        ensures there { IfOk result (λ finished. IsTrue self.output.has_file
-            → IsTrue (is_some finished.ended.file)) }
     {
         self.output.finish(place)
     }

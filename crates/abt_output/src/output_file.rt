@@ -1,8 +1,7 @@
 //! An output that is written from its front on, and how it is brought to its end.
 
-ghost use Rattle.std.specs.Prelude.{◌≡◌, [], false, IsTrue, is_some, IfOk};
+ghost use Rattle.std.specs.Prelude.{◌≡◌, [], false, IfOk};
 ghost use Rattle.abt_output.specs.Ends.{EndsWith};
-ghost use Rattle.abt_output.specs.Follows.{has_file};
 ghost use Rattle.abt_output.specs.Given.{given_by_writer, SettlesWriter};
 ghost use Rattle.abt_io.specs.Frame.{nothing_logged};
 
@@ -26,8 +25,6 @@ pub struct OutputFile<F: SystemFile + Drop> {
     pub to: Gathered<F>,
     /// Whether it is synced at its end.
     pub is_synced: bool,
-    /// Whether its bytes go to a file that is written at places.
-    pub has_file: bool,
     // Whether data goes to where standard output goes.
     is_data_on_output: bool,
 }
@@ -60,14 +57,11 @@ impl<F: SystemFile + Drop> OutputFile<F> {
         ensures empty { IfOk result (λ output. given_by_writer output.to.writer ≡ []) }
         ensures data { IfOk result (λ output. output.is_data_on_output ≡ is_data_on_output) }
         ensures synced { IfOk result (λ output. output.is_synced ≡ is_synced) }
-        ensures file { IfOk result (λ output. output.has_file ≡ has_file sink.target) }
     {
-        let has_file = sink.has_file();
         match BufWriter::with_capacity(alloc, PAGE, sink) {
             Ok(writer) => Ok(OutputFile {
                 to: Gathered::new(writer),
                 is_synced,
-                has_file,
                 is_data_on_output,
             }),
             Err(_) => Err(HostRefusal::memory().begun(place)),
@@ -90,24 +84,17 @@ impl<F: SystemFile + Drop> OutputFile<F> {
 
     /// Brings it to its end: what it holds is sent, and it is synced, where that is wanted.
     pub fn finish<'a>(self, place: Place<'a>) -> Result<Finished<F>, HostRefusal<'a>>
-        ensures ends { IfOk result (λ finished. EndsWith F.tells F.stands F.past self.is_synced
+        ensures { IfOk result (λ finished. EndsWith F.tells F.stands F.past self.is_synced
             (given_by_writer self.to.writer) finished.ended) }
-        ensures there { IfOk result (λ finished. IsTrue self.has_file → IsTrue (is_some finished.ended.file)) }
     {
-        let has_file = self.has_file;
         let is_data_on_output = self.is_data_on_output;
-        let why = match self.to.finish(self.is_synced) {
-            // A writer that takes bytes together tells what its sink was given, and not that it is the same one.
-            Ok(ended) if has_file && ended.file.is_none() => None,
-            Ok(ended) => {
-                return Ok(Finished {
-                    ended,
-                    is_data_on_output,
-                });
-            }
-            Err(why) => why,
-        };
-        Err(HostRefusal::at(HostFault::Write, place, why).begun(place))
+        match self.to.finish(self.is_synced) {
+            Ok(ended) => Ok(Finished {
+                ended,
+                is_data_on_output,
+            }),
+            Err(why) => Err(HostRefusal::at(HostFault::Write, place, why).begun(place)),
+        }
     }
 
     /// Sends what it took together, where the work before failed.

@@ -1,22 +1,20 @@
 //! Where bytes go, and all that was given there.
 
-ghost use Rattle.std.specs.Prelude.{◌≡◌, [], Some, IsTrue, is_some, take, IfOk, OnErr};
+ghost use Rattle.std.specs.Prelude.{◌≡◌, [], Some, IsTrue, take, IfOk, OnErr};
 ghost use Rattle.abt_io.specs.Frame.{nothing_logged};
 ghost use Rattle.abt_io.specs.Over.{and_put};
 ghost use Rattle.abt_output.specs.Ends.{EndsWith};
-ghost use Rattle.abt_output.specs.Follows.{Follows, has_file, SettlesTarget, StartsAt, StartsFile};
+ghost use Rattle.abt_output.specs.Follows.{Follows, SettlesTarget, StartsAt};
 ghost use Rattle.abt_output.specs.Follows.{WritesOrFails};
 ghost use Rattle.sys_outputs.specs.Given.{LaysHole};
 
 use crate::target::{Ended, Target};
 use abt_io::{DeviceFault, Log};
 use std::alloc::Global;
-use std::fs::File;
 use std::io;
 use std::io::Write;
-use std::rt::Stdout;
 use sys_file::SystemFile;
-use sys_outputs::{HeldFile, HoleFile, Room};
+use sys_outputs::{HeldFile, HoleFile, Room, StreamFile};
 
 /// A writer that keeps all that it was given, and why it failed. The system took all of that, but for what a gathered file
 /// holds until its end.
@@ -30,16 +28,18 @@ pub struct Sink<F: SystemFile + Drop> {
 
 impl<F: SystemFile + Drop> Sink<F> {
     /// A file, a pipe or a device, which is given all bytes.
-    pub fn stream(file: File) -> Sink<F>
+    pub fn stream(file: F) -> Sink<F>
+        requires empty { IsTrue F.tells → F.stands file ≡ [] }
+        requires front { IsTrue F.tells → F.place file ≡ 0 }
         ensures { result.log.state ≡ nothing_logged }
     {
-        Sink::of(Target::Stream(file))
+        Sink::of(Target::Stream(StreamFile::new(file)))
     }
 
     /// A regular file that is empty, in which zeros may be holes.
     pub fn holes(file: F) -> Sink<F>
         requires { IsTrue F.tells → F.stands file ≡ [] }
-        ensures { StartsFile result.log.state (has_file result.target) }
+        ensures { result.log.state ≡ nothing_logged }
     {
         Sink::of(Target::Holes(HoleFile::new(file)))
     }
@@ -48,16 +48,9 @@ impl<F: SystemFile + Drop> Sink<F> {
     /// where there is no memory for that, each write goes to the file at once.
     pub fn gathered(alloc: Global, file: F) -> Sink<F>
         requires { IsTrue F.tells → F.stands file ≡ [] }
-        ensures { StartsFile result.log.state (has_file result.target) }
-    {
-        Sink::of(Target::Held(HeldFile::new(file, Room::new(alloc))))
-    }
-
-    /// Standard output, and a handle of its file where that is going to be synced.
-    pub fn standard(stdout: Stdout, file: Option<File>) -> Sink<F>
         ensures { result.log.state ≡ nothing_logged }
     {
-        Sink::of(Target::Standard { stdout, file })
+        Sink::of(Target::Held(HeldFile::new(file, Room::new(alloc))))
     }
 
     fn of(target: Target<F>) -> Sink<F>
@@ -90,13 +83,6 @@ impl<F: SystemFile + Drop> Sink<F> {
         }
     }
 
-    /// Whether its bytes go to a file that is written at places.
-    pub(crate) fn has_file(&self) -> bool
-        ensures { result ≡ has_file self.now.target }
-    {
-        self.target.has_file()
-    }
-
     /// Whether so many zeros may be a hole.
     pub(crate) fn takes_hole(&self, n: u64) -> bool {
         self.target.takes_hole(n)
@@ -127,8 +113,7 @@ impl<F: SystemFile + Drop> Sink<F> {
     /// Has all written that it holds, and synced, where that is wanted. It answers all that it was given, and its file. Why
     /// that could not be done, by the number of the system's error: then its file is closed. Standard output stays open.
     pub(crate) fn end(self, is_synced: bool) -> Result<Ended<F>, Option<i32>>
-        ensures ends { IfOk result (EndsWith F.tells F.stands F.past is_synced self.log.state.bytes) }
-        ensures there { IfOk result (λ ended. IsTrue (has_file self.target) → IsTrue (is_some ended.file)) }
+        ensures { IfOk result (EndsWith F.tells F.stands F.past is_synced self.log.state.bytes) }
     {
         match self.target.end(self.log, is_synced) {
             Ok(ended) => Ok(ended),

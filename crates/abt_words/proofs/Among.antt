@@ -1,5 +1,5 @@
 -- The rows of a command stand in its table.
-use Rattle.std.proofs.Common.{◌+◌, ◌≡◌, ◌<◌, ◌∙◌, ℕ, List, ◌++◌, arith, sym, ap, subst, map, length, get_or}
+use Rattle.std.proofs.Common.{◌≡◌, ◌∙◌, List, ◌++◌, arith, sym, ap, subst, map, get_or}
 use Rattle.std.specs.Prelude.{Contains}
 use Rattle.std.specs.List.{All}
 use Rattle.std.proofs.lemmas.List.{get_or-map, length-map}

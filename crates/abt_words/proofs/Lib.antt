@@ -1,4 +1,6 @@
 pub mod Among
 pub mod Filling
 pub mod Lists
+pub mod Split
+pub mod Steps
 pub mod Told

@@ -1,9 +1,9 @@
 -- Lists that a loop goes through, one element further.
-use Rattle.std.proofs.Common.{◌+◌, zero, suc, ◌≡◌, ℕ, ◌<◌, ◌≤◌, List, [], ◌∷◌, ◌++◌, Option, Some, None, refl, sym, ◌∙◌}
-use Rattle.std.proofs.Common.{ap, subst, drop, length, map, get_or}
-use Rattle.std.specs.Prelude.{Bool, true, false, cond}
-use Rattle.std.specs.List.{filter, find}
-use Rattle.std.proofs.lemmas.List.{drop_all, drop_more, append-nil, append_assoc}
+use Rattle.std.proofs.Common.{◌+◌, zero, suc, ◌≡◌, ℕ, ◌<◌, ◌≤◌, List, [], ◌∷◌, ◌++◌, Some, None, sym, ◌∙◌}
+use Rattle.std.proofs.Common.{ap, subst, drop, length, get_or}
+use Rattle.std.specs.Prelude.{Bool, true, false}
+use Rattle.std.specs.List.{find}
+use Rattle.std.proofs.lemmas.List.{drop_all, drop_more, append-nil}
 use Rattle.std.proofs.lemmas.Bool.{cond-true, cond-false}
 use Rattle.abt_words.specs.Spelled.{left_of, struck, SaysValue, joined, apart, behind}
 

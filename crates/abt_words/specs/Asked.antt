@@ -1,9 +1,12 @@
 -- What the answers to the rows of a command's table ask for.
 use Rattle.std.specs.Prelude.{◌≡◌, ℕ, ◌++◌, List, [], Bool, false, Option, Some, None, map, codes, bytes_eq, is_some}
-use Rattle.std.specs.Prelude.{unwrap_or, option_map}
+use Rattle.std.specs.Prelude.{unwrap_or, option_map, IsTrue, IfSome, ◌∷◌, ◌||◌}
 use Rattle.std.specs.Prelude.{if◌then◌else◌, nat_lt}
-use Rattle.std.specs.List.{filter, find, AllZip}
+use Rattle.std.specs.List.{filter, find, All, AllZip}
+use Rattle.abt_values.specs.NumberWord.{IsRead}
 use Rattle.abt_words.specs.declared.answers.Answer.{Answer}
+use Rattle.abt_words.specs.declared.completions.Shell.{Shell}
+use Rattle.abt_words.specs.declared.completions.Shell.TheVariants as shells
 use Rattle.abt_words.specs.declared.order.Order.{Order}
 use Rattle.abt_words.specs.declared.order.Task.{Task}
 use Rattle.abt_words.specs.declared.order.Task.TheVariants as tasks
@@ -14,8 +17,8 @@ use Rattle.abt_words.specs.declared.order.BootTask.TheVariants as boot
 use Rattle.abt_words.specs.declared.order.Pieces.{Pieces}
 use Rattle.abt_words.specs.declared.order.PackOrder.{PackOrder}
 use Rattle.abt_words.specs.declared.order.Given.{Given}
-use Rattle.abt_words.specs.Spelled.{AreSpelled}
-use Rattle.abt_words.specs.Table.{AreFrom, Shape, name_of, option_rows, rows_of, shape_of, work_of}
+use Rattle.abt_words.specs.Table.{Shape, name_of, option_rows, rows_of, shape_of, telling_rows, work_of}
+use Rattle.abt_words.specs.Words.{AreRead, Saying, answers_due, says_name, left_over, of_row, words_by_place}
 
 -- whether it answers the row of this name
 abbrev pub is_named : List ℕ → Answer → Bool
@@ -73,9 +76,9 @@ AsksSparse all (sparse.Expand inputs output) = (map (λ s. s.now) inputs.items �
 AsksSparse all (sparse.List input) = input.now ≡ word_named (codes "IN") all
 AsksSparse all (sparse.Sparse input output block) = (input.now ≡ word_named (codes "IN") all)
     × (output.now ≡ word_named (codes "OUT") all) × (block ≡ unwrap_or (number_named (codes "block") all) 0)
-AsksSparse all (sparse.Cut input limit prefix raw) = (input.now ≡ word_named (codes "IN") all)
+AsksSparse all (sparse.Cut input limit prefix from_zero raw) = (input.now ≡ word_named (codes "IN") all)
     × (limit ≡ unwrap_or (number_named (codes "LIMIT") all) 0) × (prefix.now ≡ word_named (codes "PREFIX") all)
-    × (raw ≡ number_named (codes "raw") all)
+    × (from_zero ≡ false) × (raw ≡ number_named (codes "raw") all)
 AsksSparse all (sparse.Flash input partition raw pieces) = (input.now ≡ word_named (codes "IN") all)
     × (partition.now ≡ word_named (codes "PARTITION") all) × (raw ≡ number_named (codes "raw") all)
     × AsksPieces all pieces
@@ -104,19 +107,62 @@ AsksBoot all (boot.Unpack input folder with_words) = (input.now ≡ word_named (
 AsksBoot all (boot.Info input with_check with_hex) = (input.now ≡ word_named (codes "IN") all)
     × (with_check ≡ flag_named (codes "check") all) × (with_hex ≡ flag_named (codes "hex") all)
 
+abbrev pub shell_named : List ℕ → Shell
+shell_named name =
+    if bytes_eq name (codes "zsh") then shells.Zsh
+    else if bytes_eq name (codes "fish") then shells.Fish else shells.Bash
+
 abbrev pub Asks : List Answer → Task → Type 0
 Asks all (tasks.Sparse task) = AsksSparse all task
 Asks all (tasks.Boot task) = AsksBoot all task
-Asks all (tasks.Completions shell) = Unit {0}
+Asks all (tasks.Completions shell) = shell ≡ shell_named (word_named (codes "SHELL") all)
 
 -- ---- an order
 
--- the words ask for it: answers to rows of its command's table stand among them, and ask for its task
+-- a row that must be answered is; beside what it needs, and without what it excludes
+pub record IsEnough (all : List Answer) (row : Shape) : Type 0 where
+  pub required : IsTrue row.required → IsTrue (is_some (answer_named row.name all))
+  pub needs : IsTrue (is_some (answer_named row.name all)) → IfSome row.needs (λ other.
+      IsTrue (is_some (answer_named other all)))
+  pub excludes : IsTrue (is_some (answer_named row.name all)) → IfSome row.excludes (λ other.
+      is_some (answer_named other all) ≡ false)
+
+abbrev pub saying_of_answer : Answer → Saying
+saying_of_answer a = of_row (shape_of a.row.now) a.word.now
+
+abbrev pub IsReadRight : Answer → Type 0
+IsReadRight a = IsRead a.row.now.value a.word.now a.number
+
+-- the answers are what is said of each row, else its default; no word is left, and each number is the one that its word
+-- writes
+pub record AreAnswers (table : List Shape) (said : List Saying) (all : List Answer) : Type 0 where
+  pub are : map saying_of_answer all ≡ answers_due table said (words_by_place said)
+  pub none_left : left_over table (words_by_place said) ≡ []
+  pub read : All IsReadRight all
+  pub enough : All (IsEnough all) table
+
+-- the words are the program's, options, the command's name, and those behind it
+pub record IsSplit (words : List (List ℕ)) (command : List ℕ) (front behind : List (List ℕ)) : Type 0 where
+  pub program : List ℕ
+  pub parts : words ≡ program ∷ (front ++ (command ∷ behind))
+
+-- the words ask for it: each of them is used once, and what they answer to the rows of the command asks for its task
 pub record IsOrderOf (words : List (List ℕ)) (order : Order) : Type 0 where
-  pub all : List Answer
-  pub from : AreFrom (rows_of (work_of order.task)) all
+  pub front : List (List ℕ)
+  pub behind : List (List ℕ)
+  pub split : IsSplit words order.command.now front behind
   pub command : order.command.now ≡ name_of (work_of order.task)
-  pub spelled : AreSpelled words order.command.now all
+  -- what is said before the command: options alone
+  pub before : List Saying
+  pub first : AreRead telling_rows front before
+  pub options : words_by_place before ≡ []
+  -- what is said behind it, and the answers
+  pub said : List Saying
+  pub reads : AreRead (rows_of (work_of order.task)) behind said
+  pub all : List Answer
+  pub answers : AreAnswers (rows_of (work_of order.task)) said all
   pub asks : Asks all order.task
-  pub synced : order.is_synced ≡ flag_named (codes "sync") all
-  pub mounted : order.is_mounted_allowed ≡ flag_named (codes "mounted") all
+  pub verbose : order.is_verbose ≡ (says_name (codes "verbose") before || says_name (codes "verbose") said)
+  pub quiet : order.is_quiet ≡ (says_name (codes "quiet") before || says_name (codes "quiet") said)
+  pub synced : order.is_synced ≡ says_name (codes "sync") said
+  pub mounted : order.is_mounted_allowed ≡ says_name (codes "mounted") said

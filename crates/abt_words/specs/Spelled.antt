@@ -1,11 +1,10 @@
--- Answers that stand among the words of the command line.
-use Rattle.std.specs.Prelude.{◌≡◌, ◌⊎◌, ℕ, List, [], ◌∷◌, ◌++◌, Bool, true, false, Option, Some, None, IsTrue, codes}
+-- Answers that stand among words.
+use Rattle.std.specs.Prelude.{◌≡◌, ◌⊎◌, ℕ, List, [], ◌∷◌, ◌++◌, Bool, true, false, Option, Some, codes}
 use Rattle.std.specs.Prelude.{map}
 use Rattle.std.specs.Prelude.{bytes_eq, if◌then◌else◌, Contains, option_map}
-use Rattle.std.specs.List.{filter, All}
+use Rattle.std.specs.List.{filter}
 use Rattle.abt_values.specs.declared.rows.Place.{Place}
 use Rattle.abt_values.specs.declared.rows.Place.TheVariants as places
-use Rattle.abt_values.specs.NumberWord.{IsRead}
 use Rattle.abt_words.specs.declared.answers.Answer.{Answer}
 
 -- ---- words by their place
@@ -58,16 +57,3 @@ IsSaidBy words (places.ShortFlag letter) name default word = Unit {0}
 abbrev pub IsSaid : List (List ℕ) → Answer → Type 0
 IsSaid words a = IsSaidBy words a.row.now.place a.row.now.name.now (option_map (λ s. s.now) a.row.now.default)
     a.word.now
-
--- ---- all answers
-
--- an option or a flag is said, and its number is the one that its word writes
-pub record Stands (words : List (List ℕ)) (a : Answer) : Type 0 where
-  pub said : IsSaid words a
-  pub read : IsRead a.row.now.value a.word.now a.number
-
--- the command's name and then the answers to words by their place stand among the words, in the order of the table, and
--- so does each of the others
-pub record AreSpelled (words : List (List ℕ)) (command : List ℕ) (all : List Answer) : Type 0 where
-  pub placed : left_of (command ∷ placed_words all) words ≡ []
-  pub each : All (Stands words) all

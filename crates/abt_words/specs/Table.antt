@@ -1,5 +1,6 @@
 -- The table of the command line: the rows of each command.
-use Rattle.std.specs.Prelude.{◌≡◌, ℕ, List, [], ◌∷◌, ◌++◌, Option, Some, None, Contains, codes, map, option_map}
+use Rattle.std.specs.Prelude.{ℕ, List, [], ◌∷◌, ◌++◌, Bool, true, false, Option, Some, None, Contains, codes}
+use Rattle.std.specs.Prelude.{option_map}
 use Rattle.std.specs.List.{All}
 use Rattle.abt_values.specs.declared.rows.Place.{Place}
 use Rattle.abt_values.specs.declared.rows.Place.TheVariants as places
@@ -22,6 +23,10 @@ pub record Shape : Type 0 where
   pub place : Place
   pub value : Option Value
   pub default : Option (List ℕ)
+  -- it must be answered; what must be answered beside it, and what must not
+  pub required : Bool
+  pub needs : Option (List ℕ)
+  pub excludes : Option (List ℕ)
 
 abbrev pub plain_value : Value → Option Value
 plain_value (values.Name names) = None
@@ -33,15 +38,35 @@ shape_of row = record {
   place = row.place;
   value = plain_value row.value;
   default = option_map (λ s. s.now) row.default;
+  required = row.is_required;
+  needs = option_map (λ s. s.now) row.needs;
+  excludes = option_map (λ s. s.now) row.excludes;
 }
 
 -- ---- kinds of rows
 
 abbrev pub row : Place → Value → List ℕ → Shape
-row place value name = record { name = name; place = place; value = Some value; default = None }
+row place value name = record {
+  name = name;
+  place = place;
+  value = Some value;
+  default = None;
+  required = false;
+  needs = None;
+  excludes = None;
+}
+
+abbrev pub required : Shape → Shape
+required shape = record shape { required = true }
+
+abbrev pub needs : List ℕ → Shape → Shape
+needs other shape = record shape { needs = Some other }
+
+abbrev pub excludes : List ℕ → Shape → Shape
+excludes other shape = record shape { excludes = Some other }
 
 abbrev pub path : List ℕ → Shape
-path name = row places.Word values.File name
+path name = required (row places.Word values.File name)
 
 abbrev pub part : List ℕ → Shape
 part name = row places.Option values.File name
@@ -75,7 +100,7 @@ option_rows =
     ∷ number (codes "base") ∷ number (codes "kernel-offset") ∷ number (codes "ramdisk-offset")
     ∷ number (codes "second-offset") ∷ number (codes "tags-offset")
     ∷ row places.Option values.LongNumber (codes "dtb-offset")
-    ∷ row places.Option values.Os (codes "os") ∷ number (codes "os-number")
+    ∷ excludes (codes "os-number") (row places.Option values.Os (codes "os")) ∷ number (codes "os-number")
     ∷ row places.Option values.Text (codes "name") ∷ row places.Option values.CommandLine (codes "cmdline") ∷ []
 
 abbrev pub packing_rows : List Shape
@@ -86,26 +111,28 @@ packing_rows =
 -- ---- the rows of each command
 
 abbrev pub own_rows_of : Work → List Shape
-own_rows_of works.Expand = row places.Words values.File (codes "IN") ∷ path (codes "OUT") ∷ []
+own_rows_of works.Expand = required (row places.Words values.File (codes "IN")) ∷ path (codes "OUT") ∷ []
 own_rows_of works.List = path (codes "IN") ∷ []
 own_rows_of works.Sparse =
     path (codes "IN") ∷ path (codes "OUT") ∷ usual (codes "4096") (number (codes "block")) ∷ []
 own_rows_of works.Cut =
-    path (codes "IN") ∷ row places.Word values.Number (codes "LIMIT") ∷ path (codes "PREFIX")
+    path (codes "IN") ∷ required (row places.Word values.Number (codes "LIMIT")) ∷ path (codes "PREFIX")
     ∷ number (codes "raw") ∷ []
 own_rows_of works.Flash =
-    path (codes "IN") ∷ path (codes "PARTITION") ∷ row places.Word values.Number (codes "LIMIT")
-    ∷ path (codes "SPOOL") ∷ number (codes "raw") ∷ row places.Option (values.Count 1) (codes "from")
+    path (codes "IN") ∷ path (codes "PARTITION")
+    ∷ needs (codes "SPOOL") (row places.Word values.Number (codes "LIMIT"))
+    ∷ row places.Word values.File (codes "SPOOL") ∷ number (codes "raw")
+    ∷ needs (codes "SPOOL") (row places.Option (values.Count 1) (codes "from"))
     ∷ flag (codes "mounted") ∷ []
 own_rows_of works.Verify = path (codes "IN") ∷ path (codes "PARTITION") ∷ number (codes "raw") ∷ []
 own_rows_of works.Pack =
-    flag (codes "vendor") ∷ row places.Option (values.Count 0) (codes "version")
+    flag (codes "vendor") ∷ required (row places.Option (values.Count 0) (codes "version"))
     ∷ usual (codes "4096") (number (codes "page")) ∷ []
 own_rows_of works.Repack = path (codes "IN") ∷ number (codes "page") ∷ flag (codes "keep-trailing") ∷ []
 own_rows_of works.Unpack = path (codes "IN") ∷ path (codes "DIR") ∷ flag (codes "words") ∷ []
 own_rows_of works.Info = flag (codes "check") ∷ flag (codes "hex") ∷ path (codes "IN") ∷ []
 own_rows_of works.Completions =
-    record { name = codes "SHELL"; place = places.Word; value = None; default = None } ∷ []
+    record (path (codes "SHELL")) { value = None } ∷ []
 
 abbrev pub filling_rows_of : Work → List Shape
 filling_rows_of works.Pack = option_rows
@@ -150,7 +177,7 @@ abbrev pub work_of_sparse : SparseTask → Work
 work_of_sparse (sparse.Expand inputs output) = works.Expand
 work_of_sparse (sparse.List input) = works.List
 work_of_sparse (sparse.Sparse input output block) = works.Sparse
-work_of_sparse (sparse.Cut input limit prefix raw) = works.Cut
+work_of_sparse (sparse.Cut input limit prefix from_zero raw) = works.Cut
 work_of_sparse (sparse.Flash input partition raw pieces) = works.Flash
 work_of_sparse (sparse.Verify input partition raw) = works.Verify
 

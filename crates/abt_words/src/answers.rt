@@ -1,16 +1,21 @@
 //! What was given for each row of a command's table.
 
 ghost use Rattle.std.specs.Prelude.{◌≡◌, ◌++◌, IfOk, IfErr, OnOk, map, option_map, unwrap_or, nat_lt, Some, None};
-ghost use Rattle.std.specs.Prelude.{Contains, List, [], ◌∷◌, if◌then◌else◌};
+ghost use Rattle.std.specs.Prelude.{Contains, List, [], ◌∷◌, ◌≤◌, if◌then◌else◌, IfSome, IsTrue, is_some, false};
+ghost use Rattle.std.specs.Prelude.{drop, length, take};
+ghost use Rattle.std.specs.List.{All};
 ghost use Rattle.abt_values.specs.NumberWord.{IsRead};
-ghost use Rattle.abt_words.specs.Asked.{IsGiven, answer_named, answer_number, flag_named, number_named, word_named, words_named};
+ghost use Rattle.abt_words.specs.Asked.{IsEnough, IsGiven, IsReadRight, saying_of_answer, answer_named, answer_number, flag_named, number_named, word_named, words_named};
 ghost use Rattle.abt_words.specs.Refused.{TellsNoNumber};
-ghost use Rattle.abt_words.specs.Table.{AreFrom, AreRows, Shape, rows_of, shape_of};
+ghost use Rattle.abt_words.specs.Table.{AreFrom, AreRows, Shape, shape_of};
+ghost use Rattle.abt_words.specs.Words.{answers_due, words_due, default_words, left_over, of_row, option_list};
+ghost use Rattle.abt_words.specs.Words.{saying_of, words_of_row};
 
 use crate::fault::WordsFault;
 use crate::order::Given;
-use crate::rows::CommandRow;
-use abt_values::{Row, Value, number_in, number_word};
+use crate::saying::{Said, push_said};
+use crate::spelling::is_placed;
+use abt_values::{Place, Row, Value, number_in, number_word};
 use clap::ArgMatches;
 use std::alloc::{AllocError, Global};
 
@@ -57,23 +62,14 @@ pub struct Answers<'a> {
 }
 
 impl<'a> Answers<'a> {
-    /// What a parse found for the rows of this command.
-    pub(crate) fn new(
-        alloc: Global,
-        command: &CommandRow,
-        found: &ArgMatches<'a>,
-        is_verbose: bool,
-    ) -> Result<Answers<'a>, WordsFault>
-        ensures { IfOk result (λ answers. AreFrom (rows_of command.now.work) answers.all.items) }
+    /// No answers yet.
+    pub(crate) fn new(alloc: Global, is_verbose: bool) -> Answers<'a>
+        ensures { result.all.items ≡ [] }
     {
-        let mut answers = Answers {
+        Answers {
             all: Vec::new(alloc),
-            is_verbose: is_told_more(found, is_verbose),
-        };
-        answers.read_rows(alloc, command.own_rows(), found)?;
-        answers.read_rows(alloc, command.filling_rows(), found)?;
-        answers.read_rows(alloc, command.shared_rows(), found)?;
-        Ok(answers)
+            is_verbose,
+        }
     }
 
     /// What a parse found for the rows of a tool.
@@ -84,15 +80,12 @@ impl<'a> Answers<'a> {
     ) -> Result<Answers<'a>, WordsFault>
         ensures { IfOk result (λ answers. AreFrom (map shape_of rows.now) answers.all.items) }
     {
-        let mut answers = Answers {
-            all: Vec::new(alloc),
-            is_verbose: false,
-        };
-        answers.read_rows(alloc, rows, found)?;
+        let mut answers = Answers::new(alloc, false);
+        answers.read_found(alloc, rows, found)?;
         Ok(answers)
     }
 
-    fn read_rows(
+    fn read_found(
         &mut self,
         alloc: Global,
         rows: &'static [Row],
@@ -110,14 +103,41 @@ impl<'a> Answers<'a> {
         Ok(())
     }
 
+    /// Adds what is said of each of these rows, else its default, where these are the words by their place; whether none
+    /// of these is left.
+    pub(crate) fn read_rows(
+        &mut self,
+        alloc: Global,
+        rows: &[&'static Row],
+        said: &[Said<'a>],
+        placed: &[&'a str],
+    ) -> Result<bool, WordsFault>
+        ensures are { OnOk result (map saying_of_answer self.new.all.items ≡ map saying_of_answer self.old.all.items
+            ++ answers_due (map (λ row. shape_of row.now) rows.now) (map saying_of said.now) (map (λ s. s.now) placed.now)) }
+        ensures read { All IsReadRight self.old.all.items → OnOk result (All IsReadRight self.new.all.items) }
+        ensures left { IfOk result (λ is_all. IsTrue is_all →
+            left_over (map (λ row. shape_of row.now) rows.now) (map (λ s. s.now) placed.now) ≡ []) }
+    {
+        let mut left = placed;
+        for row in rows {
+            let words = words_for(alloc, row, said, left)?;
+            self.read_words(alloc, row, words.as_slice())?;
+            left = later_words(row.place, left);
+        }
+        Ok(left.is_empty())
+    }
+
     fn read_words(
         &mut self,
         alloc: Global,
         row: &'static Row,
         words: &[&'a str],
     ) -> Result<(), WordsFault>
-        ensures { (table : List Shape) → AreFrom table self.old.all.items → Contains table (shape_of row.now) →
+        ensures from { (table : List Shape) → AreFrom table self.old.all.items → Contains table (shape_of row.now) →
             OnOk result (AreFrom table self.new.all.items) }
+        ensures are { OnOk result (map saying_of_answer self.new.all.items ≡ map saying_of_answer self.old.all.items
+            ++ map (of_row (shape_of row.now)) (map (λ s. s.now) words.now)) }
+        ensures read { OnOk result (All IsReadRight self.old.all.items → All IsReadRight self.new.all.items) }
     {
         for word in words {
             let answer = Answer::new(alloc, row, *word, self.is_verbose)?;
@@ -205,6 +225,54 @@ impl<'a> Answers<'a> {
         }
     }
 
+    /// Whether these rows are answered as they must be.
+    pub(crate) fn are_enough(&self, rows: &[&'static Row]) -> bool
+        ensures { IsTrue result → All (IsEnough self.now.all.items) (map (λ row. shape_of row.now) rows.now) }
+    {
+        for row in rows {
+            if !self.is_enough(row) {
+                return false;
+            }
+        }
+        true
+    }
+
+    // Whether a row that must be answered is; beside what it needs, and without what it excludes.
+    fn is_enough(&self, row: &'static Row) -> bool
+        ensures { IsTrue result → IsEnough self.now.all.items (shape_of row.now) }
+    {
+        if !self.is_answered(row.name) {
+            return !row.is_required;
+        }
+        self.has_needed(row.needs) && !self.has_excluded(row.excludes)
+    }
+
+    fn has_needed(&self, other: Option<&'static str>) -> bool
+        ensures { IsTrue result → IfSome other.entry (λ name. IsTrue (is_some (answer_named name.now
+            self.now.all.items))) }
+    {
+        match other {
+            Some(name) => self.is_answered(name),
+            None => true,
+        }
+    }
+
+    fn has_excluded(&self, other: Option<&'static str>) -> bool
+        ensures { result ≡ false → IfSome other.entry (λ name. is_some (answer_named name.now
+            self.now.all.items) ≡ false) }
+    {
+        match other {
+            Some(name) => self.is_answered(name),
+            None => false,
+        }
+    }
+
+    fn is_answered(&self, name: &str) -> bool
+        ensures { result ≡ is_some (answer_named name.now self.now.all.items) }
+    {
+        self.find(name).is_some()
+    }
+
     /// Whether this flag was given.
     pub fn flag(&self, name: &str) -> bool
         ensures { result ≡ flag_named name.now self.now.all.items }
@@ -235,9 +303,68 @@ fn is_not_taken(value: Value) -> bool {
     }
 }
 
-// Whether words before the command, or those behind it, ask for the second line of a refusal.
-fn is_told_more(found: &ArgMatches<'_>, is_verbose: bool) -> bool {
-    is_verbose || found.get_flag("verbose")
+// The words that answer a row, where these are the words by their place that are left for it.
+fn words_for<'a>(
+    alloc: Global,
+    row: &'static Row,
+    said: &[Said<'a>],
+    placed: &[&'a str],
+) -> Result<Vec<&'a str>, AllocError>
+    ensures { IfOk result (λ words. map (λ s. s.now) words.items ≡ words_of_row (shape_of row.now) (map saying_of said.now)
+        (map (λ s. s.now) placed.now)) }
+{
+    let mut words = Vec::new(alloc);
+    if is_placed(row.place) {
+        words.extend_from_slice(next_words(row.place, placed))?;
+        return Ok(words);
+    }
+    push_said(row.name, said, &mut words)?;
+    if words.is_empty() {
+        if let Some(word) = default_word(row.place, row.default) {
+            words.push(word)?;
+        }
+    }
+    Ok(words)
+}
+
+// Those that go to a row.
+fn next_words<'b, 'a>(place: Place, placed: &'b [&'a str]) -> &'b [&'a str]
+    ensures { map (λ s. s.now) result.now ≡ take (words_due place (length (map (λ s. s.now) placed.entry.now)))
+        (map (λ s. s.now) placed.entry.now) }
+{
+    &placed[..count_of(place, placed.len())]
+}
+
+// Those that are left behind it.
+fn later_words<'b, 'a>(place: Place, placed: &'b [&'a str]) -> &'b [&'a str]
+    ensures { map (λ s. s.now) result.now ≡ drop (words_due place (length (map (λ s. s.now) placed.entry.now)))
+        (map (λ s. s.now) placed.entry.now) }
+{
+    &placed[count_of(place, placed.len())..]
+}
+
+// How many of so many words by their place go to a row.
+fn count_of(place: Place, many: usize) -> usize
+    ensures count { result ≡ words_due place many }
+    ensures most { result ≤ many }
+{
+    match place {
+        Place::Word => if many == 0 { 0 } else { 1 },
+        Place::Words => many.saturating_sub(1),
+        Place::LastWords => many,
+        Place::Option | Place::Options | Place::Letter | Place::Flag | Place::ShortFlag(_) => 0,
+    }
+}
+
+// What an option or a flag has where nothing is said of it.
+fn default_word(place: Place, default: Option<&'static str>) -> Option<&'static str>
+    ensures { option_list (option_map (λ s. s.now) result) ≡ default_words place (option_map (λ s. s.now) default.entry) }
+{
+    match place {
+        Place::Flag | Place::ShortFlag(_) => Some("false"),
+        Place::Word | Place::Words | Place::LastWords => default,
+        Place::Option | Place::Options | Place::Letter => default,
+    }
 }
 
 // A number of 32 bits.

@@ -36,7 +36,7 @@ _abootimg() {
     elif [ "$at" = "$COMP_CWORD" ]; then
         words=' expand list sparse cut flash verify pack repack unpack info completions help as -v --verbose -q --quiet -h --help -V --version'
     elif [ "${COMP_WORDS[1]}" = as ] && [ "$COMP_CWORD" = 2 ]; then
-        words='simg2img img2simg mkbootimg'
+        words='simg2img img2simg mkbootimg simg2simg unpack_bootimg'
     elif [ "${word#-}" != "$word" ]; then
         case ${COMP_WORDS[at]} in
             expand) words=' --sync --mounted -v --verbose -q --quiet -h --help' ;;
@@ -81,7 +81,7 @@ _abootimg() {
         return
     fi
     if [[ $words[2] == as ]] && (( CURRENT == 3 )); then
-        compadd -- simg2img img2simg mkbootimg
+        compadd -- simg2img img2simg mkbootimg simg2simg unpack_bootimg
         return
     fi
     if [[ $words[CURRENT] == --*=* ]]; then
@@ -230,7 +230,7 @@ complete -c abootimg -n '__fish_seen_subcommand_from completions' -l verbose -s 
 complete -c abootimg -n '__fish_seen_subcommand_from completions' -l quiet -s q -d 'Does not show on a terminal how far the work is'
 complete -c abootimg -n __fish_use_subcommand -f -a help -d 'Prints the help of a command'
 complete -c abootimg -n __fish_use_subcommand -f -a as -d 'Reads the words as one of AOSP\'s tools does'
-complete -c abootimg -n 'test (count (commandline -opc)) = 2; and __fish_seen_subcommand_from as' -f -a 'simg2img img2simg mkbootimg'
+complete -c abootimg -n 'test (count (commandline -opc)) = 2; and __fish_seen_subcommand_from as' -f -a 'simg2img img2simg mkbootimg simg2simg unpack_bootimg'
 complete -c abootimg -n 'string match -q -- \'@*\' (commandline -ct)' -a '(complete -C "\'\' "(string sub -s 2 -- (commandline -ct)) | string replace -r -- \'^\' @)'
 complete -c abootimg -n '__fish_seen_subcommand_from completions' -f -a 'bash zsh fish'
 complete -c abootimg -n '__fish_seen_subcommand_from help' -f -a 'expand list sparse cut flash verify pack repack unpack info completions'

@@ -1,5 +1,8 @@
 //! What shells need to complete the words of the program.
 
+ghost use Rattle.std.specs.Prelude.{◌≡◌};
+ghost use Rattle.abt_words.specs.Asked.{shell_named};
+
 use crate::completion_texts::{BASH, FISH, ZSH};
 
 /// A shell that words are completed in.
@@ -12,7 +15,9 @@ pub enum Shell {
 
 impl Shell {
     /// The shell of this name, one of those in the table.
-    pub(crate) fn new(name: &str) -> Shell {
+    pub(crate) fn new(name: &str) -> Shell
+        ensures { result ≡ shell_named name.now }
+    {
         match name {
             "zsh" => Shell::Zsh,
             "fish" => Shell::Fish,

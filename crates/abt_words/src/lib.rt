@@ -9,6 +9,7 @@ mod order;
 mod parser;
 mod reading;
 mod rows;
+mod saying;
 mod spelling;
 mod table;
 

@@ -53,6 +53,8 @@ pub enum SparseTask<'a> {
         input: &'a str,
         limit: u32,
         prefix: &'a str,
+        /// Whether the first piece has the number 0, in the place of 1.
+        is_from_zero: bool,
         raw: Option<u32>,
     },
     /// Flash an image to a partition, whole or in pieces; a raw one where the bytes of its blocks are given.

@@ -1,9 +1,11 @@
 //! Reading the words: what the answers to a command's rows ask for.
 
-ghost use Rattle.std.specs.Prelude.{◌≡◌, IfOk, IfSome, map};
+ghost use Rattle.std.specs.Prelude.{◌≡◌, ◌||◌, [], ℕ, List, IfOk, IfSome, map};
 ghost use Rattle.std.specs.List.{AllZip};
-ghost use Rattle.abt_words.specs.Asked.{Asks, AsksBoot, AsksPack, AsksPieces, AsksSparse, IsGiven, IsOrderOf};
-ghost use Rattle.abt_words.specs.Table.{name_of, option_rows, work_of, work_of_boot, work_of_sparse};
+ghost use Rattle.abt_words.specs.Asked.{AreAnswers, Asks, AsksBoot, AsksPack, AsksPieces, AsksSparse, IsGiven};
+ghost use Rattle.abt_words.specs.Asked.{IsOrderOf, IsSplit};
+ghost use Rattle.abt_words.specs.Table.{name_of, option_rows, shape_of, telling_rows, work_of, work_of_boot, work_of_sparse};
+ghost use Rattle.abt_words.specs.Words.{AreRead, says_name, saying_of, words_by_place};
 ghost use Rattle.abt_words.specs.declared.rows.Work.TheVariants as works;
 
 use crate::answers::Answers;
@@ -12,42 +14,130 @@ use crate::fault::WordsFault;
 use crate::order::{BootTask, Given, Order, PackOrder, Pieces, SparseTask, Task};
 use crate::parser::program;
 use crate::rows::{CommandRow, Work};
-use crate::spelling::are_spelled;
-use crate::table::{commands, options};
+use crate::saying::{Said, is_said, placed_words, read};
+use crate::table::{commands, front_rows, options};
+use abt_values::Row;
 use clap::error::ErrorKind;
 use std::alloc::{AllocError, Global};
 use std::convert::AsStr;
 
-/// Reads the words, of which the first is the program's name. How clap reads them is not trusted: each answer is found
-/// again among the words.
+/// Reads the words, of which the first is the program's name. Clap tells what is wrong with them; what they ask for is
+/// read here, and nothing rests on how clap read them.
 pub fn order_of<'a, S: AsStr>(alloc: Global, words: &'a [S]) -> Result<Order<'a>, WordsFault>
-    ensures { IfOk result (IsOrderOf (map S.text words.now)) }
+    ensures { IfOk result (IsOrderOf (map S.text words.entry.now)) }
 {
-    let mut found = program(alloc)?.try_get_matches_from(words)?;
-    let is_verbose = found.get_flag("verbose");
-    let is_quiet = found.get_flag("quiet");
-    if let Some((name, found)) = found.remove_subcommand() {
-        if let Some(command) = command_named(name) {
-            let answers = Answers::new(alloc, command, &found, is_verbose)?;
-            if !are_spelled(alloc, words, command.name, answers.all.as_slice())? {
-                return Err(misread(alloc)?);
-            }
-            return Ok(Order {
-                command: command.name,
-                task: task_for(alloc, command.work, &answers)?,
-                is_verbose: answers.is_verbose,
-                is_quiet: is_quiet || answers.flag("quiet"),
-                is_synced: answers.flag("sync"),
-                is_mounted_allowed: answers.flag("mounted"),
+    let _found = program(alloc)?.try_get_matches_from(words)?;
+    let Some(parts) = split(words) else {
+        return Err(misread(alloc)?);
+    };
+    match read_parts(alloc, parts)? {
+        Some(order) => Ok(order),
+        None => Err(misread(alloc)?),
+    }
+}
+
+/// The options before a command, the command, and the words behind it.
+#[derive(Clone, Copy)]
+struct Parts<'a, S> {
+    front: &'a [S],
+    command: &'static CommandRow,
+    behind: &'a [S],
+}
+
+// The words at the first name of a command.
+fn split<'a, S: AsStr>(words: &'a [S]) -> Option<Parts<'a, S>>
+    ensures command { IfSome result (λ parts. parts.command.now.name.now ≡ name_of parts.command.now.work) }
+    ensures words { IfSome result (λ parts. IsSplit (map S.text words.entry.now) parts.command.now.name.now
+        (map S.text parts.front.now) (map S.text parts.behind.now)) }
+{
+    for i in 1..words.len() {
+        if let Some(command) = command_named(words[i].as_str()) {
+            return Some(Parts {
+                front: &words[1..i],
+                command,
+                behind: &words[i + 1..],
             });
         }
     }
-    Err(no_command(alloc)?)
+    None
 }
 
-fn no_command(alloc: Global) -> Result<WordsFault, AllocError> {
-    let error = program(alloc)?.error(ErrorKind::MissingSubcommand, "a command is required")?;
-    Ok(WordsFault::Usage(error))
+// What these ask for; none where a word says nothing, or is left over.
+fn read_parts<'a, S: AsStr>(
+    alloc: Global,
+    parts: Parts<'a, S>,
+) -> Result<Option<Order<'a>>, WordsFault>
+    requires { parts.command.now.name.now ≡ name_of parts.command.now.work }
+    ensures { IfOk result (λ found. IfSome found (λ order. (words : List (List ℕ)) →
+        IsSplit words parts.entry.command.now.name.now (map S.text parts.entry.front.now)
+        (map S.text parts.entry.behind.now) → IsOrderOf words order)) }
+{
+    let Some(before) = read_front(alloc, parts.front)? else {
+        return Ok(None);
+    };
+    let rows = parts.command.rows(alloc)?;
+    let Some(said) = read(alloc, rows.as_slice(), parts.behind)? else {
+        return Ok(None);
+    };
+    let is_verbose = is_said_in("verbose", before.as_slice(), said.as_slice());
+    let Some(answers) = answers_to(alloc, rows.as_slice(), said.as_slice(), is_verbose)? else {
+        return Ok(None);
+    };
+    Ok(Some(Order {
+        command: parts.command.name,
+        task: task_for(alloc, parts.command.work, &answers)?,
+        is_verbose,
+        is_quiet: is_said_in("quiet", before.as_slice(), said.as_slice()),
+        is_synced: is_said("sync", said.as_slice()),
+        is_mounted_allowed: is_said("mounted", said.as_slice()),
+    }))
+}
+
+// Whether a flag is said before a command or behind it.
+fn is_said_in(name: &str, before: &[Said<'_>], said: &[Said<'_>]) -> bool
+    ensures { result ≡ (says_name name.now (map saying_of before.now) || says_name name.now (map saying_of said.now)) }
+{
+    is_said(name, before) || is_said(name, said)
+}
+
+// What is said before a command; none where that is not options alone.
+fn read_front<'a, S: AsStr>(
+    alloc: Global,
+    front: &'a [S],
+) -> Result<Option<Vec<Said<'a>>>, AllocError>
+    ensures reads { IfOk result (λ found. IfSome found (λ said. AreRead telling_rows (map S.text front.entry.now)
+        (map saying_of said.items))) }
+    ensures options { IfOk result (λ found. IfSome found (λ said. words_by_place (map saying_of said.items) ≡ [])) }
+{
+    let rows = front_rows(alloc)?;
+    let Some(said) = read(alloc, rows.as_slice(), front)? else {
+        return Ok(None);
+    };
+    if placed_words(alloc, said.as_slice())?.is_empty() {
+        Ok(Some(said))
+    } else {
+        Ok(None)
+    }
+}
+
+// The answers of what is said; none where a word is left over, or one is missing.
+fn answers_to<'a>(
+    alloc: Global,
+    rows: &[&'static Row],
+    said: &[Said<'a>],
+    is_verbose: bool,
+) -> Result<Option<Answers<'a>>, WordsFault>
+    ensures { IfOk result (λ found. IfSome found (λ answers. AreAnswers (map (λ row. shape_of row.now) rows.now)
+        (map saying_of said.now) answers.all.items)) }
+{
+    let placed = placed_words(alloc, said)?;
+    let mut answers = Answers::new(alloc, is_verbose);
+    let is_all = answers.read_rows(alloc, rows, said, placed.as_slice())?;
+    if is_all && answers.are_enough(rows) {
+        Ok(Some(answers))
+    } else {
+        Ok(None)
+    }
 }
 
 // The words were read as others: which no parser does that is right.
@@ -57,7 +147,8 @@ fn misread(alloc: Global) -> Result<WordsFault, AllocError> {
 }
 
 fn command_named(name: &str) -> Option<&'static CommandRow>
-    ensures { IfSome result (λ command. command.now.name.now ≡ name_of command.now.work) }
+    ensures work { IfSome result (λ command. command.now.name.now ≡ name_of command.now.work) }
+    ensures name { IfSome result (λ command. command.now.name.now ≡ name.now) }
 {
     for command in commands() {
         if command.name == name {
@@ -127,6 +218,7 @@ fn cut<'a>(answers: &Answers<'a>) -> SparseTask<'a>
         input: answers.given_word("IN"),
         limit: answers.given_number("LIMIT"),
         prefix: answers.given_word("PREFIX"),
+        is_from_zero: false,
         raw: answers.number("raw"),
     }
 }

@@ -1,29 +1,14 @@
-//! Whether the answers stand among the words, so that nothing rests on how these were read.
+//! Whether answers stand among words, so that nothing rests on how these were read.
 
 ghost use Rattle.std.specs.Prelude.{◌≡◌, [], ◌∷◌, IfOk, IfSome, IsTrue, Contains, ◌++◌, codes, drop, map};
-ghost use Rattle.std.specs.List.{All};
 ghost use Rattle.abt_values.specs.NumberWord.{IsRead};
-ghost use Rattle.abt_words.specs.Spelled.{AreSpelled, IsSaid, SaysValue, Stands, is_word, left_of, placed_words};
+ghost use Rattle.abt_words.specs.Spelled.{IsSaid, SaysValue, is_word, left_of, placed_words};
 ghost use Rattle.abt_words.specs.Spelled.{struck};
 
 use crate::answers::Answer;
 use abt_values::{Place, number_in};
 use std::alloc::{AllocError, Global};
 use std::convert::AsStr;
-
-/// Whether the name of the command and each of these answers stand among the words, and each number is the one that its
-/// word writes.
-pub(crate) fn are_spelled<S: AsStr>(
-    alloc: Global,
-    words: &[S],
-    command: &str,
-    answers: &[Answer<'_>],
-) -> Result<bool, AllocError>
-    ensures { IfOk result (λ are. IsTrue are → AreSpelled (map S.text words.now) command.now answers.now) }
-{
-    let placed = placed_in(alloc, command, answers)?;
-    Ok(are_in_turn(words, placed.as_slice()) && stand(words, answers))
-}
 
 /// The name of the command, and the words that answer rows by their place.
 pub fn placed_in<'a>(
@@ -44,7 +29,7 @@ pub fn placed_in<'a>(
     Ok(placed)
 }
 
-fn is_placed(place: Place) -> bool
+pub(crate) fn is_placed(place: Place) -> bool
     ensures { result ≡ is_word place }
 {
     match place {
@@ -73,18 +58,6 @@ fn behind<'b, 'a>(left: &'b [&'a str], word: &str) -> &'b [&'a str]
     } else {
         left
     }
-}
-
-// Whether each of these stands there.
-fn stand<S: AsStr>(words: &[S], answers: &[Answer<'_>]) -> bool
-    ensures { IsTrue result → All (Stands (map S.text words.now)) answers.now }
-{
-    for answer in answers {
-        if !is_said(words, answer) || !is_read(answer) {
-            return false;
-        }
-    }
-    true
 }
 
 /// Whether its number is the one that its word writes.

@@ -3,12 +3,13 @@
 //!
 //! A row stands on one line, but for its help: `tools/make_completions.py` reads this file too.
 
-ghost use Rattle.std.specs.Prelude.{◌≡◌, map};
+ghost use Rattle.std.specs.Prelude.{◌≡◌, ◌++◌, IfOk, OnOk, map};
 ghost use Rattle.abt_words.specs.Table.{filling_rows_of, name_of, option_rows, own_rows_of, shape_of};
-ghost use Rattle.abt_words.specs.Table.{shared_rows_of};
+ghost use Rattle.abt_words.specs.Table.{rows_of, shared_rows_of, telling_rows};
 
 use crate::rows::{CommandRow, Work};
 use abt_values::{Place, Row, Value};
+use std::alloc::{AllocError, Global};
 
 /// The program's name and version.
 pub(crate) const PROGRAM: &str = "abootimg";
@@ -21,7 +22,7 @@ pub(crate) const ABOUT: &str =
 pub(crate) const AFTER_HELP: &str =
     "Without a command, expands a small built-in image and prints its bytes.\n\
      A word @FILE stands for the lines of that file, @@TEXT for @TEXT.\n\
-     abootimg as NAME WORDS.. reads the words as AOSP's tool NAME does: simg2img, img2simg, mkbootimg.\n\
+     abootimg as NAME WORDS.. reads the words as AOSP's tool NAME does: simg2img, img2simg, simg2simg, mkbootimg.\n\
      Exit status: 0 done, 1 refused, 2 wrong use.";
 
 // ---- what rows have in common
@@ -148,8 +149,29 @@ static PACKING: [Row; 9] = [
 ];
 
 /// The options that may stand before the command.
-pub(crate) fn telling() -> &'static [Row] {
+pub(crate) fn telling() -> &'static [Row]
+    ensures { map shape_of result.now ≡ telling_rows }
+{
     &TELLING
+}
+
+/// The same in a list.
+pub(crate) fn front_rows(alloc: Global) -> Result<Vec<&'static Row>, AllocError>
+    ensures { IfOk result (λ rows. map (λ row. shape_of row.now) rows.items ≡ telling_rows) }
+{
+    let mut rows: Vec<&'static Row> = Vec::new(alloc);
+    push_rows(telling(), &mut rows)?;
+    Ok(rows)
+}
+
+fn push_rows(more: &'static [Row], rows: &mut Vec<&'static Row>) -> Result<(), AllocError>
+    ensures { OnOk result (map (λ row. shape_of row.now) rows.new.items ≡ map (λ row. shape_of row.now) rows.old.items
+        ++ map shape_of more.entry.now) }
+{
+    for row in more {
+        rows.push(row)?;
+    }
+    Ok(())
 }
 
 /// The options that an image may be filled by.
@@ -241,6 +263,17 @@ static COMPLETIONS: [Row; 1] = [
 // ---- the commands
 
 impl CommandRow {
+    /// The rows of its table.
+    pub(crate) fn rows(&self, alloc: Global) -> Result<Vec<&'static Row>, AllocError>
+        ensures { IfOk result (λ rows. map (λ row. shape_of row.now) rows.items ≡ rows_of self.now.work) }
+    {
+        let mut rows: Vec<&'static Row> = Vec::new(alloc);
+        push_rows(self.own_rows(), &mut rows)?;
+        push_rows(self.filling_rows(), &mut rows)?;
+        push_rows(self.shared_rows(), &mut rows)?;
+        Ok(rows)
+    }
+
     /// The rows of the command alone, which help names first.
     pub(crate) fn own_rows(&self) -> &'static [Row]
         ensures { map shape_of result.now ≡ own_rows_of self.now.work }

@@ -49,6 +49,8 @@ impl SystemFile for ShortFile {
 
     ghost past = { λ _. no_past };
 
+    ghost place = { λ _. 0 };
+
     ghost are_bytes = { λ _ t. absurd (false≢true t) };
 
     fn length(&self) -> io::Result<u64> {
@@ -72,6 +74,18 @@ impl SystemFile for ShortFile {
     }
 
     fn write_at(&mut self, _at: u64, _bytes: &[u8]) -> io::Result<usize> {
+        Err(io::Error::from(ErrorKind::Unsupported))
+    }
+
+    fn read(&mut self, _out: &mut [u8]) -> io::Result<usize> {
+        Err(io::Error::from(ErrorKind::Unsupported))
+    }
+
+    fn write(&mut self, _bytes: &[u8]) -> io::Result<usize> {
+        Err(io::Error::from(ErrorKind::Unsupported))
+    }
+
+    fn go_to(&mut self, _at: u64) -> io::Result<()> {
         Err(io::Error::from(ErrorKind::Unsupported))
     }
 

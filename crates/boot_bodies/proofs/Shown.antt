@@ -1,5 +1,6 @@
 -- Lines that were shown one after another.
-use Rattle.std.proofs.Common.{◌≡◌, ℕ, suc, ◌+◌, ◌<◌, Bool, true, false, List, [], ◌∷◌, ◌++◌, Result, Ok, Err, map}
+use Rattle.std.proofs.Common.{◌≡◌, ℕ, suc, ◌+◌, ◌<◌, ◌≤◌, Bool, IsTrue, true, false, List, [], ◌∷◌, ◌++◌, Result, Ok}
+use Rattle.std.proofs.Common.{Err, map}
 use Rattle.std.proofs.Common.{take, length, get_or, refl, sym, ◌∙◌, ap, subst, arith}
 use Rattle.std.specs.Prelude.{IsOk, IfOk, slice_index_or}
 use Rattle.std.proofs.Math.Seq.{take-suc}
@@ -7,28 +8,38 @@ use Rattle.std.proofs.lemmas.Bool.{false≢true, true≢false}
 use Rattle.std.proofs.lemmas.List.{get_or_default, map-append}
 use Rattle.abt_headers.specs.declared.sections.Place.{Place}
 use Rattle.abt_headers.specs.declared.sections.Section.TheVariants as kinds
-use Rattle.abt_report.specs.Shows.{GoesOut, Shows}
+use Rattle.abt_report.specs.Shows.{CannotPrint, GoesOut, IsSilent, Shows, refusals}
 use Rattle.abt_report.specs.declared.report.Report.{Report}
 use Rattle.abt_sections.specs.Header.{Header, places_of, fragment_count, entry_of}
 use Rattle.abt_sections.specs.declared.fault.SectionFault.{SectionFault}
 use Rattle.boot_rules.specs.declared.part_names.Part.{Part}
 use Rattle.boot_rules.specs.declared.part_names.Part.TheVariants as parts
-use Rattle.boot_bodies.specs.Lines.{IsSilent, ShowsEach, told_fragments, told_part, told_parts, told_section}
+use Rattle.boot_bodies.specs.Lines.{ShowsEach, told_fragments, told_part, told_parts, told_section}
 use Rattle.boot_bodies.specs.Lines.{told_words}
 use Rattle.boot_bodies.specs.Unpacking.{section_part}
 
 pub silent : (a : Report) → IsSilent a a
-silent a = record { out = refl; err = refl }
+silent a = ((refl, refl), refl)
 
 silent_then : (a b c : Report) → IsSilent a b → IsSilent b c → IsSilent a c
-silent_then a b c first next = record { out = next.out ∙ first.out; err = next.err ∙ first.err }
+silent_then a b c first next =
+    ((next.0.0 ∙ first.0.0, next.0.1 ∙ first.0.1), next.1 ∙ first.1)
 
 shows_behind : (a b c : Report) (line : List ℕ) → IsSilent a b → Shows b c line → Shows a c line
 shows_behind a b c line quiet shows =
     let out' = c.out.log.state.bytes in
-    let err' = c.err.log.state.bytes in
-    subst (λ e. GoesOut c.is_data_on_output a.out.log.state.bytes out' e err' line) quiet.err
-    (subst (λ o. GoesOut c.is_data_on_output o out' b.err.log.state.bytes err' line) quiet.out shows)
+    let err' = c.err.log.state.bytes in (
+      subst (λ e. GoesOut c.is_data_on_output a.out.log.state.bytes out' e err' line) quiet.1
+          (subst (λ o. GoesOut c.is_data_on_output o out' b.err.log.state.bytes err' line) quiet.0.0 shows.0),
+      λ t. shows.1 (subst IsTrue (sym quiet.0.1) t),
+    )
+
+-- what could not be printed behind lines that were
+pub cannot_behind : (a b c : Report) → refusals a ≤ refusals b → CannotPrint b c → CannotPrint a c
+cannot_behind a b c rises cannot = omega (arith, rises, cannot)
+
+pub rises_then : (a b c : Report) → refusals a ≤ refusals b → refusals b ≤ refusals c → refusals a ≤ refusals c
+rises_then a b c first next = omega (arith, first, next)
 
 each_behind : (lines : List (List ℕ)) (a b c : Report) → IsSilent a b → ShowsEach lines b c → ShowsEach lines a c
 each_behind [] a b c quiet each = silent_then a b c quiet each

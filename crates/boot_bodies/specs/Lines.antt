@@ -3,7 +3,7 @@ use Rattle.std.specs.Prelude.{◌≡◌, ℕ, zero, suc, Bool, true, false, List
 use Rattle.std.specs.Prelude.{slice_index_or}
 use Rattle.abt_headers.specs.declared.sections.Place.{Place}
 use Rattle.abt_headers.specs.Places.{section_name}
-use Rattle.abt_report.specs.Shows.{Shows}
+use Rattle.abt_report.specs.Shows.{IsSilent, Shows}
 use Rattle.abt_report.specs.declared.report.Report.{Report}
 use Rattle.abt_sections.specs.Header.{Header, places_of, fragment_count, entry_of}
 use Rattle.boot_rules.specs.declared.part_names.Part.{Part}
@@ -37,11 +37,6 @@ told_words false bytes = []
 abbrev pub told_parts : List ℕ → Header → Bool → ℕ → List (List ℕ)
 told_parts x h with_words bytes =
     map told_section (places_of h) ++ (told_fragments x h (fragment_count h) ++ told_words with_words bytes)
-
--- both streams are as they were
-pub record IsSilent (old new : Report) : Type 0 where
-  pub out : new.out.log.state.bytes ≡ old.out.log.state.bytes
-  pub err : new.err.log.state.bytes ≡ old.err.log.state.bytes
 
 -- lines were shown one after another: each went to where lines went at its moment
 abbrev pub ShowsEach : List (List ℕ) → Report → Report → Type 0

@@ -13,7 +13,7 @@ use abt_sections::{Image, SectionFault, fragment, section, unpack, unpack_fragme
 use boot_texts::write_words;
 
 /// Writes section `i`, and answers the output with how many bytes it has.
-pub(crate) fn copy_section<S: Source, O: Output>(
+pub fn copy_section<S: Source, O: Output>(
     image: &Image,
     i: usize,
     source: &mut S,
@@ -42,7 +42,7 @@ pub(crate) fn copy_section<S: Source, O: Output>(
 }
 
 /// Writes fragment `index`, and answers the output with how many bytes it has.
-pub(crate) fn copy_fragment<S: Source, O: Output>(
+pub fn copy_fragment<S: Source, O: Output>(
     image: &Image,
     index: u32,
     source: &mut S,

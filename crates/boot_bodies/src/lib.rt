@@ -19,6 +19,7 @@ mod parts;
 mod unpack;
 mod writing;
 
+pub use copying::{copy_fragment, copy_section};
 pub use lines::PartLine;
 pub use names::place_of;
 pub use unpack::unpack_file;

@@ -1,9 +1,10 @@
 //! All parts of an image, one after another.
 
-ghost use Rattle.std.specs.Prelude.{◌≡◌, ◌<◌, ◌+◌, ℕ, None, IsTrue, IfErr, OnOk, OnErr, length, map};
+ghost use Rattle.std.specs.Prelude.{◌≡◌, ◌<◌, ◌≤◌, ◌+◌, ℕ, None, IsTrue, IfErr, OnOk, OnErr, length, map};
 ghost use Rattle.abt_sections.specs.Header.{fragment_count, places_of, view_of};
 ghost use Rattle.abt_sections.specs.Open.{IsOpened};
 ghost use Rattle.abt_disk.specs.Among.{GoesAmong};
+ghost use Rattle.abt_report.specs.Shows.{CannotPrint, refusals};
 ghost use Rattle.boot_rules.specs.ImageFaults.{IsRefusedOver, SomeFailed};
 ghost use Rattle.boot_bodies.specs.Lines.{ShowsEach, told_fragments, told_parts, told_section};
 ghost use Rattle.boot_bodies.specs.Unpacking.{FragmentsDone, IsFragmentPath, IsPartPath, IsSectionPath, PartsBegun};
@@ -50,8 +51,8 @@ pub(crate) fn write_parts<'t, 'a, D: Disk>(
     ensures refused { IsTrue D.tells → IsOpened (D.At.content source.old) image.now → IfErr result (λ refusal.
         IsRefusedOver (D.At.content source.old) (SomeFailed (D.held disk.old) (D.At.read_faults source.old)
         (D.held disk.new) (D.At.read_faults source.new)) (PartsBegun folder.now with_words (view_of
-        image.now.header)
-        (D.At.content source.old) (D.held disk.new) (D.world disk.new)) refusal.fault) }
+        image.now.header) (D.At.content source.old) (D.held disk.new) (D.world disk.new)
+        × CannotPrint report.old report.new) refusal.fault) }
 {
     match write_sections(disk, image, source, input, folder, report, w, m) {
         Ok(()) => {}
@@ -93,12 +94,13 @@ fn write_sections<'t, 'a, D: Disk>(
         (D.world disk.new)) }
     ensures shown { OnOk result (ShowsEach (map told_section (places_of (view_of image.now.header))) report.old
         report.new) }
+    ensures rises { OnOk result (refusals report.old ≤ refusals report.new) }
     ensures refused { IsTrue D.tells → IsOpened (D.At.content source.old) image.now → IfErr result (λ refusal.
         IsRefusedOver (D.At.content source.old) (SomeFailed (D.held disk.old) (D.At.read_faults source.old)
         (D.held disk.new) (D.At.read_faults source.new)) ((i : ℕ) × (i < length (places_of (view_of
         image.now.header)))
         × SectionsDone folder.now (view_of image.now.header) (D.At.content source.old) (i + 1) (D.held disk.new)
-        (D.world disk.new)) refusal.fault) }
+        (D.world disk.new) × CannotPrint report.old report.new) refusal.fault) }
 {
     for i in 0..sections(image) {
         match write_section(disk, image, i, source, input, folder, report, w, m) {
@@ -132,12 +134,13 @@ fn write_fragments<'t, 'a, D: Disk>(
         (D.world disk.new)) }
     ensures shown { IsTrue D.tells → OnOk result (ShowsEach (told_fragments (D.At.content source.old)
         (view_of image.now.header) (fragment_count (view_of image.now.header))) report.old report.new) }
+    ensures rises { IsTrue D.tells → OnOk result (refusals report.old ≤ refusals report.new) }
     ensures refused { IsTrue D.tells → IsOpened (D.At.content source.old) image.now → IfErr result (λ refusal.
         IsRefusedOver (D.At.content source.old) (SomeFailed (D.held disk.old) (D.At.read_faults source.old)
         (D.held disk.new) (D.At.read_faults source.new)) ((i : ℕ) × (i < fragment_count (view_of
         image.now.header))
         × FragmentsDone folder.now (view_of image.now.header) (D.At.content source.old) (i + 1)
-        (D.held disk.new) (D.world disk.new)) refusal.fault) }
+        (D.held disk.new) (D.world disk.new) × CannotPrint report.old report.new) refusal.fault) }
 {
     for i in 0..fragments(image) {
         match write_fragment(disk, image, i, source, input, folder, report, w, m) {

@@ -5,6 +5,7 @@ ghost use Rattle.abt_refusals.specs.Paths.{path_of};
 ghost use Rattle.abt_disk.specs.World.{HasFailed, IsReading, unless};
 ghost use Rattle.abt_disk.specs.Among.{OnlyAmong};
 ghost use Rattle.abt_disk.specs.DiskCalls.{FailsOnly, KeepsInput};
+ghost use Rattle.abt_report.specs.Shows.{CannotPrint};
 ghost use Rattle.boot_rules.specs.ImageFaults.{RefusesImage};
 ghost use Rattle.boot_bodies.specs.Lines.{ShowsEach};
 ghost use Rattle.boot_bodies.specs.Unpacking.{IsPartOf, LeavesParts, PartsStand, SyncsParts, Unpacks};
@@ -48,10 +49,10 @@ pub fn unpack_file<'t, 'a, D: Disk>(
     // where it is refused, the parts before the one at fault stand, and no file but theirs and its own was changed
     ensures stands { IsTrue D.tells → OnErr result (LeavesParts (path_of input.entry) folder.now (D.held disk.old)
         (D.held disk.new) (D.world disk.old) (D.world disk.new)) }
-    // it is refused for a fault that IN has, or since a call failed; or a part is written, whose line was not printed
+    // it is refused for a fault that IN has, or since a call failed; or a part is written, whose line could not be printed
     ensures refused { IsTrue D.tells → IfErr result (λ refusal. RefusesImage (path_of input.entry) (D.world disk.old)
         (HasFailed (D.held disk.old) (D.held disk.new)) (PartsStand (path_of input.entry) folder.now with_words
-        (D.world disk.old) (D.held disk.new) (D.world disk.new)) refusal.fault) }
+        (D.world disk.old) (D.held disk.new) (D.world disk.new) × CannotPrint report.old report.new) refusal.fault) }
 {
     let mut device = match disk.source(input) {
         Ok(device) => device,

@@ -3,7 +3,7 @@
 ghost use Rattle.std.specs.Prelude.{◌≡◌, ◌<◌, ◌≤◌, ◌+◌, None, Ok, Err, Bool, ℕ, true, MatchResult, IsTrue, IsOk};
 ghost use Rattle.std.specs.Prelude.{IfOk, IfErr, OnOk, length};
 ghost use Rattle.abt_disk.specs.World.{Ends, ended};
-ghost use Rattle.abt_report.specs.Shows.{Shows};
+ghost use Rattle.abt_report.specs.Shows.{CannotPrint, Shows, refusals};
 ghost use Rattle.abt_sections.specs.Header.{entry_of, fragment_count, fragment_of, places_of, view_of};
 ghost use Rattle.abt_sections.specs.Open.{IsOpened};
 ghost use Rattle.abt_disk.specs.Among.{IsMade};
@@ -42,10 +42,12 @@ pub(crate) fn write_section<'t, 'a, D: Disk>(
     ensures done { IsTrue D.tells → OnOk result (SectionDone folder.now (view_of image.now.header)
         (D.At.content source.old) i (D.held disk.new) (D.world disk.new)) }
     ensures shown { OnOk result (ShowsSection (view_of image.now.header) i report.old report.new) }
+    ensures rises { OnOk result (refusals report.old ≤ refusals report.new) }
     ensures refused { IsTrue D.tells → IsOpened (D.At.content source.old) image.now → IfErr result (λ refusal.
         IsRefusedOver (D.At.content source.old) (SomeFailed (D.held disk.old) (D.At.read_faults source.old)
         (D.held disk.new) (D.At.read_faults source.new)) (SectionDone folder.now (view_of image.now.header)
-        (D.At.content source.old) i (D.held disk.new) (D.world disk.new)) refusal.fault) }
+        (D.At.content source.old) i (D.held disk.new) (D.world disk.new) × CannotPrint report.old report.new)
+        refusal.fault) }
 {
     let part = Part::Section(section(image, i).kind);
     let place = place_of(part, folder);
@@ -83,11 +85,12 @@ pub(crate) fn write_fragment<'t, 'a, D: Disk>(
         (fragment_of (D.At.content source.old) (view_of image.now.header) index)) }
     ensures shown { IsTrue D.tells → OnOk result (Shows report.old report.new (told_part (parts.Fragment index)
         (entry_of (D.At.content source.old) (view_of image.now.header) index).ramdisk_size)) }
+    ensures rises { OnOk result (refusals report.old ≤ refusals report.new) }
     ensures refused { IsTrue D.tells → IsOpened (D.At.content source.old) image.now → IfErr result (λ refusal.
         IsRefusedOver (D.At.content source.old) (SomeFailed (D.held disk.old) (D.At.read_faults source.old)
         (D.held disk.new) (D.At.read_faults source.new)) (IsMade (D.held disk.new) (D.world disk.new)
         (path_of_part folder.now (parts.Fragment index)) (fragment_of (D.At.content source.old)
-        (view_of image.now.header) index)) refusal.fault) }
+        (view_of image.now.header) index) × CannotPrint report.old report.new) refusal.fault) }
 {
     let part = Part::Fragment(index);
     let place = place_of(part, folder);
@@ -123,7 +126,8 @@ pub(crate) fn write_pack_words<'t, 'a, D: Disk>(
     ensures refused { IsTrue D.tells → IsOpened (D.At.content source.old) image.now → IfErr result (λ refusal.
         IsRefusedOver (D.At.content source.old) (SomeFailed (D.held disk.old) (D.At.read_faults source.old)
         (D.held disk.new) (D.At.read_faults source.new)) (WordsDone folder.now (view_of image.now.header)
-        (D.At.content source.old) (D.held disk.new) (D.world disk.new)) refusal.fault) }
+        (D.At.content source.old) (D.held disk.new) (D.world disk.new) × CannotPrint report.old report.new)
+        refusal.fault) }
 {
     let place = place_of(Part::Words, folder);
     let onto = match disk.plain(place) {
@@ -156,9 +160,11 @@ fn finish<'t, 'a, D: Disk>(
         ≡ ended true (D.Onto.write_faults onto) (D.held disk.old)) }
     ensures counts { IsTrue D.tells → (D.held disk.old).failed + D.Onto.write_faults onto ≤ (D.held disk.new).failed }
     ensures shown { OnOk result (IfOk answer (λ bytes. Shows report.old report.new (told_part part bytes))) }
+    ensures rises { OnOk result (refusals report.old ≤ refusals report.new) }
     ensures told { IsTrue D.tells → IfErr result (λ refusal. IsAnswerOf answer
         ((D.held disk.old).failed + D.Onto.write_faults onto < (D.held disk.new).failed)
-        (Ends (D.held disk.old).output (D.Onto.written onto) (D.world disk.old) (D.world disk.new)) refusal.fault) }
+        (Ends (D.held disk.old).output (D.Onto.written onto) (D.world disk.old) (D.world disk.new)
+        × CannotPrint report.old report.new) refusal.fault) }
 {
     let sides = Sides::none().reading(input, None);
     let (bytes, is_on_output) = match ended(disk, of_answer(answer), onto, place, sides) {

@@ -4,7 +4,7 @@ use Rattle.abt_refusals.specs.Paths.{output_path}
 use Rattle.abt_words.specs.declared.order.BootTask.{BootTask}
 use Rattle.abt_words.specs.declared.order.BootTask.TheVariants as tasks
 use Rattle.abt_report.specs.declared.report.Report.{Report}
-use Rattle.abt_report.specs.Shows.{Shows, unprinted}
+use Rattle.abt_report.specs.Shows.{CannotPrint, ShowsBeside, Unprinted}
 use Rattle.abt_disk.specs.Among.{OnlyAmong}
 use Rattle.abt_disk.specs.World.{World, Held, HasFailed, OnlyAt, KeepsFile}
 use Rattle.boot_rules.specs.declared.fault.BootCommandFault.{BootCommandFault}
@@ -35,17 +35,19 @@ IsKindOf task kind = ⊥
 abbrev pub SyncsOne : Held → Held → Type 0
 SyncsOne old new = new.syncs ≡ old.syncs + (if old.is_synced then 1 else 0)
 
--- ---- what is done, from one moment to another
+-- ---- what is done, from one moment to another, where these outputs are where standard output goes
 
-abbrev pub DoesKind : Kind → World → Held → Report → World → Held → Report → Type 0
-DoesKind (kinds.Pack command) world held report world' held' report' =
-    PacksFile command world world' (Shows report report') × SyncsOne held held'
-DoesKind (kinds.Repack input command) world held report world' held' report' =
-    RepacksFile input.now command world world' (ShowsFirst report report') × SyncsOne held held'
-DoesKind (kinds.Unpack input folder with_words) world held report world' held' report' =
+abbrev pub DoesKind : (List ℕ → Bool) → Kind → World → Held → Report → World → Held → Report → Type 0
+DoesKind on_output (kinds.Pack command) world held report world' held' report' =
+    PacksFile command world world' (ShowsBeside (on_output (output_path command.output.now)) report report')
+    × SyncsOne held held'
+DoesKind on_output (kinds.Repack input command) world held report world' held' report' =
+    RepacksFile input.now command world world' (ShowsFirst (on_output (output_path command.output.now)) report report')
+    × SyncsOne held held'
+DoesKind on_output (kinds.Unpack input folder with_words) world held report world' held' report' =
     Unpacks input.now folder.now with_words world world' (λ lines. ShowsEach lines report report')
     × SyncsParts input.now with_words world held held'
-DoesKind (kinds.Info input with_check with_hex) world held report world' held' report' =
+DoesKind on_output (kinds.Info input with_check with_hex) world held report world' held' report' =
     TellsFile input.now (notation_of with_hex) with_check world report report'
 
 -- ---- what stays, whatever the outcome: OUT, or files of the parts' names, alone may hold anything else
@@ -73,11 +75,12 @@ LeavesNoPartOfBoot over (kinds.Info input with_check with_hex) world world' = Un
 
 abbrev pub RefusesKind : BootCommandFault → Kind → World → Held → Report → World → Held → Report → Type 0
 RefusesKind fault (kinds.Pack command) world held report world' held' report' =
-    RefusesPack command world world' held held' (PacksFile command world world' unprinted) fault
+    RefusesPack command world world' held held' (PacksFile command world world' (Unprinted report report')) fault
 RefusesKind fault (kinds.Repack input command) world held report world' held' report' =
-    RefusesRepack input.now command world world' held held' (RepacksFile input.now command world world' unprinted) fault
+    RefusesRepack input.now command world world' held held'
+    (RepacksFile input.now command world world' (Unprinted report report')) fault
 RefusesKind fault (kinds.Unpack input folder with_words) world held report world' held' report' =
     RefusesImage input.now world (HasFailed held held')
-    (PartsStand input.now folder.now with_words world held' world') fault
+    (PartsStand input.now folder.now with_words world held' world' × CannotPrint report report') fault
 RefusesKind fault (kinds.Info input with_check with_hex) world held report world' held' report' =
     RefusesInfo input.now (notation_of with_hex) with_check world (HasFailed held held') report report' fault

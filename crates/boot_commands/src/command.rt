@@ -90,8 +90,8 @@ pub fn boot_command<'t, 'a, D: Disk>(
 ) -> BootOutcome<'t, 'a>
     requires first { IsTrue D.tells → IsReading (D.held disk.old) }
     // it is done, by its own body, at the files that its words name
-    ensures done { IsTrue D.tells → OnOk result (DoesKind command.now.kind (D.world disk.old) (D.held disk.old)
-        report.old (D.world disk.new) (D.held disk.new) report.new) }
+    ensures done { IsTrue D.tells → OnOk result (DoesKind D.on_output command.now.kind (D.world disk.old)
+        (D.held disk.old) report.old (D.world disk.new) (D.held disk.new) report.new) }
     // whatever the outcome, what it reads holds what it held, and none has changed but what it is to write
     ensures spares { IsTrue D.tells → SparesKind command.now.kind (D.world disk.old) (D.held disk.old)
         (D.world disk.new) (D.held disk.new) }

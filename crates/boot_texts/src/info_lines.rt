@@ -68,8 +68,8 @@ fn put_numbers<O: Output>(
     text.end_line();
 }
 
-// Adds a number as it is to be written.
-fn put_number<O: Output>(number: u64, notation: Notation, text: &mut Text<'_, O>)
+/// Adds a number as it is to be written.
+pub fn put_number<O: Output>(number: u64, notation: Notation, text: &mut Text<'_, O>)
     ensures { Prints O.written O.write_faults text.old text.new (info.number_text notation number) }
 {
     match notation {

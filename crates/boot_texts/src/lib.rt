@@ -15,5 +15,5 @@ mod packing_words;
 mod word_lines;
 
 pub use info::{InfoReport, report_info};
-pub use info_lines::Notation;
+pub use info_lines::{Notation, put_number, put_two_digits};
 pub use packing_words::write_words;

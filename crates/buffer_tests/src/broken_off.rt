@@ -66,6 +66,8 @@ impl SystemFile for Broken {
 
     ghost past = { λ _. no_past };
 
+    ghost place = { λ _. 0 };
+
     ghost are_bytes = { λ _ t. absurd (false≢true t) };
 
     fn length(&self) -> io::Result<u64> {
@@ -82,6 +84,18 @@ impl SystemFile for Broken {
 
     fn write_at(&mut self, at: u64, bytes: &[u8]) -> io::Result<usize> {
         self.write(at, bytes)
+    }
+
+    fn read(&mut self, _out: &mut [u8]) -> io::Result<usize> {
+        Err(io::Error::from_raw_os_error(TOO_LONG))
+    }
+
+    fn write(&mut self, _bytes: &[u8]) -> io::Result<usize> {
+        Err(io::Error::from_raw_os_error(TOO_LONG))
+    }
+
+    fn go_to(&mut self, _at: u64) -> io::Result<()> {
+        Err(io::Error::from_raw_os_error(TOO_LONG))
     }
 
     fn set_len(&mut self, _n: u64) -> io::Result<()> {

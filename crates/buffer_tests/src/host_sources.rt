@@ -6,11 +6,11 @@ use abt_host::Reading;
 use abt_io::{DeviceFault, Input, Output, Source, Spool};
 use abt_refusals::Place;
 use host_disk::{Host, HostSource};
+use os_system::{OsFile, OsSystem};
 use std::fs;
-use std::fs::File;
 
 // A file of this name that is read ahead, or is not.
-fn source(host: &mut Host<HostRuntime>, name: &str, is_ahead: bool) -> Option<HostSource<File>> {
+fn source(host: &mut Host<OsSystem>, name: &str, is_ahead: bool) -> Option<HostSource<OsFile>> {
     let place = Place::new("IN", name);
     if is_ahead {
         host.ahead(place).ok()
@@ -22,7 +22,7 @@ fn source(host: &mut Host<HostRuntime>, name: &str, is_ahead: bool) -> Option<Ho
 #[test]
 fn a_file_that_grew_is_asked_for_its_length(rt: HostRuntime) {
     for is_ahead in [false, true] {
-        let mut host = Host::new(rt, Reading::new(rt));
+        let mut host = Host::new(Reading::new(OsSystem { rt }));
         fs::write(&rt, "grown.tmp", "abc").expect(&rt, "is written");
         let mut one = source(&mut host, "grown.tmp", is_ahead).expect(&rt, "opens");
         let mut other = host.again(&one, Place::new("IN", "grown.tmp"));
@@ -48,7 +48,7 @@ fn a_file_that_grew_is_asked_for_its_length(rt: HostRuntime) {
 #[test]
 fn a_spool_of_what_was_read_ahead_is_told_of_its_file(rt: HostRuntime) {
     for is_ahead in [false, true] {
-        let mut host = Host::new(rt, Reading::new(rt));
+        let mut host = Host::new(Reading::new(OsSystem { rt }));
         fs::write(&rt, "long.tmp", bytes(rt.alloc(), 900).as_slice()).expect(&rt, "is written");
         let mut from = source(&mut host, "long.tmp", is_ahead).expect(&rt, "opens");
         let through = host.spool(Place::new("SPOOL", "of_long.tmp"), 4096, is_ahead, &from);

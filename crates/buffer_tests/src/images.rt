@@ -6,7 +6,7 @@ use abt_host::{Reading, Writing};
 use abt_io::{DeviceFault, Output, Overwrite, WINDOW};
 use abt_output::{ImageFile, ImageOutput};
 use abt_refusals::Place;
-use std::fs::File;
+use os_system::{OsFile, OsSystem};
 
 // How many bytes a call writes: of a fragmented image, of one with headers alone, and of one in long runs.
 const MIXES: [[usize; 8]; 3] = [
@@ -22,7 +22,7 @@ const TURNS: [u64; 3] = [400, 3000, 30];
 const HEADERS: [usize; 6] = [12, 12, 12, 12, 4, 28];
 
 /// The file of an image.
-fn file(output: ImageOutput<File>) -> Option<ImageFile<File>> {
+fn file(output: ImageOutput<OsFile>) -> Option<ImageFile<OsFile>> {
     match output {
         ImageOutput::File(image) => Some(image),
         ImageOutput::Stream(_) => None,
@@ -57,8 +57,8 @@ fn place(random: &mut Random, position: u64, is_near: bool) -> Option<u64> {
 
 /// The same calls of both: whether they answered the same.
 fn written(
-    one: &mut ImageFile<File>,
-    other: &mut ImageFile<File>,
+    one: &mut ImageFile<OsFile>,
+    other: &mut ImageFile<OsFile>,
     text: &[u8],
     image: u64,
     random: &mut Random,
@@ -80,8 +80,8 @@ fn written(
     true
 }
 
-fn writing(rt: HostRuntime) -> Writing {
-    Reading::new(rt).all_open()
+fn writing(rt: HostRuntime) -> Writing<OsSystem> {
+    Reading::new(OsSystem { rt }).all_open()
 }
 
 #[test]

@@ -14,6 +14,7 @@ use flash_bodies::{
 use image_bodies::{Cutting, cut_file, sparse_file};
 use memory_disk::{Faults, MemoryDisk};
 use sparse_bodies::{expand_one, expand_several};
+use sparse_rules::PieceNaming;
 use std::alloc::{AllocError, Global};
 use test_data::vectors::GAP_BETWEEN;
 
@@ -70,7 +71,10 @@ fn is_written(
     let cutting = Cutting {
         input,
         limit: LIMIT,
-        prefix: output,
+        names: PieceNaming {
+            prefix: output,
+            is_from_zero: false,
+        },
         raw: None,
     };
     let raw = Cutting {

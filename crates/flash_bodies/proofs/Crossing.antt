@@ -1,6 +1,6 @@
 -- What opening an input, a partition and a file for pieces, and closing them, leave together.
 use Rattle.std.proofs.Common.{◌≡◌, ◌≢◌, ℕ, ◌+◌, ◌<◌, ◌≤◌, arith, List, [], ◌∷◌, ◌++◌, Bool, true, false, length, Option}
-use Rattle.std.proofs.Common.{Some, refl, sym, ◌∙◌, ap, subst}
+use Rattle.std.proofs.Common.{None, Some, refl, sym, ◌∙◌, ap, subst}
 use Rattle.std.specs.Prelude.{Result, Ok, Err, Contains, if◌then◌else◌, unwrap_or}
 use Rattle.std.proofs.lemmas.List.Elements.{Contains-append_left, Contains-push}
 use Rattle.abt_io.specs.Moment.{Past}
@@ -23,6 +23,7 @@ pub record Crossed (input path spool x p p' : List ℕ) (old new : World) (h h3 
   pub grew : h3.failed ≤ h4.failed
   pub failed : h'.failed ≡ h4.failed + faults
   pub synced : is_settled past ≡ true → h'.syncs ≡ h.syncs + 1
+  pub closed : h'.part ≡ None
 
 -- which files were read when the third was opened
 read_then : (h h' h'' : Held) (f g : ℕ) → h' ≡ reading f h → h'' ≡ in_place g h' → h''.read ≡ h.read ++ (f ∷ [])
@@ -124,6 +125,7 @@ crossed input path spool x p p' a a' a'' a3 a4 a5 c h h' h'' h3 h4 h5 h6 n k pas
           ∙ ap (λ (q : Held). q.syncs + 1) l ∙ ap (λ (q : Held). q.syncs + 1) cs.closed
           ∙ ap (λ (q : Held). q.syncs + 1) s.begins ∙ ap (λ (q : Held). q.syncs + 1) opened.taken
           ∙ ap (λ (q : Held). q.syncs + 1) r.taken;
+      closed = ap (λ (q : Held). q.part) closed.closed;
     }
 
 -- ---- a third file that could not be opened
@@ -153,3 +155,15 @@ pub only_kept : (input path spool x p : List ℕ) (a a' a'' c : World) (h h' h''
 only_kept input path spool x p a a' a'' c h h' h'' r same o same' only =
     beside input spool h.read h''.read r.file a c r.there (read_then h h' h'' r.file o.file r.taken o.taken)
     (subst (λ (w : World). OnlyAt h''.read spool w c) (same' ∙ same) only)
+
+-- the partition holds what it held, also where its path was the third
+pub part_kept : (path p : List ℕ) (a a' a'' : World) (now : ℕ → List ℕ) (h' h'' : Held) → a' ≡ a
+    → OpensPart a' path p h' h'' → a'' ≡ a' → ((f : ℕ) → Contains h''.begun f → now f ≡ a''.holds f)
+    → (f : ℕ) → a.at path ≡ Some f → now f ≡ a.holds f
+part_kept path p a a' a'' now h' h'' same o same' keeps = λ g there.
+    let here : a.at path ≡ Some o.file = subst (λ (w : World). w.at path ≡ Some o.file) same o.there in
+    let is : o.file ≡ g = ap (λ (q : Option ℕ). unwrap_or q 0) (sym here ∙ there) in
+    let among : Contains h''.begun g =
+    subst (λ (q : Held). Contains q.begun g) (sym o.taken) (subst (λ (z : ℕ). Contains (z ∷ h'.begun) g) (sym is)
+    (Contains-append_left (g ∷ []) h'.begun g (Contains-push [] g))) in
+    keeps g among ∙ ap (λ (w : World). w.holds g) (same' ∙ same)

@@ -1,11 +1,11 @@
 -- What a delivery that was counted says of the command.
 use Rattle.std.proofs.Common.{◌≡◌, ◌<◌, ◌+◌, ℕ, List, [], ◌∷◌, ◌++◌, ◌≤◌, Option, refl, sym, ◌∙◌, ap, subst, arith}
 use Rattle.std.proofs.Common.{inl, inr}
-use Rattle.std.specs.Prelude.{Result, Ok, Err, IfOk, IfErr, IsOk, OnOk, true}
+use Rattle.std.specs.Prelude.{None, Result, Ok, Err, IfOk, IfErr, IsOk, OnOk, true}
 use Rattle.std.proofs.lemmas.Bool.{lt-ltb}
 use Rattle.abt_io.specs.Moment.{Past, no_past}
 use Rattle.abt_disk.specs.InPlace.{is_settled, is_settled_in}
-use Rattle.abt_disk.specs.World.{World, Held, HasFailed, HasNotFailed}
+use Rattle.abt_disk.specs.World.{World, Held, HasFailed, HasNotFailed, KeepsFile}
 use Rattle.abt_flash.specs.declared.answer.Delivered.{Delivered}
 use Rattle.flash_faults.specs.declared.fault.FlashFault.{FlashFault}
 use Rattle.sparse_rules.specs.declared.fault.SparseCommandFault.{SparseCommandFault}
@@ -14,8 +14,8 @@ use Rattle.flash_bodies.specs.Files.{OfFile}
 use Rattle.abt_refusals.specs.declared.refusal.HostFault.{HostFault}
 use Rattle.sparse_rules.specs.declared.lines.Line.TheVariants as lines
 use Rattle.sparse_rules.specs.Lines.{line_text}
-use Rattle.flash_bodies.specs.InPieces.{Across, DeliversPieces, FlashesPieces, FlashesPiecesUntold, IsDelivered}
-use Rattle.flash_bodies.specs.InPieces.{IsUncuttable, IsUndelivered, RefusesPieces}
+use Rattle.flash_bodies.specs.InPieces.{Across, DeliversPieces, FlashesPieces, IsDelivered}
+use Rattle.flash_bodies.specs.InPieces.{IsDeliveredWhole, IsUncuttable, IsUndelivered, RefusesPieces}
 use Rattle.flash_bodies.specs.Through.{count_delivered}
 use Rattle.flash_bodies.proofs.Closed.{undelivered_for}
 use Rattle.flash_bodies.proofs.Crossing.{Crossed}
@@ -36,18 +36,22 @@ abbrev fault_in : SparseCommandFault → Result ℕ SparseCommandFault → Spars
 fault_in d (Ok n) = d
 fault_in d (Err f) = f
 
-pub refuses_pieces : (r : Result Delivered FlashFault) (f : SparseCommandFault) (G : Type 0) (raw : Option ℕ) (limit
+pub refuses_pieces : (untold : List ℕ → Type 0) (r : Result Delivered FlashFault) (f : SparseCommandFault) (G : Type 0)
+    (raw : Option ℕ) (limit
     before : ℕ)
-    (input path spool x p p' : List ℕ) (a c : World) (h h' : Held) → count_delivered r ≡ Err f → (G → HasFailed h h')
+    (input path spool x p p' : List ℕ) (a c : World) (h h' : Held) → count_delivered r ≡ Err f
+    → h'.part ≡ None → (G → HasFailed h h')
     → ((P : List ℕ → List ℕ → List ℕ → Type 0) → P x p p' → Across input path spool a c P)
-    → DeliversPieces G raw r limit before x p p' → RefusesPieces f raw limit before input path spool a c h h'
-refuses_pieces (Ok d) f G raw limit before input path spool x p p' a c h h' is go across delivers =
+    → DeliversPieces G raw r limit before x p p' → RefusesPieces f raw limit before input path spool a c h h' untold
+refuses_pieces untold (Ok d) f G raw limit before input path spool x p p' a c h h' is closed go across delivers =
     absurd (subst IsCount is tt)
-refuses_pieces (Err fault) f G raw limit before input path spool x p p' a c h h' is go across delivers =
-    subst (λ (e : SparseCommandFault). RefusesPieces e raw limit before input path spool a c h h')
-    (ap (fault_in (faults.Flash fault)) is)
-    (across (IsUndelivered (HasFailed h h') raw fault limit before)
-    (undelivered_for G (HasFailed h h') raw fault limit before x p p' go delivers))
+refuses_pieces untold (Err fault) f G raw limit before input path spool x p p' a c h h' is closed go across delivers =
+    subst (λ (e : SparseCommandFault). RefusesPieces e raw limit before input path spool a c h h' untold)
+    (ap (fault_in (faults.Flash fault)) is) (
+      closed,
+      across (IsUndelivered (HasFailed h h') raw fault limit before)
+          (undelivered_for G (HasFailed h h') raw fault limit before x p p' go delivers),
+    )
 
 pub pieces_done : (r : Result Delivered FlashFault) (n : ℕ) (G : Type 0) (raw : Option ℕ) (limit before : ℕ) (x p p' :
     List ℕ)
@@ -76,20 +80,21 @@ settled_pieces (Ok d) n past past' is fresh some synced none = settled_by past p
 settled_pieces (Err fault) n past past' is fresh some synced none = absurd (subst IsFault is tt)
 
 -- a raw image that can't be cut so
-pub refuses_uncuttable : (f : SparseCommandFault) (raw : Option ℕ) (limit before : ℕ) (input path spool x : List ℕ) (a
+pub refuses_uncuttable : (untold : List ℕ → Type 0) (f : SparseCommandFault) (raw : Option ℕ) (limit before : ℕ)
+    (input path spool x : List ℕ) (a
     c : World)
     (h h' : Held) → c ≡ a → ((P : List ℕ → Type 0) → P x → OfFile input a P) → IsUncuttable raw f limit x
-    → RefusesPieces f raw limit before input path spool a c h h'
-refuses_uncuttable (faults.Run f) raw limit before input path spool x a c h h' same file is =
+    → RefusesPieces f raw limit before input path spool a c h h' untold
+refuses_uncuttable untold (faults.Run f) raw limit before input path spool x a c h h' same file is =
     (file (IsUncuttable raw (faults.Run f) limit) is, same)
-refuses_uncuttable (faults.Piece f) raw limit before input path spool x a c h h' same file is =
+refuses_uncuttable untold (faults.Piece f) raw limit before input path spool x a c h h' same file is =
     (file (IsUncuttable raw (faults.Piece f) limit) is, same)
-refuses_uncuttable (faults.Flash f) raw limit before input path spool x a c h h' same file is = absurd is.2
-refuses_uncuttable (faults.Sparse f) raw limit before input path spool x a c h h' same file is = absurd is.2
-refuses_uncuttable (faults.Verify f) raw limit before input path spool x a c h h' same file is = absurd is.2
-refuses_uncuttable (faults.OtherBlocks i) raw limit before input path spool x a c h h' same file is = absurd is.2
-refuses_uncuttable (faults.OtherCut i) raw limit before input path spool x a c h h' same file is = absurd is.2
-refuses_uncuttable (faults.Host f) raw limit before input path spool x a c h h' same file is = absurd is.2
+refuses_uncuttable untold (faults.Flash f) raw limit before input path spool x a c h h' same file is = absurd is.2
+refuses_uncuttable untold (faults.Sparse f) raw limit before input path spool x a c h h' same file is = absurd is.2
+refuses_uncuttable untold (faults.Verify f) raw limit before input path spool x a c h h' same file is = absurd is.2
+refuses_uncuttable untold (faults.OtherBlocks i) raw limit before input path spool x a c h h' same file is = absurd is.2
+refuses_uncuttable untold (faults.OtherCut i) raw limit before input path spool x a c h h' same file is = absurd is.2
+refuses_uncuttable untold (faults.Host f) raw limit before input path spool x a c h h' same file is = absurd is.2
 
 -- ---- what has failed
 
@@ -117,35 +122,51 @@ clean_across r n none s t m input path spool x p p' a c h h3 h4 h' past all is c
     (when_done r n (none ≡ 0 → h4.failed + (s + t) ≡ h3.failed) is same clean) closed
 
 -- the fault of the call is told; or it had none, and closing failed
-refuses_ended : (q : Result ℕ SparseCommandFault) (r : Result Delivered FlashFault) (e : SparseCommandFault)
+refuses_ended : (untold : List ℕ → Type 0) (q : Result ℕ SparseCommandFault) (r : Result Delivered FlashFault)
+    (e : SparseCommandFault)
     (G : Type 0)
     (raw : Option ℕ) (limit before : ℕ) (input path spool x p p' : List ℕ) (a c : World) (h h' : Held)
     → q ≡ count_delivered r → IfErr q (λ f. e ≡ f) → (IsOk q → (host : HostFault) × (e ≡ faults.Host host))
-    → (IsOk q → HasFailed h h') → (G → HasFailed h h')
+    → (IsOk q → HasFailed h h') → h'.part ≡ None → (G → HasFailed h h')
     → ((P : List ℕ → List ℕ → List ℕ → Type 0) → P x p p' → Across input path spool a c P)
-    → DeliversPieces G raw r limit before x p p' → RefusesPieces e raw limit before input path spool a c h h'
-refuses_ended (Ok n) r e G raw limit before input path spool x p p' a c h h' is told host unclosed go across delivers =
-    subst (λ (z : SparseCommandFault). RefusesPieces z raw limit before input path spool a c h h') (sym (host refl).1)
-    (inl (unclosed refl))
-refuses_ended (Err f) r e G raw limit before input path spool x p p' a c h h' is told host unclosed go across delivers =
-    subst (λ (z : SparseCommandFault). RefusesPieces z raw limit before input path spool a c h h') (sym told)
-    (refuses_pieces r f G raw limit before input path spool x p p' a c h h' (sym is) go across delivers)
+    → DeliversPieces G raw r limit before x p p' → RefusesPieces e raw limit before input path spool a c h h' untold
+refuses_ended untold (Ok n) r e G raw limit before input path spool x p p' a c h h' is told host unclosed closed go
+    across
+    delivers =
+    subst (λ (z : SparseCommandFault). RefusesPieces z raw limit before input path spool a c h h' untold) (sym
+    (host refl).1)
+    (inl (
+      unclosed refl,
+      inr (
+        closed,
+        across (IsDeliveredWhole raw limit before)
+            (n, pieces_done r n G raw limit before x p p' (sym is) delivers),
+      ),
+    ))
+refuses_ended untold (Err f) r e G raw limit before input path spool x p p' a c h h' is told host unclosed closed go
+    across
+    delivers =
+    subst (λ (z : SparseCommandFault). RefusesPieces z raw limit before input path spool a c h h' untold) (sym told)
+    (refuses_pieces untold r f G raw limit before input path spool x p p' a c h h' (sym is) closed go across delivers)
 
-pub refuses_across : (q : Result ℕ SparseCommandFault) (r : Result Delivered FlashFault) (e : SparseCommandFault)
+pub refuses_across : (untold : List ℕ → Type 0) (q : Result ℕ SparseCommandFault) (r : Result Delivered FlashFault)
+    (e : SparseCommandFault)
     (none s t m : ℕ) (raw : Option ℕ)
     (limit before before' : ℕ) (input path spool x p p' : List ℕ) (a c : World) (h h3 h4 h' : Held) (past : Past)
     → Crossed input path spool x p p' a c h h3 h4 h' (s + t + m) past → q ≡ count_delivered r → IfErr q (λ f. e ≡ f)
     → (IsOk q → (host : HostFault) × (e ≡ faults.Host host)) → (IsOk q → 0 < m) → none ≡ 0
     → before' ≡ before → DeliversPieces (none ≡ 0 → h3.failed < h4.failed + (s + t)) raw r limit before' x p p'
-    → RefusesPieces e raw limit before input path spool a c h h'
-refuses_across q r e none s t m raw limit before before' input path spool x p p' a c h h3 h4 h' past all is told host
+    → RefusesPieces e raw limit before input path spool a c h h' untold
+refuses_across untold q r e none s t m raw limit before before' input path spool x p p' a c h h3 h4 h' past all is told
+    host
     unclosed clean same delivers =
     let go : (none ≡ 0 → h3.failed < h4.failed + (s + t)) → HasFailed h h' =
     λ more. has_failed_across h h3 h4 h' (s + t) m all.began all.failed (more clean) in
     let late : IsOk q → HasFailed h h' =
     λ ok. unclosed_across h h3 h4 h' (s + t) m all.began all.grew all.failed (unclosed ok) in
-    refuses_ended q r e (none ≡ 0 → h3.failed < h4.failed + (s + t)) raw limit before input path spool x p p' a c h h'
-    is told host late go
+    refuses_ended untold q r e (none ≡ 0 → h3.failed < h4.failed +
+    (s + t)) raw limit before input path spool x p p' a c h h'
+    is told host late all.closed go
     all.across (subst (λ (k : ℕ). DeliversPieces (none ≡ 0 → h3.failed < h4.failed + (s + t)) raw r limit k x p p') same
     delivers)
 
@@ -165,10 +186,21 @@ done_across r n G raw limit before before' input path spool x p p' a c h h3 h4 h
       shown = shown;
     }
 
+-- one of the files was not opened, and the partition not written
+pub pieces_unopened : (untold : List ℕ → Type 0) (e : SparseCommandFault) (host : HostFault) (raw : Option ℕ)
+    (limit before : ℕ)
+    (input path spool : List ℕ) (a c : World) (h h' : Held) → e ≡ faults.Host host → HasFailed h h' → KeepsFile path a c
+    → RefusesPieces e raw limit before input path spool a c h h' untold
+pieces_unopened untold e host raw limit before input path spool a c h h' is failed kept =
+    subst (λ (z : SparseCommandFault). RefusesPieces z raw limit before input path spool a c h h' untold) (sym is)
+    (inl (failed, inl kept))
+
 -- all was done, but the line
-pub pieces_untold : (e : SparseCommandFault) (host : HostFault) (raw : Option ℕ) (limit before : ℕ)
-    (input path spool : List ℕ) (a c : World) (h h' : Held) → e ≡ faults.Host host
-    → FlashesPiecesUntold raw limit before input path spool a c h h'
-    → RefusesPieces e raw limit before input path spool a c h h'
-pieces_untold e host raw limit before input path spool a c h h' is done =
-    subst (λ (z : SparseCommandFault). RefusesPieces z raw limit before input path spool a c h h') (sym is) (inr done)
+pub pieces_untold : (untold : List ℕ → Type 0) (e : SparseCommandFault) (host : HostFault) (raw : Option ℕ)
+    (limit before : ℕ)
+    (input path spool : List ℕ) (a c : World) (h h' : Held) → e ≡ faults.Host host → h'.part ≡ None
+    → FlashesPieces raw limit before input path spool a c h h' untold
+    → RefusesPieces e raw limit before input path spool a c h h' untold
+pieces_untold untold e host raw limit before input path spool a c h h' is closed done =
+    subst (λ (z : SparseCommandFault). RefusesPieces z raw limit before input path spool a c h h' untold) (sym is)
+    (inr (closed, done))

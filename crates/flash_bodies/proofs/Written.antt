@@ -1,6 +1,6 @@
 -- What opening, flashing and closing leave together.
 use Rattle.std.proofs.Common.{◌≡◌, ◌≢◌, ℕ, ◌+◌, ◌<◌, arith, List, [], ◌∷◌, ◌++◌, Bool, true, false, length, Option}
-use Rattle.std.proofs.Common.{Some, refl, sym, ◌∙◌, ap, subst}
+use Rattle.std.proofs.Common.{None, Some, refl, sym, ◌∙◌, ap, subst}
 use Rattle.std.specs.Prelude.{Result, Ok, Err, if◌then◌else◌}
 use Rattle.abt_io.specs.Moment.{Past, no_past}
 use Rattle.abt_disk.specs.InPlace.{ClosesPart, OpensPart, IsAsLong, SparesOthers, in_place, is_settled, is_settled_in}
@@ -82,6 +82,7 @@ pub record Ran (input path x p p' : List ℕ) (old new : World) (h h' : Held) (f
   pub kept : KeepsFile input old new
   pub failed : h'.failed ≡ h.failed + faults
   pub synced : is_settled past ≡ true → h'.syncs ≡ h.syncs + 1
+  pub closed : h'.part ≡ None
 
 synced_more : (h h' h'' h3 h4 : Held) (f g n k : ℕ) (past : Past) (w d : Bool) → h' ≡ reading f h → h'' ≡ in_place g h'
     → h3 ≡ failing n h'' → ClosesPart w d past k h3 h4 → is_settled past ≡ true → h4.syncs ≡ h.syncs + 1
@@ -111,6 +112,7 @@ ran input path x p p' a a' a'' b c h0 h h' h3 h4 n k past w d r same o same' l s
       kept = input_kept input path x p p' a a' b c h0 h h' r same o (same'' ∙ same') ended;
       failed = failed_more h0 h h' h3 h4 r.file o.file n k past w d r.taken o.taken l closed;
       synced = λ settled. synced_more h0 h h' h3 h4 r.file o.file n k past w d r.taken o.taken l closed settled;
+      closed = ap (λ (q : Held). q.part) closed.closed;
     }
 
 -- so many faults more are one, where a count rose from none; and none, where it did not

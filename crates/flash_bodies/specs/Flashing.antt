@@ -6,8 +6,10 @@ use Rattle.abt_io.specs.declared.device.Partition as partitions
 use Rattle.abt_sparse.specs.declared.fault.SparseFault.{SparseFault}
 use Rattle.abt_sparse.specs.Chunk.{Header, Chunk, classed}
 use Rattle.abt_sparse.specs.Fails.{Fails, Spells, SpellsHeader}
-use Rattle.abt_sparse.specs.Pieces.{flashed}
+use Rattle.abt_sparse.specs.Pieces.{flashed, given}
+use Rattle.abt_sparse.specs.Reading.{outcome}
 use Rattle.abt_pieces.specs.Contents.{written_in}
+use Rattle.abt_flash.specs.Laying.{writes}
 use Rattle.flash_faults.specs.declared.fault.FlashFault.{FlashFault}
 use Rattle.flash_faults.specs.declared.fault.FlashFault.TheVariants as flashes
 use Rattle.abt_disk.specs.World.{World, Held, HasFailed}
@@ -15,7 +17,7 @@ use Rattle.sparse_rules.specs.declared.fault.SparseCommandFault.{SparseCommandFa
 use Rattle.sparse_rules.specs.declared.fault.SparseCommandFault.TheVariants as faults
 use Rattle.sparse_rules.specs.declared.lines.Line.TheVariants as lines
 use Rattle.sparse_rules.specs.Lines.{line_text}
-use Rattle.flash_bodies.specs.Files.{Between}
+use Rattle.flash_bodies.specs.Files.{Between, FailsAround, HoldsBut, OnClosed}
 
 -- ---- one image, over what held p and holds p' then
 
@@ -44,13 +46,22 @@ pub record HasNoRoom (need : ℕ) (x p p' : List ℕ) : Type 0 where
   pub short : length p < need
   pub kept : p' ≡ p
 
--- why it is not flashed: the first fault of x, no room, or a device's, where one has failed
+-- p' holds what p held wherever x writes nothing: an image, or what comes before its fault
+abbrev pub IsFlashedInPart : List ℕ → List ℕ → List ℕ → Type 0
+IsFlashedInPart x p p' = HoldsBut (writes (given (outcome x))) p p'
+
+-- it is flashed, as so many blocks
+abbrev pub IsFlashedWhole : List ℕ → List ℕ → List ℕ → Type 0
+IsFlashedWhole x p p' = (blocks : ℕ) × IsFlashed blocks x p p'
+
+-- Why it is not flashed: the first fault of x, no room, or a device's, where one has failed. Behind a sync that was
+-- refused all is written.
 abbrev pub IsUnflashed : Type 0 → FlashFault → List ℕ → List ℕ → List ℕ → Type 0
 IsUnflashed failed (flashes.Sparse f) x p p' = IsFlashedUpTo f x p p'
 IsUnflashed failed (flashes.PartitionTooSmall need) x p p' = HasNoRoom need x p p'
-IsUnflashed failed (flashes.Read d) x p p' = failed
-IsUnflashed failed (flashes.Write d) x p p' = failed
-IsUnflashed failed (flashes.Sync d) x p p' = failed
+IsUnflashed failed (flashes.Read d) x p p' = failed × IsFlashedInPart x p p'
+IsUnflashed failed (flashes.Write d) x p p' = failed × IsFlashedInPart x p p'
+IsUnflashed failed (flashes.Sync d) x p p' = failed × IsFlashedWhole x p p'
 IsUnflashed failed f x p p' = ⊥
 
 -- the partition is as long as it was; and where all was done it was synced once, behind its last byte
@@ -71,18 +82,20 @@ pub record FlashesFile (input partition : List ℕ) (old new : World) (syncs syn
   pub synced : syncs' ≡ syncs + 1
   pub shown : shows (line_text (lines.Blocks blocks) ++ (10 ∷ []))
 
--- all was done, but its line was not printed
-abbrev pub FlashesUntold : List ℕ → List ℕ → World → World → Held → Held → Type 0
-FlashesUntold input partition old new held held' =
-    FlashesFile input partition old new held.syncs held'.syncs (λ line. Unit {0})
+-- all was done, and PARTITION closed, but its line is untold
+abbrev pub FlashesUntold : List ℕ → List ℕ → World → World → Held → Held → (List ℕ → Type 0) → Type 0
+FlashesUntold input partition old new held held' untold =
+    OnClosed held' (FlashesFile input partition old new held.syncs held'.syncs untold)
 
 -- why the command is refused: for what the files hold; or a file or a device has failed, or the report
-abbrev pub RefusesFlash : SparseCommandFault → List ℕ → List ℕ → World → World → Held → Held → Type 0
-RefusesFlash (faults.Flash f) input partition old new held held' =
-    Between input partition old new (IsUnflashed (HasFailed held held') f)
-RefusesFlash (faults.Host f) input partition old new held held' =
-    HasFailed held held' ⊎ FlashesUntold input partition old new held held'
-RefusesFlash f input partition old new held held' = ⊥
+abbrev pub RefusesFlash : SparseCommandFault → List ℕ → List ℕ → World → World → Held → Held → (List ℕ → Type 0)
+    → Type 0
+RefusesFlash (faults.Flash f) input partition old new held held' untold =
+    OnClosed held' (Between input partition old new (IsUnflashed (HasFailed held held') f))
+RefusesFlash (faults.Host f) input partition old new held held' untold =
+    FailsAround partition old new held held' (Between input partition old new IsFlashedWhole)
+    ⊎ FlashesUntold input partition old new held held' untold
+RefusesFlash f input partition old new held held' untold = ⊥
 
 -- what the call answers of x, over what held p and holds p' then
 abbrev pub Lays : Type 0 → Result ℕ SparseCommandFault → List ℕ → List ℕ → List ℕ → Type 0

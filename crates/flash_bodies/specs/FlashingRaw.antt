@@ -1,6 +1,7 @@
 -- What the command `flash --raw` leaves of files, and what it prints.
-use Rattle.std.specs.Prelude.{◌≡◌, ℕ, ◌+◌, ◌*◌, ◌≤◌, ◌<◌, ◌⊎◌, List, [], ◌∷◌, ◌++◌, length, Result, Ok, Err}
-use Rattle.abt_io.specs.Moment.{put_at}
+use Rattle.std.specs.Prelude.{◌≡◌, ℕ, ◌+◌, ◌*◌, ◌≤◌, ◌<◌, ◌⊎◌, List, [], ◌∷◌, ◌++◌, length, take}
+use Rattle.std.specs.Prelude.{Result, Ok, Err}
+use Rattle.abt_io.specs.Moment.{in_range, put_at}
 use Rattle.abt_sparse.specs.Block.{filled_to}
 use Rattle.abt_runs.specs.Raw.{RefusedRaw}
 use Rattle.abt_runs.specs.declared.part.RunFault.{RunFault}
@@ -13,7 +14,7 @@ use Rattle.sparse_rules.specs.declared.fault.SparseCommandFault.{SparseCommandFa
 use Rattle.sparse_rules.specs.declared.fault.SparseCommandFault.TheVariants as faults
 use Rattle.sparse_rules.specs.declared.lines.Line.TheVariants as lines
 use Rattle.sparse_rules.specs.Lines.{line_text}
-use Rattle.flash_bodies.specs.Files.{Between}
+use Rattle.flash_bodies.specs.Files.{Between, FailsAround, HoldsBut, OnClosed}
 
 -- ---- one image, over what held p and holds p' then
 
@@ -32,16 +33,26 @@ pub record HasNoRoomRaw (need b : ℕ) (x p p' : List ℕ) : Type 0 where
   pub short : length p < need
   pub kept : p' ≡ p
 
--- it has no such blocks, or more than can be, and nothing was written; or a device has failed
+-- it is flashed, as so many blocks
+abbrev pub IsFlashedWholeRaw : ℕ → List ℕ → List ℕ → List ℕ → Type 0
+IsFlashedWholeRaw b x p p' = (blocks : ℕ) × IsFlashedRaw blocks b x p p'
+
+-- p' is p with the first bytes of x at its front, but for so many bytes behind these
+pub record IsLaidInPart (torn : ℕ) (x p p' : List ℕ) : Type 0 where
+  pub laid : ℕ
+  pub within : laid ≤ length x
+  pub holds : HoldsBut (in_range laid torn) (put_at p 0 (take laid x)) p'
+
+-- it has no such blocks, or more than can be, and nothing was written; or it could not be read
 abbrev pub IsUnopened : Type 0 → RunFault → ℕ → List ℕ → List ℕ → List ℕ → Type 0
-IsUnopened failed (of_runs.Read d) b x p p' = failed
+IsUnopened failed (of_runs.Read d) b x p p' = failed × IsLaidInPart 0 x p p'
 IsUnopened failed f b x p p' = RefusedRaw f b (length x) × (p' ≡ p)
 
--- there is no room, or a device has failed
+-- There is no room, or a device has failed: writing a window, or syncing all.
 abbrev pub IsUnlaid : Type 0 → FlashFault → ℕ → List ℕ → List ℕ → List ℕ → Type 0
 IsUnlaid failed (flashes.PartitionTooSmall need) b x p p' = HasNoRoomRaw need b x p p'
-IsUnlaid failed (flashes.Write d) b x p p' = failed
-IsUnlaid failed (flashes.Sync d) b x p p' = failed
+IsUnlaid failed (flashes.Write d) b x p p' = failed × IsLaidInPart 65536 x p p'
+IsUnlaid failed (flashes.Sync d) b x p p' = failed × IsFlashedWholeRaw b x p p'
 IsUnlaid failed f b x p p' = ⊥
 
 -- what the call answers of x, over what held p and holds p' then
@@ -65,14 +76,16 @@ pub record FlashesRawFile (size : ℕ) (input partition : List ℕ) (old new : W
   pub synced : syncs' ≡ syncs + 1
   pub shown : shows (line_text (lines.Blocks blocks) ++ (10 ∷ []))
 
--- all was done, but its line was not printed
-abbrev pub FlashesRawUntold : ℕ → List ℕ → List ℕ → World → World → Held → Held → Type 0
-FlashesRawUntold size input partition old new held held' =
-    FlashesRawFile size input partition old new held.syncs held'.syncs (λ line. Unit {0})
+-- all was done, and PARTITION closed, but its line is untold
+abbrev pub FlashesRawUntold : ℕ → List ℕ → List ℕ → World → World → Held → Held → (List ℕ → Type 0) → Type 0
+FlashesRawUntold size input partition old new held held' untold =
+    OnClosed held' (FlashesRawFile size input partition old new held.syncs held'.syncs untold)
 
 -- why the command is refused: for what the files hold; or a file or a device has failed, or the report
-abbrev pub RefusesFlashRaw : SparseCommandFault → ℕ → List ℕ → List ℕ → World → World → Held → Held → Type 0
-RefusesFlashRaw (faults.Host f) size input partition old new held held' =
-    HasFailed held held' ⊎ FlashesRawUntold size input partition old new held held'
-RefusesFlashRaw f size input partition old new held held' =
-    Between input partition old new (IsUnflashedRaw (HasFailed held held') f size)
+abbrev pub RefusesFlashRaw : SparseCommandFault → ℕ → List ℕ → List ℕ → World → World → Held → Held
+    → (List ℕ → Type 0) → Type 0
+RefusesFlashRaw (faults.Host f) size input partition old new held held' untold =
+    FailsAround partition old new held held' (Between input partition old new (IsFlashedWholeRaw size))
+    ⊎ FlashesRawUntold size input partition old new held held' untold
+RefusesFlashRaw f size input partition old new held held' untold =
+    OnClosed held' (Between input partition old new (IsUnflashedRaw (HasFailed held held') f size))

@@ -18,7 +18,7 @@ use Rattle.sparse_rules.specs.declared.fault.SparseCommandFault.{SparseCommandFa
 use Rattle.sparse_rules.specs.declared.fault.SparseCommandFault.TheVariants as faults
 use Rattle.sparse_rules.specs.declared.lines.Line.TheVariants as lines
 use Rattle.sparse_rules.specs.Lines.{line_text}
-use Rattle.flash_bodies.specs.Files.{OfFile}
+use Rattle.flash_bodies.specs.Files.{FailsAround, OfFile, OnClosed}
 
 -- ---- the image that bytes are: a sparse one at their front, or a raw one in blocks of so many bytes
 
@@ -55,6 +55,10 @@ pub record IsDelivered (raw : Option ℕ) (limit before n : ℕ) (x p p' : List 
       (image_as raw x).blocks))
   pub mends : (q : List ℕ) (done : ℕ) → before ≤ done → StandsUpTo raw limit done x q p
       → p' ≡ over q (cells (image_as raw x).size (image_as raw x).blocks)
+
+-- all of its pieces behind the first ones came
+abbrev pub IsDeliveredWhole : Option ℕ → ℕ → ℕ → List ℕ → List ℕ → List ℕ → Type 0
+IsDeliveredWhole raw limit before x p p' = (pieces : ℕ) × IsDelivered raw limit before pieces x p p'
 
 -- a device has failed in piece j of an image that fits; the pieces before it stand, where those did that came before
 pub record IsStopped (failed : Type 0) (raw : Option ℕ) (limit before j : ℕ) (x p p' : List ℕ) : Type 0 where
@@ -125,10 +129,11 @@ pub record FlashesPieces (raw : Option ℕ) (limit before : ℕ) (input partitio
   pub synced : held'.syncs ≡ held.syncs + 1
   pub shown : shows (line_text (lines.Pieces pieces) ++ (10 ∷ []))
 
--- all was done, but its line was not printed
-abbrev pub FlashesPiecesUntold : Option ℕ → ℕ → ℕ → List ℕ → List ℕ → List ℕ → World → World → Held → Held → Type 0
-FlashesPiecesUntold raw limit before input partition spool old new held held' =
-    FlashesPieces raw limit before input partition spool old new held held' (λ line. Unit {0})
+-- all was done, and PARTITION closed, but its line is untold
+abbrev pub FlashesPiecesUntold : Option ℕ → ℕ → ℕ → List ℕ → List ℕ → List ℕ → World → World → Held → Held
+    → (List ℕ → Type 0) → Type 0
+FlashesPiecesUntold raw limit before input partition spool old new held held' untold =
+    OnClosed held' (FlashesPieces raw limit before input partition spool old new held held' untold)
 
 -- of a raw image: no image has such blocks, or the limit has no room for one
 abbrev pub IsUncuttable : Option ℕ → SparseCommandFault → ℕ → List ℕ → Type 0
@@ -136,10 +141,12 @@ IsUncuttable raw fault limit x = (size : ℕ) × (raw ≡ Some size) × RefusedC
 
 -- why the command is refused: for what the files hold; or a file or a device has failed, or the report
 abbrev pub RefusesPieces : SparseCommandFault → Option ℕ → ℕ → ℕ → List ℕ → List ℕ → List ℕ → World → World → Held
-    → Held → Type 0
-RefusesPieces (faults.Flash f) raw limit before input partition spool old new held held' =
-    Across input partition spool old new (IsUndelivered (HasFailed held held') raw f limit before)
-RefusesPieces (faults.Host f) raw limit before input partition spool old new held held' =
-    HasFailed held held' ⊎ FlashesPiecesUntold raw limit before input partition spool old new held held'
-RefusesPieces fault raw limit before input partition spool old new held held' =
+    → Held → (List ℕ → Type 0) → Type 0
+RefusesPieces (faults.Flash f) raw limit before input partition spool old new held held' untold =
+    OnClosed held' (Across input partition spool old new (IsUndelivered (HasFailed held held') raw f limit before))
+RefusesPieces (faults.Host f) raw limit before input partition spool old new held held' untold =
+    FailsAround partition old new held held'
+    (Across input partition spool old new (IsDeliveredWhole raw limit before))
+    ⊎ FlashesPiecesUntold raw limit before input partition spool old new held held' untold
+RefusesPieces fault raw limit before input partition spool old new held held' untold =
     OfFile input old (IsUncuttable raw fault limit) × (new ≡ old)

@@ -72,23 +72,25 @@ pub record VerifiesFile (input partition : List ℕ) (world : World) (shows : Li
   pub both : OfBoth input partition world (IsThere blocks)
   pub shown : shows (line_text (lines.Blocks blocks) ++ (10 ∷ []))
 
-pub record VerifiesRawFile (size : ℕ) (input partition : List ℕ) (world : World) (shows : List ℕ → Type 0) : Type 0 where
+pub record VerifiesRawFile (size : ℕ) (input partition : List ℕ) (world : World)
+    (shows : List ℕ → Type 0) : Type 0 where
   pub blocks : ℕ
   pub both : OfBoth input partition world (IsThereRaw blocks size)
   pub shown : shows (line_text (lines.Blocks blocks) ++ (10 ∷ []))
 
 -- why the command is refused: for what both files hold; or a file or a device has failed, or all was compared, but its
--- line was not printed
-abbrev pub RefusesVerify : SparseCommandFault → List ℕ → List ℕ → World → Held → Held → Type 0
-RefusesVerify (faults.Verify f) input partition world held held' =
+-- line is untold
+abbrev pub RefusesVerify : SparseCommandFault → List ℕ → List ℕ → World → Held → Held → (List ℕ → Type 0) → Type 0
+RefusesVerify (faults.Verify f) input partition world held held' untold =
     OfBoth input partition world (IsNotThere (HasFailed held held') f)
-RefusesVerify (faults.Host f) input partition world held held' =
-    HasFailed held held' ⊎ VerifiesFile input partition world (λ line. Unit {0})
-RefusesVerify f input partition world held held' = ⊥
+RefusesVerify (faults.Host f) input partition world held held' untold =
+    HasFailed held held' ⊎ VerifiesFile input partition world untold
+RefusesVerify f input partition world held held' untold = ⊥
 
-abbrev pub RefusesVerifyRaw : SparseCommandFault → ℕ → List ℕ → List ℕ → World → Held → Held → Type 0
-RefusesVerifyRaw (faults.Verify f) size input partition world held held' =
+abbrev pub RefusesVerifyRaw : SparseCommandFault → ℕ → List ℕ → List ℕ → World → Held → Held → (List ℕ → Type 0)
+    → Type 0
+RefusesVerifyRaw (faults.Verify f) size input partition world held held' untold =
     OfBoth input partition world (IsNotThereRaw (HasFailed held held') f size)
-RefusesVerifyRaw (faults.Host f) size input partition world held held' =
-    HasFailed held held' ⊎ VerifiesRawFile size input partition world (λ line. Unit {0})
-RefusesVerifyRaw f size input partition world held held' = ⊥
+RefusesVerifyRaw (faults.Host f) size input partition world held held' untold =
+    HasFailed held held' ⊎ VerifiesRawFile size input partition world untold
+RefusesVerifyRaw f size input partition world held held' untold = ⊥

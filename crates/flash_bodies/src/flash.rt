@@ -3,7 +3,7 @@
 ghost use Rattle.std.specs.Prelude.{◌≡◌, ◌+◌, ◌<◌, IsTrue, OnOk, IfErr};
 ghost use Rattle.abt_refusals.specs.Paths.{path_in, path_of};
 ghost use Rattle.abt_disk.specs.InPlace.{SparesOthers};
-ghost use Rattle.abt_report.specs.Shows.{Shows};
+ghost use Rattle.abt_report.specs.Shows.{ShowsBeside, Unprinted};
 ghost use Rattle.abt_disk.specs.DiskCalls.{HasNoPart};
 ghost use Rattle.flash_bodies.specs.Files.{LeavesOthers};
 ghost use Rattle.flash_bodies.specs.Flashing.{FlashesFile, Lays, RefusesFlash, SyncsOnce};
@@ -30,7 +30,7 @@ pub fn flash_file<'a, D: Disk>(
     // PARTITION holds what flashing IN leaves of what it held, and is synced; what was printed tells of it
     ensures done { IsTrue D.tells → OnOk result (FlashesFile (path_in input.entry) (path_of partition.entry)
         (D.world disk.old) (D.world disk.new) (D.held disk.old).syncs (D.held disk.new).syncs
-        (Shows report.old report.new)) }
+        (ShowsBeside (D.on_output (path_of partition.entry)) report.old report.new)) }
     // whatever comes, PARTITION alone may hold anything else, and IN holds what it held; and where it is done nothing
     // has failed
     ensures leaves { IsTrue D.tells → LeavesOthers result (SparesOthers (path_of partition.entry) (D.world disk.old)
@@ -38,7 +38,8 @@ pub fn flash_file<'a, D: Disk>(
         (D.world disk.new) }
     // it is refused for the first fault that IN has, for want of room, or where a file, a device or the report failed
     ensures refused { IsTrue D.tells → IfErr result (λ refusal. RefusesFlash refusal.fault (path_in input.entry)
-        (path_of partition.entry) (D.world disk.old) (D.world disk.new) (D.held disk.old) (D.held disk.new)) }
+        (path_of partition.entry) (D.world disk.old) (D.world disk.new) (D.held disk.old) (D.held disk.new)
+        (Unprinted report.old report.new)) }
 {
     let from = disk.input(input)?;
     report.progress.expect_if(from.known_length());

@@ -3,7 +3,7 @@
 ghost use Rattle.std.specs.Prelude.{IsTrue, OnOk, IfErr};
 ghost use Rattle.abt_refusals.specs.Paths.{path_of};
 ghost use Rattle.abt_disk.specs.InPlace.{SparesOthers};
-ghost use Rattle.abt_report.specs.Shows.{Shows};
+ghost use Rattle.abt_report.specs.Shows.{ShowsBeside, Unprinted};
 ghost use Rattle.abt_disk.specs.DiskCalls.{HasNoPart};
 ghost use Rattle.flash_bodies.specs.Files.{LeavesOthers};
 ghost use Rattle.flash_bodies.specs.FlashingRaw.{FlashesRawFile, RefusesFlashRaw};
@@ -31,7 +31,7 @@ pub fn flash_raw_file<'a, D: Disk>(
     // PARTITION holds IN in whole blocks at its front, and is synced; what was printed tells of it
     ensures done { IsTrue D.tells → OnOk result (FlashesRawFile size (path_of input.entry) (path_of partition.entry)
         (D.world disk.old) (D.world disk.new) (D.held disk.old).syncs (D.held disk.new).syncs
-        (Shows report.old report.new)) }
+        (ShowsBeside (D.on_output (path_of partition.entry)) report.old report.new)) }
     // whatever comes, PARTITION alone may hold anything else, and IN holds what it held; and where it is done nothing
     // has failed
     ensures leaves { IsTrue D.tells → LeavesOthers result (SparesOthers (path_of partition.entry) (D.world disk.old)
@@ -39,7 +39,8 @@ pub fn flash_raw_file<'a, D: Disk>(
         (D.world disk.new) }
     // it is refused for its blocks, for want of room, or where a file, a device or the report failed
     ensures refused { IsTrue D.tells → IfErr result (λ refusal. RefusesFlashRaw refusal.fault size (path_of input.entry)
-        (path_of partition.entry) (D.world disk.old) (D.world disk.new) (D.held disk.old) (D.held disk.new)) }
+        (path_of partition.entry) (D.world disk.old) (D.world disk.new) (D.held disk.old) (D.held disk.new)
+        (Unprinted report.old report.new)) }
 {
     let source = disk.source(input)?;
     report.progress.expect(source.length(), 1);

@@ -1,10 +1,12 @@
 //! A source that is laid over the front of a partition.
 
 ghost use Rattle.std.specs.Prelude.{◌≡◌, ◌≤◌, ◌<◌, ◌+◌, ◌-◌, ◌^◌, IsTrue, OnOk, IfOk, length, take, drop, replicate};
-ghost use Rattle.std.specs.Prelude.{slice_range};
-ghost use Rattle.abt_io.specs.Moment.{put_at};
+ghost use Rattle.std.specs.Prelude.{IfErr, slice_range};
+ghost use Rattle.abt_io.specs.Moment.{in_range, put_at};
 ghost use Rattle.abt_sparse.specs.Block.{filled_to};
-ghost use Rattle.flash_bodies.specs.Laying.{OnlyLays};
+ghost use Rattle.flash_bodies.specs.Files.{HoldsBut};
+ghost use Rattle.flash_bodies.specs.FlashingRaw.{IsLaidInPart};
+ghost use Rattle.flash_bodies.specs.Laying.{OnlyLays, torn_by};
 
 use abt_io::{CopyFault, Meter, Partition, Source, WINDOW, Window, write_all_at};
 
@@ -22,6 +24,8 @@ pub(crate) fn lay_filled<S: Source, P: Partition>(
     requires room { need ≤ P.size onto.old }
     ensures laid { IsTrue S.tells → IsTrue P.tells → OnOk result (P.content onto.new
         ≡ put_at (P.content onto.old) 0 (filled_to need (S.content source.old))) }
+    ensures broken { IsTrue S.tells → IsTrue P.tells → IfErr result (λ fault. IsLaidInPart (torn_by fault)
+        (S.content source.old) (P.content onto.old) (P.content onto.new)) }
     ensures lays { OnlyLays result S.Source P.Source P.Partition.own source.old source.new onto.old onto.new }
 {
     let held = source.length();
@@ -46,6 +50,8 @@ fn lay_source<S: Source, P: Partition>(
     requires room { held ≤ P.size onto.old }
     ensures laid { IsTrue S.tells → IsTrue P.tells → OnOk result (P.content onto.new
         ≡ put_at (P.content onto.old) 0 (S.content source.old)) }
+    ensures broken { IsTrue S.tells → IsTrue P.tells → IfErr result (λ fault. IsLaidInPart (torn_by fault)
+        (S.content source.old) (P.content onto.old) (P.content onto.new)) }
     ensures lays { OnlyLays result S.Source P.Source P.Partition.own source.old source.new onto.old onto.new }
 {
     let mut at = 0;
@@ -77,6 +83,8 @@ fn lay_step<S: Source, P: Partition>(
     ensures some { IfOk result (λ got. (0 < got) × (got ≤ ask)) }
     ensures laid { IsTrue S.tells → IsTrue P.tells → IfOk result (λ got. P.content onto.new
         ≡ put_at (P.content onto.old) at (take got (drop at (S.content source.old)))) }
+    ensures torn { IsTrue P.tells → IfErr result (λ fault. HoldsBut (in_range at (torn_by fault)) (P.content onto.old)
+        (P.content onto.new)) }
     ensures content { IsTrue S.tells → S.content source.new ≡ S.content source.old }
     ensures lays { OnlyLays result S.Source P.Source P.Partition.own source.old source.new onto.old onto.new }
 {

@@ -2,7 +2,7 @@
 
 ghost use Rattle.std.specs.Prelude.{◌≡◌, ◌≤◌, ◌-◌, max, [], None, IsTrue, OnOk, IfErr};
 ghost use Rattle.abt_refusals.specs.Paths.{path_of};
-ghost use Rattle.abt_report.specs.Shows.{Shows};
+ghost use Rattle.abt_report.specs.Shows.{ShowsBeside, Unprinted};
 ghost use Rattle.flash_bodies.specs.Files.{LeavesOthers, MayFlashPieces};
 ghost use Rattle.flash_bodies.specs.InPieces.{FlashesPieces, IsUncuttable, RefusesPieces, SparesBoth};
 ghost use Rattle.flash_bodies.specs.Through.{count_delivered};
@@ -37,7 +37,7 @@ pub fn flash_pieces_file<'a, D: Disk>(
     // PARTITION holds what it held under the blocks of the pieces, and is synced; what was printed tells of them
     ensures done { IsTrue D.tells → OnOk result (FlashesPieces raw limit (max 1 from - 1) (path_of input.entry)
         (path_of partition.entry) (path_of spool.entry) (D.world disk.old) (D.world disk.new) (D.held disk.old)
-        (D.held disk.new) (Shows report.old report.new)) }
+        (D.held disk.new) (ShowsBeside (D.on_output (path_of partition.entry)) report.old report.new)) }
     // whatever comes, PARTITION and SPOOL alone may hold anything else, and IN holds what it held; and where it is done
     // nothing has failed
     ensures leaves { IsTrue D.tells → LeavesOthers result (SparesBoth (path_of partition.entry) (path_of spool.entry)
@@ -46,7 +46,7 @@ pub fn flash_pieces_file<'a, D: Disk>(
     // it is refused for what IN is, for its limits, or where a file, a device or the report failed
     ensures refused { IsTrue D.tells → IfErr result (λ refusal. RefusesPieces refusal.fault raw limit (max 1 from - 1)
         (path_of input.entry) (path_of partition.entry) (path_of spool.entry) (D.world disk.old) (D.world disk.new)
-        (D.held disk.old) (D.held disk.new)) }
+        (D.held disk.old) (D.held disk.new) (Unprinted report.old report.new)) }
 {
     let from = from.max(1);
     let source = disk.ahead(input)?;

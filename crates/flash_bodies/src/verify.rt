@@ -2,7 +2,7 @@
 
 ghost use Rattle.std.specs.Prelude.{◌≡◌, ◌<◌, ◌+◌, [], IsTrue, OnOk, IfErr, is_ok};
 ghost use Rattle.abt_refusals.specs.Paths.{path_in, path_of};
-ghost use Rattle.abt_report.specs.Shows.{Shows};
+ghost use Rattle.abt_report.specs.Shows.{ShowsHere, Unprinted};
 ghost use Rattle.abt_disk.specs.DiskCalls.{FailsOnly, LeavesAll};
 ghost use Rattle.abt_disk.specs.World.{unless};
 ghost use Rattle.flash_bodies.specs.Verifying.{Finds, FindsRaw, RefusesVerify, RefusesVerifyRaw, VerifiesFile};
@@ -29,12 +29,13 @@ pub fn verify_file<'a, D: Disk>(
     requires first { IsTrue D.tells → (D.held disk.old).begun ≡ [] }
     // the image that IN holds stands on PARTITION, and what was printed tells of it
     ensures done { IsTrue D.tells → OnOk result (VerifiesFile (path_in input.entry) (path_of partition.entry)
-        (D.world disk.old) (Shows report.old report.new)) }
+        (D.world disk.old) (ShowsHere report.old report.new)) }
     // every file stays as it is; and where it is done nothing has failed
     ensures leaves { LeavesAll D.tells result (D.held disk.old) (D.held disk.new) (D.world disk.old) (D.world disk.new) }
     // it is refused for the first byte that differs or the first fault that IN has, or where a file or the report failed
     ensures refused { IsTrue D.tells → IfErr result (λ refusal. RefusesVerify refusal.fault (path_in input.entry)
-        (path_of partition.entry) (D.world disk.old) (D.held disk.old) (D.held disk.new)) }
+        (path_of partition.entry) (D.world disk.old) (D.held disk.old) (D.held disk.new)
+        (Unprinted report.old report.new)) }
 {
     let from = disk.input(input)?;
     report.progress.expect_if(from.known_length());
@@ -76,12 +77,13 @@ pub fn verify_raw_file<'a, D: Disk>(
     requires first { IsTrue D.tells → (D.held disk.old).begun ≡ [] }
     // each byte of IN stands on PARTITION, and what was printed tells of it
     ensures done { IsTrue D.tells → OnOk result (VerifiesRawFile size (path_of input.entry) (path_of partition.entry)
-        (D.world disk.old) (Shows report.old report.new)) }
+        (D.world disk.old) (ShowsHere report.old report.new)) }
     // every file stays as it is; and where it is done nothing has failed
     ensures leaves { LeavesAll D.tells result (D.held disk.old) (D.held disk.new) (D.world disk.old) (D.world disk.new) }
     // it is refused for the first byte that differs, for the size of blocks, or where a file or the report failed
     ensures refused { IsTrue D.tells → IfErr result (λ refusal. RefusesVerifyRaw refusal.fault size
-        (path_of input.entry) (path_of partition.entry) (D.world disk.old) (D.held disk.old) (D.held disk.new)) }
+        (path_of input.entry) (path_of partition.entry) (D.world disk.old) (D.held disk.old) (D.held disk.new)
+        (Unprinted report.old report.new)) }
 {
     let source = disk.source(input)?;
     report.progress.expect(source.length(), 1);

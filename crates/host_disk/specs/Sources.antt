@@ -8,7 +8,7 @@ use Rattle.host_disk.specs.declared.source.HostSource.TheVariants.{Plain, Ahead,
 
 -- a count of one of them
 abbrev pub number_of_source : {F : Type 0} {g : _} → (FileSource F g → ℕ) → (AheadSource F g → ℕ)
-    → (StandardSource → ℕ) → HostSource F g → ℕ
+    → (StandardSource F g → ℕ) → HostSource F g → ℕ
 number_of_source plain ahead standard (Plain source) = plain source
 number_of_source plain ahead standard (Ahead source) = ahead source
 number_of_source plain ahead standard (Standard source) = standard source

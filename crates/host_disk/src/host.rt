@@ -1,6 +1,7 @@
 //! The files of the system as a disk.
 
 ghost use Rattle.std.specs.Prelude.{[], None, false};
+ghost use Rattle.std.proofs.lemmas.Bool.{false≢true};
 
 use crate::source::HostSource;
 use abt_disk::{Disk, ImageTo};
@@ -8,42 +9,43 @@ use abt_host::{InputFile, Reading, Writing, not_opened};
 use abt_io::Overwrite;
 use abt_output::{ImageFile, ImageOutput, OutputFile};
 use abt_refusals::{HostFault, HostRefusal, Place};
-use host_files::is_standard_input;
+use host_files::{INPUT, is_standard_input, standard_source_again};
 use std::alloc::AllocError;
-use std::fs::File;
 use sys_devices::{FilePartition, GatheringSpool};
+use sys_file::{System, SystemFile};
 
 // How long the magic of an image is at most.
 const MAGIC: usize = 8;
 
 /// What a run does with files. It tells nothing of what they hold.
 #[derive(Drop)]
-pub struct Host<R> {
-    // The runtime of this run. It is a parameter since the prover takes an impl of a trait whose types have arguments only
-    // where the impl has one.
-    rt: R,
-    writing: Writing,
+pub struct Host<S: System + Drop> {
+    writing: Writing<S>,
     // What goes through a spool is looked at where each piece ends: what changes behind the last one does no harm.
     is_looked_at: bool,
 }
 
-impl<R: Drop> Host<R> {
+impl<S: System + Drop> Host<S> {
     /// Begins with what is open to be read, if anything is.
-    pub fn new(rt: R, reading: Reading) -> Host<R> {
+    pub fn new(reading: Reading<S>) -> Host<S> {
         Host {
-            rt,
             writing: reading.all_open(),
             is_looked_at: false,
         }
     }
 
+    /// What opens its files.
+    pub fn system(&mut self) -> &mut S {
+        &mut self.writing.reading.system
+    }
+
     /// Each output that is a file or a block device is going to be synced at its end.
-    pub fn sync_outputs(&mut self) {
+    pub fn sync_all(&mut self) {
         self.writing.reading.sync_outputs();
     }
 
     /// Block devices may be written that are in use: mounted, or swap.
-    pub fn allow_mounted(&mut self) {
+    pub fn allow_all(&mut self) {
         self.writing.reading.allow_mounted();
     }
 
@@ -56,7 +58,7 @@ impl<R: Drop> Host<R> {
     }
 
     // Reads standard input at any place.
-    fn standard<'a>(&mut self, place: Place<'a>) -> Result<HostSource<File>, HostRefusal<'a>> {
+    fn standard<'a>(&mut self, place: Place<'a>) -> Result<HostSource<S::File>, HostRefusal<'a>> {
         match self.writing.reading.standard_source(place) {
             Ok(source) => Ok(HostSource::Standard(source)),
             Err(refusal) => Err(refusal),
@@ -64,18 +66,18 @@ impl<R: Drop> Host<R> {
     }
 }
 
-impl<R: Drop> Disk for Host<R> {
-    type From = InputFile;
+impl<S: System + Drop> Disk for Host<S> {
+    type From = InputFile<S::File>;
 
-    type Onto = OutputFile<File>;
+    type Onto = OutputFile<S::File>;
 
-    type At = HostSource<File>;
+    type At = HostSource<S::File>;
 
-    type Part = FilePartition<File>;
+    type Part = FilePartition<S::File>;
 
-    type Image = ImageFile<File>;
+    type Image = ImageFile<S::File>;
 
-    type Through = GatheringSpool<File>;
+    type Through = GatheringSpool<S::File>;
 
     ghost tells = { false };
 
@@ -94,19 +96,21 @@ impl<R: Drop> Disk for Host<R> {
 
     ghost is_over = { λ _. false };
 
-    ghost told = { λ t. t };
+    ghost on_output = { λ _. false };
 
-    ghost source_told = { λ t. t };
+    ghost told = { λ t. absurd (false≢true t) };
 
-    ghost part_told = { λ t. t };
+    ghost source_told = { λ t. absurd (false≢true t) };
 
-    ghost through_told = { λ t. t };
+    ghost part_told = { λ t. absurd (false≢true t) };
 
-    fn input<'a>(&mut self, place: Place<'a>) -> Result<InputFile, HostRefusal<'a>> {
+    ghost through_told = { λ t. absurd (false≢true t) };
+
+    fn input<'a>(&mut self, place: Place<'a>) -> Result<InputFile<S::File>, HostRefusal<'a>> {
         self.writing.reading.input(place)
     }
 
-    fn source<'a>(&mut self, place: Place<'a>) -> Result<HostSource<File>, HostRefusal<'a>> {
+    fn source<'a>(&mut self, place: Place<'a>) -> Result<HostSource<S::File>, HostRefusal<'a>> {
         if is_standard_input(&place) {
             return self.standard(place);
         }
@@ -116,7 +120,7 @@ impl<R: Drop> Disk for Host<R> {
         }
     }
 
-    fn ahead<'a>(&mut self, place: Place<'a>) -> Result<HostSource<File>, HostRefusal<'a>> {
+    fn ahead<'a>(&mut self, place: Place<'a>) -> Result<HostSource<S::File>, HostRefusal<'a>> {
         if is_standard_input(&place) {
             return self.standard(place);
         }
@@ -129,14 +133,14 @@ impl<R: Drop> Disk for Host<R> {
 
     fn again<'a>(
         &mut self,
-        at: &HostSource<File>,
+        at: &HostSource<S::File>,
         place: Place<'a>,
-    ) -> Result<HostSource<File>, HostRefusal<'a>> {
+    ) -> Result<HostSource<S::File>, HostRefusal<'a>> {
         let source = match at {
             HostSource::Plain(source) => source,
             HostSource::Ahead(source) => &source.file().source,
             HostSource::Standard(source) => {
-                return match source.again() {
+                return match standard_source_again(&self.writing.reading.system, source) {
                     Ok(source) => Ok(HostSource::Standard(source)),
                     Err(error) => Err(not_opened(&error, place)),
                 };
@@ -152,12 +156,16 @@ impl<R: Drop> Disk for Host<R> {
         self.writing.reading.text(place)
     }
 
-    fn let_go(&mut self, from: InputFile) {
-        self.writing.reading.let_go(from.descriptor());
+    fn let_go(&mut self, from: InputFile<S::File>) {
+        let descriptor = self.writing.reading.system.descriptor(from.file());
+        self.writing.reading.let_go(descriptor);
     }
 
-    fn let_go_source(&mut self, at: HostSource<File>) {
-        if let Some(descriptor) = at.descriptor() {
+    fn let_go_source(&mut self, at: HostSource<S::File>) {
+        if at.is_standard() {
+            self.writing.reading.let_go(INPUT);
+        } else if let Some(file) = at.file() {
+            let descriptor = self.writing.reading.system.descriptor(file);
             self.writing.reading.let_go(descriptor);
         }
     }
@@ -166,21 +174,24 @@ impl<R: Drop> Disk for Host<R> {
         self.writing.reading.unchanged()
     }
 
-    fn partition<'a>(&mut self, place: Place<'a>) -> Result<FilePartition<File>, HostRefusal<'a>> {
+    fn partition<'a>(
+        &mut self,
+        place: Place<'a>,
+    ) -> Result<FilePartition<S::File>, HostRefusal<'a>> {
         self.writing.partition(place)
     }
 
-    fn why_of_part(&self, part: &FilePartition<File>) -> Option<i32> {
+    fn why_of_part(&self, part: &FilePartition<S::File>) -> Option<i32> {
         part.why()
     }
 
-    fn why_of_spool(&self, through: &GatheringSpool<File>) -> Option<i32> {
+    fn why_of_spool(&self, through: &GatheringSpool<S::File>) -> Option<i32> {
         through.why()
     }
 
     fn close<'a>(
         &mut self,
-        part: FilePartition<File>,
+        part: FilePartition<S::File>,
         place: Place<'a>,
     ) -> Result<bool, HostRefusal<'a>> {
         let looked = self.unchanged_at_end();
@@ -195,7 +206,7 @@ impl<R: Drop> Disk for Host<R> {
         &mut self,
         place: Place<'a>,
         bytes: u64,
-    ) -> Result<FilePartition<File>, HostRefusal<'a>> {
+    ) -> Result<FilePartition<S::File>, HostRefusal<'a>> {
         self.writing.zeros(place, bytes)
     }
 
@@ -204,8 +215,8 @@ impl<R: Drop> Disk for Host<R> {
         place: Place<'a>,
         limit: u32,
         keeping: bool,
-        from: &HostSource<File>,
-    ) -> Result<GatheringSpool<File>, HostRefusal<'a>> {
+        from: &HostSource<S::File>,
+    ) -> Result<GatheringSpool<S::File>, HostRefusal<'a>> {
         let Ok(from) = from.shared() else {
             return Err(HostRefusal::memory());
         };
@@ -221,7 +232,7 @@ impl<R: Drop> Disk for Host<R> {
 
     fn close_spool<'a>(
         &mut self,
-        through: GatheringSpool<File>,
+        through: GatheringSpool<S::File>,
         place: Place<'a>,
     ) -> Result<bool, HostRefusal<'a>> {
         let mut through = through;
@@ -246,17 +257,17 @@ impl<R: Drop> Disk for Host<R> {
         self.writing.refuse_taken(place)
     }
 
-    fn plain<'a>(&mut self, place: Place<'a>) -> Result<OutputFile<File>, HostRefusal<'a>> {
+    fn plain<'a>(&mut self, place: Place<'a>) -> Result<OutputFile<S::File>, HostRefusal<'a>> {
         self.writing.plain(place)
     }
 
-    fn raw<'a>(&mut self, place: Place<'a>) -> Result<OutputFile<File>, HostRefusal<'a>> {
+    fn raw<'a>(&mut self, place: Place<'a>) -> Result<OutputFile<S::File>, HostRefusal<'a>> {
         self.writing.raw(place)
     }
 
     fn finish<'a>(
         &mut self,
-        onto: OutputFile<File>,
+        onto: OutputFile<S::File>,
         place: Place<'a>,
     ) -> Result<bool, HostRefusal<'a>> {
         if let Err(refusal) = self.writing.reading.unchanged() {
@@ -268,7 +279,7 @@ impl<R: Drop> Disk for Host<R> {
         Ok(is_data_on_output)
     }
 
-    fn give_up(&mut self, onto: OutputFile<File>) {
+    fn give_up(&mut self, onto: OutputFile<S::File>) {
         onto.give_up()
     }
 
@@ -276,7 +287,7 @@ impl<R: Drop> Disk for Host<R> {
         &mut self,
         place: Place<'a>,
         is_gathered: bool,
-    ) -> Result<ImageTo<ImageFile<File>, OutputFile<File>>, HostRefusal<'a>> {
+    ) -> Result<ImageTo<ImageFile<S::File>, OutputFile<S::File>>, HostRefusal<'a>> {
         match self.writing.image(place, is_gathered) {
             Ok(ImageOutput::File(image)) => Ok(ImageTo::File(image)),
             Ok(ImageOutput::Stream(output)) => Ok(ImageTo::Stream(output)),
@@ -286,7 +297,7 @@ impl<R: Drop> Disk for Host<R> {
 
     fn finish_image<'a>(
         &mut self,
-        image: ImageFile<File>,
+        image: ImageFile<S::File>,
         place: Place<'a>,
     ) -> Result<bool, HostRefusal<'a>> {
         if let Err(refusal) = self.writing.reading.unchanged() {
@@ -298,7 +309,7 @@ impl<R: Drop> Disk for Host<R> {
         Ok(is_data_on_output)
     }
 
-    fn give_up_image(&mut self, image: ImageFile<File>) {
+    fn give_up_image(&mut self, image: ImageFile<S::File>) {
         if self.writing.reading.unchanged().is_err() {
             blank_front(image);
         } else {
@@ -308,7 +319,7 @@ impl<R: Drop> Disk for Host<R> {
 }
 
 // Lets an image go that is not to be taken for one: zeros are laid where its magic is.
-fn blank_front(image: ImageFile<File>) {
+fn blank_front<F: SystemFile + Drop>(image: ImageFile<F>) {
     let mut image = image;
     let front = image.position().min(MAGIC as u64) as usize;
     let zeros = [0u8; MAGIC];

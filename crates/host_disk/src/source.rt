@@ -8,8 +8,6 @@ use abt_disk::Lasting;
 use abt_io::{DeviceFault, Source};
 use host_files::StandardSource;
 use std::alloc::{AllocError, Global};
-use std::fs::File;
-use std::os::fd::AsRawFd;
 use std::rc::Rc;
 use sys_devices::{AheadFile, AheadSource, FileSource};
 use sys_file::SystemFile;
@@ -22,32 +20,38 @@ pub enum HostSource<F: SystemFile + Drop> {
     /// Small reads are answered from what was read before.
     Ahead(AheadSource<F>),
     /// Standard input, from where it stands.
-    Standard(StandardSource),
+    Standard(StandardSource<F>),
 }
 
-impl HostSource<File> {
+impl<F: SystemFile + Drop> HostSource<F> {
     /// The same, of which small reads are answered from what was read before.
-    pub(crate) fn ahead(
-        alloc: Global,
-        source: FileSource<File>,
-    ) -> Result<HostSource<File>, AllocError> {
+    pub(crate) fn ahead(alloc: Global, source: FileSource<F>) -> Result<HostSource<F>, AllocError> {
         match AheadSource::new(alloc, source) {
             Ok(source) => Ok(HostSource::Ahead(source)),
             Err(error) => Err(error),
         }
     }
 
-    /// The descriptor that it is open under.
-    pub(crate) fn descriptor(&self) -> Option<i32> {
+    /// Whether it is standard input.
+    pub(crate) fn is_standard(&self) -> bool {
         match self {
-            HostSource::Plain(source) => descriptor_of(source),
-            HostSource::Ahead(source) => descriptor_of(&source.file().source),
-            HostSource::Standard(_) => Some(0),
+            HostSource::Plain(_) => false,
+            HostSource::Ahead(_) => false,
+            HostSource::Standard(_) => true,
+        }
+    }
+
+    /// Its file, if it is one of its own: standard input is not, and neither is nothing at all.
+    pub(crate) fn file(&self) -> Option<&F> {
+        match self {
+            HostSource::Plain(source) => source.file.as_ref(),
+            HostSource::Ahead(source) => source.file().source.file.as_ref(),
+            HostSource::Standard(_) => None,
         }
     }
 
     /// The file that is read ahead, if it is, for what goes through a spool.
-    pub(crate) fn shared(&self) -> Result<Option<Rc<AheadFile<File>>>, AllocError> {
+    pub(crate) fn shared(&self) -> Result<Option<Rc<AheadFile<F>>>, AllocError> {
         match self {
             HostSource::Plain(_) => Ok(None),
             HostSource::Standard(_) => Ok(None),
@@ -65,17 +69,17 @@ impl<F: SystemFile + Drop> Source for HostSource<F> {
     ghost content = { λ _. [] };
 
     ghost size = { λ s. number_of_source ⟦<FileSource<F> as Source>⟧.size ⟦<AheadSource<F> as Source>⟧.size
-        ⟦<StandardSource as Source>⟧.size s };
+        ⟦<StandardSource<F> as Source>⟧.size s };
 
     ghost reads = { λ s. number_of_source ⟦<FileSource<F> as Source>⟧.reads ⟦<AheadSource<F> as Source>⟧.reads
-        ⟦<StandardSource as Source>⟧.reads s };
+        ⟦<StandardSource<F> as Source>⟧.reads s };
 
     ghost given = { λ s. number_of_source ⟦<FileSource<F> as Source>⟧.given ⟦<AheadSource<F> as Source>⟧.given
-        ⟦<StandardSource as Source>⟧.given s };
+        ⟦<StandardSource<F> as Source>⟧.given s };
 
     ghost read_faults = { λ s. number_of_source ⟦<FileSource<F> as Source>⟧.read_faults
         ⟦<AheadSource<F> as Source>⟧.read_faults
-        ⟦<StandardSource as Source>⟧.read_faults s };
+        ⟦<StandardSource<F> as Source>⟧.read_faults s };
 
     ghost sized = { λ _ t. absurd (false≢true t) };
 
@@ -125,13 +129,6 @@ impl<F: SystemFile + Drop> Lasting for HostSource<F> {
 
     fn length_now(&mut self) -> u64 {
         end_of(self)
-    }
-}
-
-fn descriptor_of(source: &FileSource<File>) -> Option<i32> {
-    match &source.file {
-        Some(file) => Some(file.as_raw_fd()),
-        None => None,
     }
 }
 

@@ -2,7 +2,8 @@
 
 use crate::identity::{Identity, found_at};
 use crate::sysfs::{add_devices, told_bytes, told_device, told_number, told_sectors};
-use std::alloc::{AllocError, Global};
+use std::alloc::AllocError;
+use sys_file::System;
 
 // How deep devices stand on one another at most, and how many are looked at.
 const MOST: usize = 64;
@@ -49,9 +50,8 @@ impl Layer {
 }
 
 /// Whether a file stands on what one of these stands on, or is it.
-pub fn is_shared(
-    rt: HostRuntime,
-    alloc: Global,
+pub fn is_shared<S: System>(
+    system: &S,
     identity: Identity,
     files: &[Identity],
 ) -> Result<bool, AllocError> {
@@ -61,9 +61,9 @@ pub fn is_shared(
             continue;
         }
         if ours.is_none() {
-            ours = Some(layers_of(rt, alloc, identity)?);
+            ours = Some(layers_of(system, identity)?);
         }
-        let theirs = layers_of(rt, alloc, *file)?;
+        let theirs = layers_of(system, *file)?;
         if let Some(ours) = &ours
             && any_meets(ours.as_slice(), theirs.as_slice())
         {
@@ -85,8 +85,8 @@ fn any_meets(ours: &[Layer], theirs: &[Layer]) -> bool {
 }
 
 // A file, and all that it stands on.
-fn layers_of(rt: HostRuntime, alloc: Global, identity: Identity) -> Result<Vec<Layer>, AllocError> {
-    let mut layers = Vec::new(alloc);
+fn layers_of<S: System>(system: &S, identity: Identity) -> Result<Vec<Layer>, AllocError> {
+    let mut layers = Vec::new(system.alloc());
     add_layer(&mut layers, Layer::whole(identity))?;
     for at in 0..MOST {
         if at >= layers.len() {
@@ -94,9 +94,9 @@ fn layers_of(rt: HostRuntime, alloc: Global, identity: Identity) -> Result<Vec<L
         }
         let layer = layers[at];
         if let Some(device) = layer.identity.block() {
-            add_backing(rt, alloc, layer, device, &mut layers)?;
-            add_disk(rt, alloc, layer, device, &mut layers)?;
-            add_mapped(rt, alloc, device, &mut layers)?;
+            add_backing(system, layer, device, &mut layers)?;
+            add_disk(system, layer, device, &mut layers)?;
+            add_mapped(system, device, &mut layers)?;
         }
     }
     Ok(layers)
@@ -110,55 +110,52 @@ fn add_layer(layers: &mut Vec<Layer>, layer: Layer) -> Result<(), AllocError> {
 }
 
 // A loop device stands on a file.
-fn add_backing(
-    rt: HostRuntime,
-    alloc: Global,
+fn add_backing<S: System>(
+    system: &S,
     layer: Layer,
     device: u64,
     layers: &mut Vec<Layer>,
 ) -> Result<(), AllocError> {
-    let Some(path) = told_bytes(rt, alloc, device, "loop/backing_file")? else {
+    let Some(path) = told_bytes(system, device, "loop/backing_file")? else {
         return Ok(());
     };
     let Ok(path) = str::from_utf8(path.as_slice()) else {
         return Ok(());
     };
-    let Ok(backing) = found_at(rt, path) else {
+    let Ok(backing) = found_at(system, path) else {
         return Ok(());
     };
-    let offset = told_number(rt, alloc, device, "loop/offset")?.unwrap_or(0);
-    let length = told_sectors(rt, alloc, device, "size")?.unwrap_or(u64::MAX);
+    let offset = told_number(system, device, "loop/offset")?.unwrap_or(0);
+    let length = told_sectors(system, device, "size")?.unwrap_or(u64::MAX);
     add_layer(layers, layer.on(backing.identity, offset, length))
 }
 
 // A partition stands on its disk.
-fn add_disk(
-    rt: HostRuntime,
-    alloc: Global,
+fn add_disk<S: System>(
+    system: &S,
     layer: Layer,
     device: u64,
     layers: &mut Vec<Layer>,
 ) -> Result<(), AllocError> {
-    if told_bytes(rt, alloc, device, "partition")?.is_none() {
+    if told_bytes(system, device, "partition")?.is_none() {
         return Ok(());
     }
-    let Some(disk) = told_device(rt, alloc, device, "../dev")? else {
+    let Some(disk) = told_device(system, device, "../dev")? else {
         return Ok(());
     };
-    let start = told_sectors(rt, alloc, device, "start")?.unwrap_or(0);
-    let length = told_sectors(rt, alloc, device, "size")?.unwrap_or(u64::MAX);
+    let start = told_sectors(system, device, "start")?.unwrap_or(0);
+    let length = told_sectors(system, device, "size")?.unwrap_or(u64::MAX);
     add_layer(layers, layer.on(Identity::of_block(disk), start, length))
 }
 
 // A mapped device, and one of several disks, stands somewhere on others.
-fn add_mapped(
-    rt: HostRuntime,
-    alloc: Global,
+fn add_mapped<S: System>(
+    system: &S,
     device: u64,
     layers: &mut Vec<Layer>,
 ) -> Result<(), AllocError> {
-    let mut below = Vec::new(alloc);
-    add_devices(rt, alloc, device, "slaves", false, &mut below)?;
+    let mut below = Vec::new(system.alloc());
+    add_devices(system, device, "slaves", false, &mut below)?;
     for number in below.iter() {
         let layer = Layer {
             is_exact: false,

@@ -1,9 +1,8 @@
 //! What is open under a descriptor, which std asks by paths alone: a stream by `/dev/stdin` and the like, and where
 //! that is not there, and what else is open, by `/proc/self/fd`.
 
-use std::alloc::Global;
-use std::fs::{File, Metadata, OpenOptions};
-use std::{fs, io};
+use std::io;
+use sys_file::{Opening, Stat, System};
 
 /// Standard input.
 pub const INPUT: i32 = 0;
@@ -15,44 +14,39 @@ pub const OUTPUT: i32 = 1;
 pub const ERRORS: i32 = 2;
 
 /// What the system tells of what is open under a descriptor.
-pub fn told_of(rt: HostRuntime, alloc: Global, descriptor: i32) -> io::Result<Metadata> {
+pub fn stat_of_open<S: System>(system: &S, descriptor: i32) -> io::Result<Stat> {
     if let Some(stream) = stream_at(descriptor)
-        && let Ok(told) = fs::metadata(&rt, stream)
+        && let Ok(told) = system.look(stream)
     {
         return Ok(told);
     }
-    let path = format!(in alloc; "/proc/self/fd/{descriptor}")?;
-    fs::metadata(&rt, path.as_str())
+    let path = format!(in system.alloc(); "/proc/self/fd/{descriptor}")?;
+    system.look(path.as_str())
 }
 
 /// Opens once more what is open under a descriptor.
-pub fn open_again(
-    rt: HostRuntime,
-    alloc: Global,
-    descriptor: i32,
-    how: OpenOptions,
-) -> io::Result<File> {
+pub fn open_again<S: System>(system: &mut S, descriptor: i32, how: Opening) -> io::Result<S::File> {
     if let Some(stream) = stream_at(descriptor) {
-        match how.open(&rt, stream) {
+        match system.open(stream, how) {
             Err(error) if error.kind() == io::ErrorKind::NotFound => {}
             answer => return answer,
         }
     }
-    let path = format!(in alloc; "/proc/self/fd/{descriptor}")?;
-    how.open(&rt, path.as_str())
+    let path = format!(in system.alloc(); "/proc/self/fd/{descriptor}")?;
+    system.open(path.as_str(), how)
 }
 
 /// Whether the system shows what is open, so that a descriptor which it does not show is closed.
-pub fn is_shown(rt: HostRuntime) -> bool {
-    fs::metadata(&rt, "/proc/self/fd").is_ok()
+pub fn is_shown<S: System>(system: &S) -> bool {
+    system.look("/proc/self/fd").is_ok()
 }
 
 /// Where standard input stands: 0 where the system does not show that.
-pub fn place_of_input(rt: HostRuntime, alloc: Global) -> u64 {
-    let Ok(bytes) = fs::read(&rt, "/proc/self/fdinfo/0") else {
+pub fn place_of_input<S: System>(system: &S) -> u64 {
+    let Ok(bytes) = system.contents("/proc/self/fdinfo/0") else {
         return 0;
     };
-    let Ok(text) = String::from_utf8_lossy(alloc, bytes.as_slice()) else {
+    let Ok(text) = String::from_utf8_lossy(system.alloc(), bytes.as_slice()) else {
         return 0;
     };
     for line in text.as_str().lines() {

@@ -1,10 +1,12 @@
 //! Which file it is, whatever path, link or descriptor it was reached by, and what else the system tells of it.
 
-use crate::descriptors::told_of;
-use std::alloc::Global;
-use std::fs::Metadata;
-use std::os::unix::fs::{FileTypeExt, MetadataExt};
-use std::{fs, io};
+ghost use Rattle.std.specs.Prelude.{◌≡◌, ◌↔◌, Some, None, IsTrue, true};
+ghost use Rattle.sys_file.specs.declared.stat.Kind.{Kind};
+ghost use Rattle.host_files.specs.Identity.{identity_of};
+
+use crate::descriptors::stat_of_open;
+use std::io;
+use sys_file::{Kind, Stat, System};
 
 /// A file, told from all others.
 #[derive(Clone, Copy, PartialEq, Eq)]
@@ -30,21 +32,40 @@ impl Identity {
         }
     }
 
-    fn new(kind: Kind, metadata: &Metadata) -> Identity {
-        if kind == Kind::Block {
-            return Identity::of_block(metadata.rdev());
+    /// Of a file of which the system tells this.
+    pub fn of(stat: &Stat) -> Identity
+        ensures { result ≡ identity_of stat.now }
+    {
+        match stat.kind {
+            Kind::Block => Identity::of_block(stat.device),
+            Kind::File => Identity::on_device(stat, true, true),
+            Kind::Pipe => Identity::on_device(stat, false, true),
+            Kind::Socket => Identity::on_device(stat, false, true),
+            Kind::Folder => Identity::on_device(stat, false, false),
+            Kind::Other => Identity::on_device(stat, false, false),
         }
-        let is_file = kind == Kind::File;
+    }
+
+    fn on_device(stat: &Stat, holds_data: bool, mixes: bool) -> Identity
+        ensures { result ≡ record {
+          device = Some stat.now.on;
+          number = stat.now.number;
+          holds_data = holds_data;
+          mixes = mixes;
+        } }
+    {
         Identity {
-            device: Some(metadata.dev()),
-            number: metadata.ino(),
-            holds_data: is_file,
-            mixes: is_file || kind == Kind::Pipe || kind == Kind::Socket,
+            device: Some(stat.on),
+            number: stat.number,
+            holds_data,
+            mixes,
         }
     }
 
     /// The block device of this number.
-    pub fn of_block(number: u64) -> Identity {
+    pub fn of_block(number: u64) -> Identity
+        ensures { result ≡ record { device = None; number = number; holds_data = true; mixes = true } }
+    {
         Identity {
             device: None,
             number,
@@ -60,17 +81,6 @@ impl Identity {
             _ => None,
         }
     }
-}
-
-/// What a file is.
-#[derive(Clone, Copy, PartialEq, Eq)]
-pub enum Kind {
-    File,
-    Block,
-    Folder,
-    Pipe,
-    Socket,
-    Other,
 }
 
 /// When a file was last written, as its file system tells.
@@ -91,20 +101,25 @@ pub struct Found {
 }
 
 impl Found {
-    pub fn new(metadata: &Metadata) -> Found {
-        let kind = kind_of(metadata);
+    pub fn new(stat: &Stat) -> Found
+        ensures identity { result.identity ≡ identity_of stat.now }
+        ensures kind { result.kind ≡ stat.now.kind }
+        ensures length { result.length ≡ stat.now.length }
+    {
         Found {
-            identity: Identity::new(kind, metadata),
-            kind,
-            length: metadata.len(),
+            identity: Identity::of(stat),
+            kind: stat.kind,
+            length: stat.length,
             modified: Modified {
-                seconds: metadata.mtime(),
-                nanoseconds: metadata.mtime_nsec(),
+                seconds: stat.second,
+                nanoseconds: stat.nanosecond,
             },
         }
     }
 
-    pub fn is_file(&self) -> bool {
+    pub fn is_file(&self) -> bool
+        ensures { IsTrue result ↔ (self.now.kind ≡ Kind.File) }
+    {
         self.kind == Kind::File
     }
 
@@ -114,52 +129,35 @@ impl Found {
 }
 
 /// What is open under this descriptor.
-pub fn found_of(rt: HostRuntime, alloc: Global, descriptor: i32) -> io::Result<Found> {
-    match told_of(rt, alloc, descriptor) {
-        Ok(metadata) => Ok(Found::new(&metadata)),
+pub fn found_of<S: System>(system: &S, descriptor: i32) -> io::Result<Found> {
+    match stat_of_open(system, descriptor) {
+        Ok(stat) => Ok(Found::new(&stat)),
         Err(error) => Err(error),
     }
 }
 
 /// What is at this path, behind any links.
-pub fn found_at(rt: HostRuntime, path: &str) -> io::Result<Found> {
-    match fs::metadata(&rt, path) {
-        Ok(metadata) => Ok(Found::new(&metadata)),
+pub fn found_at<S: System>(system: &S, path: &str) -> io::Result<Found> {
+    match system.look(path) {
+        Ok(stat) => Ok(Found::new(&stat)),
         Err(error) => Err(error),
     }
 }
 
 /// What standard input, standard output or standard error is. Where that is closed, or the system does not show it, it
 /// is like no file.
-pub fn identity_of_stream(rt: HostRuntime, alloc: Global, descriptor: i32) -> Identity {
-    match found_of(rt, alloc, descriptor) {
+pub fn identity_of_stream<S: System>(system: &S, descriptor: i32) -> Identity {
+    match found_of(system, descriptor) {
         Ok(found) => found.identity,
         Err(_) => Identity::unknown(),
     }
 }
 
 /// What is at this path, where something is.
-pub fn identity_at(rt: HostRuntime, path: &str) -> Option<Identity> {
-    match found_at(rt, path) {
+pub fn identity_at<S: System>(system: &S, path: &str) -> Option<Identity> {
+    match found_at(system, path) {
         Ok(found) => Some(found.identity),
         Err(_) => None,
-    }
-}
-
-fn kind_of(metadata: &Metadata) -> Kind {
-    let kind = metadata.file_type();
-    if kind.is_file() {
-        Kind::File
-    } else if kind.is_dir() {
-        Kind::Folder
-    } else if kind.is_block_device() {
-        Kind::Block
-    } else if kind.is_fifo() {
-        Kind::Pipe
-    } else if kind.is_socket() {
-        Kind::Socket
-    } else {
-        Kind::Other
     }
 }
 

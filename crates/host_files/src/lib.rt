@@ -1,5 +1,5 @@
 //! What the system tells of files: which file it is, what it stands on, whether it is in use, and whether it has changed. It
-//! opens none, but standard input once more. No contract knows what the system tells: it is tested over the built program.
+//! opens none, but standard input once more.
 //!
 //! | file | has |
 //! |---|---|
@@ -23,9 +23,11 @@ mod sysfs;
 pub use aliases::is_shared;
 pub use descriptors::{ERRORS, INPUT, OUTPUT, is_shown, open_again};
 pub use identity::{
-    Found, Identity, Kind, Modified, found_at, found_of, identity_at, identity_of_stream,
+    Found, Identity, Modified, found_at, found_of, identity_at, identity_of_stream,
 };
 pub use mounts::is_in_use;
 pub use numbered::next_number;
 pub use read_files::ReadFiles;
-pub use standard_input::{StandardSource, is_standard_input};
+pub use standard_input::{
+    StandardSource, is_standard_input, standard_source, standard_source_again,
+};

@@ -4,24 +4,25 @@
 use crate::identity::found_at;
 use crate::sysfs::{add_devices, device_in};
 use std::alloc::{AllocError, Global};
-use std::{fs, io};
+use std::io;
+use sys_file::System;
 
 // How many devices are looked at.
 const MOST: usize = 1024;
 
 /// Whether this block device is in use, or a partition of it, or what stands on one of these.
-pub fn is_in_use(rt: HostRuntime, alloc: Global, device: u64) -> Result<bool, AllocError> {
-    let devices = devices_on(rt, alloc, device)?;
+pub fn is_in_use<S: System>(system: &S, device: u64) -> Result<bool, AllocError> {
+    let devices = devices_on(system, device)?;
     let devices = devices.as_slice();
-    if is_mounted(rt, alloc, devices)? {
+    if is_mounted(system, devices)? {
         return Ok(true);
     }
-    is_swap(rt, alloc, devices)
+    is_swap(system, devices)
 }
 
 // This device, its partitions, and all that stand on one of these.
-fn devices_on(rt: HostRuntime, alloc: Global, device: u64) -> Result<Vec<u64>, AllocError> {
-    let mut devices = Vec::new(alloc);
+fn devices_on<S: System>(system: &S, device: u64) -> Result<Vec<u64>, AllocError> {
+    let mut devices = Vec::new(system.alloc());
     if devices.push(device).is_err() {
         return Err(AllocError);
     }
@@ -30,18 +31,18 @@ fn devices_on(rt: HostRuntime, alloc: Global, device: u64) -> Result<Vec<u64>, A
             break;
         }
         let one = devices[at];
-        add_devices(rt, alloc, one, ".", true, &mut devices)?;
-        add_devices(rt, alloc, one, "holders", false, &mut devices)?;
+        add_devices(system, one, ".", true, &mut devices)?;
+        add_devices(system, one, "holders", false, &mut devices)?;
     }
     Ok(devices)
 }
 
-fn is_mounted(rt: HostRuntime, alloc: Global, devices: &[u64]) -> Result<bool, AllocError> {
-    let Some(text) = text_at(rt, alloc, "/proc/self/mountinfo")? else {
+fn is_mounted<S: System>(system: &S, devices: &[u64]) -> Result<bool, AllocError> {
+    let Some(text) = text_at(system, "/proc/self/mountinfo")? else {
         return Ok(false);
     };
     for line in text.as_str().lines() {
-        if is_mount_of(rt, alloc, line, devices)? {
+        if is_mount_of(system, line, devices)? {
             return Ok(true);
         }
     }
@@ -50,12 +51,7 @@ fn is_mounted(rt: HostRuntime, alloc: Global, devices: &[u64]) -> Result<bool, A
 
 // `ID PARENT MAJOR:MINOR ROOT POINT OPTIONS .. - TYPE SOURCE ..`: where MAJOR is 0, which a file system has that is
 // not on one device alone, SOURCE may still be one.
-fn is_mount_of(
-    rt: HostRuntime,
-    alloc: Global,
-    line: &str,
-    devices: &[u64],
-) -> Result<bool, AllocError> {
+fn is_mount_of<S: System>(system: &S, line: &str, devices: &[u64]) -> Result<bool, AllocError> {
     let Some(number) = word_at(line, 2) else {
         return Ok(false);
     };
@@ -68,21 +64,21 @@ fn is_mount_of(
     };
     match word_at(rest, 1) {
         Some(source) if number.starts_with("0:") && source.starts_with('/') => {
-            is_one_of(rt, alloc, source, devices)
+            is_one_of(system, source, devices)
         }
         _ => Ok(false),
     }
 }
 
 // A line of titles, and then `PATH TYPE SIZE USED PRIORITY`.
-fn is_swap(rt: HostRuntime, alloc: Global, devices: &[u64]) -> Result<bool, AllocError> {
-    let Some(text) = text_at(rt, alloc, "/proc/swaps")? else {
+fn is_swap<S: System>(system: &S, devices: &[u64]) -> Result<bool, AllocError> {
+    let Some(text) = text_at(system, "/proc/swaps")? else {
         return Ok(false);
     };
     for line in text.as_str().lines() {
         match word_at(line, 0) {
             Some(path) if path.starts_with('/') => {
-                if is_one_of(rt, alloc, path, devices)? {
+                if is_one_of(system, path, devices)? {
                     return Ok(true);
                 }
             }
@@ -108,17 +104,12 @@ fn word_at(line: &str, before: usize) -> Option<&str> {
 }
 
 // Whether a path, in which `\040` stands for a blank, leads to one of these block devices.
-fn is_one_of(
-    rt: HostRuntime,
-    alloc: Global,
-    path: &str,
-    devices: &[u64],
-) -> Result<bool, AllocError> {
-    let path = unescaped(alloc, path.as_bytes())?;
+fn is_one_of<S: System>(system: &S, path: &str, devices: &[u64]) -> Result<bool, AllocError> {
+    let path = unescaped(system.alloc(), path.as_bytes())?;
     let Ok(path) = str::from_utf8(path.as_slice()) else {
         return Ok(false);
     };
-    match found_at(rt, path) {
+    match found_at(system, path) {
         Ok(found) => match found.identity.block() {
             Some(device) => Ok(devices.contains(&device)),
             None => Ok(false),
@@ -169,9 +160,9 @@ fn digit(letter: u8) -> Option<u32> {
 }
 
 // What stands in a file of /proc, where that is there.
-fn text_at(rt: HostRuntime, alloc: Global, path: &str) -> Result<Option<String>, AllocError> {
-    match fs::read(&rt, path) {
-        Ok(bytes) => Ok(Some(String::from_utf8_lossy(alloc, bytes.as_slice())?)),
+fn text_at<S: System>(system: &S, path: &str) -> Result<Option<String>, AllocError> {
+    match system.contents(path) {
+        Ok(bytes) => Ok(Some(String::from_utf8_lossy(system.alloc(), bytes.as_slice())?)),
         Err(error) if error.kind() == io::ErrorKind::OutOfMemory => Err(AllocError),
         Err(_) => Ok(None),
     }

@@ -4,6 +4,7 @@ use crate::descriptors::INPUT;
 use crate::identity::{Found, Identity, found_at, found_of};
 use abt_refusals::Place;
 use std::alloc::{AllocError, Global};
+use sys_file::System;
 
 // No file is open under this descriptor.
 const CLOSED: i32 = -1;
@@ -22,12 +23,12 @@ struct ReadFile {
 
 impl ReadFile {
     // Whether a regular file that is open is not as it was when it was opened, as far as the system tells.
-    fn is_changed(&self, rt: HostRuntime, alloc: Global) -> bool {
+    fn is_changed<S: System>(&self, system: &S) -> bool {
         if self.descriptor == CLOSED || !self.found.is_file() {
             return false;
         }
         let was = self.found;
-        match self.found_now(rt, alloc) {
+        match self.found_now(system) {
             Some(now) if now.identity == was.identity => {
                 now.length != was.length || now.modified != was.modified
             }
@@ -36,34 +37,34 @@ impl ReadFile {
     }
 
     // What is open now, or where the system does not show that, what its path leads to.
-    fn found_now(&self, rt: HostRuntime, alloc: Global) -> Option<Found> {
-        match found_of(rt, alloc, self.descriptor) {
+    fn found_now<S: System>(&self, system: &S) -> Option<Found> {
+        match found_of(system, self.descriptor) {
             Ok(now) => Some(now),
-            Err(_) if self.has_path => found_at(rt, self.place.name).ok(),
+            Err(_) if self.has_path => found_at(system, self.place.name).ok(),
             Err(_) => None,
         }
     }
 
     // Whether it is this file by now, which is open under a descriptor of its own.
-    fn is_now(&self, rt: HostRuntime, alloc: Global, identity: Identity, own: i32) -> bool {
-        self.is_open_as(rt, alloc, identity, own) || self.is_named_as(rt, identity)
+    fn is_now<S: System>(&self, system: &S, identity: Identity, own: i32) -> bool {
+        self.is_open_as(system, identity, own) || self.is_named_as(system, identity)
     }
 
-    fn is_open_as(&self, rt: HostRuntime, alloc: Global, identity: Identity, own: i32) -> bool {
+    fn is_open_as<S: System>(&self, system: &S, identity: Identity, own: i32) -> bool {
         if self.descriptor == CLOSED || self.descriptor == own {
             return false;
         }
-        match found_of(rt, alloc, self.descriptor) {
+        match found_of(system, self.descriptor) {
             Ok(now) => now.identity == identity,
             Err(_) => false,
         }
     }
 
-    fn is_named_as(&self, rt: HostRuntime, identity: Identity) -> bool {
+    fn is_named_as<S: System>(&self, system: &S, identity: Identity) -> bool {
         if !self.has_path {
             return false;
         }
-        match found_at(rt, self.place.name) {
+        match found_at(system, self.place.name) {
             Ok(now) => now.identity == identity,
             Err(_) => false,
         }
@@ -73,7 +74,6 @@ impl ReadFile {
 /// All files that were opened to be read.
 #[derive(Drop)]
 pub struct ReadFiles {
-    rt: HostRuntime,
     alloc: Global,
     files: Vec<ReadFile>,
     // One that had changed when it was let go.
@@ -82,10 +82,8 @@ pub struct ReadFiles {
 
 impl ReadFiles {
     /// None.
-    pub fn new(rt: HostRuntime) -> ReadFiles {
-        let alloc = rt.alloc();
+    pub fn new(alloc: Global) -> ReadFiles {
         ReadFiles {
-            rt,
             alloc,
             files: Vec::new(alloc),
             changed: None,
@@ -148,9 +146,9 @@ impl ReadFiles {
     }
 
     /// Looks again at the file that is open under this descriptor, which is going to be closed.
-    pub fn let_go(&mut self, descriptor: i32) {
+    pub fn let_go<S: System>(&mut self, system: &S, descriptor: i32) {
         if let Some(file) = self.under(descriptor)
-            && file.is_changed(self.rt, self.alloc)
+            && file.is_changed(system)
         {
             self.changed = Some(file.place);
         }
@@ -158,12 +156,12 @@ impl ReadFiles {
     }
 
     /// One that has changed since it was opened: it was so when it was let go, or is open and is so now.
-    pub fn changed(&self) -> Option<Place<'static>> {
+    pub fn changed<S: System>(&self, system: &S) -> Option<Place<'static>> {
         if self.changed.is_some() {
             return self.changed;
         }
         for file in self.files.iter() {
-            if file.is_changed(self.rt, self.alloc) {
+            if file.is_changed(system) {
                 return Some(file.place);
             }
         }
@@ -172,9 +170,9 @@ impl ReadFiles {
 
     /// Whether one of them is this file by now, which is open under a descriptor of its own: opening it to be written
     /// may have made it another one.
-    pub fn is_one_now(&self, identity: Identity, own: i32) -> bool {
+    pub fn is_one_now<S: System>(&self, system: &S, identity: Identity, own: i32) -> bool {
         for file in self.files.iter() {
-            if file.is_now(self.rt, self.alloc, identity, own) {
+            if file.is_now(system, identity, own) {
                 return true;
             }
         }

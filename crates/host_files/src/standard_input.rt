@@ -1,64 +1,62 @@
 //! Standard input where it is a file or a block device, which is read at any place: from where it stands.
 
-ghost use Rattle.std.specs.Prelude.{[], false};
-ghost use Rattle.std.proofs.lemmas.Bool.{false≢true};
+ghost use Rattle.std.specs.Prelude.{◌-◌, drop};
+ghost use Rattle.abt_io.specs.BytesLaws.{bytes_of_drop};
+ghost use Rattle.sys_file.specs.File.{are_bytes_of, file_bytes};
+ghost use Rattle.host_files.specs.Behind.{long_behind};
 
 use crate::descriptors::{INPUT, open_again, place_of_input};
 use crate::identity::Found;
 use abt_io::{DeviceFault, Source};
 use abt_refusals::Place;
-use std::alloc::Global;
-use std::fs::{File, OpenOptions};
 use std::io;
 use sys_devices::FileSource;
-use sys_file::SystemFile;
+use sys_file::{Opening, System, SystemFile};
 
 /// Standard input, of which the byte at its place is the first.
 #[derive(Drop)]
-pub struct StandardSource {
-    pub source: FileSource<File>,
+pub struct StandardSource<F: SystemFile + Drop> {
+    pub source: FileSource<F>,
     // Where it stands.
     base: u64,
-    size: u64,
 }
 
-impl StandardSource {
-    /// Standard input as it stands, where it has a length.
-    pub fn new(rt: HostRuntime, alloc: Global, found: Found) -> io::Result<StandardSource> {
-        if !found.is_file() && !found.is_block() {
-            return Err(io::Error::from(io::ErrorKind::InvalidInput));
-        }
-        let mut how = OpenOptions::new();
-        how.read(true);
-        let file = open_again(rt, alloc, INPUT, how)?;
-        let base = place_of_input(rt, alloc);
-        StandardSource::of(file, base)
+/// Standard input as it stands, where it has a length.
+pub fn standard_source<S: System>(
+    system: &mut S,
+    found: Found,
+) -> io::Result<StandardSource<S::File>> {
+    if !found.is_file() && !found.is_block() {
+        return Err(io::Error::from(io::ErrorKind::InvalidInput));
     }
+    let file = open_again(system, INPUT, Opening::Read)?;
+    StandardSource::new(file, place_of_input(system))
+}
 
+/// The same once more, to be read beside this one.
+pub fn standard_source_again<S: System>(
+    system: &S,
+    source: &StandardSource<S::File>,
+) -> io::Result<StandardSource<S::File>> {
+    match &source.source.file {
+        Some(file) => StandardSource::new(system.again(file)?, source.base),
+        None => Err(io::Error::from(io::ErrorKind::InvalidInput)),
+    }
+}
+
+impl<F: SystemFile + Drop> StandardSource<F> {
     // A file from a place on.
-    fn of(file: File, base: u64) -> io::Result<StandardSource> {
+    fn new(file: F, base: u64) -> io::Result<StandardSource<F>> {
         let Ok(source) = FileSource::new(file) else {
             return Err(io::Error::from(io::ErrorKind::InvalidInput));
         };
-        let size = source.size.saturating_sub(base);
-        Ok(StandardSource { source, base, size })
-    }
-
-    /// The same once more, to be read beside this one.
-    pub fn again(&self) -> io::Result<StandardSource> {
-        match &self.source.file {
-            Some(file) => StandardSource::of(file.try_clone()?, self.base),
-            None => Err(io::Error::from(io::ErrorKind::InvalidInput)),
-        }
+        Ok(StandardSource { source, base })
     }
 
     /// How long it is now.
     pub fn length_now(&self) -> u64 {
         match &self.source.file {
-            Some(file) => {
-                let end = SystemFile::length(file).unwrap_or(0);
-                end.saturating_sub(self.base)
-            }
+            Some(file) => file.length().unwrap_or(0).saturating_sub(self.base),
             None => 0,
         }
     }
@@ -73,25 +71,25 @@ pub fn is_standard_input(place: &Place<'_>) -> bool {
     is_path && place.number.is_none()
 }
 
-impl Source for StandardSource {
-    ghost tells = { false };
+impl<F: SystemFile + Drop> Source for StandardSource<F> {
+    ghost tells = { F.tells };
 
-    ghost content = { λ _. [] };
+    ghost content = { λ s. drop s.base (file_bytes F.stands s.source.file) };
 
-    ghost size = { λ s. s.size };
+    ghost size = { λ s. s.source.size - s.base };
 
-    ghost reads = { λ s. ⟦<FileSource<File> as Source>⟧.reads s.source };
+    ghost reads = { λ s. s.source.reads.number };
 
-    ghost given = { λ s. ⟦<FileSource<File> as Source>⟧.given s.source };
+    ghost given = { λ s. s.source.given.number };
 
-    ghost read_faults = { λ s. ⟦<FileSource<File> as Source>⟧.read_faults s.source };
+    ghost read_faults = { λ s. s.source.faults.number };
 
-    ghost sized = { λ _ t. absurd (false≢true t) };
+    ghost sized = { λ s t. long_behind s.base s.source.size _ (s.source.sized t) };
 
-    ghost are_bytes = { λ _ t. absurd (false≢true t) };
+    ghost are_bytes = { λ s t. bytes_of_drop s.base _ (are_bytes_of F.stands F.are_bytes s.source.file t) };
 
     fn length(&self) -> u64 {
-        self.size
+        self.source.size.saturating_sub(self.base)
     }
 
     fn read_at(&mut self, at: u64, out: &mut [u8]) -> Result<usize, DeviceFault> {

@@ -2,20 +2,20 @@
 
 use crate::identity::{device_number, device_parts};
 use std::alloc::{AllocError, Global};
-use std::{fs, io};
+use std::io;
+use sys_file::System;
 
 // How many bytes a sector has, in which lengths are told there.
 const SECTOR: u64 = 512;
 
 /// What stands in a file there, without the line's end.
-pub fn told_bytes(
-    rt: HostRuntime,
-    alloc: Global,
+pub fn told_bytes<S: System>(
+    system: &S,
     device: u64,
     name: &str,
 ) -> Result<Option<Vec<u8>>, AllocError> {
-    let path = path_of(alloc, device, name)?;
-    let mut bytes = match fs::read(&rt, path.as_str()) {
+    let path = path_of(system.alloc(), device, name)?;
+    let mut bytes = match system.contents(path.as_str()) {
         Ok(bytes) => bytes,
         Err(error) if error.kind() == io::ErrorKind::OutOfMemory => return Err(AllocError),
         Err(_) => return Ok(None),
@@ -27,13 +27,12 @@ pub fn told_bytes(
 }
 
 /// A number of bytes there.
-pub fn told_number(
-    rt: HostRuntime,
-    alloc: Global,
+pub fn told_number<S: System>(
+    system: &S,
     device: u64,
     name: &str,
 ) -> Result<Option<u64>, AllocError> {
-    let Some(bytes) = told_bytes(rt, alloc, device, name)? else {
+    let Some(bytes) = told_bytes(system, device, name)? else {
         return Ok(None);
     };
     match str::from_utf8(bytes.as_slice()) {
@@ -43,26 +42,24 @@ pub fn told_number(
 }
 
 /// A number of sectors there, in bytes.
-pub fn told_sectors(
-    rt: HostRuntime,
-    alloc: Global,
+pub fn told_sectors<S: System>(
+    system: &S,
     device: u64,
     name: &str,
 ) -> Result<Option<u64>, AllocError> {
-    match told_number(rt, alloc, device, name)? {
+    match told_number(system, device, name)? {
         Some(sectors) => Ok(Some(sectors.saturating_mul(SECTOR))),
         None => Ok(None),
     }
 }
 
 /// The number of a device that is named there.
-pub fn told_device(
-    rt: HostRuntime,
-    alloc: Global,
+pub fn told_device<S: System>(
+    system: &S,
     device: u64,
     name: &str,
 ) -> Result<Option<u64>, AllocError> {
-    let Some(bytes) = told_bytes(rt, alloc, device, name)? else {
+    let Some(bytes) = told_bytes(system, device, name)? else {
         return Ok(None);
     };
     match str::from_utf8(bytes.as_slice()) {
@@ -73,45 +70,42 @@ pub fn told_device(
 
 /// The devices that a folder there names, each in a folder of its own: those of these, where they are to be of a disk's
 /// partitions, that have a file `partition`.
-pub fn add_devices(
-    rt: HostRuntime,
-    alloc: Global,
+pub fn add_devices<S: System>(
+    system: &S,
     device: u64,
     folder: &str,
     are_parts: bool,
     to: &mut Vec<u64>,
 ) -> Result<(), AllocError> {
-    let path = path_of(alloc, device, folder)?;
-    let entries = match fs::read_dir(&rt, path.as_str()) {
-        Ok(entries) => entries,
+    let path = path_of(system.alloc(), device, folder)?;
+    let mut names = match system.names(path.as_str()) {
+        Ok(names) => names,
         Err(error) if error.kind() == io::ErrorKind::OutOfMemory => return Err(AllocError),
         Err(_) => return Ok(()),
     };
-    for entry in entries {
-        let Ok(entry) = entry else {
+    for _ in 0..u64::MAX {
+        let Some(Ok(name)) = system.next_name(&mut names) else {
             return Ok(());
         };
-        let name = entry.file_name();
-        let inner = format!(in alloc; "{folder}/{name}")?;
-        add_device(rt, alloc, device, inner.as_str(), are_parts, to)?;
+        let inner = format!(in system.alloc(); "{folder}/{name}")?;
+        add_device(system, device, inner.as_str(), are_parts, to)?;
     }
     Ok(())
 }
 
-fn add_device(
-    rt: HostRuntime,
-    alloc: Global,
+fn add_device<S: System>(
+    system: &S,
     device: u64,
     folder: &str,
     is_part: bool,
     to: &mut Vec<u64>,
 ) -> Result<(), AllocError> {
-    let partition = format!(in alloc; "{folder}/partition")?;
-    if is_part && told_bytes(rt, alloc, device, partition.as_str())?.is_none() {
+    let partition = format!(in system.alloc(); "{folder}/partition")?;
+    if is_part && told_bytes(system, device, partition.as_str())?.is_none() {
         return Ok(());
     }
-    let number = format!(in alloc; "{folder}/dev")?;
-    if let Some(found) = told_device(rt, alloc, device, number.as_str())?
+    let number = format!(in system.alloc(); "{folder}/dev")?;
+    if let Some(found) = told_device(system, device, number.as_str())?
         && !to.as_slice().contains(&found)
         && to.push(found).is_err()
     {

@@ -14,18 +14,20 @@ use Rattle.abt_pieces.specs.declared.stage.Stage.{Stage}
 use Rattle.abt_pieces.specs.declared.stage.Stage.TheVariants.{Between, Done}
 use Rattle.abt_refusals.specs.Paths.{path_out, path_of, is_standard, numbered, in_folder}
 use Rattle.abt_refusals.specs.declared.place.Place.{Place}
+use Rattle.sparse_rules.specs.PieceNames.{Naming, naming_of, number_in_turn}
+use Rattle.sparse_rules.specs.declared.places.PieceNaming.{PieceNaming}
 use Rattle.abt_disk.specs.World.{World, Held}
 use Rattle.image_bodies.specs.Cutting.{AddsNone, AddsPiece, AreApart, CutsSoFar, IsFirstPiecePath, IsPiecePath}
-use Rattle.image_bodies.specs.Cutting.{PieceStands, OnlyLeaves, PiecesStand, piece_path}
+use Rattle.image_bodies.specs.Cutting.{PieceStands, OnlyLeaves, PiecesStand, path_in_turn, piece_path}
 use Rattle.abt_disk.specs.Among.{GoesAmong, IsMade, KeepsMade}
 use Rattle.abt_disk.proofs.Amongs.{made_later, goes_more, goes_still, goes_then}
 
 -- ---- nothing was cut yet
 
-pub cuts_none : (prefix : List ℕ) (ps : List (List ℕ)) (m : ℕ) (h : Held) (a : World) → h.output ≡ None
-    → CutsSoFar prefix ps 0 m h h a a
-cuts_none prefix ps m h a closed = record {
-  goes = goes_still (IsFirstPiecePath prefix m) h a;
+pub cuts_none : (names : Naming) (ps : List (List ℕ)) (m : ℕ) (h : Held) (a : World) → h.output ≡ None
+    → CutsSoFar names ps 0 m h h a a
+cuts_none names ps m h a closed = record {
+  goes = goes_still (IsFirstPiecePath names m) h a;
   stand = λ j below. absurd (omega (arith, below));
   apart = λ i j f first next at. absurd (omega (arith, next));
   closed = closed;
@@ -38,66 +40,67 @@ cuts_none prefix ps m h a closed = record {
 one_file : (o : Option ℕ) (f g : ℕ) → o ≡ Some f → o ≡ Some g → f ≡ g
 one_file o f g a b = ap (λ p. unwrap_or p 0) (sym a ∙ b)
 
-stands_later : (prefix : List ℕ) (ps : List (List ℕ)) (n : ℕ) (h h' : Held) (a b : World) → KeepsMade h h' a b
-    → PiecesStand prefix ps n h a → PiecesStand prefix ps n h' b
-stands_later prefix ps n h h' a b keeps stand j below =
+stands_later : (names : Naming) (ps : List (List ℕ)) (n : ℕ) (h h' : Held) (a b : World) → KeepsMade h h' a b
+    → PiecesStand names ps n h a → PiecesStand names ps n h' b
+stands_later names ps n h h' a b keeps stand j below =
     let s = stand j below in
     record {
       bytes = s.bytes;
       is_next = s.is_next;
-      made = made_later h h' a b (piece_path prefix (j + 1)) s.bytes keeps s.made;
+      made = made_later h h' a b (path_in_turn names (j + 1)) s.bytes keeps s.made;
     }
 
 -- what is at the path of a piece that stands is its file
-file_of : (prefix : List ℕ) (ps : List (List ℕ)) (j : ℕ) (h h' : Held) (a b : World) (f : ℕ) → KeepsMade h h' a b
-    → (s : PieceStands prefix ps j h a) → b.at (piece_path prefix (j + 1)) ≡ Some f → s.made.file ≡ f
-file_of prefix ps j h h' a b f keeps s at =
-    one_file (b.at (piece_path prefix (j + 1))) s.made.file f
-    (keeps.leads (piece_path prefix (j + 1)) s.made.file s.made.there) at
+file_of : (names : Naming) (ps : List (List ℕ)) (j : ℕ) (h h' : Held) (a b : World) (f : ℕ) → KeepsMade h h' a b
+    → (s : PieceStands names ps j h a) → b.at (path_in_turn names (j + 1)) ≡ Some f → s.made.file ≡ f
+file_of names ps j h h' a b f keeps s at =
+    one_file (b.at (path_in_turn names (j + 1))) s.made.file f
+    (keeps.leads (path_in_turn names (j + 1)) s.made.file s.made.there) at
 
-apart_more : (prefix : List ℕ) (ps : List (List ℕ)) (n : ℕ) (h h' : Held) (a b : World) → KeepsMade h h' a b
-    → PiecesStand prefix ps n h a → AreApart prefix n a
-    → ((f : ℕ) → b.at (piece_path prefix (n + 1)) ≡ Some f → ¬ Contains h.begun f) → AreApart prefix (n + 1) b
-apart_more prefix ps n h h' a b keeps stand apart fresh = λ i j f first next at at'.
-    below_more (λ (k : ℕ). (i f : ℕ) → i < k → b.at (piece_path prefix (i + 1)) ≡ Some f
-    → b.at (piece_path prefix (k + 1)) ≡ Some f → ⊥) n
+apart_more : (names : Naming) (ps : List (List ℕ)) (n : ℕ) (h h' : Held) (a b : World) → KeepsMade h h' a b
+    → PiecesStand names ps n h a → AreApart names n a
+    → ((f : ℕ) → b.at (path_in_turn names (n + 1)) ≡ Some f → ¬ Contains h.begun f) → AreApart names (n + 1) b
+apart_more names ps n h h' a b keeps stand apart fresh = λ i j f first next at at'.
+    below_more (λ (k : ℕ). (i f : ℕ) → i < k → b.at (path_in_turn names (i + 1)) ≡ Some f
+    → b.at (path_in_turn names (k + 1)) ≡ Some f → ⊥) n
     (λ k below i f first at at'.
     let s = stand i (omega (arith, first, below)) in
     let t = stand k below in
     apart i k t.made.file first below
-    (s.made.there ∙ ap Some (file_of prefix ps i h h' a b f keeps s at
-    ∙ sym (file_of prefix ps k h h' a b f keeps t at')))
+    (s.made.there ∙ ap Some (file_of names ps i h h' a b f keeps s at
+    ∙ sym (file_of names ps k h h' a b f keeps t at')))
     t.made.there)
     (λ i f first at at'.
     let s = stand i first in
-    fresh f at' (subst (λ g. Contains h.begun g) (file_of prefix ps i h h' a b f keeps s at) s.made.listed))
+    fresh f at' (subst (λ g. Contains h.begun g) (file_of names ps i h h' a b f keeps s at) s.made.listed))
     j next i f first at at'
 
-apart_later : (prefix : List ℕ) (ps : List (List ℕ)) (n : ℕ) (h h' : Held) (a b : World) → KeepsMade h h' a b
-    → PiecesStand prefix ps n h a → AreApart prefix n a → AreApart prefix n b
-apart_later prefix ps n h h' a b keeps stand apart = λ i j f first next at at'.
+apart_later : (names : Naming) (ps : List (List ℕ)) (n : ℕ) (h h' : Held) (a b : World) → KeepsMade h h' a b
+    → PiecesStand names ps n h a → AreApart names n a → AreApart names n b
+apart_later names ps n h h' a b keeps stand apart = λ i j f first next at at'.
     let s = stand i (omega (arith, first, next)) in
     let t = stand j next in
     apart i j t.made.file first next
-    (s.made.there ∙ ap Some (file_of prefix ps i h h' a b f keeps s at ∙ sym (file_of prefix ps j h h' a b f keeps t
+    (s.made.there ∙ ap Some (file_of names ps i h h' a b f keeps s at ∙ sym (file_of names ps j h h' a b f keeps t
     at')))
     t.made.there
 
 -- of which the files are
-one_more : (prefix : List ℕ) (n : ℕ) (path : List ℕ) (h h' h'' : Held) (a b c : World)
-    → path ≡ piece_path prefix (n + 1) → GoesAmong (IsFirstPiecePath prefix n) h h' a b
-    → GoesAmong (λ p. p ≡ path) h' h'' b c → GoesAmong (IsFirstPiecePath prefix (n + 1)) h h'' a c
-one_more prefix n path h h' h'' a b c is_path first next =
-    goes_then (IsFirstPiecePath prefix (n + 1)) h h' h'' a b c
-    (goes_more (IsFirstPiecePath prefix n) (IsFirstPiecePath prefix (n + 1)) h h' a b
+one_more : (names : Naming) (n : ℕ) (path : List ℕ) (h h' h'' : Held) (a b c : World)
+    → path ≡ path_in_turn names (n + 1) → GoesAmong (IsFirstPiecePath names n) h h' a b
+    → GoesAmong (λ p. p ≡ path) h' h'' b c → GoesAmong (IsFirstPiecePath names (n + 1)) h h'' a c
+one_more names n path h h' h'' a b c is_path first next =
+    goes_then (IsFirstPiecePath names (n + 1)) h h' h'' a b c
+    (goes_more (IsFirstPiecePath names n) (IsFirstPiecePath names (n + 1)) h h' a b
     (λ p is. record { index = is.index; below = omega (arith, is.below); is_path = is.is_path }) first)
-    (goes_more (λ p. p ≡ path) (IsFirstPiecePath prefix (n + 1)) h' h'' b c
+    (goes_more (λ p. p ≡ path) (IsFirstPiecePath names (n + 1)) h' h'' b c
     (λ p same. record { index = n; below = omega arith; is_path = same ∙ is_path }) next)
 
-pub cuts_left : (prefix : List ℕ) (ps : List (List ℕ)) (n m : ℕ) (h h' : Held) (a b : World)
-    → CutsSoFar prefix ps n m h h' a b → OnlyLeaves (IsPiecePath prefix) h h' a b
-cuts_left prefix ps n m h h' a b cuts = record {
-  only = goes_more (IsFirstPiecePath prefix m) (IsPiecePath prefix) h h' a b (λ p is. (is.index + 1, is.is_path)) cuts.goes;
+pub cuts_left : (names : Naming) (ps : List (List ℕ)) (n m : ℕ) (h h' : Held) (a b : World)
+    → CutsSoFar names ps n m h h' a b → OnlyLeaves (IsPiecePath names.prefix) h h' a b
+cuts_left names ps n m h h' a b cuts = record {
+  only = goes_more (IsFirstPiecePath names m) (IsPiecePath names.prefix) h h' a b
+      (λ p is. (number_in_turn names.from_zero (is.index + 1), is.is_path)) cuts.goes;
   closed = cuts.closed;
 }
 
@@ -106,18 +109,18 @@ synced_more : (b : Bool) (s s' s'' n : ℕ) → s' ≡ s + n * (if b then 1 else
 synced_more true s s' s'' n first next = omega (arith, first, next)
 synced_more false s s' s'' n first next = omega (arith, first, next)
 
-pub cuts_more : (prefix : List ℕ) (ps : List (List ℕ)) (n : ℕ) (path : List ℕ) (h h' h'' : Held) (a b c : World)
-    → path ≡ piece_path prefix (n + 1) → CutsSoFar prefix ps n n h h' a b → AddsPiece ps n path h' h'' b c
-    → GoesAmong (λ p. p ≡ path) h' h'' b c → CutsSoFar prefix ps (n + 1) (n + 1) h h'' a c
-cuts_more prefix ps n path h h' h'' a b c is_path cuts adds goes = record {
-  goes = one_more prefix n path h h' h'' a b c is_path cuts.goes goes;
-  stand = below_more (λ j. PieceStands prefix ps j h'' c) n (stands_later prefix ps n h' h'' b c adds.keeps cuts.stand)
+pub cuts_more : (names : Naming) (ps : List (List ℕ)) (n : ℕ) (path : List ℕ) (h h' h'' : Held) (a b c : World)
+    → path ≡ path_in_turn names (n + 1) → CutsSoFar names ps n n h h' a b → AddsPiece ps n path h' h'' b c
+    → GoesAmong (λ p. p ≡ path) h' h'' b c → CutsSoFar names ps (n + 1) (n + 1) h h'' a c
+cuts_more names ps n path h h' h'' a b c is_path cuts adds goes = record {
+  goes = one_more names n path h h' h'' a b c is_path cuts.goes goes;
+  stand = below_more (λ j. PieceStands names ps j h'' c) n (stands_later names ps n h' h'' b c adds.keeps cuts.stand)
       (record {
         bytes = adds.bytes;
         is_next = adds.is_next;
         made = subst (λ p. IsMade h'' c p adds.bytes) is_path adds.written;
       });
-  apart = apart_more prefix ps n h' h'' b c adds.keeps cuts.stand cuts.apart
+  apart = apart_more names ps n h' h'' b c adds.keeps cuts.stand cuts.apart
       (λ f at. adds.fresh f (subst (λ p. c.at p ≡ Some f) (sym is_path) at));
   closed = adds.keeps.closed;
   is_synced = adds.is_synced ∙ cuts.is_synced;
@@ -126,13 +129,13 @@ cuts_more prefix ps n path h h' h'' a b c is_path cuts adds goes = record {
 }
 
 -- it could not be written
-pub cuts_stop : (prefix : List ℕ) (ps : List (List ℕ)) (n : ℕ) (path : List ℕ) (h h' h'' : Held) (a b c : World)
-    → path ≡ piece_path prefix (n + 1) → CutsSoFar prefix ps n n h h' a b → AddsNone h' h'' b c
-    → GoesAmong (λ p. p ≡ path) h' h'' b c → CutsSoFar prefix ps n (n + 1) h h'' a c
-cuts_stop prefix ps n path h h' h'' a b c is_path cuts none goes = record {
-  goes = one_more prefix n path h h' h'' a b c is_path cuts.goes goes;
-  stand = stands_later prefix ps n h' h'' b c none.keeps cuts.stand;
-  apart = apart_later prefix ps n h' h'' b c none.keeps cuts.stand cuts.apart;
+pub cuts_stop : (names : Naming) (ps : List (List ℕ)) (n : ℕ) (path : List ℕ) (h h' h'' : Held) (a b c : World)
+    → path ≡ path_in_turn names (n + 1) → CutsSoFar names ps n n h h' a b → AddsNone h' h'' b c
+    → GoesAmong (λ p. p ≡ path) h' h'' b c → CutsSoFar names ps n (n + 1) h h'' a c
+cuts_stop names ps n path h h' h'' a b c is_path cuts none goes = record {
+  goes = one_more names n path h h' h'' a b c is_path cuts.goes goes;
+  stand = stands_later names ps n h' h'' b c none.keeps cuts.stand;
+  apart = apart_later names ps n h' h'' b c none.keeps cuts.stand cuts.apart;
   closed = none.keeps.closed;
   is_synced = none.is_synced ∙ cuts.is_synced;
   synced = none.synced ∙ cuts.synced;
@@ -159,6 +162,16 @@ piece_place p prefix n folder number name =
     = ap (λ o. bytes_eq p.name.now (codes "-") && (is_none p.folder && is_none o)) number
     ∙ is_no_standard (bytes_eq p.name.now (codes "-")) (is_none p.folder) in
     ap (λ b. if b then codes "/dev/stdout" else path_of p) none ∙ piece_path_of p prefix n folder number name
+
+-- of the file that was counted last
+pub path_behind : (p : Place) (names before begun : PieceNaming) (count n : ℕ) → p.folder ≡ None
+    → p.number ≡ Some (number_in_turn begun.is_from_zero count) → p.name ≡ before.prefix → begun ≡ before
+    → before ≡ names → count ≡ n → path_out p ≡ path_in_turn (naming_of names) n
+path_behind p names before begun count n folder number name same is behind =
+    piece_place p names.prefix.now (number_in_turn names.is_from_zero n) folder
+    (number ∙ ap (λ k. Some (number_in_turn k.is_from_zero count)) (same ∙ is)
+    ∙ ap (λ k. Some (number_in_turn names.is_from_zero k)) behind)
+    (ap (λ s. s.now) name ∙ ap (λ k. k.prefix.now) is)
 
 -- ---- all of them
 

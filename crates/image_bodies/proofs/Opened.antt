@@ -13,6 +13,7 @@ use Rattle.abt_runs.specs.Verdict.{Refuses}
 use Rattle.abt_runs.specs.declared.part.RunFault.TheVariants as of_runs
 use Rattle.abt_disk.specs.World.{World, Held}
 use Rattle.sparse_rules.specs.Blocks.{IsRawBlockSize, RefusedCut}
+use Rattle.sparse_rules.specs.PieceNames.{Naming}
 use Rattle.sparse_rules.specs.declared.fault.SparseCommandFault.{SparseCommandFault}
 use Rattle.sparse_rules.specs.declared.fault.SparseCommandFault.TheVariants as faults
 use Rattle.image_bodies.specs.Cutting.{CutsAll, CutsImage, CutsSoFar, IsImageOfBlocks, IsUncutSparse, StopsCut}
@@ -24,31 +25,35 @@ if_err (Err e) P Q go is = go e is
 
 -- an image of these blocks was cut, or not
 pub cut_of : {X E : Type 0} (r : Result X E) (raw : Option ℕ) (size size' limit limit' : ℕ) (l l' : List Block)
-    (prefix x : List ℕ) (h h' : Held) (a b : World) (shows : List ℕ → Type 0) → IsImageOfBlocks raw size l x
+    (names : Naming) (x : List ℕ) (h h' : Held) (a b : World) (shows : ℕ → ℕ → List Block → Type 0)
+    → IsImageOfBlocks raw size l x
     → 64 + size ≤ limit
-    → size' ≡ size → limit' ≡ limit → l' ≡ l → OnOk r (CutsAll prefix (pieces limit' size' l') h h' a b shows)
-    → OnOk r (CutsImage raw limit prefix x h h' a b shows)
-cut_of (Err e) raw size size' limit limit' l l' prefix x h h' a b shows image granted sized limited listed all = tt
-cut_of (Ok y) raw size size' limit limit' l l' prefix x h h' a b shows image granted sized limited listed all = record {
+    → size' ≡ size → limit' ≡ limit → l' ≡ l → OnOk r (CutsAll names (pieces limit' size' l') h h' a b
+    (shows limit' size' l'))
+    → OnOk r (CutsImage raw limit names x h h' a b (shows limit))
+cut_of (Err e) raw size size' limit limit' l l' names x h h' a b shows image granted sized limited listed all = tt
+cut_of (Ok y) raw size size' limit limit' l l' names x h h' a b shows image granted sized limited listed all = record {
   size = size;
   blocks = l;
   image = image;
   granted = granted;
-  all = subst (λ (n : ℕ). CutsAll prefix (pieces n size l) h h' a b shows) limited
-      (subst (λ (n : ℕ). CutsAll prefix (pieces limit' n l) h h' a b shows) sized
-      (subst (λ (k : List Block). CutsAll prefix (pieces limit' size' k) h h' a b shows) listed all));
+  all = subst (λ (n : ℕ). CutsAll names (pieces n size l) h h' a b (shows n size l)) limited
+      (subst (λ (n : ℕ). CutsAll names (pieces limit' n l) h h' a b (shows limit' n l)) sized
+      (subst (λ (k : List Block). CutsAll names (pieces limit' size' k) h h' a b (shows limit' size' k)) listed all));
 }
 
-pub stop_of : (fault : SparseCommandFault) (raw : Option ℕ) (size size' limit limit' : ℕ) (l l' : List Block)
-    (prefix x : List ℕ) (h h' : Held) (a b : World) (Failed Same : Type 0) → IsImageOfBlocks raw size l x
+pub stop_of : (Unprinted : Type 0) (fault : SparseCommandFault) (raw : Option ℕ) (size size' limit limit' : ℕ)
+    (l l' : List Block)
+    (names : Naming) (x : List ℕ) (h h' : Held) (a b : World) (Failed Same : Type 0) → IsImageOfBlocks raw size l x
     → size' ≡ size → limit' ≡ limit → l' ≡ l
-    → StopsCut fault Failed (λ n m. CutsSoFar prefix (pieces limit' size' l') n m h h' a b)
-    → StopsImage raw limit x fault Failed Same (λ ps n m. CutsSoFar prefix ps n m h h' a b)
-stop_of fault raw size size' limit limit' l l' prefix x h h' a b Failed Same image sized limited listed why =
+    → StopsCut fault Failed Unprinted (λ n m. CutsSoFar names (pieces limit' size' l') n m h h' a b)
+    → StopsImage raw limit x fault Failed Unprinted Same (λ ps n m. CutsSoFar names ps n m h h' a b)
+stop_of Unprinted fault raw size size' limit limit' l l' names x h h' a b Failed Same image sized limited listed why =
     stopped size l image
-    (subst (λ (n : ℕ). StopsCut fault Failed (λ k m. CutsSoFar prefix (pieces n size l) k m h h' a b)) limited
-    (subst (λ (n : ℕ). StopsCut fault Failed (λ k m. CutsSoFar prefix (pieces limit' n l) k m h h' a b)) sized
-    (subst (λ (bs : List Block). StopsCut fault Failed (λ k m. CutsSoFar prefix (pieces limit' size' bs) k m h h' a b))
+    (subst (λ (n : ℕ). StopsCut fault Failed Unprinted (λ k m. CutsSoFar names (pieces n size l) k m h h' a b)) limited
+    (subst (λ (n : ℕ). StopsCut fault Failed Unprinted (λ k m. CutsSoFar names (pieces limit' n l) k m h h' a b)) sized
+    (subst (λ (bs : List Block). StopsCut fault Failed Unprinted (λ k m. CutsSoFar names
+    (pieces limit' size' bs) k m h h' a b))
     listed why)))
 
 -- ---- a raw one
@@ -56,19 +61,20 @@ stop_of fault raw size size' limit limit' l l' prefix x h h' a b Failed Same ima
 pub raw_image : (size : ℕ) (x : List ℕ) → IsRawBlockSize size → IsImageOfBlocks (Some size) size (classify size x) x
 raw_image size x sized = (refl, sized, refl)
 
-pub raw_uncut : (fault told : SparseCommandFault) (size long limit : ℕ) (x : List ℕ) (Failed Same : Type 0)
+pub raw_uncut : (Unprinted : Type 0) (fault told : SparseCommandFault) (size long limit : ℕ) (x : List ℕ)
+    (Failed Same : Type 0)
     (Cut : List (List ℕ) → ℕ → ℕ → Type 0) → told ≡ fault → long ≡ length x → RefusedCut fault size long limit → Same
-    → StopsImage (Some size) limit x told Failed Same Cut
-raw_uncut (faults.Run f) told size long limit x Failed Same Cut is sized why same =
+    → StopsImage (Some size) limit x told Failed Unprinted Same Cut
+raw_uncut Unprinted (faults.Run f) told size long limit x Failed Same Cut is sized why same =
     no_cut f is (subst (λ (n : ℕ). RefusedRaw f size n) sized why) same
-raw_uncut (faults.Piece f) told size long limit x Failed Same Cut is sized why same =
+raw_uncut Unprinted (faults.Piece f) told size long limit x Failed Same Cut is sized why same =
     no_room size refl (is ∙ ap faults.Piece why.0) why.1 same
-raw_uncut (faults.Sparse f) told size long limit x Failed Same Cut is sized why same = absurd why
-raw_uncut (faults.Flash f) told size long limit x Failed Same Cut is sized why same = absurd why
-raw_uncut (faults.Verify f) told size long limit x Failed Same Cut is sized why same = absurd why
-raw_uncut (faults.OtherBlocks i) told size long limit x Failed Same Cut is sized why same = absurd why
-raw_uncut (faults.OtherCut i) told size long limit x Failed Same Cut is sized why same = absurd why
-raw_uncut (faults.Host f) told size long limit x Failed Same Cut is sized why same = absurd why
+raw_uncut Unprinted (faults.Sparse f) told size long limit x Failed Same Cut is sized why same = absurd why
+raw_uncut Unprinted (faults.Flash f) told size long limit x Failed Same Cut is sized why same = absurd why
+raw_uncut Unprinted (faults.Verify f) told size long limit x Failed Same Cut is sized why same = absurd why
+raw_uncut Unprinted (faults.OtherBlocks i) told size long limit x Failed Same Cut is sized why same = absurd why
+raw_uncut Unprinted (faults.OtherCut i) told size long limit x Failed Same Cut is sized why same = absurd why
+raw_uncut Unprinted (faults.Host f) told size long limit x Failed Same Cut is sized why same = absurd why
 
 -- ---- a sparse one
 
@@ -92,17 +98,21 @@ fails_by : (x : List ℕ) (f : SparseFault) (o : Outcome) → IsOutcome x o → 
 fails_by x f (Fault g cells) is same = (cells, subst (λ e. Fails x e cells) (sym same) is)
 fails_by x f (Image h cs rest) is refused = absurd refused
 
-pub sparse_uncut : (fault told : SparseCommandFault) (limit : ℕ) (x : List ℕ) (r r' : ℕ) (Failed Same : Type 0)
+pub sparse_uncut : (Unprinted : Type 0) (fault told : SparseCommandFault) (limit : ℕ) (x : List ℕ) (r r' : ℕ)
+    (Failed Same : Type 0)
     (Cut : List (List ℕ) → ℕ → ℕ → Type 0) → IsOutcome x (outcome x) → told ≡ fault → IsUncutSparse fault limit x r r'
-    → (r < r' → Failed) → Same → StopsImage None limit x told Failed Same Cut
-sparse_uncut (faults.Run (of_runs.Sparse f)) told limit x r r' Failed Same Cut all is why fails same =
+    → (r < r' → Failed) → Same → StopsImage None limit x told Failed Unprinted Same Cut
+sparse_uncut Unprinted (faults.Run (of_runs.Sparse f)) told limit x r r' Failed Same Cut all is why fails same =
     no_cut (of_runs.Sparse f) is (fails_by x f (outcome x) all why) same
-sparse_uncut (faults.Run (of_runs.Read d)) told limit x r r' Failed Same Cut all is why fails same =
+sparse_uncut Unprinted (faults.Run (of_runs.Read d)) told limit x r r' Failed Same Cut all is why fails same =
     unread (of_runs.Read d) is (fails why) same
-sparse_uncut (faults.Run of_runs.TooLarge) told limit x r r' Failed Same Cut all is why fails same = absurd why
-sparse_uncut (faults.Run of_runs.SourceChanged) told limit x r r' Failed Same Cut all is why fails same = absurd why
-sparse_uncut (faults.Run (of_runs.BadBlock n)) told limit x r r' Failed Same Cut all is why fails same = absurd why
-sparse_uncut (faults.Piece f) told limit x r r' Failed Same Cut all is why fails same =
+sparse_uncut Unprinted (faults.Run of_runs.TooLarge) told limit x r r' Failed Same Cut all is why fails same = absurd
+    why
+sparse_uncut Unprinted (faults.Run of_runs.SourceChanged) told limit x r r' Failed Same Cut all is why fails same =
+    absurd why
+sparse_uncut Unprinted (faults.Run (of_runs.BadBlock n)) told limit x r r' Failed Same Cut all is why fails same =
+    absurd why
+sparse_uncut Unprinted (faults.Piece f) told limit x r r' Failed Same Cut all is why fails same =
     no_room why.header.blk_sz (
       classed why.chunks,
       record {
@@ -115,9 +125,9 @@ sparse_uncut (faults.Piece f) told limit x r r' Failed Same Cut all is why fails
       },
     )
     (is ∙ ap faults.Piece why.told) why.short same
-sparse_uncut (faults.Sparse f) told limit x r r' Failed Same Cut all is why fails same = absurd why
-sparse_uncut (faults.Flash f) told limit x r r' Failed Same Cut all is why fails same = absurd why
-sparse_uncut (faults.Verify f) told limit x r r' Failed Same Cut all is why fails same = absurd why
-sparse_uncut (faults.OtherBlocks i) told limit x r r' Failed Same Cut all is why fails same = absurd why
-sparse_uncut (faults.OtherCut i) told limit x r r' Failed Same Cut all is why fails same = absurd why
-sparse_uncut (faults.Host f) told limit x r r' Failed Same Cut all is why fails same = absurd why
+sparse_uncut Unprinted (faults.Sparse f) told limit x r r' Failed Same Cut all is why fails same = absurd why
+sparse_uncut Unprinted (faults.Flash f) told limit x r r' Failed Same Cut all is why fails same = absurd why
+sparse_uncut Unprinted (faults.Verify f) told limit x r r' Failed Same Cut all is why fails same = absurd why
+sparse_uncut Unprinted (faults.OtherBlocks i) told limit x r r' Failed Same Cut all is why fails same = absurd why
+sparse_uncut Unprinted (faults.OtherCut i) told limit x r r' Failed Same Cut all is why fails same = absurd why
+sparse_uncut Unprinted (faults.Host f) told limit x r r' Failed Same Cut all is why fails same = absurd why

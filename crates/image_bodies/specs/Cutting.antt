@@ -1,10 +1,11 @@
 -- What the command `cut` leaves of files, and what it prints.
-use Rattle.std.specs.Prelude.{◌≡◌, ◌≢◌, ◌<◌, ◌≤◌, ◌+◌, ◌*◌, ◌^◌, ℕ, List, [], ◌∷◌, ◌++◌, length, Option, Some, None}
-use Rattle.std.specs.Prelude.{Bool}
+use Rattle.std.specs.Prelude.{◌≡◌, ◌≢◌, ◌<◌, ◌≤◌, ◌+◌, ◌*◌, ◌^◌, ℕ, zero, suc, List, [], ◌∷◌, ◌++◌, length, Option}
+use Rattle.std.specs.Prelude.{Some, None}
+use Rattle.std.specs.Prelude.{Bool, ◌⊎◌}
 use Rattle.std.specs.Prelude.{true, false, IsTrue, Contains, if◌then◌else◌, Result, OnOk, IfOk, IfErr, is_ok}
 use Rattle.abt_io.specs.declared.device.Source as sources
 use Rattle.abt_sparse.specs.Block.{Block, classify}
-use Rattle.abt_sparse.specs.Chunk.{Header, Chunk, classed}
+use Rattle.abt_sparse.specs.Chunk.{Header, Chunk, classed, piece}
 use Rattle.abt_sparse.specs.Fails.{Fails, Spells}
 use Rattle.abt_sparse.specs.Pieces.{pieces}
 use Rattle.abt_sparse.specs.Reading.{Image, outcome}
@@ -16,6 +17,7 @@ use Rattle.abt_runs.specs.declared.part.Cursor.{Cursor}
 use Rattle.abt_runs.specs.declared.runs.BlockRuns as images
 use Rattle.abt_pieces.specs.Cutter.{ToldCutter}
 use Rattle.abt_pieces.specs.NextPiece.{IsNext, SameCutter}
+use Rattle.abt_pieces.specs.Outline.{piece_blocks}
 use Rattle.abt_pieces.specs.Ready.{ReadyCutter}
 use Rattle.abt_pieces.specs.Turn.{HasAt}
 use Rattle.abt_pieces.specs.declared.outline.Piece.{Piece}
@@ -30,10 +32,11 @@ use Rattle.abt_disk.specs.World.{World, Held, Ends, KeepsFile, Spares, SparesRes
 use Rattle.abt_disk.specs.World.{failing}
 use Rattle.sparse_rules.specs.Blocks.{IsRawBlockSize}
 use Rattle.sparse_rules.specs.Lines.{line_text}
+use Rattle.sparse_rules.specs.PieceNames.{Naming, number_in_turn}
 use Rattle.sparse_rules.specs.declared.fault.SparseCommandFault.{SparseCommandFault}
 use Rattle.sparse_rules.specs.declared.fault.SparseCommandFault.TheVariants as faults
 use Rattle.sparse_rules.specs.declared.lines.Line.TheVariants as lines
-use Rattle.abt_report.specs.Shows.{Shows}
+use Rattle.abt_report.specs.Shows.{IsNoted, IsSilent, Shows, ShowsHere}
 use Rattle.abt_report.specs.declared.report.Report.{Report}
 use Rattle.image_bodies.specs.Sparsing.{IsOutsideSparse}
 use Rattle.abt_disk.specs.Among.{GoesAmong, IsMade, KeepsMade, OnlyAmong}
@@ -58,63 +61,100 @@ IsImageOfBlocks (Some n) size blocks x = (size ≡ n) × IsRawBlockSize n × (bl
 abbrev pub cut_into : ℕ → ℕ → List Block → List (List ℕ)
 cut_into limit size blocks = pieces limit size blocks
 
--- these bytes went out last
-abbrev pub ShowsLast : Report → List ℕ → Type 0
-ShowsLast new told = (before : Report) × Shows before new told
-
 -- ---- the files of pieces
 
--- the path of piece n, from 1 on
+-- the path of the piece with this number
 abbrev pub piece_path : List ℕ → ℕ → List ℕ
 piece_path prefix n = numbered prefix (Some n)
 
 abbrev pub IsPiecePath : List ℕ → List ℕ → Type 0
 IsPiecePath prefix path = (n : ℕ) × (path ≡ piece_path prefix n)
 
+-- of piece n, counted from 1
+abbrev pub path_in_turn : Naming → ℕ → List ℕ
+path_in_turn names n = piece_path names.prefix (number_in_turn names.from_zero n)
+
 -- no file has the name of a piece behind so many
-abbrev pub IsNoneLeft : List ℕ → ℕ → World → Type 0
-IsNoneLeft prefix count world = (n : ℕ) → count < n → n < 2 ^ 32 → world.at (piece_path prefix n) ≡ None
+abbrev pub IsNoneLeft : Naming → ℕ → World → Type 0
+IsNoneLeft names count world = (n : ℕ) → number_in_turn names.from_zero count < n → n < 2 ^ 32
+    → world.at (piece_path names.prefix n) ≡ None
 
 -- of one of the first m
-pub record IsFirstPiecePath (prefix : List ℕ) (m : ℕ) (path : List ℕ) : Type 0 where
+pub record IsFirstPiecePath (names : Naming) (m : ℕ) (path : List ℕ) : Type 0 where
   pub index : ℕ
   pub below : index < m
-  pub is_path : path ≡ piece_path prefix (index + 1)
+  pub is_path : path ≡ path_in_turn names (index + 1)
 
 -- of these pieces the one behind j others was begun, and stands whole under its name
-pub record PieceStands (prefix : List ℕ) (ps : List (List ℕ)) (j : ℕ) (held : Held) (world : World) : Type 0 where
+pub record PieceStands (names : Naming) (ps : List (List ℕ)) (j : ℕ) (held : Held) (world : World) : Type 0 where
   pub bytes : List ℕ
   pub is_next : HasAt ps j bytes
-  pub made : IsMade held world (piece_path prefix (j + 1)) bytes
+  pub made : IsMade held world (path_in_turn names (j + 1)) bytes
 
 -- so do the first n
-abbrev pub PiecesStand : List ℕ → List (List ℕ) → ℕ → Held → World → Type 0
-PiecesStand prefix ps n held world = (j : ℕ) → j < n → PieceStands prefix ps j held world
+abbrev pub PiecesStand : Naming → List (List ℕ) → ℕ → Held → World → Type 0
+PiecesStand names ps n held world = (j : ℕ) → j < n → PieceStands names ps j held world
 
 -- no two of the first n have one file
-abbrev pub AreApart : List ℕ → ℕ → World → Type 0
-AreApart prefix n world = (i j f : ℕ) → i < j → j < n → world.at (piece_path prefix (i + 1)) ≡ Some f
-    → world.at (piece_path prefix (j + 1)) ≡ Some f → ⊥
+abbrev pub AreApart : Naming → ℕ → World → Type 0
+AreApart names n world = (i j f : ℕ) → i < j → j < n → world.at (path_in_turn names (i + 1)) ≡ Some f
+    → world.at (path_in_turn names (j + 1)) ≡ Some f → ⊥
 
 -- From one moment of a run to another: the first n pieces stand, in files of their own, each synced where that is
 -- wanted. Nothing but the files of the first m was changed, and no output is open.
-pub record CutsSoFar (prefix : List ℕ) (ps : List (List ℕ)) (n m : ℕ) (held held' : Held) (old new : World)
+pub record CutsSoFar (names : Naming) (ps : List (List ℕ)) (n m : ℕ) (held held' : Held) (old new : World)
     : Type 0 where
-  pub goes : GoesAmong (IsFirstPiecePath prefix m) held held' old new
-  pub stand : PiecesStand prefix ps n held' new
-  pub apart : AreApart prefix n new
+  pub goes : GoesAmong (IsFirstPiecePath names m) held held' old new
+  pub stand : PiecesStand names ps n held' new
+  pub apart : AreApart names n new
   pub closed : held'.output ≡ None
   pub is_synced : held'.is_synced ≡ held.is_synced
   pub synced : held'.syncs ≡ held.syncs + n * (if held.is_synced then 1 else 0)
 
--- all of them stand, and the last line that was printed has their number, where none of an older cut is left to be
--- noted
-pub record CutsAll (prefix : List ℕ) (ps : List (List ℕ)) (held held' : Held) (old new : World)
-    (shows : List ℕ → Type 0) : Type 0 where
+-- ---- what is printed
+
+-- the numbers of the piece behind so many others, of an image of these blocks of so many bytes
+pub record NumbersOfPiece (limit size : ℕ) (blocks : List Block) (made : ℕ) (p : Piece) : Type 0 where
+  pub bytes : List ℕ
+  pub is_next : HasAt (pieces limit size blocks) made bytes
+  pub framed : bytes ≡ piece size (piece_blocks blocks p)
+  pub long : p.bytes ≡ length bytes
+
+-- the line of a piece with this number
+abbrev pub piece_line : ℕ → Piece → List ℕ
+piece_line number p = line_text (lines.Piece number p.first p.past p.bytes) ++ (10 ∷ [])
+
+-- a line of each of the first n pieces went out, in turn
+abbrev pub ShowsPieces : Bool → ℕ → ℕ → List Block → ℕ → Report → Report → Type 0
+ShowsPieces from_zero limit size blocks zero old new = IsSilent old new
+ShowsPieces from_zero limit size blocks (suc n) old new =
+    (next : Report) × ((p : Piece) × (ShowsPieces from_zero limit size blocks n old next
+    × (NumbersOfPiece limit size blocks n p × Shows next new (piece_line (number_in_turn from_zero (suc n)) p))))
+
+-- Then how many they are. Behind that nothing goes to standard output; and nothing at all where no file of an older cut
+-- is left.
+pub record ShowsCount (names : Naming) (count : ℕ) (world : World) (old new : Report) : Type 0 where
+  pub told : Report
+  pub line : ShowsHere old told (line_text (lines.Pieces count) ++ (10 ∷ []))
+  pub noted : IsNoted told new
+  pub alone : IsNoneLeft names count world → IsSilent told new
+
+-- the lines of a cut
+pub record ShowsCut (names : Naming) (limit : ℕ) (world : World) (old new : Report) (size : ℕ) (blocks : List Block)
+    : Type 0 where
+  pub count : ℕ
+  pub all : count ≡ length (pieces limit size blocks)
+  pub between : Report
+  pub pieces_told : ShowsPieces names.from_zero limit size blocks count old between
+  pub count_told : ShowsCount names count world between new
+
+-- all of them stand, and their lines were printed
+pub record CutsAll (names : Naming) (ps : List (List ℕ)) (held held' : Held) (old new : World) (shows : Type 0)
+    : Type 0 where
   pub count : ℕ
   pub all : count ≡ length ps
-  pub cuts : CutsSoFar prefix ps count count held held' old new
-  pub shown : IsNoneLeft prefix count new → shows (line_text (lines.Pieces count) ++ (10 ∷ []))
+  pub cuts : CutsSoFar names ps count count held held' old new
+  pub shown : shows
 
 -- no output is open, and what is read has not failed
 pub record IsUnbegun (held : Held) (reads : ℕ) : Type 0 where
@@ -199,11 +239,13 @@ pub record AddsNone (held held' : Held) (old new : World) : Type 0 where
 
 -- Why not all pieces are cut, or told, where `Cut n m` says that the first n of them stand, and that no files but those
 -- of the first m were changed: a device has failed, or a call of the disk, over the piece behind those that stand; or a
--- line could not be printed; or memory was refused where a file was looked for, before the first piece.
-pub data StopsCut (fault : SparseCommandFault) (Failed : Type 0) (Cut : ℕ → ℕ → Type 0) : Type 0 where
-  failed : IsOutsideSparse fault → Failed → (n : ℕ) → Cut n (n + 1) → StopsCut fault Failed Cut
-  untold : (f : HostFault) → fault ≡ faults.Host f → (n : ℕ) → 0 < n → Cut n n → StopsCut fault Failed Cut
-  no_memory : fault ≡ faults.Host hosts.Memory → Cut 0 0 → StopsCut fault Failed Cut
+-- line could not be printed, or memory was refused where an older piece was looked for; or memory was refused where a
+-- file was looked for, before the first piece.
+pub data StopsCut (fault : SparseCommandFault) (Failed Unprinted : Type 0) (Cut : ℕ → ℕ → Type 0) : Type 0 where
+  failed : IsOutsideSparse fault → Failed → (n : ℕ) → Cut n (n + 1) → StopsCut fault Failed Unprinted Cut
+  untold : (f : HostFault) → fault ≡ faults.Host f → Unprinted ⊎ (f ≡ hosts.Memory) → (n : ℕ) → 0 < n → Cut n n
+      → StopsCut fault Failed Unprinted Cut
+  no_memory : fault ≡ faults.Host hosts.Memory → Cut 0 0 → StopsCut fault Failed Unprinted Cut
 
 -- the first fault that x has as an image: of a sparse one, or for its blocks
 abbrev pub HasNoCut : Option ℕ → RunFault → List ℕ → Type 0
@@ -218,15 +260,18 @@ HasBlocksOf (Some n) size x = size ≡ n
 
 -- Why the image x is not cut: it is none, or could not be read, or the limit has no room for one of its blocks, and
 -- nothing was changed; or its pieces are not all cut, or told.
-pub data StopsImage (raw : Option ℕ) (limit : ℕ) (x : List ℕ) (fault : SparseCommandFault) (Failed Same : Type 0)
+pub data StopsImage (raw : Option ℕ) (limit : ℕ) (x : List ℕ) (fault : SparseCommandFault)
+    (Failed Unprinted Same : Type 0)
     (Cut : List (List ℕ) → ℕ → ℕ → Type 0) : Type 0 where
   no_cut : (f : RunFault) → fault ≡ faults.Run f → HasNoCut raw f x → Same
-      → StopsImage raw limit x fault Failed Same Cut
-  unread : (f : RunFault) → fault ≡ faults.Run f → Failed → Same → StopsImage raw limit x fault Failed Same Cut
+      → StopsImage raw limit x fault Failed Unprinted Same Cut
+  unread : (f : RunFault) → fault ≡ faults.Run f → Failed → Same
+      → StopsImage raw limit x fault Failed Unprinted Same Cut
   no_room : (size : ℕ) → HasBlocksOf raw size x → fault ≡ faults.Piece (of_pieces.LimitTooSmall (64 + size))
-      → limit < 64 + size → Same → StopsImage raw limit x fault Failed Same Cut
+      → limit < 64 + size → Same → StopsImage raw limit x fault Failed Unprinted Same Cut
   stopped : (size : ℕ) (blocks : List Block) → IsImageOfBlocks raw size blocks x
-      → StopsCut fault Failed (Cut (pieces limit size blocks)) → StopsImage raw limit x fault Failed Same Cut
+      → StopsCut fault Failed Unprinted (Cut (pieces limit size blocks))
+      → StopsImage raw limit x fault Failed Unprinted Same Cut
 
 -- the limit has no room for one block of the image at the front of x
 pub record IsTooSmall (fault : PieceFault) (limit : ℕ) (x : List ℕ) : Type 0 where
@@ -258,30 +303,29 @@ IsUncutSparse f limit x reads reads' = ⊥
 -- ---- an image and its pieces
 
 -- x is an image of these blocks, and all its pieces stand
-pub record CutsImage (raw : Option ℕ) (limit : ℕ) (prefix x : List ℕ) (held held' : Held) (old new : World)
-    (shows : List ℕ → Type 0) : Type 0 where
+pub record CutsImage (raw : Option ℕ) (limit : ℕ) (names : Naming) (x : List ℕ) (held held' : Held) (old new : World)
+    (shows : ℕ → List Block → Type 0) : Type 0 where
   pub size : ℕ
   pub blocks : List Block
   pub image : IsImageOfBlocks raw size blocks x
   pub granted : 64 + size ≤ limit
-  pub all : CutsAll prefix (pieces limit size blocks) held held' old new shows
+  pub all : CutsAll names (pieces limit size blocks) held held' old new (shows size blocks)
 
 -- ---- of files
 
 -- The first n pieces stand, each under its name, in a file that is none of the others and not the image's, synced where
 -- that is wanted. Nothing but the files of the first m was created or changed.
-pub record FirstStand (prefix : List ℕ) (from : ℕ) (held held' : Held) (old new : World) (ps : List (List ℕ)) (n m : ℕ)
+pub record FirstStand (names : Naming) (from : ℕ) (held held' : Held) (old new : World) (ps : List (List ℕ)) (n m : ℕ)
     : Type 0 where
-  pub stand : PiecesStand prefix ps n held' new
-  pub apart : AreApart prefix n new
-  pub beside : (j f : ℕ) → j < n → new.at (piece_path prefix (j + 1)) ≡ Some f → f ≢ from
+  pub stand : PiecesStand names ps n held' new
+  pub apart : AreApart names n new
+  pub beside : (j f : ℕ) → j < n → new.at (path_in_turn names (j + 1)) ≡ Some f → f ≢ from
   pub synced : held'.syncs ≡ held.syncs + n * (if held.is_synced then 1 else 0)
-  pub only : OnlyAmong (IsFirstPiecePath prefix m) held.read held'.begun old new
+  pub only : OnlyAmong (IsFirstPiecePath names m) held.read held'.begun old new
 
--- The file at one path held an image, and all its pieces stand. The last line that was printed has their number, where
--- none of an older cut is left to be noted.
-pub record CutsFile (raw : Option ℕ) (limit : ℕ) (input prefix : List ℕ) (held held' : Held) (old new : World)
-    (shows : List ℕ → Type 0) : Type 0 where
+-- The file at one path held an image, and all its pieces stand. Their lines were printed, and how many they are.
+pub record CutsFile (raw : Option ℕ) (limit : ℕ) (input : List ℕ) (names : Naming) (held held' : Held) (old new : World)
+    (shows : ℕ → List Block → Type 0) : Type 0 where
   pub from : ℕ
   pub there : old.at input ≡ Some from
   pub size : ℕ
@@ -290,8 +334,8 @@ pub record CutsFile (raw : Option ℕ) (limit : ℕ) (input prefix : List ℕ) (
   pub granted : 64 + size ≤ limit
   pub count : ℕ
   pub all : count ≡ length (pieces limit size blocks)
-  pub first : FirstStand prefix from held held' old new (pieces limit size blocks) count count
-  pub shown : IsNoneLeft prefix count new → shows (line_text (lines.Pieces count) ++ (10 ∷ []))
+  pub first : FirstStand names from held held' old new (pieces limit size blocks) count count
+  pub shown : shows size blocks
 
 -- What is left of files, whatever the outcome: only such files as pieces have were created or changed, IN holds what it
 -- held, and no output is open. It is done only where nothing has failed.
@@ -303,10 +347,10 @@ pub record LeavesCut {X F : Type 0} (r : Result X F) (from prefix : List ℕ) (h
   pub clean : OnOk r (HasNotFailed held held')
 
 -- why the command is refused: the file could not be opened, before anything was changed; or for what it holds
-pub data RefusesCut (raw : Option ℕ) (limit : ℕ) (input prefix : List ℕ) (fault : SparseCommandFault)
-    (held held' : Held) (old new : World) : Type 0 where
+pub data RefusesCut (raw : Option ℕ) (limit : ℕ) (input : List ℕ) (names : Naming) (fault : SparseCommandFault)
+    (held held' : Held) (old new : World) (Unprinted : Type 0) : Type 0 where
   unopened : (f : HostFault) → fault ≡ faults.Host f → HasFailed held held' → new ≡ old
-      → RefusesCut raw limit input prefix fault held held' old new
+      → RefusesCut raw limit input names fault held held' old new Unprinted
   opened : (from : ℕ) → old.at input ≡ Some from → StopsImage raw limit (old.holds from) fault (HasFailed held held')
-      (new ≡ old) (FirstStand prefix from held held' old new)
-      → RefusesCut raw limit input prefix fault held held' old new
+      Unprinted (new ≡ old) (FirstStand names from held held' old new)
+      → RefusesCut raw limit input names fault held held' old new Unprinted

@@ -6,10 +6,12 @@ ghost use Rattle.abt_io.specs.Lent.{OnlyReads};
 ghost use Rattle.abt_pieces.specs.Cutter.{ToldCutter};
 ghost use Rattle.abt_pieces.specs.declared.stage.Stage.{Stage};
 ghost use Rattle.abt_refusals.specs.Paths.{path_of};
+ghost use Rattle.abt_report.specs.Shows.{CannotPrint};
 ghost use Rattle.abt_runs.specs.Sparse.{SparseOpened, SparsePlace, blocks_together, sparse_list};
 ghost use Rattle.abt_sparse.specs.View.{view};
 ghost use Rattle.image_bodies.specs.Cutting.{CutsFile, CutsImage, CutsSoFar, IsPiecePath, IsUnbegun, IsUncutSparse};
-ghost use Rattle.image_bodies.specs.Cutting.{LeavesCut, LeavesPieces, RefusesCut, ShowsLast, StopsImage};
+ghost use Rattle.image_bodies.specs.Cutting.{LeavesCut, LeavesPieces, RefusesCut, ShowsCut, StopsImage};
+ghost use Rattle.sparse_rules.specs.PieceNames.{naming_of};
 
 use crate::turns::cut_pieces;
 use abt_disk::{Disk, Lasting};
@@ -18,7 +20,7 @@ use abt_refusals::{Place, Sides};
 use abt_report::Report;
 use abt_runs::{RunFault, SparseRuns};
 use abt_sparse::SparseFault;
-use sparse_rules::{PiecesOf, SparseCommandFault, SparseRefusal, raw_pieces};
+use sparse_rules::{PieceNaming, PiecesOf, SparseCommandFault, SparseRefusal, raw_pieces};
 
 // How often a raw image is read whose pieces get each header before what it tells of, as a pipe and a device do: to plan a
 // piece, to find each run whole, and to copy it.
@@ -31,8 +33,8 @@ pub struct Cutting<'a> {
     pub input: Place<'a>,
     /// How many bytes a piece has at most.
     pub limit: u32,
-    /// What the paths of the pieces begin with: they are `PREFIX.1`, `PREFIX.2` and so on.
-    pub prefix: &'a str,
+    /// How the files of the pieces are named.
+    pub names: PieceNaming<'a>,
     /// How many bytes a block of a raw image has; of a sparse image, nothing.
     pub raw: Option<u32>,
 }
@@ -53,16 +55,16 @@ pub fn cut_file<'a, D: Disk>(
     requires first { IsTrue D.tells → IsReading (D.held disk.old) }
     // each piece of the image that IN holds stands under its name, in a file of its own
     ensures done { IsTrue D.tells → OnOk result (CutsFile order.entry.raw order.entry.limit (path_of order.entry.input)
-        order.entry.prefix.now (D.held disk.old) (D.held disk.new) (D.world disk.old) (D.world disk.new)
-        (ShowsLast report.new)) }
+        (naming_of order.entry.names) (D.held disk.old) (D.held disk.new) (D.world disk.old) (D.world disk.new)
+        (ShowsCut (naming_of order.entry.names) order.entry.limit (D.world disk.new) report.old report.new)) }
     // whatever comes, only such files were created or changed, IN holds what it held, and no output is open; where it is
     // done nothing has failed
-    ensures leaves { IsTrue D.tells → LeavesCut result (path_of order.entry.input) order.entry.prefix.now
+    ensures leaves { IsTrue D.tells → LeavesCut result (path_of order.entry.input) order.entry.names.prefix.now
         (D.held disk.old) (D.held disk.new) (D.world disk.old) (D.world disk.new) }
     // it is refused for what IN holds, for the limit, or for a fault of files or devices that came
     ensures refused { IsTrue D.tells → IfErr result (λ refusal. RefusesCut order.entry.raw order.entry.limit
-        (path_of order.entry.input) order.entry.prefix.now refusal.fault (D.held disk.old) (D.held disk.new)
-        (D.world disk.old) (D.world disk.new)) }
+        (path_of order.entry.input) (naming_of order.entry.names) refusal.fault (D.held disk.old) (D.held disk.new)
+        (D.world disk.old) (D.world disk.new) (CannotPrint report.old report.new)) }
 {
     let source = match disk.ahead(order.input) {
         Ok(source) => source,
@@ -86,13 +88,16 @@ fn cut_raw<'a, D: Disk>(
     m: &mut Meter,
 ) -> Result<(), SparseRefusal<'a>>
     requires fresh { IsTrue D.tells → IsUnbegun (D.held disk.old) (D.At.read_faults source) }
-    ensures done { IsTrue D.tells → OnOk result (CutsImage (Some size) order.entry.limit order.entry.prefix.now (D.At.content source)
-        (D.held disk.old) (D.held disk.new) (D.world disk.old) (D.world disk.new) (ShowsLast report.new)) }
-    ensures leaves { IsTrue D.tells → LeavesPieces result (IsPiecePath order.entry.prefix.now) (D.held disk.old)
+    ensures done { IsTrue D.tells → OnOk result (CutsImage (Some size) order.entry.limit (naming_of order.entry.names)
+        (D.At.content source)
+        (D.held disk.old) (D.held disk.new) (D.world disk.old) (D.world disk.new)
+        (ShowsCut (naming_of order.entry.names) order.entry.limit (D.world disk.new) report.old report.new)) }
+    ensures leaves { IsTrue D.tells → LeavesPieces result (IsPiecePath order.entry.names.prefix.now) (D.held disk.old)
         (D.held disk.new) (D.world disk.old) (D.world disk.new) }
-    ensures refused { IsTrue D.tells → IfErr result (λ refusal. StopsImage (Some size) order.entry.limit (D.At.content source)
-        refusal.fault (HasFailed (D.held disk.old) (D.held disk.new)) (D.world disk.new ≡ D.world disk.old)
-        (λ ps n m. CutsSoFar order.entry.prefix.now ps n m (D.held disk.old) (D.held disk.new) (D.world disk.old)
+    ensures refused { IsTrue D.tells → IfErr result (λ refusal. StopsImage (Some size) order.entry.limit
+        (D.At.content source) refusal.fault (HasFailed (D.held disk.old) (D.held disk.new)) (CannotPrint report.old
+        report.new) (D.world disk.new ≡ D.world disk.old)
+        (λ ps n m. CutsSoFar (naming_of order.entry.names) ps n m (D.held disk.old) (D.held disk.new) (D.world disk.old)
         (D.world disk.new))) }
 {
     match raw_pieces(&source, size, order.limit) {
@@ -102,7 +107,7 @@ fn cut_raw<'a, D: Disk>(
             source,
             pieces,
             order.input,
-            order.prefix,
+            order.names,
             RAW_PASSES,
             w,
             m,
@@ -121,13 +126,15 @@ fn cut_sparse<'a, D: Disk>(
     m: &mut Meter,
 ) -> Result<(), SparseRefusal<'a>>
     requires fresh { IsTrue D.tells → IsUnbegun (D.held disk.old) (D.At.read_faults source) }
-    ensures done { IsTrue D.tells → OnOk result (CutsImage None order.entry.limit order.entry.prefix.now (D.At.content source)
-        (D.held disk.old) (D.held disk.new) (D.world disk.old) (D.world disk.new) (ShowsLast report.new)) }
-    ensures leaves { IsTrue D.tells → LeavesPieces result (IsPiecePath order.entry.prefix.now) (D.held disk.old)
+    ensures done { IsTrue D.tells → OnOk result (CutsImage None order.entry.limit (naming_of order.entry.names)
+        (D.At.content source) (D.held disk.old) (D.held disk.new) (D.world disk.old) (D.world disk.new)
+        (ShowsCut (naming_of order.entry.names) order.entry.limit (D.world disk.new) report.old report.new)) }
+    ensures leaves { IsTrue D.tells → LeavesPieces result (IsPiecePath order.entry.names.prefix.now) (D.held disk.old)
         (D.held disk.new) (D.world disk.old) (D.world disk.new) }
     ensures refused { IsTrue D.tells → IfErr result (λ refusal. StopsImage None order.entry.limit (D.At.content source)
-        refusal.fault (HasFailed (D.held disk.old) (D.held disk.new)) (D.world disk.new ≡ D.world disk.old)
-        (λ ps n m. CutsSoFar order.entry.prefix.now ps n m (D.held disk.old) (D.held disk.new) (D.world disk.old)
+        refusal.fault (HasFailed (D.held disk.old) (D.held disk.new)) (CannotPrint report.old
+        report.new) (D.world disk.new ≡ D.world disk.old)
+        (λ ps n m. CutsSoFar (naming_of order.entry.names) ps n m (D.held disk.old) (D.held disk.new) (D.world disk.old)
         (D.world disk.new))) }
 {
     let mut source = source;
@@ -138,7 +145,7 @@ fn cut_sparse<'a, D: Disk>(
             source,
             pieces,
             order.input,
-            order.prefix,
+            order.names,
             1,
             w,
             m,

@@ -3,7 +3,7 @@
 ghost use Rattle.std.specs.Prelude.{◌≡◌, ◌+◌, [], None, Some, IsTrue, IfOk, IfSome};
 ghost use Rattle.abt_pieces.specs.Turn.{HasAt};
 ghost use Rattle.abt_sparse.specs.Pieces.{pieces};
-ghost use Rattle.image_bodies.specs.Cutting.{CutsPiece, ReadyPiece};
+ghost use Rattle.image_bodies.specs.Cutting.{CutsPiece, ReadyPiece, NumbersOfPiece};
 ghost use Rattle.image_bodies.specs.Sparsing.{OnlyDevicesFail};
 
 use abt_disk::Lasting;
@@ -29,6 +29,8 @@ pub(crate) fn write_next<B: BlockRuns + Drop, S: Lasting, O: Output>(
     // it is the piece behind those that are made
     ensures laid { IsTrue S.tells → IfOk result (λ p. HasAt (pieces cutter.old.limit (B.size cutter.old.runs)
         (B.list cutter.old.runs (S.content source.old.device))) cutter.old.made (O.written output.new)) }
+    ensures told { IsTrue S.tells → IfOk result (NumbersOfPiece cutter.old.limit (B.size cutter.old.runs)
+        (B.list cutter.old.runs (S.content source.old.device)) cutter.old.made) }
     ensures cuts { CutsPiece result (λ p. p) B.BlockRuns S.Source cutter.old.runs cutter.new.runs source.old.device
         source.new.device cutter.old.limit cutter.new.limit cutter.old.made cutter.new.made cutter.old.start
         cutter.new.start cutter.new.stage }
@@ -77,6 +79,8 @@ pub(crate) trait LaysPieces: BlockRuns + Drop {
         // it is the piece behind those that are made
         ensures laid { IsTrue S.tells → IfOk result.1 (λ p. HasAt (pieces cutter.old.limit (Self.size cutter.old.runs)
             (Self.list cutter.old.runs (S.content source.old.device))) cutter.old.made (O.written result.0)) }
+        ensures told { IsTrue S.tells → IfOk result.1 (NumbersOfPiece cutter.old.limit (Self.size cutter.old.runs)
+            (Self.list cutter.old.runs (S.content source.old.device)) cutter.old.made) }
         ensures cuts { CutsPiece result.1 (λ p. p) Self.BlockRuns S.Source cutter.old.runs cutter.new.runs
             source.old.device source.new.device cutter.old.limit cutter.new.limit cutter.old.made cutter.new.made
             cutter.old.start cutter.new.start cutter.new.stage }

@@ -1,8 +1,9 @@
 //! One piece of an image, to a file of its own.
 
-ghost use Rattle.std.specs.Prelude.{◌≡◌, ◌<◌, ◌+◌, [], None, IsTrue, IfErr, OnOk, OnErr};
+ghost use Rattle.std.specs.Prelude.{◌≡◌, ◌<◌, ◌+◌, [], None, IsTrue, IfErr, IfOk, OnOk, OnErr};
 ghost use Rattle.abt_refusals.specs.Paths.{path_out};
-ghost use Rattle.image_bodies.specs.Cutting.{AddsNone, AddsPiece, CutsPiece, OnlyLeaves, PutsPiece, ReadyPiece, cut_into};
+ghost use Rattle.image_bodies.specs.Cutting.{AddsNone, AddsPiece, CutsPiece, OnlyLeaves, PutsPiece, ReadyPiece};
+ghost use Rattle.image_bodies.specs.Cutting.{NumbersOfPiece, cut_into};
 ghost use Rattle.image_bodies.specs.Sparsing.{IsOutsideSparse, GivesUp, ReadyOutput};
 
 use crate::late_writes::stopped;
@@ -40,6 +41,9 @@ pub(crate) fn put_piece<'a, D: Disk, B: BlockRuns + LaysPieces + Drop>(
     // whatever comes, no other file was changed, and none is open
     ensures left { IsTrue D.tells → OnlyLeaves (λ path. path ≡ path_out place.entry) (D.held disk.old)
         (D.held disk.new) (D.world disk.old) (D.world disk.new) }
+    ensures told { IsTrue D.tells → IfOk result (λ end. NumbersOfPiece pieces.old.cutter.limit
+        (B.size pieces.old.cutter.runs) (B.list pieces.old.cutter.runs (D.At.content source.old.device))
+        pieces.old.cutter.made end.0) }
     ensures cuts { CutsPiece result (λ end. end.0) B.BlockRuns D.At.Source pieces.old.cutter.runs
         pieces.new.cutter.runs source.old.device source.new.device pieces.old.cutter.limit pieces.new.cutter.limit
         pieces.old.cutter.made pieces.new.cutter.made pieces.old.cutter.start pieces.new.cutter.start
@@ -52,11 +56,7 @@ pub(crate) fn put_piece<'a, D: Disk, B: BlockRuns + LaysPieces + Drop>(
         < (D.held disk.new).failed + D.At.read_faults source.new.device) }
 {
     let image = disk.image(place, true)?;
-    repeat_first(
-        source.progress,
-        place.number.unwrap_or(1),
-        times(&image, passes),
-    );
+    repeat_first(source.progress, pieces.cutter.made, times(&image, passes));
     source.device.forget();
     match image {
         ImageTo::File(file) => put_in_file(disk, pieces, source, file, place, sides, w, m),
@@ -65,8 +65,8 @@ pub(crate) fn put_piece<'a, D: Disk, B: BlockRuns + LaysPieces + Drop>(
 }
 
 // Before the first piece it is told how often all is read. What is read once is as far as the place to which it was read.
-fn repeat_first(progress: &mut Progress, number: u32, times: u64) {
-    if number == 1 {
+fn repeat_first(progress: &mut Progress, made: u64, times: u64) {
+    if made == 0 {
         progress.repeat(times);
         if times == 1 {
             progress.follow();
@@ -100,6 +100,9 @@ fn put_in_file<'a, D: Disk, B: BlockRuns + LaysPieces + Drop>(
         (B.size pieces.old.cutter.runs) (B.list pieces.old.cutter.runs (D.At.content source.old.device)))
         pieces.old.cutter.made (D.At.read_faults source.old.device) (D.At.read_faults source.new.device)
         (D.held disk.old) (D.held disk.new) (D.world disk.old) (D.world disk.new) }
+    ensures told { IsTrue D.tells → IfOk result (λ end. NumbersOfPiece pieces.old.cutter.limit
+        (B.size pieces.old.cutter.runs) (B.list pieces.old.cutter.runs (D.At.content source.old.device))
+        pieces.old.cutter.made end.0) }
     ensures cuts { CutsPiece result (λ end. end.0) B.BlockRuns D.At.Source pieces.old.cutter.runs
         pieces.new.cutter.runs source.old.device source.new.device pieces.old.cutter.limit pieces.new.cutter.limit
         pieces.old.cutter.made pieces.new.cutter.made pieces.old.cutter.start pieces.new.cutter.start
@@ -134,6 +137,9 @@ fn put_in_stream<'a, D: Disk, B: BlockRuns + LaysPieces + Drop>(
         (B.size pieces.old.cutter.runs) (B.list pieces.old.cutter.runs (D.At.content source.old.device)))
         pieces.old.cutter.made (D.At.read_faults source.old.device) (D.At.read_faults source.new.device)
         (D.held disk.old) (D.held disk.new) (D.world disk.old) (D.world disk.new) }
+    ensures told { IsTrue D.tells → IfOk result (λ end. NumbersOfPiece pieces.old.cutter.limit
+        (B.size pieces.old.cutter.runs) (B.list pieces.old.cutter.runs (D.At.content source.old.device))
+        pieces.old.cutter.made end.0) }
     ensures cuts { CutsPiece result (λ end. end.0) B.BlockRuns D.At.Source pieces.old.cutter.runs
         pieces.new.cutter.runs source.old.device source.new.device pieces.old.cutter.limit pieces.new.cutter.limit
         pieces.old.cutter.made pieces.new.cutter.made pieces.old.cutter.start pieces.new.cutter.start

@@ -1,8 +1,8 @@
 //! The body of the command `sparse`.
 
-ghost use Rattle.std.specs.Prelude.{◌++◌, ◌∷◌, [], IsTrue, IfErr, OnOk};
+ghost use Rattle.std.specs.Prelude.{◌++◌, ◌∷◌, [], IsTrue, IfErr, OnOk, OnErr};
 ghost use Rattle.abt_disk.specs.World.{IsReading};
-ghost use Rattle.abt_report.specs.Shows.{Shows, unprinted};
+ghost use Rattle.abt_report.specs.Shows.{CannotPrint, ShowsBeside, Unprinted};
 ghost use Rattle.abt_refusals.specs.Paths.{path_of, path_out};
 ghost use Rattle.sparse_rules.specs.Lines.{line_text};
 ghost use Rattle.image_bodies.specs.Sparsing.{LeavesImage, RefusesRaw, SparsifiesFile};
@@ -31,7 +31,7 @@ pub fn sparse_file<'a, D: Disk>(
     requires first { IsTrue D.tells → IsReading (D.held disk.old) }
     // OUT is another file than IN, and holds the sparse image of what IN holds; what was printed tells of it
     ensures done { IsTrue D.tells → OnOk result (SparsifiesFile (path_of input.entry) (path_out output.entry) block
-        (D.world disk.old) (D.world disk.new) (Shows report.old report.new)) }
+        (D.world disk.old) (D.world disk.new) (ShowsBeside (D.on_output (path_out output.entry)) report.old report.new)) }
     // whatever the outcome, OUT alone may hold anything else, IN holds what it held, and a file has no part of an image;
     // where all is done OUT was synced, where that is wanted, and nothing has failed
     ensures left { IsTrue D.tells → LeavesImage result (path_of input.entry) (path_out output.entry) block
@@ -41,7 +41,7 @@ pub fn sparse_file<'a, D: Disk>(
     ensures refused { IsTrue D.tells → IfErr result (λ refusal. RefusesRaw (path_of input.entry) block
         (D.world disk.old) (D.world disk.new) (D.held disk.old) (D.held disk.new)
         (SparsifiesFile (path_of input.entry) (path_out output.entry) block (D.world disk.old) (D.world disk.new)
-        unprinted) refusal.fault) }
+        (Unprinted report.old report.new)) refusal.fault) }
 {
     let source = disk.source(input)?;
     let sides = Sides::none().reading(input, None);
@@ -78,8 +78,9 @@ fn printed<'a>(
     is_on_output: bool,
     report: &mut Report,
 ) -> Result<(), HostRefusal<'a>>
-    ensures { OnOk result (Shows report.old report.new (line_text (Line.Sparse written.blocks written.chunks written.bytes)
-        ++ (10 ∷ []))) }
+    ensures shown { OnOk result (ShowsBeside is_on_output report.old report.new (line_text (Line.Sparse written.blocks
+        written.chunks written.bytes) ++ (10 ∷ []))) }
+    ensures refused { OnErr result (CannotPrint report.old report.new) }
 {
     let line = Line::Sparse {
         blocks: written.blocks,

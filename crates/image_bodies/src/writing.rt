@@ -1,7 +1,8 @@
 //! The sparse image of a raw one in its file, which is at its end then.
 
-ghost use Rattle.std.specs.Prelude.{◌≡◌, [], IsTrue, OnErr};
+ghost use Rattle.std.specs.Prelude.{◌≡◌, [], IsTrue, IfOk, OnErr};
 ghost use Rattle.abt_disk.specs.Images.{OfImage, is_file};
+ghost use Rattle.abt_refusals.specs.Paths.{path_out};
 ghost use Rattle.image_bodies.specs.Sparsing.{LeavesNoneOrSparse, ReadyRawImage, ReadyToWrite, WritesSparseImage};
 
 use crate::late_writes::stopped;
@@ -36,6 +37,7 @@ pub(crate) fn write_whole<'a, D: Disk>(
         (λ onto. D.Onto.write_faults onto ≡ 0) image }
     ensures writes { IsTrue D.tells → WritesSparseImage result (λ refusal. refusal.fault) blocks.size (D.At.content source)
         (D.held disk.old) (D.held disk.new) (D.world disk.old) (D.world disk.new) }
+    ensures stream { IsTrue D.tells → IfOk result (λ end. end.1 ≡ D.on_output (path_out output.entry)) }
     ensures broken { IsTrue D.tells → IsTrue (is_file image) → OnErr result (LeavesNoneOrSparse blocks.size
         (D.At.content source) (D.held disk.old).output (D.world disk.new)) }
 {
@@ -66,6 +68,7 @@ fn write_over<'a, D: Disk>(
         (D.Image.Output.written image) (D.Image.Output.write_faults image) }
     ensures writes { IsTrue D.tells → WritesSparseImage result (λ refusal. refusal.fault) blocks.size (D.At.content source)
         (D.held disk.old) (D.held disk.new) (D.world disk.old) (D.world disk.new) }
+    ensures stream { IsTrue D.tells → IfOk result (λ end. end.1 ≡ D.on_output (path_out output.entry)) }
     ensures broken { IsTrue D.tells → OnErr result (LeavesNoneOrSparse blocks.size (D.At.content source)
         (D.held disk.old).output (D.world disk.new)) }
 {
@@ -102,6 +105,7 @@ fn write_through<'a, D: Disk>(
         (D.Onto.write_faults onto) }
     ensures writes { IsTrue D.tells → WritesSparseImage result (λ refusal. refusal.fault) blocks.size (D.At.content source)
         (D.held disk.old) (D.held disk.new) (D.world disk.old) (D.world disk.new) }
+    ensures stream { IsTrue D.tells → IfOk result (λ end. end.1 ≡ D.on_output (path_out output.entry)) }
 {
     let mut carried = Carried {
         device: source,

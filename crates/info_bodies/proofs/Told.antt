@@ -4,6 +4,7 @@ use Rattle.std.proofs.Common.{Ok, Err, refl, sym, ◌∙◌, ap, subst, arith}
 use Rattle.std.proofs.lemmas.Bool.{true≢false}
 use Rattle.abt_disk.specs.World.{World, Held, OpensFile, failing}
 use Rattle.abt_headers.proofs.Fields.{IsBytes}
+use Rattle.abt_report.specs.Shows.{CannotPrint}
 use Rattle.abt_report.specs.declared.report.Report.{Report}
 use Rattle.abt_refusals.specs.declared.refusal.HostFault.{HostFault}
 use Rattle.abt_sections.proofs.Canonical.{canonical_iff}
@@ -88,54 +89,66 @@ info_told x o with_check failed old new fault f same own =
     subst (λ g. IsInfoRefusal x o with_check failed old new g) (sym same) own
 
 -- of finding the reasons
-reasons_fail : (f : SectionFault) (v : Verdict) (r r' : ℕ) → ReasonCause f r r'
-    → IsCheckRefusal v (r < r') (faults.Section f)
-reasons_fail (sections.Read f) v r r' cause = cause
-reasons_fail (sections.Write f) v r r' cause = absurd (omega (arith, cause))
-reasons_fail sections.SourceChanged v r r' cause = tt
-reasons_fail (sections.Header f) v r r' cause = absurd cause
-reasons_fail (sections.Entry i) v r r' cause = absurd cause
-reasons_fail sections.Name v r r' cause = absurd cause
-reasons_fail sections.CommandLine v r r' cause = absurd cause
-reasons_fail (sections.SectionTruncated s) v r r' cause = absurd cause
-reasons_fail (sections.SectionTooLarge s) v r r' cause = absurd cause
+reasons_fail : (f : SectionFault) (v : Verdict) (r r' : ℕ) (unprinted : Type 0) → ReasonCause f r r'
+    → IsCheckRefusal v (r < r') unprinted (faults.Section f)
+reasons_fail (sections.Read f) v r r' unprinted cause = cause
+reasons_fail (sections.Write f) v r r' unprinted cause = absurd (omega (arith, cause))
+reasons_fail sections.SourceChanged v r r' unprinted cause = tt
+reasons_fail (sections.Header f) v r r' unprinted cause = absurd cause
+reasons_fail (sections.Entry i) v r r' unprinted cause = absurd cause
+reasons_fail sections.Name v r r' unprinted cause = absurd cause
+reasons_fail sections.CommandLine v r r' unprinted cause = absurd cause
+reasons_fail (sections.SectionTruncated s) v r r' unprinted cause = absurd cause
+reasons_fail (sections.SectionTooLarge s) v r r' unprinted cause = absurd cause
 
-pub reasons_told : (f : SectionFault) (v : Verdict) (r r' : ℕ) (fault : BootCommandFault) → fault ≡ faults.Section f
-    → ReasonCause f r r' → IsCheckRefusal v (r < r') fault
-reasons_told f v r r' fault same cause =
-    subst (λ g. IsCheckRefusal v (r < r') g) (sym same) (reasons_fail f v r r' cause)
+pub reasons_told : (f : SectionFault) (v : Verdict) (r r' : ℕ) (unprinted : Type 0) (fault : BootCommandFault)
+    → fault ≡ faults.Section f → ReasonCause f r r' → IsCheckRefusal v (r < r') unprinted fault
+reasons_told f v r r' unprinted fault same cause =
+    subst (λ g. IsCheckRefusal v (r < r') unprinted g) (sym same) (reasons_fail f v r r' unprinted cause)
 
-pub line_told : (v : Verdict) (failed : Type 0) (fault : BootCommandFault) (host : HostFault) → fault ≡ faults.Host host
-    → IsCheckRefusal v failed fault
-line_told v failed fault host same = subst (λ g. IsCheckRefusal v failed g) (sym same) tt
+pub line_told : (v : Verdict) (failed unprinted : Type 0) (fault : BootCommandFault) (host : HostFault)
+    → fault ≡ faults.Host host → unprinted → IsCheckRefusal v failed unprinted fault
+line_told v failed unprinted fault host same cannot =
+    subst (λ g. IsCheckRefusal v failed unprinted g) (sym same) cannot
 
-pub flaw_told : (v : Verdict) (failed : Type 0) (fault : BootCommandFault) → fault ≡ faults.CheckFailed
-    → is_good v ≡ false → IsCheckRefusal v failed fault
-flaw_told v failed fault same bad = subst (λ g. IsCheckRefusal v failed g) (sym same) bad
+pub flaw_told : (v : Verdict) (failed unprinted : Type 0) (fault : BootCommandFault) → fault ≡ faults.CheckFailed
+    → is_good v ≡ false → IsCheckRefusal v failed unprinted fault
+flaw_told v failed unprinted fault same bad = subst (λ g. IsCheckRefusal v failed unprinted g) (sym same) bad
+
+-- what could not be printed behind a text that was
+pub cannot_behind : (old between new : Report) → between.out.faults.number ≡ old.out.faults.number
+    → between.err.faults.number ≡ old.err.faults.number → between.unshown.number ≡ old.unshown.number
+    → CannotPrint between new → CannotPrint old new
+cannot_behind old between new out err unshown cannot = omega (arith, out, err, unshown, cannot)
 
 -- of the check, behind the text
 pub checked : (x : List ℕ) (o : Notation) (with_check : Bool) (v : Verdict) (r q r' : ℕ) (old new : Report)
-    (fault : BootCommandFault) → IsTrue with_check → q ≡ r → TellsText o x old new → (is_good v ≡ false
-    → IsFlawedImage x)
-    → IsCheckRefusal v (q < r') fault → IsInfoRefusal x o with_check (r < r') old new fault
-checked x o with_check v r q r' old new (faults.Host f) wanted same text flaw told = (wanted, text)
-checked x o with_check v r q r' old new (faults.Section (sections.Read f)) wanted same text flaw told =
+    (U : Type 0) (fault : BootCommandFault) → IsTrue with_check → q ≡ r → TellsText o x old new
+    → (is_good v ≡ false → IsFlawedImage x) → (U → CannotPrint old new)
+    → IsCheckRefusal v (q < r') U fault → IsInfoRefusal x o with_check (r < r') old new fault
+checked x o with_check v r q r' old new U (faults.Host f) wanted same text flaw up told =
+    (wanted, text, up told)
+checked x o with_check v r q r' old new U (faults.Section (sections.Read f)) wanted same text flaw up told =
     omega (arith, same, told)
-checked x o with_check v r q r' old new (faults.Section sections.SourceChanged) wanted same text flaw told = wanted
-checked x o with_check v r q r' old new (faults.Section (sections.Write f)) wanted same text flaw told = absurd told
-checked x o with_check v r q r' old new (faults.Section (sections.Header f)) wanted same text flaw told = absurd told
-checked x o with_check v r q r' old new (faults.Section (sections.Entry i)) wanted same text flaw told = absurd told
-checked x o with_check v r q r' old new (faults.Section sections.Name) wanted same text flaw told = absurd told
-checked x o with_check v r q r' old new (faults.Section sections.CommandLine) wanted same text flaw told = absurd told
-checked x o with_check v r q r' old new (faults.Section (sections.SectionTruncated s)) wanted same text flaw told =
+checked x o with_check v r q r' old new U (faults.Section sections.SourceChanged) wanted same text flaw up told = wanted
+checked x o with_check v r q r' old new U (faults.Section
+    (sections.Write f)) wanted same text flaw up told = absurd told
+checked x o with_check v r q r' old new U (faults.Section
+    (sections.Header f)) wanted same text flaw up told = absurd told
+checked x o with_check v r q r' old new U (faults.Section
+    (sections.Entry i)) wanted same text flaw up told = absurd told
+checked x o with_check v r q r' old new U (faults.Section sections.Name) wanted same text flaw up told = absurd told
+checked x o with_check v r q r' old new U (faults.Section sections.CommandLine) wanted same text flaw up told = absurd
+    told
+checked x o with_check v r q r' old new U (faults.Section (sections.SectionTruncated s)) wanted same text flaw up told =
     absurd told
-checked x o with_check v r q r' old new (faults.Section (sections.SectionTooLarge s)) wanted same text flaw told =
+checked x o with_check v r q r' old new U (faults.Section (sections.SectionTooLarge s)) wanted same text flaw up told =
     absurd told
-checked x o with_check v r q r' old new (faults.OptionNotCarried name) wanted same text flaw told = absurd told
-checked x o with_check v r q r' old new (faults.BadFragment word) wanted same text flaw told = absurd told
-checked x o with_check v r q r' old new (faults.BadNumber word) wanted same text flaw told = absurd told
-checked x o with_check v r q r' old new (faults.BadBoardId word) wanted same text flaw told = absurd told
-checked x o with_check v r q r' old new faults.CheckFailed wanted same text flaw told = (wanted, text, flaw told)
+checked x o with_check v r q r' old new U (faults.OptionNotCarried name) wanted same text flaw up told = absurd told
+checked x o with_check v r q r' old new U (faults.BadFragment word) wanted same text flaw up told = absurd told
+checked x o with_check v r q r' old new U (faults.BadNumber word) wanted same text flaw up told = absurd told
+checked x o with_check v r q r' old new U (faults.BadBoardId word) wanted same text flaw up told = absurd told
+checked x o with_check v r q r' old new U faults.CheckFailed wanted same text flaw up told = (wanted, text, flaw told)
 
 -- ---- of the file
 

@@ -2,6 +2,7 @@
 use Rattle.std.specs.Prelude.{◌≡◌, ◌<◌, ◌⊎◌, ℕ, List, Some, Bool, true, false, not, IsTrue, ◌&&◌}
 use Rattle.abt_disk.specs.World.{World}
 use Rattle.abt_refusals.specs.declared.refusal.HostFault.{HostFault}
+use Rattle.abt_report.specs.Shows.{CannotPrint}
 use Rattle.abt_report.specs.declared.report.Report.{Report}
 use Rattle.abt_sections.specs.declared.checking.Verdict.{Verdict}
 use Rattle.abt_sections.specs.declared.fault.SectionFault.{SectionFault}
@@ -75,9 +76,10 @@ IsInfoFault x with_check failed old new sections.CommandLine = ⊥
 IsInfoFault x with_check failed old new (sections.SectionTruncated s) = RefusedAs x (sections.SectionTruncated s)
 IsInfoFault x with_check failed old new (sections.SectionTooLarge s) = ⊥
 
--- of the image x: such a fault; or its text was printed, and a line behind it was not, or an answer is no
+-- of the image x: such a fault; or its text was printed, and a line behind it could not be, or an answer is no
 abbrev pub IsInfoRefusal : List ℕ → Notation → Bool → Type 0 → Report → Report → BootCommandFault → Type 0
-IsInfoRefusal x o with_check failed old new (faults.Host f) = IsTrue with_check × TellsText o x old new
+IsInfoRefusal x o with_check failed old new (faults.Host f) =
+    IsTrue with_check × TellsText o x old new × CannotPrint old new
 IsInfoRefusal x o with_check failed old new (faults.Section f) = IsInfoFault x with_check failed old new f
 IsInfoRefusal x o with_check failed old new (faults.OptionNotCarried name) = ⊥
 IsInfoRefusal x o with_check failed old new (faults.BadFragment word) = ⊥
@@ -87,16 +89,16 @@ IsInfoRefusal x o with_check failed old new faults.CheckFailed =
     IsTrue with_check × TellsText o x old new × IsFlawedImage x
 
 -- of the check alone, which had this verdict
-abbrev pub IsCheckRefusal : Verdict → Type 0 → BootCommandFault → Type 0
-IsCheckRefusal v failed (faults.Host f) = Unit {0}
-IsCheckRefusal v failed (faults.Section (sections.Read f)) = failed
-IsCheckRefusal v failed (faults.Section sections.SourceChanged) = Unit {0}
-IsCheckRefusal v failed (faults.Section f) = ⊥
-IsCheckRefusal v failed (faults.OptionNotCarried name) = ⊥
-IsCheckRefusal v failed (faults.BadFragment word) = ⊥
-IsCheckRefusal v failed (faults.BadNumber word) = ⊥
-IsCheckRefusal v failed (faults.BadBoardId word) = ⊥
-IsCheckRefusal v failed faults.CheckFailed = is_good v ≡ false
+abbrev pub IsCheckRefusal : Verdict → Type 0 → Type 0 → BootCommandFault → Type 0
+IsCheckRefusal v failed unprinted (faults.Host f) = unprinted
+IsCheckRefusal v failed unprinted (faults.Section (sections.Read f)) = failed
+IsCheckRefusal v failed unprinted (faults.Section sections.SourceChanged) = Unit {0}
+IsCheckRefusal v failed unprinted (faults.Section f) = ⊥
+IsCheckRefusal v failed unprinted (faults.OptionNotCarried name) = ⊥
+IsCheckRefusal v failed unprinted (faults.BadFragment word) = ⊥
+IsCheckRefusal v failed unprinted (faults.BadNumber word) = ⊥
+IsCheckRefusal v failed unprinted (faults.BadBoardId word) = ⊥
+IsCheckRefusal v failed unprinted faults.CheckFailed = is_good v ≡ false
 
 -- a fault of files, of which one failed
 abbrev pub IsFailedHost : Type 0 → BootCommandFault → Type 0

@@ -1,6 +1,7 @@
 //! What `info` prints of an image.
 
-ghost use Rattle.std.specs.Prelude.{◌≡◌, ◌<◌, ◌&&◌, IsTrue, IfErr, OnOk};
+ghost use Rattle.std.specs.Prelude.{◌≡◌, ◌<◌, ◌&&◌, IsTrue, IfErr, OnOk, OnErr};
+ghost use Rattle.abt_report.specs.Shows.{CannotPrint};
 ghost use Rattle.info_bodies.specs.Informing as spec;
 
 use crate::info::InfoOutcome;
@@ -54,7 +55,7 @@ fn tell_check<'t, 'a, S: Source>(
     ensures good { OnOk result (IsTrue (spec.is_good told.now.verdict)) }
     ensures clean { OnOk result (S.read_faults source.new ≡ S.read_faults source.old) }
     ensures refused { IfErr result (λ refusal. spec.IsCheckRefusal told.now.verdict
-        (S.read_faults source.old < S.read_faults source.new) refusal.fault) }
+        (S.read_faults source.old < S.read_faults source.new) (CannotPrint report.old report.new) refusal.fault) }
 {
     let findings = match find_reasons(&told.image, told.verdict, source, w, m) {
         Ok(findings) => findings,
@@ -81,7 +82,9 @@ fn notation_of(with_hex: bool) -> Notation
     }
 }
 
-fn tell_reasons<'t>(findings: &Findings, report: &mut Report) -> Result<(), HostRefusal<'t>> {
+fn tell_reasons<'t>(findings: &Findings, report: &mut Report) -> Result<(), HostRefusal<'t>>
+    ensures refused { OnErr result (CannotPrint report.old report.new) }
+{
     for line in findings.lines() {
         if let Some(line) = line {
             report.line(line)?;

@@ -1,6 +1,6 @@
 //! The calls of a disk in memory. Each counts whether it was refused, and what failed that is given back.
 
-ghost use Rattle.std.specs.Prelude.{true};
+ghost use Rattle.std.specs.Prelude.{false, true};
 ghost use Rattle.abt_disk.specs.Images.{is_over};
 ghost use Rattle.memory_disk.specs.Memory.{world_of, held_of};
 
@@ -32,6 +32,8 @@ impl Disk for MemoryDisk {
     ghost held = { held_of };
 
     ghost is_over = { is_over };
+
+    ghost on_output = { λ _. false };
 
     ghost told = { λ t. t };
 

@@ -16,6 +16,7 @@ pub struct MemoryFile {
     pub bytes: Vec<u8>,
     pub left: u64,
     pub history: History,
+    place: u64,
     pub ghost told: { AreBytes bytes.items },
 }
 
@@ -29,12 +30,14 @@ impl MemoryFile {
             bytes,
             left,
             history: History::new(),
+            place: 0,
         }
     }
 
     // Whether it is the next call that fails.
     fn is_over(&mut self) -> bool
-        ensures { (self.new.bytes ≡ self.old.bytes) × (self.new.history ≡ self.old.history) }
+        ensures { (self.new.bytes ≡ self.old.bytes) × (self.new.history ≡ self.old.history)
+            × (self.new.place ≡ self.old.place) }
     {
         if self.left == 0 {
             return false;
@@ -50,6 +53,8 @@ impl SystemFile for MemoryFile {
     ghost stands = { λ f. f.bytes.items };
 
     ghost past = { λ f. f.history.past };
+
+    ghost place = { λ f. f.place };
 
     ghost are_bytes = { λ f _. f.told };
 
@@ -79,6 +84,23 @@ impl SystemFile for MemoryFile {
         let n = bytes.len();
         self.history.wrote(self.bytes.as_slice(), at, n as u64);
         Ok(n)
+    }
+
+    fn read(&mut self, out: &mut [u8]) -> io::Result<usize> {
+        let n = read_part(self.bytes.as_slice(), self.place, out);
+        self.place += n as u64;
+        Ok(n)
+    }
+
+    fn write(&mut self, bytes: &[u8]) -> io::Result<usize> {
+        let n = SystemFile::write_at(self, self.place, bytes)?;
+        self.place += n as u64;
+        Ok(n)
+    }
+
+    fn go_to(&mut self, at: u64) -> io::Result<()> {
+        self.place = at;
+        Ok(())
     }
 
     fn set_len(&mut self, n: u64) -> io::Result<()> {

@@ -7,6 +7,8 @@ use Rattle.std.specs.Prelude.{Bool, Contains, IsTrue, Result, map, if◌then◌e
 use Rattle.abt_refusals.specs.Paths.{output_path}
 use Rattle.abt_disk.specs.World.{World, Held, Spares, OnlyAt, in_output, untouched}
 use Rattle.abt_refusals.specs.declared.refusal.HostFault.{HostFault}
+use Rattle.abt_report.specs.Shows.{ShowsBeside}
+use Rattle.abt_report.specs.declared.report.Report.{Report}
 use Rattle.abt_sections.specs.Cause.{total}
 use Rattle.abt_sections.specs.Fields.{BootFields, boot_fields}
 use Rattle.abt_sections.specs.declared.spec.FragmentSpec.{FragmentSpec}
@@ -93,6 +95,14 @@ fragments_counted w [] (spec ∷ specs) (ramdisk ∷ ramdisks) are = absurd are
 fragments_counted w (text ∷ texts) [] [] are = absurd are
 fragments_counted w (text ∷ texts) [] (ramdisk ∷ ramdisks) are = absurd are
 fragments_counted w (text ∷ texts) (spec ∷ specs) [] are = absurd are
+
+-- ---- what was printed beside OUT, by another name of its path
+
+pub lays_beside : (on_output : List ℕ → Bool) (path path' read bytes : List ℕ) (a b : World) (old new : Report)
+    → path ≡ path' → LaysImage path read bytes a b (ShowsBeside (on_output path) old new)
+    → LaysImage path read bytes a b (ShowsBeside (on_output path') old new)
+lays_beside on_output path path' read bytes a b old new same lays =
+    subst (λ p. LaysImage path read bytes a b (ShowsBeside (on_output p) old new)) same lays
 
 -- ---- what is asked for
 

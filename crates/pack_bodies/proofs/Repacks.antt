@@ -6,9 +6,7 @@ use Rattle.std.proofs.lemmas.List.Elements.{Contains-append_left, Contains-push}
 use Rattle.abt_refusals.specs.Paths.{output_path}
 use Rattle.abt_disk.specs.World.{World, Held, HasFailed, HasNotFailed, KeepsFile, OnlyAt, OpensFile, Spares, failing}
 use Rattle.abt_disk.specs.World.{untouched, in_output}
-use Rattle.std.proofs.Common.{append_assoc, append-nil, true, false}
-use Rattle.abt_report.specs.Shows.{GoesOut, Shows}
-use Rattle.abt_report.specs.declared.report.Report.{Report}
+use Rattle.std.proofs.Common.{append_assoc}
 use Rattle.abt_sections.specs.Header.{Header, image_header_at, view_of}
 use Rattle.abt_sections.specs.Open.{IsOpened}
 use Rattle.abt_sections.specs.declared.image.Image.{Image}
@@ -195,21 +193,6 @@ keeps_read input command w w' same = record {
 }
 
 -- ---- a note behind the line
-
-goes_more : (b : Bool) (out out' err err1 err2 line more : List ℕ) → GoesOut b out out' err err1 line
-    → err2 ≡ err1 ++ more → (note : List ℕ) × GoesOut b out out' err err2 (line ++ note)
-goes_more true out out' err err1 err2 line more goes grown =
-    (more, grown ∙ ap (λ e. e ++ more) goes ∙ append_assoc err line more)
-goes_more false out out' err err1 err2 line more goes grown =
-    ([], goes ∙ ap (λ l. out ++ l) (sym (append-nil line)))
-
-pub note_behind : (before now : Report) (line more err : List ℕ) → Shows before now line
-    → err ≡ now.err.log.state.bytes ++ more
-    → (note : List ℕ) × GoesOut now.is_data_on_output before.out.log.state.bytes now.out.log.state.bytes
-    before.err.log.state.bytes err (line ++ note)
-note_behind before now line more err shown grown =
-    goes_more now.is_data_on_output before.out.log.state.bytes now.out.log.state.bytes before.err.log.state.bytes
-    now.err.log.state.bytes err line more shown grown
 
 pub grown_thrice : (z a b c d m n o : List ℕ) → a ≡ z → b ≡ a ++ m → c ≡ b ++ n → d ≡ c ++ o → d ≡ z ++ (m ++ (n ++ o))
 grown_thrice z a b c d m n o start first next last = last ∙ ap (λ x. x ++ o) (next ∙ ap (λ x. x ++ n) (first

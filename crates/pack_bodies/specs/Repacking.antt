@@ -8,7 +8,7 @@ use Rattle.abt_sections.specs.Header.{Header, fragment_count, view_of}
 use Rattle.abt_sections.specs.Open.{HasImage, IsOpened}
 use Rattle.abt_sections.specs.declared.spec.FragmentSpec.{FragmentSpec}
 use Rattle.abt_disk.specs.World.{World, Spares, KeepsFile}
-use Rattle.abt_report.specs.Shows.{Shows}
+use Rattle.abt_report.specs.Shows.{IsNoted, ShowsBeside}
 use Rattle.abt_report.specs.declared.report.Report.{Report}
 use Rattle.abt_disk.specs.Among.{FileHolds}
 use Rattle.boot_fields.specs.Kind.{kind_of}
@@ -97,9 +97,15 @@ pub record RepacksFile (input : List ℕ) (command : PackCommand) (old new : Wor
     pub spares : Spares onto old new
     pub shown : shows (image_line (counted_in_u64 (length (new.holds onto))) ++ (10 ∷ []))
 
--- this went out, and maybe a note behind it
-abbrev pub ShowsFirst : Report → Report → List ℕ → Type 0
-ShowsFirst old new told = (note : List ℕ) × Shows old new (told ++ note)
+-- maybe a note went to standard error, and nothing to standard output
+abbrev pub HasNote : Report → Report → Type 0
+HasNote old new = IsNoted old new × ((note : List ℕ) × (new.err.log.state.bytes ≡ old.err.log.state.bytes ++ note))
+
+-- this went out beside an output, and maybe a note behind it
+pub record ShowsFirst (is_on_output : Bool) (old new : Report) (told : List ℕ) : Type 0 where
+  pub between : Report
+  pub line : ShowsBeside is_on_output old between told
+  pub behind : HasNote between new
 
 -- these bytes are such an image of what IN's file holds
 pub record IsRepackedOf (input : List ℕ) (command : PackCommand) (world : World) (bytes : List ℕ) : Type 0 where

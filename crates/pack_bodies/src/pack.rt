@@ -4,7 +4,7 @@ ghost use Rattle.std.specs.Prelude.{◌≡◌, ◌+◌, [], IsTrue, IfErr, IfOk,
 ghost use Rattle.std.specs.List.{All};
 ghost use Rattle.abt_refusals.specs.Paths.{output_path};
 ghost use Rattle.abt_disk.specs.World.{IsReading};
-ghost use Rattle.abt_report.specs.Shows.{Shows, unprinted};
+ghost use Rattle.abt_report.specs.Shows.{ShowsBeside, Unprinted};
 ghost use Rattle.abt_sections.specs.Fields.{boot_fields};
 ghost use Rattle.boot_fields.specs.Kind.{version_of};
 ghost use Rattle.boot_rules.specs.Carried.{IsTaken};
@@ -38,9 +38,9 @@ pub fn pack_file<'t, 'a, D: Disk>(
 ) -> BootOutcome<'t, 'a>
     requires first { IsTrue D.tells → IsReading (D.held disk.old) }
     // OUT is another file than those that are given, and holds the image that the words ask for, of what these hold;
-    // what was printed tells of it
+    // what was printed tells of it, on standard error where OUT is where standard output goes
     ensures done { IsTrue D.tells → OnOk result (PacksFile command.now (D.world disk.old) (D.world disk.new)
-        (Shows report.old report.new)) }
+        (ShowsBeside (D.on_output (output_path command.now.output.now)) report.old report.new)) }
     // whatever the outcome, OUT alone may hold anything else, the given files hold what they held, and OUT's file has
     // no part of an image; and where it is done no call failed
     ensures left { IsTrue D.tells → LeavesOut result (output_path command.now.output.now)
@@ -48,10 +48,10 @@ pub fn pack_file<'t, 'a, D: Disk>(
         (D.held disk.old) (D.held disk.new) (D.world disk.old) (D.world disk.new) }
     ensures inputs { IsTrue D.tells → KeepsGiven command.now (D.world disk.old) (D.world disk.new) }
     // each fault is so: of the words before anything is opened, of what is packed before OUT is; or a call has failed;
-    // or all is done and can't be told
+    // or all is done and the line was refused
     ensures refused { IsTrue D.tells → IfErr result (λ refusal. RefusesPack command.now (D.world disk.old)
         (D.world disk.new) (D.held disk.old) (D.held disk.new) (PacksFile command.now (D.world disk.old)
-        (D.world disk.new) unprinted) refusal.fault) }
+        (D.world disk.new) (Unprinted report.old report.new)) refusal.fault) }
 {
     let (kind, fields) = match judge_words(command) {
         Ok(judged) => judged,

@@ -2,7 +2,7 @@
 
 ghost use Rattle.std.specs.Prelude.{◌≡◌, ◌+◌, ◌++◌, [], IsTrue, IfErr, IfOk, OnOk, map};
 ghost use Rattle.abt_disk.specs.World.{HasFailed, IsReading};
-ghost use Rattle.abt_report.specs.Shows.{Shows, unprinted};
+ghost use Rattle.abt_report.specs.Shows.{ShowsBeside, Unprinted};
 ghost use Rattle.abt_refusals.specs.Paths.{output_path, path_of};
 ghost use Rattle.abt_sections.specs.Cause.{total};
 ghost use Rattle.abt_sections.specs.Fields.{boot_fields};
@@ -53,9 +53,9 @@ pub fn repack_file<'t, 'a, D: Disk>(
 ) -> BootOutcome<'t, 'a>
     requires first { IsTrue D.tells → IsReading (D.held disk.old) }
     // OUT is another file than IN and those that are given, and holds what IN's image is packed again to; what was
-    // printed tells of it
+    // printed tells of it, on standard error where OUT is where standard output goes
     ensures done { IsTrue D.tells → OnOk result (RepacksFile (path_of input.entry) command.now (D.world disk.old)
-        (D.world disk.new) (ShowsFirst report.old report.new)) }
+        (D.world disk.new) (ShowsFirst (D.on_output (output_path command.now.output.now)) report.old report.new)) }
     // whatever the outcome, OUT alone may hold anything else, IN and the given files hold what they held, and OUT's
     // file has no part of an image; and where it is done no call failed
     ensures left { IsTrue D.tells → LeavesOut result (output_path command.now.output.now)
@@ -64,10 +64,10 @@ pub fn repack_file<'t, 'a, D: Disk>(
     ensures inputs { IsTrue D.tells → KeepsRead (path_of input.entry) command.now (D.world disk.old)
         (D.world disk.new) }
     // each fault is so: of IN's bytes, of the words or of what is packed before OUT is opened; or a call has failed; or
-    // all is done and can't be told
+    // all is done and the line was refused
     ensures refused { IsTrue D.tells → IfErr result (λ refusal. RefusesRepack (path_of input.entry) command.now
         (D.world disk.old) (D.world disk.new) (D.held disk.old) (D.held disk.new) (RepacksFile (path_of input.entry)
-        command.now (D.world disk.old) (D.world disk.new) unprinted) refusal.fault) }
+        command.now (D.world disk.old) (D.world disk.new) (Unprinted report.old report.new)) refusal.fault) }
 {
     let mut own = match open_own(disk, input, w, m) {
         Ok(own) => own,
@@ -97,7 +97,7 @@ fn pack_again<'t, 'a, D: Disk>(
     requires opened { IsTrue D.At.tells → IsOpened (D.At.content own.old.source) own.old.image }
     ensures done { IsTrue D.tells → OnOk result (PacksAgain command.now (D.At.content own.old.source)
         (view_of own.old.image.header) (D.held disk.old).read (D.world disk.old) (D.world disk.new)
-        (Shows report.old report.new)) }
+        (ShowsBeside (D.on_output (output_path command.now.output.now)) report.old report.new)) }
     ensures clean { IsTrue D.tells → OnOk result (NoMoreFailed (D.held disk.old) (D.At.read_faults own.old.source)
         (D.held disk.new) (D.At.read_faults own.new.source)) }
     ensures left { IsTrue D.tells → LeavesOut result (output_path command.now.output.now)
@@ -110,7 +110,7 @@ fn pack_again<'t, 'a, D: Disk>(
         (view_of own.old.image.header) (D.world disk.old) (D.world disk.new) (SomeFailed (D.held disk.old)
         (D.At.read_faults own.old.source) (D.held disk.new) (D.At.read_faults own.new.source)) (PacksAgain command.now
         (D.At.content own.old.source) (view_of own.old.image.header) (D.held disk.old).read (D.world disk.old)
-        (D.world disk.new) unprinted) refusal.fault) }
+        (D.world disk.new) (Unprinted report.old report.new)) refusal.fault) }
 {
     let kind = ImageKind::of_header(&own.image.header);
     let kept = match judged(&own.image, &mut own.source, kind, command, w, m) {
@@ -149,7 +149,7 @@ fn write_again<'t, 'a, D: Disk>(
     requires cmdline { kept.now.cmdline.items ≡ text_of (cmdline_of (view_of own.now.image.header)) }
     ensures done { IsTrue D.tells → OnOk result (PacksAgain command.now (D.At.content own.now.source)
         (view_of own.now.image.header) (D.held disk.old).read (D.world disk.old) (D.world disk.new)
-        (Shows report.old report.new)) }
+        (ShowsBeside (D.on_output (output_path command.now.output.now)) report.old report.new)) }
     ensures left { IsTrue D.tells → LeavesOut result (output_path command.now.output.now)
         (D.is_over (output_path command.now.output.now)) (IsPackedAgain command.now (D.At.content own.now.source)
         (view_of own.now.image.header) (D.world disk.old))
@@ -159,7 +159,8 @@ fn write_again<'t, 'a, D: Disk>(
     ensures refused { IsTrue D.tells → IfErr result (λ refusal. RefusesAgain command.now (D.At.content own.now.source)
         (view_of own.now.image.header) (D.world disk.old) (D.world disk.new) (HasFailed (D.held disk.old)
         (D.held disk.new)) (PacksAgain command.now (D.At.content own.now.source) (view_of own.now.image.header)
-        (D.held disk.old).read (D.world disk.old) (D.world disk.new) unprinted) refusal.fault) }
+        (D.held disk.old).read (D.world disk.old) (D.world disk.new) (Unprinted report.old report.new))
+        refusal.fault) }
 {
     let own_fields = own_fields(&own.image.header, kept.cmdline.as_slice());
     let fields = match with_given(own_fields, kind, command.page, &command.texts) {

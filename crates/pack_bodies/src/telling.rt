@@ -1,9 +1,6 @@
 //! What is told of an image that was packed again, beside its line.
 
-ghost use Rattle.std.specs.Prelude.{ℕ, List};
-ghost use Rattle.abt_report.specs.Shows.{Shows};
-ghost use Rattle.abt_report.specs.declared.report.Report.{Report};
-ghost use Rattle.pack_bodies.specs.Repacking.{ShowsFirst};
+ghost use Rattle.pack_bodies.specs.Repacking.{HasNote};
 
 use abt_report::Report;
 use abt_text::Text;
@@ -12,7 +9,7 @@ use std::fmt;
 
 /// Tells on standard error what was left out, if anything was.
 pub(crate) fn tell_left_out(report: &mut Report, left: LeftOut)
-    ensures { (before : Report) (line : List ℕ) → Shows before report.old line → ShowsFirst before report.new line }
+    ensures { HasNote report.old report.new }
 {
     if left.is_nothing() {
         return;

@@ -24,6 +24,8 @@ use Rattle.pack_outputs.specs.Writing.{LeavesOut}
 use Rattle.pack_outputs.specs.Writing.{StopsWriting}
 use Rattle.pack_outputs.specs.Writing.{no_memory, refused}
 use Rattle.abt_disk.proofs.Worlds.{only_written}
+use Rattle.abt_report.specs.Shows.{ShowsBeside}
+use Rattle.abt_report.specs.declared.report.Report.{Report}
 use Rattle.pack_outputs.proofs.Closes.{clean_created, closed_created, synced_created}
 use Rattle.boot_rules.proofs.Calls.{on_ok}
 use Rattle.pack_outputs.proofs.Magics.{empty_none}
@@ -102,6 +104,10 @@ lays output bytes n h h' a b c shows made ends counts shown =
       spares = spares_then made.file a b c made.spares it.1;
       shown = subst (λ k. shows (image_line k ++ (10 ∷ []))) counts shown;
     }
+
+-- what was shown of it beside its output, which is there alike
+pub beside_as : (b b' : Bool) (a c : Report) (line : List ℕ) → b ≡ b' → ShowsBeside b a c line → ShowsBeside b' a c line
+beside_as b b' a c line same beside = subst (λ is. ShowsBeside is a c line) same beside
 
 -- ---- why it is refused
 

@@ -63,12 +63,13 @@ pub record LaysBytes (r : Result ℕ LayFault) (tells : Bool) (bytes y : List �
   pub broken : OnErr r (HoldsNone y)
 
 -- The output that is open is written to its end and closed: where the answer is Ok it holds these bytes, of which the
--- answer has the number; no other file has changed; and where it is refused a device or a file was at fault, and a file
--- that is written over holds no image, or all of them.
+-- answer has the number, and tells whether the output is where standard output goes; no other file has changed; and
+-- where it is refused a device or a file was at fault, and a file that is written over holds no image, or all of them.
 pub record WritesBytes {F : Type 0} (r : Result (ℕ × Bool) F) (fault : F → BootCommandFault) (is_over : Bool)
-    (bytes : List ℕ) (held held' : Held) (old new : World) : Type 0 where
+    (is_on_output : Bool) (bytes : List ℕ) (held held' : Held) (old new : World) : Type 0 where
   pub ended : OnOk r (Ends held.output bytes old new)
   pub number : IfOk r (λ end. end.0 ≡ counted_in_u64 (length bytes))
+  pub stream : IfOk r (λ end. end.1 ≡ is_on_output)
   pub closed : ClosesOutput (is_ok r) held held'
   pub rest : SparesRest held.output old new
   pub outside : IfErr r (λ refusal. IsOutsideBoot (fault refusal))

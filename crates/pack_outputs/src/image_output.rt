@@ -1,9 +1,9 @@
 //! The file that an image is written to, from before it is opened to its end.
 
-ghost use Rattle.std.specs.Prelude.{◌≡◌, ◌++◌, ◌∷◌, [], None, IsTrue, IfErr, OnOk, false, true};
+ghost use Rattle.std.specs.Prelude.{◌≡◌, ◌++◌, ◌∷◌, [], None, IsTrue, IfErr, OnOk, OnErr, false, true};
 ghost use Rattle.abt_disk.specs.DiskCalls.{LetsImageGo};
 ghost use Rattle.abt_disk.specs.Images.{OfImage, is_file};
-ghost use Rattle.abt_report.specs.Shows.{Shows, unprinted};
+ghost use Rattle.abt_report.specs.Shows.{CannotPrint, ShowsBeside, Unprinted};
 ghost use Rattle.abt_refusals.specs.Paths.{path_out};
 ghost use Rattle.boot_rules.specs.Refused.{IsJudged};
 ghost use Rattle.pack_outputs.specs.Contents.{faults_in, packed_image, packing_of, refusal_from, refusal_in};
@@ -39,22 +39,23 @@ pub fn write_image<'f, 't, 'a, D: Disk>(
     requires one { IsTrue D.tells → (D.held disk.old).output ≡ None }
     requires nothing { ⟦<PartSource<'t, D::At> as Source>⟧.size contents.nothing ≡ 0 }
     requires unread { IsTrue D.tells → faults_in ⟦<PartSource<'t, D::At> as Source>⟧.read_faults contents ≡ 0 }
-    // OUT is none of the files that are read, and holds the image; what was printed tells how many bytes it has
+    // OUT is none of the files that are read, and holds the image; what was printed tells how many bytes it has, on
+    // standard error where OUT is where standard output goes
     ensures done { IsTrue D.tells → OnOk result (LaysImage (path_out output.entry) (D.held disk.old).read
         (packed_image ⟦<PartSource<'t, D::At> as Source>⟧.content contents.entry) (D.world disk.old) (D.world disk.new)
-        (Shows report.old report.new)) }
+        (ShowsBeside (D.on_output (path_out output.entry)) report.old report.new)) }
     // whatever the outcome, OUT alone may hold anything else, and its file has no part of an image; where it is done no
     // call failed
     ensures left { IsTrue D.tells → LeavesOut result (path_out output.entry) (D.is_over (path_out output.entry))
         (λ x. x ≡ packed_image ⟦<PartSource<'t, D::At> as Source>⟧.content contents.entry) (D.held disk.old)
         (D.held disk.new) (D.world disk.old) (D.world disk.new) }
-    // it is refused for what packing refuses, for a fault that came, or where all is done and can't be told
+    // it is refused for what packing refuses, for a fault that came, or where all is done and the line was refused
     ensures refused { IsTrue D.tells → IfErr result (λ refusal. StopsWriting
         (refusal_from contents.entry.kind (packing_of ⟦<PartSource<'t, D::At> as Source>⟧.content contents.entry))
         (D.held disk.old) (D.held disk.new)
         (D.world disk.old) (D.world disk.new) (LaysImage (path_out output.entry) (D.held disk.old).read
         (packed_image ⟦<PartSource<'t, D::At> as Source>⟧.content contents.entry) (D.world disk.old) (D.world disk.new)
-        unprinted) refusal.fault) }
+        (Unprinted report.old report.new)) refusal.fault) }
 {
     match judged(alloc, &contents, w, m) {
         Ok(()) => {}
@@ -79,7 +80,8 @@ pub fn write_image<'f, 't, 'a, D: Disk>(
 // Its text takes more of the stack than all else here, and none of it while the image is written.
 #[inline(never)]
 fn printed<'a>(bytes: u64, is_on_output: bool, report: &mut Report) -> Result<(), HostRefusal<'a>>
-    ensures { OnOk result (Shows report.old report.new (image_line bytes ++ (10 ∷ []))) }
+    ensures shown { OnOk result (ShowsBeside is_on_output report.old report.new (image_line bytes ++ (10 ∷ []))) }
+    ensures refused { OnErr result (CannotPrint report.old report.new) }
 {
     report.line_beside(is_on_output, ImageLine(bytes))
 }
@@ -118,8 +120,8 @@ fn write_to<'f, 't, 'a, D: Disk>(
         ⟦<PartSource<'t, D::At> as Source>⟧.read_faults contents (D.Onto.written onto) (D.Onto.write_faults onto))
         image }
     ensures writes { IsTrue D.tells → WritesBytes result (λ refusal. refusal.fault) (is_file image)
-        (packed_image ⟦<PartSource<'t, D::At> as Source>⟧.content contents.entry) (D.held disk.old) (D.held disk.new)
-        (D.world disk.old) (D.world disk.new) }
+        (D.on_output (path_out output.entry)) (packed_image ⟦<PartSource<'t, D::At> as Source>⟧.content contents.entry)
+        (D.held disk.old) (D.held disk.new) (D.world disk.old) (D.world disk.new) }
 {
     match image {
         ImageTo::Stream(onto) => write_through(disk, onto, output, progress, contents, w, m),
@@ -140,8 +142,8 @@ fn write_through<'f, 't, 'a, D: Disk>(
     requires ready { IsReady D.tells ⟦<PartSource<'t, D::At> as Source>⟧.size
         ⟦<PartSource<'t, D::At> as Source>⟧.read_faults contents (D.Onto.written onto) (D.Onto.write_faults onto) }
     ensures writes { IsTrue D.tells → WritesBytes result (λ refusal. refusal.fault) false
-        (packed_image ⟦<PartSource<'t, D::At> as Source>⟧.content contents.entry) (D.held disk.old) (D.held disk.new)
-        (D.world disk.old) (D.world disk.new) }
+        (D.on_output (path_out output.entry)) (packed_image ⟦<PartSource<'t, D::At> as Source>⟧.content contents.entry)
+        (D.held disk.old) (D.held disk.new) (D.world disk.old) (D.world disk.new) }
 {
     let mut contents = contents;
     let mut carried = Carried {
@@ -175,8 +177,8 @@ fn write_over<'f, 't, 'a, D: Disk>(
         ⟦<PartSource<'t, D::At> as Source>⟧.read_faults contents (D.Image.Output.written file)
         (D.Image.Output.write_faults file) }
     ensures writes { IsTrue D.tells → WritesBytes result (λ refusal. refusal.fault) true
-        (packed_image ⟦<PartSource<'t, D::At> as Source>⟧.content contents.entry) (D.held disk.old) (D.held disk.new)
-        (D.world disk.old) (D.world disk.new) }
+        (D.on_output (path_out output.entry)) (packed_image ⟦<PartSource<'t, D::At> as Source>⟧.content contents.entry)
+        (D.held disk.old) (D.held disk.new) (D.world disk.old) (D.world disk.new) }
 {
     let mut contents = contents;
     let (file, answer) = lay_image(&mut contents, file, progress, w, m);

@@ -5,7 +5,8 @@ use Rattle.abt_sparse.specs.Chunk.{Header, Chunk, classed}
 use Rattle.abt_sparse.specs.Fails.{Spells}
 use Rattle.abt_sparse.specs.Pieces.{flashed, pieces}
 use Rattle.abt_disk.specs.World.{World, Held}
-use Rattle.image_bodies.specs.Cutting.{CutsFile, IsPiecePath, piece_path}
+use Rattle.sparse_rules.specs.PieceNames.{Naming}
+use Rattle.image_bodies.specs.Cutting.{CutsFile, IsPiecePath, path_in_turn, piece_path}
 use Rattle.abt_disk.specs.Among.{OnlyAmong}
 use Rattle.flash_bodies.specs.Files.{Between}
 use Rattle.flash_bodies.specs.Flashing.{IsFlashed}
@@ -50,15 +51,16 @@ ExpandedTogether = (limit : ℕ) (x output : List ℕ) (paths : List (List ℕ))
 
 -- ---- with `cut` before them
 
--- the paths of n pieces, of which the first has this number
-abbrev pub piece_paths : List ℕ → ℕ → ℕ → List (List ℕ)
-piece_paths prefix first zero = []
-piece_paths prefix first (suc n) = piece_path prefix first ∷ piece_paths prefix (first + 1) n
+-- the paths of n pieces, from this one on, counted from 1
+abbrev pub piece_paths : Naming → ℕ → ℕ → List (List ℕ)
+piece_paths names first zero = []
+piece_paths names first (suc n) = path_in_turn names first ∷ piece_paths names (first + 1) n
 
 -- `cut` of a sparse image was done, and only files under its names were changed
-pub record CutsInTurn (limit : ℕ) (input prefix : List ℕ) (held held' : Held) (old new : World) : Type 0 where
-  pub done : CutsFile None limit input prefix held held' old new (λ line. Unit {0})
-  pub only : OnlyAmong (IsPiecePath prefix) held.read held'.begun old new
+pub record CutsInTurn (limit : ℕ) (input : List ℕ) (names : Naming) (held held' : Held) (old new : World)
+    : Type 0 where
+  pub done : CutsFile None limit input names held held' old new (λ size blocks. Unit {0})
+  pub only : OnlyAmong (IsPiecePath names.prefix) held.read held'.begun old new
   pub low : limit < 2 ^ 32
 
 -- no file under these names is this one
@@ -68,14 +70,14 @@ IsNoPiece prefix world file = (n : ℕ) → ¬ (world.at (piece_path prefix n) �
 -- An image is cut, and each piece is flashed to a partition, which is no piece, by a command of its own: it holds then
 -- what flashing the image leaves of what it held before.
 abbrev pub CutThenFlashed : Type 0
-CutThenFlashed = (limit : ℕ) (input prefix partition : List ℕ) (held held' : Held) (a b c : World) (onto : ℕ)
-    (cut : CutsInTurn limit input prefix held held' a b) → a.at partition ≡ Some onto → IsNoPiece prefix b onto
-    → FlashesEach partition (piece_paths prefix 1 cut.done.count) b c
+CutThenFlashed = (limit : ℕ) (input partition : List ℕ) (names : Naming) (held held' : Held) (a b c : World) (onto : ℕ)
+    (cut : CutsInTurn limit input names held held' a b) → a.at partition ≡ Some onto → IsNoPiece names.prefix b onto
+    → FlashesEach partition (piece_paths names 1 cut.done.count) b c
     → c.holds onto ≡ flashed (a.holds onto) (a.holds cut.done.from)
 
 -- An image is cut, and its pieces are expanded together: OUT holds the expansion of the image.
 abbrev pub CutThenExpanded : Type 0
-CutThenExpanded = (limit : ℕ) (input prefix output : List ℕ) (held held' : Held) (a b c : World)
-    (cut : CutsInTurn limit input prefix held held' a b)
-    (out : OverlaysFiles (piece_paths prefix 1 cut.done.count) output b c (λ line. Unit {0}))
+CutThenExpanded = (limit : ℕ) (input output : List ℕ) (names : Naming) (held held' : Held) (a b c : World)
+    (cut : CutsInTurn limit input names held held' a b)
+    (out : OverlaysFiles (piece_paths names 1 cut.done.count) output b c (λ line. Unit {0}))
     → c.holds out.onto ≡ expansion cut.done.size cut.done.blocks

@@ -127,7 +127,7 @@ fn wrong_use(
 // Why these words are refused.
 fn fault_of(alloc: Global, tool: Option<Tool>, words: &[String]) -> Option<WordsFault> {
     match tool {
-        Some(tool) => orders_of(alloc, tool, words, &[]).err(),
+        Some(tool) => orders_of(alloc, tool, words, &[], &[]).err(),
         None => order_of(alloc, words).err(),
     }
 }

@@ -98,10 +98,11 @@ of_image (of_sparse.Read d) risen failed P Q up go rose is = up rose
 of_image (of_sparse.Write d) risen failed P Q up go rose is = up rose
 of_image f risen failed P Q up go rose is = go is
 
-own : (input path x old new : List ℕ) (h h1 k : Held) (a c : World) (f : SparseCommandFault) (r0 r w w' : ℕ)
+own : (untold : List ℕ → Type 0) (input path x old new : List ℕ) (h h1 k : Held) (a c : World) (f : SparseCommandFault)
+    (r0 r w w' : ℕ)
     → OpensFile a input x h h1 → r0 ≡ 0 → w ≡ 0 → k.failed ≡ h.failed + (r + w')
-    → ExpandingSays (Err f) x old new → Blames (Err f) r0 r w w' → RefusesFile f input path a c h k
-own input path x old new h h1 k a c (faults.Sparse f) r0 r w w' opened first none count says blames =
+    → ExpandingSays (Err f) x old new → Blames (Err f) r0 r w w' → RefusesFile f input path a c h k untold
+own untold input path x old new h h1 k a c (faults.Sparse f) r0 r w w' opened first none count says blames =
     of_image f (r0 + w < r + w') (HasFailed h k) (Refusal f old new x) (HasFault input a f)
     (λ rose. omega (arith, first, none, count, rose))
     (λ refusal. record {
@@ -110,39 +111,43 @@ own input path x old new h h1 k a c (faults.Sparse f) r0 r w w' opened first non
       given = refusal.given;
       fails = subst (λ z. Fails z f refusal.given) opened.held refusal.fails;
     }) blames says
-own input path x old new h h1 k a c (faults.Run f) r0 r w w' opened first none count says blames = absurd says
-own input path x old new h h1 k a c (faults.Piece f) r0 r w w' opened first none count says blames = absurd says
-own input path x old new h h1 k a c (faults.Flash f) r0 r w w' opened first none count says blames = absurd says
-own input path x old new h h1 k a c (faults.Verify f) r0 r w w' opened first none count says blames = absurd says
-own input path x old new h h1 k a c (faults.OtherBlocks f) r0 r w w' opened first none count says blames = absurd says
-own input path x old new h h1 k a c (faults.OtherCut f) r0 r w w' opened first none count says blames = absurd says
-own input path x old new h h1 k a c (faults.Host f) r0 r w w' opened first none count says blames = absurd says
+own untold input path x old new h h1 k a c (faults.Run f) r0 r w w' opened first none count says blames = absurd says
+own untold input path x old new h h1 k a c (faults.Piece f) r0 r w w' opened first none count says blames = absurd says
+own untold input path x old new h h1 k a c (faults.Flash f) r0 r w w' opened first none count says blames = absurd says
+own untold input path x old new h h1 k a c (faults.Verify f) r0 r w w' opened first none count says blames = absurd says
+own untold input path x old new h h1 k a c (faults.OtherBlocks f) r0 r w w' opened first none count says blames = absurd
+    says
+own untold input path x old new h h1 k a c (faults.OtherCut f) r0 r w w' opened first none count says blames = absurd
+    says
+own untold input path x old new h h1 k a c (faults.Host f) r0 r w w' opened first none count says blames = absurd says
 
 -- a fault of files, behind which something has failed
-pub of_failed : (input path : List ℕ) (a c : World) (h k : Held) (r : SparseCommandFault) → FromHost r → HasFailed h k
-    → RefusesFile r input path a c h k
-of_failed input path a c h k r made failed =
-    subst (λ f. RefusesFile f input path a c h k) (sym made.1) (inl failed)
+pub of_failed : (untold : List ℕ → Type 0) (input path : List ℕ) (a c : World) (h k : Held) (r : SparseCommandFault)
+    → FromHost r → HasFailed h k
+    → RefusesFile r input path a c h k untold
+of_failed untold input path a c h k r made failed =
+    subst (λ f. RefusesFile f input path a c h k untold) (sym made.1) (inl failed)
 
 -- or all was done, but the line could not be printed
-pub of_unprinted : (input path : List ℕ) (a c : World) (h k : Held) (r : SparseCommandFault) → FromHost r
-    → ExpandsFile input path a c (λ _. Unit {0}) → RefusesFile r input path a c h k
-of_unprinted input path a c h k r made done =
-    subst (λ f. RefusesFile f input path a c h k) (sym made.1) (inr done)
+pub of_unprinted : (untold : List ℕ → Type 0) (input path : List ℕ) (a c : World) (h k : Held)
+    (r : SparseCommandFault) → FromHost r
+    → ExpandsFile input path a c untold → RefusesFile r input path a c h k untold
+of_unprinted untold input path a c h k r made done =
+    subst (λ f. RefusesFile f input path a c h k untold) (sym made.1) (inr done)
 
 -- the call was refused, or the end of the output was
-pub refuses : (input path x old new : List ℕ) (h h1 k : Held) (a c : World)
+pub refuses : (untold : List ℕ → Type 0) (input path x old new : List ℕ) (h h1 k : Held) (a c : World)
     (answer : Result Expanded SparseCommandFault) (told : SparseCommandFault)
     (r0 r w w' : ℕ) → OpensFile a input x h h1 → r0 ≡ 0 → w ≡ 0
     → k.failed ≡ h.failed + (r + (unended (is_ok answer) false + w')) → ExpandingSays answer x old new
     → Blames answer r0 r w w' → (IsOk answer → FromHost told) → IfErr answer (λ f. told ≡ f)
-    → RefusesFile told input path a c h k
-refuses input path x old new h h1 k a c (Ok e) told r0 r w w' opened first none count says blames files is =
-    of_failed input path a c h k told (files refl) (omega (arith, count))
-refuses input path x old new h h1 k a c (Err f) told r0 r w w' opened first none count says blames files is =
+    → RefusesFile told input path a c h k untold
+refuses untold input path x old new h h1 k a c (Ok e) told r0 r w w' opened first none count says blames files is =
+    of_failed untold input path a c h k told (files refl) (omega (arith, count))
+refuses untold input path x old new h h1 k a c (Err f) told r0 r w w' opened first none count says blames files is =
     let so : k.failed ≡ h.failed + (r + w') = omega (arith, count) in
-    subst (λ q. RefusesFile q input path a c h k) (sym is)
-    (own input path x old new h h1 k a c f r0 r w w' opened first none so says blames)
+    subst (λ q. RefusesFile q input path a c h k untold) (sym is)
+    (own untold input path x old new h h1 k a c f r0 r w w' opened first none so says blames)
 
 -- it was done, and then nothing has failed
 pub clean_behind : (answer : Result Expanded SparseCommandFault) (e : Expanded) (h k : Held) (r0 r w w' : ℕ)

@@ -203,48 +203,51 @@ synced a a1 b inputs xs output n m k u past past' h h1 h2 h3 h4 all made alone c
 
 -- ---- why it is refused
 
-pub from_opening : (f : SparseCommandFault) (inputs : List (List ℕ)) (output : List ℕ) (a c : World) (h k : Held)
-    → IsNotAllOpened f inputs a h k → RefusesOverlay f inputs output a c h k
-from_opening (faults.Run (of_runs.Sparse f)) inputs output a c h k why = why
-from_opening (faults.Run (of_runs.Read d)) inputs output a c h k why = why
-from_opening (faults.Run of_runs.TooLarge) inputs output a c h k why = absurd why
-from_opening (faults.Run of_runs.SourceChanged) inputs output a c h k why = absurd why
-from_opening (faults.Run (of_runs.BadBlock n)) inputs output a c h k why = absurd why
-from_opening (faults.OtherBlocks n) inputs output a c h k why = why
-from_opening (faults.OtherCut n) inputs output a c h k why = why
-from_opening (faults.Host f) inputs output a c h k (inl failed) = inl failed
-from_opening (faults.Host f) inputs output a c h k (inr memory) = inr (inl memory)
-from_opening (faults.Sparse f) inputs output a c h k why = absurd why
-from_opening (faults.Piece f) inputs output a c h k why = absurd why
-from_opening (faults.Flash f) inputs output a c h k why = absurd why
-from_opening (faults.Verify f) inputs output a c h k why = absurd why
+pub from_opening : (untold : List ℕ → Type 0) (f : SparseCommandFault) (inputs : List (List ℕ)) (output : List ℕ)
+    (a c : World) (h k : Held)
+    → IsNotAllOpened f inputs a h k → RefusesOverlay f inputs output a c h k untold
+from_opening untold (faults.Run (of_runs.Sparse f)) inputs output a c h k why = why
+from_opening untold (faults.Run (of_runs.Read d)) inputs output a c h k why = why
+from_opening untold (faults.Run of_runs.TooLarge) inputs output a c h k why = absurd why
+from_opening untold (faults.Run of_runs.SourceChanged) inputs output a c h k why = absurd why
+from_opening untold (faults.Run (of_runs.BadBlock n)) inputs output a c h k why = absurd why
+from_opening untold (faults.OtherBlocks n) inputs output a c h k why = why
+from_opening untold (faults.OtherCut n) inputs output a c h k why = why
+from_opening untold (faults.Host f) inputs output a c h k (inl failed) = inl failed
+from_opening untold (faults.Host f) inputs output a c h k (inr memory) = inr (inl memory)
+from_opening untold (faults.Sparse f) inputs output a c h k why = absurd why
+from_opening untold (faults.Piece f) inputs output a c h k why = absurd why
+from_opening untold (faults.Flash f) inputs output a c h k why = absurd why
+from_opening untold (faults.Verify f) inputs output a c h k why = absurd why
 
-pub from_laying : (f : SparseCommandFault) (inputs : List (List ℕ)) (output : List ℕ) (a c : World) (h k : Held)
-    (n n' : ℕ) → (n < n' → HasFailed h k) → IsNotLaid f n n' → RefusesOverlay f inputs output a c h k
-from_laying (faults.Flash (flashes.Read d)) inputs output a c h k n n' up why = up why
-from_laying (faults.Flash (flashes.Write d)) inputs output a c h k n n' up why = up why
-from_laying (faults.Flash (flashes.Sync d)) inputs output a c h k n n' up why = up why
-from_laying (faults.Flash (flashes.Sparse f)) inputs output a c h k n n' up why = absurd why
-from_laying (faults.Flash (flashes.PartitionTooSmall m)) inputs output a c h k n n' up why = absurd why
-from_laying (faults.Flash flashes.TooLarge) inputs output a c h k n n' up why = absurd why
-from_laying (faults.Flash flashes.SourceChanged) inputs output a c h k n n' up why = absurd why
-from_laying (faults.Flash (flashes.BadBlock m)) inputs output a c h k n n' up why = absurd why
-from_laying (faults.Flash (flashes.LimitTooSmall m)) inputs output a c h k n n' up why = absurd why
-from_laying (faults.Flash (flashes.Stopped j m)) inputs output a c h k n n' up why = absurd why
-from_laying (faults.Flash (flashes.NoSuchPiece m)) inputs output a c h k n n' up why = absurd why
-from_laying (faults.Run f) inputs output a c h k n n' up why = absurd why
-from_laying (faults.Sparse f) inputs output a c h k n n' up why = absurd why
-from_laying (faults.Piece f) inputs output a c h k n n' up why = absurd why
-from_laying (faults.Verify f) inputs output a c h k n n' up why = absurd why
-from_laying (faults.OtherBlocks m) inputs output a c h k n n' up why = absurd why
-from_laying (faults.OtherCut m) inputs output a c h k n n' up why = absurd why
-from_laying (faults.Host f) inputs output a c h k n n' up why = absurd why
+pub from_laying : (untold : List ℕ → Type 0) (f : SparseCommandFault) (inputs : List (List ℕ)) (output : List ℕ)
+    (a c : World) (h k : Held)
+    (n n' : ℕ) → (n < n' → HasFailed h k) → IsNotLaid f n n' → RefusesOverlay f inputs output a c h k untold
+from_laying untold (faults.Flash (flashes.Read d)) inputs output a c h k n n' up why = up why
+from_laying untold (faults.Flash (flashes.Write d)) inputs output a c h k n n' up why = up why
+from_laying untold (faults.Flash (flashes.Sync d)) inputs output a c h k n n' up why = up why
+from_laying untold (faults.Flash (flashes.Sparse f)) inputs output a c h k n n' up why = absurd why
+from_laying untold (faults.Flash (flashes.PartitionTooSmall m)) inputs output a c h k n n' up why = absurd why
+from_laying untold (faults.Flash flashes.TooLarge) inputs output a c h k n n' up why = absurd why
+from_laying untold (faults.Flash flashes.SourceChanged) inputs output a c h k n n' up why = absurd why
+from_laying untold (faults.Flash (flashes.BadBlock m)) inputs output a c h k n n' up why = absurd why
+from_laying untold (faults.Flash (flashes.LimitTooSmall m)) inputs output a c h k n n' up why = absurd why
+from_laying untold (faults.Flash (flashes.Stopped j m)) inputs output a c h k n n' up why = absurd why
+from_laying untold (faults.Flash (flashes.NoSuchPiece m)) inputs output a c h k n n' up why = absurd why
+from_laying untold (faults.Run f) inputs output a c h k n n' up why = absurd why
+from_laying untold (faults.Sparse f) inputs output a c h k n n' up why = absurd why
+from_laying untold (faults.Piece f) inputs output a c h k n n' up why = absurd why
+from_laying untold (faults.Verify f) inputs output a c h k n n' up why = absurd why
+from_laying untold (faults.OtherBlocks m) inputs output a c h k n n' up why = absurd why
+from_laying untold (faults.OtherCut m) inputs output a c h k n n' up why = absurd why
+from_laying untold (faults.Host f) inputs output a c h k n n' up why = absurd why
 
 -- a fault of files, behind which something has failed, or all is done
-pub from_files : (f : SparseCommandFault) (inputs : List (List ℕ)) (output : List ℕ) (a c : World) (h k : Held)
-    → FromHost f → HasFailed h k ⊎ OverlaysFiles inputs output a c (λ _. Unit {0})
-    → RefusesOverlay f inputs output a c h k
-from_files f inputs output a c h k host (inl failed) =
-    subst (λ g. RefusesOverlay g inputs output a c h k) (sym host.1) (inl failed)
-from_files f inputs output a c h k host (inr done) =
-    subst (λ g. RefusesOverlay g inputs output a c h k) (sym host.1) (inr (inr done))
+pub from_files : (untold : List ℕ → Type 0) (f : SparseCommandFault) (inputs : List (List ℕ)) (output : List ℕ)
+    (a c : World) (h k : Held)
+    → FromHost f → HasFailed h k ⊎ OverlaysFiles inputs output a c untold
+    → RefusesOverlay f inputs output a c h k untold
+from_files untold f inputs output a c h k host (inl failed) =
+    subst (λ g. RefusesOverlay g inputs output a c h k untold) (sym host.1) (inl failed)
+from_files untold f inputs output a c h k host (inr done) =
+    subst (λ g. RefusesOverlay g inputs output a c h k untold) (sym host.1) (inr (inr done))

@@ -77,9 +77,11 @@ pub record LeavesExpanded {X F : Type 0} (r : Result X F) (from onto : List ℕ)
   pub clean : OnOk r (HasNotFailed held held')
 
 -- why it is refused: for a fault of what IN's file holds; because a device or the system failed; or all was done, and
--- only the line could not be printed
-abbrev pub RefusesFile : SparseCommandFault → List ℕ → List ℕ → World → World → Held → Held → Type 0
-RefusesFile (faults.Sparse f) input output old new held held' = OfDevice f (HasFailed held held') (HasFault input old f)
-RefusesFile (faults.Host f) input output old new held held' =
-    HasFailed held held' ⊎ ExpandsFile input output old new (λ _. Unit {0})
-RefusesFile f input output old new held held' = ⊥
+-- its line is untold
+abbrev pub RefusesFile : SparseCommandFault → List ℕ → List ℕ → World → World → Held → Held → (List ℕ → Type 0)
+    → Type 0
+RefusesFile (faults.Sparse f) input output old new held held' untold =
+    OfDevice f (HasFailed held held') (HasFault input old f)
+RefusesFile (faults.Host f) input output old new held held' untold =
+    HasFailed held held' ⊎ ExpandsFile input output old new untold
+RefusesFile f input output old new held held' untold = ⊥

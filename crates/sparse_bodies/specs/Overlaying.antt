@@ -169,15 +169,16 @@ pub record HasOtherCut (inputs : List (List ℕ)) (world : World) (image : ℕ) 
   pub turned : AreOutOfTurn world path other ⊎ AreOutOfTurn world other path
 
 -- why the command is refused: for what the INs' files hold; since a device or the system failed, or had no memory for
--- the list of INs; or all was done, and only the line could not be printed
-abbrev pub RefusesOverlay : SparseCommandFault → List (List ℕ) → List ℕ → World → World → Held → Held → Type 0
-RefusesOverlay (faults.Run (of_runs.Sparse f)) inputs output old new held held' = HasFirstFault inputs old f
-RefusesOverlay (faults.Run (of_runs.Read d)) inputs output old new held held' = HasFailed held held'
-RefusesOverlay (faults.OtherBlocks image) inputs output old new held held' = HasOtherBlocks inputs old image
-RefusesOverlay (faults.OtherCut image) inputs output old new held held' = HasOtherCut inputs old image
-RefusesOverlay (faults.Flash (flashes.Read d)) inputs output old new held held' = HasFailed held held'
-RefusesOverlay (faults.Flash (flashes.Write d)) inputs output old new held held' = HasFailed held held'
-RefusesOverlay (faults.Flash (flashes.Sync d)) inputs output old new held held' = HasFailed held held'
-RefusesOverlay (faults.Host f) inputs output old new held held' =
-    HasFailed held held' ⊎ ((f ≡ Memory) ⊎ OverlaysFiles inputs output old new (λ _. Unit {0}))
-RefusesOverlay f inputs output old new held held' = ⊥
+-- the list of INs; or all was done, and its line is untold
+abbrev pub RefusesOverlay : SparseCommandFault → List (List ℕ) → List ℕ → World → World → Held → Held
+    → (List ℕ → Type 0) → Type 0
+RefusesOverlay (faults.Run (of_runs.Sparse f)) inputs output old new held held' untold = HasFirstFault inputs old f
+RefusesOverlay (faults.Run (of_runs.Read d)) inputs output old new held held' untold = HasFailed held held'
+RefusesOverlay (faults.OtherBlocks image) inputs output old new held held' untold = HasOtherBlocks inputs old image
+RefusesOverlay (faults.OtherCut image) inputs output old new held held' untold = HasOtherCut inputs old image
+RefusesOverlay (faults.Flash (flashes.Read d)) inputs output old new held held' untold = HasFailed held held'
+RefusesOverlay (faults.Flash (flashes.Write d)) inputs output old new held held' untold = HasFailed held held'
+RefusesOverlay (faults.Flash (flashes.Sync d)) inputs output old new held held' untold = HasFailed held held'
+RefusesOverlay (faults.Host f) inputs output old new held held' untold =
+    HasFailed held held' ⊎ ((f ≡ Memory) ⊎ OverlaysFiles inputs output old new untold)
+RefusesOverlay f inputs output old new held held' untold = ⊥

@@ -1,9 +1,9 @@
 //! The command `expand` of one image.
 
-ghost use Rattle.std.specs.Prelude.{◌≡◌, ◌+◌, ◌++◌, [], ◌∷◌, IsTrue, IfErr, OnOk, if◌then◌else◌};
+ghost use Rattle.std.specs.Prelude.{◌≡◌, ◌+◌, ◌++◌, [], ◌∷◌, IsTrue, IfErr, OnOk, OnErr, if◌then◌else◌};
 ghost use Rattle.abt_refusals.specs.Paths.{path_in, path_out};
 ghost use Rattle.abt_disk.specs.World.{IsReading};
-ghost use Rattle.abt_report.specs.Shows.{Shows};
+ghost use Rattle.abt_report.specs.Shows.{CannotPrint, ShowsBeside, Unprinted};
 ghost use Rattle.sparse_rules.specs.Lines.{line_text};
 ghost use Rattle.sparse_bodies.specs.Expanding.{Blames, ExpandingSays, ExpandsFile, LeavesExpanded, RefusesFile};
 
@@ -27,7 +27,8 @@ pub fn expand_one<'a, D: Disk>(
     requires first { IsTrue D.tells → IsReading (D.held disk.old) }
     // OUT holds the expansion of the image that IN holds, which is another file; what was printed tells of it
     ensures done { IsTrue D.tells → OnOk result (ExpandsFile (path_in input.entry) (path_out output.entry)
-        (D.world disk.old) (D.world disk.new) (Shows report.old report.new)) }
+        (D.world disk.old) (D.world disk.new) (ShowsBeside (D.on_output (path_out output.entry)) report.old
+        report.new)) }
     // it was synced, where that is wanted
     ensures synced { IsTrue D.tells → OnOk result ((D.held disk.new).syncs
         ≡ (D.held disk.old).syncs + (if (D.held disk.old).is_synced then 1 else 0)) }
@@ -37,7 +38,8 @@ pub fn expand_one<'a, D: Disk>(
         (D.held disk.old) (D.held disk.new) (D.world disk.old) (D.world disk.new) }
     // it is refused for a fault that IN has, or where a device or the system failed
     ensures refused { IsTrue D.tells → IfErr result (λ refusal. RefusesFile refusal.fault (path_in input.entry)
-        (path_out output.entry) (D.world disk.old) (D.world disk.new) (D.held disk.old) (D.held disk.new)) }
+        (path_out output.entry) (D.world disk.old) (D.world disk.new) (D.held disk.old) (D.held disk.new)
+        (Unprinted report.old report.new)) }
 {
     let from = disk.input(input)?;
     report.progress.expect_if(from.known_length());
@@ -67,8 +69,9 @@ pub(crate) fn printed<'a>(
     is_on_output: bool,
     report: &mut Report,
 ) -> Result<(), HostRefusal<'a>>
-    ensures { OnOk result (Shows report.old report.new (line_text (Line.Expanded expanded.blocks expanded.bytes)
-        ++ (10 ∷ []))) }
+    ensures shown { OnOk result (ShowsBeside is_on_output report.old report.new (line_text (Line.Expanded
+        expanded.blocks expanded.bytes) ++ (10 ∷ []))) }
+    ensures refused { OnErr result (CannotPrint report.old report.new) }
 {
     let Expanded { blocks, bytes } = expanded;
     report.line_beside(is_on_output, Line::Expanded { blocks, bytes })

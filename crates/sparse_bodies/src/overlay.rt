@@ -2,7 +2,7 @@
 
 ghost use Rattle.std.specs.Prelude.{◌≡◌, ◌+◌, IsTrue, IfErr, OnOk, map};
 ghost use Rattle.abt_refusals.specs.Paths.{path_of};
-ghost use Rattle.abt_report.specs.Shows.{Shows};
+ghost use Rattle.abt_report.specs.Shows.{ShowsBeside, Unprinted};
 ghost use Rattle.sparse_rules.specs.ImagePath.{image_path};
 ghost use Rattle.sparse_bodies.specs.Overlaying.{LeavesOverlaid, MayOverlay, OverlaysFiles, RefusesOverlay, once_if_any};
 ghost use Rattle.sparse_bodies.specs.Steps.{whole_of_shape};
@@ -35,7 +35,8 @@ pub fn expand_several<'a, D: Disk>(
     requires ready { IsTrue D.tells → MayOverlay (D.held disk.old) }
     // OUT holds the images that the INs hold, one laid over the other; what was printed tells of it
     ensures done { IsTrue D.tells → OnOk result (OverlaysFiles (map (λ word. image_path word.now) inputs.now)
-        (path_of output.entry) (D.world disk.old) (D.world disk.new) (Shows report.old report.new)) }
+        (path_of output.entry) (D.world disk.old) (D.world disk.new) (ShowsBeside (D.on_output (path_of output.entry))
+        report.old report.new)) }
     // where there is an IN, OUT was synced behind its last byte
     ensures synced { IsTrue D.tells → OnOk result ((D.held disk.new).syncs
         ≡ (D.held disk.old).syncs + once_if_any (map (λ word. image_path word.now) inputs.now)) }
@@ -46,7 +47,7 @@ pub fn expand_several<'a, D: Disk>(
     // it is refused for what the INs hold, or where a device or the system failed
     ensures refused { IsTrue D.tells → IfErr result (λ refusal. RefusesOverlay refusal.fault
         (map (λ word. image_path word.now) inputs.now) (path_of output.entry) (D.world disk.old) (D.world disk.new)
-        (D.held disk.old) (D.held disk.new)) }
+        (D.held disk.old) (D.held disk.new) (Unprinted report.old report.new)) }
 {
     let all = match open_all(disk, &mut report.progress, inputs, alloc, w, m) {
         Ok(all) => all,

@@ -4,7 +4,7 @@ use Rattle.std.specs.Prelude.{IsTrue, Result, Ok, Err, IfErr, OnOk}
 use Rattle.std.specs.List.{AllByRecursion}
 use Rattle.abt_refusals.specs.Paths.{output_path}
 use Rattle.abt_disk.specs.World.{World, OnlyAt, KeepsFile}
-use Rattle.abt_report.specs.Shows.{Shows}
+use Rattle.abt_report.specs.Shows.{ShowsBeside, Unprinted}
 use Rattle.image_bodies.specs.Sparsing.{HoldsNoPartOfSparse}
 use Rattle.sparse_rules.specs.ImagePath.{image_path}
 use Rattle.sparse_rules.specs.declared.fault.SparseCommandFault.{SparseCommandFault}
@@ -31,18 +31,20 @@ both : {X E : Type 0} (r : Result X E) (P Q R : Type 0) → (P → Q → R) → 
 both (Ok x) P Q R join p q = join p q
 both (Err e) P Q R join p q = tt
 
-pub several_done : {X E : Type 0} (r : Result X E) (inputs : List (Bor (List ℕ))) (output place : List ℕ) (a z : State)
+pub several_done : {X E : Type 0} (on_output : List ℕ → Bool) (r : Result X E) (inputs : List (Bor (List ℕ)))
+    (output place : List ℕ) (a z : State)
     → length inputs ≢ 1 → place ≡ output
-    → OnOk r (OverlaysFiles (map (λ word. image_path word.now) inputs) place a.world z.world (Shows a.report z.report))
+    → OnOk r (OverlaysFiles (map (λ word. image_path word.now) inputs) place a.world z.world
+    (ShowsBeside (on_output place) a.report z.report))
     → OnOk r (SyncsOutputs (once_if_any (map (λ word. image_path word.now) inputs)) a z)
-    → OnOk r (ExpandsImages (map (λ word. word.now) inputs) output a z)
-several_done r inputs output place a z not at done synced =
+    → OnOk r (ExpandsImages on_output (map (λ word. word.now) inputs) output a z)
+several_done on_output r inputs output place a z not at done synced =
     both r _ _ _ (λ d s. several
-    (λ paths. OverlaysFiles paths output a.world z.world (Shows a.report z.report)
+    (λ paths. OverlaysFiles paths output a.world z.world (ShowsBeside (on_output output) a.report z.report)
     × SyncsOutputs (once_if_any paths) a z)
-    (λ words. ExpandsImages words output a z) inputs not (λ is. is) (λ x y rest is. is) (
+    (λ words. ExpandsImages on_output words output a z) inputs not (λ is. is) (λ x y rest is. is) (
       subst (λ p. OverlaysFiles (map (λ word. image_path word.now) inputs) p a.world z.world
-          (Shows a.report z.report)) at d,
+          (ShowsBeside (on_output p) a.report z.report)) at d,
       s,
     )) done synced
 
@@ -58,14 +60,14 @@ several_spared inputs output place a z not at only kept = several
 pub several_refused : {X : Type 0} {E : Type 0} (r : Result X E) (fault_of : E → SparseCommandFault)
     (inputs : List (Bor (List ℕ))) (output place : List ℕ) (a z : State) → length inputs ≢ 1 → place ≡ output
     → IfErr r (λ e. RefusesOverlay (fault_of e) (map (λ word. image_path word.now) inputs) place a.world z.world
-    a.held z.held)
+    a.held z.held (Unprinted a.report z.report))
     → IfErr r (λ e. RefusesExpand (fault_of e) (map (λ word. word.now) inputs) output a z)
 several_refused (Ok x) fault_of inputs output place a z not at why = tt
 several_refused (Err e) fault_of inputs output place a z not at why = several
-    (λ paths. RefusesOverlay (fault_of e) paths output a.world z.world a.held z.held)
+    (λ paths. RefusesOverlay (fault_of e) paths output a.world z.world a.held z.held (Unprinted a.report z.report))
     (λ words. RefusesExpand (fault_of e) words output a z) inputs not (λ is. is) (λ x y rest is. is)
     (subst (λ p. RefusesOverlay (fault_of e) (map (λ word. image_path word.now) inputs) p a.world z.world a.held
-    z.held) at why)
+    z.held (Unprinted a.report z.report)) at why)
 
 pub one_spared : (inputs : List (Bor (List ℕ))) (other : Bor (List ℕ)) (output from place : List ℕ) (a z : State)
     → length inputs ≡ 1 → from ≡ image_path (get_or inputs 0 other).now → place ≡ output_path output

@@ -7,15 +7,16 @@ use Rattle.abt_words.specs.declared.order.SparseTask.{SparseTask}
 use Rattle.abt_words.specs.declared.order.SparseTask.TheVariants as tasks
 use Rattle.abt_words.specs.declared.order.Pieces.{Pieces}
 use Rattle.abt_report.specs.declared.report.Report.{Report}
-use Rattle.abt_report.specs.Shows.{Shows, unprinted}
+use Rattle.abt_report.specs.Shows.{CannotPrint, ShowsBeside, ShowsHere, Unprinted}
 use Rattle.abt_disk.specs.World.{World, Held, OnlyAt, KeepsFile, HasNotFailed}
 use Rattle.abt_disk.specs.InPlace.{SparesOthers}
 use Rattle.sparse_rules.specs.ImagePath.{image_path}
+use Rattle.sparse_rules.specs.PieceNames.{Naming, naming}
 use Rattle.sparse_rules.specs.declared.fault.SparseCommandFault.{SparseCommandFault}
 use Rattle.sparse_bodies.specs.Expanding.{ExpandsFile, RefusesFile}
 use Rattle.sparse_bodies.specs.Overlaying.{OverlaysFiles, RefusesOverlay}
 use Rattle.image_bodies.specs.Sparsing.{HoldsNoPartOfSparse, RefusesRaw, SparsifiesFile}
-use Rattle.image_bodies.specs.Cutting.{CutsFile, IsPiecePath, RefusesCut, ShowsLast}
+use Rattle.image_bodies.specs.Cutting.{CutsFile, IsPiecePath, RefusesCut, ShowsCut}
 use Rattle.abt_disk.specs.Among.{OnlyAmong}
 use Rattle.flash_bodies.specs.Files.{OfFile}
 use Rattle.flash_bodies.specs.Flashing.{FlashesFile, RefusesFlash}
@@ -41,16 +42,19 @@ SyncsOutputs n a z = z.held.syncs ≡ a.held.syncs + n
 abbrev pub one_if_wanted : State → ℕ
 one_if_wanted a = if a.held.is_synced then 1 else 0
 
--- ---- what is done, from the moment a to the moment z
+-- ---- what is done, from the moment a to the moment z, of a disk where such paths lead to where standard output goes
 
 -- one image is expanded, or several that are laid over one another
-abbrev pub ExpandsImages : List (List ℕ) → List ℕ → State → State → Type 0
-ExpandsImages [] output a z = OverlaysFiles [] output a.world z.world (Shows a.report z.report) × SyncsOutputs 0 a z
-ExpandsImages (input ∷ []) output a z =
-    ExpandsFile (image_path input) (output_path output) a.world z.world (Shows a.report z.report)
+abbrev pub ExpandsImages : (List ℕ → Bool) → List (List ℕ) → List ℕ → State → State → Type 0
+ExpandsImages on_output [] output a z =
+    OverlaysFiles [] output a.world z.world (ShowsBeside (on_output output) a.report z.report) × SyncsOutputs 0 a z
+ExpandsImages on_output (input ∷ []) output a z =
+    ExpandsFile (image_path input) (output_path output) a.world z.world
+    (ShowsBeside (on_output (output_path output)) a.report z.report)
     × SyncsOutputs (one_if_wanted a) a z
-ExpandsImages inputs output a z =
-    OverlaysFiles (map image_path inputs) output a.world z.world (Shows a.report z.report) × SyncsOutputs 1 a z
+ExpandsImages on_output inputs output a z =
+    OverlaysFiles (map image_path inputs) output a.world z.world (ShowsBeside (on_output output) a.report z.report)
+    × SyncsOutputs 1 a z
 
 -- the header and the chunks of an image are printed
 abbrev pub ListsImage : List ℕ → State → State → Type 0
@@ -58,41 +62,46 @@ ListsImage input a z = OfFile (image_path input) a.world (λ x. IsListed x (λ t
     z.report.out.log.state.bytes ≡ a.report.out.log.state.bytes ++ text))
 
 -- a raw image is written as a sparse one, in blocks of so many bytes
-abbrev pub Sparsifies : List ℕ → List ℕ → ℕ → State → State → Type 0
-Sparsifies input output block a z =
-    SparsifiesFile input (output_path output) block a.world z.world (Shows a.report z.report)
+abbrev pub Sparsifies : (List ℕ → Bool) → List ℕ → List ℕ → ℕ → State → State → Type 0
+Sparsifies on_output input output block a z =
+    SparsifiesFile input (output_path output) block a.world z.world
+    (ShowsBeside (on_output (output_path output)) a.report z.report)
     × SyncsOutputs (one_if_wanted a) a z
 
 -- an image is cut into pieces of at most so many bytes
-abbrev pub Cuts : List ℕ → ℕ → List ℕ → Option ℕ → State → State → Type 0
-Cuts input limit prefix raw a z =
-    CutsFile raw limit input prefix a.held z.held a.world z.world (ShowsLast z.report)
+abbrev pub Cuts : List ℕ → ℕ → Naming → Option ℕ → State → State → Type 0
+Cuts input limit names raw a z =
+    CutsFile raw limit input names a.held z.held a.world z.world (ShowsCut names limit z.world a.report z.report)
 
 -- an image is flashed straight to a partition, or in pieces from one of them on
-abbrev pub FlashesImage : List ℕ → List ℕ → Option ℕ → Option Pieces → State → State → Type 0
-FlashesImage input partition None None a z = FlashesFile (image_path input) partition a.world z.world
-    a.held.syncs z.held.syncs (Shows a.report z.report)
-FlashesImage input partition (Some size) None a z = FlashesRawFile size (image_path input) partition a.world z.world
-    a.held.syncs z.held.syncs (Shows a.report z.report)
-FlashesImage input partition raw (Some p) a z =
+abbrev pub FlashesImage : (List ℕ → Bool) → List ℕ → List ℕ → Option ℕ → Option Pieces → State → State → Type 0
+FlashesImage on_output input partition None None a z = FlashesFile (image_path input) partition a.world z.world
+    a.held.syncs z.held.syncs (ShowsBeside (on_output partition) a.report z.report)
+FlashesImage on_output input partition (Some size) None a z =
+    FlashesRawFile size (image_path input) partition a.world z.world
+    a.held.syncs z.held.syncs (ShowsBeside (on_output partition) a.report z.report)
+FlashesImage on_output input partition raw (Some p) a z =
     FlashesPieces raw p.limit (max 1 p.from - 1) (image_path input) partition
-    p.spool.now a.world z.world a.held z.held (Shows a.report z.report)
+    p.spool.now a.world z.world a.held z.held (ShowsBeside (on_output partition) a.report z.report)
 
 -- an image stands on a partition
 abbrev pub VerifiesImage : List ℕ → List ℕ → Option ℕ → State → State → Type 0
 VerifiesImage input partition None a z =
-    VerifiesFile (image_path input) partition a.world (Shows a.report z.report)
+    VerifiesFile (image_path input) partition a.world (ShowsHere a.report z.report)
 VerifiesImage input partition (Some size) a z =
-    VerifiesRawFile size (image_path input) partition a.world (Shows a.report z.report)
+    VerifiesRawFile size (image_path input) partition a.world (ShowsHere a.report z.report)
 
 -- what a task asks for is done
-abbrev pub DoesTask : SparseTask → State → State → Type 0
-DoesTask (tasks.Expand inputs output) a z = ExpandsImages (map (λ word. word.now) inputs.items) output.now a z
-DoesTask (tasks.List input) a z = ListsImage input.now a z
-DoesTask (tasks.Sparse input output block) a z = Sparsifies input.now output.now block a z
-DoesTask (tasks.Cut input limit prefix raw) a z = Cuts input.now limit prefix.now raw a z
-DoesTask (tasks.Flash input partition raw pieces) a z = FlashesImage input.now partition.now raw pieces a z
-DoesTask (tasks.Verify input partition raw) a z = VerifiesImage input.now partition.now raw a z
+abbrev pub DoesTask : (List ℕ → Bool) → SparseTask → State → State → Type 0
+DoesTask on_output (tasks.Expand inputs output) a z =
+    ExpandsImages on_output (map (λ word. word.now) inputs.items) output.now a z
+DoesTask on_output (tasks.List input) a z = ListsImage input.now a z
+DoesTask on_output (tasks.Sparse input output block) a z = Sparsifies on_output input.now output.now block a z
+DoesTask on_output (tasks.Cut input limit prefix from_zero raw) a z =
+    Cuts input.now limit (naming prefix.now from_zero) raw a z
+DoesTask on_output (tasks.Flash input partition raw pieces) a z =
+    FlashesImage on_output input.now partition.now raw pieces a z
+DoesTask on_output (tasks.Verify input partition raw) a z = VerifiesImage input.now partition.now raw a z
 
 -- ---- what stays, whatever the outcome
 
@@ -134,7 +143,7 @@ SparesFiles (tasks.Expand inputs output) a z =
     SparesExpanded (map (λ word. word.now) inputs.items) output.now a z
 SparesFiles (tasks.List input) a z = SparesWorld a z
 SparesFiles (tasks.Sparse input output block) a z = SparesSparsified input.now output.now a z
-SparesFiles (tasks.Cut input limit prefix raw) a z = SparesCut input.now prefix.now a z
+SparesFiles (tasks.Cut input limit prefix from_zero raw) a z = SparesCut input.now prefix.now a z
 SparesFiles (tasks.Flash input partition raw pieces) a z = SparesFlashed input.now partition.now pieces a z
 SparesFiles (tasks.Verify input partition raw) a z = SparesWorld a z
 
@@ -149,8 +158,9 @@ LeavesNoPartOfSparse is_over task a z = Unit {0}
 abbrev pub RefusesExpand : SparseCommandFault → List (List ℕ) → List ℕ → State → State → Type 0
 RefusesExpand fault (input ∷ []) output a z =
     RefusesFile fault (image_path input) (output_path output) a.world z.world a.held z.held
+    (Unprinted a.report z.report)
 RefusesExpand fault inputs output a z =
-    RefusesOverlay fault (map image_path inputs) output a.world z.world a.held z.held
+    RefusesOverlay fault (map image_path inputs) output a.world z.world a.held z.held (Unprinted a.report z.report)
 
 -- or the report failed, which is no call of the disk
 abbrev pub RefusesListing : SparseCommandFault → List ℕ → State → State → Type 0
@@ -159,25 +169,26 @@ RefusesListing fault input a z = RefusesList fault (image_path input) a.world a.
 
 abbrev pub RefusesSparse : SparseCommandFault → List ℕ → List ℕ → ℕ → State → State → Type 0
 RefusesSparse fault input output block a z = RefusesRaw input block a.world z.world a.held z.held
-    (SparsifiesFile input (output_path output) block a.world z.world unprinted) fault
+    (SparsifiesFile input (output_path output) block a.world z.world (Unprinted a.report z.report)) fault
 
-abbrev pub RefusesCutting : SparseCommandFault → List ℕ → ℕ → List ℕ → Option ℕ → State → State → Type 0
-RefusesCutting fault input limit prefix raw a z =
-    RefusesCut raw limit input prefix fault a.held z.held a.world z.world
+abbrev pub RefusesCutting : SparseCommandFault → List ℕ → ℕ → Naming → Option ℕ → State → State → Type 0
+RefusesCutting fault input limit names raw a z =
+    RefusesCut raw limit input names fault a.held z.held a.world z.world (CannotPrint a.report z.report)
 
 abbrev pub RefusesFlashing : SparseCommandFault → List ℕ → List ℕ → Option ℕ → Option Pieces → State → State → Type 0
 RefusesFlashing fault input partition None None a z =
-    RefusesFlash fault (image_path input) partition a.world z.world a.held z.held
+    RefusesFlash fault (image_path input) partition a.world z.world a.held z.held (Unprinted a.report z.report)
 RefusesFlashing fault input partition (Some size) None a z =
     RefusesFlashRaw fault size (image_path input) partition a.world z.world a.held z.held
+    (Unprinted a.report z.report)
 RefusesFlashing fault input partition raw (Some p) a z = RefusesPieces fault raw p.limit (max 1 p.from - 1)
-    (image_path input) partition p.spool.now a.world z.world a.held z.held
+    (image_path input) partition p.spool.now a.world z.world a.held z.held (Unprinted a.report z.report)
 
 abbrev pub RefusesVerifying : SparseCommandFault → List ℕ → List ℕ → Option ℕ → State → State → Type 0
 RefusesVerifying fault input partition None a z =
-    RefusesVerify fault (image_path input) partition a.world a.held z.held
+    RefusesVerify fault (image_path input) partition a.world a.held z.held (Unprinted a.report z.report)
 RefusesVerifying fault input partition (Some size) a z =
-    RefusesVerifyRaw fault size (image_path input) partition a.world a.held z.held
+    RefusesVerifyRaw fault size (image_path input) partition a.world a.held z.held (Unprinted a.report z.report)
 
 -- this is why a task is not done, as its command says it
 abbrev pub RefusesTask : SparseCommandFault → SparseTask → State → State → Type 0
@@ -185,8 +196,8 @@ RefusesTask fault (tasks.Expand inputs output) a z =
     RefusesExpand fault (map (λ word. word.now) inputs.items) output.now a z
 RefusesTask fault (tasks.List input) a z = RefusesListing fault input.now a z
 RefusesTask fault (tasks.Sparse input output block) a z = RefusesSparse fault input.now output.now block a z
-RefusesTask fault (tasks.Cut input limit prefix raw) a z =
-    RefusesCutting fault input.now limit prefix.now raw a z
+RefusesTask fault (tasks.Cut input limit prefix from_zero raw) a z =
+    RefusesCutting fault input.now limit (naming prefix.now from_zero) raw a z
 RefusesTask fault (tasks.Flash input partition raw pieces) a z =
     RefusesFlashing fault input.now partition.now raw pieces a z
 RefusesTask fault (tasks.Verify input partition raw) a z =

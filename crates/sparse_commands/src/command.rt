@@ -12,7 +12,7 @@ use abt_disk::Disk;
 use abt_io::{Meter, Window};
 use abt_report::Report;
 use abt_words::SparseTask;
-use sparse_rules::SparseRefusal;
+use sparse_rules::{PieceNaming, SparseRefusal};
 use std::alloc::Global;
 
 /// Does what the words ask for.
@@ -28,7 +28,7 @@ pub fn sparse_command<'a, D: Disk>(
     requires one { IsTrue D.tells → (D.held disk.old).part ≡ None }
     requires through { IsTrue D.tells → (D.held disk.old).spool ≡ None }
     // the task is done, by its own command, at the files that its words name
-    ensures done { IsTrue D.tells → OnOk result (DoesTask task.entry (state (D.world disk.old) (D.held disk.old)
+    ensures done { IsTrue D.tells → OnOk result (DoesTask D.on_output task.entry (state (D.world disk.old) (D.held disk.old)
         report.old) (state (D.world disk.new) (D.held disk.new) report.new)) }
     // whatever the outcome, what it reads holds what it held, and none has changed but what it is to write; it is done
     // only where nothing failed
@@ -57,8 +57,15 @@ pub fn sparse_command<'a, D: Disk>(
             input,
             limit,
             prefix,
+            is_from_zero,
             raw,
-        } => cut_image(disk, report, input, limit, prefix, raw, w, m),
+        } => {
+            let names = PieceNaming {
+                prefix,
+                is_from_zero,
+            };
+            cut_image(disk, report, input, limit, names, raw, w, m)
+        }
         SparseTask::Flash {
             input,
             partition,

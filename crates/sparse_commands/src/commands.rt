@@ -7,6 +7,7 @@ ghost use Rattle.abt_disk.specs.DiskCalls.{HasNoPart};
 ghost use Rattle.flash_bodies.specs.Files.{MayFlashPieces};
 ghost use Rattle.image_bodies.specs.Sparsing.{HoldsNoPartOfSparse};
 ghost use Rattle.sparse_bodies.specs.Overlaying.{MayOverlay};
+ghost use Rattle.sparse_rules.specs.PieceNames.{naming_of};
 ghost use Rattle.sparse_commands.specs.Commands.{Cuts, ExpandsImages, FlashesImage, ListsImage, Sparsifies};
 ghost use Rattle.sparse_commands.specs.Commands.{VerifiesImage, state};
 ghost use Rattle.sparse_commands.specs.Commands.{RefusesCutting, RefusesExpand, RefusesFlashing, RefusesListing};
@@ -24,7 +25,7 @@ use flash_bodies::{
 };
 use image_bodies::{Cutting, cut_file, sparse_file};
 use sparse_bodies::{expand_one, expand_several};
-use sparse_rules::{SparseRefusal, image_place};
+use sparse_rules::{PieceNaming, SparseRefusal, image_place};
 use std::alloc::Global;
 
 /// Writes the raw image of a sparse one, or of several laid over one another, and prints what it has.
@@ -41,7 +42,7 @@ pub(crate) fn expand_files<'a, D: Disk>(
     m: &mut Meter,
 ) -> Result<(), SparseRefusal<'a>>
     requires ready { IsTrue D.tells → MayOverlay (D.held disk.old) }
-    ensures done { IsTrue D.tells → OnOk result (ExpandsImages (map (λ word. word.now) inputs.now) output.now
+    ensures done { IsTrue D.tells → OnOk result (ExpandsImages D.on_output (map (λ word. word.now) inputs.now) output.now
         (state (D.world disk.old) (D.held disk.old) report.old)
         (state (D.world disk.new) (D.held disk.new) report.new)) }
     ensures leaves { IsTrue D.tells → LeavesSpared result (SparesExpanded (map (λ word. word.now) inputs.now) output.now)
@@ -71,7 +72,7 @@ pub(crate) fn sparsify<'a, D: Disk>(
     m: &mut Meter,
 ) -> Result<(), SparseRefusal<'a>>
     requires first { IsTrue D.tells → IsReading (D.held disk.old) }
-    ensures done { IsTrue D.tells → OnOk result (Sparsifies input.now output.now block
+    ensures done { IsTrue D.tells → OnOk result (Sparsifies D.on_output input.now output.now block
         (state (D.world disk.old) (D.held disk.old) report.old)
         (state (D.world disk.new) (D.held disk.new) report.new)) }
     ensures leaves { IsTrue D.tells → LeavesSpared result (SparesSparsified input.now output.now)
@@ -102,27 +103,27 @@ pub(crate) fn cut_image<'a, D: Disk>(
     report: &mut Report,
     input: &'a str,
     limit: u32,
-    prefix: &'a str,
+    names: PieceNaming<'a>,
     raw: Option<u32>,
     w: &mut Window,
     m: &mut Meter,
 ) -> Result<(), SparseRefusal<'a>>
     requires first { IsTrue D.tells → IsReading (D.held disk.old) }
-    ensures done { IsTrue D.tells → OnOk result (Cuts input.now limit prefix.now raw
+    ensures done { IsTrue D.tells → OnOk result (Cuts input.now limit (naming_of names.entry) raw
         (state (D.world disk.old) (D.held disk.old) report.old)
         (state (D.world disk.new) (D.held disk.new) report.new)) }
-    ensures leaves { IsTrue D.tells → LeavesSpared result (SparesCut input.now prefix.now)
+    ensures leaves { IsTrue D.tells → LeavesSpared result (SparesCut input.now names.entry.prefix.now)
         (state (D.world disk.old) (D.held disk.old) report.old)
         (state (D.world disk.new) (D.held disk.new) report.new) }
     ensures refused { IsTrue D.tells → IfErr result (λ refusal. RefusesCutting refusal.fault input.now limit
-        prefix.now raw
+        (naming_of names.entry) raw
         (state (D.world disk.old) (D.held disk.old) report.old)
         (state (D.world disk.new) (D.held disk.new) report.new)) }
 {
     let order = Cutting {
         input: place("IN", input),
         limit,
-        prefix,
+        names,
         raw,
     };
     cut_file(disk, report, order, w, m)
@@ -163,7 +164,7 @@ pub(crate) fn flash_straight<'a, D: Disk>(
     m: &mut Meter,
 ) -> Result<(), SparseRefusal<'a>>
     requires ready { IsTrue D.tells → HasNoPart (D.held disk.old) }
-    ensures done { IsTrue D.tells → OnOk result (FlashesImage input.now partition.now raw None
+    ensures done { IsTrue D.tells → OnOk result (FlashesImage D.on_output input.now partition.now raw None
         (state (D.world disk.old) (D.held disk.old) report.old)
         (state (D.world disk.new) (D.held disk.new) report.new)) }
     ensures leaves { IsTrue D.tells → LeavesSpared result (SparesFlashed input.now partition.now None)
@@ -194,7 +195,7 @@ pub(crate) fn flash_pieces<'a, D: Disk>(
     m: &mut Meter,
 ) -> Result<(), SparseRefusal<'a>>
     requires ready { IsTrue D.tells → MayFlashPieces (D.held disk.old) }
-    ensures done { IsTrue D.tells → OnOk result (FlashesImage input.now partition.now raw (Some pieces.entry)
+    ensures done { IsTrue D.tells → OnOk result (FlashesImage D.on_output input.now partition.now raw (Some pieces.entry)
         (state (D.world disk.old) (D.held disk.old) report.old)
         (state (D.world disk.new) (D.held disk.new) report.new)) }
     ensures leaves { IsTrue D.tells → LeavesSpared result (SparesFlashed input.now partition.now (Some pieces.entry))

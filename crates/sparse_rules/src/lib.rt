@@ -21,4 +21,4 @@ pub use fault::{SparseCommandFault, SparseRefusal};
 pub use lines::{LeftOver, Line};
 pub use piece_names::is_piece_name;
 pub use pieces::{PiecesOf, raw_pieces};
-pub use places::{PieceFiles, image_place};
+pub use places::{PieceFiles, PieceNaming, image_place};

@@ -35,6 +35,8 @@ impl SystemFile for FaultyFile {
 
     ghost past = { λ _. no_past };
 
+    ghost place = { λ _. 0 };
+
     ghost are_bytes = { λ _ t. absurd (false≢true t) };
 
     fn length(&self) -> io::Result<u64> {
@@ -55,6 +57,18 @@ impl SystemFile for FaultyFile {
             return Err(io::Error::from_raw_os_error(WHY));
         }
         SystemFile::write_at(&mut self.file, at, bytes)
+    }
+
+    fn read(&mut self, out: &mut [u8]) -> io::Result<usize> {
+        SystemFile::read(&mut self.file, out)
+    }
+
+    fn write(&mut self, bytes: &[u8]) -> io::Result<usize> {
+        SystemFile::write(&mut self.file, bytes)
+    }
+
+    fn go_to(&mut self, at: u64) -> io::Result<()> {
+        self.file.go_to(at)
     }
 
     fn set_len(&mut self, n: u64) -> io::Result<()> {

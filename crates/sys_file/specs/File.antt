@@ -20,6 +20,19 @@ pub record ReadsAt {E : Type 0} (tells : Bool) (content : List ℕ) (r : Result 
   pub bytes : IsTrue tells → take (count_of r) out ≡ take (count_of r) (drop at content)
   pub ended : IsTrue tells → IfOk r (λ n. n ≡ 0 → 0 < length out → length content ≤ at)
 
+-- A read at a file's place gives what a read at a place does, and goes on behind that.
+pub record ReadsAtPlace {E : Type 0} (tells : Bool) (old new : List ℕ) (place place' : ℕ) (r : Result ℕ E)
+    (out : List ℕ) : Type 0 where
+  pub reads : ReadsAt tells old r place out
+  pub same : IsTrue tells → new ≡ old
+  pub moves : IsTrue tells → place' ≡ place + count_of r
+
+-- A file goes to a place, or stays at its own.
+pub record GoesTo {X E : Type 0} (old new : List ℕ) (place place' : ℕ) (r : Result X E) (at : ℕ) : Type 0 where
+  pub same : new ≡ old
+  pub there : OnOk r (place' ≡ at)
+  pub stays : OnErr r (place' ≡ place)
+
 -- Where a write failed any bytes may stand in its range, and the file may have grown as far.
 pub record MarredIn (old new : List ℕ) (at n : ℕ) : Type 0 where
   pub before : Begins (take at old) new

@@ -1,7 +1,8 @@
 //! One call of the system, which is made again where a signal came in between. Nowhere else is one tried again.
 
 ghost use Rattle.std.specs.Prelude.{◌≡◌, ◌<◌, ◌≤◌, ◌+◌, ◌^◌, IsTrue, IfOk, length};
-ghost use Rattle.sys_file.specs.File.{ReadsAt, WritesAt, WritesAll, WritesFrom};
+ghost use Rattle.abt_io.specs.Count.{count_of};
+ghost use Rattle.sys_file.specs.File.{ReadsAt, ReadsAtPlace, WritesAt, WritesAll, WritesFrom};
 ghost use Rattle.sys_file.specs.Past.{LaysWithin};
 
 use crate::SystemFile;
@@ -32,9 +33,49 @@ pub fn write_at<F: SystemFile>(file: &mut F, at: u64, bytes: &[u8]) -> io::Resul
     ensures progress { IfOk result (λ n. 0 < length bytes.now → 0 < n) }
     ensures lays { IsTrue F.tells → at + length bytes.now ≤ length (F.stands file.old) → LaysWithin (F.stands file.old)
         (F.stands file.new) (F.past file.old) (F.past file.new) result at (length bytes.now) }
+    ensures stays { IsTrue F.tells → F.place file.new ≡ F.place file.old }
 {
     for _ in 0..u64::MAX {
         match file.write_at(at, bytes) {
+            Ok(n) if n > 0 || bytes.is_empty() => return Ok(n),
+            Ok(_) => return Err(io::Error::from(ErrorKind::WriteZero)),
+            Err(error) => {
+                if error.kind() != ErrorKind::Interrupted {
+                    return Err(error);
+                }
+            }
+        }
+    }
+    Err(io::Error::from(ErrorKind::Interrupted))
+}
+
+/// One read at the file's place.
+pub fn read<F: SystemFile>(file: &mut F, out: &mut [u8]) -> io::Result<usize>
+    ensures { ReadsAtPlace F.tells (F.stands file.old) (F.stands file.new) (F.place file.old) (F.place file.new) result
+        out.new }
+{
+    for _ in 0..u64::MAX {
+        match file.read(out) {
+            Ok(n) => return Ok(n),
+            Err(error) => {
+                if error.kind() != ErrorKind::Interrupted {
+                    return Err(error);
+                }
+            }
+        }
+    }
+    Err(io::Error::from(ErrorKind::Interrupted))
+}
+
+/// One write at the file's place. It takes some of what there is.
+pub fn write<F: SystemFile>(file: &mut F, bytes: &[u8]) -> io::Result<usize>
+    requires { IsTrue F.tells → F.place file.old ≤ length (F.stands file.old) }
+    ensures writes { WritesAt F.tells (F.stands file.old) (F.stands file.new) result (F.place file.old) bytes.now }
+    ensures progress { IfOk result (λ n. 0 < length bytes.now → 0 < n) }
+    ensures moves { IsTrue F.tells → F.place file.new ≡ F.place file.old + count_of result }
+{
+    for _ in 0..u64::MAX {
+        match file.write(bytes) {
             Ok(n) if n > 0 || bytes.is_empty() => return Ok(n),
             Ok(_) => return Err(io::Error::from(ErrorKind::WriteZero)),
             Err(error) => {

@@ -1,7 +1,8 @@
-//! Outputs over any regular file that was just created or emptied.
+//! Outputs over any open file.
 //!
 //! | file | has |
 //! |---|---|
+//! | `stream_file.rt` | an output that is written from its front on, as a pipe is |
 //! | `hole_file.rt` | an output in which zeros may be a hole |
 //! | `held_file.rt`, `room.rt` | an output that takes small writes together, and has headers laid late; its memory |
 #![tactic(auto)]
@@ -9,7 +10,9 @@
 mod held_file;
 mod hole_file;
 mod room;
+mod stream_file;
 
 pub use held_file::HeldFile;
 pub use hole_file::HoleFile;
 pub use room::Room;
+pub use stream_file::StreamFile;

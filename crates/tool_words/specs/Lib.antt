@@ -1,3 +1,5 @@
+pub mod Fragments
 pub mod Mkbootimg
 pub mod Shortened
 pub mod Tools
+pub mod UnpackBootimg

@@ -1,7 +1,7 @@
 -- What the answers to mkbootimg's rows ask for: a vendor boot image, a boot image, or both.
 use Rattle.std.specs.Prelude.{◌≡◌, ◌+◌, ◌*◌, ◌&&◌, ◌==◌, ◌++◌, ℕ, List, [], ◌∷◌, Bool, true, false}
-use Rattle.std.specs.Prelude.{not, Option, Some, None, codes, map}
-use Rattle.std.specs.Prelude.{bytes_eq, if◌then◌else◌, nat_le, option_map, unwrap_or, Contains}
+use Rattle.std.specs.Prelude.{not, Option, Some, None, codes, length, map}
+use Rattle.std.specs.Prelude.{bytes_eq, if◌then◌else◌, nat_le, nat_lt, option_map, unwrap_or, Contains}
 use Rattle.std.specs.List.{AllZip}
 use Rattle.abt_values.specs.declared.rows.Row.{Row}
 use Rattle.abt_words.specs.declared.answers.Answer.{Answer}
@@ -12,8 +12,10 @@ use Rattle.abt_words.specs.declared.order.Given.{Given}
 use Rattle.abt_words.specs.declared.order.PackOrder.{PackOrder}
 use Rattle.abt_words.specs.declared.order.Task.{Task}
 use Rattle.abt_words.specs.declared.order.Task.TheVariants as tasks
-use Rattle.abt_words.specs.Asked.{answer_named, answer_number, number_named}
+use Rattle.abt_words.specs.Asked.{answer_named, answer_number, flag_named, number_named}
 use Rattle.abt_words.specs.Table.{option_rows, shape_of}
+use Rattle.tool_words.specs.Fragments.{BoardSaid, FragmentSaid, IsBoardText, IsFragmentText, boards_said}
+use Rattle.tool_words.specs.Fragments.{fragments_said, no_group, of_platform}
 
 -- ---- which of mkbootimg's options fill those of `pack`
 
@@ -98,30 +100,37 @@ abbrev pub page_asked : List Answer → Bool → ℕ → Option ℕ
 page_asked all is_vendor version =
     if not is_vendor && nat_le 3 version then Some 4096 else number_named (codes "pagesize") all
 
--- of a vendor boot image of version 4 its ramdisk, as a fragment of the platform without a name
-abbrev pub of_platform : Option Answer → List (List ℕ)
-of_platform None = []
-of_platform (Some a) = (codes "platform::" ++ a.word.now) ∷ []
+-- of a vendor boot image of version 4 its ramdisk, as a fragment of the platform without a name, and then those that
+-- are said
+abbrev pub platform_asked : List Answer → List FragmentSaid
+platform_asked all = of_platform (answer_named (codes "vendor_ramdisk") all)
 
-abbrev pub fragments_asked : List Answer → Bool → ℕ → List (List ℕ)
-fragments_asked all is_vendor version =
-    if is_vendor && version == 4 then of_platform (answer_named (codes "vendor_ramdisk") all) else []
+abbrev pub fragments_asked : List Answer → List Answer → Bool → ℕ → List FragmentSaid
+fragments_asked all said is_vendor version =
+    if is_vendor && version == 4 then platform_asked all ++ fragments_said no_group said else []
+
+-- and their board ids
+abbrev pub boards_asked : List Answer → List Answer → Bool → ℕ → List BoardSaid
+boards_asked all said is_vendor version =
+    if is_vendor && version == 4 then boards_said (length (platform_asked all)) said else []
 
 -- `pack` of this image, with what the answers fill it by, and nothing else
-pub record IsPackOf (all : List Answer) (image : Image) (order : PackOrder) : Type 0 where
+pub record IsPackOf (all said : List Answer) (image : Image) (order : PackOrder) : Type 0 where
   pub output : order.output.now ≡ image.output.now
   pub vendor : order.is_vendor ≡ image.is_vendor
   pub version : order.version ≡ image.version
   pub page : order.page ≡ page_asked all image.is_vendor image.version
   pub given : AllZip (IsOptionOf all image) fillers order.given.items
-  pub board_ids : order.board_ids.items ≡ []
-  pub fragments : map (λ s. s.now) order.fragments.items ≡ fragments_asked all image.is_vendor image.version
+  pub board_ids : AllZip (λ b text. IsBoardText b text.now) (boards_asked all said image.is_vendor image.version)
+      order.board_ids.items
+  pub fragments : AllZip (λ f text. IsFragmentText f text.now) (fragments_asked all said image.is_vendor image.version)
+      order.fragments.items
   pub trailing : order.keeps_trailing ≡ false
   pub escaped : order.is_escaped ≡ false
 
-abbrev pub PacksImage : List Answer → Image → Task → Type 0
-PacksImage all image (tasks.Boot (boot.Pack order)) = IsPackOf all image order
-PacksImage all image task = ⊥
+abbrev pub PacksImage : List Answer → List Answer → Image → Task → Type 0
+PacksImage all said image (tasks.Boot (boot.Pack order)) = IsPackOf all said image order
+PacksImage all said image task = ⊥
 
 -- the word of `--output`, or of `-o`
 abbrev pub word_first : Option Answer → Option Answer → Option (List ℕ)
@@ -133,6 +142,10 @@ output_word all = word_first (answer_named (codes "output") all) (answer_named (
 
 abbrev pub version_asked : List Answer → ℕ
 version_asked all = unwrap_or (number_named (codes "header_version") all) 0
+
+-- the boot image whose id is asked for, where it has one
+abbrev pub id_asked : List Answer → Option (List ℕ)
+id_asked all = if flag_named (codes "id") all && nat_lt (version_asked all) 3 then output_word all else None
 
 -- an image is asked for where its output is named
 abbrev pub IsImageAsked : List Answer → Bool → Option (List ℕ) → Option Image → Type 0

@@ -1,5 +1,5 @@
 -- Answers that stand among the words of a tool, where the name of an option may be written short.
-use Rattle.std.specs.Prelude.{◌≡◌, ◌⊎◌, ℕ, List, [], ◌∷◌, ◌++◌, codes}
+use Rattle.std.specs.Prelude.{◌≡◌, ◌⊎◌, ℕ, List, [], ◌∷◌, ◌++◌, Contains, codes}
 use Rattle.std.specs.List.{All}
 use Rattle.abt_values.specs.declared.rows.Place.{Place}
 use Rattle.abt_values.specs.declared.rows.Place.TheVariants as places
@@ -23,8 +23,10 @@ pub record SaysShort (table : List Shape) (name value : List ℕ) (words : List 
   pub is_short : IsShortOf table short name
   pub says : SaysValue (codes "--") short value words
 
+-- an option is said by a beginning of its name, or a letter in one word with its value
 abbrev pub IsSaidShort : List Shape → List (List ℕ) → Place → List ℕ → List ℕ → Type 0
 IsSaidShort table words places.Option name word = SaysShort table name word words
+IsSaidShort table words places.Letter name word = Contains words (codes "-" ++ (name ++ word))
 IsSaidShort table words place name word = ⊥
 
 -- the same as Stands, where an option may be written short

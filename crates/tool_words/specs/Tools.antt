@@ -1,6 +1,6 @@
 -- The words of AOSP's tools, and the orders that they ask for.
-use Rattle.std.specs.Prelude.{◌≡◌, ◌⊎◌, ℕ, List, [], ◌∷◌, ◌++◌, Option, Some, None, false, codes, get_or, unwrap_or}
-use Rattle.std.specs.Prelude.{bytes_eq, if◌then◌else◌}
+use Rattle.std.specs.Prelude.{◌≡◌, ◌⊎◌, ℕ, List, [], ◌∷◌, ◌++◌, Option, Some, None, true, false, codes, get_or}
+use Rattle.std.specs.Prelude.{unwrap_or, bytes_eq, if◌then◌else◌, option_map}
 use Rattle.abt_values.specs.declared.rows.Place.TheVariants as places
 use Rattle.abt_values.specs.declared.rows.Value.TheVariants as values
 use Rattle.abt_words.specs.declared.answers.Answer.{Answer}
@@ -14,9 +14,11 @@ use Rattle.tool_words.specs.declared.orders.Orders.{Orders}
 use Rattle.tool_words.specs.declared.tools.Tool.{Tool}
 use Rattle.tool_words.specs.declared.tools.Tool.TheVariants as tools
 use Rattle.abt_words.specs.Asked.{Asks, number_named, word_named}
-use Rattle.tool_words.specs.Mkbootimg.{AreImagesOf, PacksImage}
+use Rattle.tool_words.specs.Mkbootimg.{AreImagesOf, PacksImage, id_asked}
 use Rattle.tool_words.specs.Shortened.{AreSpelledIn}
-use Rattle.abt_words.specs.Table.{AreFrom, Shape, flag, part, path, row, usual, work_of}
+use Rattle.tool_words.specs.UnpackBootimg.{AsksUnpack, unpack_rows}
+use Rattle.tool_words.specs.declared.unpack_bootimg.UnpackImage.{UnpackImage}
+use Rattle.abt_words.specs.Table.{AreFrom, Shape, excludes, flag, part, path, required, row, usual, work_of}
 
 -- ---- which tool it is
 
@@ -53,7 +55,7 @@ refused name = row places.Option values.NotTaken name
 abbrev pub mkbootimg_rows : List Shape
 mkbootimg_rows =
     part (codes "kernel") ∷ part (codes "ramdisk") ∷ part (codes "second") ∷ part (codes "dtb")
-    ∷ part (codes "recovery_dtbo") ∷ part (codes "recovery_acpio")
+    ∷ excludes (codes "recovery_acpio") (part (codes "recovery_dtbo")) ∷ part (codes "recovery_acpio")
     ∷ row places.Option values.CommandLine (codes "cmdline")
     ∷ row places.Option values.CommandLine (codes "vendor_cmdline")
     ∷ python (codes "base") (codes "0x10000000") ∷ python (codes "kernel_offset") (codes "0x00008000")
@@ -63,19 +65,21 @@ mkbootimg_rows =
     ∷ usual (codes "0") (row places.Option values.PatchLevel (codes "os_patch_level"))
     ∷ python (codes "tags_offset") (codes "0x00000100") ∷ row places.Option values.Text (codes "board")
     ∷ python (codes "pagesize") (codes "2048") ∷ flag (codes "id") ∷ python (codes "header_version") (codes "0")
-    ∷ part (codes "output") ∷ row places.Letter values.File (codes "o") ∷ part (codes "vendor_boot")
+    ∷ excludes (codes "o") (part (codes "output")) ∷ row places.Letter values.File (codes "o")
+    ∷ part (codes "vendor_boot")
     ∷ part (codes "vendor_ramdisk") ∷ part (codes "vendor_bootconfig")
-    ∷ refused (codes "ramdisk_type") ∷ refused (codes "ramdisk_name") ∷ refused (codes "vendor_ramdisk_fragment")
     ∷ refused (codes "gki_signing_algorithm") ∷ refused (codes "gki_signing_key")
-    ∷ refused (codes "gki_signing_signature_args") ∷ refused (codes "gki_signing_avbtool_path")
-    ∷ refused (codes "board_id") ∷ []
+    ∷ refused (codes "gki_signing_signature_args") ∷ refused (codes "gki_signing_avbtool_path") ∷ []
 
 abbrev pub tool_rows : Tool → List Shape
-tool_rows tools.Simg2img = row places.Words values.File (codes "IN") ∷ path (codes "OUT") ∷ []
+tool_rows tools.Simg2img = required (row places.Words values.File (codes "IN")) ∷ path (codes "OUT") ∷ []
 tool_rows tools.Img2simg =
     path (codes "IN") ∷ path (codes "OUT") ∷ row places.Word (values.Count 1024) (codes "BLOCK")
     ∷ row (places.ShortFlag 115) values.NotTaken (codes "s") ∷ []
 tool_rows tools.Mkbootimg = mkbootimg_rows
+tool_rows tools.Simg2simg =
+    path (codes "IN") ∷ path (codes "PREFIX") ∷ required (row places.Word (values.Count 1) (codes "MAX")) ∷ []
+tool_rows tools.UnpackBootimg = unpack_rows
 tool_rows tool = []
 
 -- ---- what the answers ask for
@@ -91,9 +95,17 @@ AsksBlocks all (tasks.Sparse (sparse.Sparse input output block)) =
     × (output.now ≡ word_named (codes "OUT") all) × (block ≡ unwrap_or (number_named (codes "BLOCK") all) 4096)
 AsksBlocks all task = ⊥
 
+-- `cut` of a sparse image into pieces of at most MAX bytes, of which the first has the number 0
+abbrev pub AsksCut : List Answer → Task → Type 0
+AsksCut all (tasks.Sparse (sparse.Cut input limit prefix from_zero raw)) = (input.now ≡ word_named (codes "IN") all)
+    × (limit ≡ unwrap_or (number_named (codes "MAX") all) 0) × (prefix.now ≡ word_named (codes "PREFIX") all)
+    × (from_zero ≡ true) × (raw ≡ None)
+AsksCut all task = ⊥
+
 abbrev pub AsksTask : Tool → List Answer → Task → Type 0
 AsksTask tools.Simg2img all task = (work_of task ≡ works.Expand) × Asks all task
 AsksTask tools.Img2simg all task = AsksBlocks all task
+AsksTask tools.Simg2simg all task = AsksCut all task
 AsksTask tool all task = ⊥
 
 -- an order of a tool, without what its words can't ask for
@@ -104,45 +116,61 @@ pub record IsToolOrder (tool : Tool) (order : Order) : Type 0 where
 
 -- one order alone
 pub record AsksAlone (tool : Tool) (all : List Answer) (orders : Orders) : Type 0 where
-  pub first : IsToolOrder tool orders.first
-  pub asks : AsksTask tool all orders.first.task
+  pub order : Order
+  pub is_tools : IsToolOrder tool order
+  pub asks : AsksTask tool all order.task
+  pub first : orders.first ≡ Some order
   pub second : orders.second ≡ None
+  pub id : orders.id_of ≡ None
+  pub unpack : orders.unpack ≡ None
 
 -- ---- images
 
 -- an order packs an image
-pub record Packs (all : List Answer) (image : Image) (order : Order) : Type 0 where
+pub record Packs (all said : List Answer) (image : Image) (order : Order) : Type 0 where
   pub order_is : IsToolOrder tools.Mkbootimg order
-  pub image_is : PacksImage all image order.task
+  pub image_is : PacksImage all said image order.task
 
-abbrev pub PacksSecond : List Answer → Option Image → Option Order → Type 0
-PacksSecond all None None = Unit {0}
-PacksSecond all (Some image) (Some order) = Packs all image order
-PacksSecond all image order = ⊥
+abbrev pub PacksAsked : List Answer → List Answer → Option Image → Option Order → Type 0
+PacksAsked all said None None = Unit {0}
+PacksAsked all said (Some image) (Some order) = Packs all said image order
+PacksAsked all said image order = ⊥
 
--- the vendor boot image first, and then the boot image; or the boot image alone
-abbrev pub PacksImages : List Answer → Option Image → Option Image → Orders → Type 0
-PacksImages all (Some vendor) boot orders = Packs all vendor orders.first × PacksSecond all boot orders.second
-PacksImages all None (Some boot) orders = Packs all boot orders.first × (orders.second ≡ None)
-PacksImages all None None orders = ⊥
-
-pub record AsksImages (all : List Answer) (orders : Orders) : Type 0 where
+-- the vendor boot image first, and then the boot image
+pub record AsksImages (all said : List Answer) (orders : Orders) : Type 0 where
   pub vendor : Option Image
   pub boot : Option Image
   pub images : AreImagesOf all vendor boot
-  pub packs : PacksImages all vendor boot orders
+  pub first : PacksAsked all said vendor orders.first
+  pub second : PacksAsked all said boot orders.second
+  pub id : option_map (λ word. word.now) orders.id_of ≡ id_asked all
+  pub unpack : orders.unpack ≡ None
+
+-- ---- an image that is unpacked
+
+-- no order, but an image that is unpacked as unpack_bootimg does
+pub record AsksUnpacking (all : List Answer) (orders : Orders) : Type 0 where
+  pub image : UnpackImage
+  pub asks : AsksUnpack all image
+  pub unpack : orders.unpack ≡ Some image
+  pub first : orders.first ≡ None
+  pub second : orders.second ≡ None
+  pub id : orders.id_of ≡ None
 
 -- ---- orders
 
-abbrev pub AsksOrders : Tool → List Answer → Orders → Type 0
-AsksOrders tools.Simg2img all orders = AsksAlone tools.Simg2img all orders
-AsksOrders tools.Img2simg all orders = AsksAlone tools.Img2simg all orders
-AsksOrders tools.Mkbootimg all orders = AsksImages all orders
-AsksOrders tool all orders = ⊥
+abbrev pub AsksOrders : Tool → List Answer → List Answer → Orders → Type 0
+AsksOrders tools.Simg2img all said orders = AsksAlone tools.Simg2img all orders
+AsksOrders tools.Img2simg all said orders = AsksAlone tools.Img2simg all orders
+AsksOrders tools.Mkbootimg all said orders = AsksImages all said orders
+AsksOrders tools.Simg2simg all said orders = AsksAlone tools.Simg2simg all orders
+AsksOrders tools.UnpackBootimg all said orders = AsksUnpacking all orders
+AsksOrders tool all said orders = ⊥
 
--- the words ask for them: answers to rows of the tool's table stand among the words, and ask for these
-pub record AreOrdersOf (tool : Tool) (words : List (List ℕ)) (orders : Orders) : Type 0 where
+-- the words ask for them: answers to rows of the tool's table stand among the words, and ask for these, with what was
+-- said of ramdisk fragments by other words
+pub record AreOrdersOf (tool : Tool) (words : List (List ℕ)) (said : List Answer) (orders : Orders) : Type 0 where
   pub all : List Answer
   pub from : AreFrom (tool_rows tool) all
   pub spelled : AreSpelledIn (tool_rows tool) words (get_or words 0 []) all
-  pub asks : AsksOrders tool all orders
+  pub asks : AsksOrders tool all said orders

@@ -4,16 +4,25 @@
 //! |---|---|
 //! | `tools.rt` | the tools, and which of them the words call |
 //! | `table.rt`, `parser.rt` | the words and options of each, and their parser |
-//! | `orders.rt`, `mkbootimg.rt` | what the answers ask for |
+//! | `fragments.rt` | the words of ramdisk fragments, apart from the others |
+//! | `orders.rt`, `mkbootimg.rt`, `groups.rt` | what the answers ask for |
+//! | `unpack_bootimg.rt` | the image that unpack_bootimg is to unpack |
+//! | `texts.rt` | the texts that orders need and no word is |
 //! | `shortening.rt` | whether the answers stand among the words |
 #![tactic(auto)]
 
+mod fragments;
+mod groups;
 mod mkbootimg;
 mod orders;
 mod parser;
 mod shortening;
 mod table;
+mod texts;
 mod tools;
+mod unpack_bootimg;
 
+pub use fragments::{Parted, part_words};
 pub use orders::{Orders, orders_of, texts_of};
 pub use tools::{Tool, called};
+pub use unpack_bootimg::{UnpackImage, UnpackText};

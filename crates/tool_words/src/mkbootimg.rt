@@ -1,12 +1,16 @@
 //! The images that the words of mkbootimg ask for.
 
-ghost use Rattle.std.specs.Prelude.{◌≡◌, ◌↔◌, ◌+◌, ◌*◌, ◌++◌, codes, IfOk, IfSome, IsTrue, Contains, map, option_map};
+ghost use Rattle.std.specs.Prelude.{◌≡◌, ◌↔◌, ◌+◌, ◌*◌, IfOk, IfSome, IsTrue, Contains, length, map, option_map};
 ghost use Rattle.std.specs.List.{AllZip};
-ghost use Rattle.tool_words.specs.Mkbootimg.{AreImagesOf, Carries, IsFillOf, IsOptionOf, PacksImage, IsPackOf, filler_of, fillers};
-ghost use Rattle.tool_words.specs.Mkbootimg.{filling, fragments_asked, os_number, output_word, page_asked, version_asked};
+ghost use Rattle.tool_words.specs.Mkbootimg.{AreImagesOf, Carries, IsFillOf, IsOptionOf, PacksImage, filler_of, fillers};
+ghost use Rattle.tool_words.specs.Fragments.{IsBoardText, IsFragmentText};
+ghost use Rattle.tool_words.specs.Mkbootimg.{boards_asked, filling, fragments_asked, id_asked, os_number};
+ghost use Rattle.tool_words.specs.Mkbootimg.{output_word, page_asked};
+ghost use Rattle.tool_words.specs.Mkbootimg.{IsPackOf, platform_asked, version_asked};
 ghost use Rattle.abt_words.specs.Asked.{answer_named};
 ghost use Rattle.abt_words.specs.Table.{option_rows, shape_of};
 
+use crate::groups::{board_words, fragment_words, fragments_refusal};
 use abt_values::{Row, Value};
 use abt_words::{Answer, Answers, BootTask, Given, PackOrder, Task, options};
 use std::alloc::{AllocError, Global};
@@ -77,27 +81,40 @@ pub(crate) fn images_of<'a>(answers: &Answers<'a>) -> (Option<Image<'a>>, Option
     (vendor, boot)
 }
 
-/// Why mkbootimg doesn't make this image, or this program doesn't.
-pub(crate) fn refusal_of(answers: &Answers<'_>, image: Image<'_>) -> Option<&'static str> {
-    if image.is_vendor {
-        return vendor_refusal(answers, image.version);
+/// The boot image whose id is to be printed, where it has one.
+pub(crate) fn id_asked<'a>(answers: &Answers<'a>) -> Option<&'a str>
+    ensures { option_map (λ word. word.now) result ≡ id_asked answers.now.all.items }
+{
+    if answers.flag("id") && answers.given_number("header_version") < 3 {
+        output(answers)
+    } else {
+        None
     }
-    if image.version > 2 && answers.word("second").is_some() {
-        return Some("header versions from 3 on have no second stage: leave out --second");
-    }
-    if image.version == 2 && answers.word("dtb").is_none() {
-        return Some("header version 2 has a device tree blob: give --dtb");
-    }
-    if image.version < 3 && answers.flag("id") {
-        return Some("it prints no id: abootimg info IN shows it");
-    }
-    None
 }
 
-fn vendor_refusal(answers: &Answers<'_>, version: u32) -> Option<&'static str> {
+/// Why mkbootimg doesn't make this image, or this program doesn't.
+pub(crate) fn refusal_of(
+    answers: &Answers<'_>,
+    said: &[Answer<'_>],
+    image: Image<'_>,
+) -> Option<&'static str> {
     let has_ramdisk = answers.word("vendor_ramdisk").is_some();
-    if version == 3 && !has_ramdisk {
-        return Some("vendor header version 3 has a ramdisk: give --vendor_ramdisk");
+    match (image.is_vendor, image.version) {
+        (true, 3) if !has_ramdisk => {
+            Some("vendor header version 3 has a ramdisk: give --vendor_ramdisk")
+        }
+        (true, 4) => fragments_refusal(said, has_ramdisk),
+        (true, _) => None,
+        (false, _) => boot_refusal(answers, image.version),
+    }
+}
+
+fn boot_refusal(answers: &Answers<'_>, version: u32) -> Option<&'static str> {
+    if version > 2 && answers.word("second").is_some() {
+        return Some("header versions from 3 on have no second stage: leave out --second");
+    }
+    if version == 2 && answers.word("dtb").is_none() {
+        return Some("header version 2 has a device tree blob: give --dtb");
     }
     None
 }
@@ -119,19 +136,24 @@ fn is_file(value: Value) -> bool {
     }
 }
 
-/// The task of packing an image.
+/// The task of packing an image, with these words of fragments.
 pub(crate) fn packing<'a>(
     alloc: Global,
     answers: &Answers<'a>,
+    said: &[Answer<'a>],
     image: Image<'a>,
     texts: &'a [String],
 ) -> Result<Option<Task<'a>>, AllocError>
-    ensures { IfOk result (λ task. IfSome task (PacksImage answers.now.all.items image.entry)) }
+    ensures { IfOk result (λ task. IfSome task (PacksImage answers.now.all.items said.now image.entry)) }
 {
     let Some(given) = all_filled(alloc, answers, image)? else {
         return Ok(None);
     };
-    let Some(fragments) = fragments(alloc, answers, image, texts)? else {
+    let Some(fragments) = fragments(alloc, answers, said, image, texts)? else {
+        return Ok(None);
+    };
+    let from = fragments.len();
+    let Some(board_ids) = board_ids(alloc, answers, said, image, texts, from)? else {
         return Ok(None);
     };
     Ok(Some(Task::Boot(BootTask::Pack(PackOrder {
@@ -140,7 +162,7 @@ pub(crate) fn packing<'a>(
         version: image.version,
         page: page_asked(answers, image),
         given,
-        board_ids: Vec::new(alloc),
+        board_ids,
         fragments,
         keeps_trailing: false,
         is_escaped: false,
@@ -158,42 +180,48 @@ fn page_asked(answers: &Answers<'_>, image: Image<'_>) -> Option<u32>
     }
 }
 
-// The fragments: of a vendor boot image of version 4 its ramdisk, as one of the platform without a name.
+// The fragments of a vendor boot image of version 4.
 fn fragments<'a>(
     alloc: Global,
     answers: &Answers<'a>,
+    said: &[Answer<'a>],
     image: Image<'a>,
     texts: &'a [String],
 ) -> Result<Option<Vec<&'a str>>, AllocError>
-    ensures { IfOk result (λ all. IfSome all (λ all.
-        map (λ s. s.now) all.items ≡ fragments_asked answers.now.all.items image.entry.is_vendor image.entry.version)) }
+    ensures { IfOk result (λ all. IfSome all (λ all. AllZip (λ f text. IsFragmentText f text.now)
+        (fragments_asked answers.now.all.items said.now image.entry.is_vendor image.entry.version) all.items)) }
 {
-    let mut all = Vec::new(alloc);
     if !image.is_vendor || image.version != 4 {
-        return Ok(Some(all));
+        return Ok(Some(Vec::new(alloc)));
     }
-    let Some(ramdisk) = answers.find("vendor_ramdisk") else {
-        return Ok(Some(all));
-    };
-    let Some(text) = platform_text(texts, ramdisk.word) else {
-        return Ok(None);
-    };
-    all.push(text)?;
-    Ok(Some(all))
+    fragment_words(alloc, answers.find("vendor_ramdisk"), said, texts)
 }
 
-// The text of a fragment of the platform with this file.
-fn platform_text<'a>(texts: &'a [String], path: &str) -> Option<&'a str>
-    ensures { IfSome result (λ text. text.now ≡ codes "platform::" ++ path.now) }
+// The numbers of their board ids, which are the texts from a place on.
+fn board_ids<'a>(
+    alloc: Global,
+    answers: &Answers<'a>,
+    said: &[Answer<'a>],
+    image: Image<'a>,
+    texts: &'a [String],
+    from: usize,
+) -> Result<Option<Vec<&'a str>>, AllocError>
+    ensures { IfOk result (λ all. IfSome all (λ all. AllZip (λ b text. IsBoardText b text.now)
+        (boards_asked answers.now.all.items said.now image.entry.is_vendor image.entry.version) all.items)) }
 {
-    let [text, ..] = texts else {
-        return None;
-    };
-    let text = text.as_str();
-    if text.strip_prefix("platform::")? == path {
-        Some(text)
-    } else {
-        None
+    if !image.is_vendor || image.version != 4 {
+        return Ok(Some(Vec::new(alloc)));
+    }
+    board_words(alloc, platform_count(answers), said, texts, from)
+}
+
+// How many fragments `--vendor_ramdisk` gives.
+fn platform_count(answers: &Answers<'_>) -> u64
+    ensures { result ≡ length (platform_asked answers.now.all.items) }
+{
+    match answers.find("vendor_ramdisk") {
+        Some(_ramdisk) => 1,
+        None => 0,
     }
 }
 

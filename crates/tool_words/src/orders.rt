@@ -1,34 +1,43 @@
 //! Reading the words of AOSP's tools: the orders that they ask for.
 
 ghost use Rattle.std.specs.Prelude.{◌≡◌, [], IfOk, get_or, map};
-ghost use Rattle.tool_words.specs.Tools.{AreOrdersOf, AsksBlocks, AsksImages, AsksOrders, IsToolOrder};
-ghost use Rattle.tool_words.specs.Tools.{Packs, PacksSecond, standard_or};
+ghost use Rattle.tool_words.specs.Tools.{AreOrdersOf, AsksBlocks, AsksCut, AsksImages, AsksOrders, AsksUnpacking, IsToolOrder};
+ghost use Rattle.tool_words.specs.Tools.{PacksAsked, standard_or};
 
-use crate::mkbootimg::{Image, images_of, names_again, packing, refusal_of};
+use crate::mkbootimg::{Image, id_asked, images_of, names_again, packing, refusal_of};
 use crate::parser::tool_program;
 use crate::shortening::are_spelled_in;
+use crate::texts::fragment_texts;
 use crate::tools::Tool;
-use abt_words::{Answers, Order, SparseTask, Task, WordsFault, expand};
+use crate::unpack_bootimg::{UnpackImage, unpacking};
+use abt_words::{Answer, Answers, Order, SparseTask, Task, WordsFault, expand};
 use clap::error::ErrorKind;
 use std::alloc::{AllocError, Global};
 use std::convert::AsStr;
 
-/// What the words of a tool ask for: one order, or two, of which the second is done where the first is.
+/// What the words of a tool ask for: orders that are done one after the other, or none.
 #[derive(Drop)]
 pub struct Orders<'a> {
-    pub first: Order<'a>,
+    pub first: Option<Order<'a>>,
+    /// Done where the first is.
     pub second: Option<Order<'a>>,
+    /// The boot image whose id is printed where all are done.
+    pub id_of: Option<&'a str>,
+    /// The image that is unpacked in the place of orders.
+    pub unpack: Option<UnpackImage<'a>>,
 }
 
-/// Reads the words of a tool, of which the first calls it. How clap reads them is not trusted: each answer is found again
-/// among the words. `texts` are what `texts_of` makes of them, which is not trusted either.
+/// Reads the words of a tool, of which the first calls it, without those that say something of ramdisk fragments. How clap
+/// reads them is not trusted: each answer is found again among the words. `texts` are what `texts_of` makes of them, which
+/// is not trusted either.
 pub fn orders_of<'a, S: AsStr>(
     alloc: Global,
     tool: Tool,
     words: &'a [S],
+    said: &[Answer<'a>],
     texts: &'a [String],
 ) -> Result<Orders<'a>, WordsFault>
-    ensures { IfOk result (AreOrdersOf tool (map S.text words.now)) }
+    ensures { IfOk result (AreOrdersOf tool (map S.text words.now) said.now) }
 {
     if let Some(instead) = tool.instead() {
         return Err(WordsFault::NotTaken(instead));
@@ -39,50 +48,59 @@ pub fn orders_of<'a, S: AsStr>(
     if !are_spelled_in(alloc, words, rows, caller(words), answers.all.as_slice())? {
         return Err(misread(alloc, tool)?);
     }
-    let orders = orders_for(alloc, tool, &answers, texts)?;
+    let orders = orders_for(alloc, tool, &answers, said, texts)?;
     Ok(orders)
 }
 
-/// The texts that no word of a tool is, and that its orders need: of mkbootimg the word of a ramdisk fragment of the
-/// platform, whose file is that of `--vendor_ramdisk`.
+/// The texts that no word of a tool is, and that its orders need: of mkbootimg the words of `pack` for ramdisk fragments.
 pub fn texts_of<S: AsStr>(
     alloc: Global,
     tool: Tool,
     words: &[S],
+    said: &[Answer<'_>],
 ) -> Result<Vec<String>, WordsFault> {
     if tool.instead().is_some() {
         return Ok(Vec::new(alloc));
     }
     let found = tool_program(alloc, tool)?.try_get_matches_from(words)?;
-    Ok(platform_texts(alloc, found.get_str("vendor_ramdisk"))?)
-}
-
-fn platform_texts(alloc: Global, path: Option<&str>) -> Result<Vec<String>, AllocError> {
-    let mut texts = Vec::new(alloc);
-    if let Some(path) = path {
-        texts.push(format!(in alloc; "platform::{path}")?)?;
-    }
-    Ok(texts)
+    Ok(fragment_texts(alloc, found.get_str("vendor_ramdisk"), said)?)
 }
 
 fn orders_for<'a>(
     alloc: Global,
     tool: Tool,
     answers: &Answers<'a>,
+    said: &[Answer<'a>],
     texts: &'a [String],
 ) -> Result<Orders<'a>, WordsFault>
-    ensures { IfOk result (AsksOrders tool answers.now.all.items) }
+    ensures { IfOk result (AsksOrders tool answers.now.all.items said.now) }
 {
     let task = match tool {
         Tool::Simg2img => expand(alloc, answers)?,
         Tool::Img2simg => make_sparse(answers),
-        Tool::Mkbootimg => return image_orders(alloc, answers, texts),
+        Tool::Mkbootimg => return image_orders(alloc, answers, said, texts),
+        Tool::Simg2simg => cut(answers),
+        Tool::UnpackBootimg => return Ok(unpack_orders(answers)),
         _ => return Err(misread(alloc, tool)?),
     };
     Ok(Orders {
-        first: order_for(tool, task),
+        first: Some(order_for(tool, task)),
         second: None,
+        id_of: None,
+        unpack: None,
     })
+}
+
+// An image that is unpacked.
+fn unpack_orders<'a>(answers: &Answers<'a>) -> Orders<'a>
+    ensures { AsksUnpacking answers.now.all.items result }
+{
+    Orders {
+        first: None,
+        second: None,
+        id_of: None,
+        unpack: Some(unpacking(answers)),
+    }
 }
 
 // The word that calls the tool.
@@ -128,6 +146,18 @@ fn make_sparse<'a>(answers: &Answers<'a>) -> Task<'a>
     })
 }
 
+fn cut<'a>(answers: &Answers<'a>) -> Task<'a>
+    ensures { AsksCut answers.now.all.items result }
+{
+    Task::Sparse(SparseTask::Cut {
+        input: answers.given_word("IN"),
+        limit: answers.given_number("MAX"),
+        prefix: answers.given_word("PREFIX"),
+        is_from_zero: true,
+        raw: None,
+    })
+}
+
 // The path of what a word names, where `-` is the file that standard input is.
 fn standard_or<'a>(word: &'a str) -> &'a str
     ensures { result.now ≡ standard_or word.now }
@@ -141,60 +171,67 @@ fn standard_or<'a>(word: &'a str) -> &'a str
 fn image_orders<'a>(
     alloc: Global,
     answers: &Answers<'a>,
+    said: &[Answer<'a>],
     texts: &'a [String],
 ) -> Result<Orders<'a>, WordsFault>
-    ensures { IfOk result (AsksImages answers.now.all.items) }
+    ensures { IfOk result (AsksImages answers.now.all.items said.now) }
 {
     let (vendor, boot) = images_of(answers);
-    if let Some(image) = vendor {
-        if names_again(answers, "vendor_boot", image.output) {
-            return Err(WordsFault::NotTaken(
-                "--vendor_boot names a file that another option names too: give it one of its own",
-            ));
-        }
-        return Ok(Orders {
-            first: image_order(alloc, answers, image, texts)?,
-            second: second_order(alloc, answers, boot, texts)?,
-        });
+    if let Some(instead) = refusal_of_call(answers, said, vendor) {
+        return Err(WordsFault::NotTaken(instead));
     }
-    let Some(image) = boot else {
-        return Err(WordsFault::NotTaken(
-            "nothing is to be written: give --output or --vendor_boot",
-        ));
-    };
     Ok(Orders {
-        first: image_order(alloc, answers, image, texts)?,
-        second: None,
+        first: image_order(alloc, answers, said, vendor, texts)?,
+        second: image_order(alloc, answers, said, boot, texts)?,
+        id_of: id_asked(answers),
+        unpack: None,
     })
 }
 
-fn second_order<'a>(
-    alloc: Global,
-    answers: &Answers<'a>,
-    image: Option<Image<'a>>,
-    texts: &'a [String],
-) -> Result<Option<Order<'a>>, WordsFault>
-    ensures { IfOk result (PacksSecond answers.now.all.items image.entry) }
-{
-    match image {
-        Some(image) => Ok(Some(image_order(alloc, answers, image, texts)?)),
-        None => Ok(None),
+// Why no image is made.
+fn refusal_of_call(
+    answers: &Answers<'_>,
+    said: &[Answer<'_>],
+    vendor: Option<Image<'_>>,
+) -> Option<&'static str> {
+    let Some(image) = vendor else {
+        return refusal_of_said(said, 0);
+    };
+    if names_again(answers, "vendor_boot", image.output) {
+        return Some(
+            "--vendor_boot names a file that another option names too: give it one of its own",
+        );
+    }
+    refusal_of_said(said, image.version)
+}
+
+// Why words of fragments are refused, where the vendor boot image has this version, or 0 for none.
+fn refusal_of_said(said: &[Answer<'_>], version: u32) -> Option<&'static str> {
+    if said.is_empty() || version > 3 {
+        None
+    } else {
+        Some("ramdisk fragments need --vendor_boot and --header_version 4")
     }
 }
 
+// The order of an image, where it is asked for.
 fn image_order<'a>(
     alloc: Global,
     answers: &Answers<'a>,
-    image: Image<'a>,
+    said: &[Answer<'a>],
+    image: Option<Image<'a>>,
     texts: &'a [String],
-) -> Result<Order<'a>, WordsFault>
-    ensures { IfOk result (Packs answers.now.all.items image.entry) }
+) -> Result<Option<Order<'a>>, WordsFault>
+    ensures { IfOk result (PacksAsked answers.now.all.items said.now image.entry) }
 {
-    if let Some(instead) = refusal_of(answers, image) {
+    let Some(image) = image else {
+        return Ok(None);
+    };
+    if let Some(instead) = refusal_of(answers, said, image) {
         return Err(WordsFault::NotTaken(instead));
     }
-    match packing(alloc, answers, image, texts)? {
-        Some(task) => Ok(order_for(Tool::Mkbootimg, task)),
+    match packing(alloc, answers, said, image, texts)? {
+        Some(task) => Ok(Some(order_for(Tool::Mkbootimg, task))),
         None => Err(misread(alloc, Tool::Mkbootimg)?),
     }
 }

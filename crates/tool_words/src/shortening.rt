@@ -1,6 +1,6 @@
 //! Whether the answers of a tool stand among its words, where the name of an option may be written short.
 
-ghost use Rattle.std.specs.Prelude.{◌≡◌, ◌⊎◌, ◌++◌, ℕ, List, IfOk, IfSome, IsTrue, drop, map};
+ghost use Rattle.std.specs.Prelude.{◌≡◌, ◌⊎◌, ◌++◌, ℕ, List, Contains, IfOk, IfSome, IsTrue, codes, drop, map};
 ghost use Rattle.std.specs.List.{All};
 ghost use Rattle.tool_words.specs.Shortened.{AreSpelledIn, IsOnly, IsSaidShort, IsShortOf, SaysShort, StandsAs};
 ghost use Rattle.abt_words.specs.Table.{shape_of};
@@ -44,15 +44,43 @@ fn stands_in<S: AsStr>(words: &[S], rows: &[Row], answer: &Answer<'_>) -> bool
     is_read(answer) && (is_said(words, answer) || is_said_short(words, rows, answer))
 }
 
-// Whether an option is said by a beginning of its name.
+// Whether an option is said by a beginning of its name, or a letter in one word with its value.
 fn is_said_short<S: AsStr>(words: &[S], rows: &[Row], answer: &Answer<'_>) -> bool
     ensures { IsTrue result → IsSaidShort (map shape_of rows.now) (map S.text words.now) answer.now.row.now.place
         answer.now.row.now.name.now answer.now.word.now }
 {
     match answer.row.place {
         Place::Option => says_short(words, rows, answer.row.name, answer.word),
+        Place::Letter => says_letter(words, answer.row.name, answer.word),
         _ => false,
     }
+}
+
+// Whether a letter and its value are one word.
+fn says_letter<S: AsStr>(words: &[S], name: &str, value: &str) -> bool
+    ensures { IsTrue result → Contains (map S.text words.now) (codes "-" ++ (name.now ++ value.now)) }
+{
+    for word in words {
+        if is_letter(word.as_str(), name, value) {
+            return true;
+        }
+    }
+    false
+}
+
+fn is_letter(word: &str, name: &str, value: &str) -> bool
+    ensures { IsTrue result → word.now ≡ codes "-" ++ (name.now ++ value.now) }
+{
+    match behind_letter(word, name) {
+        Some(rest) => rest == value,
+        None => false,
+    }
+}
+
+fn behind_letter<'a>(word: &'a str, name: &str) -> Option<&'a str>
+    ensures { IfSome result (λ rest. word.now ≡ codes "-" ++ (name.now ++ rest.now)) }
+{
+    word.strip_prefix("-")?.strip_prefix(name)
 }
 
 fn says_short<S: AsStr>(words: &[S], rows: &[Row], name: &str, value: &str) -> bool
@@ -88,8 +116,8 @@ fn short_in(word: &str) -> Option<&str> {
     }
 }
 
-// Whether this is a beginning of the name, and of no other.
-fn is_short_of(rows: &[Row], short: &str, name: &str) -> bool
+/// Whether this is a beginning of the name, and of no other.
+pub(crate) fn is_short_of(rows: &[Row], short: &str, name: &str) -> bool
     ensures { IsTrue result → IsShortOf (map shape_of rows.now) short.now name.now }
 {
     match behind(name, short) {

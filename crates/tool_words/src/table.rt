@@ -2,9 +2,11 @@
 
 ghost use Rattle.std.specs.Prelude.{◌≡◌, map};
 ghost use Rattle.abt_words.specs.Table.{shape_of};
+ghost use Rattle.tool_words.specs.Fragments.{fragment_rows};
 ghost use Rattle.tool_words.specs.Tools.{tool_rows};
 
 use crate::tools::Tool;
+use crate::unpack_bootimg::UNPACK_BOOTIMG;
 use abt_values::{Place, Row, Value};
 use abt_words::{FLAG, PART, PATH, TEXT};
 
@@ -20,6 +22,13 @@ static IMG2SIMG: [Row; 4] = [
     Row { name: "OUT", help: "The sparse image, which is created or emptied, or - for standard output", ..PATH },
     Row { name: "BLOCK", value: Value::Count(1024), is_required: false, help: "Bytes of a block: a multiple of 4, from 1024 to 65536; 4096", ..PATH },
     Row { name: "s", place: Place::ShortFlag('s'), value: Value::NotTaken, help: "it takes no holes for don't care: leave out -s", ..FLAG },
+];
+
+#[rattlefmt::skip]
+static SIMG2SIMG: [Row; 3] = [
+    Row { name: "IN", help: "The sparse image, a file", ..PATH },
+    Row { name: "PREFIX", help: "The pieces are the files PREFIX.0, PREFIX.1 and so on", ..PATH },
+    Row { name: "MAX", value: Value::Count(1), help: "Bytes that a piece has at most: at least 64 more than a block", ..PATH },
 ];
 
 // A number as Python reads it.
@@ -43,11 +52,8 @@ const REFUSED: Row = Row {
 const SIGNING: &str =
     "it signs nothing: leave out --gki_signing_*, and sign the image with avbtool";
 
-const FRAGMENTS: &str =
-    "it takes no fragments in these words: use abootimg pack --vendor --version 4 --fragment";
-
 #[rattlefmt::skip]
-static MKBOOTIMG: [Row; 33] = [
+static MKBOOTIMG: [Row; 29] = [
     Row { name: "kernel", help: "The kernel", ..PART },
     Row { name: "ramdisk", help: "The ramdisk", ..PART },
     Row { name: "second", help: "The second stage", ..PART },
@@ -73,15 +79,48 @@ static MKBOOTIMG: [Row; 33] = [
     Row { name: "vendor_boot", help: "The vendor boot image, which is created or emptied", ..PART },
     Row { name: "vendor_ramdisk", help: "The ramdisk of a vendor boot image", ..PART },
     Row { name: "vendor_bootconfig", help: "The bootconfig of a vendor boot image", ..PART },
-    Row { name: "ramdisk_type", help: FRAGMENTS, ..REFUSED },
-    Row { name: "ramdisk_name", help: FRAGMENTS, ..REFUSED },
-    Row { name: "vendor_ramdisk_fragment", help: FRAGMENTS, ..REFUSED },
     Row { name: "gki_signing_algorithm", help: SIGNING, ..REFUSED },
     Row { name: "gki_signing_key", help: SIGNING, ..REFUSED },
     Row { name: "gki_signing_signature_args", help: SIGNING, ..REFUSED },
     Row { name: "gki_signing_avbtool_path", help: SIGNING, ..REFUSED },
-    Row { name: "board_id", help: FRAGMENTS, ..REFUSED },
 ];
+
+// A number of a board id.
+const BOARD: Row = Row {
+    help: "A number of the board id of a fragment",
+    ..NUMBER
+};
+
+// The options of ramdisk fragments, which no parser reads. Each group of them ends with the file.
+#[rattlefmt::skip]
+static FRAGMENTS: [Row; 19] = [
+    Row { name: "ramdisk_type", value_name: "TYPE", help: "The type of a fragment: none, platform, recovery, dlkm or a number", ..TEXT },
+    Row { name: "ramdisk_name", value_name: "NAME", help: "The name of a fragment", ..TEXT },
+    Row { name: "vendor_ramdisk_fragment", help: "The file of a fragment, behind its other options", ..PART },
+    Row { name: "board_id0", ..BOARD },
+    Row { name: "board_id1", ..BOARD },
+    Row { name: "board_id2", ..BOARD },
+    Row { name: "board_id3", ..BOARD },
+    Row { name: "board_id4", ..BOARD },
+    Row { name: "board_id5", ..BOARD },
+    Row { name: "board_id6", ..BOARD },
+    Row { name: "board_id7", ..BOARD },
+    Row { name: "board_id8", ..BOARD },
+    Row { name: "board_id9", ..BOARD },
+    Row { name: "board_id10", ..BOARD },
+    Row { name: "board_id11", ..BOARD },
+    Row { name: "board_id12", ..BOARD },
+    Row { name: "board_id13", ..BOARD },
+    Row { name: "board_id14", ..BOARD },
+    Row { name: "board_id15", ..BOARD },
+];
+
+/// The options of ramdisk fragments.
+pub(crate) fn fragment_rows() -> &'static [Row]
+    ensures { map shape_of result.now ≡ fragment_rows }
+{
+    &FRAGMENTS
+}
 
 impl Tool {
     /// The rows of its words and options.
@@ -92,6 +131,8 @@ impl Tool {
             Tool::Simg2img => &SIMG2IMG,
             Tool::Img2simg => &IMG2SIMG,
             Tool::Mkbootimg => &MKBOOTIMG,
+            Tool::Simg2simg => &SIMG2SIMG,
+            Tool::UnpackBootimg => &UNPACK_BOOTIMG,
             _ => &[],
         }
     }
@@ -103,6 +144,8 @@ impl Tool {
                 "Writes the raw image of a sparse image, or of several together: abootimg expand",
             Tool::Img2simg => "Writes a raw image as a sparse image: abootimg sparse",
             Tool::Mkbootimg => "Writes a boot image, a vendor boot image or both: abootimg pack",
+            Tool::Simg2simg => "Cuts a sparse image into pieces, each a sparse image: abootimg cut",
+            Tool::UnpackBootimg => "Unpacks a boot image, and prints what it is: abootimg unpack",
             _ => "",
         }
     }

@@ -46,15 +46,11 @@ impl Tool {
     /// What to use in the place of a tool whose words are not read.
     pub(crate) fn instead(self) -> Option<&'static str> {
         match self {
-            Tool::Simg2img | Tool::Img2simg | Tool::Mkbootimg => None,
-            Tool::Simg2simg => Some(
-                "use abootimg cut IN MAX PREFIX, whose pieces are PREFIX.1, PREFIX.2 and so on",
-            ),
-            Tool::UnpackBootimg => Some("use abootimg info IMAGE and abootimg unpack IMAGE DIR"),
             Tool::Append2simg => Some(
                 "use abootimg expand, append to the raw image, and abootimg sparse",
             ),
             Tool::SimgDump => Some("use abootimg list IMAGE"),
+            _ => None,
         }
     }
 

@@ -6,7 +6,7 @@ use Rattle.abootimg.proofs.sparse_task.do_sparse.Goals as goal
 pub returns-clause-done : goal.returns-clause-done
 returns-clause-done g c = λ t zero_is. status_zero c.sparse_command-outcome.result c.told.result _
     (λ e. wrong_words e.fault) c.told.ensures.refused zero_is
-    (told_done c.sparse_command-outcome.result c.args.task
+    (told_done g.D.Disk.on_output c.sparse_command-outcome.result c.args.task
     (state (g.D.Disk.world c.args.disk.now) (g.D.Disk.held c.args.disk.now) c.args.report.now)
     (g.D.Disk.world c.sparse_command-outcome.new.disk) (g.D.Disk.held c.sparse_command-outcome.new.disk)
     c.sparse_command-outcome.new.report c.told.new.report (c.sparse_command-outcome.ensures.done t)

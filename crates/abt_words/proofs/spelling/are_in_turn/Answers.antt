@@ -1,4 +1,4 @@
-use Rattle.std.proofs.Common.{◌≡◌, ◌+◌, ◌∙◌, arith, sym, ap, map, drop, length, get_or, []}
+use Rattle.std.proofs.Common.{◌≡◌, ◌+◌, ◌∙◌, arith, sym, ap, map, drop, get_or, []}
 use Rattle.std.proofs.lemmas.List.{get_or-map, length-map}
 use Rattle.abt_words.specs.Spelled.{left_of, struck}
 use Rattle.abt_words.proofs.Lists.{left_behind}

@@ -4,12 +4,12 @@ use Rattle.abt_disk.proofs.Amongs.{goes_more, goes_then}
 use Rattle.boot_rules.proofs.Causes.{refused_more}
 use Rattle.boot_bodies.proofs.Counts.{some_then}
 use Rattle.boot_bodies.proofs.Loops.{fragment_any, fragment_under, fragments_later, fragments_more, no_fragments}
-use Rattle.boot_bodies.proofs.Shown.{fragment_shown, silent}
+use Rattle.boot_bodies.proofs.Shown.{cannot_behind, fragment_shown, rises_then, silent}
 use Rattle.boot_bodies.proofs.Steps.{parts_more, parts_none, parts_then, stop_more, stop_then}
 use Rattle.boot_bodies.proofs.parts.write_fragments.Goals as goal
 
 pub loop-i-init : goal.loop-i-init
-loop-i-init g c = λ t. (parts_none (c.requires.one t), no_fragments _ _ _ _ _, silent _)
+loop-i-init g c = λ t. (parts_none (c.requires.one t), no_fragments _ _ _ _ _, silent c.args.report.now, omega arith)
 
 pub loop-i-preserved : goal.loop-i-preserved
 loop-i-preserved g c = λ t.
@@ -18,7 +18,9 @@ loop-i-preserved g c = λ t.
     let under : c.loop-i.i ≤ c.loop-i.i + 1 = omega arith in (
       parts_then (parts_more refl (fragment_under under) i.0) (parts_more refl (λ p named. named) e),
       fragments_more _ _ _ _ _ _ _ _ _ i.0.content e.keeps i.1 (c.in-Ok.ensures.done t),
-      fragment_shown _ _ _ _ _ _ _ i.0.content i.2 (c.in-Ok.ensures.shown t),
+      fragment_shown _ _ _ _ c.args.report.now c.loop-i.report c.write_fragment.new.report i.0.content i.2
+          (c.in-Ok.ensures.shown t),
+      rises_then c.args.report.now c.loop-i.report c.write_fragment.new.report i.3 c.in-Ok.ensures.rises,
     )
 
 pub returns-in-Err-clause-writes : goal.returns-in-Err-clause-writes
@@ -46,7 +48,8 @@ returns-in-Err-clause-refused g c = λ t opened.
     (λ stands. (
       c.loop-i.i,
       search (rules, arith),
-      fragments_more _ _ _ _ _ _ _ _ _ i.0.content (c.in-Err.ensures.writes t).keeps i.1 stands,
+      fragments_more _ _ _ _ _ _ _ _ _ i.0.content (c.in-Err.ensures.writes t).keeps i.1 stands.0,
+      cannot_behind c.args.report.now c.loop-i.report c.write_fragment.new.report i.3 stands.1,
     ))
 
 pub returns-clause-done : goal.returns-clause-done

@@ -1,4 +1,6 @@
+use Rattle.std.proofs.Common.{◌≤◌}
 use Rattle.std.specs.Prelude.{IsTrue}
+use Rattle.abt_report.specs.Shows.{refusals}
 use Rattle.abt_sections.specs.Header.{view_of}
 use Rattle.boot_bodies.specs.Lines.{ShowsEach, told_fragments}
 use Rattle.boot_bodies.specs.Unpacking.{FragmentsDone, IsFragmentPath}
@@ -14,3 +16,4 @@ invariant-loop-i g l =
     (g.D.Disk.held l.initial.disk) (g.D.Disk.held l.disk) (g.D.Disk.world l.initial.disk) (g.D.Disk.world l.disk)
     × FragmentsDone l.folder h x l.i (g.D.Disk.held l.disk) (g.D.Disk.world l.disk)
     × ShowsEach (told_fragments x h l.i) l.initial.report l.report
+    × (refusals l.initial.report ≤ refusals l.report)

@@ -7,7 +7,7 @@ use Rattle.abt_disk.proofs.Amongs.{goes_then, keeps_then}
 use Rattle.boot_rules.proofs.Causes.{refused_more}
 use Rattle.boot_bodies.proofs.Counts.{and_words, no_words, none_then, some_then}
 use Rattle.boot_bodies.proofs.Loops.{fragments_later, goes_fragment, goes_section, goes_words, sections_later}
-use Rattle.boot_bodies.proofs.Shown.{all_shown, all_but_words}
+use Rattle.boot_bodies.proofs.Shown.{all_shown, all_but_words, cannot_behind, rises_then}
 use Rattle.boot_bodies.proofs.Steps.{parts_more, parts_then, stop_more, stop_then}
 use Rattle.boot_bodies.proofs.parts.write_parts.Goals as goal
 
@@ -23,7 +23,7 @@ returns-in-Err-clause-stands g c = λ t.
 pub returns-in-Err-clause-refused : goal.returns-in-Err-clause-refused
 returns-in-Err-clause-refused g c = λ t opened.
     refused_more _ _ _ _ _ _ c.in-Err.refusal.fault refl (c.in-Err.ensures.refused t opened) (λ failed. failed)
-    (λ stands. up_to_section stands.0 stands.1 stands.2)
+    (λ stands. (up_to_section stands.0 stands.1 stands.2, stands.3))
 
 -- a fragment was
 pub returns-in-Err-write_fragments-clause-writes : goal.returns-in-Err-write_fragments-clause-writes
@@ -49,10 +49,14 @@ returns-in-Err-write_fragments-clause-refused g c = λ t opened.
     refused_more _ _ _ _ _ _ c.in-Err-write_fragments.refusal.fault same
     (c.in-Err-write_fragments.ensures.refused t (subst (λ x. IsOpened x c.args.image.now) (sym same) opened))
     (λ failed. some_then _ _ _ _ _ _ (c.in-Ok.ensures.writes t).clean failed)
-    (λ stands. up_to_fragment stands.0 stands.1 (sections_later _ _ _ _ _ _ _ _
-    (c.in-Err-write_fragments.ensures.writes t).keeps (c.in-Ok.ensures.done t))
-    (subst (λ x. FragmentsDone c.args.folder.now (view_of c.args.image.now.header) x (stands.0 + 1)
-    (g.D.Disk.held c.write_fragments.new.disk) (g.D.Disk.world c.write_fragments.new.disk)) same stands.2))
+    (λ stands. (
+      up_to_fragment stands.0 stands.1 (sections_later _ _ _ _ _ _ _ _
+          (c.in-Err-write_fragments.ensures.writes t).keeps (c.in-Ok.ensures.done t))
+          (subst (λ x. FragmentsDone c.args.folder.now (view_of c.args.image.now.header) x (stands.0 + 1)
+          (g.D.Disk.held c.write_fragments.new.disk) (g.D.Disk.world c.write_fragments.new.disk)) same stands.2),
+      cannot_behind c.args.report.now c.write_sections.new.report c.write_fragments.new.report
+          c.in-Ok.ensures.rises stands.3,
+    ))
 
 -- no words were wanted
 pub returns-then-not-with_words-clause-sections : goal.returns-then-not-with_words-clause-sections
@@ -67,7 +71,8 @@ returns-then-not-with_words-clause-writes g c = λ t.
 
 pub returns-then-not-with_words-clause-shown : goal.returns-then-not-with_words-clause-shown
 returns-then-not-with_words-clause-shown g c = λ t.
-    all_but_words _ _ _ c.args.with_words _ _ _ (c.in-Ok.ensures.writes t).content
+    all_but_words _ _ _ c.args.with_words c.args.report.now c.write_sections.new.report c.write_fragments.new.report
+    (c.in-Ok.ensures.writes t).content
     (search (rules, c.if-not-with_words.true))
     c.in-Ok.ensures.shown (c.in-Ok-write_fragments.ensures.shown t)
 
@@ -97,7 +102,8 @@ returns-in-Ok-write_pack_words-clause-writes g c = λ t.
 
 pub returns-in-Ok-write_pack_words-clause-shown : goal.returns-in-Ok-write_pack_words-clause-shown
 returns-in-Ok-write_pack_words-clause-shown g c = λ t.
-    all_shown _ _ _ c.args.with_words _ _ _ _ (c.in-Ok.ensures.writes t).content
+    all_shown _ _ _ c.args.with_words c.args.report.now c.write_sections.new.report c.write_fragments.new.report
+    c.write_pack_words.new.report (c.in-Ok.ensures.writes t).content
     (first_of (search (rules, c.if-not-with_words.false), cc)) c.in-Ok.ensures.shown
     (c.in-Ok-write_fragments.ensures.shown t) c.in-Ok-write_pack_words.ensures.shown
 
@@ -134,14 +140,19 @@ returns-in-Err-write_pack_words-clause-refused g c = λ t opened.
     (c.in-Err-write_pack_words.ensures.refused t (subst (λ x. IsOpened x c.args.image.now) (sym same) opened))
     (λ failed. some_then _ _ _ _ _ _
     (none_then _ _ _ _ _ _ (c.in-Ok.ensures.writes t).clean (c.in-Ok-write_fragments.ensures.writes t).clean) failed)
-    (λ stands. up_to_words (first_of (search (rules, c.if-not-with_words.false), cc))
-    (sections_later _ _ _ _ _ _ _ _
-    (keeps_then _ _ _ _ _ _ (c.in-Ok-write_fragments.ensures.writes t).keeps
-    (c.in-Err-write_pack_words.ensures.writes t).keeps)
-    (c.in-Ok.ensures.done t))
-    (fragments_later _ _ _ _ _ _ _ _ (c.in-Err-write_pack_words.ensures.writes t).keeps
-    (subst (λ x. FragmentsDone c.args.folder.now (view_of c.args.image.now.header) x
-    (fragment_count (view_of c.args.image.now.header)) (g.D.Disk.held c.write_fragments.new.disk)
-    (g.D.Disk.world c.write_fragments.new.disk)) first (c.in-Ok-write_fragments.ensures.done t)))
-    (subst (λ x. WordsDone c.args.folder.now (view_of c.args.image.now.header) x
-    (g.D.Disk.held c.write_pack_words.new.disk) (g.D.Disk.world c.write_pack_words.new.disk)) same stands))
+    (λ stands. (
+      up_to_words (first_of (search (rules, c.if-not-with_words.false), cc))
+          (sections_later _ _ _ _ _ _ _ _
+          (keeps_then _ _ _ _ _ _ (c.in-Ok-write_fragments.ensures.writes t).keeps
+          (c.in-Err-write_pack_words.ensures.writes t).keeps)
+          (c.in-Ok.ensures.done t))
+          (fragments_later _ _ _ _ _ _ _ _ (c.in-Err-write_pack_words.ensures.writes t).keeps
+          (subst (λ x. FragmentsDone c.args.folder.now (view_of c.args.image.now.header) x
+          (fragment_count (view_of c.args.image.now.header)) (g.D.Disk.held c.write_fragments.new.disk)
+          (g.D.Disk.world c.write_fragments.new.disk)) first (c.in-Ok-write_fragments.ensures.done t)))
+          (subst (λ x. WordsDone c.args.folder.now (view_of c.args.image.now.header) x
+          (g.D.Disk.held c.write_pack_words.new.disk) (g.D.Disk.world c.write_pack_words.new.disk)) same stands.0),
+      cannot_behind c.args.report.now c.write_fragments.new.report c.write_pack_words.new.report
+          (rises_then c.args.report.now c.write_sections.new.report c.write_fragments.new.report c.in-Ok.ensures.rises
+          (c.in-Ok-write_fragments.ensures.rises t)) stands.1,
+    ))

@@ -4,13 +4,14 @@ use Rattle.abt_disk.proofs.Amongs.{goes_more, goes_then}
 use Rattle.boot_rules.proofs.Causes.{refused_more}
 use Rattle.boot_bodies.proofs.Counts.{some_then}
 use Rattle.boot_bodies.proofs.Loops.{no_sections, section_any, section_under, sections_later, sections_more}
-use Rattle.boot_bodies.proofs.Shown.{section_shown, silent}
+use Rattle.boot_bodies.proofs.Shown.{cannot_behind, rises_then, section_shown, silent}
 use Rattle.boot_bodies.proofs.Steps.{parts_more, parts_none, parts_then, stop_more, stop_then}
 use Rattle.boot_bodies.proofs.parts.write_sections.Goals as goal
 
 pub loop-i-init : goal.loop-i-init
 loop-i-init g c = record {
-  shown = silent _;
+  shown = silent c.args.report.now;
+  rises = omega arith;
   told = λ t. (parts_none (c.requires.one t), no_sections _ _ _ _ _);
 }
 
@@ -18,7 +19,10 @@ pub loop-i-preserved : goal.loop-i-preserved
 loop-i-preserved g c =
     let under : c.loop-i.i ≤ c.loop-i.i + 1 = omega arith in
     record {
-      shown = section_shown _ _ _ _ _ (search (rules, arith)) c.loop-i.invariant.shown c.in-Ok.ensures.shown;
+      shown = section_shown _ _ c.args.report.now c.loop-i.report c.write_section.new.report (search (rules, arith))
+          c.loop-i.invariant.shown c.in-Ok.ensures.shown;
+      rises = rises_then c.args.report.now c.loop-i.report c.write_section.new.report c.loop-i.invariant.rises
+          c.in-Ok.ensures.rises;
       told = λ t.
           let i = c.loop-i.invariant.told t in
           let e = c.in-Ok.ensures.writes t in (
@@ -52,7 +56,8 @@ returns-in-Err-clause-refused g c = λ t opened.
     (λ stands. (
       c.loop-i.i,
       search (rules, arith),
-      sections_more _ _ _ _ _ _ _ _ _ i.0.content (c.in-Err.ensures.writes t).keeps i.1 stands,
+      sections_more _ _ _ _ _ _ _ _ _ i.0.content (c.in-Err.ensures.writes t).keeps i.1 stands.0,
+      cannot_behind c.args.report.now c.loop-i.report c.write_section.new.report c.loop-i.invariant.rises stands.1,
     ))
 
 pub returns-clause-done : goal.returns-clause-done

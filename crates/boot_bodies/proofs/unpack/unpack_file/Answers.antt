@@ -169,7 +169,10 @@ returns-in-Err-write_parts-clause-refused g c = λ t.
     (λ failed. failed_within _ _ _ _ _ _ _ _ _ _ _ (c.in-Ok.ensures.opened t) (c.in-Ok.ensures.clean t)
     c.in-Ok-open.ensures.reads.only.clean (c.in-Ok-refuse_taken.ensures.held t) failed
     (c.let_go_source-in-Err-write_parts.ensures.held t))
-    (λ begun. parts_stand _ _ _ _ _ _ _ _ _ _ opens
-    (has_as _ _ c.in-Ok-open.image same (c.in-Ok-open.ensures.opens told))
-    (begun_later _ _ _ _ _ _ _ _ _ (c.let_go_source-in-Err-write_parts.ensures.held t)
-    (c.let_go_source-in-Err-write_parts.ensures.world t) begun))
+    (λ begun. (
+      parts_stand _ _ _ _ _ _ _ _ _ _ opens
+          (has_as _ _ c.in-Ok-open.image same (c.in-Ok-open.ensures.opens told))
+          (begun_later _ _ _ _ _ _ _ _ _ (c.let_go_source-in-Err-write_parts.ensures.held t)
+          (c.let_go_source-in-Err-write_parts.ensures.world t) begun.0),
+      begun.1,
+    ))

@@ -51,8 +51,10 @@ returns-in-Err-finish-clause-refused g c = λ t opened.
     (ok_gives _ _ done c.copy_words-onto.ensures.clean) failed)
     (λ failed. copy_failed _ _ _ _ _ _ _ _ _ _ (c.in-Ok.ensures.created t) (c.in-Ok.ensures.clean t)
     (c.in-Err-finish.ensures.counts t) failed)
-    (λ done ends.
-    part_done _ _ _ _ _ (c.in-Err-finish.ensures.closed t).0 _ _ _ _ _ _ _ c.place_of-place.ensures
-    c.in-Ok.ensures.empty
-    (ok_gives _ _ done (c.copy_words-onto.ensures.written (g.met.D.Disk.source_told t)))
-    (c.in-Ok.ensures.created t) (c.in-Err-finish.ensures.closed t).2 ends)
+    (λ done ends. (
+      part_done _ _ _ _ _ (c.in-Err-finish.ensures.closed t).0 _ _ _ _ _ _ _ c.place_of-place.ensures
+          c.in-Ok.ensures.empty
+          (ok_gives _ _ done (c.copy_words-onto.ensures.written (g.met.D.Disk.source_told t)))
+          (c.in-Ok.ensures.created t) (c.in-Err-finish.ensures.closed t).2 ends.0,
+      ends.1,
+    ))

@@ -62,10 +62,12 @@ returns-in-Err-finish-clause-refused g c = λ t opened.
     (ok_gives _ _ done copies.clean) failed)
     (λ failed. copy_failed _ _ _ _ _ _ _ _ _ _ (c.in-Ok.ensures.created t) (c.in-Ok.ensures.clean t)
     (c.in-Err-finish.ensures.counts t) failed)
-    (λ done ends.
-    λ p found. part_done _ _ _ _ _ (c.in-Err-finish.ensures.closed t).0 _ _ _ _ _ _ _
-    (c.place_of-place.ensures ∙ same_path _ _ c.args.i c.section.result p c.requires.there c.section.ensures.value
-    found)
-    c.in-Ok.ensures.empty
-    (ok_gives _ _ done ((c.copy_section-onto.ensures.copies p found).written (g.met.D.Disk.source_told t)))
-    (c.in-Ok.ensures.created t) (c.in-Err-finish.ensures.closed t).2 ends)
+    (λ done ends. (
+      λ p found. part_done _ _ _ _ _ (c.in-Err-finish.ensures.closed t).0 _ _ _ _ _ _ _
+          (c.place_of-place.ensures ∙ same_path _ _ c.args.i c.section.result p c.requires.there c.section.ensures.value
+          found)
+          c.in-Ok.ensures.empty
+          (ok_gives _ _ done ((c.copy_section-onto.ensures.copies p found).written (g.met.D.Disk.source_told t)))
+          (c.in-Ok.ensures.created t) (c.in-Err-finish.ensures.closed t).2 ends.0,
+      ends.1,
+    ))

@@ -1,4 +1,5 @@
 use Rattle.std.proofs.Common.{rules, arith, ap, refl, ◌≡◌, length}
+use Rattle.abt_report.proofs.Beside.{beside}
 use Rattle.flash_bodies.specs.Flashing.{IsFlashed}
 use Rattle.flash_bodies.proofs.Refusals.{flash_untold, handed_on, is_flashed, on_ok, refuses_flash}
 use Rattle.flash_bodies.proofs.Written.{as_long, ran, ran_clean, ran_failed, ran_unclosed, settled_once}
@@ -14,6 +15,7 @@ returns-in-Err-clause-leaves g c = λ t.
       others = all.others;
       input = all.kept;
       clean = tt;
+      closed = tt;
     }
 
 pub returns-in_err-line_beside-clause-leaves : goal.returns-in_err-line_beside-clause-leaves
@@ -26,6 +28,7 @@ returns-in_err-line_beside-clause-leaves g c = λ t.
       others = all.others;
       input = all.kept;
       clean = search rules;
+      closed = search rules;
     }
 
 pub returns-clause-leaves : goal.returns-clause-leaves
@@ -40,6 +43,7 @@ returns-clause-leaves g c = λ t.
       clean = ran_clean _ _ _ _ _ _ _ _ _ _ _ _ _ _ _ all (c.in_ok-from.ensures.clean t) (c.in_ok-onto.ensures.clean t)
           (on_ok c.flashed-answer.result c.in-Ok.end.0 _ c.in-Ok.ensures.done c.flashed-answer.ensures.clean)
           ((c.in-Ok.ensures.closed t).clean refl);
+      closed = all.closed;
     }
 
 pub returns-in-Err-clause-refused : goal.returns-in-Err-clause-refused
@@ -48,8 +52,9 @@ returns-in-Err-clause-refused g c = λ t.
     (c.in_ok-from.ensures.opened t) (c.in_ok-from.ensures.world t)
     (c.in_ok-onto.ensures.opened t) (c.in_ok-onto.ensures.world t) (c.let_go.ensures.held t) (c.let_go.ensures.world t)
     (c.closed.ensures.ended t) (c.closed.ensures.paths t) (c.in-Err.ensures.closed t) in
-    refuses_flash c.flashed-answer.result c.in-Err.refusal.fault _ _ _ _ _ _ _ _ _ _ c.in-Err.ensures.told
+    refuses_flash _ c.flashed-answer.result c.in-Err.refusal.fault _ _ _ _ _ _ _ _ _ _ c.in-Err.ensures.told
     c.in-Err.ensures.host (λ ok. ran_unclosed _ _ _ _ _ _ _ _ _ _ _ _ all ((c.in-Err.ensures.closed t).cause ok refl))
+    all.closed
     (ran_failed _ _ _ _ _ _ _ _ _ _ _ _ _ _ _ all (c.in_ok-from.ensures.clean t) (c.in_ok-onto.ensures.clean t))
     all.with_files
     (c.flashed-answer.ensures.lays (g.met.D.Disk.told t) (g.met.D.Disk.part_told t))
@@ -70,7 +75,8 @@ returns-clause-done g c = λ t.
           (g.D.Part.Partition.past c.flashed-answer.new.onto) (c.in_ok-onto.ensures.past t)
           (on_ok c.flashed-answer.result c.in-Ok.end.0 _ done f.syncs.synced)
           (on_ok c.flashed-answer.result c.in-Ok.end.0 _ done (f.syncs.settled (g.met.D.Disk.part_told t))));
-      shown = c.in_ok-line_beside.ensures;
+      shown = beside c.args.report.now c.line_beside.new.self _ _ _ (c.in-Ok.ensures.stream t)
+          c.in_ok-line_beside.ensures.shown;
     }
 
 pub returns-in_err-line_beside-clause-refused : goal.returns-in_err-line_beside-clause-refused
@@ -81,7 +87,8 @@ returns-in_err-line_beside-clause-refused g c = λ t.
     (c.in_ok-from.ensures.opened t) (c.in_ok-from.ensures.world t)
     (c.in_ok-onto.ensures.opened t) (c.in_ok-onto.ensures.world t) (c.let_go.ensures.held t) (c.let_go.ensures.world t)
     (c.closed.ensures.ended t) (c.closed.ensures.paths t) (c.in-Ok.ensures.closed t) in
-    handed_on c.from_residual-in_err-line_beside.result _ _ (λ r made. flash_untold r.fault _ _ _ _ _ _ _ made (record {
+    handed_on c.from_residual-in_err-line_beside.result _ _
+    (λ r made. flash_untold _ r.fault _ _ _ _ _ _ _ made all.closed (record {
       blocks = c.in-Ok.end.0;
       flashed = all.with_files (IsFlashed c.in-Ok.end.0) (is_flashed c.flashed-answer.result c.in-Ok.end.0 _ _ _ _ done
           (f.lays (g.met.D.Disk.told t) (g.met.D.Disk.part_told t)));
@@ -89,7 +96,7 @@ returns-in_err-line_beside-clause-refused g c = λ t.
           (g.D.Part.Partition.past c.flashed-answer.new.onto) (c.in_ok-onto.ensures.past t)
           (on_ok c.flashed-answer.result c.in-Ok.end.0 _ done f.syncs.synced)
           (on_ok c.flashed-answer.result c.in-Ok.end.0 _ done (f.syncs.settled (g.met.D.Disk.part_told t))));
-      shown = tt;
+      shown = c.in_err-line_beside.ensures.refused;
     }))
     c.from_residual-in_err-line_beside.ensures.1
 

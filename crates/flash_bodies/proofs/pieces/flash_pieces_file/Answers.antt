@@ -1,9 +1,10 @@
 use Rattle.std.proofs.Common.{rules, ap, refl, sym, ◌∙◌, ◌≡◌, ◌-◌, arith}
+use Rattle.abt_report.proofs.Beside.{beside}
 use Rattle.std.specs.Prelude.{max}
 use Rattle.abt_io.specs.Moment.{Past}
-use Rattle.flash_bodies.proofs.Crossing.{as_long_across, crossed, only_both, only_kept}
-use Rattle.flash_bodies.proofs.Ended.{clean_across, done_across, none_of, pieces_untold, refuses_across}
-use Rattle.flash_bodies.proofs.Ended.{refuses_uncuttable}
+use Rattle.flash_bodies.proofs.Crossing.{as_long_across, crossed, only_both, only_kept, part_kept}
+use Rattle.flash_bodies.proofs.Ended.{clean_across, done_across, none_of, pieces_unopened, pieces_untold}
+use Rattle.flash_bodies.proofs.Ended.{refuses_across, refuses_uncuttable}
 use Rattle.flash_bodies.proofs.Refusals.{handed_on}
 use Rattle.flash_bodies.proofs.Written.{of_file}
 use Rattle.flash_bodies.proofs.pieces.flash_pieces_file.Goals as goal
@@ -20,6 +21,7 @@ returns-in-Err-closed-clause-leaves g c = λ t.
       others = all.others;
       input = all.kept;
       clean = tt;
+      closed = tt;
     }
 
 pub returns-in_err-line_beside-clause-leaves : goal.returns-in_err-line_beside-clause-leaves
@@ -34,6 +36,7 @@ returns-in_err-line_beside-clause-leaves g c = λ t.
       others = all.others;
       input = all.kept;
       clean = search rules;
+      closed = search rules;
     }
 
 pub returns-clause-leaves : goal.returns-clause-leaves
@@ -52,6 +55,7 @@ returns-clause-leaves g c = λ t.
           (none_of _ _ _ (c.in_ok-source.ensures.clean t) (c.in_ok-onto.ensures.clean t)
           (c.in_ok-through.ensures.clean t))
           (c.delivered_through-answer.ensures.clean t) ((c.in-Ok.ensures.closed t).clean refl);
+      closed = all.closed;
     }
 
 pub returns-in_err-through-clause-leaves : goal.returns-in_err-through-clause-leaves
@@ -61,11 +65,12 @@ returns-in_err-through-clause-leaves g c = λ t. record {
   input = only_kept _ _ _ _ _ _ _ _ _ _ _ _ (c.in_ok-source.ensures.opened t) (c.in_ok-source.ensures.world t)
       (c.in_ok-onto.ensures.opened t) (c.in_ok-onto.ensures.world t) (c.in_err-through.ensures.only t);
   clean = search rules;
+  closed = search rules;
 }
 
 pub returns-in-Err-clause-refused : goal.returns-in-Err-clause-refused
 returns-in-Err-clause-refused g c = λ t.
-    rw c.refuse.ensures (refuses_uncuttable c.in-Err.fault c.args.raw c.args.limit _ _ _ _ _ _ _ _ _
+    rw c.refuse.ensures (refuses_uncuttable _ c.in-Err.fault c.args.raw c.args.limit _ _ _ _ _ _ _ _ _
     (c.in_ok-onto.ensures.world t ∙ c.in_ok-source.ensures.world t)
     (λ P so. of_file _ _ _ _ _ P (c.in_ok-source.ensures.opened t) so) (c.in-Err.ensures (g.met.D.Disk.source_told t)))
 
@@ -79,7 +84,7 @@ returns-in-Err-closed-clause-refused g c = λ t.
     (c.in_ok-through.ensures.opened t) (c.delivered_through-answer.ensures.closed t)
     (c.delivered_through-answer.ensures.rest t) (c.let_go_source.ensures.held t) (c.let_go_source.ensures.world t)
     (c.closed.ensures.ended t) (c.closed.ensures.paths t) (c.in-Err-closed.ensures.closed t) in
-    refuses_across c.counted.result c.delivered_through-answer.result.0 c.in-Err-closed.refusal.fault _ _ _ _
+    refuses_across _ c.counted.result c.delivered_through-answer.result.0 c.in-Err-closed.refusal.fault _ _ _ _
     c.args.raw c.args.limit _ _
     _ _ _ _ _ _ _ _ _ _ _ _ _ all c.counted.ensures c.in-Err-closed.ensures.told c.in-Err-closed.ensures.host
     (λ ok. (c.in-Err-closed.ensures.closed t).cause ok refl)
@@ -102,7 +107,8 @@ returns-clause-done g c = λ t.
     (g.D.Part.Partition.past c.in_ok-onto.onto) (g.D.Part.Partition.past c.delivered_through-answer.new.onto) _ all
     (sym c.counted.ensures ∙ c.in-Ok.ensures.done) (c.in_ok-onto.ensures.past t) d.syncs.some
     d.syncs.synced (d.syncs.settled (g.met.D.Disk.part_told t)) same
-    (d.delivers t (ap (λ (q : Past). q.pending) (c.in_ok-onto.ensures.past t))) c.in_ok-line_beside.ensures
+    (d.delivers t (ap (λ (q : Past). q.pending) (c.in_ok-onto.ensures.past t)))
+    (beside c.args.report.now c.line_beside.new.self _ _ _ (c.in-Ok.ensures.stream t) c.in_ok-line_beside.ensures.shown)
 
 pub returns-in_err-line_beside-clause-refused : goal.returns-in_err-line_beside-clause-refused
 returns-in_err-line_beside-clause-refused g c = λ t.
@@ -115,14 +121,17 @@ returns-in_err-line_beside-clause-refused g c = λ t.
     (c.in_ok-through.ensures.opened t) (c.delivered_through-answer.ensures.closed t)
     (c.delivered_through-answer.ensures.rest t) (c.let_go_source.ensures.held t) (c.let_go_source.ensures.world t)
     (c.closed.ensures.ended t) (c.closed.ensures.paths t) (c.in-Ok.ensures.closed t) in
-    handed_on c.from_residual-in_err-line_beside.result _ _ (λ r made. pieces_untold r.fault _ c.args.raw c.args.limit _
-    _ _ _ _ _ _ _ made (done_across c.delivered_through-answer.result.0 c.in-Ok.end.0 _ c.args.raw c.args.limit _ _ _
+    handed_on c.from_residual-in_err-line_beside.result _ _
+    (λ r made. pieces_untold _ r.fault _ c.args.raw c.args.limit _
+    _ _ _ _ _ _ _ made all.closed
+    (done_across c.delivered_through-answer.result.0 c.in-Ok.end.0 _ c.args.raw c.args.limit _ _ _
     _ _
     _ _ _ _ _ _ _ _ _ _
     (g.D.Part.Partition.past c.in_ok-onto.onto) (g.D.Part.Partition.past c.delivered_through-answer.new.onto) _ all
     (sym c.counted.ensures ∙ c.in-Ok.ensures.done) (c.in_ok-onto.ensures.past t) d.syncs.some
     d.syncs.synced (d.syncs.settled (g.met.D.Disk.part_told t)) same
-    (d.delivers t (ap (λ (q : Past). q.pending) (c.in_ok-onto.ensures.past t))) tt))
+    (d.delivers t (ap (λ (q : Past). q.pending) (c.in_ok-onto.ensures.past t)))
+    c.in_err-line_beside.ensures.refused))
     c.from_residual-in_err-line_beside.ensures.1
 
 pub closed-requires : goal.closed-requires
@@ -137,3 +146,12 @@ closed-requires g c = record {
       (c.delivered_through-answer.ensures.rest t) (c.let_go_source.ensures.held t) (c.let_go_source.ensures.world t)
       (omega (arith, one, two, size));
 }
+
+-- ---- the third file was not opened
+
+pub returns-in_err-through-clause-refused : goal.returns-in_err-through-clause-refused
+returns-in_err-through-clause-refused g c = λ t.
+    handed_on c.from_residual-in_err-through.result _ _ (λ r made. pieces_unopened _ r.fault _ c.args.raw c.args.limit _
+    _ _ _ _ _ _ _ made (search rules) (part_kept _ _ _ _ _ _ _ _ (c.in_ok-source.ensures.world t)
+    (c.in_ok-onto.ensures.opened t) (c.in_ok-onto.ensures.world t) (c.in_err-through.ensures.begun t)))
+    c.from_residual-in_err-through.ensures.1

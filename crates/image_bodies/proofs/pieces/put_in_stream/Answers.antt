@@ -18,6 +18,7 @@ returns g c =
             rest = c.ended.ensures.rest t;
             outside = search rules;
           };
+      told = λ t. told_of _ _ _ (c.write_next-answer.ensures.told (g.met.D.Disk.source_told t)) c.ended.ensures.done;
       cuts = record {
         is_next = told_of _ _ _ cuts.is_next c.ended.ensures.done;
         cutter = cuts.cutter;

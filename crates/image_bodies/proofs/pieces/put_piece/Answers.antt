@@ -25,7 +25,8 @@ returns-in-File-clause-adds g c = λ t.
 
 pub returns-in-File-clause-keeps : goal.returns-in-File-clause-keeps
 returns-in-File-clause-keeps g c = λ t.
-    adds_none c.put_in_file.result _ _ _ _ _ _ _ _ _ (c.in_ok-image.ensures.created t) (c.put_in_file.ensures.puts t).closed
+    adds_none c.put_in_file.result _ _ _ _ _ _ _ _ _ (c.in_ok-image.ensures.created t)
+    (c.put_in_file.ensures.puts t).closed
     (c.put_in_file.ensures.puts t).rest
 
 pub returns-in-File-clause-left : goal.returns-in-File-clause-left
@@ -49,7 +50,8 @@ pub returns-in-Stream-clause-adds : goal.returns-in-Stream-clause-adds
 returns-in-Stream-clause-adds g c = λ t.
     let told = g.met.D.Disk.source_told t in
     adds_piece _ _ _ _ _ _ _ _ _ _ _ _ (c.in_ok-image.ensures.created t)
-    (rw (c.forget.ensures.content told) at (c.put_in_stream.ensures.puts t).holds) (c.put_in_stream.ensures.puts t).closed
+    (rw (c.forget.ensures.content told) at (c.put_in_stream.ensures.puts t).holds)
+    (c.put_in_stream.ensures.puts t).closed
     (c.put_in_stream.ensures.puts t).rest
 
 pub returns-in-Stream-clause-keeps : goal.returns-in-Stream-clause-keeps
@@ -73,3 +75,11 @@ pub returns-in-Stream-clause-cause : goal.returns-in-Stream-clause-cause
 returns-in-Stream-clause-cause g c = λ t.
     cause_piece _ _ _ _ _ _ _ _ _ (c.in_ok-image.ensures.created t)
     (rw c.forget.ensures.faults at (c.put_in_stream.ensures.puts t).closed)
+
+pub returns-in-File-clause-told : goal.returns-in-File-clause-told
+returns-in-File-clause-told g c = λ t.
+    rw (c.forget.ensures.content (g.met.D.Disk.source_told t)) at (c.put_in_file.ensures.told t)
+
+pub returns-in-Stream-clause-told : goal.returns-in-Stream-clause-told
+returns-in-Stream-clause-told g c = λ t.
+    rw (c.forget.ensures.content (g.met.D.Disk.source_told t)) at (c.put_in_stream.ensures.told t)

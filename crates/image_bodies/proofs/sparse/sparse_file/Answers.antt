@@ -4,7 +4,7 @@ use Rattle.abt_refusals.specs.Paths.{path_of, path_out}
 use Rattle.abt_disk.proofs.Worlds.{only_written, only_behind, kept_behind, synced_behind}
 use Rattle.image_bodies.proofs.Files.{left_unbegun, left_whole, none_open, part_same, part_emptied, part_left}
 use Rattle.image_bodies.proofs.Files.{no_blocks, refuses, refuses_host, sparsifies}
-use Rattle.abt_report.specs.Shows.{unprinted}
+use Rattle.abt_report.proofs.Beside.{beside}
 use Rattle.image_bodies.proofs.Counted.{clean_behind, failed_behind}
 use Rattle.image_bodies.proofs.sparse.sparse_file.Goals as goal
 
@@ -88,10 +88,10 @@ pub returns-in-Err-printed-clause-refused : goal.returns-in-Err-printed-clause-r
 returns-in-Err-printed-clause-refused g c = λ t.
     refuses_host _ _ _ _ (g.D.Disk.held c.args.disk.now) (g.D.Disk.held c.write_whole.new.disk) _ _
     c.in-Err-printed.refusal.fault c.into.ensures
-    (inr (sparsifies _ _ _ _ _ c.in-Ok-write_whole.end.0 _ _ _ _ _ _ _ unprinted c.in-Ok.ensures.size
+    (inr (sparsifies _ _ _ _ _ c.in-Ok-write_whole.end.0 _ _ _ _ _ _ _ _ c.in-Ok.ensures.size
     c.in-Ok.ensures.granted
     (c.in_ok-source.ensures.opened t) (c.in_ok-source.ensures.world t) (c.in_ok-image.ensures.created t)
-    (c.in-Ok-write_whole.ensures.writes t).holds tt))
+    (c.in-Ok-write_whole.ensures.writes t).holds c.in-Err-printed.ensures.refused))
 
 -- all is done
 
@@ -110,4 +110,6 @@ pub returns-in-Ok-printed-clause-done : goal.returns-in-Ok-printed-clause-done
 returns-in-Ok-printed-clause-done g c = λ t.
     sparsifies _ _ _ _ _ c.in-Ok-write_whole.end.0 _ _ _ _ _ _ _ _ c.in-Ok.ensures.size c.in-Ok.ensures.granted
     (c.in_ok-source.ensures.opened t) (c.in_ok-source.ensures.world t) (c.in_ok-image.ensures.created t)
-    (c.in-Ok-write_whole.ensures.writes t).holds c.in-Ok-printed.ensures
+    (c.in-Ok-write_whole.ensures.writes t).holds
+    (beside c.args.report.now c.printed.new.report _ _ _ (c.in-Ok-write_whole.ensures.stream t)
+    c.in-Ok-printed.ensures.shown)

@@ -1,4 +1,4 @@
-use Rattle.std.proofs.Common.{◌≡◌, ℕ, ◌<◌, ◌^◌, List, Option, Some, None, ap, ◌∙◌, subst}
+use Rattle.std.proofs.Common.{◌≡◌, ℕ, ◌<◌, ◌^◌, List, Option, Some, None, refl, ap, ◌∙◌, subst, rules}
 use Rattle.abt_disk.specs.LeftOver.{IsNextLeft}
 use Rattle.image_bodies.proofs.turns.tell_all.Goals as goal
 
@@ -8,8 +8,12 @@ found_left at q k behind is left none =
     let found = subst (λ l. IsNextLeft at behind l) is left in found.1.1.0 (none k found.0 found.1.0)
 
 -- it was noted, so one is left
-pub returns-in-Ok-Some : goal.returns-in-Ok-Some
-returns-in-Ok-Some g c = record {
-  shown = λ t none. absurd (found_left _ _ c.in-Ok-Some.number _ c.in-Ok-Some.field-0-is (c.in-Ok-Some.ensures t)
-      (λ n more small. ap (λ p. (g.D.Disk.world c.args.disk.now).at p) (c.front-front.ensures n) ∙ none n more small));
+pub returns-in-Ok-Some-clause-shown : goal.returns-in-Ok-Some-clause-shown
+returns-in-Ok-Some-clause-shown g c = λ t. record {
+  told = c.line.new.self;
+  line = c.in-Ok.ensures.shown;
+  noted = c.note_left_over.ensures;
+  alone = λ none. absurd (found_left _ _ c.in-Ok-Some.number _ c.in-Ok-Some.field-0-is (c.in-Ok-Some.ensures t)
+      (λ n more small. ap (λ p. (g.D.Disk.world c.args.disk.now).at p) (c.front-front.ensures n)
+      ∙ none n (subst (λ k. k < n) c.number.ensures more) small));
 }

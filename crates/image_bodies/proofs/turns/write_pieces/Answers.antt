@@ -1,13 +1,19 @@
-use Rattle.std.proofs.Common.{◌≡◌, ◌<◌, ◌≤◌, ◌+◌, ℕ, List, Some, refl, sym, ap, ◌∙◌, arith, inl, inr, subst}
+use Rattle.std.proofs.Common.{◌≡◌, ◌<◌, ◌≤◌, ◌+◌, ℕ, suc, List, Some, refl, sym, ap, ◌∙◌, arith, inl, inr, subst}
+use Rattle.std.specs.Prelude.{unwrap_or}
 use Rattle.abt_pieces.specs.Cutter.{has_more}
 use Rattle.abt_pieces.specs.declared.stage.Stage.TheVariants.{Between, Done}
 use Rattle.abt_refusals.specs.Paths.{path_out}
 use Rattle.abt_sparse.specs.Pieces.{pieces}
-use Rattle.image_bodies.specs.Cutting.{CutsSoFar, piece_path, failed, untold}
+use Rattle.sparse_rules.specs.PieceNames.{naming_of, number_in_turn}
+use Rattle.abt_report.specs.Shows.{Shows}
+use Rattle.image_bodies.specs.Cutting.{CutsSoFar, ShowsPieces, failed, path_in_turn, piece_line, untold}
 use Rattle.image_bodies.proofs.Nexts.{not_done}
-use Rattle.image_bodies.proofs.Cuts.{all_made, countable, cuts_more, cuts_none, cuts_left, cuts_stop, left_less, now_done}
-use Rattle.image_bodies.proofs.Cuts.{piece_place, stands_more, still_between}
+use Rattle.image_bodies.proofs.Cuts.{all_made, countable, cuts_more, cuts_none, cuts_left, cuts_stop, left_less}
+use Rattle.image_bodies.proofs.Cuts.{now_done, path_behind, stands_more, still_between}
 use Rattle.image_bodies.proofs.turns.write_pieces.Goals as goal
+
+next_of : (n : ℕ) → suc n ≡ n + 1
+next_of n = omega arith
 
 pub pieces-init : goal.pieces-init
 pieces-init g c = record {
@@ -24,11 +30,16 @@ pieces-init g c = record {
   };
   counted = c.new-files.ensures.none ∙ sym c.requires.ready.first;
   named = c.new-files.ensures.begins;
-  cuts = λ t. subst (λ (n : ℕ). CutsSoFar c.args.prefix.now (pieces c.args.pieces.cutter.limit
+  cuts = λ t. subst (λ (n : ℕ). CutsSoFar (naming_of c.args.names) (pieces c.args.pieces.cutter.limit
       (g.B.BlockRuns.size c.args.pieces.cutter.runs) (g.B.BlockRuns.list c.args.pieces.cutter.runs
       (g.D.At.Source.content c.args.source))) n n (g.D.Disk.held c.args.disk.now) (g.D.Disk.held c.args.disk.now)
       (g.D.Disk.world c.args.disk.now) (g.D.Disk.world c.args.disk.now)) (sym c.requires.ready.first)
       (cuts_none _ _ 0 _ _ (c.requires.one t));
+  shown = λ t. subst (λ n. ShowsPieces c.args.names.is_from_zero c.args.pieces.cutter.limit
+      (g.B.BlockRuns.size c.args.pieces.cutter.runs) (g.B.BlockRuns.list c.args.pieces.cutter.runs
+      (g.D.At.Source.content c.args.source)) n c.args.report.now c.args.report.now) (sym c.requires.ready.first)
+      ((refl, refl), refl);
+  rises = omega arith;
   fails = λ t. refl;
 }
 
@@ -44,9 +55,13 @@ pieces-preserved g c =
     let one = c.next-place.ensures.counted (omega (arith, few, i.counted)) in
     let p = rw i.runs at o.cuts.is_next in
     let behind : c.next-place.new.self.count ≡ cutter.made + 1 = omega (arith, one, i.counted) in
-    let path : path_out c.next-place.result ≡ piece_path c.args.prefix.now (cutter.made + 1)
-    = piece_place c.next-place.result c.args.prefix.now (cutter.made + 1) c.next-place.ensures.folder
-    (c.next-place.ensures.number ∙ ap Some behind) (ap (λ s. s.now) c.next-place.ensures.name ∙ i.named) in
+    let path : path_out c.next-place.result ≡ path_in_turn (naming_of c.args.names) (cutter.made + 1)
+    = path_behind c.next-place.result c.args.names _ _ _ (cutter.made + 1) c.next-place.ensures.folder
+    c.next-place.ensures.number c.next-place.ensures.name c.next-place.ensures.begins i.named behind in
+    let number : c.unwrap_or.result ≡ number_in_turn c.args.names.is_from_zero (suc cutter.made)
+    = c.unwrap_or.ensures ∙ ap (λ o. unwrap_or o 1) c.next-place.ensures.number
+    ∙ ap (λ k. number_in_turn k.is_from_zero c.next-place.new.self.count) (c.next-place.ensures.begins ∙ i.named)
+    ∙ ap (number_in_turn c.args.names.is_from_zero) (behind ∙ sym (next_of cutter.made)) in
     record {
       runs = c.put_piece-answer.ensures.cuts.cutter.same_image ∙ i.runs;
       limit = c.put_piece-answer.ensures.cuts.cutter.same_limit ∙ i.limit;
@@ -54,11 +69,29 @@ pieces-preserved g c =
       told = λ t. rw (i.runs, i.kept t) at (c.put_piece-answer.ensures.cuts.told t);
       stands = stands_more n cutter.made _ _ _ _ _ p.passed p.one_more (sym p.ends);
       counted = omega (arith, one, i.counted, p.one_more);
-      named = ap (λ s. s.now) c.next-place.ensures.begins ∙ i.named;
+      named = c.next-place.ensures.begins ∙ i.named;
       cuts = λ t. rw (sym p.one_more) at
-          (cuts_more c.args.prefix.now _ cutter.made _ _ _ _ _ _ _ path (i.cuts t)
+          (cuts_more (naming_of c.args.names) _ cutter.made _ _ _ _ _ _ _ path (i.cuts t)
           (rw (i.runs, i.limit, i.kept (g.met.D.Disk.source_told t)) at (o.adds t))
           (c.put_piece-answer.ensures.left t).only);
+      shown = λ t. subst (λ n. ShowsPieces c.args.names.is_from_zero c.args.pieces.cutter.limit
+          (g.B.BlockRuns.size c.args.pieces.cutter.runs) (g.B.BlockRuns.list c.args.pieces.cutter.runs
+          (g.D.At.Source.content c.args.source)) n c.args.report.now c.print_piece.new.report)
+          (next_of cutter.made ∙ sym p.one_more) (
+            c.pieces.report,
+            (
+              c.in-Ok.end.0,
+              (
+                i.shown t,
+                (
+                  rw (i.runs, i.limit, i.kept (g.met.D.Disk.source_told t)) at (o.told t),
+                  subst (λ n. Shows c.pieces.report c.print_piece.new.report
+                      (piece_line n c.in-Ok.end.0)) number c.in-Ok-print_piece.ensures.shown,
+                ),
+              ),
+            ),
+          );
+      rises = omega (arith, i.rises, c.print_piece.ensures.rises);
       fails = λ t. o.clean t ∙ i.fails t;
     }
 
@@ -79,6 +112,13 @@ put_piece-answer-requires-clause-ready g c =
     }
 
 -- where all are cut
+
+pub returns-then-not-more-clause-told : goal.returns-then-not-more-clause-told
+returns-then-not-more-clause-told g c = λ t.
+    let i = c.pieces.invariant in
+    subst (λ n. ShowsPieces c.args.names.is_from_zero c.args.pieces.cutter.limit
+    (g.B.BlockRuns.size c.args.pieces.cutter.runs) (g.B.BlockRuns.list c.args.pieces.cutter.runs
+    (g.D.At.Source.content c.args.source)) n c.args.report.now c.pieces.report) (sym i.counted) (i.shown t)
 
 pub returns-then-not-more-clause-done : goal.returns-then-not-more-clause-done
 returns-then-not-more-clause-done g c = λ t.
@@ -112,11 +152,11 @@ returns-in-Err-clause-left g c = λ t.
     i.stands is left (omega arith) in
     let one = c.next-place.ensures.counted (omega (arith, few, i.counted)) in
     let behind : c.next-place.new.self.count ≡ cutter.made + 1 = omega (arith, one, i.counted) in
-    let path : path_out c.next-place.result ≡ piece_path c.args.prefix.now (cutter.made + 1)
-    = piece_place c.next-place.result c.args.prefix.now (cutter.made + 1) c.next-place.ensures.folder
-    (c.next-place.ensures.number ∙ ap Some behind) (ap (λ s. s.now) c.next-place.ensures.name ∙ i.named) in
+    let path : path_out c.next-place.result ≡ path_in_turn (naming_of c.args.names) (cutter.made + 1)
+    = path_behind c.next-place.result c.args.names _ _ _ (cutter.made + 1) c.next-place.ensures.folder
+    c.next-place.ensures.number c.next-place.ensures.name c.next-place.ensures.begins i.named behind in
     cuts_left _ _ _ _ _ _ _ _
-    (cuts_stop c.args.prefix.now _ cutter.made _ _ _ _ _ _ _ path (i.cuts t) (c.in-Err.ensures.keeps t)
+    (cuts_stop (naming_of c.args.names) _ cutter.made _ _ _ _ _ _ _ path (i.cuts t) (c.in-Err.ensures.keeps t)
     (c.in-Err.ensures.left t).only)
 
 pub returns-in-Err-clause-refused : goal.returns-in-Err-clause-refused
@@ -129,11 +169,11 @@ returns-in-Err-clause-refused g c = λ t.
     i.stands is left (omega arith) in
     let one = c.next-place.ensures.counted (omega (arith, few, i.counted)) in
     let behind : c.next-place.new.self.count ≡ cutter.made + 1 = omega (arith, one, i.counted) in
-    let path : path_out c.next-place.result ≡ piece_path c.args.prefix.now (cutter.made + 1)
-    = piece_place c.next-place.result c.args.prefix.now (cutter.made + 1) c.next-place.ensures.folder
-    (c.next-place.ensures.number ∙ ap Some behind) (ap (λ s. s.now) c.next-place.ensures.name ∙ i.named) in
+    let path : path_out c.next-place.result ≡ path_in_turn (naming_of c.args.names) (cutter.made + 1)
+    = path_behind c.next-place.result c.args.names _ _ _ (cutter.made + 1) c.next-place.ensures.folder
+    c.next-place.ensures.number c.next-place.ensures.name c.next-place.ensures.begins i.named behind in
     failed (c.in-Err.ensures.outside t) (omega (arith, i.fails t, c.in-Err.ensures.cause t)) cutter.made
-    (cuts_stop c.args.prefix.now _ cutter.made _ _ _ _ _ _ _ path (i.cuts t) (c.in-Err.ensures.keeps t)
+    (cuts_stop (naming_of c.args.names) _ cutter.made _ _ _ _ _ _ _ path (i.cuts t) (c.in-Err.ensures.keeps t)
     (c.in-Err.ensures.left t).only)
 
 -- its line could not be printed
@@ -148,11 +188,11 @@ returns-in-Err-print_piece-clause-left g c = λ t.
     i.stands is left (omega arith) in
     let one = c.next-place.ensures.counted (omega (arith, few, i.counted)) in
     let behind : c.next-place.new.self.count ≡ cutter.made + 1 = omega (arith, one, i.counted) in
-    let path : path_out c.next-place.result ≡ piece_path c.args.prefix.now (cutter.made + 1)
-    = piece_place c.next-place.result c.args.prefix.now (cutter.made + 1) c.next-place.ensures.folder
-    (c.next-place.ensures.number ∙ ap Some behind) (ap (λ s. s.now) c.next-place.ensures.name ∙ i.named) in
+    let path : path_out c.next-place.result ≡ path_in_turn (naming_of c.args.names) (cutter.made + 1)
+    = path_behind c.next-place.result c.args.names _ _ _ (cutter.made + 1) c.next-place.ensures.folder
+    c.next-place.ensures.number c.next-place.ensures.name c.next-place.ensures.begins i.named behind in
     cuts_left _ _ _ _ _ _ _ _
-    (cuts_more c.args.prefix.now _ cutter.made _ _ _ _ _ _ _ path (i.cuts t)
+    (cuts_more (naming_of c.args.names) _ cutter.made _ _ _ _ _ _ _ path (i.cuts t)
     (rw (i.runs, i.limit, i.kept (g.met.D.Disk.source_told t)) at (c.in-Ok.ensures.adds t))
     (c.put_piece-answer.ensures.left t).only)
 
@@ -166,10 +206,11 @@ returns-in-Err-print_piece-clause-refused g c = λ t.
     i.stands is left (omega arith) in
     let one = c.next-place.ensures.counted (omega (arith, few, i.counted)) in
     let behind : c.next-place.new.self.count ≡ cutter.made + 1 = omega (arith, one, i.counted) in
-    let path : path_out c.next-place.result ≡ piece_path c.args.prefix.now (cutter.made + 1)
-    = piece_place c.next-place.result c.args.prefix.now (cutter.made + 1) c.next-place.ensures.folder
-    (c.next-place.ensures.number ∙ ap Some behind) (ap (λ s. s.now) c.next-place.ensures.name ∙ i.named) in
-    untold c.in-Err-print_piece.refusal.fault c.into.ensures (cutter.made + 1) (omega arith) (cuts_more
-    c.args.prefix.now _ cutter.made _ _ _ _ _ _ _ path (i.cuts t)
+    let path : path_out c.next-place.result ≡ path_in_turn (naming_of c.args.names) (cutter.made + 1)
+    = path_behind c.next-place.result c.args.names _ _ _ (cutter.made + 1) c.next-place.ensures.folder
+    c.next-place.ensures.number c.next-place.ensures.name c.next-place.ensures.begins i.named behind in
+    untold c.in-Err-print_piece.refusal.fault c.into.ensures
+    (inl (omega (arith, i.rises, c.in-Err-print_piece.ensures.refused))) (cutter.made + 1) (omega arith) (cuts_more
+    (naming_of c.args.names) _ cutter.made _ _ _ _ _ _ _ path (i.cuts t)
     (rw (i.runs, i.limit, i.kept (g.met.D.Disk.source_told t)) at (c.in-Ok.ensures.adds t))
     (c.put_piece-answer.ensures.left t).only)

@@ -1,8 +1,10 @@
-use Rattle.std.proofs.Common.{◌≡◌, ◌+◌, ◌-◌}
+use Rattle.std.proofs.Common.{◌≡◌, ◌≤◌, ◌+◌, ◌-◌}
 use Rattle.std.specs.Prelude.{IsTrue}
 use Rattle.abt_pieces.specs.Cutter.{ToldCutter}
 use Rattle.abt_sparse.specs.Pieces.{pieces}
-use Rattle.image_bodies.specs.Cutting.{CutsSoFar}
+use Rattle.sparse_rules.specs.PieceNames.{naming_of}
+use Rattle.abt_report.specs.Shows.{refusals}
+use Rattle.image_bodies.specs.Cutting.{CutsSoFar, ShowsPieces}
 use Rattle.image_bodies.proofs.Cuts.{StandsNow, left_of}
 use Rattle.image_bodies.proofs.turns.write_pieces.Given as goal
 
@@ -24,10 +26,13 @@ invariant-pieces g l =
       stands : StandsNow (g.B.BlockRuns.count image) l.pieces.cutter.made l.pieces.cutter.start.block
           l.pieces.cutter.stage;
       counted : l.files.count ≡ l.pieces.cutter.made;
-      named : l.files.prefix.now ≡ l.prefix;
-      cuts : IsTrue g.D.Disk.tells → CutsSoFar l.prefix (pieces cutter.limit size list) l.pieces.cutter.made
+      named : l.files.names ≡ l.names;
+      cuts : IsTrue g.D.Disk.tells → CutsSoFar (naming_of l.names) (pieces cutter.limit size list) l.pieces.cutter.made
           l.pieces.cutter.made
           (g.D.Disk.held l.fn.disk) (g.D.Disk.held l.disk) (g.D.Disk.world l.fn.disk) (g.D.Disk.world l.disk);
+      shown : IsTrue g.D.Disk.tells → ShowsPieces l.names.is_from_zero cutter.limit size list l.pieces.cutter.made
+          l.fn.report l.report;
+      rises : refusals l.fn.report ≤ refusals l.report;
       fails : IsTrue g.D.Disk.tells → (g.D.Disk.held l.disk).failed + g.D.At.Source.read_faults l.source
           ≡ (g.D.Disk.held l.fn.disk).failed + g.D.At.Source.read_faults l.fn.source;
     }

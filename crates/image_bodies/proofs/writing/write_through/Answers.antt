@@ -13,9 +13,11 @@ returns g c = record {
             (holds_end c.write_image-answer.result c.ended.result _ _ _ _ _ _
             (c.write_image-answer.ensures.lays.written told) c.ended.ensures.done (c.ended.ensures.ended t));
         closed = closes_answer _ _ _ _ _ _ _ _ _ (c.requires.ready.image.read t)
-            (c.requires.ready.output.clean t) (c.let_go_source.ensures.held t) (c.ended.ensures.closed t) fails.clean (fails.cause told)
+            (c.requires.ready.output.clean t) (c.let_go_source.ensures.held t) (c.ended.ensures.closed t) fails.clean
+            (fails.cause told)
             (answered _ _ c.ended.ensures.done);
         rest = rw (c.let_go_source.ensures.held t, c.let_go_source.ensures.world t) at (c.ended.ensures.rest t);
         outside = search rules;
       };
+  stream = λ t. c.ended.ensures.stream t;
 }

@@ -1,5 +1,6 @@
-use Rattle.std.proofs.Common.{rules}
-use Rattle.info_bodies.proofs.Told.{as_told, checked, flawed, info_told, informed, sound, text_alone, text_before}
+use Rattle.std.proofs.Common.{refl, rules}
+use Rattle.info_bodies.proofs.Told.{as_told, cannot_behind, checked, flawed, info_told, informed, sound, text_alone}
+use Rattle.info_bodies.proofs.Told.{text_before}
 use Rattle.info_bodies.proofs.Told.{text_checked}
 use Rattle.info_bodies.proofs.telling.tell_image.Goals as goal
 
@@ -29,11 +30,13 @@ returns-in-Ok-tell_check-clause-done g c = λ t.
 pub returns-in-Err-tell_check-clause-refused : goal.returns-in-Err-tell_check-clause-refused
 returns-in-Err-tell_check-clause-refused g c = λ t.
     let reported = c.in-Ok.ensures.reported t in
-    checked _ _ c.args.with_check c.in-Ok.told.verdict _ _ _ c.args.report.now c.tell_check.new.report
+    checked _ _ c.args.with_check c.in-Ok.told.verdict _ _ _ c.args.report.now c.tell_check.new.report _
     c.in-Err-tell_check.refusal.fault (first_of (search (rules, c.if-not-with_check.false), cc))
     c.in-Ok.ensures.leaves.reads
     (text_before _ _ c.args.report.now (record c.args.report.now { out = c.report_info.new.out })
     c.tell_check.new.report
     (as_told _ _ _ _ _ c.notation_of.ensures (c.in-Ok.ensures.printed t)))
     (λ bad. flawed _ _ _ (g.met.S.Source.are_bytes c.args.source.now t) reported.0.has reported.1 bad)
+    (cannot_behind c.args.report.now (record c.args.report.now { out = c.report_info.new.out })
+    c.tell_check.new.report c.in-Ok.ensures.leaves.clean refl refl)
     c.in-Err-tell_check.ensures.refused

@@ -1,12 +1,12 @@
 use Rattle.std.proofs.Common.{ap, refl, sym, subst, ◌∙◌}
 use Rattle.std.specs.List.{All}
-use Rattle.abt_report.specs.Shows.{unprinted}
+use Rattle.abt_report.specs.Shows.{Unprinted}
 use Rattle.abt_disk.specs.World.{World}
 use Rattle.boot_rules.specs.Carried.{IsTaken}
 use Rattle.pack_outputs.specs.Contents.{packed_image}
 use Rattle.pack_bodies.specs.Packing.{IsPackedBy}
 use Rattle.boot_rules.specs.Sources.{content_of}
-use Rattle.pack_bodies.proofs.Packs.{given_kind, keeps_given, left_behind, opens_kind, packed_by, packs}
+use Rattle.pack_bodies.proofs.Packs.{given_kind, keeps_given, lays_beside, left_behind, opens_kind, packed_by, packs}
 use Rattle.pack_bodies.proofs.Packs.{refuses_filling, refuses_words, refuses_writing, stops_kind}
 use Rattle.pack_outputs.proofs.Closes.{left_unopened}
 use Rattle.pack_bodies.proofs.pack.pack_file.Goals as goal
@@ -86,7 +86,8 @@ returns-in-Err-write_image-clause-refused g c = λ t.
     (opens_kind _ _ _ _ _ _ c.in-Ok.ensures.kind (c.in-Ok-contents_of.ensures.fills.opened t))
     (given_kind _ _ _ _ _ c.in-Ok.ensures.kind c.in-Ok.ensures.given)
     (c.in-Ok-contents_of.ensures.fills.kind ∙ c.in-Ok.ensures.kind) (c.in-Ok-contents_of.ensures.asked t)
-    (packs c.args.command.now _ _ _ _ _ _ _ unprinted c.output_at-output.ensures
+    (packs c.args.command.now _ _ _ _ _ _ _ (Unprinted c.args.report.now c.write_image.new.report)
+    c.output_at-output.ensures
     (c.in-Ok-contents_of.ensures.fills.keeps t).world
     (opens_kind _ _ _ _ _ _ c.in-Ok.ensures.kind (c.in-Ok-contents_of.ensures.fills.opened t))
     (packed_by (content_of g.D.At.Source.content) c.args.command.now _ _ c.in-Ok-contents_of.contents _
@@ -125,4 +126,5 @@ returns-in-Ok-write_image-clause-done g c = λ t.
     (c.in-Ok.ensures.known refl) (given_kind _ _ _ _ _ c.in-Ok.ensures.kind c.in-Ok.ensures.given)
     (c.in-Ok-contents_of.ensures.fills.kind ∙ c.in-Ok.ensures.kind) (c.in-Ok-contents_of.ensures.asked t)
     c.in-Ok-contents_of.ensures.alone refl)
-    (c.in-Ok-write_image.ensures.done t)
+    (lays_beside g.D.Disk.on_output _ _ _ _ _ _ c.args.report.now c.write_image.new.report c.output_at-output.ensures
+    (c.in-Ok-write_image.ensures.done t))

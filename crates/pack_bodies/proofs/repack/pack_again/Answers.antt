@@ -1,6 +1,6 @@
 use Rattle.std.proofs.Common.{◌∙◌, ap, refl, subst, sym}
 use Rattle.abt_refusals.specs.Paths.{output_path}
-use Rattle.abt_report.specs.Shows.{Shows, unprinted}
+use Rattle.abt_report.specs.Shows.{ShowsBeside, Unprinted}
 use Rattle.abt_sections.specs.Header.{fragment_count, view_of}
 use Rattle.abt_sections.specs.Open.{IsOpened}
 use Rattle.pack_inputs.specs.Own.{entries_to}
@@ -26,7 +26,9 @@ returns-in-Err-clause-refused g c = λ t.
 -- it is packed
 pub returns-in-Ok-write_again-clause-done : goal.returns-in-Ok-write_again-clause-done
 returns-in-Ok-write_again-clause-done g c = λ t.
-    content_done c.args.command.now _ _ _ _ _ _ (Shows c.args.report.now c.write_again.new.report)
+    content_done c.args.command.now _ _ _ _ _ _
+    (ShowsBeside (g.D.Disk.on_output (output_path c.args.command.now.output.now)) c.args.report.now
+    c.write_again.new.report)
     (c.in-Ok.ensures.reads.content (g.met.D.Disk.source_told t)) (c.in-Ok-write_again.ensures.done t)
 
 pub returns-in-Ok-write_again-clause-clean : goal.returns-in-Ok-write_again-clause-clean
@@ -48,7 +50,7 @@ returns-clause-left g c = λ t.
 
 pub returns-clause-refused : goal.returns-clause-refused
 returns-clause-refused g c = λ t.
-    content_refused c.args.command.now _ _ _ _ _ _ _ _ unprinted _
+    content_refused c.args.command.now _ _ _ _ _ _ _ _ (Unprinted c.args.report.now c.write_again.new.report) _
     (c.in-Ok.ensures.reads.content (g.met.D.Disk.source_told t)) (c.in-Err-write_again.ensures.refused t)
     (λ failed. calls_failed _ _ _ _ c.in-Ok.ensures.reads.clean failed)
 

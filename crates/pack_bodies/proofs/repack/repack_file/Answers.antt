@@ -1,6 +1,6 @@
 use Rattle.std.proofs.Common.{◌∙◌}
-use Rattle.abt_report.specs.Shows.{Shows, unprinted}
-use Rattle.abt_refusals.specs.Paths.{path_of}
+use Rattle.abt_report.specs.Shows.{ShowsBeside, Unprinted}
+use Rattle.abt_refusals.specs.Paths.{output_path, path_of}
 use Rattle.pack_bodies.specs.RefusingAgain.{no_image}
 use Rattle.pack_bodies.specs.Repacking.{ShowsFirst}
 use Rattle.pack_bodies.proofs.Repacks.{clean_all, failed_all, keeps_all, left_all, refuses_all, repacks}
@@ -26,8 +26,15 @@ returns-in-Ok-answer-clause-done g c = λ t.
     repacks (path_of c.args.input) c.args.command.now _ _ _ _ _ _ _ _ (c.in-Ok.ensures.opens.opened t)
     (c.in-Ok.ensures.image (g.met.D.Disk.source_told t))
     (c.in-Ok.ensures.opens.keeps t).world (c.let_go_source.ensures.world t)
-    (Shows c.args.report.now c.pack_again-answer.new.report) (ShowsFirst c.args.report.now c.tell_left_out.new.report)
-    (λ line shown. c.tell_left_out.ensures c.args.report.now line shown) (c.in-Ok-answer.ensures.done t)
+    (ShowsBeside (g.D.Disk.on_output (output_path c.args.command.now.output.now)) c.args.report.now
+    c.pack_again-answer.new.report)
+    (ShowsFirst (g.D.Disk.on_output (output_path c.args.command.now.output.now)) c.args.report.now
+    c.tell_left_out.new.report)
+    (λ line shown. record {
+      between = c.pack_again-answer.new.report;
+      line = shown;
+      behind = c.tell_left_out.ensures;
+    }) (c.in-Ok-answer.ensures.done t)
 
 pub returns-in-Ok-answer-clause-inputs : goal.returns-in-Ok-answer-clause-inputs
 returns-in-Ok-answer-clause-inputs g c = λ t.
@@ -69,4 +76,5 @@ returns-in-Err-answer-clause-refused g c = λ t.
     (c.let_go_source.ensures.held t))
     (λ done. repacks (path_of c.args.input) c.args.command.now _ _ _ _ _ _ _ _ (c.in-Ok.ensures.opens.opened t)
     (c.in-Ok.ensures.image (g.met.D.Disk.source_told t))
-    (c.in-Ok.ensures.opens.keeps t).world (c.let_go_source.ensures.world t) _ unprinted (λ line shown. tt) done)
+    (c.in-Ok.ensures.opens.keeps t).world (c.let_go_source.ensures.world t) _
+    (Unprinted c.args.report.now c.pack_again-answer.new.report) (λ line shown. shown) done)

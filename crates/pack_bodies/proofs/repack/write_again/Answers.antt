@@ -1,10 +1,12 @@
 use Rattle.std.proofs.Common.{◌∙◌, refl}
-use Rattle.abt_report.specs.Shows.{Shows, unprinted}
+use Rattle.abt_refusals.specs.Paths.{output_path}
+use Rattle.abt_report.specs.Shows.{ShowsBeside, Unprinted}
 use Rattle.pack_outputs.specs.Contents.{packing_of}
 use Rattle.boot_rules.specs.Sources.{content_of}
 use Rattle.pack_bodies.proofs.Again.{filling_refuses, keeps_again, left_again, packs_again, ready}
 use Rattle.pack_bodies.proofs.Again.{stays_kept}
 use Rattle.pack_bodies.proofs.Again.{words_refuse, writing_stops}
+use Rattle.pack_bodies.proofs.Packs.{lays_beside}
 use Rattle.pack_outputs.proofs.Closes.{left_unopened}
 use Rattle.pack_bodies.proofs.repack.write_again.Goals as goal
 
@@ -49,7 +51,10 @@ returns-in-Ok-write_image-clause-done g c = λ t.
     (c.in-Ok-contents_of.ensures.fills.keeps t).world (c.in-Ok-contents_of.ensures.fills.opened t)
     c.own_fields-own_fields.ensures
     c.in-Ok.ensures.given (c.in-Ok-contents_of.ensures.asked t) (c.in-Ok-contents_of.ensures.behind t)) _ _
-    (Shows c.args.report.now c.write_image.new.report) c.output_at-output.ensures (c.in-Ok-write_image.ensures.done t)
+    (ShowsBeside (g.D.Disk.on_output (output_path c.args.command.now.output.now)) c.args.report.now
+    c.write_image.new.report) c.output_at-output.ensures
+    (lays_beside g.D.Disk.on_output _ _ _ _ _ _ c.args.report.now c.write_image.new.report c.output_at-output.ensures
+    (c.in-Ok-write_image.ensures.done t))
 
 pub returns-in-Ok-write_image-clause-given : goal.returns-in-Ok-write_image-clause-given
 returns-in-Ok-write_image-clause-given g c = λ t.
@@ -101,4 +106,5 @@ returns-in-Err-write_image-clause-refused g c = λ t.
     (c.in-Ok-contents_of.ensures.fills.keeps t).world (c.in-Ok-contents_of.ensures.fills.opened t)
     c.own_fields-own_fields.ensures
     c.in-Ok.ensures.given (c.in-Ok-contents_of.ensures.asked t) (c.in-Ok-contents_of.ensures.behind t)) _ _ _
-    unprinted _ c.output_at-output.ensures (c.in-Err-write_image.ensures.refused t)
+    (Unprinted c.args.report.now c.write_image.new.report) _ c.output_at-output.ensures
+    (c.in-Err-write_image.ensures.refused t)

@@ -1,10 +1,12 @@
-use Rattle.pack_bodies.proofs.Repacks.{grown_thrice, note_behind}
+use Rattle.std.proofs.Common.{refl}
+use Rattle.pack_bodies.proofs.Repacks.{grown_thrice}
 use Rattle.pack_bodies.proofs.telling.tell_left_out.Goals as goal
 
 pub returns : goal.returns
-returns c = λ before line shown.
+returns c =
     let first = c.short.ensures.1.grown in
     let next = c.end_line.ensures.grown in
-    let last = c.finish.ensures.prints.grown in
-    note_behind before c.args.report.now line _ _ shown
-    (grown_thrice _ _ _ _ _ first.0 next.0 last.0 c.new-text.ensures.written first.1 next.1 last.1)
+    let last = c.finish.ensures.prints.grown in (
+      (refl, refl),
+      (_, grown_thrice _ _ _ _ _ first.0 next.0 last.0 c.new-text.ensures.written first.1 next.1 last.1),
+    )

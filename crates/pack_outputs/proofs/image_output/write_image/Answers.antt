@@ -1,10 +1,9 @@
 use Rattle.std.proofs.Common.{refl, ap, ◌∙◌}
-use Rattle.abt_report.specs.Shows.{unprinted}
 use Rattle.abt_disk.proofs.Worlds.{only_written}
 use Rattle.boot_rules.specs.Sources.{faults_of}
 use Rattle.pack_outputs.specs.Writing.{failed, untold}
 use Rattle.pack_outputs.proofs.Closes.{closed_created, failed_created, failed_once, left_unopened}
-use Rattle.pack_outputs.proofs.Outputs.{host_outside, judged_stops, lays, left_done, part_emptied, part_left}
+use Rattle.pack_outputs.proofs.Outputs.{beside_as, host_outside, judged_stops, lays, left_done, part_emptied, part_left}
 use Rattle.pack_outputs.proofs.Outputs.{ready_image}
 use Rattle.pack_outputs.proofs.image_output.write_image.Goals as goal
 
@@ -72,8 +71,8 @@ returns-in-Err-printed-clause-left g c = λ t.
 pub returns-in-Err-printed-clause-refused : goal.returns-in-Err-printed-clause-refused
 returns-in-Err-printed-clause-refused g c = λ t.
     untold _ c.into-in-Err-printed.ensures
-    (lays _ _ _ _ _ _ _ _ unprinted (c.in-Ok-image.ensures.created t) (c.in-Ok-write_to.ensures.writes t).ended
-    (c.in-Ok-write_to.ensures.writes t).number tt)
+    (lays _ _ _ _ _ _ _ _ _ (c.in-Ok-image.ensures.created t) (c.in-Ok-write_to.ensures.writes t).ended
+    (c.in-Ok-write_to.ensures.writes t).number c.in-Err-printed.ensures.refused)
 
 -- all is done
 
@@ -85,5 +84,6 @@ returns-in-Ok-printed-clause-left g c = λ t.
 
 pub returns-in-Ok-printed-clause-done : goal.returns-in-Ok-printed-clause-done
 returns-in-Ok-printed-clause-done g c = λ t.
-    lays _ _ _ _ _ _ _ _ _ (c.in-Ok-image.ensures.created t) (c.in-Ok-write_to.ensures.writes t).ended
-    (c.in-Ok-write_to.ensures.writes t).number c.in-Ok-printed.ensures
+    let wrote = c.in-Ok-write_to.ensures.writes t in
+    lays _ _ _ _ _ _ _ _ _ (c.in-Ok-image.ensures.created t) wrote.ended wrote.number
+    (beside_as _ _ c.args.report.now c.printed.new.report _ wrote.stream c.in-Ok-printed.ensures.shown)

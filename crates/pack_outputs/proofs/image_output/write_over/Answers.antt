@@ -14,6 +14,7 @@ returns-in-Ok-finish_image g c = record {
         ended = ends_behind _ _ _ _ _ _ _ _ (let_go.held t) (let_go.world t)
             (rw c.in-Ok.is at (laid.written told)) (c.in-Ok-finish_image.ensures.ended t);
         number = rw c.in-Ok.is at (laid.number told);
+        stream = c.in-Ok-finish_image.ensures.stream t;
         closed = closes_laid _ _ _ _ _ _ _ (c.requires.ready.unread t) (c.requires.ready.clean t) (let_go.held t)
             (c.in-Ok-finish_image.ensures.closed t) (rw c.in-Ok.is at laid.clean);
         rest = rest_behind _ _ _ _ _ _ (let_go.held t) (let_go.world t) (c.in-Ok-finish_image.ensures.rest t);
@@ -29,6 +30,7 @@ returns-in-Err-finish_image g c = record {
       record {
         ended = tt;
         number = tt;
+        stream = tt;
         closed = closes_unended _ _ _ _ _ (let_go.held t) (c.in-Err-finish_image.ensures.closed t);
         rest = rest_behind _ _ _ _ _ _ (let_go.held t) (let_go.world t) (c.in-Err-finish_image.ensures.rest t);
         outside = search rules;
@@ -47,6 +49,7 @@ returns-in-Err g c = record {
       record {
         ended = tt;
         number = tt;
+        stream = tt;
         closed = closes_unlaid _ _ _ _ _ _ _ (let_go.held t) (c.stopped.ensures.gone.closed t)
             (rw c.in-Err.is at (laid.packs.cause (g.met.D.Disk.source_told t)));
         rest = rest_behind _ _ _ _ _ _ (let_go.held t) (let_go.world t) (c.stopped.ensures.gone.rest t);

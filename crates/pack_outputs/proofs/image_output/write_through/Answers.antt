@@ -16,6 +16,7 @@ returns g c = record {
             (packs.written told) (c.ended.ensures.ended t);
         number = counts_end c.pack_contents-answer.result c.of_bytes.result c.ended.result faults.Section _
             c.of_bytes.ensures c.ended.ensures.done (packs.number told);
+        stream = c.ended.ensures.stream t;
         closed = closes_answer c.of_bytes.result c.ended.result _ _ _ _ _ _ _ (c.requires.ready.unread t)
             (c.requires.ready.clean t) (let_go.held t) (c.ended.ensures.closed t)
             (told_done c.pack_contents-answer.result c.of_bytes.result faults.Section _ c.of_bytes.ensures packs.clean)

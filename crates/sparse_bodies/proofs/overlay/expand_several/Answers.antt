@@ -1,5 +1,6 @@
 use Rattle.std.proofs.Common.{rules, inl, inr, ◌∙◌, refl, sym, ap}
 use Rattle.std.proofs.lemmas.List.{length-map}
+use Rattle.abt_report.proofs.Beside.{beside}
 use Rattle.sparse_bodies.proofs.Files.{handed_on}
 use Rattle.sparse_bodies.proofs.Overlays.{as_long, clean_closing, failed_closing, failed_in_all, failed_laying}
 use Rattle.sparse_bodies.proofs.Overlays.{failed_zeros, from_files, from_laying}
@@ -17,7 +18,7 @@ returns-in-Err-clause-leaves g c = λ t. record {
 }
 
 pub returns-in-Err-clause-refused : goal.returns-in-Err-clause-refused
-returns-in-Err-clause-refused g c = λ t. from_opening c.in-Err.refusal.fault _ _ _ _ _ _ (c.in-Err.ensures.refused t)
+returns-in-Err-clause-refused g c = λ t. from_opening _ c.in-Err.refusal.fault _ _ _ _ _ _ (c.in-Err.ensures.refused t)
 
 pub returns-in_err-zeros-clause-leaves : goal.returns-in_err-zeros-clause-leaves
 returns-in_err-zeros-clause-leaves g c = λ t.
@@ -28,7 +29,7 @@ returns-in_err-zeros-clause-leaves g c = λ t.
 pub returns-in_err-zeros-clause-refused : goal.returns-in_err-zeros-clause-refused
 returns-in_err-zeros-clause-refused g c = λ t.
     handed_on c.from_residual.result _ _
-    (λ r made. from_files r.fault _ _ _ _ _ _ (_, made)
+    (λ r made. from_files _ r.fault _ _ _ _ _ _ (_, made)
     (inl (failed_zeros _ _ _ _ _ _ (c.in-Ok.ensures.opened t) (c.in_err-zeros.ensures.kept t))))
     c.from_residual.ensures.1
 
@@ -63,7 +64,7 @@ returns-in-Err-answer-clause-refused g c = λ t.
     let failures = g.D.Part.Partition.put_faults c.lay_all-answer.new.onto in
     let counts = failed_in_all _ _ _ _ _ _ _ failures _ (g.D.Part.Partition.past c.lay_all-answer.new.onto) h _ h2 h3 h4
     opened (c.in_ok-zeros.ensures.made t) (c.close-end.ensures.closed t) in
-    from_laying c.in-Err-answer.refusal.fault _ _ _ _ h h4 _ _
+    from_laying _ c.in-Err-answer.refusal.fault _ _ _ _ h h4 _ _
     (failed_laying h h2 h3 h4 _ failures _ counts (c.in_ok-zeros.ensures.clean t))
     (c.in-Err-answer.ensures.refused t s.number s.size long s.all (c.in-Ok.ensures.clean t))
 
@@ -85,7 +86,7 @@ returns-in-Err-end-clause-refused g c = λ t.
     let failures = g.D.Part.Partition.put_faults c.lay_all-answer.new.onto in
     let counts = failed_in_all _ _ _ _ _ _ _ failures _ (g.D.Part.Partition.past c.lay_all-answer.new.onto) h _ h2 h3 h4
     opened (c.in_ok-zeros.ensures.made t) (c.in-Err-end.ensures.closed t) in
-    from_files c.into.result.fault _ _ _ _ _ _ (_, c.into.ensures) (inl
+    from_files _ c.into.result.fault _ _ _ _ _ _ (_, c.into.ensures) (inl
     (failed_closing h h2 h3 h4 _ failures _ counts (c.in_ok-zeros.ensures.clean t)
     (c.in-Ok-answer.ensures.clean t (c.in-Ok.ensures.clean t)) refl))
 
@@ -99,12 +100,12 @@ returns-in-Err-printed-clause-leaves g c = λ t.
 
 pub returns-in-Err-printed-clause-refused : goal.returns-in-Err-printed-clause-refused
 returns-in-Err-printed-clause-refused g c = λ t.
-    from_files c.into-in-Err-printed.result.fault _ _ _ _ _ _ (_, c.into-in-Err-printed.ensures) (inr
-    (overlays _ _ _ _ _ _ _ _ _ _ _ _ _ _ _ _ (λ _. Unit {0}) c.whole_of-blocks.ensures (c.in-Ok.ensures.opened t)
+    from_files _ c.into-in-Err-printed.result.fault _ _ _ _ _ _ (_, c.into-in-Err-printed.ensures) (inr
+    (overlays _ _ _ _ _ _ _ _ _ _ _ _ _ _ _ _ _ c.whole_of-blocks.ensures (c.in-Ok.ensures.opened t)
     (c.in-Ok.ensures.shape t) (c.in-Ok.ensures.turn t) (c.in_ok-zeros.ensures.made t) (c.open_all.ensures.alone t).world
     (c.in_ok-zeros.ensures.zeros t)
     (c.in-Ok-answer.ensures.laid t) (c.lay_all-answer.ensures.alone.world t) (c.lay_all-answer.ensures.alone.held t)
-    (c.close-end.ensures.ended t) (c.close-end.ensures.paths t) tt))
+    (c.close-end.ensures.ended t) (c.close-end.ensures.paths t) c.in-Err-printed.ensures.refused))
 
 pub returns-in-Ok-printed-clause-leaves : goal.returns-in-Ok-printed-clause-leaves
 returns-in-Ok-printed-clause-leaves g c = λ t.
@@ -138,4 +139,5 @@ returns-in-Ok-printed-clause-done g c = λ t.
     (c.in-Ok.ensures.shape t) (c.in-Ok.ensures.turn t) (c.in_ok-zeros.ensures.made t) (c.open_all.ensures.alone t).world
     (c.in_ok-zeros.ensures.zeros t)
     (c.in-Ok-answer.ensures.laid t) (c.lay_all-answer.ensures.alone.world t) (c.lay_all-answer.ensures.alone.held t)
-    (c.close-end.ensures.ended t) (c.close-end.ensures.paths t) c.in-Ok-printed.ensures
+    (c.close-end.ensures.ended t) (c.close-end.ensures.paths t)
+    (beside c.args.report.now c.printed.new.report _ _ _ (c.in-Ok-end.ensures.stream t) c.in-Ok-printed.ensures.shown)

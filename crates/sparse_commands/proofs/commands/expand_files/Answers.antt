@@ -15,7 +15,7 @@ returns-clause-leaves g c = λ t.
     }
 
 pub returns-then-inputs-ne1-clause-done : goal.returns-then-inputs-ne1-clause-done
-returns-then-inputs-ne1-clause-done g c = λ t. several_done c.expand_several.result c.args.inputs.now
+returns-then-inputs-ne1-clause-done g c = λ t. several_done g.D.Disk.on_output c.expand_several.result c.args.inputs.now
     c.args.output.now _ (state (g.D.Disk.world c.args.disk.now) (g.D.Disk.held c.args.disk.now) c.args.report.now)
     (state (g.D.Disk.world c.expand_several.new.disk) (g.D.Disk.held c.expand_several.new.disk)
     c.expand_several.new.report) (λ one. omega (arith, one)) c.place-output.ensures.at (c.expand_several.ensures.done t)
@@ -28,7 +28,8 @@ returns-then-inputs-ne1-clause-leaves g c = λ t.
       spares = several_spared c.args.inputs.now c.args.output.now _
           (state (g.D.Disk.world c.args.disk.now) (g.D.Disk.held c.args.disk.now) c.args.report.now)
           (state (g.D.Disk.world c.expand_several.new.disk) (g.D.Disk.held c.expand_several.new.disk)
-          c.expand_several.new.report) (λ one. omega (arith, one)) c.place-output.ensures.at leaves.others leaves.inputs;
+          c.expand_several.new.report) (λ one. omega
+          (arith, one)) c.place-output.ensures.at leaves.others leaves.inputs;
       clean = leaves.clean;
     }
 

@@ -5,3 +5,4 @@ use Rattle.sys_file.proofs.tries.write_at.Given as goal
 abbrev pub invariant-loop : goal.invariant-loop
 invariant-loop g l = (IsTrue g.F.SystemFile.tells → g.F.SystemFile.stands l.file ≡ g.F.SystemFile.stands l.fn.file)
     × (IsTrue g.F.SystemFile.tells → g.F.SystemFile.past l.file ≡ g.F.SystemFile.past l.fn.file)
+    × (IsTrue g.F.SystemFile.tells → g.F.SystemFile.place l.file ≡ g.F.SystemFile.place l.fn.file)

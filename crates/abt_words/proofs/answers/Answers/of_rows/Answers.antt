@@ -10,5 +10,5 @@ pub returns : goal.returns
 returns c =
     let table = map shape_of c.args.rows.now in
     let P = λ (a : Answer). Contains table (shape_of a.row.now) in
-    c.in_ok-read_rows.ensures table (All-same P c.new.result.items [] c.new.ensures.items (All-nil P))
+    c.in_ok-read_found.ensures table (All-same P c.new-answers.result.all.items [] c.new-answers.ensures (All-nil P))
     (rows_last c.args.rows.now table refl)

@@ -1,0 +1,44 @@
+//! What an order says of all outputs, before its command is begun.
+
+ghost use Rattle.std.specs.Prelude.{◌≡◌, IsTrue, true};
+ghost use Rattle.abootimg.specs.OrderDone.{synced_if};
+
+use abt_disk::Disk;
+use host_disk::Host;
+use os_system::OsSystem;
+
+/// A disk that can be told how outputs end, and which may be written.
+pub trait Beginning: Disk {
+    /// Each output that is a file or a block device is going to be synced at its end.
+    fn sync_outputs(&mut self)
+        ensures held { IsTrue Self.tells → Self.held self.new ≡ synced_if true (Self.held self.old) }
+        ensures world { IsTrue Self.tells → Self.world self.new ≡ Self.world self.old };
+
+    /// Block devices may be written that are in use: mounted, or swap.
+    fn allow_mounted(&mut self)
+        ensures held { IsTrue Self.tells → Self.held self.new ≡ Self.held self.old }
+        ensures world { IsTrue Self.tells → Self.world self.new ≡ Self.world self.old };
+}
+
+impl Beginning for Host<OsSystem> {
+    fn sync_outputs(&mut self) {
+        self.sync_all();
+    }
+
+    fn allow_mounted(&mut self) {
+        self.allow_all();
+    }
+}
+
+/// Tells it.
+pub(crate) fn begin<D: Beginning>(disk: &mut D, is_synced: bool, is_mounted_allowed: bool)
+    ensures held { IsTrue D.tells → D.held disk.new ≡ synced_if is_synced (D.held disk.old) }
+    ensures world { IsTrue D.tells → D.world disk.new ≡ D.world disk.old }
+{
+    if is_synced {
+        disk.sync_outputs();
+    }
+    if is_mounted_allowed {
+        disk.allow_mounted();
+    }
+}

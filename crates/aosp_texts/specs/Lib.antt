@@ -1,0 +1,5 @@
+pub mod Files
+pub mod Info
+pub mod Shell
+pub mod Texts
+pub mod Words

@@ -1,0 +1,136 @@
+//! What opens files of the system, and tells which file it is.
+
+ghost use Rattle.std.specs.Prelude.{◌≡◌, [], IsTrue, false};
+ghost use Rattle.sys_file.specs.System.{IsJustOpened};
+
+use crate::os_file::OsFile;
+use std::alloc::Global;
+use std::fs::{File, Metadata, OpenOptions, ReadDir};
+use std::os::fd::AsRawFd;
+use std::os::unix;
+use std::os::unix::fs::MetadataExt;
+use std::{fs, io};
+use sys_file::{Kind, Opening, Stat, System, SystemFile};
+
+/// The system of this process.
+#[derive(Clone, Copy, Drop)]
+pub struct OsSystem {
+    pub rt: HostRuntime,
+}
+
+impl System for OsSystem {
+    type File = OsFile;
+
+    type Names = ReadDir;
+
+    ghost is_file = { λ _. false };
+
+    fn alloc(&self) -> Global {
+        self.rt.alloc()
+    }
+
+    fn look(&self, path: &str) -> io::Result<Stat> {
+        Ok(stat_of(&fs::metadata(&self.rt, path)?))
+    }
+
+    fn stat(&self, file: &OsFile) -> io::Result<Stat> {
+        Ok(stat_of(&file.file()?.metadata()?))
+    }
+
+    fn open(&mut self, path: &str, how: Opening) -> io::Result<OsFile> {
+        let mut options = OpenOptions::new();
+        match how {
+            Opening::Read => options.read(true),
+            Opening::Write => options.write(true),
+            Opening::Create => options.write(true).create(true),
+            Opening::CreateAndRead => options.read(true).write(true).create(true),
+        };
+        Ok(OsFile::File(options.open(&self.rt, path)?))
+    }
+
+    fn again(&self, file: &OsFile) -> io::Result<OsFile> {
+        Ok(OsFile::File(file.file()?.try_clone()?))
+    }
+
+    fn descriptor(&self, file: &OsFile) -> i32 {
+        match file {
+            OsFile::File(file) => file.as_raw_fd(),
+            OsFile::Input(stdin) => stdin.as_raw_fd(),
+            OsFile::Output(stdout, _) => stdout.as_raw_fd(),
+        }
+    }
+
+    fn input(&self) -> OsFile {
+        OsFile::Input(self.rt.stdin())
+    }
+
+    fn output(&self, synced: Option<OsFile>) -> OsFile
+        ensures fresh { IsJustOpened ⟦<OsFile as SystemFile>⟧.tells ⟦<OsFile as SystemFile>⟧.place
+            ⟦<OsFile as SystemFile>⟧.past result }
+        ensures empty { IsTrue ⟦<OsFile as SystemFile>⟧.tells → ⟦<OsFile as SystemFile>⟧.stands result ≡ [] }
+    {
+        match synced {
+            Some(OsFile::File(file)) => OsFile::Output(self.rt.stdout(), Some(file)),
+            _ => OsFile::Output(self.rt.stdout(), None),
+        }
+    }
+
+    fn contents(&self, path: &str) -> io::Result<Vec<u8>> {
+        fs::read(&self.rt, path)
+    }
+
+    fn names(&self, folder: &str) -> io::Result<ReadDir> {
+        fs::read_dir(&self.rt, folder)
+    }
+
+    fn next_name(&self, names: &mut ReadDir) -> Option<io::Result<String>> {
+        match names.next()? {
+            Ok(entry) => Some(text_of(self.rt.alloc(), entry.file_name())),
+            Err(error) => Some(Err(error)),
+        }
+    }
+
+    fn whole_path(&self, path: &str) -> io::Result<String> {
+        let path = fs::canonicalize(&self.rt, path)?;
+        text_of(self.rt.alloc(), path.as_str())
+    }
+
+    fn make_folders(&mut self, path: &str) -> io::Result<()> {
+        fs::create_dir_all(&self.rt, path)
+    }
+
+    fn make_link(&mut self, to: &str, path: &str) -> io::Result<()> {
+        unix::fs::symlink(&self.rt, to, path)
+    }
+
+    fn remove(&mut self, path: &str) -> io::Result<()> {
+        fs::remove_file(&self.rt, path)
+    }
+}
+
+fn text_of(alloc: Global, text: &str) -> io::Result<String> {
+    Ok(String::from_str(alloc, text)?)
+}
+
+fn stat_of(found: &Metadata) -> Stat {
+    Stat {
+        kind: kind_of(found),
+        on: found.dev(),
+        number: found.ino(),
+        device: found.rdev(),
+        length: found.len(),
+        second: found.mtime(),
+        nanosecond: found.mtime_nsec(),
+    }
+}
+
+fn kind_of(found: &Metadata) -> Kind {
+    match found.mode() & 0o170_000 {
+        0o100_000 => Kind::File,
+        0o060_000 => Kind::Block,
+        0o040_000 => Kind::Folder,
+        0o010_000 => Kind::Pipe,
+        0o140_000 => Kind::Socket,
+        _ => Kind::Other,
+    }
+}
