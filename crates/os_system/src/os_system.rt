@@ -21,7 +21,7 @@ pub struct OsSystem {
 impl System for OsSystem {
     type File = OsFile;
 
-    type Names = ReadDir;
+    type Names = Box<ReadDir>;
 
     ghost is_file = { λ _. false };
 
@@ -79,11 +79,14 @@ impl System for OsSystem {
         fs::read(&self.rt, path)
     }
 
-    fn names(&self, folder: &str) -> io::Result<ReadDir> {
-        fs::read_dir(&self.rt, folder)
+    // What reads a folder holds 8 KiB, which a call and each that hands it on would have on the stack.
+    #[inline(never)]
+    fn names(&self, folder: &str) -> io::Result<Box<ReadDir>> {
+        let names = fs::read_dir(&self.rt, folder)?;
+        Ok(Box::new(self.rt.alloc(), names)?)
     }
 
-    fn next_name(&self, names: &mut ReadDir) -> Option<io::Result<String>> {
+    fn next_name(&self, names: &mut Box<ReadDir>) -> Option<io::Result<String>> {
         match names.next()? {
             Ok(entry) => Some(text_of(self.rt.alloc(), entry.file_name())),
             Err(error) => Some(Err(error)),
