@@ -46,7 +46,7 @@ LIBRARY = $(BUILT)/libabootimg.a
 MODULE = build/abootimg.wasm
 PAGE = build/abootimg.html
 WEB = $(wildcard web/*.html web/*.css web/*.js) web/build.py
-VERSION = $(shell sed -n 's/^pub const VERSION: &str = "\(.*\)";$$/\1/p' crates/abt_words/src/table.rt)
+VERSION = $(shell sed -n 's/^pub const VERSION: &str = "\(.*\)";$$/\1/p' crates/words_orders/src/table.rt)
 TOOLS = simg2img img2simg simg2simg mkbootimg unpack_bootimg
 EMPTY =
 COMMA = ,

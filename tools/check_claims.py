@@ -36,48 +36,48 @@ COLUMNS = {"definition": 5, "claim": 7, "unclaimed": 4}
 DOCUMENTS = ("README.md", "CONTRIBUTING.md", "CHANGELOG.md", "docs/*.md")
 # What these do is called by the program alone, and most of it only in its own crate.
 OF_THE_PROGRAM = (
-    "sys_devices", "abt_values", "abt_words", "tool_words", "abt_refusals", "abt_disk", "memory_disk", "abt_report",
-    "abt_output", "abt_host", "host_disk", "sparse_rules", "sparse_bodies", "image_bodies", "flash_bodies",
-    "sparse_commands", "boot_rules", "boot_bodies", "aosp_bodies", "info_bodies", "pack_inputs", "pack_outputs", "pack_bodies", "boot_commands",
-    "memory_commands", "program_words", "abootimg",
+    "sys_devices", "words_values", "words_orders", "words_tools", "sys_refusals", "sys_disk", "mem_disk", "sys_report",
+    "sys_finish", "sys_host", "sys_host_disk", "cmd_common_sparse", "cmd_expand", "cmd_cut", "cmd_flash",
+    "cmd_sparse_dispatch", "cmd_common_boot", "cmd_unpack", "cmd_unpack_aosp", "cmd_info", "cmd_pack_inputs", "cmd_pack_outputs", "cmd_pack", "cmd_boot_dispatch",
+    "mem_commands", "words_program", "abootimg",
 )
 
 
 # The program begins to count, as the benchmark does, and what it prints and shows is counted by nobody.
-MAKE_METERS = ("abootimg", "abt_report", "abt_text", "speed")
+MAKE_METERS = ("abootimg", "sys_report", "sys_text", "speed")
 
 # The engine: turns are counted where its code ticks, so each of its loops does.
 ENGINE = (
-    "abt_io", "abt_files", "memory_devices", "abt_sparse", "abt_chunks", "abt_runs", "abt_pieces", "abt_sparsify",
-    "abt_placed", "flash_faults", "abt_flash", "abt_verify", "abt_headers", "abt_sections",
+    "abt_io", "sys_readers", "mem_devices", "abt_sparse", "abt_chunks", "abt_runs", "abt_pieces", "abt_sparsify",
+    "abt_placed", "abt_flash_faults", "abt_flash", "abt_verify", "abt_headers", "abt_sections",
 )
 
 # The bodies of commands, whose loops over what is read and written tick too.
-BODIES = ("flash_bodies", "sparse_bodies", "image_bodies", "pack_inputs")
+BODIES = ("cmd_flash", "cmd_expand", "cmd_cut", "cmd_pack_inputs")
 
 # What asks the system for anything, and is trusted, and how many lines of code that is at most; what prints a report and
 # holds the standard streams; and what is no part of the program.
-SYSTEM = ("crates/sys_file/src/os_file.rt", "crates/os_system/src/os_file.rt", "crates/os_system/src/os_system.rt")
+SYSTEM = ("crates/sys_file/src/os_file.rt", "crates/sys_std/src/os_file.rt", "crates/sys_std/src/sys_std.rt")
 MOST_TRUSTED = 199
 STREAMS = (
-    "crates/abt_report/src/report.rt", "crates/abt_report/src/standard_output.rt", "crates/abootimg/src/main.rt",
+    "crates/sys_report/src/report.rt", "crates/sys_report/src/standard_output.rt", "crates/abootimg/src/main.rt",
     "crates/abootimg/src/tool.rt", "crates/abootimg/src/image_id.rt",
 )
 OUTSIDE = ("speed", "abt_c")
 
 # How many loops of a file tick nowhere, and why.
 WITHOUT_A_TICK = {
-    "crates/memory_devices/src/pick.rt": 1,  # what a crash leaves, in a device of tests that has no meter
-    "crates/abt_files/src/tries.rt": 2,  # a call that a signal interrupted is tried again: no turn, and no call of a device
+    "crates/mem_devices/src/pick.rt": 1,  # what a crash leaves, in a device of tests that has no meter
+    "crates/sys_readers/src/tries.rt": 2,  # a call that a signal interrupted is tried again: no turn, and no call of a device
     "crates/abt_runs/src/words.rt": 2,  # the words of one block, for which `tick_words` ticks
-    "crates/sparse_bodies/src/opening.rt": 1,  # numbers of pieces are compared: nothing is read
-    "crates/image_bodies/src/turns.rt": 1,  # the names of pieces are looked at, before anything is read
-    "crates/pack_inputs/src/own_ramdisks.rt": 1,  # files are opened: so are those of the two below
-    "crates/pack_inputs/src/parts.rt": 1,
-    "crates/pack_inputs/src/ramdisks.rt": 1,
+    "crates/cmd_expand/src/opening.rt": 1,  # numbers of pieces are compared: nothing is read
+    "crates/cmd_cut/src/turns.rt": 1,  # the names of pieces are looked at, before anything is read
+    "crates/cmd_pack_inputs/src/own_ramdisks.rt": 1,  # files are opened: so are those of the two below
+    "crates/cmd_pack_inputs/src/parts.rt": 1,
+    "crates/cmd_pack_inputs/src/ramdisks.rt": 1,
 }
 # Files of which a loop ticks in the one arm that goes on.
-TICK_IN_AN_ARM = ("crates/sparse_bodies/src/laying.rt",)
+TICK_IN_AN_ARM = ("crates/cmd_expand/src/laying.rt",)
 
 
 class Checks:

@@ -24,7 +24,7 @@ from repository import HERE, crate_lines
 
 # The most functions of a crate, and those that have more; docs/DECISIONS.md says why these are not taken apart.
 FUNCTIONS = 100
-MORE_FUNCTIONS = {"abt_sections": 107, "abt_words": 104, "aosp_texts": 106, "tool_words": 101}
+MORE_FUNCTIONS = {"abt_sections": 107, "words_orders": 104, "cmd_unpack_aosp_texts": 106, "words_tools": 101}
 # How many functions have contracts of more clauses than this.
 LONG_CONTRACTS = {15: 3, 20: 1}
 # How many clauses are, to the letter, one that stands before, in any function of any crate.
@@ -39,7 +39,7 @@ NAMES_DEFINED_TWICE = {
     "laid": "cells over zeros; parts one after another, each padded",
     "left_of": "of a chunk; of a byte behind a crash; of words that were met",
     "number_at": "the same in `abt_sparse` and `abt_headers`, which stand on nothing of ours together",
-    "text_of": "the same: `boot_texts` hands on that of `boot_fields`",
+    "text_of": "the same: `cmd_common_texts` hands on that of `cmd_common_fields`",
     "with_part": "a window with bytes in it; a placer with blocks taken",
 }
 # The longest line of specs/ and proofs/, and the files from before that have longer ones: each with its checksum.
@@ -47,23 +47,23 @@ COLUMNS, LONG_LISTED, LONG_FILES = 120, os.path.join("tools", "long_lines.txt"),
 
 # The crates of each family, and how many hundreds of lines of src/, specs/ and proofs/ they have at most.
 FAMILIES = {
-    "devices": "abt_io abt_files sys_file sys_devices sys_outputs memory_devices memory_files",
+    "devices": "abt_io sys_readers sys_file sys_devices sys_outputs mem_devices mem_files",
     "definitions and reading": "abt_sparse abt_chunks abt_runs",
     "writing": "abt_pieces abt_sparsify abt_placed",
-    "flashing and verifying": "flash_faults abt_flash abt_verify",
-    "boot images": "abt_headers abt_sections boot_fields boot_texts aosp_texts boot_findings",
+    "flashing and verifying": "abt_flash_faults abt_flash abt_verify",
+    "boot images": "abt_headers abt_sections cmd_common_fields cmd_common_texts cmd_unpack_aosp_texts cmd_common_findings",
     "system":
-        "abt_text abt_refusals abt_disk abt_report abt_output numbered_names os_system host_files abt_host host_disk",
-    "words": "abt_values abt_words tool_words program_words abootimg",
-    "commands over sparse images": "sparse_texts sparse_rules flash_bodies sparse_bodies image_bodies sparse_commands",
+        "sys_text sys_refusals sys_disk sys_report sys_finish sys_numbered_names sys_std sys_identity sys_host sys_host_disk",
+    "words": "words_values words_orders words_tools words_program abootimg",
+    "commands over sparse images": "cmd_common_listing cmd_common_sparse cmd_flash cmd_expand cmd_cut cmd_sparse_dispatch",
     "commands over boot images":
-        "boot_rules boot_bodies aosp_bodies info_bodies pack_inputs pack_outputs pack_bodies boot_commands",
-    "laws": "sparse_laws section_laws abt_laws boot_laws pack_laws program_laws",
-    "memory": "memory_disk memory_commands",
+        "cmd_common_boot cmd_unpack cmd_unpack_aosp cmd_info cmd_pack_inputs cmd_pack_outputs cmd_pack cmd_boot_dispatch",
+    "laws": "law_sparse law_sections law_engine law_boot law_pack law_program",
+    "memory": "mem_disk mem_commands",
     "for programs in C": "abt_c",
     "tests and benchmark":
-        "test_data device_tests sparse_tests verify_tests flash_tests boot_tests boot_disk_tests buffer_tests ahead_tests "
-        "spool_tests disk_tests speed",
+        "mem_test_data test_devices test_sparse test_verify test_flash test_boot test_boot_disk test_buffers test_ahead "
+        "test_spool test_disk speed",
 }
 LINES = {
     "devices": 98,

@@ -1,8 +1,8 @@
 #!/usr/bin/env bash
 # Makes images with AOSP's mkbootimg (Debian: apt-get install mkbootimg) and prints the records at
-# their front as the Rust constants of crates/boot_tests/src/vectors.rt:
+# their front as the Rust constants of crates/test_boot/src/vectors.rt:
 #
-#     tools/header_vectors.sh > crates/boot_tests/src/vectors.rt
+#     tools/header_vectors.sh > crates/test_boot/src/vectors.rt
 #     (cd crates/abt_headers && rt fmt)
 #
 # A record is mostly zeros, so a constant lists its runs of other bytes, each with its place. The

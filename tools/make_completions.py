@@ -1,6 +1,6 @@
 #!/usr/bin/env python3
-"""make_completions.py [--check | --print SHELL | --tools]: writes crates/abt_words/src/completion_texts.rt, what
-`abootimg completions SHELL` prints, from the table of the command line, crates/abt_words/src/table.rt.
+"""make_completions.py [--check | --print SHELL | --tools]: writes crates/words_orders/src/completion_texts.rt, what
+`abootimg completions SHELL` prints, from the table of the command line, crates/words_orders/src/table.rt.
 
 With --check nothing is written: it fails where that file is stale, or where docs/COMMANDS.md leaves out a command, or
 a word or an option of one. Its last line is then 'N passed, M failed'. With --print the text for one shell is printed,
@@ -12,10 +12,10 @@ from collections import Counter
 from pathlib import Path
 
 ROOT = Path(__file__).resolve().parent.parent
-TABLE = ROOT / "crates/abt_words/src/table.rt"
-TEXTS = ROOT / "crates/abt_words/src/completion_texts.rt"
+TABLE = ROOT / "crates/words_orders/src/table.rt"
+TEXTS = ROOT / "crates/words_orders/src/completion_texts.rt"
 COMMANDS = ROOT / "docs/COMMANDS.md"
-TOOLS = ROOT / "crates/tool_words/src/tools.rt"
+TOOLS = ROOT / "crates/words_tools/src/tools.rt"
 
 
 # ---- reading the table

@@ -10,7 +10,7 @@ here=$(cd "$(dirname "$0")/.." && pwd)
 program=$1 library=$2 page=$3 out=$4
 name=${out##*/}
 name=${name%.tar.gz}
-version=$(sed -n 's/^pub const VERSION: &str = "\(.*\)";$/\1/p' "$here/crates/abt_words/src/table.rt")
+version=$(sed -n 's/^pub const VERSION: &str = "\(.*\)";$/\1/p' "$here/crates/words_orders/src/table.rt")
 room=$(mktemp -d)
 trap 'rm -rf "$room"' EXIT
 top=$room/$name

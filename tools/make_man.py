@@ -10,7 +10,7 @@ import re
 import sys
 from pathlib import Path
 
-TABLE = Path(__file__).resolve().parent.parent / "crates/abt_words/src/table.rt"
+TABLE = Path(__file__).resolve().parent.parent / "crates/words_orders/src/table.rt"
 
 
 def version():

@@ -29,7 +29,7 @@ sys.dont_write_bytecode = True
 sys.path.insert(0, os.path.dirname(HERE))
 from timing import in_turn, timed
 
-CRATES = ("abt_io", "abt_files", "abt_sparse", "abt_runs")
+CRATES = ("abt_io", "sys_readers", "abt_sparse", "abt_runs")
 BLOCK = 4096
 MIB = 1 << 20
 

@@ -1,10 +1,10 @@
 -- How an order begins.
 use Rattle.std.proofs.Common.{◌≡◌, Bool, ℕ, List, true, false, subst}
-use Rattle.abt_disk.specs.World.{Held, World}
-use Rattle.abt_report.specs.declared.report.Report.{Report}
-use Rattle.abt_words.specs.declared.order.SparseTask.{SparseTask}
-use Rattle.boot_commands.specs.declared.command.Kind.{Kind}
-use Rattle.sparse_commands.specs.Commands.{DoesTask, State, state}
+use Rattle.sys_disk.specs.World.{Held, World}
+use Rattle.sys_report.specs.declared.report.Report.{Report}
+use Rattle.words_orders.specs.declared.order.SparseTask.{SparseTask}
+use Rattle.cmd_boot_dispatch.specs.declared.command.Kind.{Kind}
+use Rattle.cmd_sparse_dispatch.specs.Commands.{DoesTask, State, state}
 use Rattle.abootimg.specs.BootDone.{BootDone}
 use Rattle.abootimg.specs.OrderDone.{IsReadyForOrder, synced_if}
 

@@ -1,15 +1,15 @@
 -- What a status of 0 tells.
 use Rattle.std.proofs.Common.{arith, ◌≡◌, ℕ, List, [], ◌∷◌, Bool, true, false, Some, None, map, sym, subst, cond}
 use Rattle.std.specs.Prelude.{Result, Ok, Err, IfErr, OnOk}
-use Rattle.abt_words.specs.declared.order.SparseTask.{SparseTask}
-use Rattle.abt_words.specs.declared.order.SparseTask.TheVariants as tasks
-use Rattle.abt_disk.specs.World.{World, Held}
-use Rattle.abt_report.specs.declared.report.Report.{Report}
-use Rattle.abt_report.specs.declared.progress.Progress.{Progress}
-use Rattle.abt_host.specs.Answering.{PrintsNothing}
-use Rattle.sparse_rules.specs.PieceNames.{naming}
-use Rattle.sparse_commands.proofs.Told.{cuts_as}
-use Rattle.sparse_commands.specs.Commands.{DoesTask, ExpandsImages, SparesExpanded, SparesFiles, State, state}
+use Rattle.words_orders.specs.declared.order.SparseTask.{SparseTask}
+use Rattle.words_orders.specs.declared.order.SparseTask.TheVariants as tasks
+use Rattle.sys_disk.specs.World.{World, Held}
+use Rattle.sys_report.specs.declared.report.Report.{Report}
+use Rattle.sys_report.specs.declared.progress.Progress.{Progress}
+use Rattle.sys_host.specs.Answering.{PrintsNothing}
+use Rattle.cmd_common_sparse.specs.PieceNames.{naming}
+use Rattle.cmd_sparse_dispatch.proofs.Told.{cuts_as}
+use Rattle.cmd_sparse_dispatch.specs.Commands.{DoesTask, ExpandsImages, SparesExpanded, SparesFiles, State, state}
 
 not_zero : (n : ℕ) (wrong : Bool) → n ≡ cond wrong 2 1 → n ≡ 0 → ⊥
 not_zero n true is zero_is = omega (arith, is, zero_is)

@@ -1,13 +1,13 @@
 -- What status 0 tells of an order.
 use Rattle.std.specs.Prelude.{◌≡◌, ◌++◌, ℕ, List, None, Bool, true, if◌then◌else◌}
-use Rattle.abt_disk.specs.World.{World, Held, IsReading}
-use Rattle.abt_report.specs.declared.report.Report.{Report}
-use Rattle.abt_words.specs.declared.order.Order.{Order}
-use Rattle.abt_words.specs.declared.order.Task.{Task}
-use Rattle.abt_words.specs.declared.order.Task.TheVariants as tasks
-use Rattle.boot_commands.specs.Commands.{IsKindOf}
-use Rattle.boot_commands.specs.declared.command.Kind.{Kind}
-use Rattle.sparse_commands.specs.Commands.{DoesTask, state}
+use Rattle.sys_disk.specs.World.{World, Held, IsReading}
+use Rattle.sys_report.specs.declared.report.Report.{Report}
+use Rattle.words_orders.specs.declared.order.Order.{Order}
+use Rattle.words_orders.specs.declared.order.Task.{Task}
+use Rattle.words_orders.specs.declared.order.Task.TheVariants as tasks
+use Rattle.cmd_boot_dispatch.specs.Commands.{IsKindOf}
+use Rattle.cmd_boot_dispatch.specs.declared.command.Kind.{Kind}
+use Rattle.cmd_sparse_dispatch.specs.Commands.{DoesTask, state}
 use Rattle.abootimg.specs.BootDone.{BootDone}
 
 -- no file is open to be written, and none was begun

@@ -3,9 +3,9 @@
 ghost use Rattle.std.specs.Prelude.{◌≡◌, IsTrue, true};
 ghost use Rattle.abootimg.specs.OrderDone.{synced_if};
 
-use abt_disk::Disk;
-use host_disk::Host;
-use os_system::OsSystem;
+use sys_disk::Disk;
+use sys_host_disk::Host;
+use sys_std::OsSystem;
 
 /// A disk that can be told how outputs end, and which may be written.
 pub trait Beginning: Disk {

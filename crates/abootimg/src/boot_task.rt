@@ -1,16 +1,16 @@
 //! Doing a command over boot images, and the exit status.
 
 ghost use Rattle.std.specs.Prelude.{◌≡◌, ◌≤◌, IsTrue};
-ghost use Rattle.abt_disk.specs.World.{HasNotFailed, IsReading};
-ghost use Rattle.boot_commands.specs.Commands.{SparesKind};
+ghost use Rattle.sys_disk.specs.World.{HasNotFailed, IsReading};
+ghost use Rattle.cmd_boot_dispatch.specs.Commands.{SparesKind};
 ghost use Rattle.abootimg.specs.BootDone.{BootDone};
 
 use crate::outcome::told;
-use abt_disk::Disk;
-use abt_host::Telling;
+use sys_disk::Disk;
+use sys_host::Telling;
 use abt_io::{Meter, Window};
-use abt_report::Report;
-use boot_commands::{BootCommand, boot_command};
+use sys_report::Report;
+use cmd_boot_dispatch::{BootCommand, boot_command};
 
 /// Does a command over boot images, and answers the exit status.
 pub fn do_boot<D: Disk>(

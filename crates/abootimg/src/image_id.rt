@@ -1,10 +1,10 @@
 //! Printing the id of a boot image that was made, as mkbootimg does.
 
-use abt_host::Telling;
-use abt_refusals::{HostFault, HostRefusal, Place};
-use abt_report::Report;
-use os_system::OsSystem;
-use program_words::{print, refused};
+use sys_host::Telling;
+use sys_refusals::{HostFault, HostRefusal, Place};
+use sys_report::Report;
+use sys_std::OsSystem;
+use words_program::{print, refused};
 use std::{fmt, io};
 use sys_file::{Kind, Opening, System, read_at};
 

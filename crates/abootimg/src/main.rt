@@ -21,16 +21,16 @@ mod sparse_task;
 mod tool;
 mod unpack_image;
 
-use abt_host::{REFUSED, USAGE};
+use sys_host::{REFUSED, USAGE};
 use abt_io::{Meter, Window};
-use abt_report::Report;
+use sys_report::Report;
 use running::{demonstrate, run};
 use std::fs::{File, OpenOptions};
 use std::os::fd::{AsRawFd, IntoRawFd};
 use std::process::ExitCode;
 use std::{env, io};
 use tool::run_tool;
-use tool_words::called;
+use words_tools::called;
 
 fn main(rt: HostRuntime) -> ExitCode {
     hold_standard_streams(rt);

@@ -1,11 +1,11 @@
 //! Telling what a command answered.
 
 ghost use Rattle.std.specs.Prelude.{◌≡◌, IfErr, OnOk, if◌then◌else◌};
-ghost use Rattle.abt_host.specs.Answering.{PrintsNothing};
+ghost use Rattle.sys_host.specs.Answering.{PrintsNothing};
 
-use abt_host::{Telling, answer};
-use abt_refusals::{Refusal, Told};
-use abt_report::Report;
+use sys_host::{Telling, answer};
+use sys_refusals::{Refusal, Told};
+use sys_report::Report;
 
 /// The exit status of what a command answered, which is told. What the text takes of the stack is not taken while a command
 /// runs, since it has a call of its own.

@@ -1,16 +1,16 @@
 //! Doing a task of sparse images, and the exit status.
 
 ghost use Rattle.std.specs.Prelude.{◌≡◌, ◌≤◌, None, IsTrue};
-ghost use Rattle.abt_disk.specs.World.{HasNotFailed, IsReading};
-ghost use Rattle.sparse_commands.specs.Commands.{DoesTask, SparesFiles, state};
+ghost use Rattle.sys_disk.specs.World.{HasNotFailed, IsReading};
+ghost use Rattle.cmd_sparse_dispatch.specs.Commands.{DoesTask, SparesFiles, state};
 
 use crate::outcome::told;
-use abt_disk::Disk;
-use abt_host::Telling;
+use sys_disk::Disk;
+use sys_host::Telling;
 use abt_io::{Meter, Window};
-use abt_report::Report;
-use abt_words::SparseTask;
-use sparse_commands::sparse_command;
+use sys_report::Report;
+use words_orders::SparseTask;
+use cmd_sparse_dispatch::sparse_command;
 
 /// Does a task of sparse images, and answers the exit status.
 pub fn do_sparse<D: Disk>(

@@ -3,22 +3,22 @@
 use crate::image_id::print_id;
 use crate::running::carry_out;
 use crate::unpack_image::unpack_image;
-use abt_disk::Disk;
-use abt_files::ToWrite;
-use abt_host::{DONE, Reading, Telling, USAGE};
+use sys_disk::Disk;
+use sys_readers::ToWrite;
+use sys_host::{DONE, Reading, Telling, USAGE};
 use abt_io::{Meter, Window};
-use abt_refusals::{HostRefusal, Place};
-use abt_report::{Report, StandardOutput};
-use abt_values::Value;
-use abt_words::{Answer, BootTask, Order, Task, WordsFault};
-use host_disk::Host;
-use os_system::OsSystem;
-use program_words::{refused, wrong_words};
+use sys_refusals::{HostRefusal, Place};
+use sys_report::{Report, StandardOutput};
+use words_values::Value;
+use words_orders::{Answer, BootTask, Order, Task, WordsFault};
+use sys_host_disk::Host;
+use sys_std::OsSystem;
+use words_program::{refused, wrong_words};
 use std::alloc::Global;
 use std::fs;
 use std::fs::OpenOptions;
 use std::io::IsTerminal;
-use tool_words::{Orders, Parted, Tool, orders_of, part_words, texts_of};
+use words_tools::{Orders, Parted, Tool, orders_of, part_words, texts_of};
 
 /// Does what the words of a tool ask for, of which the first calls it, and answers the exit status.
 ///

@@ -7,23 +7,23 @@ ghost use Rattle.std.specs.Prelude.{◌<◌};
 ghost use Rattle.abt_sections.specs.Header.{fragment_count, view_of};
 
 use crate::outcome::told;
-use abt_disk::Disk;
-use abt_host::{DONE, Reading, Telling};
+use sys_disk::Disk;
+use sys_host::{DONE, Reading, Telling};
 use abt_io::{Meter, Source, Window};
-use abt_refusals::{HostFault, HostRefusal, Place, Sides};
-use abt_report::Report;
+use sys_refusals::{HostFault, HostRefusal, Place, Sides};
+use sys_report::Report;
 use abt_sections::{Image, SectionFault, fragment, fragments, open};
-use aosp_bodies::unpack_as_aosp;
-use aosp_texts::{AospText, Ending, fragment_file, has_table, write_aosp_text};
-use boot_fields::front_text;
-use boot_rules::{BootCommandFault, BootOutcome};
-use host_disk::Host;
-use os_system::OsSystem;
-use program_words::refused;
+use cmd_unpack_aosp::unpack_as_aosp;
+use cmd_unpack_aosp_texts::{AospText, Ending, fragment_file, has_table, write_aosp_text};
+use cmd_common_fields::front_text;
+use cmd_common_boot::{BootCommandFault, BootOutcome};
+use sys_host_disk::Host;
+use sys_std::OsSystem;
+use words_program::refused;
 use std::alloc::{AllocError, Global};
 use std::io;
 use sys_file::System;
-use tool_words::{UnpackImage, UnpackText};
+use words_tools::{UnpackImage, UnpackText};
 
 // The folder of the links, in that of the parts.
 const BY_NAME: &str = "vendor-ramdisk-by-name";

@@ -13,15 +13,15 @@ use Rattle.abt_chunks.specs.Expanding.{IsGoing}
 use Rattle.abt_chunks.specs.Turns.{IsWalkOver}
 use Rattle.abt_chunks.specs.Parts.{PartLeaves, goes_on}
 use Rattle.abt_chunks.specs.ListingAhead.{Closes, Numbers, at_end}
-use Rattle.flash_faults.specs.declared.fault.FlashFault.{FlashFault}
-use Rattle.flash_faults.specs.declared.fault.FlashFault.TheVariants as fails
-use Rattle.flash_faults.specs.Fault.{PutCause, refused_syncs}
+use Rattle.abt_flash_faults.specs.declared.fault.FlashFault.{FlashFault}
+use Rattle.abt_flash_faults.specs.declared.fault.FlashFault.TheVariants as fails
+use Rattle.abt_flash_faults.specs.Fault.{PutCause, refused_syncs}
 use Rattle.abt_flash.specs.Laying.{Settles, syncs_by}
 use Rattle.abt_flash.specs.Stepping.{Leaves, Measures, OnShort, is_done, need_of, passed, passed_in}
 use Rattle.abt_flash.specs.declared.stage.Stage.TheVariants as stages
 use Rattle.abt_flash.proofs.Steps.{refused_measures}
 use Rattle.abt_chunks.specs.Expanding.{OnMoreExpanding, OnDone, answer_by}
-use Rattle.flash_faults.specs.Fault.{fault_of_sparse}
+use Rattle.abt_flash_faults.specs.Fault.{fault_of_sparse}
 
 -- where the answer is more, the part goes on
 pub on_more : (q : Part) (P : Type 0) → (IsTrue (goes_on q) → P) → OnMoreExpanding (answer_by fault_of_sparse q) P

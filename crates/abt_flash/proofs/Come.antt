@@ -30,8 +30,8 @@ use Rattle.abt_chunks.specs.Places.{place_of, place_in}
 use Rattle.abt_chunks.specs.ListingAhead.{at_end, head_in, upcoming, upcoming_in}
 use Rattle.abt_chunks.proofs.Onward.{before-append}
 use Rattle.abt_pieces.specs.Contents.{written_in}
-use Rattle.flash_faults.specs.declared.fault.FlashFault.{FlashFault}
-use Rattle.flash_faults.specs.declared.fault.FlashFault.TheVariants as fails
+use Rattle.abt_flash_faults.specs.declared.fault.FlashFault.{FlashFault}
+use Rattle.abt_flash_faults.specs.declared.fault.FlashFault.TheVariants as fails
 use Rattle.abt_flash.specs.declared.stage.Flashed.{Flashed}
 use Rattle.abt_flash.specs.declared.stage.Stage.{Stage}
 use Rattle.abt_flash.specs.declared.stage.Stage.TheVariants as stages

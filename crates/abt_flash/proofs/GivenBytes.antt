@@ -15,7 +15,7 @@ use Rattle.abt_pieces.specs.SpentStage.{all_passes}
 use Rattle.abt_flash.specs.Delivering.{begun}
 use Rattle.abt_flash.specs.Way.{ReadFor, ReadForRaw}
 use Rattle.abt_flash.specs.declared.answer.Delivered.{Delivered}
-use Rattle.flash_faults.specs.declared.fault.FlashFault.{FlashFault}
+use Rattle.abt_flash_faults.specs.declared.fault.FlashFault.{FlashFault}
 use Rattle.abt_flash.proofs.Summing.{reads_of}
 
 pub read_for : (r : Result Delivered FlashFault) (within : Cursor → Type 0) (charge before : Cursor → ℕ) (one each last all start made old new : ℕ) (place : Cursor) (given : ℕ) → place.block ≡ start → within place → given ≤ old + charge place + made * (48 + one) → IfOk r (λ d. new + before place + each ≤ given + all + last + d.pieces * each) → IfOk r (λ d. ReadFor within charge before one each last all start made d.pieces old new)

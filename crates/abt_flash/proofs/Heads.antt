@@ -20,7 +20,7 @@ use Rattle.abt_chunks.specs.Parts.{PartLeaves}
 use Rattle.abt_chunks.specs.ListingAhead.{Lists, at_end, begun_listing, lacking, upcoming, upcoming_in, with_begun, upcoming_ended}
 use Rattle.abt_chunks.proofs.Listed.{ended_listing}
 use Rattle.abt_chunks.proofs.ListingLaws.{listing_behind_header}
-use Rattle.flash_faults.specs.Fault.{fault_of_sparse}
+use Rattle.abt_flash_faults.specs.Fault.{fault_of_sparse}
 use Rattle.abt_flash.specs.Stepping.{Heads, passed, passed_in}
 use Rattle.abt_chunks.specs.Expanding.{answer_by}
 

@@ -23,17 +23,17 @@ use Rattle.abt_pieces.specs.declared.fault.PieceFault.TheVariants as cuts
 use Rattle.abt_io.specs.declared.device.DeviceFault.TheVariants as devices
 use Rattle.abt_pieces.specs.Fault.{CutCause}
 use Rattle.abt_pieces.specs.Image.{IsPlainImage}
-use Rattle.flash_faults.specs.declared.fault.Cause.{Cause}
-use Rattle.flash_faults.specs.declared.fault.Cause.TheVariants as causes
-use Rattle.flash_faults.specs.Fault.{FlashCause, refused_syncs}
+use Rattle.abt_flash_faults.specs.declared.fault.Cause.{Cause}
+use Rattle.abt_flash_faults.specs.declared.fault.Cause.TheVariants as causes
+use Rattle.abt_flash_faults.specs.Fault.{FlashCause, refused_syncs}
 use Rattle.abt_flash.specs.Flashing.{WholeFlash, RefusedFlash, Short, Flashes, Holds}
 use Rattle.abt_flash.specs.Devices.{Counts}
 use Rattle.abt_flash.specs.Delivering.{OnFlashed, StopsFor, unsynced_by}
 use Rattle.abt_flash.specs.Causes.{cutting_cause, flashing_cause}
 use Rattle.abt_flash.specs.Going.{blocks_at}
 use Rattle.abt_flash.specs.declared.stage.Flashed.{Flashed}
-use Rattle.flash_faults.specs.declared.fault.FlashFault.{FlashFault}
-use Rattle.flash_faults.specs.declared.fault.FlashFault.TheVariants.{Sparse, Read, Write, TooLarge, SourceChanged, BadBlock, LimitTooSmall, PartitionTooSmall, Sync, Stopped, NoSuchPiece}
+use Rattle.abt_flash_faults.specs.declared.fault.FlashFault.{FlashFault}
+use Rattle.abt_flash_faults.specs.declared.fault.FlashFault.TheVariants.{Sparse, Read, Write, TooLarge, SourceChanged, BadBlock, LimitTooSmall, PartitionTooSmall, Sync, Stopped, NoSuchPiece}
 
 -- ---- a piece as an image
 

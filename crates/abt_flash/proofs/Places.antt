@@ -15,7 +15,7 @@ use Rattle.abt_chunks.specs.ListingAhead.{Numbers, at_end}
 use Rattle.abt_flash.specs.Laying.{IsStill, put_by}
 use Rattle.abt_flash.specs.Stepping.{IsFresh, IsFresh_in, is_short_of, need_of, passed_in}
 use Rattle.abt_chunks.specs.Expanding.{OnMoreExpanding, answer_by}
-use Rattle.flash_faults.specs.Fault.{fault_of_sparse}
+use Rattle.abt_flash_faults.specs.Fault.{fault_of_sparse}
 
 -- ---- room
 

@@ -11,15 +11,15 @@ use Rattle.abt_pieces.specs.declared.fault.PieceFault.TheVariants as cuts
 use Rattle.abt_runs.specs.declared.part.RunFault.{RunFault}
 use Rattle.abt_runs.specs.declared.part.RunFault.TheVariants as of_runs
 use Rattle.abt_flash.specs.Causes.{opening_fault, planning_fault, run_fault_of}
-use Rattle.flash_faults.specs.Fault.{refused_syncs}
+use Rattle.abt_flash_faults.specs.Fault.{refused_syncs}
 use Rattle.abt_flash.specs.Devices.{Counts, PartitionState, SpoolState}
 use Rattle.abt_io.specs.declared.meter.Meter.{Meter}
 use Rattle.abt_flash.proofs.Ways.{ends_none, no_part_none}
 use Rattle.abt_flash.specs.Delivering.{AlwaysMendable, Begins, DeliveryCosts, CountsTo, EndsWhole, GaveNoPart, GivesPieces, HasBegun, ImageBlocks, IsLeast, LaysBlocks, LeavesMendable, MendsBlocks, OnEarly, OnStop, OnUnsyncedPiece, RefusedDelivery, Room, StaysMendable, begun, blocks_behind, blocks_in_first, blocks_up_to, finished, pieces_behind, pieces_in, with_cuts}
 use Rattle.abt_flash.specs.Going.{PlanRefused, StopsIn}
 use Rattle.abt_flash.specs.declared.answer.Delivered.{Delivered}
-use Rattle.flash_faults.specs.declared.fault.FlashFault.{FlashFault}
-use Rattle.flash_faults.specs.declared.fault.FlashFault.TheVariants.{Sparse, Read, Write, TooLarge, SourceChanged, BadBlock, LimitTooSmall, PartitionTooSmall, Sync, Stopped, NoSuchPiece}
+use Rattle.abt_flash_faults.specs.declared.fault.FlashFault.{FlashFault}
+use Rattle.abt_flash_faults.specs.declared.fault.FlashFault.TheVariants.{Sparse, Read, Write, TooLarge, SourceChanged, BadBlock, LimitTooSmall, PartitionTooSmall, Sync, Stopped, NoSuchPiece}
 use Rattle.abt_flash.proofs.Spooled.{fits_none}
 use Rattle.abt_flash.proofs.Staying.{from_fresh, stays_none}
 

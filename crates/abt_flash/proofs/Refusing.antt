@@ -10,11 +10,11 @@ use Rattle.abt_flash.specs.Devices.{Counts}
 use Rattle.abt_flash.specs.Delivering.{RefusedDelivery, Room, StopsFor}
 use Rattle.abt_flash.specs.Going.{StopsIn}
 use Rattle.abt_flash.specs.Sparse.{Fits, IsImageOutcome, SparseRefused, size_in}
-use Rattle.flash_faults.specs.declared.fault.Cause.{Cause}
-use Rattle.flash_faults.specs.declared.fault.Cause.TheVariants as causes
+use Rattle.abt_flash_faults.specs.declared.fault.Cause.{Cause}
+use Rattle.abt_flash_faults.specs.declared.fault.Cause.TheVariants as causes
 use Rattle.abt_flash.specs.declared.answer.Delivered.{Delivered}
-use Rattle.flash_faults.specs.declared.fault.FlashFault.{FlashFault}
-use Rattle.flash_faults.specs.declared.fault.FlashFault.TheVariants.{Sparse, Read, Write, TooLarge, SourceChanged, BadBlock, LimitTooSmall, PartitionTooSmall, Sync, Stopped, NoSuchPiece}
+use Rattle.abt_flash_faults.specs.declared.fault.FlashFault.{FlashFault}
+use Rattle.abt_flash_faults.specs.declared.fault.FlashFault.TheVariants.{Sparse, Read, Write, TooLarge, SourceChanged, BadBlock, LimitTooSmall, PartitionTooSmall, Sync, Stopped, NoSuchPiece}
 
 -- an opened image is the one that is read
 pub record Opens (x : List ℕ) (b n : ℕ) : Type 0 where

@@ -21,14 +21,14 @@ use Rattle.abt_chunks.specs.Parts.{SaysUnlessDevice, PartLeaves, Caused, Moved, 
 use Rattle.abt_chunks.specs.Places.{place_of, owed}
 use Rattle.abt_chunks.specs.ListingAhead.{Closes, MayEnd}
 use Rattle.abt_chunks.proofs.Finishing.{owed_at}
-use Rattle.flash_faults.specs.declared.fault.FlashFault.{FlashFault}
-use Rattle.flash_faults.specs.declared.fault.FlashFault.TheVariants as fails
+use Rattle.abt_flash_faults.specs.declared.fault.FlashFault.{FlashFault}
+use Rattle.abt_flash_faults.specs.declared.fault.FlashFault.TheVariants as fails
 use Rattle.abt_flash.specs.declared.stage.Stage.{Stage}
 use Rattle.abt_io.specs.declared.device.DeviceFault.{DeviceFault}
 use Rattle.abt_io.specs.declared.device.DeviceFault.TheVariants as devices
 use Rattle.abt_io.specs.Count.{full_in}
 use Rattle.abt_chunks.specs.Cause.{CleanPart, full_in_part}
-use Rattle.flash_faults.specs.Fault.{FlashCause, OnUnsynced, PutCause, FlashingRises, UnlessUnwritten, fault_of_sparse}
+use Rattle.abt_flash_faults.specs.Fault.{FlashCause, OnUnsynced, PutCause, FlashingRises, UnlessUnwritten, fault_of_sparse}
 use Rattle.abt_flash.specs.Laying.{During, put_by, writes}
 use Rattle.abt_chunks.specs.Expanding.{IsGoing}
 use Rattle.abt_flash.specs.Stepping.{Goes, Heads, Laid, Leaves, Measures, UnlessFlashing, UnlessFlashingDevice, need_of, passed, passed_in}

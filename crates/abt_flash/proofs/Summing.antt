@@ -9,10 +9,10 @@ use Rattle.abt_pieces.specs.Contents.{written_in}
 use Rattle.abt_pieces.proofs.Counting.{written-append}
 use Rattle.abt_flash.specs.Delivering.{CountsTo, OnFlashed, OnUnsyncedPiece, begun, blocks_behind}
 use Rattle.abt_flash.specs.declared.answer.Delivered.{Delivered}
-use Rattle.flash_faults.specs.declared.fault.Cause.{Cause}
-use Rattle.flash_faults.specs.declared.fault.Cause.TheVariants as causes
-use Rattle.flash_faults.specs.declared.fault.FlashFault.{FlashFault}
-use Rattle.flash_faults.specs.declared.fault.FlashFault.TheVariants as flashes
+use Rattle.abt_flash_faults.specs.declared.fault.Cause.{Cause}
+use Rattle.abt_flash_faults.specs.declared.fault.Cause.TheVariants as causes
+use Rattle.abt_flash_faults.specs.declared.fault.FlashFault.{FlashFault}
+use Rattle.abt_flash_faults.specs.declared.fault.FlashFault.TheVariants as flashes
 use Rattle.abt_flash.proofs.Left.{skips_written}
 
 -- ---- results

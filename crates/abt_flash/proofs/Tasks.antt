@@ -11,7 +11,7 @@ use Rattle.abt_chunks.specs.Expanding.{IsWritable}
 use Rattle.abt_chunks.specs.Parts.{is_fault}
 use Rattle.abt_flash.specs.declared.laying.Task.{Task}
 use Rattle.abt_flash.specs.declared.laying.Task.TheVariants as tasks
-use Rattle.flash_faults.specs.Fault.{OnUnsynced, PutCause, UnlessUnwritten, refused_syncs}
+use Rattle.abt_flash_faults.specs.Fault.{OnUnsynced, PutCause, UnlessUnwritten, refused_syncs}
 use Rattle.abt_flash.specs.Laying.{CanDo, IsIdle, IsStill, Settles, SettlesIn, UnlessUndone, answered, bytes_by, put_by, put_in, refused_in, syncs_by, syncs_in, task_of}
 use Rattle.abt_flash.proofs.Cells.{gap_over, nothing_over}
 use Rattle.abt_chunks.specs.Expanding.{cells_by}

@@ -12,7 +12,7 @@ use Rattle.abt_io.proofs.Lent.{reads_then}
 use Rattle.abt_flash.specs.Delivering.{CountsTo, DeliveryCosts, HasDelivered, ImageBlocks, pieces_in}
 use Rattle.abt_flash.specs.Devices.{counts}
 use Rattle.abt_flash.specs.declared.answer.Delivered.{Delivered}
-use Rattle.flash_faults.specs.declared.fault.FlashFault.{FlashFault}
+use Rattle.abt_flash_faults.specs.declared.fault.FlashFault.{FlashFault}
 use Rattle.abt_flash.proofs.Records.{IsEarly, counts_same, early_holds, gives_none, gives_same, lays_none, lays_same}
 use Rattle.abt_flash.proofs.Records.{least_same, mendable_none, mendable_same, mends_none, mends_same}
 use Rattle.abt_flash.proofs.Summing.{on_ok}

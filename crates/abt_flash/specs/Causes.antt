@@ -3,10 +3,10 @@ use Rattle.abt_pieces.specs.declared.fault.PieceFault.{PieceFault}
 use Rattle.abt_pieces.specs.declared.fault.PieceFault.TheVariants as cuts
 use Rattle.abt_runs.specs.declared.part.RunFault.{RunFault}
 use Rattle.abt_runs.specs.declared.part.RunFault.TheVariants as of_runs
-use Rattle.flash_faults.specs.declared.fault.Cause.{Cause}
-use Rattle.flash_faults.specs.declared.fault.Cause.TheVariants as causes
-use Rattle.flash_faults.specs.declared.fault.FlashFault.{FlashFault}
-use Rattle.flash_faults.specs.declared.fault.FlashFault.TheVariants as flashes
+use Rattle.abt_flash_faults.specs.declared.fault.Cause.{Cause}
+use Rattle.abt_flash_faults.specs.declared.fault.Cause.TheVariants as causes
+use Rattle.abt_flash_faults.specs.declared.fault.FlashFault.{FlashFault}
+use Rattle.abt_flash_faults.specs.declared.fault.FlashFault.TheVariants as flashes
 
 -- where the piece was not written; a cutter that goes on refuses with 11, 12 and 14 alone
 abbrev pub cutting_cause : PieceFault → Cause

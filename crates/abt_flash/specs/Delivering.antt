@@ -22,14 +22,14 @@ use Rattle.abt_pieces.specs.Image.{IsPlainImage}
 use Rattle.abt_placed.specs.Unfinished.{IsNoImage}
 use Rattle.abt_flash.specs.Devices.{Counts, PartitionState, SpoolState, all_bytes, all_calls, counts, partition_state}
 use Rattle.abt_flash.specs.Devices.{spool_state}
-use Rattle.flash_faults.specs.Fault.{refused_syncs}
-use Rattle.flash_faults.specs.declared.fault.Cause.{Cause}
-use Rattle.flash_faults.specs.declared.fault.Cause.TheVariants as causes
+use Rattle.abt_flash_faults.specs.Fault.{refused_syncs}
+use Rattle.abt_flash_faults.specs.declared.fault.Cause.{Cause}
+use Rattle.abt_flash_faults.specs.declared.fault.Cause.TheVariants as causes
 use Rattle.abt_flash.specs.declared.answer.Delivered.{Delivered}
-use Rattle.flash_faults.specs.declared.fault.FlashFault.{FlashFault}
-use Rattle.flash_faults.specs.declared.fault.FlashFault.TheVariants.{Sparse, Read, Write, TooLarge, SourceChanged}
-use Rattle.flash_faults.specs.declared.fault.FlashFault.TheVariants.{BadBlock, LimitTooSmall, PartitionTooSmall, Sync}
-use Rattle.flash_faults.specs.declared.fault.FlashFault.TheVariants.{Stopped, NoSuchPiece}
+use Rattle.abt_flash_faults.specs.declared.fault.FlashFault.{FlashFault}
+use Rattle.abt_flash_faults.specs.declared.fault.FlashFault.TheVariants.{Sparse, Read, Write, TooLarge, SourceChanged}
+use Rattle.abt_flash_faults.specs.declared.fault.FlashFault.TheVariants.{BadBlock, LimitTooSmall, PartitionTooSmall, Sync}
+use Rattle.abt_flash_faults.specs.declared.fault.FlashFault.TheVariants.{Stopped, NoSuchPiece}
 
 -- ---- an image behind its first pieces
 

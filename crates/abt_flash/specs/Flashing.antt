@@ -9,10 +9,10 @@ use Rattle.abt_sparse.specs.Fails.{Fails, Spells, SpellsHeader}
 use Rattle.abt_sparse.specs.Pieces.{flashed}
 use Rattle.abt_pieces.specs.Contents.{written_in}
 use Rattle.abt_flash.specs.Devices.{Flow}
-use Rattle.flash_faults.specs.Fault.{refused_syncs}
+use Rattle.abt_flash_faults.specs.Fault.{refused_syncs}
 use Rattle.abt_flash.specs.Laying.{Touches, writes}
-use Rattle.flash_faults.specs.declared.fault.FlashFault.{FlashFault}
-use Rattle.flash_faults.specs.declared.fault.FlashFault.TheVariants.{Sparse, Sync, PartitionTooSmall}
+use Rattle.abt_flash_faults.specs.declared.fault.FlashFault.{FlashFault}
+use Rattle.abt_flash_faults.specs.declared.fault.FlashFault.TheVariants.{Sparse, Sync, PartitionTooSmall}
 use Rattle.abt_flash.specs.declared.stage.Flashed.{Flashed}
 
 -- An image that fits a partition of this size stands at the front of x, and rest behind it. The answer counts its raw

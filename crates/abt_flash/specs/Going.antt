@@ -14,8 +14,8 @@ use Rattle.abt_io.specs.declared.meter.Meter.{Meter}
 use Rattle.abt_io.specs.declared.device.DeviceFault.TheVariants.{Failed as DeviceFailed}
 use Rattle.abt_flash.specs.Devices.{Counts}
 use Rattle.abt_flash.specs.Delivering.{HasBegun, StopsFor, MendableThen}
-use Rattle.flash_faults.specs.declared.fault.FlashFault.{FlashFault}
-use Rattle.flash_faults.specs.declared.fault.FlashFault.TheVariants as flashes
+use Rattle.abt_flash_faults.specs.declared.fault.FlashFault.{FlashFault}
+use Rattle.abt_flash_faults.specs.declared.fault.FlashFault.TheVariants as flashes
 
 -- ---- where a cutter stands
 

@@ -10,8 +10,8 @@ use Rattle.abt_io.specs.Lent.{NoStep}
 use Rattle.abt_chunks.specs.declared.walk.Part.{Part}
 use Rattle.abt_chunks.specs.declared.walk.Part.TheVariants as parts
 use Rattle.abt_io.specs.declared.device.DeviceFault.{DeviceFault}
-use Rattle.flash_faults.specs.declared.fault.FlashFault.{FlashFault}
-use Rattle.flash_faults.specs.declared.fault.FlashFault.TheVariants as flashes
+use Rattle.abt_flash_faults.specs.declared.fault.FlashFault.{FlashFault}
+use Rattle.abt_flash_faults.specs.declared.fault.FlashFault.TheVariants as flashes
 use Rattle.abt_flash.specs.declared.laying.Task.{Task}
 use Rattle.abt_flash.specs.declared.laying.Task.TheVariants as tasks
 

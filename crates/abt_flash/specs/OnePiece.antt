@@ -11,12 +11,12 @@ use Rattle.abt_flash.specs.Delivering.{Begins, EndsWhole, GaveNoPart, NoneFailed
 use Rattle.abt_flash.specs.Delivering.{StopsFor, begun, blocks_behind, blocks_in_first, blocks_up_to, finished}
 use Rattle.abt_flash.specs.Delivering.{unsynced_by}
 use Rattle.abt_flash.specs.Devices.{Counts, NoFaultFalls, PartitionState, SpoolState, Work, all_bytes, all_calls}
-use Rattle.flash_faults.specs.Fault.{refused_syncs}
+use Rattle.abt_flash_faults.specs.Fault.{refused_syncs}
 use Rattle.abt_flash.specs.Flashing.{TouchesOnly}
 use Rattle.abt_flash.specs.Going.{StopsIn}
 use Rattle.abt_flash.specs.declared.answer.Delivered.{Delivered}
-use Rattle.flash_faults.specs.declared.fault.Cause.{Cause}
-use Rattle.flash_faults.specs.declared.fault.FlashFault.{FlashFault}
+use Rattle.abt_flash_faults.specs.declared.fault.Cause.{Cause}
+use Rattle.abt_flash_faults.specs.declared.fault.FlashFault.{FlashFault}
 
 -- ---- one piece
 

@@ -12,10 +12,10 @@ use Rattle.abt_io.specs.declared.meter.Meter.{Meter}
 use Rattle.abt_flash.specs.Devices.{Counts, counts}
 use Rattle.abt_flash.specs.Delivering.{HasDelivered, ImageBlocks, Room, StopsFor}
 use Rattle.abt_flash.specs.declared.answer.Delivered.{Delivered}
-use Rattle.flash_faults.specs.declared.fault.FlashFault.{FlashFault}
-use Rattle.flash_faults.specs.declared.fault.FlashFault.TheVariants.{Sparse, Read, Write, TooLarge, SourceChanged}
-use Rattle.flash_faults.specs.declared.fault.FlashFault.TheVariants.{BadBlock, LimitTooSmall, PartitionTooSmall, Sync}
-use Rattle.flash_faults.specs.declared.fault.FlashFault.TheVariants.{Stopped, NoSuchPiece}
+use Rattle.abt_flash_faults.specs.declared.fault.FlashFault.{FlashFault}
+use Rattle.abt_flash_faults.specs.declared.fault.FlashFault.TheVariants.{Sparse, Read, Write, TooLarge, SourceChanged}
+use Rattle.abt_flash_faults.specs.declared.fault.FlashFault.TheVariants.{BadBlock, LimitTooSmall, PartitionTooSmall, Sync}
+use Rattle.abt_flash_faults.specs.declared.fault.FlashFault.TheVariants.{Stopped, NoSuchPiece}
 
 -- the image that the bytes x are in blocks of b bytes
 abbrev pub raw_image : ℕ → List ℕ → ImageBlocks

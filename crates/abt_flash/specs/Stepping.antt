@@ -23,10 +23,10 @@ use Rattle.abt_chunks.specs.Turns.{todo}
 use Rattle.abt_io.specs.Lent.{OneStep}
 use Rattle.abt_flash.specs.declared.flasher.Flasher.{Flasher}
 use Rattle.abt_flash.specs.Devices.{Flow, FlowGrows, LeavesUnread, flow}
-use Rattle.flash_faults.specs.Fault.{FlashingRises, refused_syncs}
+use Rattle.abt_flash_faults.specs.Fault.{FlashingRises, refused_syncs}
 use Rattle.abt_flash.specs.Laying.{During, writes}
-use Rattle.flash_faults.specs.declared.fault.FlashFault.{FlashFault}
-use Rattle.flash_faults.specs.declared.fault.FlashFault.TheVariants.{Sparse, Read, Write, Sync, PartitionTooSmall}
+use Rattle.abt_flash_faults.specs.declared.fault.FlashFault.{FlashFault}
+use Rattle.abt_flash_faults.specs.declared.fault.FlashFault.TheVariants.{Sparse, Read, Write, Sync, PartitionTooSmall}
 use Rattle.abt_flash.specs.declared.stage.Stage.{Stage}
 use Rattle.abt_flash.specs.declared.stage.Stage.TheVariants as stages
 use Rattle.abt_chunks.specs.Expanding.{OnMoreExpanding, OnDone}

@@ -23,7 +23,7 @@ use crate::way::Way;
 use abt_io::{Meter, Partition, Source, Spool, Window};
 use abt_pieces::{Cutter, PieceFault};
 use abt_runs::BlockRuns;
-use flash_faults::FlashFault;
+use abt_flash_faults::FlashFault;
 
 /// Why a piece is not planned.
 fn not_planned(fault: PieceFault) -> FlashFault

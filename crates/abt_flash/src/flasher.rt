@@ -8,13 +8,13 @@ ghost use Rattle.abt_flash.specs.Stepping.{IsOver};
 ghost use Rattle.abt_flash.specs.Stepping.{is_short_of, need_of, passed, stage_of};
 ghost use Rattle.abt_flash.specs.Stepping.{FlashStep};
 ghost use Rattle.abt_chunks.specs.Expanding.{answer_by};
-ghost use Rattle.flash_faults.specs.Fault.{fault_of_sparse};
+ghost use Rattle.abt_flash_faults.specs.Fault.{fault_of_sparse};
 
 use crate::laying::lay_part;
 use crate::stage::Stage;
 use abt_chunks::{Part, Phase, Progress, Walk};
 use abt_io::{Input, Meter, Partition, WINDOW, Window};
-use flash_faults::{FlashFault, sparse_fault};
+use abt_flash_faults::{FlashFault, sparse_fault};
 
 /// Writes the raw and fill blocks of a sparse image to their places on a partition, and leaves the blocks that do not
 /// matter as they are. It holds no bytes of the image: each step writes what it read.

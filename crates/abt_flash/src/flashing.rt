@@ -5,7 +5,7 @@ ghost use Rattle.abt_io.specs.Moment.{Keeps, moment_of};
 ghost use Rattle.abt_sparse.specs.Pieces.{given};
 ghost use Rattle.abt_sparse.specs.Reading.{outcome};
 ghost use Rattle.abt_flash.specs.Devices.{FlowGrows, Reads, flow};
-ghost use Rattle.flash_faults.specs.Fault.{FlashingRises};
+ghost use Rattle.abt_flash_faults.specs.Fault.{FlashingRises};
 ghost use Rattle.abt_flash.specs.Laying.{writes};
 ghost use Rattle.abt_flash.specs.Flashing.{FlashCosts, Flashes, Holds, Syncs, TouchesOnly};
 ghost use Rattle.abt_flash.specs.Stepping.{OnShort};
@@ -15,7 +15,7 @@ use crate::flasher::Flasher;
 use crate::stage::Flashed;
 use abt_chunks::Progress;
 use abt_io::{Input, Meter, Partition, Window};
-use flash_faults::FlashFault;
+use abt_flash_faults::FlashFault;
 
 /// Writes the raw and fill blocks of the image at the front of the input to their places on the partition, each once,
 /// leaves all other bytes as they are, and syncs. It reads no further than the image, and of the partition nothing. An

@@ -7,7 +7,7 @@ ghost use Rattle.abt_sparse.specs.Block.{over};
 ghost use Rattle.abt_chunks.specs.Ahead.{somes};
 ghost use Rattle.abt_chunks.specs.Expanding.{IsWritable};
 ghost use Rattle.abt_chunks.specs.Parts.{is_fault};
-ghost use Rattle.flash_faults.specs.Fault.{OnUnsynced, PutCause, UnlessUnwritten, refused_syncs};
+ghost use Rattle.abt_flash_faults.specs.Fault.{OnUnsynced, PutCause, UnlessUnwritten, refused_syncs};
 ghost use Rattle.abt_flash.specs.Laying.{CanDo, IsIdle, IsStill, Settles, SettlesIn, UnlessUndone};
 ghost use Rattle.abt_flash.specs.Laying.{answered, bytes_by, put_by, put_in, refused_in};
 ghost use Rattle.abt_flash.specs.Laying.{syncs_by};
@@ -19,7 +19,7 @@ ghost use Rattle.abt_chunks.specs.Places.{from_place};
 
 use abt_chunks::Part;
 use abt_io::{DeviceFault, Meter, Partition, WORDS, Window, lay_word, write_all_at};
-use flash_faults::FlashFault;
+use abt_flash_faults::FlashFault;
 
 /// What a part asks of the partition.
 #[derive(Clone, Copy, Debug, PartialEq, Eq, Drop)]

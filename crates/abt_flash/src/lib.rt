@@ -5,7 +5,7 @@
 //! partition holds what it held, with the image's raw and fill blocks laid over it, each byte of them written once,
 //! and is synced. At no moment another byte is touched. `deliver` leaves the same by way of the spool, which is
 //! given exactly the pieces of the image, each within the limit; whatever a stop leaves on the way, `resume` mends.
-//! Nothing is read of the partition, and no call takes memory. Why all this is refused stands in `flash_faults`.
+//! Nothing is read of the partition, and no call takes memory. Why all this is refused stands in `abt_flash_faults`.
 //!
 //! | file | what is in it |
 //! |---|---|

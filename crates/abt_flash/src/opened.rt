@@ -11,7 +11,7 @@ use crate::way::{Forward, Way};
 use abt_io::{Meter, Partition, Source, Spool, Window};
 use abt_pieces::{Cutter, PieceFault};
 use abt_runs::BlockRuns;
-use flash_faults::FlashFault;
+use abt_flash_faults::FlashFault;
 
 /// Why a cutter is not opened.
 fn not_opened(fault: PieceFault) -> FlashFault

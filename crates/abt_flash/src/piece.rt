@@ -21,7 +21,7 @@ use crate::way::Way;
 use abt_io::{DeviceFault, Meter, Partition, Source, Spool, Window};
 use abt_pieces::{Cutter, PieceFault};
 use abt_runs::BlockRuns;
-use flash_faults::{Cause, FlashFault};
+use abt_flash_faults::{Cause, FlashFault};
 
 /// Empties the spool for the next piece.
 fn clear<L: Spool>(spool: &mut L) -> Result<(), Cause>

@@ -13,7 +13,7 @@ use crate::sparse::not_read;
 use crate::way::{Forward, Way};
 use abt_io::{Meter, Partition, Source, Spool, Window};
 use abt_runs::RawRuns;
-use flash_faults::FlashFault;
+use abt_flash_faults::FlashFault;
 
 /// Delivers all pieces of a raw image in blocks of this size but so many of the first, which are only planned.
 pub(crate) fn raw_behind<W: Way<RawRuns, L>, S: Source, L: Spool, P: Partition>(

@@ -10,7 +10,7 @@ use crate::delivering::pieces_before;
 use crate::raw::raw_behind;
 use crate::way::Late;
 use abt_io::{Meter, Overwrite, Partition, Source, Spool, Window};
-use flash_faults::FlashFault;
+use abt_flash_faults::FlashFault;
 
 /// Delivers a raw image as `deliver_raw` does, by a spool that can be written over, and reads it once: the bytes of the
 /// image, and at most a window more for each piece.

@@ -10,7 +10,7 @@ use crate::opened::deliver_behind;
 use crate::way::Forward;
 use abt_io::{Meter, Partition, Source, Spool, Window};
 use abt_runs::{RunFault, SparseRuns};
-use flash_faults::FlashFault;
+use abt_flash_faults::FlashFault;
 
 /// Why an image is not opened.
 pub(crate) fn not_read(fault: RunFault) -> FlashFault

@@ -1,6 +1,6 @@
 //! Where a flasher stands, and what a flash answers.
 
-use flash_faults::FlashFault;
+use abt_flash_faults::FlashFault;
 
 /// Where a flasher stands.
 #[derive(Clone, Copy, Debug, PartialEq, Eq, Drop)]

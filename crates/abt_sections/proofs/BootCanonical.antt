@@ -21,7 +21,7 @@ use Rattle.abt_sections.specs.Refusal.{boot_names, boot_refusal, size_refusal}
 use Rattle.abt_sections.specs.BootCanon.{front_for, dtbo_offset, dtbo_for, dtb_for, short_for, boot_header_for, boot_header_of, boot_page_for, page_or, boot_image, boot_canon}
 use Rattle.abt_sections.specs.Header.{OfBoot, image_header_at, places_of}
 use Rattle.abt_sections.specs.Open.{HasImage}
-use Rattle.abt_sections.specs.Check.{all_zero, text_field, front_texts, short_texts, boot_texts, boot_offset_holds, BootIdHolds, IsCanonical}
+use Rattle.abt_sections.specs.Check.{all_zero, text_field, front_texts, short_texts, cmd_common_texts, boot_offset_holds, BootIdHolds, IsCanonical}
 use Rattle.abt_sections.specs.Canonical.{BootNumbers, IsBootInput, StartsAsBoot}
 use Rattle.abt_sections.specs.Unpacked.{HoldsBoot}
 use Rattle.abt_sections.proofs.Accepting.{BootAccepted, boot_accepted, boot_passes, text_parts, page_again, page_is_some, AllSmall, none_large, all_small, neither, none_of, offset_fits, id_long}
@@ -247,7 +247,7 @@ found_4 f n a b c fits s e o =
           ∙ ap (λ (m : ℕ). V4 f m) s.1.1.0;
     }
 
-found : (x : List ℕ) (h : BootHeader) → BootFits h → Sized (boot_sections h) (parts_of x (places_of (OfBoot h))) → boot_texts h ≡ true → boot_offset_holds h ≡ true → BootIdHolds x h → Found h (parts_of x (places_of (OfBoot h)))
+found : (x : List ℕ) (h : BootHeader) → BootFits h → Sized (boot_sections h) (parts_of x (places_of (OfBoot h))) → cmd_common_texts h ≡ true → boot_offset_holds h ≡ true → BootIdHolds x h → Found h (parts_of x (places_of (OfBoot h)))
 found x (V0 f) fits s t o id = found_0 f _ _ _ fits s t id
 found x (V1 f d) fits s t o id = found_1 f d _ _ _ _ fits s t o id
 found x (V2 f d u) fits s t o id = found_2 f d u _ _ _ _ _ fits s t o id
@@ -282,7 +282,7 @@ IdIs parts (V4 f n) = Unit {0}
 record Made (parts : List (List ℕ)) (h : BootHeader) : Type 0 where
   fits : BootFits h
   sized : Sized (boot_sections h) parts
-  texts : boot_texts h ≡ true
+  texts : cmd_common_texts h ≡ true
   offset : boot_offset_holds h ≡ true
   id : IdIs parts h
 

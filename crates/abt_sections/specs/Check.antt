@@ -79,15 +79,15 @@ front_texts f = text_field f.name && text_field (f.cmdline ++ f.extra_cmdline)
 abbrev pub short_texts : ShortFront → Bool
 short_texts f = all_zero f.reserved && text_field f.cmdline
 
-abbrev pub boot_texts : BootHeader → Bool
-boot_texts (V0 f) = front_texts f
-boot_texts (V1 f d) = front_texts f
-boot_texts (V2 f d t) = front_texts f
-boot_texts (V3 f) = short_texts f
-boot_texts (V4 f signature) = short_texts f
+abbrev pub cmd_common_texts : BootHeader → Bool
+cmd_common_texts (V0 f) = front_texts f
+cmd_common_texts (V1 f d) = front_texts f
+cmd_common_texts (V2 f d t) = front_texts f
+cmd_common_texts (V3 f) = short_texts f
+cmd_common_texts (V4 f signature) = short_texts f
 
 abbrev pub texts_hold : Header → Bool
-texts_hold (OfBoot h) = boot_texts h
+texts_hold (OfBoot h) = cmd_common_texts h
 texts_hold (OfVendor v) = text_field v.front.name && text_field v.front.cmdline
 
 -- how many bytes the first i fragments have

@@ -17,8 +17,8 @@ pub record BootFields : Type 0 where
   pub name : List ℕ
   pub cmdline : List ℕ
 
-abbrev pub boot_fields : BootSpec → BootFields
-boot_fields s = record {
+abbrev pub cmd_common_fields : BootSpec → BootFields
+cmd_common_fields s = record {
   version = s.version;
   page = s.page;
   kernel_addr = s.kernel_addr;

@@ -3,7 +3,7 @@
 ghost use Rattle.std.specs.Prelude.{◌≡◌, ◌<◌, ◌≤◌, ◌^◌, OnOk, length};
 ghost use Rattle.abt_headers.specs.Boot.{boot_page, boot_size};
 ghost use Rattle.abt_headers.specs.Page.{page_bytes};
-ghost use Rattle.abt_sections.specs.Fields.{boot_fields};
+ghost use Rattle.abt_sections.specs.Fields.{cmd_common_fields};
 ghost use Rattle.abt_sections.specs.Refusal.{RefusedBy, boot_refusal};
 ghost use Rattle.abt_sections.specs.Asked.{IsPageNumber};
 ghost use Rattle.abt_sections.specs.BootCanon as canon;
@@ -19,8 +19,8 @@ use abt_io::Meter;
 /// The page of the image, or what the fields are refused for.
 #[tactic(auto, unfolding(crate::specs::Refusal::boot_refusal))]
 pub(crate) fn check_boot_spec(spec: &BootSpec, m: &mut Meter) -> Result<PageSize, SectionFault>
-    ensures refused { RefusedBy result (boot_refusal (boot_fields spec.now))
-        (λ p. p ≡ canon.boot_page_for (boot_fields spec.now)) }
+    ensures refused { RefusedBy result (boot_refusal (cmd_common_fields spec.now))
+        (λ p. p ≡ canon.boot_page_for (cmd_common_fields spec.now)) }
     ensures version { OnOk result (spec.now.version ≤ 4) }
     ensures name { OnOk result (spec.now.version < 3 → length spec.now.name.now ≤ 15) }
     ensures cmdline { OnOk result (length spec.now.cmdline.now ≤ 1535) }
@@ -47,7 +47,7 @@ pub(crate) fn check_boot_spec(spec: &BootSpec, m: &mut Meter) -> Result<PageSize
 fn front_for(spec: &BootSpec, page: PageSize, sizes: &[u32; 5], id: [u8; 32]) -> BootFront
     requires name { length spec.now.name.now ≤ 16 }
     requires cmdline { length spec.now.cmdline.now ≤ 1536 }
-    ensures { result ≡ canon.front_for (boot_fields spec.now) page sizes.now id }
+    ensures { result ≡ canon.front_for (cmd_common_fields spec.now) page sizes.now id }
 {
     BootFront {
         kernel_size: sizes[0],
@@ -92,7 +92,7 @@ fn dtbo_for(page: PageSize, sizes: &[u32; 5], header_size: u32) -> DtboFields
 
 fn short_for(spec: &BootSpec, sizes: &[u32; 5], header_size: u32) -> ShortFront
     requires cmdline { length spec.now.cmdline.now ≤ 1536 }
-    ensures { result ≡ canon.short_for (boot_fields spec.now) sizes.now header_size }
+    ensures { result ≡ canon.short_for (cmd_common_fields spec.now) sizes.now header_size }
 {
     ShortFront {
         kernel_size: sizes[0],
@@ -114,7 +114,7 @@ pub(crate) fn boot_header_for(
 ) -> BootHeader
     requires name { spec.now.version < 3 → length spec.now.name.now ≤ 16 }
     requires cmdline { length spec.now.cmdline.now ≤ 1536 }
-    ensures { result ≡ canon.boot_header_for (boot_fields spec.now) page sizes.now id }
+    ensures { result ≡ canon.boot_header_for (cmd_common_fields spec.now) page sizes.now id }
 {
     match spec.version {
         0 => BootHeader::V0(front_for(spec, page, sizes, id)),

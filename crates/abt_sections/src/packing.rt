@@ -4,7 +4,7 @@ ghost use Rattle.std.specs.Prelude.{◌≡◌, ◌<◌, ◌≤◌, ◌+◌, ◌-
 ghost use Rattle.abt_headers.specs.Boot.{boot_page, boot_record, boot_size};
 ghost use Rattle.abt_headers.specs.Page as of_page;
 ghost use Rattle.abt_sections.specs.BootCanon as canon;
-ghost use Rattle.abt_sections.specs.Fields.{boot_fields, filled};
+ghost use Rattle.abt_sections.specs.Fields.{cmd_common_fields, filled};
 ghost use Rattle.abt_sections.specs.Grown.{AppendsFront, AddsUpTo};
 ghost use Rattle.abt_sections.specs.Layout as layout;
 ghost use Rattle.abt_sections.specs.Moves.{Appends, MovesParts, ReadsAllUnless};
@@ -100,9 +100,9 @@ pub fn pack_boot<S: Source, O: Output>(
 ) -> Result<Packed, SectionFault>
     requires { spec.now.version ≤ 4 → length parts.old ≡ length (boot_names spec.now.version) }
     ensures packs { AppendsBoot result S.Source parts.old parts.new O.Output output.old output.new
-        (boot_fields spec.now) }
+        (cmd_common_fields spec.now) }
     ensures front { IsTrue S.tells → AppendsFront (O.written output.old) (O.written output.new)
-        (canon.boot_canon (boot_fields spec.now) (map S.content parts.old)) }
+        (canon.boot_canon (cmd_common_fields spec.now) (map S.content parts.old)) }
 {
     let page = check_boot_spec(spec, m)?;
     let sizes = boot_sizes(spec.version, parts, m)?;

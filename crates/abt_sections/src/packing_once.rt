@@ -10,7 +10,7 @@ ghost use Rattle.abt_headers.specs.Boot.{boot_record, boot_size};
 ghost use Rattle.abt_sections.specs.BootCanon as canon;
 ghost use Rattle.abt_sections.specs.Broken.{IsBrokenOff};
 ghost use Rattle.abt_sections.specs.Cause.{total};
-ghost use Rattle.abt_sections.specs.Fields.{boot_fields};
+ghost use Rattle.abt_sections.specs.Fields.{cmd_common_fields};
 ghost use Rattle.abt_sections.specs.Grown.{Grows, GrowsBy};
 ghost use Rattle.abt_sections.specs.Layout as layout;
 ghost use Rattle.abt_sections.specs.Moves.{LaysRecord, MovesParts, WritesAlone};
@@ -147,7 +147,7 @@ pub fn pack_boot_once<S: Source, O: Overwrite>(
 ) -> Result<Packed, SectionFault>
     requires { spec.now.version ≤ 4 → length parts.old ≡ length (boot_names spec.now.version) }
     ensures packs { AppendsBoot result S.Source parts.old parts.new O.Output output.old output.new
-        (boot_fields spec.now) }
+        (cmd_common_fields spec.now) }
     ensures once { total S.given parts.new ≤ total S.given parts.old + total S.size parts.old }
     ensures broken { OnErr result (IsBrokenOff (O.written output.old) (O.written output.new)) }
     ensures grown { Grows (O.written output.old) (O.written output.new) }

@@ -7,7 +7,7 @@
 //!   spelled so' and 'fails so' (`Fails`), runs, weight and cuts (`Runs`, `Gains`), pieces and flashing (`Pieces`).
 //! - `specs/Laws.antt` has the laws of these definitions: exactly one of the two relations holds of any bytes and
 //!   `outcome` finds it; the spelling of a list of blocks reads back as that list; greedy cuts are the fewest; flashing
-//!   the pieces in turn is flashing the image. `sparse_laws` proves them, by the lemmas of `proofs/`, which proofs of
+//!   the pieces in turn is flashing the image. `law_sparse` proves them, by the lemmas of `proofs/`, which proofs of
 //!   the layers above cite.
 //! - `SparseHeader` and `ChunkHeader` decode and encode, inverse both ways but for the reserved field of a chunk's
 //!   header, and refuse with the first check that fails.

@@ -8,7 +8,7 @@ use crate::random::Random;
 use abt_flash::deliver;
 use abt_io::{Meter, Window};
 use anyhow::{Result, bail};
-use memory_devices::SliceSpool;
+use mem_devices::SliceSpool;
 use std::alloc::Global;
 
 // How many bytes the spool holds.

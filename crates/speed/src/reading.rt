@@ -5,7 +5,7 @@ use crate::digest::Digest;
 use crate::images::{BLOCK, Maker, WORD};
 use crate::jobs::Size;
 use abt_chunks::{Chunks, Part, Pull, Puller, expand};
-use abt_files::ToWrite;
+use sys_readers::ToWrite;
 use abt_io::{Meter, Window};
 use abt_sparse::SparseFault;
 use anyhow::Result;

@@ -1,4 +1,4 @@
-use Rattle.boot_rules.specs.Fault.{is_usage}
+use Rattle.cmd_common_boot.specs.Fault.{is_usage}
 use Rattle.abootimg.proofs.Statuses.{status_zero, both_told}
 use Rattle.abootimg.proofs.boot_task.do_boot.Goals as goal
 

@@ -1,5 +1,5 @@
-use Rattle.sparse_rules.specs.Fault.{wrong_words}
-use Rattle.sparse_commands.specs.Commands.{state}
+use Rattle.cmd_common_sparse.specs.Fault.{wrong_words}
+use Rattle.cmd_sparse_dispatch.specs.Commands.{state}
 use Rattle.abootimg.proofs.Statuses.{spares_as, status_zero, told_done}
 use Rattle.abootimg.proofs.sparse_task.do_sparse.Goals as goal
 

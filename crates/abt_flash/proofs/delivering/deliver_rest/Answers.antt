@@ -19,11 +19,11 @@ use Rattle.abt_flash.proofs.Onward.{back_on, blocks_on, greatest_on, long_on, or
 use Rattle.abt_flash.proofs.Ways.{ends_none, ends_then, no_part_all, no_part_then, so_far}
 use Rattle.abt_flash.proofs.Spooled.{fits_none, fits_then, written_then, begins_then, cuts_then}
 use Rattle.abt_flash.specs.Delivering.{unsynced_by}
-use Rattle.flash_faults.specs.Fault.{refused_syncs}
+use Rattle.abt_flash_faults.specs.Fault.{refused_syncs}
 use Rattle.abt_flash.specs.declared.answer.Delivered.{Delivered}
-use Rattle.flash_faults.specs.declared.fault.Cause.{Cause}
-use Rattle.flash_faults.specs.declared.fault.Cause.TheVariants as causes
-use Rattle.flash_faults.specs.declared.fault.FlashFault.TheVariants.{Stopped}
+use Rattle.abt_flash_faults.specs.declared.fault.Cause.{Cause}
+use Rattle.abt_flash_faults.specs.declared.fault.Cause.TheVariants as causes
+use Rattle.abt_flash_faults.specs.declared.fault.FlashFault.TheVariants.{Stopped}
 use Rattle.abt_flash.proofs.Refusing.{stops_since}
 use Rattle.abt_flash.proofs.Summing.{both_flashed, stopped_unsynced}
 use Rattle.abt_flash.proofs.Staying.{staying_first, staying_more, staying_stop, staying_now, staying_last}

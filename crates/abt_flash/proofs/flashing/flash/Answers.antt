@@ -3,7 +3,7 @@ use Rattle.std.specs.Prelude.{IsTrue}
 use Rattle.abt_io.proofs.Parts.{rest_more}
 use Rattle.abt_chunks.specs.declared.progress.Progress.{Progress}
 use Rattle.abt_chunks.specs.declared.progress.Progress.TheVariants.{Done, More}
-use Rattle.flash_faults.specs.declared.fault.FlashFault.{FlashFault}
+use Rattle.abt_flash_faults.specs.declared.fault.FlashFault.{FlashFault}
 use Rattle.abt_flash.specs.Devices.{Reads}
 use Rattle.abt_flash.specs.Stepping.{is_done}
 use Rattle.abt_flash.specs.declared.stage.Stage.{Stage}

@@ -1,7 +1,7 @@
 use Rattle.std.proofs.Common.{rules, ◌≡◌, ◌++◌, ℕ, List, ap, ◌∙◌, map, length, take, arith}
 use Rattle.std.proofs.lemmas.List.{length-map}
 use Rattle.std.specs.Prelude.{IsTrue}
-use Rattle.abt_sections.specs.Fields.{boot_fields, filled}
+use Rattle.abt_sections.specs.Fields.{cmd_common_fields, filled}
 use Rattle.abt_sections.specs.BootCanon.{boot_canon, boot_image, boot_image_size, image_size}
 use Rattle.abt_headers.specs.Boot.{boot_page, boot_size}
 use Rattle.abt_sections.proofs.Sizing.{sizes_are}
@@ -15,13 +15,13 @@ use Rattle.abt_sections.proofs.packing.pack_boot.Goals as goal
 -- the image of the header that was made is the one image
 canon : (g : Over) (c : After-boot_header_for-header g) → IsTrue g.S.Source.tells
     → (let s = g.S.Source in boot_image c.boot_header_for-header.result (map s.content c.id_for.new.parts)
-    ≡ boot_canon (boot_fields c.args.spec.now) (map s.content c.args.parts.now))
+    ≡ boot_canon (cmd_common_fields c.args.spec.now) (map s.content c.args.parts.now))
 canon g c tells =
     let s = g.S.Source in
     let sizes = c.in_ok-sizes.ensures.value.1
     ∙ ap (λ (l : List ℕ). filled 5 l)
     (sizes_are s.size s.content c.args.parts.now (λ p. g.met.S.Source.sized p tells)) in
-    canon_is (boot_fields c.args.spec.now) c.in_ok-page.page c.in_ok-sizes.sizes c.in_ok-id.id
+    canon_is (cmd_common_fields c.args.spec.now) c.in_ok-page.page c.in_ok-sizes.sizes c.in_ok-id.id
     c.boot_header_for-header.result (map s.content c.args.parts.now) (map s.content c.id_for.new.parts)
     c.boot_header_for-header.ensures c.in_ok-page.ensures.refused.value.1 sizes (c.in_ok-id.ensures.id tells)
     (c.in_ok-id.ensures.reads.only.content tells)
@@ -30,9 +30,9 @@ canon g c tells =
 sized : (g : Over) (c : After-boot_header_for-header g) (n : ℕ) → n ≡ length (map g.S.Source.size c.args.parts.now)
     → (let h = c.boot_header_for-header.result in
     image_size (boot_page h) (boot_size h) (take n c.in_ok-sizes.sizes)
-    ≡ boot_image_size (boot_fields c.args.spec.now) (map g.S.Source.size c.args.parts.now))
+    ≡ boot_image_size (cmd_common_fields c.args.spec.now) (map g.S.Source.size c.args.parts.now))
 sized g c n long =
-    size_is (boot_fields c.args.spec.now) c.in_ok-page.page c.in_ok-sizes.sizes (map g.S.Source.size c.args.parts.now)
+    size_is (cmd_common_fields c.args.spec.now) c.in_ok-page.page c.in_ok-sizes.sizes (map g.S.Source.size c.args.parts.now)
     c.in_ok-id.id c.boot_header_for-header.result n c.in_ok-page.ensures.version c.boot_header_for-header.ensures
     c.in_ok-page.ensures.refused.value.1 c.in_ok-sizes.ensures.value.1 long
 
@@ -61,7 +61,7 @@ returns-clause-packs g c =
     let sizes = c.in_ok-sizes.sizes in
     let count = length c.write_image.new.parts in
     let long = length-map c.args.parts.now s.size in
-    let bytes : c.image_bytes.result ≡ boot_image_size (boot_fields c.args.spec.now) (map s.size c.args.parts.now) =
+    let bytes : c.image_bytes.result ≡ boot_image_size (cmd_common_fields c.args.spec.now) (map s.size c.args.parts.now) =
     c.image_bytes.ensures
     ∙ ap (λ (q : ℕ). image_size q c.size.result (take count sizes)) c.page_size.ensures.value
     ∙ ap (λ (q : ℕ). image_size (boot_page h) q (take count sizes)) c.size.ensures

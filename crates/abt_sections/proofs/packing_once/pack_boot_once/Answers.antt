@@ -2,7 +2,7 @@ use Rattle.std.proofs.Common.{rules, ◌≡◌, ◌+◌, inr, ℕ, List, ap, ◌
 use Rattle.std.proofs.lemmas.List.{length-map}
 use Rattle.abt_headers.specs.Boot.{boot_page}
 use Rattle.abt_headers.specs.Page.{page_bytes}
-use Rattle.abt_sections.specs.Fields.{boot_fields, filled}
+use Rattle.abt_sections.specs.Fields.{cmd_common_fields, filled}
 use Rattle.abt_sections.specs.Broken.{IsBrokenOff}
 use Rattle.abt_sections.specs.BootCanon.{boot_image_size, image_size}
 use Rattle.abt_sections.specs.Cause.{total}
@@ -28,11 +28,11 @@ told g c =
 sized : (g : Over) (c : In_ok-sizes g)
     → (let page = page_bytes c.in_ok-page.page in let ps = c.args.parts.now in
     page + laid_size page (take (length ps) c.in_ok-sizes.sizes)
-    ≡ boot_image_size (boot_fields c.args.spec.now) (map g.S.Source.size ps))
+    ≡ boot_image_size (cmd_common_fields c.args.spec.now) (map g.S.Source.size ps))
 sized g c =
     let f = g.S.Source.size in
     let ps = c.args.parts.now in
-    once_size (boot_fields c.args.spec.now) c.in_ok-page.page c.in_ok-sizes.sizes (map f ps) (length ps)
+    once_size (cmd_common_fields c.args.spec.now) c.in_ok-page.page c.in_ok-sizes.sizes (map f ps) (length ps)
     c.in_ok-page.ensures.version c.in_ok-page.ensures.refused.value.1 c.in_ok-sizes.ensures.value.1
     (omega (arith, length-map ps f))
 
@@ -65,7 +65,7 @@ returns-clause-packs g c =
     let s = g.S.Source in
     let ps = c.args.parts.now in
     let zs = map s.size ps in
-    let fields = boot_fields c.args.spec.now in
+    let fields = cmd_common_fields c.args.spec.now in
     let h = c.boot_header_for-header.result in
     let sizes = c.in_ok-sizes.sizes in
     let told = c.in_ok-sizes.ensures.value.1 in

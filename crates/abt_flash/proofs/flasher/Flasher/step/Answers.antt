@@ -1,6 +1,6 @@
 use Rattle.std.proofs.Common.{◌≡◌, ◌-◌, ℕ, List, [], Err, take, arith, refl, ap}
-use Rattle.flash_faults.specs.declared.fault.FlashFault.{FlashFault}
-use Rattle.flash_faults.specs.declared.fault.FlashFault.TheVariants as fails
+use Rattle.abt_flash_faults.specs.declared.fault.FlashFault.{FlashFault}
+use Rattle.abt_flash_faults.specs.declared.fault.FlashFault.TheVariants as fails
 use Rattle.abt_chunks.specs.declared.progress.Progress.{Progress}
 use Rattle.abt_flash.specs.Stepping.{OnShort}
 use Rattle.abt_flash.proofs.Steps.{nothing_laid}

@@ -1,8 +1,0 @@
--- How much a command is to move.
-use Rattle.std.specs.Prelude.{◌≡◌, ℕ, Option}
-use Rattle.abt_report.specs.declared.progress.Progress.{Progress}
-
--- so many bytes are to be moved then, where that is known, and as many were moved as before
-pub record Expects (now : Option ℕ) (old new : Progress) : Type 0 where
-  pub total : new.total ≡ now
-  pub done : new.done ≡ old.done

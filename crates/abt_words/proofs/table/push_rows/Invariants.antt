@@ -1,8 +1,0 @@
-use Rattle.std.proofs.Common.{◌≡◌, ◌++◌, drop, map}
-use Rattle.abt_words.specs.Table.{shape_of}
-use Rattle.abt_words.proofs.table.push_rows.Given as goal
-
-abbrev pub invariant-loop-row : goal.invariant-loop-row
-invariant-loop-row l =
-    map (λ row. shape_of row.now) l.rows.items ++ map shape_of (drop l.row-index l.more)
-    ≡ map (λ row. shape_of row.now) l.fn.rows.items ++ map shape_of l.more

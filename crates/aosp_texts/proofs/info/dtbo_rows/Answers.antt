@@ -1,6 +1,0 @@
-use Rattle.abt_text.proofs.Printing.{◌▸◌}
-use Rattle.aosp_texts.proofs.info.dtbo_rows.Goals as goal
-
-pub returns : goal.returns
-returns g c =
-    c.put_decimal_row.ensures ▸ c.put_high_row.ensures ▸ c.put_decimal_row-2.ensures

@@ -1,6 +1,0 @@
-use Rattle.abt_text.proofs.Printing.{◌▸◌}
-use Rattle.aosp_texts.proofs.info.second_rows.Goals as goal
-
-pub returns : goal.returns
-returns g c =
-    c.front_rows.ensures ▸ c.dtbo_rows.ensures

@@ -1,7 +1,0 @@
-use Rattle.std.proofs.Common.{ap, sym}
-use Rattle.abt_text.proofs.Printing.{as_text, printed_none}
-use Rattle.aosp_texts.specs.Words.{behind_words}
-use Rattle.aosp_texts.proofs.options.end_words.Goals as goal
-
-pub returns-in-Zero : goal.returns-in-Zero
-returns-in-Zero g c = as_text (ap behind_words (sym c.in-Zero.is)) (printed_none _ _ _)

@@ -1,6 +1,0 @@
-use Rattle.abt_text.proofs.Printing.{◌▸◌}
-use Rattle.aosp_texts.proofs.options.put_os_options.Goals as goal
-
-pub returns : goal.returns
-returns g c =
-    c.put_version_option.ensures ▸ c.put_level_option.ensures

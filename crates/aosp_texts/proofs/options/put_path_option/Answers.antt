@@ -1,7 +1,0 @@
-use Rattle.std.proofs.Common.{ap}
-use Rattle.abt_text.proofs.Printing.{◌▸◌, as_text}
-use Rattle.aosp_texts.specs.Words.{text_value}
-use Rattle.aosp_texts.proofs.options.put_path_option.Goals as goal
-
-pub returns : goal.returns
-returns g c = c.put_name.ensures ▸ as_text (ap (text_value c.args.ending) c.path_word.ensures) c.put_value.ensures

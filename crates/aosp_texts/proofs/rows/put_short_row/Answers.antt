@@ -1,6 +1,0 @@
-use Rattle.abt_text.proofs.Printing.{◌▸◌}
-use Rattle.aosp_texts.proofs.rows.put_short_row.Goals as goal
-
-pub returns : goal.returns
-returns g c =
-    c.put_label.ensures ▸ c.put_number.ensures ▸ c.end_line.ensures

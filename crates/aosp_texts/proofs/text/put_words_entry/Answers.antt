@@ -1,5 +1,0 @@
-use Rattle.abt_text.proofs.Printing.{◌▸◌}
-use Rattle.aosp_texts.proofs.text.put_words_entry.Goals as goal
-
-pub returns : goal.returns
-returns g c = c.entry_words.ensures ▸ c.put_board_id.ensures ▸ c.entry_file.ensures

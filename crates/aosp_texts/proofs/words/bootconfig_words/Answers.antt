@@ -1,6 +1,0 @@
-use Rattle.abt_text.proofs.Printing.{◌▸◌}
-use Rattle.aosp_texts.proofs.words.bootconfig_words.Goals as goal
-
-pub returns : goal.returns
-returns g c =
-    c.vendor_front_words.ensures ▸ c.put_file_option.ensures

@@ -1,6 +1,0 @@
-use Rattle.abt_text.proofs.Printing.{◌▸◌}
-use Rattle.aosp_texts.proofs.words.name_words.Goals as goal
-
-pub returns : goal.returns
-returns g c =
-    c.put_field_option.ensures ▸ c.put_fields_option.ensures

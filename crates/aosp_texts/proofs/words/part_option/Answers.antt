@@ -1,6 +1,0 @@
-use Rattle.std.proofs.Common.{rules}
-use Rattle.abt_text.proofs.Printing.{as_text, printed_none}
-use Rattle.aosp_texts.proofs.words.part_option.Goals as goal
-
-pub returns-then-size-eq0 : goal.returns-then-size-eq0
-returns-then-size-eq0 g c = as_text (search rules) (printed_none _ _ _)

@@ -1,8 +1,0 @@
-use Rattle.std.proofs.Common.{◌≡◌, ◌++◌, drop}
-use Rattle.boot_commands.specs.Ordered.{command_options, ordered_options}
-use Rattle.boot_commands.proofs.pack_order.options_of.Given as goal
-
-abbrev pub invariant-loop-given : goal.invariant-loop-given
-invariant-loop-given l =
-    command_options l.options.items ++ ordered_options l.is_escaped (drop l.given-index l.given)
-    ≡ ordered_options l.is_escaped l.given

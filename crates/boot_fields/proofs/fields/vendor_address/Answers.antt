@@ -1,6 +1,0 @@
-use Rattle.std.proofs.Common.{ap, arith}
-use Rattle.boot_fields.specs.Loading.{most_address}
-use Rattle.boot_fields.proofs.fields.vendor_address.Goals as goal
-
-pub returns-in-Dtb-clause-low : goal.returns-in-Dtb-clause-low
-returns-in-Dtb-clause-low c = λ short. let w = ap most_address c.in-Dtb.is in omega (arith, w, short)

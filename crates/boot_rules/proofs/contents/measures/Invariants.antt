@@ -1,5 +1,0 @@
-use Rattle.std.proofs.Common.{◌≡◌, map, take}
-use Rattle.boot_rules.proofs.contents.measures.Given as goal
-
-abbrev pub invariant-loop-part : goal.invariant-loop-part
-invariant-loop-part g l = map (λ s. s.size) l.sizes.items ≡ map g.P.Source.size (take l.part-index l.parts)

@@ -1,9 +1,0 @@
-use Rattle.boot_fields.specs.declared.fields.Address.TheVariants.{Dtb}
-use Rattle.boot_rules.proofs.loads.addresses_of.Goals as goal
-
-pub returns-in-Err-clause-wrong : goal.returns-in-Err-clause-wrong
-returns-in-Err-clause-wrong c = record {
-  which = Dtb;
-  no_room = c.in-Err.ensures.says.no_room;
-  told = c.in-Err.ensures.says.told;
-}

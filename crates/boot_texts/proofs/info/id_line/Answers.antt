@@ -1,7 +1,0 @@
-use Rattle.std.proofs.Common.{ap, ◌∙◌, sym}
-use Rattle.boot_texts.specs.Info.{id_text, line_if}
-use Rattle.abt_text.proofs.Printing.{as_text, printed_none}
-use Rattle.boot_texts.proofs.info.id_line.Goals as goal
-
-pub returns-in-None : goal.returns-in-None
-returns-in-None g c = as_text (ap (line_if id_text) (sym c.in-None.is ∙ c.id_of.ensures)) (printed_none _ _ _)

@@ -1,5 +1,0 @@
-use Rattle.abt_text.proofs.Printing.{◌▸◌, as_text}
-use Rattle.boot_texts.proofs.info_lines.put_address.Goals as goal
-
-pub returns : goal.returns
-returns g c = (c.word.ensures ▸ as_text c.name.ensures c.word-2.ensures ▸ c.word-3.ensures ▸ c.put_number.ensures) ▸ c.end_line.ensures

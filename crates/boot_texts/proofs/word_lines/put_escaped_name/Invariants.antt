@@ -1,8 +1,0 @@
-use Rattle.std.proofs.Common.{take, flat_map}
-use Rattle.boot_texts.specs.Words.{escaped_in_name}
-use Rattle.abt_text.specs.Printed.{Prints}
-use Rattle.boot_texts.proofs.word_lines.put_escaped_name.Given as goal
-
-abbrev pub invariant-loop-byte : goal.invariant-loop-byte
-invariant-loop-byte g l = Prints g.O.Output.written g.O.Output.write_faults l.initial.text l.text
-    (flat_map escaped_in_name (take l.byte-index l.fn.name))

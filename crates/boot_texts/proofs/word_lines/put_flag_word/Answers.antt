@@ -1,7 +1,0 @@
-use Rattle.abt_text.proofs.Printing.{◌▸◌, as_text}
-use Rattle.boot_texts.specs.Words.{flag_word}
-use Rattle.boot_texts.proofs.WordLists.{one_word}
-use Rattle.boot_texts.proofs.word_lines.put_flag_word.Goals as goal
-
-pub returns : goal.returns
-returns g c = as_text (one_word (flag_word c.args.name.now)) ((c.word.ensures ▸ c.word-2.ensures) ▸ c.end_line.ensures)

@@ -1,5 +1,0 @@
-use Rattle.std.proofs.Common.{rules}
-use Rattle.buffer_tests.proofs.file_spool.FileSpoolOutput.write.Goals as goal
-
-pub invariant_of-self-in-Ok-clause-room : goal.invariant_of-self-in-Ok-clause-room
-invariant_of-self-in-Ok-clause-room c = search rules

@@ -1,0 +1,86 @@
+-- What a command over boot images does with the files that its words name, leaves of them, and is refused for.
+use Rattle.std.specs.Prelude.{◌≡◌, ◌+◌, ℕ, List, Bool, IsTrue, if◌then◌else◌}
+use Rattle.sys_refusals.specs.Paths.{output_path}
+use Rattle.words_orders.specs.declared.order.BootTask.{BootTask}
+use Rattle.words_orders.specs.declared.order.BootTask.TheVariants as tasks
+use Rattle.sys_report.specs.declared.report.Report.{Report}
+use Rattle.sys_report.specs.Shows.{CannotPrint, ShowsBeside, Unprinted}
+use Rattle.sys_disk.specs.Among.{OnlyAmong}
+use Rattle.sys_disk.specs.World.{World, Held, HasFailed, OnlyAt, KeepsFile}
+use Rattle.cmd_common_boot.specs.declared.fault.BootCommandFault.{BootCommandFault}
+use Rattle.cmd_common_boot.specs.ImageFaults.{RefusesImage}
+use Rattle.cmd_unpack.specs.Lines.{ShowsEach}
+use Rattle.cmd_unpack.specs.Unpacking.{IsPartOf, PartsStand, SyncsParts, Unpacks}
+use Rattle.cmd_info.specs.Informing.{RefusesInfo, TellsFile, notation_of}
+use Rattle.cmd_pack.specs.Packing.{HoldsNoPart, KeepsGiven, PacksFile}
+use Rattle.cmd_pack.specs.Refusing.{RefusesPack}
+use Rattle.cmd_pack.specs.RefusingAgain.{RefusesRepack}
+use Rattle.cmd_pack.specs.Repacking.{HoldsNoPartAgain, KeepsRead, RepacksFile, ShowsFirst}
+use Rattle.cmd_boot_dispatch.specs.Ordered.{IsCommandOf}
+use Rattle.cmd_boot_dispatch.specs.declared.command.BootCommand.{BootCommand}
+use Rattle.cmd_boot_dispatch.specs.declared.command.Kind.{Kind}
+use Rattle.cmd_boot_dispatch.specs.declared.command.Kind.TheVariants as kinds
+
+-- the command that a task asks for, with the bytes that its words stand for
+abbrev pub IsKindOf : BootTask → Kind → Type 0
+IsKindOf (tasks.Pack order) (kinds.Pack command) = IsCommandOf order command
+IsKindOf (tasks.Repack input order) (kinds.Repack from command) = (from.now ≡ input.now) × IsCommandOf order command
+IsKindOf (tasks.Unpack input folder with_words) (kinds.Unpack from onto are_wanted) =
+    (from.now ≡ input.now) × (onto.now ≡ folder.now) × (are_wanted ≡ with_words)
+IsKindOf (tasks.Info input with_check with_hex) (kinds.Info from check hex) =
+    (from.now ≡ input.now) × (check ≡ with_check) × (hex ≡ with_hex)
+IsKindOf task kind = ⊥
+
+-- one output more was synced, where that is wanted
+abbrev pub SyncsOne : Held → Held → Type 0
+SyncsOne old new = new.syncs ≡ old.syncs + (if old.is_synced then 1 else 0)
+
+-- ---- what is done, from one moment to another, where these outputs are where standard output goes
+
+abbrev pub DoesKind : (List ℕ → Bool) → Kind → World → Held → Report → World → Held → Report → Type 0
+DoesKind on_output (kinds.Pack command) world held report world' held' report' =
+    PacksFile command world world' (ShowsBeside (on_output (output_path command.output.now)) report report')
+    × SyncsOne held held'
+DoesKind on_output (kinds.Repack input command) world held report world' held' report' =
+    RepacksFile input.now command world world' (ShowsFirst (on_output (output_path command.output.now)) report report')
+    × SyncsOne held held'
+DoesKind on_output (kinds.Unpack input folder with_words) world held report world' held' report' =
+    Unpacks input.now folder.now with_words world world' (λ lines. ShowsEach lines report report')
+    × SyncsParts input.now with_words world held held'
+DoesKind on_output (kinds.Info input with_check with_hex) world held report world' held' report' =
+    TellsFile input.now (notation_of with_hex) with_check world report report'
+
+-- ---- what stays, whatever the outcome: OUT, or files of the parts' names, alone may hold anything else
+
+abbrev pub SparesKind : Kind → World → Held → World → Held → Type 0
+SparesKind (kinds.Pack command) world held world' held' =
+    OnlyAt held.read (output_path command.output.now) world world' × KeepsGiven command world world'
+SparesKind (kinds.Repack input command) world held world' held' =
+    OnlyAt held.read (output_path command.output.now) world world' × KeepsRead input.now command world world'
+SparesKind (kinds.Unpack input folder with_words) world held world' held' =
+    OnlyAmong (IsPartOf input.now folder.now with_words world) held.read held'.begun world world'
+    × KeepsFile input.now world world'
+SparesKind (kinds.Info input with_check with_hex) world held world' held' = world' ≡ world
+
+-- OUT of these is no image unless all of it is there, where it can be written over
+abbrev pub LeavesNoPartOfBoot : (List ℕ → Bool) → Kind → World → World → Type 0
+LeavesNoPartOfBoot over (kinds.Pack command) world world' =
+    IsTrue (over (output_path command.output.now)) → HoldsNoPart command world world'
+LeavesNoPartOfBoot over (kinds.Repack input command) world world' =
+    IsTrue (over (output_path command.output.now)) → HoldsNoPartAgain input.now command world world'
+LeavesNoPartOfBoot over (kinds.Unpack input folder with_words) world world' = Unit {0}
+LeavesNoPartOfBoot over (kinds.Info input with_check with_hex) world world' = Unit {0}
+
+-- ---- why it is refused
+
+abbrev pub RefusesKind : BootCommandFault → Kind → World → Held → Report → World → Held → Report → Type 0
+RefusesKind fault (kinds.Pack command) world held report world' held' report' =
+    RefusesPack command world world' held held' (PacksFile command world world' (Unprinted report report')) fault
+RefusesKind fault (kinds.Repack input command) world held report world' held' report' =
+    RefusesRepack input.now command world world' held held'
+    (RepacksFile input.now command world world' (Unprinted report report')) fault
+RefusesKind fault (kinds.Unpack input folder with_words) world held report world' held' report' =
+    RefusesImage input.now world (HasFailed held held')
+    (PartsStand input.now folder.now with_words world held' world' × CannotPrint report report') fault
+RefusesKind fault (kinds.Info input with_check with_hex) world held report world' held' report' =
+    RefusesInfo input.now (notation_of with_hex) with_check world (HasFailed held held') report report' fault

@@ -1,0 +1,134 @@
+//! Which command over boot images it is.
+
+ghost use Rattle.std.specs.Prelude.{◌≡◌, IsTrue, IfErr, IfOk, OnOk};
+ghost use Rattle.sys_disk.specs.World.{HasNotFailed, IsReading};
+ghost use Rattle.sys_refusals.specs.Paths.{path_of};
+ghost use Rattle.cmd_boot_dispatch.specs.Commands.{DoesKind, IsKindOf, LeavesNoPartOfBoot, RefusesKind, SparesKind};
+
+use crate::pack_order::command_of;
+use sys_disk::Disk;
+use abt_io::{Meter, Window};
+use sys_refusals::Place;
+use sys_report::Report;
+use words_orders::BootTask;
+use cmd_unpack::unpack_file;
+use cmd_common_boot::{BootOutcome, PackCommand};
+use cmd_info::info_file;
+use cmd_pack::{pack_file, repack_file};
+use std::alloc::{AllocError, Global};
+
+/// A command over boot images, whose words are read.
+#[derive(Drop)]
+pub struct BootCommand<'a> {
+    pub kind: Kind<'a>,
+}
+
+/// Which one it is.
+#[derive(Drop)]
+pub enum Kind<'a> {
+    Pack(PackCommand<'a>),
+    Repack {
+        input: &'a str,
+        command: PackCommand<'a>,
+    },
+    Unpack {
+        input: &'a str,
+        folder: &'a str,
+        with_words: bool,
+    },
+    Info {
+        input: &'a str,
+        with_check: bool,
+        with_hex: bool,
+    },
+}
+
+impl<'a> BootCommand<'a> {
+    /// Reads the words that stand for bytes.
+    pub fn new(alloc: Global, task: BootTask<'a>) -> Result<BootCommand<'a>, AllocError>
+        ensures { IfOk result (λ command. IsKindOf task.entry command.kind) }
+    {
+        let kind = match task {
+            BootTask::Pack(order) => match command_of(alloc, order) {
+                Ok(command) => Kind::Pack(command),
+                Err(error) => return Err(error),
+            },
+            BootTask::Repack { input, order } => match command_of(alloc, order) {
+                Ok(command) => Kind::Repack { input, command },
+                Err(error) => return Err(error),
+            },
+            BootTask::Unpack {
+                input,
+                folder,
+                with_words,
+            } => Kind::Unpack {
+                input,
+                folder,
+                with_words,
+            },
+            BootTask::Info {
+                input,
+                with_check,
+                with_hex,
+            } => Kind::Info {
+                input,
+                with_check,
+                with_hex,
+            },
+        };
+        Ok(BootCommand { kind })
+    }
+}
+
+/// Does what a command asks for.
+pub fn boot_command<'t, 'a, D: Disk>(
+    disk: &mut D,
+    report: &mut Report,
+    command: &'t BootCommand<'a>,
+    w: &mut Window,
+    m: &mut Meter,
+) -> BootOutcome<'t, 'a>
+    requires first { IsTrue D.tells → IsReading (D.held disk.old) }
+    // it is done, by its own body, at the files that its words name
+    ensures done { IsTrue D.tells → OnOk result (DoesKind D.on_output command.now.kind (D.world disk.old)
+        (D.held disk.old) report.old (D.world disk.new) (D.held disk.new) report.new) }
+    // whatever the outcome, what it reads holds what it held, and none has changed but what it is to write
+    ensures spares { IsTrue D.tells → SparesKind command.now.kind (D.world disk.old) (D.held disk.old)
+        (D.world disk.new) (D.held disk.new) }
+    ensures whole { IsTrue D.tells
+        → LeavesNoPartOfBoot D.is_over command.now.kind (D.world disk.old) (D.world disk.new) }
+    // it is done only where nothing failed
+    ensures clean { IsTrue D.tells → OnOk result (HasNotFailed (D.held disk.old) (D.held disk.new)) }
+    // it is refused for what its body is refused for
+    ensures refused { IsTrue D.tells → IfErr result (λ refusal. RefusesKind refusal.fault command.now.kind
+        (D.world disk.old) (D.held disk.old) report.old (D.world disk.new) (D.held disk.new) report.new) }
+{
+    match &command.kind {
+        Kind::Pack(command) => pack_file(disk, report, command, w, m),
+        Kind::Repack { input, command } => {
+            repack_file(disk, report, input_at(input), command, w, m)
+        }
+        Kind::Unpack {
+            input,
+            folder,
+            with_words,
+        } => unpack_file(disk, report, input_at(input), folder, *with_words, w, m),
+        Kind::Info {
+            input,
+            with_check,
+            with_hex,
+        } => info_file(disk, report, input_at(input), *with_check, *with_hex, w, m),
+    }
+}
+
+// The file at a word, where `-` is a file of that name.
+fn input_at<'a>(word: &'a str) -> Place<'a>
+    ensures { path_of result ≡ word.now }
+{
+    Place {
+        role: "IN",
+        folder: None,
+        name: word,
+        number: None,
+    }
+}

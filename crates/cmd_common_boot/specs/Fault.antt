@@ -1,0 +1,47 @@
+-- Which faults are of the words, and the number of each.
+use Rattle.std.specs.Prelude.{ℕ, Bool, true, false, Option, Some, None}
+use Rattle.sys_refusals.specs.Host.{is_not_text}
+use Rattle.abt_sections.specs.Fault as section
+use Rattle.abt_headers.specs.declared.fault.HeaderFault.TheVariants as headers
+use Rattle.abt_sections.specs.declared.fault.SectionFault.TheVariants as sections
+use Rattle.cmd_common_boot.specs.Refused.{IsOfMoving}
+use Rattle.cmd_common_boot.specs.declared.fault.BootCommandFault.{BootCommandFault}
+use Rattle.cmd_common_boot.specs.declared.fault.BootCommandFault.TheVariants as faults
+
+-- the words are wrong, rather than what they name
+abbrev pub is_usage : BootCommandFault → Bool
+is_usage (faults.Host fault) = is_not_text fault
+is_usage (faults.Section fault) = false
+is_usage (faults.OptionNotCarried name) = true
+is_usage (faults.BadFragment word) = true
+is_usage (faults.BadNumber word) = true
+is_usage (faults.BadBoardId word) = true
+is_usage faults.CheckFailed = false
+
+-- the number of a fault of an image or a device
+abbrev pub boot_command_fault_number : BootCommandFault → Option ℕ
+boot_command_fault_number (faults.Section fault) = Some (section.section_fault_number fault)
+boot_command_fault_number (faults.Host fault) = None
+boot_command_fault_number (faults.OptionNotCarried name) = None
+boot_command_fault_number (faults.BadFragment word) = None
+boot_command_fault_number (faults.BadNumber word) = None
+boot_command_fault_number (faults.BadBoardId word) = None
+boot_command_fault_number faults.CheckFailed = None
+
+-- there is no such header version
+abbrev pub of_version : ℕ → BootCommandFault
+of_version n = faults.Section (sections.Header (headers.Version n))
+
+-- a word says no OS version
+abbrev pub of_os_word : BootCommandFault
+of_os_word = faults.Section (sections.Header headers.Os)
+
+-- a fault of the devices or of files
+abbrev pub IsOutsideBoot : BootCommandFault → Type 0
+IsOutsideBoot (faults.Host f) = Unit {0}
+IsOutsideBoot (faults.Section f) = IsOfMoving f
+IsOutsideBoot (faults.OptionNotCarried name) = ⊥
+IsOutsideBoot (faults.BadFragment word) = ⊥
+IsOutsideBoot (faults.BadNumber word) = ⊥
+IsOutsideBoot (faults.BadBoardId word) = ⊥
+IsOutsideBoot faults.CheckFailed = ⊥

@@ -1,0 +1,64 @@
+-- Why a command over a boot image is refused that was opened from a file.
+use Rattle.std.specs.Prelude.{◌≡◌, ◌<◌, ◌+◌, ◌⊎◌, ℕ, List, Some, Result, Ok, Err}
+use Rattle.abt_sections.specs.declared.fault.SectionFault.{SectionFault}
+use Rattle.abt_sections.specs.declared.fault.SectionFault.TheVariants as sections
+use Rattle.abt_sections.specs.Open.{RefusedAs}
+use Rattle.sys_disk.specs.World.{World, Held}
+use Rattle.cmd_common_boot.specs.declared.fault.BootCommandFault.{BootCommandFault}
+use Rattle.cmd_common_boot.specs.declared.fault.BootCommandFault.TheVariants as faults
+
+-- from one moment to another a call of the disk failed, or a read of the source, whose faults are counted too
+pub record SomeFailed (held : Held) (reads : ℕ) (held' : Held) (reads' : ℕ) : Type 0 where
+  pub rises : held.failed + reads < held'.failed + reads'
+
+-- and none did
+pub record NoMoreFailed (held : Held) (reads : ℕ) (held' : Held) (reads' : ℕ) : Type 0 where
+  pub stays : held'.failed + reads' ≡ held.failed + reads
+
+-- the bytes x have this fault, or a device has, which failed
+abbrev pub IsFaultOf : List ℕ → Type 0 → SectionFault → Type 0
+IsFaultOf x failed (sections.Read f) = failed
+IsFaultOf x failed (sections.Write f) = failed
+IsFaultOf x failed sections.SourceChanged = ⊥
+IsFaultOf x failed (sections.Header f) = RefusedAs x (sections.Header f)
+IsFaultOf x failed (sections.Entry i) = RefusedAs x (sections.Entry i)
+IsFaultOf x failed sections.Name = ⊥
+IsFaultOf x failed sections.CommandLine = ⊥
+IsFaultOf x failed (sections.SectionTruncated s) = RefusedAs x (sections.SectionTruncated s)
+IsFaultOf x failed (sections.SectionTooLarge s) = ⊥
+
+-- such a fault; or one of files, of which one failed, or nothing but a line that could not be printed
+abbrev pub IsRefusalOf : List ℕ → Type 0 → Type 0 → BootCommandFault → Type 0
+IsRefusalOf x failed unprinted (faults.Host f) = failed ⊎ unprinted
+IsRefusalOf x failed unprinted (faults.Section f) = IsFaultOf x failed f
+IsRefusalOf x failed unprinted (faults.OptionNotCarried name) = ⊥
+IsRefusalOf x failed unprinted (faults.BadFragment word) = ⊥
+IsRefusalOf x failed unprinted (faults.BadNumber word) = ⊥
+IsRefusalOf x failed unprinted (faults.BadBoardId word) = ⊥
+IsRefusalOf x failed unprinted faults.CheckFailed = ⊥
+
+-- a refusal on the way
+pub record IsRefusedOver (x : List ℕ) (failed unprinted : Type 0) (fault : BootCommandFault) : Type 0 where
+  pub refuses : IsRefusalOf x failed unprinted fault
+
+-- the same of what the file at this path holds
+abbrev pub RefusesImage : List ℕ → World → Type 0 → Type 0 → BootCommandFault → Type 0
+RefusesImage path world failed unprinted (faults.Host f) = failed ⊎ unprinted
+RefusesImage path world failed unprinted (faults.Section f) =
+    (file : ℕ) × (world.at path ≡ Some file) × IsFaultOf (world.holds file) failed f
+RefusesImage path world failed unprinted (faults.OptionNotCarried name) = ⊥
+RefusesImage path world failed unprinted (faults.BadFragment word) = ⊥
+RefusesImage path world failed unprinted (faults.BadNumber word) = ⊥
+RefusesImage path world failed unprinted (faults.BadBoardId word) = ⊥
+RefusesImage path world failed unprinted faults.CheckFailed = ⊥
+
+-- what a call is refused for that answered so: its own fault, or else one of files, as above
+abbrev pub IsAnswerOf : {X : Type 0} → Result X SectionFault → Type 0 → Type 0 → BootCommandFault → Type 0
+IsAnswerOf (Ok x) failed unprinted (faults.Host f) = failed ⊎ unprinted
+IsAnswerOf (Ok x) failed unprinted (faults.Section f) = ⊥
+IsAnswerOf (Ok x) failed unprinted (faults.OptionNotCarried name) = ⊥
+IsAnswerOf (Ok x) failed unprinted (faults.BadFragment word) = ⊥
+IsAnswerOf (Ok x) failed unprinted (faults.BadNumber word) = ⊥
+IsAnswerOf (Ok x) failed unprinted (faults.BadBoardId word) = ⊥
+IsAnswerOf (Ok x) failed unprinted faults.CheckFailed = ⊥
+IsAnswerOf (Err e) failed unprinted fault = fault ≡ faults.Section e

@@ -1,0 +1,52 @@
+//! The board ids of ramdisk fragments, as the words of `--board-id` set them.
+
+ghost use Rattle.std.specs.Prelude.{◌≡◌, ◌<◌, ◌↔◌, IsTrue, IfErr, OnOk, Contains, false, length, map};
+ghost use Rattle.cmd_common_fields.specs.Board.{BoardFits, IsBoardWord};
+ghost use Rattle.cmd_common_boot.specs.Boards.{AreSet, IsSet, with_board};
+
+use abt_sections::FragmentSpec;
+use cmd_common_fields::BoardWord;
+
+/// Sets the numbers that the words say, in order. Answers the first word that is none, or of which there is no
+/// fragment.
+pub fn set_board_ids<'a>(specs: &mut [FragmentSpec], words: &[&'a str]) -> Result<(), &'a str>
+    ensures same { length specs.new ≡ length specs.old }
+    ensures set { OnOk result (AreSet (map (λ w. w.now) words.now) specs.old specs.new) }
+    ensures refused { IfErr result (λ word. Contains (map (λ w. w.now) words.now) word.now ×
+        ((b : BoardWord) → IsBoardWord word.now b → BoardFits b → b.fragment < length specs.old → ⊥)) }
+{
+    for word in words {
+        if !set_by_word(specs, word) {
+            return Err(word);
+        }
+    }
+    Ok(())
+}
+
+/// Sets the number that a word says, and answers whether it says one of a fragment that is there.
+fn set_by_word(specs: &mut [FragmentSpec], word: &str) -> bool
+    ensures set { IsTrue result → IsSet word.now specs.old specs.new }
+    ensures refused { result ≡ false →
+        (b : BoardWord) → IsBoardWord word.now b → BoardFits b → b.fragment < length specs.old → ⊥ }
+{
+    match BoardWord::new(word) {
+        Some(board) => set_board_id(specs, board),
+        None => false,
+    }
+}
+
+/// Sets a number of the fragment that the word names, and answers whether there is one.
+fn set_board_id(specs: &mut [FragmentSpec], board: BoardWord) -> bool
+    requires { board.place < 16 }
+    ensures named { IsTrue result ↔ (board.fragment < length specs.old) }
+    ensures set { specs.new ≡ with_board specs.old board }
+{
+    let i = board.fragment as usize;
+    if i >= specs.len() {
+        return false;
+    }
+    let mut spec = specs[i];
+    spec.board_id[board.place as usize] = board.number;
+    specs[i] = spec;
+    true
+}

@@ -1,0 +1,70 @@
+//! The files that `unpack` writes to a folder, each with its name, and their order.
+
+ghost use Rattle.std.specs.Prelude.{◌≡◌};
+ghost use Rattle.abt_sections.specs.Header.{view_of};
+ghost use Rattle.cmd_common_boot.specs.Unpacked.{IsPart, part_count};
+
+use abt_headers::Section;
+use sys_refusals::Place;
+use abt_sections::{Image, fragments, section, sections};
+
+/// A file that `unpack` writes.
+#[derive(Clone, Copy, Drop)]
+pub enum Part {
+    /// A section.
+    Section(Section),
+    /// The ramdisk fragment of this index.
+    Fragment(u32),
+    /// The words that pack the image again.
+    Words,
+}
+
+impl Part {
+    /// The file in a folder: `kernel`, `fragment.0`, `pack.words`.
+    pub fn place<'a>(self, folder: &'a str) -> Place<'a> {
+        Place {
+            role: "PART",
+            folder: Some(folder),
+            name: self.name(),
+            number: self.number(),
+        }
+    }
+
+    fn number(self) -> Option<u32> {
+        match self {
+            Part::Fragment(index) => Some(index),
+            Part::Section(_) | Part::Words => None,
+        }
+    }
+
+    fn name(self) -> &'static str {
+        match self {
+            Part::Section(kind) => kind.name(),
+            Part::Fragment(_) => "fragment",
+            Part::Words => "pack.words",
+        }
+    }
+}
+
+/// How many files are written.
+pub fn part_count(image: &Image, with_words: bool) -> u64
+    ensures { result ≡ part_count (view_of image.now.header) with_words }
+{
+    let parts = sections(image) as u64 + fragments(image) as u64;
+    if with_words { parts + 1 } else { parts }
+}
+
+/// The file that is written as file `i`: sections come first, then fragments, then the words.
+pub fn part_of(image: &Image, i: u64) -> Part
+    ensures { IsPart (view_of image.now.header) i result }
+{
+    let sections = sections(image) as u64;
+    if i < sections {
+        return Part::Section(section(image, i as usize).kind);
+    }
+    let index = i - sections;
+    if index < fragments(image) as u64 {
+        return Part::Fragment(index as u32);
+    }
+    Part::Words
+}

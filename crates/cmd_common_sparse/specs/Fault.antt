@@ -1,0 +1,55 @@
+-- Which faults are of the words, the number of each, and which of the files at hand it is about.
+use Rattle.std.specs.Prelude.{ℕ, ◌==◌, ◌||◌, Bool, false, Option, Some, None, if◌then◌else◌}
+use Rattle.abt_sparse.specs.Number as sparse
+use Rattle.abt_runs.specs.Number as run
+use Rattle.abt_pieces.specs.Fault as piece
+use Rattle.abt_flash_faults.specs.Fault as flash
+use Rattle.abt_verify.specs.Fault as verify
+use Rattle.abt_flash_faults.specs.declared.fault.Cause.{Cause}
+use Rattle.abt_flash_faults.specs.declared.fault.Cause.TheVariants as causes
+use Rattle.abt_flash_faults.specs.declared.fault.FlashFault.{FlashFault}
+use Rattle.abt_flash_faults.specs.declared.fault.FlashFault.TheVariants as flashes
+use Rattle.sys_refusals.specs.Host.{is_not_text}
+use Rattle.sys_refusals.specs.declared.told.Side.{Side}
+use Rattle.sys_refusals.specs.declared.told.Side.TheVariants as sides
+use Rattle.cmd_common_sparse.specs.declared.fault.SparseCommandFault.{SparseCommandFault}
+use Rattle.cmd_common_sparse.specs.declared.fault.SparseCommandFault.TheVariants as faults
+
+-- the words are wrong, rather than what they name
+abbrev pub wrong_words : SparseCommandFault → Bool
+wrong_words (faults.Sparse fault) = false
+wrong_words (faults.Run fault) = false
+wrong_words (faults.Piece fault) = false
+wrong_words (faults.Flash fault) = false
+wrong_words (faults.Verify fault) = false
+wrong_words (faults.OtherBlocks image) = false
+wrong_words (faults.OtherCut image) = false
+wrong_words (faults.Host fault) = is_not_text fault
+
+-- the number of a fault of an image or a device, which its own crate gives it
+abbrev pub sparse_command_fault_number : SparseCommandFault → Option ℕ
+sparse_command_fault_number (faults.Sparse fault) = Some (sparse.number_of fault)
+sparse_command_fault_number (faults.Run fault) = Some (run.run_fault_number fault)
+sparse_command_fault_number (faults.Piece fault) = Some (piece.piece_fault_number fault)
+sparse_command_fault_number (faults.Flash fault) = Some (flash.flash_fault_number fault)
+sparse_command_fault_number (faults.Verify fault) = Some (verify.verify_fault_number fault)
+sparse_command_fault_number (faults.OtherBlocks image) = Some 36
+sparse_command_fault_number (faults.OtherCut image) = Some 38
+sparse_command_fault_number (faults.Host fault) = None
+
+-- the file that a stopped delivery is about
+abbrev pub side_of_cause : Cause → Side
+side_of_cause (causes.Read fault) = sides.Input
+side_of_cause causes.SourceChanged = sides.Input
+side_of_cause (causes.Write fault) = sides.Output
+side_of_cause (causes.Sync fault) = sides.Output
+side_of_cause (causes.SpoolWrite fault) = sides.Spool
+side_of_cause (causes.SpoolRead fault) = sides.Spool
+side_of_cause causes.SpoolChanged = sides.Spool
+
+-- 12 is not written, 17 too small, 18 not synced, 35 another byte, 37 not read: of what is written or compared; 15 is
+-- no size of blocks, 16 too small a limit, 31 no piece: of the words; and all others are of what is read
+abbrev pub side_of_number : ℕ → Side
+side_of_number n =
+    if n == 12 || (n == 17 || (n == 18 || (n == 35 || n == 37))) then sides.Output
+    else (if n == 15 || (n == 16 || n == 31) then sides.Words else sides.Input)

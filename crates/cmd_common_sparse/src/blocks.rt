@@ -1,0 +1,35 @@
+//! Which blocks a raw image has.
+
+ghost use Rattle.std.specs.Prelude.{◌≡◌, ◌<◌, ◌≤◌, ◌+◌, ◌-◌, ◌*◌, ◌^◌, IfErr, IfOk, OnOk};
+ghost use Rattle.abt_runs.specs.Raw.{RefusedRaw};
+ghost use Rattle.cmd_common_sparse.specs.Blocks.{IsRawBlockSize, most_of};
+
+use abt_io::Source;
+use abt_runs::{BlockRuns, RawRuns, RunFault};
+
+/// How many bytes of data a raw chunk has at most: whole blocks in 64 MiB.
+const CHUNK_DATA: u32 = 67_108_864;
+
+/// The blocks of a raw image, and of its raw chunks.
+#[derive(Clone, Copy, Drop)]
+pub struct Blocks {
+    /// How many bytes a block has.
+    pub size: u32,
+    /// How many blocks a raw chunk has at most.
+    pub most: u32,
+    ghost some: { 1 ≤ most },
+    ghost small: { 12 + most * size < 2 ^ 32 },
+}
+
+/// The blocks of a raw image. A block size that no raw image has is refused before it divides.
+pub fn blocks_of<S: Source>(source: &S, size: u32) -> Result<Blocks, RunFault>
+    ensures size { IfOk result (λ blocks. blocks.size ≡ size) }
+    ensures most { IfOk result (λ blocks. blocks.most ≡ most_of size) }
+    ensures granted { OnOk result (IsRawBlockSize size) }
+    ensures few { OnOk result (S.size source.now ≤ (2 ^ 32 - 1) * size) }
+    ensures refused { IfErr result (λ fault. RefusedRaw fault size (S.size source.now)) }
+{
+    let runs = RawRuns::open(source, size)?;
+    let most = CHUNK_DATA / runs.block_size();
+    Ok(Blocks { size, most })
+}

@@ -1,0 +1,201 @@
+//! Why a command of sparse images is refused.
+
+ghost use Rattle.std.specs.Prelude.{◌≡◌, List, ℕ};
+ghost use Rattle.sys_text.specs.Printed.{Prints};
+ghost use Rattle.cmd_common_sparse.specs.Fault.{sparse_command_fault_number, side_of_cause, side_of_number, wrong_words};
+ghost use Rattle.cmd_common_sparse.specs.declared.fault.SparseCommandFault.TheVariants.{Host};
+
+use abt_io::Output;
+use abt_pieces::PieceFault;
+use sys_refusals::{HostFault, HostRefusal, Magic, Place, Refusal, Side, Told};
+use abt_runs::RunFault;
+use abt_sparse::SparseFault;
+use sys_text::Text;
+use abt_verify::VerifyFault;
+use abt_flash_faults::{Cause, FlashFault};
+
+/// Why a command of sparse images is refused.
+#[derive(Drop)]
+pub enum SparseCommandFault {
+    /// Of a sparse image, or of the devices that it is read from and written to.
+    Sparse(SparseFault),
+    /// Of an image that is read in passes, or of the device that it is read from.
+    Run(RunFault),
+    /// Of the pieces of an image, or of the devices that they are read from and written to.
+    Piece(PieceFault),
+    /// Of flashing and delivering, or of the devices of both.
+    Flash(FlashFault),
+    /// Of an image that is verified, or of the devices of both.
+    Verify(VerifyFault),
+    /// This one of several images has another block size or number of blocks than the first.
+    OtherBlocks { image: u32 },
+    /// This one of several images is of another cut than a piece before it: its blocks are out of turn.
+    OtherCut { image: u32 },
+    /// Of files, whatever they hold.
+    Host(HostFault),
+}
+
+/// What a command of sparse images answers where it does not do what it was told.
+pub type SparseRefusal<'a> = Refusal<'a, SparseCommandFault>;
+
+impl From<HostFault> for SparseCommandFault {
+    ghost from_gives = { λ host fault. fault ≡ Host host };
+
+    fn from(fault: HostFault) -> SparseCommandFault {
+        SparseCommandFault::Host(fault)
+    }
+}
+
+impl SparseCommandFault {
+    /// The fault's number, where it has one.
+    pub fn number(&self) -> Option<u32>
+        ensures { result ≡ sparse_command_fault_number self.now }
+    {
+        match self {
+            SparseCommandFault::Sparse(fault) => Some(fault.number()),
+            SparseCommandFault::Run(fault) => Some(fault.number()),
+            SparseCommandFault::Piece(fault) => Some(fault.number()),
+            SparseCommandFault::Flash(fault) => Some(fault.number()),
+            SparseCommandFault::Verify(fault) => Some(fault.number()),
+            SparseCommandFault::OtherBlocks { .. } => Some(36),
+            SparseCommandFault::OtherCut { .. } => Some(38),
+            SparseCommandFault::Host(_) => None,
+        }
+    }
+}
+
+impl Told for SparseCommandFault {
+    ghost wrong_words = { wrong_words };
+
+    fn is_usage(&self) -> bool {
+        match self {
+            SparseCommandFault::Host(fault) => fault.is_usage(),
+            SparseCommandFault::Sparse(_) => false,
+            SparseCommandFault::Run(_) => false,
+            SparseCommandFault::Piece(_) => false,
+            SparseCommandFault::Flash(_) => false,
+            SparseCommandFault::Verify(_) => false,
+            SparseCommandFault::OtherBlocks { .. } => false,
+            SparseCommandFault::OtherCut { .. } => false,
+        }
+    }
+
+    fn side(&self) -> Side {
+        match self {
+            SparseCommandFault::Flash(FlashFault::Stopped { cause, .. }) => side_of_cause(cause),
+            _ => match self.number() {
+                Some(number) => side_of_number(number),
+                None => Side::Words,
+            },
+        }
+    }
+
+    fn is_of_a_device(&self) -> bool {
+        match self {
+            SparseCommandFault::Host(fault) => fault.is_of_a_device(),
+            _ => matches!(self.number(), Some(11 | 12 | 18 | 19)),
+        }
+    }
+
+    fn advice(&self) -> &'static str {
+        match self {
+            SparseCommandFault::Host(fault) => fault.advice(),
+            SparseCommandFault::Piece(PieceFault::LimitTooSmall { least }) => {
+                advice_of_limit(*least)
+            }
+            SparseCommandFault::Flash(FlashFault::LimitTooSmall { least }) => {
+                advice_of_limit(*least)
+            }
+            _ => match self.number() {
+                Some(number) => advice_of_number(number),
+                None => "",
+            },
+        }
+    }
+
+    fn missing_magic(&self) -> Option<Magic> {
+        match self.number() {
+            Some(1) => Some(Magic::Sparse),
+            _ => None,
+        }
+    }
+
+    fn mending_piece(&self) -> Option<u32> {
+        match self {
+            SparseCommandFault::Flash(FlashFault::Stopped { piece, .. }) => Some(*piece),
+            _ => None,
+        }
+    }
+
+    fn put<O: Output>(&self, place: Option<Place<'_>>, text: &mut Text<'_, O>) {
+        match self {
+            SparseCommandFault::Sparse(fault) => text.short(format_args!("{fault}")),
+            SparseCommandFault::Run(fault) => text.short(format_args!("{fault}")),
+            SparseCommandFault::Piece(fault) => text.short(format_args!("{fault}")),
+            SparseCommandFault::Flash(fault) => text.short(format_args!("{fault}")),
+            SparseCommandFault::Verify(fault) => text.short(format_args!("{fault}")),
+            SparseCommandFault::OtherBlocks { image } => {
+                text.short(format_args!("36 OtherBlocks image {image}"));
+            }
+            SparseCommandFault::OtherCut { image } => {
+                text.short(format_args!("38 OtherCut image {image}"));
+            }
+            SparseCommandFault::Host(fault) => fault.put(place, text),
+        }
+    }
+}
+
+fn side_of_cause(cause: &Cause) -> Side
+    ensures { result ≡ side_of_cause cause.now }
+{
+    match cause {
+        Cause::SpoolWrite(_) => Side::Spool,
+        Cause::SpoolRead(_) => Side::Spool,
+        Cause::SpoolChanged => Side::Spool,
+        Cause::Write(_) => Side::Output,
+        Cause::Sync(_) => Side::Output,
+        Cause::Read(_) => Side::Input,
+        Cause::SourceChanged => Side::Input,
+    }
+}
+
+fn side_of_number(number: u32) -> Side
+    ensures { result ≡ side_of_number number }
+{
+    match number {
+        12 | 17 | 18 | 35 | 37 => Side::Output,
+        15 | 16 | 31 => Side::Words,
+        _ => Side::Input,
+    }
+}
+
+// Of a limit that is less than so many bytes.
+fn advice_of_limit(least: u64) -> &'static str {
+    if least <= u32::MAX as u64 {
+        "give a LIMIT of so many bytes"
+    } else {
+        "no LIMIT has room for it, so it can't be cut: take smaller blocks"
+    }
+}
+
+fn advice_of_number(number: u32) -> &'static str {
+    match number {
+        1 => "it is no sparse image; a raw one is cut, flashed and verified with --raw",
+        2..=9 => "its sparse header or a chunk is damaged; fetch or make it again",
+        10 => "it ends there, before its last chunk; fetch or copy it again",
+        11 => "it cannot be read",
+        12 => "it cannot be written",
+        13 => "it has more blocks than a sparse image can count; choose greater blocks",
+        14 => "it changed while it was read; try again when nothing writes it",
+        15 => "a block has a multiple of 4 bytes, at most 65536",
+        17 => "it has fewer bytes than the image needs; nothing of it was written",
+        18 => "it was written, but could not be synced",
+        19 => "it failed",
+        31 => "--from names a piece behind the last",
+        35 => "that byte is not the image's, or is missing; flash it again",
+        36 => "it has another block size or number of blocks than the first image",
+        37 => "it cannot be read",
+        38 => "its blocks are out of turn with an earlier piece's; remove what an older cut left",
+        _ => "",
+    }
+}

@@ -1,0 +1,16 @@
+use Rattle.std.proofs.Common.{◌≡◌, IsTrue, List, ℕ}
+use Rattle.abt_sections.specs.Header.{view_of}
+use Rattle.sys_text.specs.Printed.{Prints}
+use Rattle.cmd_common_texts.specs.Words.{fragment_words, words_text}
+use Rattle.cmd_common_texts.proofs.packing_words.fragment_words.Given as goal
+
+abbrev pub invariant-loop-i : goal.invariant-loop-i
+invariant-loop-i g l =
+    let content = g.S.Source.content in
+    record {
+      faults : g.S.Source.read_faults l.source ≡ g.S.Source.read_faults l.initial.source;
+      prints : (done : List ℕ) × Prints g.O.Output.written g.O.Output.write_faults l.initial.text l.text done;
+      lines : IsTrue g.S.Source.tells
+          → (content l.source ≡ content l.initial.source)
+          × Prints g.O.Output.written g.O.Output.write_faults l.initial.text l.text (words_text (fragment_words l.fn.folder (content l.initial.source) (view_of l.fn.image.header) l.i));
+    }

@@ -1,0 +1,39 @@
+use Rattle.std.proofs.Common.{None, refl, ap, arith}
+use Rattle.abt_runs.specs.Sparse.{sparse_list}
+use Rattle.abt_sparse.proofs.Exactly.{is_so}
+use Rattle.cmd_common_sparse.specs.PieceNames.{naming_of}
+use Rattle.cmd_cut.specs.Cutting.{ShowsCut}
+use Rattle.cmd_cut.proofs.Opened.{cut_of, if_err, sparse_image, sparse_uncut, stop_of}
+use Rattle.cmd_cut.proofs.cut.cut_sparse.Goals as goal
+
+pub returns-in-Ok-clause-done : goal.returns-in-Ok-clause-done
+returns-in-Ok-clause-done g c = λ t.
+    let told = g.met.D.Disk.source_told t in
+    let x = g.D.At.Source.content c.args.source in
+    let size = c.in-Ok.pieces.cutter.runs.header.blk_sz in
+    cut_of c.cut_pieces.result None size size c.args.order.limit _ (sparse_list x) _ (naming_of c.args.order.names)
+    x _ _ _ _
+    (λ n. ShowsCut (naming_of c.args.order.names) n (g.D.Disk.world c.cut_pieces.new.disk) c.args.report.now
+    c.cut_pieces.new.report) (sparse_image _ _ _ x (is_so x (g.met.D.At.Source.are_bytes c.args.source told))
+    (c.in-Ok.ensures.opened told)) c.in-Ok.ensures.granted refl c.in-Ok.ensures.limit
+    (ap sparse_list (c.sparse_pieces.ensures.reads.content told)) (c.cut_pieces.ensures.done t)
+
+pub returns-in-Ok-clause-refused : goal.returns-in-Ok-clause-refused
+returns-in-Ok-clause-refused g c = λ t.
+    let told = g.met.D.Disk.source_told t in
+    let x = g.D.At.Source.content c.args.source in
+    let size = c.in-Ok.pieces.cutter.runs.header.blk_sz in
+    if_err c.cut_pieces.result _ _ (λ e why.
+    stop_of _ e.fault None size size c.args.order.limit _ (sparse_list x) _ (naming_of c.args.order.names) x _ _ _ _ _ _
+    (sparse_image _ _ _ x (is_so x (g.met.D.At.Source.are_bytes c.args.source told)) (c.in-Ok.ensures.opened told))
+    refl c.in-Ok.ensures.limit (ap sparse_list (c.sparse_pieces.ensures.reads.content told)) why)
+    (c.cut_pieces.ensures.refused t)
+
+pub returns-in-Err-clause-refused : goal.returns-in-Err-clause-refused
+returns-in-Err-clause-refused g c = λ t.
+    let told = g.met.D.Disk.source_told t in
+    let x = g.D.At.Source.content c.args.source in
+    sparse_uncut _ c.in-Err.fault c.refuse.result.fault c.args.order.limit x _ _ _ _ _
+    (is_so x (g.met.D.At.Source.are_bytes c.args.source told)) c.refuse.ensures (c.in-Err.ensures.refused told)
+    (λ more. omega (arith, more, (c.requires.fresh t).clean, ap (λ k. k.failed) (c.let_go_source.ensures.held t)))
+    (c.let_go_source.ensures.world t)

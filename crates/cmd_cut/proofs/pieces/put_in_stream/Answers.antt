@@ -1,0 +1,28 @@
+use Rattle.std.proofs.Common.{rules}
+use Rattle.cmd_cut.proofs.Beside.{beside_answer, holds_piece, told_of}
+use Rattle.cmd_cut.proofs.Counted.{answered}
+use Rattle.cmd_cut.proofs.pieces.put_in_stream.Goals as goal
+
+pub returns : goal.returns
+returns g c =
+    let cuts = c.write_next-answer.ensures.cuts in
+    record {
+      puts = λ t.
+          let told = g.met.D.Disk.source_told t in
+          let fails = c.write_next-answer.ensures.fails in
+          record {
+            holds = holds_piece _ _ _ _ _ _ _ _ (c.write_next-answer.ensures.laid told) c.ended.ensures.done
+                (c.ended.ensures.ended t);
+            closed = beside_answer _ _ _ _ _ _ _ _ (c.requires.output.clean t) (c.ended.ensures.closed t) fails.clean
+                (fails.cause told) (answered _ _ c.ended.ensures.done);
+            rest = c.ended.ensures.rest t;
+            outside = search rules;
+          };
+      told = λ t. told_of _ _ _ (c.write_next-answer.ensures.told (g.met.D.Disk.source_told t)) c.ended.ensures.done;
+      cuts = record {
+        is_next = told_of _ _ _ cuts.is_next c.ended.ensures.done;
+        cutter = cuts.cutter;
+        content = cuts.content;
+        told = cuts.told;
+      };
+    }

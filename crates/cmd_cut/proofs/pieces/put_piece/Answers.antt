@@ -1,0 +1,85 @@
+use Rattle.std.proofs.Common.{◌∙◌, ap, refl}
+use Rattle.cmd_cut.proofs.Beside.{adds_none, adds_none_refused, adds_piece, cause_piece, clean_piece, goes_piece}
+use Rattle.cmd_cut.proofs.Beside.{any_refused, none_open}
+use Rattle.sys_disk.proofs.Amongs.{goes_refused}
+use Rattle.cmd_cut.proofs.pieces.put_piece.Goals as goal
+
+pub returns-in_err-image-clause-left : goal.returns-in_err-image-clause-left
+returns-in_err-image-clause-left g c = λ t. record {
+  only = goes_refused _ _ _ _ _ _ 1 refl (c.in_err-image.ensures.kept t) (c.in_err-image.ensures.only t);
+  closed = ap (λ k. k.output) (c.in_err-image.ensures.kept t) ∙ c.requires.one t;
+}
+
+pub returns-in_err-image-clause-keeps : goal.returns-in_err-image-clause-keeps
+returns-in_err-image-clause-keeps g c = λ t.
+    any_refused c.from_residual.result _ (adds_none_refused _ (g.D.Disk.held c.args.disk.now)
+    (g.D.Disk.held c.image.new.self) (g.D.Disk.world c.args.disk.now) (g.D.Disk.world c.image.new.self)
+    (c.requires.one t) (c.in_err-image.ensures.kept t) (c.in_err-image.ensures.only t) (c.in_err-image.ensures.begun t))
+
+pub returns-in-File-clause-adds : goal.returns-in-File-clause-adds
+returns-in-File-clause-adds g c = λ t.
+    let told = g.met.D.Disk.source_told t in
+    adds_piece _ _ _ _ _ _ _ _ _ _ _ _ (c.in_ok-image.ensures.created t)
+    (rw (c.forget.ensures.content told) at (c.put_in_file.ensures.puts t).holds) (c.put_in_file.ensures.puts t).closed
+    (c.put_in_file.ensures.puts t).rest
+
+pub returns-in-File-clause-keeps : goal.returns-in-File-clause-keeps
+returns-in-File-clause-keeps g c = λ t.
+    adds_none c.put_in_file.result _ _ _ _ _ _ _ _ _ (c.in_ok-image.ensures.created t)
+    (c.put_in_file.ensures.puts t).closed
+    (c.put_in_file.ensures.puts t).rest
+
+pub returns-in-File-clause-left : goal.returns-in-File-clause-left
+returns-in-File-clause-left g c = λ t. record {
+  only = goes_piece _ _ _ _ _ _ _ _ _ _ (c.in_ok-image.ensures.created t) (c.put_in_file.ensures.puts t).closed
+      (c.put_in_file.ensures.puts t).rest;
+  closed = none_open _ _ _ _ _ (c.put_in_file.ensures.puts t).closed;
+}
+
+pub returns-in-File-clause-clean : goal.returns-in-File-clause-clean
+returns-in-File-clause-clean g c = λ t.
+    clean_piece _ _ _ _ _ _ _ _ _ (c.in_ok-image.ensures.created t)
+    (rw c.forget.ensures.faults at (c.put_in_file.ensures.puts t).closed)
+
+pub returns-in-File-clause-cause : goal.returns-in-File-clause-cause
+returns-in-File-clause-cause g c = λ t.
+    cause_piece _ _ _ _ _ _ _ _ _ (c.in_ok-image.ensures.created t)
+    (rw c.forget.ensures.faults at (c.put_in_file.ensures.puts t).closed)
+
+pub returns-in-Stream-clause-adds : goal.returns-in-Stream-clause-adds
+returns-in-Stream-clause-adds g c = λ t.
+    let told = g.met.D.Disk.source_told t in
+    adds_piece _ _ _ _ _ _ _ _ _ _ _ _ (c.in_ok-image.ensures.created t)
+    (rw (c.forget.ensures.content told) at (c.put_in_stream.ensures.puts t).holds)
+    (c.put_in_stream.ensures.puts t).closed
+    (c.put_in_stream.ensures.puts t).rest
+
+pub returns-in-Stream-clause-keeps : goal.returns-in-Stream-clause-keeps
+returns-in-Stream-clause-keeps g c = λ t.
+    adds_none c.put_in_stream.result _ _ _ _ _ _ _ _ _ (c.in_ok-image.ensures.created t)
+    (c.put_in_stream.ensures.puts t).closed (c.put_in_stream.ensures.puts t).rest
+
+pub returns-in-Stream-clause-left : goal.returns-in-Stream-clause-left
+returns-in-Stream-clause-left g c = λ t. record {
+  only = goes_piece _ _ _ _ _ _ _ _ _ _ (c.in_ok-image.ensures.created t) (c.put_in_stream.ensures.puts t).closed
+      (c.put_in_stream.ensures.puts t).rest;
+  closed = none_open _ _ _ _ _ (c.put_in_stream.ensures.puts t).closed;
+}
+
+pub returns-in-Stream-clause-clean : goal.returns-in-Stream-clause-clean
+returns-in-Stream-clause-clean g c = λ t.
+    clean_piece _ _ _ _ _ _ _ _ _ (c.in_ok-image.ensures.created t)
+    (rw c.forget.ensures.faults at (c.put_in_stream.ensures.puts t).closed)
+
+pub returns-in-Stream-clause-cause : goal.returns-in-Stream-clause-cause
+returns-in-Stream-clause-cause g c = λ t.
+    cause_piece _ _ _ _ _ _ _ _ _ (c.in_ok-image.ensures.created t)
+    (rw c.forget.ensures.faults at (c.put_in_stream.ensures.puts t).closed)
+
+pub returns-in-File-clause-told : goal.returns-in-File-clause-told
+returns-in-File-clause-told g c = λ t.
+    rw (c.forget.ensures.content (g.met.D.Disk.source_told t)) at (c.put_in_file.ensures.told t)
+
+pub returns-in-Stream-clause-told : goal.returns-in-Stream-clause-told
+returns-in-Stream-clause-told g c = λ t.
+    rw (c.forget.ensures.content (g.met.D.Disk.source_told t)) at (c.put_in_stream.ensures.told t)

@@ -1,0 +1,184 @@
+-- What the command `sparse` leaves of files, and what it prints.
+use Rattle.std.specs.Prelude.{◌≡◌, ◌≢◌, ◌<◌, ◌≤◌, ◌⊎◌, ◌+◌, ◌-◌, ◌*◌, ◌^◌, ℕ, List, [], ◌∷◌, ◌++◌, length, Bool, false}
+use Rattle.std.specs.Prelude.{Option, Some, None, IsTrue, Result, OnOk, OnErr, IfOk, IfErr, is_ok, if◌then◌else◌}
+use Rattle.abt_sparse.specs.Block.{classify}
+use Rattle.abt_sparse.specs.Chunk.{chunks_of, spelling}
+use Rattle.abt_runs.specs.declared.part.RunFault.{RunFault}
+use Rattle.abt_runs.specs.Raw.{RefusedRaw}
+use Rattle.abt_pieces.specs.declared.fault.PieceFault.{PieceFault}
+use Rattle.abt_pieces.specs.declared.fault.PieceFault.TheVariants as pieces
+use Rattle.abt_placed.specs.Unfinished.{IsNoImage}
+use Rattle.abt_sparsify.specs.declared.count.Written.{Written}
+use Rattle.sys_disk.specs.World.{World, Held, ClosesOutput, KeepsFile, OnlyAt, Spares, SparesRest, HasFailed}
+use Rattle.sys_disk.specs.World.{HasNotFailed, ended}
+use Rattle.cmd_common_sparse.specs.Blocks.{IsRawBlockSize, most_of}
+use Rattle.cmd_common_sparse.specs.declared.blocks.Blocks.{Blocks}
+use Rattle.cmd_common_sparse.specs.Lines.{line_text}
+use Rattle.cmd_common_sparse.specs.declared.fault.SparseCommandFault.{SparseCommandFault}
+use Rattle.cmd_common_sparse.specs.declared.fault.SparseCommandFault.TheVariants as faults
+use Rattle.cmd_common_sparse.specs.declared.lines.Line.TheVariants as lines
+
+-- the sparse image of these bytes in blocks of this size, in how many blocks and chunks
+abbrev pub image_of_raw : ℕ → List ℕ → List ℕ
+image_of_raw size x = spelling size (most_of size) (classify size x)
+
+abbrev pub blocks_of_raw : ℕ → List ℕ → ℕ
+blocks_of_raw size x = length (classify size x)
+
+abbrev pub chunks_of_raw : ℕ → List ℕ → ℕ
+chunks_of_raw size x = length (chunks_of (most_of size) (classify size x))
+
+-- The file at one path held bytes, the one at the other is another file that holds their sparse image and nothing else,
+-- no other file has changed, and the line that was printed has the image's numbers.
+pub record SparsifiesFile (input output : List ℕ) (size : ℕ) (old new : World) (shows : List ℕ → Type 0) : Type 0 where
+  pub from : ℕ
+  pub onto : ℕ
+  pub there : old.at input ≡ Some from
+  pub here : new.at output ≡ Some onto
+  pub apart : from ≢ onto
+  pub sized : IsRawBlockSize size
+  pub holds : new.holds onto ≡ image_of_raw size (old.holds from)
+  pub spares : Spares onto old new
+  pub shown : shows (line_text (lines.Sparse (blocks_of_raw size (old.holds from)) (chunks_of_raw size (old.holds from))
+      (length (new.holds onto))) ++ (10 ∷ []))
+
+-- what is no image: it has fewer than four bytes, or no reader finds one, whatever follows
+abbrev pub HoldsNoSparse : List ℕ → Type 0
+HoldsNoSparse x = (length x < 4) ⊎ IsNoImage x
+
+-- the file at this path holds the sparse image of what the file at the other one held
+pub record HoldsImage (input : List ℕ) (size : ℕ) (old : World) (bytes : List ℕ) : Type 0 where
+  pub from : ℕ
+  pub there : old.at input ≡ Some from
+  pub holds : bytes ≡ image_of_raw size (old.holds from)
+
+-- whatever the outcome, the file at this path holds what it held, or what is no image, or the whole image
+abbrev pub HoldsNoPartOfSparse : List ℕ → List ℕ → ℕ → World → World → Type 0
+HoldsNoPartOfSparse input output size old new = (file : ℕ) → new.at output ≡ Some file
+    → (new.holds file ≡ old.holds file)
+    ⊎ (HoldsNoSparse (new.holds file) ⊎ HoldsImage input size old (new.holds file))
+
+-- What a call leaves that writes the sparse image of one file to another, whatever it answers: that one alone may hold
+-- anything else, the first holds what it held, no output is open, and a file that can be written over has no part of an
+-- image; after an Ok it was synced, where that is wanted, and nothing has failed.
+pub record LeavesImage {X F : Type 0} (r : Result X F) (from onto : List ℕ) (size : ℕ) (is_over : Bool)
+    (held held' : Held) (old new : World) : Type 0 where
+  pub synced : OnOk r (held'.syncs ≡ held.syncs + (if held.is_synced then 1 else 0))
+  pub others : OnlyAt held.read onto old new
+  pub input : KeepsFile from old new
+  pub closed : held'.output ≡ None
+  pub whole : IsTrue is_over → HoldsNoPartOfSparse from onto size old new
+  pub clean : OnOk r (HasNotFailed held held')
+
+-- the file at this path has no blocks of this size, or too many, and nothing has changed
+pub record HasNoBlocks (path : List ℕ) (size : ℕ) (old new : World) (fault : RunFault) : Type 0 where
+  pub file : ℕ
+  pub there : old.at path ≡ Some file
+  pub fails : RefusedRaw fault size (length (old.holds file))
+  pub untouched : new ≡ old
+
+-- a device failed
+abbrev pub IsOfPieceDevices : PieceFault → Type 0
+IsOfPieceDevices (pieces.Read f) = Unit {0}
+IsOfPieceDevices (pieces.Write f) = Unit {0}
+IsOfPieceDevices pieces.SourceChanged = ⊥
+IsOfPieceDevices pieces.TooLarge = ⊥
+IsOfPieceDevices (pieces.BadBlock n) = ⊥
+IsOfPieceDevices (pieces.LimitTooSmall n) = ⊥
+
+-- a fault of the devices or of files
+abbrev pub IsOutsideSparse : SparseCommandFault → Type 0
+IsOutsideSparse (faults.Sparse f) = ⊥
+IsOutsideSparse (faults.Run f) = ⊥
+IsOutsideSparse (faults.Piece f) = IsOfPieceDevices f
+IsOutsideSparse (faults.Flash f) = ⊥
+IsOutsideSparse (faults.Verify f) = ⊥
+IsOutsideSparse (faults.OtherBlocks image) = ⊥
+IsOutsideSparse (faults.OtherCut image) = ⊥
+IsOutsideSparse (faults.Host f) = Unit {0}
+
+-- the block size is none that the file at this path has, which is told before anything is touched; or a device failed;
+-- or a call of the disk did, or all was done and the line could not be printed
+abbrev pub RefusesRaw : List ℕ → ℕ → World → World → Held → Held → Type 0 → SparseCommandFault → Type 0
+RefusesRaw path size old new held held' Done (faults.Run f) = HasNoBlocks path size old new f
+RefusesRaw path size old new held held' Done (faults.Piece f) = IsOfPieceDevices f × HasFailed held held'
+RefusesRaw path size old new held held' Done (faults.Host f) = HasFailed held held' ⊎ Done
+RefusesRaw path size old new held held' Done (faults.Sparse f) = ⊥
+RefusesRaw path size old new held held' Done (faults.Flash f) = ⊥
+RefusesRaw path size old new held held' Done (faults.Verify f) = ⊥
+RefusesRaw path size old new held held' Done (faults.OtherBlocks image) = ⊥
+RefusesRaw path size old new held held' Done (faults.OtherCut image) = ⊥
+
+-- the output that was open was let go, which had failed so often, or more often in the end; no other file has changed
+pub record GivesUp (faults : ℕ) (held held' : Held) (old new : World) : Type 0 where
+  pub failures : ℕ
+  pub closed : held' ≡ ended false failures held
+  pub least : faults ≤ failures
+  pub rest : SparesRest held.output old new
+
+-- a raw image of so many bytes can be written in these blocks
+pub record FitsBlocks (blocks : Blocks) (bytes : ℕ) : Type 0 where
+  pub sized : IsRawBlockSize blocks.size
+  pub most : blocks.most ≡ most_of blocks.size
+  pub few : bytes ≤ (2 ^ 32 - 1) * blocks.size
+
+-- what is read is such an image, and has not failed
+pub record ReadyRawImage (tells : Bool) (blocks : Blocks) (bytes reads : ℕ) : Type 0 where
+  pub fits : FitsBlocks blocks bytes
+  pub read : IsTrue tells → reads ≡ 0
+
+-- nothing was written yet, and nothing has failed
+pub record ReadyOutput (tells : Bool) (written : List ℕ) (faults : ℕ) : Type 0 where
+  pub empty : written ≡ []
+  pub clean : IsTrue tells → faults ≡ 0
+
+-- both
+pub record ReadyToWrite (tells : Bool) (blocks : Blocks) (bytes reads : ℕ) (written : List ℕ) (faults : ℕ) : Type 0
+  where
+    pub image : ReadyRawImage tells blocks bytes reads
+    pub output : ReadyOutput tells written faults
+
+-- such an image can be written behind nothing
+pub record ReadyToLay (blocks : Blocks) (bytes : ℕ) (written : List ℕ) : Type 0 where
+  pub fits : FitsBlocks blocks bytes
+  pub empty : written ≡ []
+
+-- Of devices that had failed so often before, and have now, none has failed more where all was done; and where it was
+-- not, one has, and the fault is theirs.
+pub record OnlyDevicesFail {X : Type 0} (r : Result X SparseCommandFault) (tells : Bool) (failed failed' : ℕ)
+    : Type 0 where
+  pub outside : IsTrue tells → IfErr r IsOutsideSparse
+  pub clean : OnOk r (failed' ≡ failed)
+  pub cause : IsTrue tells → OnErr r (failed < failed')
+
+-- these are the numbers of the sparse image of these bytes, and behind nothing it was written
+pub record IsWritten (size : ℕ) (x : List ℕ) (a : Written) (bytes : List ℕ) : Type 0 where
+  pub blocks : a.blocks ≡ blocks_of_raw size x
+  pub chunks : a.chunks ≡ chunks_of_raw size x
+  pub long : a.bytes ≡ length bytes
+  pub holds : bytes ≡ image_of_raw size x
+
+-- What a call leaves that writes it of devices that had failed so often before, and have now.
+pub record LaysSparseImage (r : Result Written SparseCommandFault) (tells : Bool) (size : ℕ) (x bytes : List ℕ)
+    (failed failed' : ℕ) : Type 0 where
+  pub written : IsTrue tells → IfOk r (λ a. IsWritten size x a bytes)
+  pub fails : OnlyDevicesFail r tells failed failed'
+
+-- the output that was open holds the sparse image of these bytes, which has these numbers
+abbrev pub HoldsWritten : ℕ → List ℕ → Written → Option ℕ → World → World → Type 0
+HoldsWritten size x a None old new = Unit {0}
+HoldsWritten size x a (Some file) old new = IsWritten size x a (new.holds file) × Spares file old new
+
+-- the output that was open holds no part of the sparse image of these bytes, but nothing of it or all
+abbrev pub LeavesNoneOrSparse : ℕ → List ℕ → Option ℕ → World → Type 0
+LeavesNoneOrSparse size x None new = Unit {0}
+LeavesNoneOrSparse size x (Some file) new = HoldsNoSparse (new.holds file) ⊎ (new.holds file ≡ image_of_raw size x)
+
+-- The output that was open is brought to its end and closed: where the answer is Ok it holds the sparse image of these
+-- bytes, which has these numbers; no other file has changed; and where it is refused a device or a file was at fault.
+pub record WritesSparseImage {F : Type 0} (r : Result (Written × Bool) F) (fault : F → SparseCommandFault) (size : ℕ)
+    (x : List ℕ) (held held' : Held) (old new : World) : Type 0 where
+  pub holds : IfOk r (λ end. HoldsWritten size x end.0 held.output old new)
+  pub closed : ClosesOutput (is_ok r) held held'
+  pub rest : SparesRest held.output old new
+  pub outside : IfErr r (λ refusal. IsOutsideSparse (fault refusal))

@@ -1,0 +1,190 @@
+//! The command `cut`: an image in pieces for a download limit, each into a file of its own.
+
+ghost use Rattle.std.specs.Prelude.{◌≡◌, ◌<◌, ◌≤◌, ◌+◌, [], None, Some, IsTrue, IfOk, IfErr, OnOk};
+ghost use Rattle.sys_disk.specs.World.{HasFailed, IsReading};
+ghost use Rattle.abt_io.specs.Lent.{OnlyReads};
+ghost use Rattle.abt_pieces.specs.Cutter.{ToldCutter};
+ghost use Rattle.abt_pieces.specs.declared.stage.Stage.{Stage};
+ghost use Rattle.sys_refusals.specs.Paths.{path_of};
+ghost use Rattle.sys_report.specs.Shows.{CannotPrint};
+ghost use Rattle.abt_runs.specs.Sparse.{SparseOpened, SparsePlace, blocks_together, sparse_list};
+ghost use Rattle.abt_sparse.specs.View.{view};
+ghost use Rattle.cmd_cut.specs.Cutting.{CutsFile, CutsImage, CutsSoFar, IsPiecePath, IsUnbegun, IsUncutSparse};
+ghost use Rattle.cmd_cut.specs.Cutting.{LeavesCut, LeavesPieces, RefusesCut, ShowsCut, StopsImage};
+ghost use Rattle.cmd_common_sparse.specs.PieceNames.{naming_of};
+
+use crate::turns::cut_pieces;
+use sys_disk::{Disk, Lasting};
+use abt_io::{Meter, Source, Window};
+use sys_refusals::{Place, Sides};
+use sys_report::Report;
+use abt_runs::{RunFault, SparseRuns};
+use abt_sparse::SparseFault;
+use cmd_common_sparse::{PieceNaming, PiecesOf, SparseCommandFault, SparseRefusal, raw_pieces};
+
+// How often a raw image is read whose pieces get each header before what it tells of, as a pipe and a device do: to plan a
+// piece, to find each run whole, and to copy it.
+const RAW_PASSES: u64 = 3;
+
+/// What to cut, and into which files.
+#[derive(Clone, Copy, Drop)]
+pub struct Cutting<'a> {
+    /// The image.
+    pub input: Place<'a>,
+    /// How many bytes a piece has at most.
+    pub limit: u32,
+    /// How the files of the pieces are named.
+    pub names: PieceNaming<'a>,
+    /// How many bytes a block of a raw image has; of a sparse image, nothing.
+    pub raw: Option<u32>,
+}
+
+/// Writes each piece of an image to a file of its own, and prints what they are.
+///
+/// A piece's file is opened when its turn comes, and its line is printed when all of it is in the file. Pieces and
+/// lines before a fault stand. Where the image is one of the files that are there for pieces, nothing is written. The
+/// next piece of an older cut is named, since it is no piece of this one.
+#[inline(never)]
+pub fn cut_file<'a, D: Disk>(
+    disk: &mut D,
+    report: &mut Report,
+    order: Cutting<'a>,
+    w: &mut Window,
+    m: &mut Meter,
+) -> Result<(), SparseRefusal<'a>>
+    requires first { IsTrue D.tells → IsReading (D.held disk.old) }
+    // each piece of the image that IN holds stands under its name, in a file of its own
+    ensures done { IsTrue D.tells → OnOk result (CutsFile order.entry.raw order.entry.limit (path_of order.entry.input)
+        (naming_of order.entry.names) (D.held disk.old) (D.held disk.new) (D.world disk.old) (D.world disk.new)
+        (ShowsCut (naming_of order.entry.names) order.entry.limit (D.world disk.new) report.old report.new)) }
+    // whatever comes, only such files were created or changed, IN holds what it held, and no output is open; where it is
+    // done nothing has failed
+    ensures leaves { IsTrue D.tells → LeavesCut result (path_of order.entry.input) order.entry.names.prefix.now
+        (D.held disk.old) (D.held disk.new) (D.world disk.old) (D.world disk.new) }
+    // it is refused for what IN holds, for the limit, or for a fault of files or devices that came
+    ensures refused { IsTrue D.tells → IfErr result (λ refusal. RefusesCut order.entry.raw order.entry.limit
+        (path_of order.entry.input) (naming_of order.entry.names) refusal.fault (D.held disk.old) (D.held disk.new)
+        (D.world disk.old) (D.world disk.new) (CannotPrint report.old report.new)) }
+{
+    let source = match disk.ahead(order.input) {
+        Ok(source) => source,
+        Err(refusal) => return Err(refusal.into()),
+    };
+    report.progress.expect(source.length(), 1);
+    match order.raw {
+        Some(size) => cut_raw(disk, report, source, order, size, w, m),
+        None => cut_sparse(disk, report, source, order, w, m),
+    }
+}
+
+// The same of a raw image that is open, in blocks of so many bytes.
+fn cut_raw<'a, D: Disk>(
+    disk: &mut D,
+    report: &mut Report,
+    source: D::At,
+    order: Cutting<'a>,
+    size: u32,
+    w: &mut Window,
+    m: &mut Meter,
+) -> Result<(), SparseRefusal<'a>>
+    requires fresh { IsTrue D.tells → IsUnbegun (D.held disk.old) (D.At.read_faults source) }
+    ensures done { IsTrue D.tells → OnOk result (CutsImage (Some size) order.entry.limit (naming_of order.entry.names)
+        (D.At.content source)
+        (D.held disk.old) (D.held disk.new) (D.world disk.old) (D.world disk.new)
+        (ShowsCut (naming_of order.entry.names) order.entry.limit (D.world disk.new) report.old report.new)) }
+    ensures leaves { IsTrue D.tells → LeavesPieces result (IsPiecePath order.entry.names.prefix.now) (D.held disk.old)
+        (D.held disk.new) (D.world disk.old) (D.world disk.new) }
+    ensures refused { IsTrue D.tells → IfErr result (λ refusal. StopsImage (Some size) order.entry.limit
+        (D.At.content source) refusal.fault (HasFailed (D.held disk.old) (D.held disk.new)) (CannotPrint report.old
+        report.new) (D.world disk.new ≡ D.world disk.old)
+        (λ ps n m. CutsSoFar (naming_of order.entry.names) ps n m (D.held disk.old) (D.held disk.new) (D.world disk.old)
+        (D.world disk.new))) }
+{
+    match raw_pieces(&source, size, order.limit) {
+        Ok(pieces) => cut_pieces(
+            disk,
+            report,
+            source,
+            pieces,
+            order.input,
+            order.names,
+            RAW_PASSES,
+            w,
+            m,
+        ),
+        Err(fault) => Err(Sides::none().reading(order.input, None).refuse(fault)),
+    }
+}
+
+// The same of a sparse image that is open.
+fn cut_sparse<'a, D: Disk>(
+    disk: &mut D,
+    report: &mut Report,
+    source: D::At,
+    order: Cutting<'a>,
+    w: &mut Window,
+    m: &mut Meter,
+) -> Result<(), SparseRefusal<'a>>
+    requires fresh { IsTrue D.tells → IsUnbegun (D.held disk.old) (D.At.read_faults source) }
+    ensures done { IsTrue D.tells → OnOk result (CutsImage None order.entry.limit (naming_of order.entry.names)
+        (D.At.content source) (D.held disk.old) (D.held disk.new) (D.world disk.old) (D.world disk.new)
+        (ShowsCut (naming_of order.entry.names) order.entry.limit (D.world disk.new) report.old report.new)) }
+    ensures leaves { IsTrue D.tells → LeavesPieces result (IsPiecePath order.entry.names.prefix.now) (D.held disk.old)
+        (D.held disk.new) (D.world disk.old) (D.world disk.new) }
+    ensures refused { IsTrue D.tells → IfErr result (λ refusal. StopsImage None order.entry.limit (D.At.content source)
+        refusal.fault (HasFailed (D.held disk.old) (D.held disk.new)) (CannotPrint report.old
+        report.new) (D.world disk.new ≡ D.world disk.old)
+        (λ ps n m. CutsSoFar (naming_of order.entry.names) ps n m (D.held disk.old) (D.held disk.new) (D.world disk.old)
+        (D.world disk.new))) }
+{
+    let mut source = source;
+    match sparse_pieces(&mut source, order.limit, w, m) {
+        Ok(pieces) => cut_pieces(
+            disk,
+            report,
+            source,
+            pieces,
+            order.input,
+            order.names,
+            1,
+            w,
+            m,
+        ),
+        Err(fault) => {
+            disk.let_go_source(source);
+            Err(Sides::none().reading(order.input, None).refuse(fault))
+        }
+    }
+}
+
+// The pieces of a sparse image, all of whose chunks are checked. It ends too soon where its file is shorter then than
+// what was given of it.
+fn sparse_pieces<S: Lasting>(
+    source: &mut S,
+    limit: u32,
+    w: &mut Window,
+    m: &mut Meter,
+) -> Result<PiecesOf<SparseRuns>, SparseCommandFault>
+    ensures reads { OnlyReads result S.Source source.old source.new }
+    ensures begins { IfOk result (λ pieces. (pieces.cutter.made ≡ 0) × (pieces.cutter.stage ≡ Stage.Between)) }
+    ensures limit { IfOk result (λ pieces. pieces.cutter.limit ≡ limit) }
+    ensures granted { IfOk result (λ pieces. 64 + pieces.cutter.runs.header.blk_sz ≤ limit) }
+    ensures opened { IsTrue S.tells → IfOk result (λ pieces. SparseOpened (view pieces.cutter.runs.header)
+        pieces.cutter.runs.length pieces.cutter.runs.image (S.content source.old)) }
+    ensures told { IsTrue S.tells → IfOk result (λ pieces. ToldCutter (SparsePlace (view pieces.cutter.runs.header)
+        (S.content source.old)) (blocks_together (view pieces.cutter.runs.header) (S.content source.old))
+        pieces.cutter.runs.header.blk_sz (sparse_list (S.content source.old)) pieces.cutter.limit pieces.cutter.made
+        pieces.cutter.start pieces.cutter.stage) }
+    ensures refused { IsTrue S.tells → IfErr result (λ fault. IsUncutSparse fault limit (S.content source.old)
+        (S.read_faults source.old) (S.read_faults source.new)) }
+{
+    let runs = match SparseRuns::open(source, w, m) {
+        Ok(runs) => runs,
+        Err(fault) => return Err(SparseCommandFault::Run(fault)),
+    };
+    if let Some(at) = source.shorter() {
+        let fault = SparseFault::Truncated { at };
+        return Err(SparseCommandFault::Run(RunFault::Sparse(fault)));
+    }
+    PiecesOf::open(runs, limit)
+}

@@ -1,0 +1,138 @@
+//! The next piece of an image, as far as it goes, while it is known how far the command is.
+
+ghost use Rattle.std.specs.Prelude.{◌≡◌, ◌+◌, [], None, Some, IsTrue, IfOk, IfSome};
+ghost use Rattle.abt_pieces.specs.Turn.{HasAt};
+ghost use Rattle.abt_sparse.specs.Pieces.{pieces};
+ghost use Rattle.cmd_cut.specs.Cutting.{CutsPiece, ReadyPiece, NumbersOfPiece};
+ghost use Rattle.cmd_cut.specs.Sparsing.{OnlyDevicesFail};
+
+use sys_disk::Lasting;
+use abt_io::{FrontLast, Meter, Output, Overwrite, Window};
+use abt_pieces::{Cutter, Piece, PieceFault};
+use abt_placed::next_piece_at;
+use sys_refusals::HostFault;
+use sys_report::Carried;
+use abt_runs::{BlockRuns, RawRuns, SparseRuns};
+use cmd_common_sparse::SparseCommandFault;
+
+/// Writes the next piece from its front on. It is refused where its source is shorter then than what was given of it.
+pub(crate) fn write_next<B: BlockRuns + Drop, S: Lasting, O: Output>(
+    cutter: &mut Cutter<B>,
+    source: &mut Carried<'_, S>,
+    output: &mut O,
+    w: &mut Window,
+    m: &mut Meter,
+) -> Result<Piece, SparseCommandFault>
+    requires ready { ReadyPiece B.BlockRuns S.Source cutter.old.runs source.old.device cutter.old.limit cutter.old.made
+        cutter.old.start cutter.old.stage }
+    requires empty { O.written output.old ≡ [] }
+    // it is the piece behind those that are made
+    ensures laid { IsTrue S.tells → IfOk result (λ p. HasAt (pieces cutter.old.limit (B.size cutter.old.runs)
+        (B.list cutter.old.runs (S.content source.old.device))) cutter.old.made (O.written output.new)) }
+    ensures told { IsTrue S.tells → IfOk result (NumbersOfPiece cutter.old.limit (B.size cutter.old.runs)
+        (B.list cutter.old.runs (S.content source.old.device)) cutter.old.made) }
+    ensures cuts { CutsPiece result (λ p. p) B.BlockRuns S.Source cutter.old.runs cutter.new.runs source.old.device
+        source.new.device cutter.old.limit cutter.new.limit cutter.old.made cutter.new.made cutter.old.start
+        cutter.new.start cutter.new.stage }
+    // it is refused where one of the devices has failed
+    ensures fails { OnlyDevicesFail result S.tells (S.read_faults source.old.device + O.write_faults output.old)
+        (S.read_faults source.new.device + O.write_faults output.new) }
+{
+    let answer = cutter.next_piece(source, output, w, m);
+    match changed(source.device.shorter()) {
+        Some(fault) => match answer {
+            Ok(_) => Err(fault),
+            Err(fault) => Err(SparseCommandFault::Piece(fault)),
+        },
+        None => match answer {
+            Ok(Some(piece)) => Ok(piece),
+            Ok(None) => unreachable!(),
+            Err(fault) => Err(SparseCommandFault::Piece(fault)),
+        },
+    }
+}
+
+// What is told of a piece that was written, where IN has so many bytes now if that is less than was given of it.
+fn changed(now: Option<u64>) -> Option<SparseCommandFault>
+    ensures shorter { IfSome now (λ _. result ≡ Some (SparseCommandFault.Piece PieceFault.SourceChanged)) }
+    ensures whole { now ≡ None → result ≡ None }
+{
+    match now {
+        Some(_) => Some(SparseCommandFault::Piece(PieceFault::SourceChanged)),
+        None => None,
+    }
+}
+
+/// An image whose pieces are laid in files, the magic of each last.
+pub(crate) trait LaysPieces: BlockRuns + Drop {
+    /// Lays the next piece in an empty file, which is handed back. A fault of files is that its magic can't be laid.
+    fn lay_next<S: Lasting, O: Overwrite + Drop>(
+        cutter: &mut Cutter<Self>,
+        source: &mut Carried<'_, S>,
+        image: O,
+        w: &mut Window,
+        m: &mut Meter,
+    ) -> (O, Result<Piece, SparseCommandFault>)
+        requires ready { ReadyPiece Self.BlockRuns S.Source cutter.old.runs source.old.device cutter.old.limit cutter.old.made
+            cutter.old.start cutter.old.stage }
+        requires empty { O.written image ≡ [] }
+        // it is the piece behind those that are made
+        ensures laid { IsTrue S.tells → IfOk result.1 (λ p. HasAt (pieces cutter.old.limit (Self.size cutter.old.runs)
+            (Self.list cutter.old.runs (S.content source.old.device))) cutter.old.made (O.written result.0)) }
+        ensures told { IsTrue S.tells → IfOk result.1 (NumbersOfPiece cutter.old.limit (Self.size cutter.old.runs)
+            (Self.list cutter.old.runs (S.content source.old.device)) cutter.old.made) }
+        ensures cuts { CutsPiece result.1 (λ p. p) Self.BlockRuns S.Source cutter.old.runs cutter.new.runs
+            source.old.device source.new.device cutter.old.limit cutter.new.limit cutter.old.made cutter.new.made
+            cutter.old.start cutter.new.start cutter.new.stage }
+        // it is refused where one of the devices has failed
+        ensures fails { OnlyDevicesFail result.1 S.tells (S.read_faults source.old.device + O.write_faults image)
+            (S.read_faults source.new.device + O.write_faults result.0) };
+}
+
+/// Those of a sparse image are written from the front on.
+impl LaysPieces for SparseRuns {
+    fn lay_next<S: Lasting, O: Overwrite + Drop>(
+        cutter: &mut Cutter<SparseRuns>,
+        source: &mut Carried<'_, S>,
+        image: O,
+        w: &mut Window,
+        m: &mut Meter,
+    ) -> (O, Result<Piece, SparseCommandFault>) {
+        let mut front = FrontLast::new(image);
+        match write_next(cutter, source, &mut front, w, m) {
+            Ok(piece) => match front.finish(m) {
+                Ok(()) => (front.output, Ok(piece)),
+                Err(_) => (
+                    front.output,
+                    Err(SparseCommandFault::Host(HostFault::Write)),
+                ),
+            },
+            Err(fault) => (front.output, Err(fault)),
+        }
+    }
+}
+
+/// Those of a raw image are laid in one pass over it.
+impl LaysPieces for RawRuns {
+    fn lay_next<S: Lasting, O: Overwrite + Drop>(
+        cutter: &mut Cutter<RawRuns>,
+        source: &mut Carried<'_, S>,
+        image: O,
+        w: &mut Window,
+        m: &mut Meter,
+    ) -> (O, Result<Piece, SparseCommandFault>) {
+        let mut image = image;
+        let answer = next_piece_at(cutter, source, &mut image, w, m);
+        match changed(source.device.shorter()) {
+            Some(fault) => match answer {
+                Ok(_) => (image, Err(fault)),
+                Err(fault) => (image, Err(SparseCommandFault::Piece(fault))),
+            },
+            None => match answer {
+                Ok(Some(piece)) => (image, Ok(piece)),
+                Ok(None) => unreachable!(),
+                Err(fault) => (image, Err(SparseCommandFault::Piece(fault))),
+            },
+        }
+    }
+}

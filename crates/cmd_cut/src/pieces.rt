@@ -1,0 +1,162 @@
+//! One piece of an image, to a file of its own.
+
+ghost use Rattle.std.specs.Prelude.{◌≡◌, ◌<◌, ◌+◌, [], None, IsTrue, IfErr, IfOk, OnOk, OnErr};
+ghost use Rattle.sys_refusals.specs.Paths.{path_out};
+ghost use Rattle.cmd_cut.specs.Cutting.{AddsNone, AddsPiece, CutsPiece, OnlyLeaves, PutsPiece, ReadyPiece};
+ghost use Rattle.cmd_cut.specs.Cutting.{NumbersOfPiece, cut_into};
+ghost use Rattle.cmd_cut.specs.Sparsing.{IsOutsideSparse, GivesUp, ReadyOutput};
+
+use crate::late_writes::stopped;
+use crate::next_piece::{LaysPieces, write_next};
+use sys_disk::{Disk, ImageTo, Lasting, Reasons, ended};
+use abt_io::{Meter, Window};
+use abt_pieces::Piece;
+use sys_refusals::{HostFault, HostRefusal, Place, Sides};
+use sys_report::{Carried, Progress};
+use abt_runs::BlockRuns;
+use cmd_common_sparse::{PiecesOf, SparseCommandFault, SparseRefusal};
+
+/// Writes the next piece to a file, which is created or emptied, and brings that to its end. What it is, and whether it
+/// is where standard output goes. A pipe or a device has the image read so many times.
+pub(crate) fn put_piece<'a, D: Disk, B: BlockRuns + LaysPieces + Drop>(
+    disk: &mut D,
+    pieces: &mut PiecesOf<B>,
+    source: &mut Carried<'_, D::At>,
+    place: Place<'a>,
+    sides: Sides<'a>,
+    passes: u64,
+    w: &mut Window,
+    m: &mut Meter,
+) -> Result<(Piece, bool), SparseRefusal<'a>>
+    requires one { IsTrue D.tells → (D.held disk.old).output ≡ None }
+    requires ready { ReadyPiece B.BlockRuns D.At.Source pieces.old.cutter.runs source.old.device
+        pieces.old.cutter.limit pieces.old.cutter.made pieces.old.cutter.start pieces.old.cutter.stage }
+    // its file is a new one, and holds it
+    ensures adds { IsTrue D.tells → OnOk result (AddsPiece (cut_into pieces.old.cutter.limit
+        (B.size pieces.old.cutter.runs) (B.list pieces.old.cutter.runs (D.At.content source.old.device)))
+        pieces.old.cutter.made (path_out place.entry) (D.held disk.old) (D.held disk.new) (D.world disk.old)
+        (D.world disk.new)) }
+    ensures keeps { IsTrue D.tells → OnErr result (AddsNone (D.held disk.old) (D.held disk.new) (D.world disk.old)
+        (D.world disk.new)) }
+    // whatever comes, no other file was changed, and none is open
+    ensures left { IsTrue D.tells → OnlyLeaves (λ path. path ≡ path_out place.entry) (D.held disk.old)
+        (D.held disk.new) (D.world disk.old) (D.world disk.new) }
+    ensures told { IsTrue D.tells → IfOk result (λ end. NumbersOfPiece pieces.old.cutter.limit
+        (B.size pieces.old.cutter.runs) (B.list pieces.old.cutter.runs (D.At.content source.old.device))
+        pieces.old.cutter.made end.0) }
+    ensures cuts { CutsPiece result (λ end. end.0) B.BlockRuns D.At.Source pieces.old.cutter.runs
+        pieces.new.cutter.runs source.old.device source.new.device pieces.old.cutter.limit pieces.new.cutter.limit
+        pieces.old.cutter.made pieces.new.cutter.made pieces.old.cutter.start pieces.new.cutter.start
+        pieces.new.cutter.stage }
+    // it is refused where something has failed
+    ensures outside { IsTrue D.tells → IfErr result (λ refusal. IsOutsideSparse refusal.fault) }
+    ensures clean { IsTrue D.tells → OnOk result ((D.held disk.new).failed + D.At.read_faults source.new.device
+        ≡ (D.held disk.old).failed + D.At.read_faults source.old.device) }
+    ensures cause { IsTrue D.tells → OnErr result ((D.held disk.old).failed + D.At.read_faults source.old.device
+        < (D.held disk.new).failed + D.At.read_faults source.new.device) }
+{
+    let image = disk.image(place, true)?;
+    repeat_first(source.progress, pieces.cutter.made, times(&image, passes));
+    source.device.forget();
+    match image {
+        ImageTo::File(file) => put_in_file(disk, pieces, source, file, place, sides, w, m),
+        ImageTo::Stream(onto) => put_in_stream(disk, pieces, source, onto, place, sides, w, m),
+    }
+}
+
+// Before the first piece it is told how often all is read. What is read once is as far as the place to which it was read.
+fn repeat_first(progress: &mut Progress, made: u64, times: u64) {
+    if made == 0 {
+        progress.repeat(times);
+        if times == 1 {
+            progress.follow();
+        }
+    }
+}
+
+// How often the image is read.
+fn times<F, S>(image: &ImageTo<F, S>, passes: u64) -> u64 {
+    match image {
+        ImageTo::File(_) => 1,
+        ImageTo::Stream(_) => passes,
+    }
+}
+
+// Writes the next piece to a file that is written over.
+fn put_in_file<'a, D: Disk, B: BlockRuns + LaysPieces + Drop>(
+    disk: &mut D,
+    pieces: &mut PiecesOf<B>,
+    source: &mut Carried<'_, D::At>,
+    image: D::Image,
+    place: Place<'a>,
+    sides: Sides<'a>,
+    w: &mut Window,
+    m: &mut Meter,
+) -> Result<(Piece, bool), SparseRefusal<'a>>
+    requires output { ReadyOutput D.tells (D.Image.Output.written image) (D.Image.Output.write_faults image) }
+    requires ready { ReadyPiece B.BlockRuns D.At.Source pieces.old.cutter.runs source.old.device
+        pieces.old.cutter.limit pieces.old.cutter.made pieces.old.cutter.start pieces.old.cutter.stage }
+    ensures puts { IsTrue D.tells → PutsPiece result (λ refusal. refusal.fault) (cut_into pieces.old.cutter.limit
+        (B.size pieces.old.cutter.runs) (B.list pieces.old.cutter.runs (D.At.content source.old.device)))
+        pieces.old.cutter.made (D.At.read_faults source.old.device) (D.At.read_faults source.new.device)
+        (D.held disk.old) (D.held disk.new) (D.world disk.old) (D.world disk.new) }
+    ensures told { IsTrue D.tells → IfOk result (λ end. NumbersOfPiece pieces.old.cutter.limit
+        (B.size pieces.old.cutter.runs) (B.list pieces.old.cutter.runs (D.At.content source.old.device))
+        pieces.old.cutter.made end.0) }
+    ensures cuts { CutsPiece result (λ end. end.0) B.BlockRuns D.At.Source pieces.old.cutter.runs
+        pieces.new.cutter.runs source.old.device source.new.device pieces.old.cutter.limit pieces.new.cutter.limit
+        pieces.old.cutter.made pieces.new.cutter.made pieces.old.cutter.start pieces.new.cutter.start
+        pieces.new.cutter.stage }
+{
+    let (image, answer) = B::lay_next(&mut pieces.cutter, source, image, w, m);
+    match answer {
+        Ok(piece) => match disk.finish_image(image, place) {
+            Ok(is_on_output) => Ok((piece, is_on_output)),
+            Err(refusal) => Err(refusal.into()),
+        },
+        Err(SparseCommandFault::Host(_)) => Err(unended(disk, image, place)),
+        Err(fault) => Err(stopped(disk, fault, image, place, sides)),
+    }
+}
+
+// The same to what is written from its front on.
+fn put_in_stream<'a, D: Disk, B: BlockRuns + LaysPieces + Drop>(
+    disk: &mut D,
+    pieces: &mut PiecesOf<B>,
+    source: &mut Carried<'_, D::At>,
+    onto: D::Onto,
+    place: Place<'a>,
+    sides: Sides<'a>,
+    w: &mut Window,
+    m: &mut Meter,
+) -> Result<(Piece, bool), SparseRefusal<'a>>
+    requires output { ReadyOutput D.tells (D.Onto.written onto) (D.Onto.write_faults onto) }
+    requires ready { ReadyPiece B.BlockRuns D.At.Source pieces.old.cutter.runs source.old.device
+        pieces.old.cutter.limit pieces.old.cutter.made pieces.old.cutter.start pieces.old.cutter.stage }
+    ensures puts { IsTrue D.tells → PutsPiece result (λ refusal. refusal.fault) (cut_into pieces.old.cutter.limit
+        (B.size pieces.old.cutter.runs) (B.list pieces.old.cutter.runs (D.At.content source.old.device)))
+        pieces.old.cutter.made (D.At.read_faults source.old.device) (D.At.read_faults source.new.device)
+        (D.held disk.old) (D.held disk.new) (D.world disk.old) (D.world disk.new) }
+    ensures told { IsTrue D.tells → IfOk result (λ end. NumbersOfPiece pieces.old.cutter.limit
+        (B.size pieces.old.cutter.runs) (B.list pieces.old.cutter.runs (D.At.content source.old.device))
+        pieces.old.cutter.made end.0) }
+    ensures cuts { CutsPiece result (λ end. end.0) B.BlockRuns D.At.Source pieces.old.cutter.runs
+        pieces.new.cutter.runs source.old.device source.new.device pieces.old.cutter.limit pieces.new.cutter.limit
+        pieces.old.cutter.made pieces.new.cutter.made pieces.old.cutter.start pieces.new.cutter.start
+        pieces.new.cutter.stage }
+{
+    let mut onto = onto;
+    let answer = write_next(&mut pieces.cutter, source, &mut onto, w, m);
+    ended(disk, answer, onto, place, sides)
+}
+
+// Lets an image go whose magic could not be laid.
+fn unended<'a, D: Disk>(disk: &mut D, image: D::Image, place: Place<'a>) -> SparseRefusal<'a>
+    ensures closed { IsTrue D.tells → GivesUp (D.Image.Output.write_faults image) (D.held disk.old) (D.held disk.new)
+        (D.world disk.old) (D.world disk.new) }
+    ensures outside { IsOutsideSparse result.fault }
+{
+    let refused = HostRefusal::at(HostFault::Write, place, image.why()).begun(place);
+    disk.give_up_image(image);
+    refused.into()
+}

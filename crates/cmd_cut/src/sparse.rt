@@ -1,0 +1,91 @@
+//! The body of the command `sparse`.
+
+ghost use Rattle.std.specs.Prelude.{◌++◌, ◌∷◌, [], IsTrue, IfErr, OnOk, OnErr};
+ghost use Rattle.sys_disk.specs.World.{IsReading};
+ghost use Rattle.sys_report.specs.Shows.{CannotPrint, ShowsBeside, Unprinted};
+ghost use Rattle.sys_refusals.specs.Paths.{path_of, path_out};
+ghost use Rattle.cmd_common_sparse.specs.Lines.{line_text};
+ghost use Rattle.cmd_cut.specs.Sparsing.{LeavesImage, RefusesRaw, SparsifiesFile};
+
+use crate::writing::write_whole;
+use sys_disk::Disk;
+use abt_io::{Meter, Source, Window};
+use sys_refusals::{HostRefusal, Place, Sides};
+use sys_report::Report;
+use abt_sparsify::Written;
+use cmd_common_sparse::{Line, SparseCommandFault, SparseRefusal, blocks_of};
+
+/// Writes the sparse image of a raw one, and prints what it has.
+///
+/// The block size is judged before OUT is created or emptied.
+#[inline(never)]
+pub fn sparse_file<'a, D: Disk>(
+    disk: &mut D,
+    report: &mut Report,
+    input: Place<'a>,
+    output: Place<'a>,
+    block: u32,
+    w: &mut Window,
+    m: &mut Meter,
+) -> Result<(), SparseRefusal<'a>>
+    requires first { IsTrue D.tells → IsReading (D.held disk.old) }
+    // OUT is another file than IN, and holds the sparse image of what IN holds; what was printed tells of it
+    ensures done { IsTrue D.tells → OnOk result (SparsifiesFile (path_of input.entry) (path_out output.entry) block
+        (D.world disk.old) (D.world disk.new) (ShowsBeside (D.on_output (path_out output.entry)) report.old report.new)) }
+    // whatever the outcome, OUT alone may hold anything else, IN holds what it held, and a file has no part of an image;
+    // where all is done OUT was synced, where that is wanted, and nothing has failed
+    ensures left { IsTrue D.tells → LeavesImage result (path_of input.entry) (path_out output.entry) block
+        (D.is_over (path_out output.entry)) (D.held disk.old) (D.held disk.new) (D.world disk.old) (D.world disk.new) }
+    // it is refused for a block size that IN hasn't, before anything is touched, or for a fault of files or devices that
+    // came, or where all is done and can't be told
+    ensures refused { IsTrue D.tells → IfErr result (λ refusal. RefusesRaw (path_of input.entry) block
+        (D.world disk.old) (D.world disk.new) (D.held disk.old) (D.held disk.new)
+        (SparsifiesFile (path_of input.entry) (path_out output.entry) block (D.world disk.old) (D.world disk.new)
+        (Unprinted report.old report.new)) refusal.fault) }
+{
+    let source = disk.source(input)?;
+    let sides = Sides::none().reading(input, None);
+    let blocks = match blocks_of(&source, block) {
+        Ok(blocks) => blocks,
+        Err(fault) => return Err(sides.refuse(SparseCommandFault::Run(fault))),
+    };
+    report.progress.expect(source.length(), 1);
+    let image = disk.image(output, true)?;
+    let (written, is_on_output) = match write_whole(
+        disk,
+        source,
+        blocks,
+        image,
+        output,
+        sides,
+        &mut report.progress,
+        w,
+        m,
+    ) {
+        Ok(end) => end,
+        Err(refusal) => return Err(refusal),
+    };
+    match printed(written, is_on_output, report) {
+        Ok(()) => Ok(()),
+        Err(refusal) => Err(refusal.into()),
+    }
+}
+
+// Its text takes more of the stack than all else here, and none of it while the image is written.
+#[inline(never)]
+fn printed<'a>(
+    written: Written,
+    is_on_output: bool,
+    report: &mut Report,
+) -> Result<(), HostRefusal<'a>>
+    ensures shown { OnOk result (ShowsBeside is_on_output report.old report.new (line_text (Line.Sparse written.blocks
+        written.chunks written.bytes) ++ (10 ∷ []))) }
+    ensures refused { OnErr result (CannotPrint report.old report.new) }
+{
+    let line = Line::Sparse {
+        blocks: written.blocks,
+        chunks: written.chunks,
+        bytes: written.bytes,
+    };
+    report.line_beside(is_on_output, line)
+}

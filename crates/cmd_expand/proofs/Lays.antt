@@ -1,0 +1,163 @@
+-- What laying images one after another leaves, and why it stops.
+use Rattle.std.proofs.Common.{arith, ◌≡◌, ℕ, suc, ◌+◌, ◌*◌, List, [], ◌∷◌, length, drop, Bool}
+use Rattle.std.proofs.Common.{true, false, Option, refl, sym, ◌∙◌, ap, subst}
+use Rattle.std.specs.Prelude.{Result, Ok, Err, IfErr, OnOk, is_ok, if◌then◌else◌}
+use Rattle.std.proofs.lemmas.Bool.{false≢true}
+use Rattle.abt_sparse.specs.declared.fault.SparseFault.{SparseFault}
+use Rattle.abt_sparse.specs.Chunk.{Header}
+use Rattle.abt_sparse.specs.Fails.{Fails, SpellsHeader}
+use Rattle.abt_sparse.specs.Pieces.{flashed, flashed_in_turn}
+use Rattle.abt_sparse.specs.Reading.{Outcome, Image, Fault}
+use Rattle.abt_sparse.proofs.Exactly.{behind_header, failed_is, spelled_is}
+use Rattle.abt_flash_faults.specs.declared.fault.FlashFault.{FlashFault}
+use Rattle.abt_flash_faults.specs.declared.fault.FlashFault.TheVariants as flashes
+use Rattle.abt_flash.specs.declared.stage.Flashed.{Flashed}
+use Rattle.abt_flash_faults.specs.Fault.{FlashCause, FlashingRises}
+use Rattle.abt_flash.specs.Flashing.{Flashes, Holds}
+use Rattle.sys_disk.specs.World.{Held, failing}
+use Rattle.cmd_common_sparse.specs.declared.fault.SparseCommandFault.{SparseCommandFault}
+use Rattle.cmd_common_sparse.specs.declared.fault.SparseCommandFault.TheVariants as faults
+use Rattle.cmd_expand.specs.Overlaying.{IsImageOf}
+use Rattle.cmd_expand.specs.Steps.{FailsAlone, IsNotFlashed, IsNotLaid}
+
+-- ---- one image
+
+abbrev pub header_in : Result Header SparseFault → Header → Header
+header_in (Ok h) d = h
+header_in (Err f) d = d
+
+-- what its header counts
+counts : (x : List ℕ) (n b : ℕ) (h : Header) (y : List ℕ) → IsImageOf n b x → SpellsHeader x h y
+    → h.total_blks * h.blk_sz ≡ n * b
+counts x n b h y image spelled =
+    let own = (behind_header x image.header image.spelled.front.after image.spelled.front.header).1 in
+    let same : h ≡ image.header = ap (λ r. header_in r h) (sym (behind_header x h y spelled).1 ∙ own) in
+    ap (λ k. k.total_blks * k.blk_sz) same ∙ ap (λ m. m * image.header.blk_sz) image.blocks ∙ ap (λ m. n * m) image.size
+
+abbrev pub is_fault : Outcome → Bool
+is_fault (Image h cs rest) = false
+is_fault (Fault f cells) = true
+
+-- and it has no fault
+no_fault : (x : List ℕ) (n b : ℕ) (f : SparseFault) (given : List (Option ℕ)) → IsImageOf n b x → Fails x f given → ⊥
+no_fault x n b f given image fails =
+    false≢true (ap is_fault (sym (spelled_is x image.header image.chunks image.rest image.spelled)
+    ∙ failed_is x f given fails))
+
+not_flashed : (f : FlashFault) (n b size taken taken' r r' p p' : ℕ) (x rest : List ℕ) → IsImageOf n b x → size ≡ n * b
+    → Flashes (Err f) size taken taken' x rest → FlashCause f r r' p p' → IsNotFlashed f (p + r) (p' + r')
+not_flashed (flashes.Sparse f) n b size taken taken' r r' p p' x rest image sized says cause =
+    absurd (no_fault x n b f says.given image says.fails)
+not_flashed (flashes.PartitionTooSmall need) n b size taken taken' r r' p p' x rest image sized says cause =
+    let all : says.header.total_blks * says.header.blk_sz ≡ n * b
+    = counts x n b says.header says.behind image says.spelled in
+    absurd (omega (arith, sized, all, says.needs, says.short))
+not_flashed (flashes.Read d) n b size taken taken' r r' p p' x rest image sized says cause =
+    omega (arith, cause.0, cause.2)
+not_flashed (flashes.Write d) n b size taken taken' r r' p p' x rest image sized says cause =
+    omega (arith, cause.0, cause.2)
+not_flashed (flashes.Sync d) n b size taken taken' r r' p p' x rest image sized says cause =
+    omega (arith, cause.0, cause.2)
+not_flashed flashes.TooLarge n b size taken taken' r r' p p' x rest image sized says cause = absurd cause
+not_flashed flashes.SourceChanged n b size taken taken' r r' p p' x rest image sized says cause = absurd cause
+not_flashed (flashes.BadBlock k) n b size taken taken' r r' p p' x rest image sized says cause = absurd cause
+not_flashed (flashes.LimitTooSmall k) n b size taken taken' r r' p p' x rest image sized says cause = absurd cause
+not_flashed (flashes.Stopped j c) n b size taken taken' r r' p p' x rest image sized says cause = absurd cause
+not_flashed (flashes.NoSuchPiece k) n b size taken taken' r r' p p' x rest image sized says cause = absurd cause
+
+pub answer_blames : (a : Result Flashed FlashFault) (n b size taken taken' r r' p p' : ℕ) (x rest : List ℕ)
+    → Flashes a size taken taken' x rest → FlashingRises a r r' p p' → size ≡ n * b → IsImageOf n b x
+    → IfErr a (λ f. IsNotFlashed f (p + r) (p' + r'))
+answer_blames (Ok e) n b size taken taken' r r' p p' x rest says cause sized image = tt
+answer_blames (Err f) n b size taken taken' r r' p p' x rest says cause sized image =
+    not_flashed f n b size taken taken' r r' p p' x rest image sized says cause
+
+raised : (f : FlashFault) (n n' m : ℕ) → IsNotFlashed f n n' → IsNotFlashed f (m + n) (m + n')
+raised (flashes.Read d) n n' m is = omega (arith, is)
+raised (flashes.Write d) n n' m is = omega (arith, is)
+raised (flashes.Sync d) n n' m is = omega (arith, is)
+raised (flashes.Sparse f) n n' m is = absurd is
+raised (flashes.PartitionTooSmall k) n n' m is = absurd is
+raised flashes.TooLarge n n' m is = absurd is
+raised flashes.SourceChanged n n' m is = absurd is
+raised (flashes.BadBlock k) n n' m is = absurd is
+raised (flashes.LimitTooSmall k) n n' m is = absurd is
+raised (flashes.Stopped j c) n n' m is = absurd is
+raised (flashes.NoSuchPiece k) n n' m is = absurd is
+
+-- ---- what is let go
+
+pub let_go_fails : (h h' : Held) (r : ℕ) → h' ≡ failing r h → FailsAlone h h'
+let_go_fails h h' r gone =
+    let up : h'.failed ≡ h.failed + r = ap (λ k. k.failed) gone in
+    record { same = gone ∙ ap (λ n. record h { failed = n }) (sym up); grown = omega (arith, up) }
+
+pub fails_none : (h h' : Held) → h' ≡ h → FailsAlone h h'
+fails_none h h' same =
+    let even : h'.failed ≡ h.failed = ap (λ k. k.failed) same in
+    record { same = same ∙ ap (λ n. record h { failed = n }) (sym even); grown = omega (arith, even) }
+
+abbrev pub failed_so : ℕ → Held → Held
+failed_so n h = record h { failed = n }
+
+pub fails_then : (h h1 h2 : Held) → FailsAlone h h1 → FailsAlone h1 h2 → FailsAlone h h2
+fails_then h h1 h2 first then_more = record {
+  same = then_more.same ∙ ap (failed_so h2.failed) first.same;
+  grown = omega (arith, first.grown, then_more.grown);
+}
+
+pub laid_as : (f : SparseCommandFault) (n m n' : ℕ) → n ≡ m → IsNotLaid f n n' → IsNotLaid f m n'
+laid_as f n m n' same is = subst (λ k. IsNotLaid f k n') same is
+
+-- ---- one image after another
+
+pub laid_next : (p p' x w : List ℕ) (xs xs' : List (List ℕ)) → xs ≡ x ∷ xs' → flashed_in_turn p xs ≡ w
+    → p' ≡ flashed p x → flashed_in_turn p' xs' ≡ w
+laid_next p p' x w xs xs' is all now =
+    ap (λ z. flashed_in_turn z xs') now ∙ sym (ap (flashed_in_turn p) is) ∙ all
+
+-- ---- what an answer says
+
+pub at_front : (n : ℕ) (x : List ℕ) → n ≡ 0 → drop n x ≡ x
+at_front n x none = ap (λ k. drop k x) none
+
+pub done_holds : (a : Result Flashed FlashFault) (e : Flashed) (p p' x : List ℕ) → a ≡ Ok e → Holds a p p' x
+    → p' ≡ flashed p x
+done_holds a e p p' x is holds = subst (λ r. Holds r p p' x) is holds
+
+pub done_so : (a : Result Flashed FlashFault) (e : Flashed) (P : Type 0) → a ≡ Ok e → OnOk a P → P
+done_so a e P is so = subst (λ r. OnOk r P) is so
+
+pub done_even : (a : Result Flashed FlashFault) (e : Flashed) (r r' p p' : ℕ) → a ≡ Ok e → FlashingRises a r r' p p'
+    → (r' ≡ r) × (p' ≡ p)
+done_even a e r r' p p' is rises = subst (λ q. FlashingRises q r r' p p') is rises
+
+pub synced_if : (a : Result Flashed FlashFault) (n n' : ℕ) → n' ≡ n + (if is_ok a then 1 else 0) → OnOk a (n' ≡ n + 1)
+synced_if (Ok e) n n' is = is
+synced_if (Err f) n n' is = tt
+
+-- it was let go, and nothing has failed
+pub even_behind : (h h' : Held) (r r' p p' : ℕ) → h' ≡ failing r' h → r' ≡ r → p' ≡ p
+    → h'.failed + p' ≡ h.failed + p + r
+even_behind h h' r r' p p' gone same even =
+    let up : h'.failed ≡ h.failed + r' = ap (λ k. k.failed) gone in
+    omega (arith, up, same, even)
+
+-- it was let go, and something had failed
+pub blamed_behind : (a : Result Flashed FlashFault) (f : FlashFault) (told : SparseCommandFault) (h h' : Held)
+    (r r' p p' : ℕ) → a ≡ Err f → told ≡ faults.Flash f → h' ≡ failing r' h
+    → IfErr a (λ g. IsNotFlashed g (p + r) (p' + r')) → IsNotLaid told (h.failed + p + r) (h'.failed + p')
+blamed_behind a f told h h' r r' p p' is named gone why =
+    let so : IsNotFlashed f (p + r) (p' + r') = subst (λ q. IfErr q (λ g. IsNotFlashed g (p + r) (p' + r'))) is why in
+    let up : h'.failed ≡ h.failed + r' = ap (λ k. k.failed) gone in
+    let before : h.failed + (p + r) ≡ h.failed + p + r = omega arith in
+    let after : h.failed + (p' + r') ≡ h'.failed + p' = omega (arith, up) in
+    subst (λ q. IsNotLaid q (h.failed + p + r) (h'.failed + p')) (sym named)
+    (subst (λ k. IsNotFlashed f (h.failed + p + r) k) after (subst (λ k. IsNotFlashed f k (h.failed + (p' + r'))) before
+    (raised f (p + r) (p' + r') h.failed so)))
+
+-- a queue that gives nothing has nothing
+pub nothing_left : {X : Type 0} (xs ys : List X) → xs ≡ ys → ys ≡ drop 1 xs → xs ≡ []
+nothing_left [] ys same rest = refl
+nothing_left (x ∷ xs) ys same rest =
+    let shorter : suc (length xs) ≡ length xs = ap length (same ∙ rest) in absurd (omega (arith, shorter))

@@ -1,0 +1,87 @@
+-- What the command `expand` leaves of files, and what it prints.
+use Rattle.std.specs.Prelude.{◌≡◌, ◌≢◌, ◌⊎◌, ℕ, ◌+◌, ◌*◌, ◌<◌, List, [], ◌∷◌, ◌++◌, Option, Some, None, Result, Ok, Err}
+use Rattle.std.specs.Prelude.{OnOk}
+use Rattle.abt_sparse.specs.declared.fault.SparseFault.{SparseFault}
+use Rattle.abt_sparse.specs.declared.fault.SparseFault.TheVariants as of_sparse
+use Rattle.abt_sparse.specs.Block.{expansion}
+use Rattle.abt_sparse.specs.Chunk.{Header, Chunk, classed}
+use Rattle.abt_sparse.specs.Fails.{Fails, Spells}
+use Rattle.abt_chunks.specs.declared.progress.Expanded.{Expanded}
+use Rattle.abt_chunks.specs.Expanding.{UnlessExpandingDevice}
+use Rattle.abt_chunks.specs.Whole.{Expansion, Refusal}
+use Rattle.sys_disk.specs.World.{World, Held, KeepsFile, OnlyAt, Spares, HasFailed, HasNotFailed}
+use Rattle.sys_refusals.specs.declared.refusal.HostFault.{HostFault}
+use Rattle.cmd_common_sparse.specs.declared.fault.SparseCommandFault.{SparseCommandFault}
+use Rattle.cmd_common_sparse.specs.declared.fault.SparseCommandFault.TheVariants as faults
+use Rattle.cmd_common_sparse.specs.declared.lines.Line.TheVariants as lines
+use Rattle.cmd_common_sparse.specs.Lines.{line_text}
+
+-- what expanding an input x answers and writes
+abbrev pub ExpandingSays : Result Expanded SparseCommandFault → List ℕ → List ℕ → List ℕ → Type 0
+ExpandingSays (Ok e) x old new = (rest : List ℕ) × Expansion e old new x rest
+ExpandingSays (Err (faults.Sparse f)) x old new = UnlessExpandingDevice f (Refusal f old new x)
+ExpandingSays (Err (faults.Run f)) x old new = ⊥
+ExpandingSays (Err (faults.Piece f)) x old new = ⊥
+ExpandingSays (Err (faults.Flash f)) x old new = ⊥
+ExpandingSays (Err (faults.Verify f)) x old new = ⊥
+ExpandingSays (Err (faults.OtherBlocks image)) x old new = ⊥
+ExpandingSays (Err (faults.OtherCut image)) x old new = ⊥
+ExpandingSays (Err (faults.Host f)) x old new = ⊥
+
+-- a fault of files
+abbrev pub FromHost : SparseCommandFault → Type 0
+FromHost f = (host : HostFault) × (f ≡ faults.Host host)
+
+-- what the file at this path holds has this fault
+pub record HasFault (path : List ℕ) (world : World) (f : SparseFault) : Type 0 where
+  pub file : ℕ
+  pub there : world.at path ≡ Some file
+  pub given : List (Option ℕ)
+  pub fails : Fails (world.holds file) f given
+
+-- where a device failed, so much is so, and of any other fault so much
+abbrev pub OfDevice : SparseFault → Type 0 → Type 0 → Type 0
+OfDevice (of_sparse.Read d) failed P = failed
+OfDevice (of_sparse.Write d) failed P = failed
+OfDevice f failed P = P
+
+-- how often devices failed: the input's faults went from r to r', the output's from w to w'
+abbrev pub Blames : Result Expanded SparseCommandFault → ℕ → ℕ → ℕ → ℕ → Type 0
+Blames (Ok e) r r' w w' = (r' ≡ r) × (w' ≡ w)
+Blames (Err (faults.Sparse f)) r r' w w' = OfDevice f (r + w < r' + w') (Unit {0})
+Blames (Err f) r r' w w' = Unit {0}
+
+-- The file at one path held an image, the one at the other holds its expansion and nothing else, no other file has
+-- changed, and the line that was printed has the image's numbers.
+pub record ExpandsFile (input output : List ℕ) (old new : World) (shows : List ℕ → Type 0) : Type 0 where
+  pub from : ℕ
+  pub onto : ℕ
+  pub there : old.at input ≡ Some from
+  pub here : new.at output ≡ Some onto
+  pub apart : from ≢ onto
+  pub header : Header
+  pub chunks : List Chunk
+  pub rest : List ℕ
+  pub spelled : Spells (old.holds from) header chunks rest
+  pub holds : new.holds onto ≡ expansion header.blk_sz (classed chunks)
+  pub spares : Spares onto old new
+  pub shown : shows (line_text (lines.Expanded header.total_blks (header.total_blks * header.blk_sz)) ++ (10 ∷ []))
+
+-- What is left of files, whatever the outcome: OUT alone may hold anything else, IN holds what it held, and no output
+-- is open. It is done only where nothing has failed.
+pub record LeavesExpanded {X F : Type 0} (r : Result X F) (from onto : List ℕ) (held held' : Held) (old new : World)
+    : Type 0 where
+  pub others : OnlyAt held.read onto old new
+  pub input : KeepsFile from old new
+  pub closed : held'.output ≡ None
+  pub clean : OnOk r (HasNotFailed held held')
+
+-- why it is refused: for a fault of what IN's file holds; because a device or the system failed; or all was done, and
+-- its line is untold
+abbrev pub RefusesFile : SparseCommandFault → List ℕ → List ℕ → World → World → Held → Held → (List ℕ → Type 0)
+    → Type 0
+RefusesFile (faults.Sparse f) input output old new held held' untold =
+    OfDevice f (HasFailed held held') (HasFault input old f)
+RefusesFile (faults.Host f) input output old new held held' untold =
+    HasFailed held held' ⊎ ExpandsFile input output old new untold
+RefusesFile f input output old new held held' untold = ⊥

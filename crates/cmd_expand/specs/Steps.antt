@@ -1,0 +1,122 @@
+-- What each step of the command `expand` of several images leaves.
+use Rattle.std.specs.Prelude.{◌≡◌, ◌⊎◌, ℕ, ◌*◌, ◌<◌, ◌≤◌, List, [], ◌∷◌, ◌++◌, length, map, Option, Some, None}
+use Rattle.std.specs.List.{AllByRecursion}
+use Rattle.std.specs.Prelude.{Bool, true, IsTrue, ◌==◌, ◌&&◌}
+use Rattle.abt_sparse.specs.Fails.{Fails}
+use Rattle.abt_chunks.specs.declared.progress.Expanded.{Expanded}
+use Rattle.sys_refusals.specs.declared.refusal.HostFault.TheVariants.{Memory}
+use Rattle.abt_runs.specs.declared.part.RunFault.TheVariants as of_runs
+use Rattle.abt_flash_faults.specs.declared.fault.FlashFault.{FlashFault}
+use Rattle.abt_flash_faults.specs.declared.fault.FlashFault.TheVariants as flashes
+use Rattle.sys_disk.specs.World.{World, Held, OpensFile, HasFailed}
+use Rattle.cmd_common_sparse.specs.declared.fault.SparseCommandFault.{SparseCommandFault}
+use Rattle.cmd_common_sparse.specs.declared.fault.SparseCommandFault.TheVariants as faults
+use Rattle.cmd_expand.specs.declared.opening.Shape.{Shape}
+use Rattle.cmd_expand.specs.Expanding.{HasFault}
+use Rattle.cmd_expand.specs.declared.cut_of.CutPiece.{CutPiece}
+use Rattle.cmd_expand.specs.CutOf.{IsOtherCut}
+use Rattle.cmd_expand.specs.Overlaying.{AreImages, HasFirstFault, HasOtherBlocks, HasOtherCut, IsImageOf, LeadTo}
+
+-- ---- opening
+
+-- these files more are read
+abbrev pub readings : List ℕ → Held → Held
+readings files h = record h { read = h.read ++ files }
+
+-- the files at these paths are read, and hold these bytes
+pub record AreOpened (world : World) (paths : List (List ℕ)) (contents : List (List ℕ)) (held held' : Held)
+    : Type 0 where
+  pub files : List ℕ
+  pub there : LeadTo world paths files
+  pub bytes : contents ≡ map world.holds files
+  pub taken : held' ≡ readings files held
+
+-- one file more is read, and what it holds is the last
+pub record OpensNext (world : World) (path : List ℕ) (contents contents' : List (List ℕ)) (held held' : Held)
+    : Type 0 where
+  pub bytes : List ℕ
+  pub opened : OpensFile world path bytes held held'
+  pub more : contents' ≡ contents ++ (bytes ∷ [])
+
+-- whether blocks are as those of the first image, if there was one
+abbrev pub is_same_shape : Option Shape → Shape → Bool
+is_same_shape None own = true
+is_same_shape (Some first) own = (first.blocks == own.blocks) && (first.block == own.block)
+
+-- this is the shape of all these images, if there is one
+abbrev pub IsShapeOf : Option Shape → List (List ℕ) → Type 0
+IsShapeOf None xs = xs ≡ []
+IsShapeOf (Some s) xs = (0 < length xs) × AllByRecursion (IsImageOf s.blocks s.block) xs
+
+-- why an image is not opened
+abbrev pub IsNotOpened : SparseCommandFault → List ℕ → World → Held → Held → Type 0
+IsNotOpened (faults.Run (of_runs.Sparse f)) path world held held' = HasFault path world f
+IsNotOpened (faults.Run (of_runs.Read d)) path world held held' = HasFailed held held'
+IsNotOpened (faults.Host f) path world held held' = HasFailed held held'
+IsNotOpened f path world held held' = ⊥
+
+-- what an image of this one's length would be expanded to, where there is one
+abbrev pub whole_of_shape : Option Shape → Expanded
+whole_of_shape None = record { blocks = 0; bytes = 0 }
+whole_of_shape (Some s) = record { blocks = s.blocks; bytes = s.blocks * s.block }
+
+-- why no shape is found in these bytes, of a source whose faults went from r to r'
+abbrev pub IsNotRead : SparseCommandFault → List ℕ → ℕ → ℕ → Type 0
+IsNotRead (faults.Run (of_runs.Sparse f)) x r r' = (given : List (Option ℕ)) × Fails x f given
+IsNotRead (faults.Run (of_runs.Read d)) x r r' = r < r'
+IsNotRead f x r r' = ⊥
+
+-- the image at this path has other blocks
+abbrev pub IsOtherShape : Option Shape → List ℕ → World → Type 0
+IsOtherShape None path world = ⊥
+IsOtherShape (Some s) path world =
+    (n : ℕ) × (b : ℕ) × AreImages n b (path ∷ []) world × ¬ ((n ≡ s.blocks) × (b ≡ s.block))
+
+-- why the next image is not opened, which has this number
+abbrev pub IsNotNext : SparseCommandFault → Option Shape → List (Option CutPiece) → ℕ → List ℕ → World → Held → Held
+    → Type 0
+IsNotNext (faults.Run (of_runs.Sparse f)) shape pieces number path world held held' = HasFault path world f
+IsNotNext (faults.Run (of_runs.Read d)) shape pieces number path world held held' = HasFailed held held'
+IsNotNext (faults.OtherBlocks n) shape pieces number path world held held' =
+    (n ≡ number) × IsOtherShape shape path world
+IsNotNext (faults.OtherCut n) shape pieces number path world held held' = (n ≡ number) × IsOtherCut pieces path world
+IsNotNext (faults.Host f) shape pieces number path world held held' = HasFailed held held' ⊎ (f ≡ Memory)
+IsNotNext f shape pieces number path world held held' = ⊥
+
+-- why they are not all opened
+abbrev pub IsNotAllOpened : SparseCommandFault → List (List ℕ) → World → Held → Held → Type 0
+IsNotAllOpened (faults.Run (of_runs.Sparse f)) inputs world held held' = HasFirstFault inputs world f
+IsNotAllOpened (faults.Run (of_runs.Read d)) inputs world held held' = HasFailed held held'
+IsNotAllOpened (faults.OtherBlocks n) inputs world held held' = HasOtherBlocks inputs world n
+IsNotAllOpened (faults.OtherCut n) inputs world held held' = HasOtherCut inputs world n
+IsNotAllOpened (faults.Host f) inputs world held held' = HasFailed held held' ⊎ (f ≡ Memory)
+IsNotAllOpened f inputs world held held' = ⊥
+
+-- no file has changed, and none more is written in place
+pub record OpensAlone (held held' : Held) (old new : World) : Type 0 where
+  pub world : new ≡ old
+  pub part : held'.part ≡ held.part
+
+-- ---- laying
+
+-- why an image is not flashed: a device failed, and the count of what failed rose
+abbrev pub IsNotFlashed : FlashFault → ℕ → ℕ → Type 0
+IsNotFlashed (flashes.Read d) n n' = n < n'
+IsNotFlashed (flashes.Write d) n n' = n < n'
+IsNotFlashed (flashes.Sync d) n n' = n < n'
+IsNotFlashed f n n' = ⊥
+
+abbrev pub IsNotLaid : SparseCommandFault → ℕ → ℕ → Type 0
+IsNotLaid (faults.Flash f) n n' = IsNotFlashed f n n'
+IsNotLaid f n n' = ⊥
+
+-- what has failed may be more, and nothing else has changed
+pub record FailsAlone (held held' : Held) : Type 0 where
+  pub same : held' ≡ record held { failed = held'.failed }
+  pub grown : held.failed ≤ held'.failed
+
+-- The file that is laid over is as long as it was, and of the disk nothing has changed but what has failed.
+pub record LaysAlone (tells : Bool) (long long' : ℕ) (before after : Held) (old new : World) : Type 0 where
+  pub size : long' ≡ long
+  pub world : IsTrue tells → new ≡ old
+  pub held : IsTrue tells → FailsAlone before after

@@ -1,0 +1,89 @@
+//! The command `expand` of several images, as the pieces of a cut are: they are laid over one another.
+
+ghost use Rattle.std.specs.Prelude.{◌≡◌, ◌+◌, IsTrue, IfErr, OnOk, map};
+ghost use Rattle.sys_refusals.specs.Paths.{path_of};
+ghost use Rattle.sys_report.specs.Shows.{ShowsBeside, Unprinted};
+ghost use Rattle.cmd_common_sparse.specs.ImagePath.{image_path};
+ghost use Rattle.cmd_expand.specs.Overlaying.{LeavesOverlaid, MayOverlay, OverlaysFiles, RefusesOverlay, once_if_any};
+ghost use Rattle.cmd_expand.specs.Steps.{whole_of_shape};
+
+use crate::expand::printed;
+use crate::laying::lay_all;
+use crate::opening::{Opened, Shape, open_all};
+use abt_chunks::Expanded;
+use sys_disk::Disk;
+use abt_io::{Meter, Window};
+use sys_refusals::Place;
+use sys_report::Report;
+use cmd_common_sparse::SparseRefusal;
+use std::alloc::Global;
+
+/// Lays images over one another in their order: a file of zeros, to which each is flashed in turn. Prints what it has.
+///
+/// All are read before OUT is created or emptied: their shapes are compared, and of files that have the names of pieces,
+/// as `PREFIX.1`, the blocks that they give. Those of a piece stand before those of the next, or it is of another cut.
+#[inline(never)]
+pub fn expand_several<'a, D: Disk>(
+    disk: &mut D,
+    report: &mut Report,
+    inputs: &[&'a str],
+    output: Place<'a>,
+    alloc: Global,
+    w: &mut Window,
+    m: &mut Meter,
+) -> Result<(), SparseRefusal<'a>>
+    requires ready { IsTrue D.tells → MayOverlay (D.held disk.old) }
+    // OUT holds the images that the INs hold, one laid over the other; what was printed tells of it
+    ensures done { IsTrue D.tells → OnOk result (OverlaysFiles (map (λ word. image_path word.now) inputs.now)
+        (path_of output.entry) (D.world disk.old) (D.world disk.new) (ShowsBeside (D.on_output (path_of output.entry))
+        report.old report.new)) }
+    // where there is an IN, OUT was synced behind its last byte
+    ensures synced { IsTrue D.tells → OnOk result ((D.held disk.new).syncs
+        ≡ (D.held disk.old).syncs + once_if_any (map (λ word. image_path word.now) inputs.now)) }
+    // whatever the outcome, OUT alone may hold anything else, each IN holds what it held, and no file is left open; it
+    // is done only where nothing failed
+    ensures leaves { IsTrue D.tells → LeavesOverlaid result (map (λ word. image_path word.now) inputs.now)
+        (path_of output.entry) (D.held disk.old) (D.held disk.new) (D.world disk.old) (D.world disk.new) }
+    // it is refused for what the INs hold, or where a device or the system failed
+    ensures refused { IsTrue D.tells → IfErr result (λ refusal. RefusesOverlay refusal.fault
+        (map (λ word. image_path word.now) inputs.now) (path_of output.entry) (D.world disk.old) (D.world disk.new)
+        (D.held disk.old) (D.held disk.new) (Unprinted report.old report.new)) }
+{
+    let all = match open_all(disk, &mut report.progress, inputs, alloc, w, m) {
+        Ok(all) => all,
+        Err(refusal) => return Err(refusal),
+    };
+    let Opened { kept, shape, .. } = all;
+    let Expanded { blocks, bytes } = whole_of(shape);
+    let mut zeros = disk.zeros(output, bytes)?;
+    let answer = lay_all(disk, &mut report.progress, kept, &mut zeros, output, w, m);
+    let end = disk.close(zeros, output);
+    match answer {
+        Ok(()) => {}
+        Err(refusal) => return Err(refusal),
+    }
+    let is_on_output = match end {
+        Ok(is_on_output) => is_on_output,
+        Err(refusal) => return Err(refusal.begun(output).into()),
+    };
+    match printed(Expanded { blocks, bytes }, is_on_output, report) {
+        Ok(()) => Ok(()),
+        Err(refusal) => Err(refusal.into()),
+    }
+}
+
+// How long the images are that have this shape. Where there is none, they have no blocks.
+fn whole_of(shape: Option<Shape>) -> Expanded
+    ensures { result ≡ whole_of_shape shape }
+{
+    match shape {
+        Some(shape) => Expanded {
+            blocks: shape.blocks,
+            bytes: shape.blocks as u64 * shape.block as u64,
+        },
+        None => Expanded {
+            blocks: 0,
+            bytes: 0,
+        },
+    }
+}

@@ -1,0 +1,169 @@
+-- What opening an input, a partition and a file for pieces, and closing them, leave together.
+use Rattle.std.proofs.Common.{◌≡◌, ◌≢◌, ℕ, ◌+◌, ◌<◌, ◌≤◌, arith, List, [], ◌∷◌, ◌++◌, Bool, true, false, length, Option}
+use Rattle.std.proofs.Common.{None, Some, refl, sym, ◌∙◌, ap, subst}
+use Rattle.std.specs.Prelude.{Result, Ok, Err, Contains, if◌then◌else◌, unwrap_or}
+use Rattle.std.proofs.lemmas.List.Elements.{Contains-append_left, Contains-push}
+use Rattle.abt_io.specs.Moment.{Past}
+use Rattle.sys_disk.specs.InPlace.{ClosesPart, OpensPart, IsAsLong, in_place, is_settled}
+use Rattle.sys_disk.specs.Spools.{OpensSpool, closed_spool, through}
+use Rattle.sys_disk.specs.World.{World, Held, Spares, OpensFile, OnlyAt, untouched, in_output, Ends, SparesRest}
+use Rattle.sys_disk.specs.World.{KeepsFile, failing, reading}
+use Rattle.sys_disk.proofs.Closings.{apart_from}
+use Rattle.sys_disk.proofs.Worlds.{apart, spares_trans}
+use Rattle.cmd_flash.specs.InPieces.{Across, SparesBoth}
+use Rattle.cmd_flash.specs.Through.{ClosesSpool}
+
+-- all three were closed
+pub record Crossed (input path spool x p p' : List ℕ) (old new : World) (h h3 h4 h' : Held) (faults : ℕ) (past : Past)
+    : Type 1 where
+  pub across : (P : List ℕ → List ℕ → List ℕ → Type 0) → P x p p' → Across input path spool old new P
+  pub others : SparesBoth path spool old new
+  pub kept : KeepsFile input old new
+  pub began : h3.failed ≡ h.failed
+  pub grew : h3.failed ≤ h4.failed
+  pub failed : h'.failed ≡ h4.failed + faults
+  pub synced : is_settled past ≡ true → h'.syncs ≡ h.syncs + 1
+  pub closed : h'.part ≡ None
+
+-- which files were read when the third was opened
+read_then : (h h' h'' : Held) (f g : ℕ) → h' ≡ reading f h → h'' ≡ in_place g h' → h''.read ≡ h.read ++ (f ∷ [])
+read_then h h' h'' f g r o = ap (λ (q : Held). q.read) o ∙ ap (λ (q : Held). q.read) r
+
+-- the file that is written in place is not the third
+apart_third : (h' h'' : Held) (f s : ℕ) → h'' ≡ in_place f h' → ¬ Contains h''.begun s → f ≢ s
+apart_third h' h'' f s o fresh same =
+    fresh (subst (λ (q : Held). Contains q.begun s) (sym o) (subst (λ (z : ℕ). Contains (z ∷ h'.begun) s) (sym same)
+    (Contains-append_left (s ∷ []) h'.begun s (Contains-push [] s))))
+
+part_then : (h' h'' h3 h4 h5 : Held) (f s m n : ℕ) → h'' ≡ in_place f h' → h3 ≡ through s h'' → h4 ≡ closed_spool m h3
+    → h5 ≡ failing n h4 → h5.part ≡ Some f
+part_then h' h'' h3 h4 h5 f s m n o t c l =
+    ap (λ (q : Held). q.part) l ∙ ap (λ (q : Held). q.part) c ∙ ap (λ (q : Held). q.part) t
+    ∙ ap (λ (q : Held). q.part) o
+
+-- only the third has changed when the partition is closed
+spared : (spool : List ℕ) (a a' a'' a3 a4 a5 : World) (h'' h3 : Held) → a' ≡ a → a'' ≡ a'
+    → (s : OpensSpool spool h'' h3 a'' a3)
+    → SparesRest h3.spool a3 a4 → a5 ≡ a4 → Spares s.file a a5
+spared spool a a' a'' a3 a4 a5 h'' h3 same same' s rest last =
+    let closed : Spares s.file a3 a4 = subst (λ (q : Held). SparesRest q.spool a3 a4) s.begins rest in
+    subst (λ (w : World). Spares s.file w a5) (same' ∙ same)
+    (subst (λ (w : World). Spares s.file a'' w) (sym last) (spares_trans s.file a'' a3 a4 s.spares closed))
+
+-- the partition is handed back as long as it was
+pub as_long_across : (input path spool x p p' : List ℕ) (a a' a'' a3 a4 a5 : World) (h h' h'' h3 h4 h5 : Held) (n : ℕ)
+    → OpensFile a input x h h' → a' ≡ a → OpensPart a' path p h' h'' → a'' ≡ a' → OpensSpool spool h'' h3 a'' a3
+    → ClosesSpool h3 h4 → SparesRest h3.spool a3 a4 → h5 ≡ failing n h4 → a5 ≡ a4 → length p' ≡ length p
+    → IsAsLong h5.part p' a5
+as_long_across input path spool x p p' a a' a'' a3 a4 a5 h h' h'' h3 h4 h5 n r same o same' s cs rest l last long =
+    let opened : OpensPart a path p h' h'' = subst (λ (w : World). OpensPart w path p h' h'') same o in
+    let one = spared spool a a' a'' a3 a4 a5 h'' h3 same same' s rest last in
+    subst (λ (q : Option ℕ). IsAsLong q p' a5)
+    (sym (part_then h' h'' h3 h4 h5 opened.file s.file cs.failures n opened.taken s.begins cs.closed l))
+    (long ∙ ap length opened.held ∙ ap length (sym (one.files opened.file
+    (apart_third h' h'' opened.file s.file opened.taken s.fresh))))
+
+failed_then : (h4 h5 h6 : Held) (n k : ℕ) (past : Past) (w d : Bool) → h5 ≡ failing n h4
+    → (c : ClosesPart w d past k h5 h6) → h6.failed ≡ h4.failed + (n + k + c.more)
+failed_then h4 h5 h6 n k past w d l c =
+    let one : h5.failed ≡ h4.failed + n = ap (λ (q : Held). q.failed) l in
+    let two : h6.failed ≡ h5.failed + k + c.more = ap (λ (q : Held). q.failed) c.closed in
+    omega (arith, one, two)
+
+grown : (h3 h4 : Held) → ClosesSpool h3 h4 → h3.failed ≤ h4.failed
+grown h3 h4 c = let one : h4.failed ≡ h3.failed + c.failures = ap (λ (q : Held). q.failed) c.closed in omega
+    (arith, one)
+
+pub crossed : (input path spool x p p' : List ℕ) (a a' a'' a3 a4 a5 c : World) (h h' h'' h3 h4 h5 h6 : Held) (n k : ℕ)
+    (past : Past) (w d : Bool) → OpensFile a input x h h' → a' ≡ a → OpensPart a' path p h' h'' → a'' ≡ a'
+    → OpensSpool spool h'' h3 a'' a3 → ClosesSpool h3 h4 → SparesRest h3.spool a3 a4 → h5 ≡ failing n h4 → a5 ≡ a4
+    → Ends h5.part p' a5 c → c.at ≡ a5.at → (q : ClosesPart w d past k h5 h6)
+    → Crossed input path spool x p p' a c h h3 h4 h6 (n + k + q.more) past
+crossed input path spool x p p' a a' a'' a3 a4 a5 c h h' h'' h3 h4 h5 h6 n k past w d r same o same' s cs rest l last
+    ends
+    paths closed =
+    let opened : OpensPart a path p h' h'' = subst (λ (w : World). OpensPart w path p h' h'') same o in
+    let one : Spares s.file a a5 = spared spool a a' a'' a3 a4 a5 h'' h3 same same' s rest last in
+    let part : h5.part ≡ Some opened.file =
+    part_then h' h'' h3 h4 h5 opened.file s.file cs.failures n opened.taken s.begins cs.closed l in
+    let after : (c.holds opened.file ≡ p') × Spares opened.file a5 c = subst (λ (q : Option ℕ). Ends q p' a5 c) part
+    ends in
+    let two : r.file ≢ opened.file = apart_from input path x p a h h' h'' r opened in
+    let three : r.file ≢ s.file =
+    apart h.read h''.read r.file s.file (read_then h h' h'' r.file opened.file r.taken opened.taken) s.free in
+    let at : c.at spool ≡ Some s.file =
+    ap (λ (g : List ℕ → Option ℕ). g spool) paths ∙ ap (λ (w : World). w.at spool) last
+    ∙ (subst (λ (q : Held). SparesRest q.spool a3 a4) s.begins rest).paths spool s.file s.there in
+    record {
+      across = λ P so. record {
+        from = r.file;
+        onto = opened.file;
+        through = s.file;
+        there = r.there;
+        here = opened.there;
+        third = at;
+        apart = two;
+        apart_from = three;
+        apart_onto = apart_third h' h'' opened.file s.file opened.taken s.fresh;
+        so = subst (λ (z : List ℕ). P (a.holds r.file) (a.holds opened.file) z) (sym after.0)
+            (subst (λ (z : List ℕ). P (a.holds r.file) z p') opened.held (subst (λ (z : List ℕ). P z p p') r.held so));
+      };
+      others = record {
+        paths = λ q f there. ap (λ (g : List ℕ → Option ℕ). g q) paths ∙ one.paths q f there;
+        files = λ f none none'. after.1.files f (λ e. none (subst (λ g. a.at path ≡ Some g) (sym e) opened.there))
+            ∙ one.files f (λ e. none' (subst (λ g. c.at spool ≡ Some g) (sym e) at));
+      };
+      kept = λ f there.
+          let is : r.file ≡ f = ap (λ q. unwrap_or q 0) (sym r.there ∙ there) in
+          after.1.files f (λ e. two (is ∙ e)) ∙ one.files f (λ e. three (is ∙ e));
+      began = ap (λ (q : Held). q.failed) s.begins ∙ ap (λ (q : Held). q.failed) opened.taken
+          ∙ ap (λ (q : Held). q.failed) r.taken;
+      grew = grown h3 h4 cs;
+      failed = failed_then h4 h5 h6 n k past w d l closed;
+      synced = λ settled. ap (λ (q : Held). q.syncs) closed.closed
+          ∙ ap (λ (t : Bool). h5.syncs + (if t then 1 else 0)) settled
+          ∙ ap (λ (q : Held). q.syncs + 1) l ∙ ap (λ (q : Held). q.syncs + 1) cs.closed
+          ∙ ap (λ (q : Held). q.syncs + 1) s.begins ∙ ap (λ (q : Held). q.syncs + 1) opened.taken
+          ∙ ap (λ (q : Held). q.syncs + 1) r.taken;
+      closed = ap (λ (q : Held). q.part) closed.closed;
+    }
+
+-- ---- a third file that could not be opened
+
+pub only_both : (read path spool : List ℕ) (a b c : World) → b ≡ a → OnlyAt read spool b c → SparesBoth path spool a c
+only_both read path spool a b c same (untouched still) = record {
+  paths = λ q f there. ap (λ (w : World). w.at q) (still ∙ same) ∙ there;
+  files = λ f none none'. ap (λ (w : World). w.holds f) (still ∙ same);
+}
+only_both read path spool a b c same (in_output file at free spares) =
+    let one : Spares file a c = subst (λ (w : World). Spares file w c) same spares in
+    record {
+      paths = one.paths;
+      files = λ f none none'. one.files f (λ e. none' (subst (λ g. c.at spool ≡ Some g) (sym e) at));
+    }
+
+beside : (input path : List ℕ) (read read' : List ℕ) (f : ℕ) (old new : World) → old.at input ≡ Some f
+    → read' ≡ read ++ (f ∷ []) → OnlyAt read' path old new → KeepsFile input old new
+beside input path read read' f old new at e (untouched same) = λ g there. ap (λ (w : World). w.holds g) same
+beside input path read read' f old new at e (in_output file here free spares) =
+    λ g there. spares.files g (λ same. apart read read' f file e free
+    (ap (λ (q : Option ℕ). unwrap_or q 0) (sym at ∙ there) ∙ same))
+
+pub only_kept : (input path spool x p : List ℕ) (a a' a'' c : World) (h h' h'' : Held) → OpensFile a input x h h'
+    → a' ≡ a
+    → OpensPart a' path p h' h'' → a'' ≡ a' → OnlyAt h''.read spool a'' c → KeepsFile input a c
+only_kept input path spool x p a a' a'' c h h' h'' r same o same' only =
+    beside input spool h.read h''.read r.file a c r.there (read_then h h' h'' r.file o.file r.taken o.taken)
+    (subst (λ (w : World). OnlyAt h''.read spool w c) (same' ∙ same) only)
+
+-- the partition holds what it held, also where its path was the third
+pub part_kept : (path p : List ℕ) (a a' a'' : World) (now : ℕ → List ℕ) (h' h'' : Held) → a' ≡ a
+    → OpensPart a' path p h' h'' → a'' ≡ a' → ((f : ℕ) → Contains h''.begun f → now f ≡ a''.holds f)
+    → (f : ℕ) → a.at path ≡ Some f → now f ≡ a.holds f
+part_kept path p a a' a'' now h' h'' same o same' keeps = λ g there.
+    let here : a.at path ≡ Some o.file = subst (λ (w : World). w.at path ≡ Some o.file) same o.there in
+    let is : o.file ≡ g = ap (λ (q : Option ℕ). unwrap_or q 0) (sym here ∙ there) in
+    let among : Contains h''.begun g =
+    subst (λ (q : Held). Contains q.begun g) (sym o.taken) (subst (λ (z : ℕ). Contains (z ∷ h'.begun) g) (sym is)
+    (Contains-append_left (g ∷ []) h'.begun g (Contains-push [] g))) in
+    keeps g among ∙ ap (λ (w : World). w.holds g) (same' ∙ same)

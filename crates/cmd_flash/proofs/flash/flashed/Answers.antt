@@ -1,0 +1,17 @@
+use Rattle.std.proofs.Common.{arith}
+use Rattle.cmd_flash.proofs.Causes.{unflashed}
+use Rattle.cmd_flash.proofs.flash.flashed.Goals as goal
+
+pub returns-in-Ok-clause-clean : goal.returns-in-Ok-clause-clean
+returns-in-Ok-clause-clean g c =
+    let e = c.in-Ok.ensures.cause in
+    let one = e.0 in
+    let two = e.1 in
+    omega (arith, one, two)
+
+pub returns-in-Err-clause-lays : goal.returns-in-Err-clause-lays
+returns-in-Err-clause-lays g c = λ t u.
+    let e = c.in-Err.ensures in
+    let kept = (e.touches t u).kept in
+    unflashed c.in-Err.fault _ _ _ _ _ _ _ _ _ _ _ (g.met.P.Source.sized c.args.onto.now u) (e.flashes t) (e.holds t u)
+    (record { long = kept.size; kept = kept.bytes }) e.cause

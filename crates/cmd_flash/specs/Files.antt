@@ -1,0 +1,60 @@
+-- What is so of the files that a command was given.
+use Rattle.std.specs.Prelude.{◌≡◌, ◌≢◌, ◌⊎◌, ℕ, Bool, false, List, [], length, slice_get, Some, None, Result, OnOk}
+use Rattle.sys_disk.specs.World.{World, Held, KeepsFile, Spares, HasFailed, HasNotFailed}
+
+-- nothing was opened to be written, no file is written in place, and pieces go through none
+pub record MayFlashPieces (held : Held) : Type 0 where
+  pub first : held.begun ≡ []
+  pub one : held.part ≡ None
+  pub through : held.spool ≡ None
+
+-- What a command that writes leaves of files, whatever the outcome: `Spared` says what of all but those that it writes,
+-- and IN holds what it held. It is done only where nothing has failed, and PARTITION is closed.
+pub record LeavesOthers {X F : Type 0} (r : Result X F) (Spared : Type 0) (from : List ℕ) (held held' : Held)
+    (old new : World) : Type 0 where
+  pub others : Spared
+  pub input : KeepsFile from old new
+  pub clean : OnOk r (HasNotFailed held held')
+  pub closed : OnOk r (held'.part ≡ None)
+
+-- the file at this path is there, and P holds of its bytes
+pub record OfFile (input : List ℕ) (world : World) (P : List ℕ → Type 0) : Type 0 where
+  pub from : ℕ
+  pub there : world.at input ≡ Some from
+  pub so : P (world.holds from)
+
+-- the files at both paths are there, and P holds of their bytes
+pub record OfBoth (input partition : List ℕ) (world : World) (P : List ℕ → List ℕ → Type 0) : Type 0 where
+  pub from : ℕ
+  pub against : ℕ
+  pub there : world.at input ≡ Some from
+  pub here : world.at partition ≡ Some against
+  pub so : P (world.holds from) (world.holds against)
+
+-- The files at both paths are there, and are two. P holds of what the first held, what the second held, and what the
+-- second holds now. No other has changed.
+pub record Between (input partition : List ℕ) (old new : World) (P : List ℕ → List ℕ → List ℕ → Type 0) : Type 0 where
+  pub from : ℕ
+  pub onto : ℕ
+  pub there : old.at input ≡ Some from
+  pub here : old.at partition ≡ Some onto
+  pub apart : from ≢ onto
+  pub so : P (old.holds from) (old.holds onto) (new.holds onto)
+  pub spares : Spares onto old new
+
+-- ---- where a device has failed
+
+-- p' is as long as p, and holds what p holds but where it is touched
+pub record HoldsBut (touched : ℕ → Bool) (p p' : List ℕ) : Type 0 where
+  pub long : length p' ≡ length p
+  pub kept : (i : ℕ) → touched i ≡ false → slice_get p' i ≡ slice_get p i
+
+-- so much is so, and PARTITION is closed
+abbrev pub OnClosed : Held → Type 0 → Type 0
+OnClosed held P = (held.part ≡ None) × P
+
+-- A call of the disk has failed before the work at PARTITION, which holds what it held; or behind it, and all of it is
+-- done.
+abbrev pub FailsAround : List ℕ → World → World → Held → Held → Type 0 → Type 0
+FailsAround partition old new held held' Done =
+    HasFailed held held' × (KeepsFile partition old new ⊎ OnClosed held' Done)

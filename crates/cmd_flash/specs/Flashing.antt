@@ -1,0 +1,104 @@
+-- What the command `flash` of a sparse image leaves of files, and what it prints.
+use Rattle.std.specs.Prelude.{◌≡◌, ℕ, ◌+◌, ◌*◌, ◌≤◌, ◌<◌, ◌⊎◌, List, [], ◌∷◌, ◌++◌, length, Option, Result, Ok, Err}
+use Rattle.std.specs.Prelude.{IsTrue, OnOk}
+use Rattle.abt_io.specs.declared.device.Source as sources
+use Rattle.abt_io.specs.declared.device.Partition as partitions
+use Rattle.abt_sparse.specs.declared.fault.SparseFault.{SparseFault}
+use Rattle.abt_sparse.specs.Chunk.{Header, Chunk, classed}
+use Rattle.abt_sparse.specs.Fails.{Fails, Spells, SpellsHeader}
+use Rattle.abt_sparse.specs.Pieces.{flashed, given}
+use Rattle.abt_sparse.specs.Reading.{outcome}
+use Rattle.abt_pieces.specs.Contents.{written_in}
+use Rattle.abt_flash.specs.Laying.{writes}
+use Rattle.abt_flash_faults.specs.declared.fault.FlashFault.{FlashFault}
+use Rattle.abt_flash_faults.specs.declared.fault.FlashFault.TheVariants as flashes
+use Rattle.sys_disk.specs.World.{World, Held, HasFailed}
+use Rattle.cmd_common_sparse.specs.declared.fault.SparseCommandFault.{SparseCommandFault}
+use Rattle.cmd_common_sparse.specs.declared.fault.SparseCommandFault.TheVariants as faults
+use Rattle.cmd_common_sparse.specs.declared.lines.Line.TheVariants as lines
+use Rattle.cmd_common_sparse.specs.Lines.{line_text}
+use Rattle.cmd_flash.specs.Files.{Between, FailsAround, HoldsBut, OnClosed}
+
+-- ---- one image, over what held p and holds p' then
+
+-- An image stands at the front of x, with n raw and fill blocks. It fits, and p' is what flashing leaves of p.
+pub record IsFlashed (n : ℕ) (x p p' : List ℕ) : Type 0 where
+  pub header : Header
+  pub chunks : List Chunk
+  pub rest : List ℕ
+  pub spelled : Spells x header chunks rest
+  pub fits : header.total_blks * header.blk_sz ≤ length p
+  pub blocks : n ≡ written_in (classed chunks)
+  pub holds : p' ≡ flashed p x
+
+-- x has this fault, and p' is p with what comes before it
+pub record IsFlashedUpTo (f : SparseFault) (x p p' : List ℕ) : Type 0 where
+  pub given : List (Option ℕ)
+  pub fails : Fails x f given
+  pub holds : p' ≡ flashed p x
+
+-- the image at the front of x needs so many bytes, which p has not; nothing was written
+pub record HasNoRoom (need : ℕ) (x p p' : List ℕ) : Type 0 where
+  pub header : Header
+  pub behind : List ℕ
+  pub spelled : SpellsHeader x header behind
+  pub needs : need ≡ header.total_blks * header.blk_sz
+  pub short : length p < need
+  pub kept : p' ≡ p
+
+-- p' holds what p held wherever x writes nothing: an image, or what comes before its fault
+abbrev pub IsFlashedInPart : List ℕ → List ℕ → List ℕ → Type 0
+IsFlashedInPart x p p' = HoldsBut (writes (given (outcome x))) p p'
+
+-- it is flashed, as so many blocks
+abbrev pub IsFlashedWhole : List ℕ → List ℕ → List ℕ → Type 0
+IsFlashedWhole x p p' = (blocks : ℕ) × IsFlashed blocks x p p'
+
+-- Why it is not flashed: the first fault of x, no room, or a device's, where one has failed. Behind a sync that was
+-- refused all is written.
+abbrev pub IsUnflashed : Type 0 → FlashFault → List ℕ → List ℕ → List ℕ → Type 0
+IsUnflashed failed (flashes.Sparse f) x p p' = IsFlashedUpTo f x p p'
+IsUnflashed failed (flashes.PartitionTooSmall need) x p p' = HasNoRoom need x p p'
+IsUnflashed failed (flashes.Read d) x p p' = failed × IsFlashedInPart x p p'
+IsUnflashed failed (flashes.Write d) x p p' = failed × IsFlashedInPart x p p'
+IsUnflashed failed (flashes.Sync d) x p p' = failed × IsFlashedWhole x p p'
+IsUnflashed failed f x p p' = ⊥
+
+-- the partition is as long as it was; and where all was done it was synced once, behind its last byte
+pub record SyncsOnce {X F : Type 0} (r : Result X F) {C : Type 0} (s : sources.Ghosts C) (p : partitions.Ghosts C)
+    (old new : C) : Type 0 where
+  pub synced : OnOk r ((p.past new).synced ≡ (p.past old).synced + 1)
+  pub settled : IsTrue s.tells → OnOk r ((p.past new).pending ≡ [])
+  pub size : s.size new ≡ s.size old
+
+-- ---- of files
+
+-- The one file held an image that fits. The other holds what flashing leaves of what it held, and was synced behind its
+-- last byte. The line that was printed has the number of the image's raw and fill blocks.
+pub record FlashesFile (input partition : List ℕ) (old new : World) (syncs syncs' : ℕ) (shows : List ℕ → Type 0)
+    : Type 0 where
+  pub blocks : ℕ
+  pub flashed : Between input partition old new (IsFlashed blocks)
+  pub synced : syncs' ≡ syncs + 1
+  pub shown : shows (line_text (lines.Blocks blocks) ++ (10 ∷ []))
+
+-- all was done, and PARTITION closed, but its line is untold
+abbrev pub FlashesUntold : List ℕ → List ℕ → World → World → Held → Held → (List ℕ → Type 0) → Type 0
+FlashesUntold input partition old new held held' untold =
+    OnClosed held' (FlashesFile input partition old new held.syncs held'.syncs untold)
+
+-- why the command is refused: for what the files hold; or a file or a device has failed, or the report
+abbrev pub RefusesFlash : SparseCommandFault → List ℕ → List ℕ → World → World → Held → Held → (List ℕ → Type 0)
+    → Type 0
+RefusesFlash (faults.Flash f) input partition old new held held' untold =
+    OnClosed held' (Between input partition old new (IsUnflashed (HasFailed held held') f))
+RefusesFlash (faults.Host f) input partition old new held held' untold =
+    FailsAround partition old new held held' (Between input partition old new IsFlashedWhole)
+    ⊎ FlashesUntold input partition old new held held' untold
+RefusesFlash f input partition old new held held' untold = ⊥
+
+-- what the call answers of x, over what held p and holds p' then
+abbrev pub Lays : Type 0 → Result ℕ SparseCommandFault → List ℕ → List ℕ → List ℕ → Type 0
+Lays failed (Ok n) x p p' = IsFlashed n x p p'
+Lays failed (Err (faults.Flash f)) x p p' = IsUnflashed failed f x p p'
+Lays failed (Err f) x p p' = ⊥

@@ -1,0 +1,91 @@
+-- What the command `flash --raw` leaves of files, and what it prints.
+use Rattle.std.specs.Prelude.{◌≡◌, ℕ, ◌+◌, ◌*◌, ◌≤◌, ◌<◌, ◌⊎◌, List, [], ◌∷◌, ◌++◌, length, take}
+use Rattle.std.specs.Prelude.{Result, Ok, Err}
+use Rattle.abt_io.specs.Moment.{in_range, put_at}
+use Rattle.abt_sparse.specs.Block.{filled_to}
+use Rattle.abt_runs.specs.Raw.{RefusedRaw}
+use Rattle.abt_runs.specs.declared.part.RunFault.{RunFault}
+use Rattle.abt_runs.specs.declared.part.RunFault.TheVariants as of_runs
+use Rattle.abt_flash.specs.Raw.{IsFilled}
+use Rattle.abt_flash_faults.specs.declared.fault.FlashFault.{FlashFault}
+use Rattle.abt_flash_faults.specs.declared.fault.FlashFault.TheVariants as flashes
+use Rattle.sys_disk.specs.World.{World, Held, HasFailed}
+use Rattle.cmd_common_sparse.specs.declared.fault.SparseCommandFault.{SparseCommandFault}
+use Rattle.cmd_common_sparse.specs.declared.fault.SparseCommandFault.TheVariants as faults
+use Rattle.cmd_common_sparse.specs.declared.lines.Line.TheVariants as lines
+use Rattle.cmd_common_sparse.specs.Lines.{line_text}
+use Rattle.cmd_flash.specs.Files.{Between, FailsAround, HoldsBut, OnClosed}
+
+-- ---- one image, over what held p and holds p' then
+
+-- n blocks of b bytes are what x fills, the last of them maybe in part. They fit, and p' is p with x and zeros up to
+-- their end at its front.
+pub record IsFlashedRaw (n b : ℕ) (x p p' : List ℕ) : Type 0 where
+  pub filled : IsFilled n b (length x)
+  pub fits : n * b ≤ length p
+  pub holds : p' ≡ put_at p 0 (filled_to (n * b) x)
+
+-- the blocks of x need so many bytes, which p has not; nothing was written
+pub record HasNoRoomRaw (need b : ℕ) (x p p' : List ℕ) : Type 0 where
+  pub blocks : ℕ
+  pub filled : IsFilled blocks b (length x)
+  pub needs : need ≡ blocks * b
+  pub short : length p < need
+  pub kept : p' ≡ p
+
+-- it is flashed, as so many blocks
+abbrev pub IsFlashedWholeRaw : ℕ → List ℕ → List ℕ → List ℕ → Type 0
+IsFlashedWholeRaw b x p p' = (blocks : ℕ) × IsFlashedRaw blocks b x p p'
+
+-- p' is p with the first bytes of x at its front, but for so many bytes behind these
+pub record IsLaidInPart (torn : ℕ) (x p p' : List ℕ) : Type 0 where
+  pub laid : ℕ
+  pub within : laid ≤ length x
+  pub holds : HoldsBut (in_range laid torn) (put_at p 0 (take laid x)) p'
+
+-- it has no such blocks, or more than can be, and nothing was written; or it could not be read
+abbrev pub IsUnopened : Type 0 → RunFault → ℕ → List ℕ → List ℕ → List ℕ → Type 0
+IsUnopened failed (of_runs.Read d) b x p p' = failed × IsLaidInPart 0 x p p'
+IsUnopened failed f b x p p' = RefusedRaw f b (length x) × (p' ≡ p)
+
+-- There is no room, or a device has failed: writing a window, or syncing all.
+abbrev pub IsUnlaid : Type 0 → FlashFault → ℕ → List ℕ → List ℕ → List ℕ → Type 0
+IsUnlaid failed (flashes.PartitionTooSmall need) b x p p' = HasNoRoomRaw need b x p p'
+IsUnlaid failed (flashes.Write d) b x p p' = failed × IsLaidInPart 65536 x p p'
+IsUnlaid failed (flashes.Sync d) b x p p' = failed × IsFlashedWholeRaw b x p p'
+IsUnlaid failed f b x p p' = ⊥
+
+-- what the call answers of x, over what held p and holds p' then
+abbrev pub IsUnflashedRaw : Type 0 → SparseCommandFault → ℕ → List ℕ → List ℕ → List ℕ → Type 0
+IsUnflashedRaw failed (faults.Run f) b x p p' = IsUnopened failed f b x p p'
+IsUnflashedRaw failed (faults.Flash f) b x p p' = IsUnlaid failed f b x p p'
+IsUnflashedRaw failed f b x p p' = ⊥
+
+abbrev pub LaysRaw : Type 0 → Result ℕ SparseCommandFault → ℕ → List ℕ → List ℕ → List ℕ → Type 0
+LaysRaw failed (Ok n) b x p p' = IsFlashedRaw n b x p p'
+LaysRaw failed (Err f) b x p p' = IsUnflashedRaw failed f b x p p'
+
+-- ---- of files
+
+-- The one file held a raw image whose blocks fit. The other holds it at its front, with zeros up to a whole block, and
+-- else what it held, and was synced behind its last byte. The line that was printed has the number of blocks.
+pub record FlashesRawFile (size : ℕ) (input partition : List ℕ) (old new : World) (syncs syncs' : ℕ)
+    (shows : List ℕ → Type 0) : Type 0 where
+  pub blocks : ℕ
+  pub flashed : Between input partition old new (IsFlashedRaw blocks size)
+  pub synced : syncs' ≡ syncs + 1
+  pub shown : shows (line_text (lines.Blocks blocks) ++ (10 ∷ []))
+
+-- all was done, and PARTITION closed, but its line is untold
+abbrev pub FlashesRawUntold : ℕ → List ℕ → List ℕ → World → World → Held → Held → (List ℕ → Type 0) → Type 0
+FlashesRawUntold size input partition old new held held' untold =
+    OnClosed held' (FlashesRawFile size input partition old new held.syncs held'.syncs untold)
+
+-- why the command is refused: for what the files hold; or a file or a device has failed, or the report
+abbrev pub RefusesFlashRaw : SparseCommandFault → ℕ → List ℕ → List ℕ → World → World → Held → Held
+    → (List ℕ → Type 0) → Type 0
+RefusesFlashRaw (faults.Host f) size input partition old new held held' untold =
+    FailsAround partition old new held held' (Between input partition old new (IsFlashedWholeRaw size))
+    ⊎ FlashesRawUntold size input partition old new held held' untold
+RefusesFlashRaw f size input partition old new held held' untold =
+    OnClosed held' (Between input partition old new (IsUnflashedRaw (HasFailed held held') f size))

@@ -1,0 +1,152 @@
+-- What the command `flash` in pieces leaves of files, and what it prints.
+use Rattle.std.specs.Prelude.{◌≡◌, ◌≢◌, ℕ, ◌+◌, ◌-◌, ◌≤◌, ◌<◌, ◌⊎◌, List, [], ◌∷◌, ◌++◌, length, Option, Some, None}
+use Rattle.std.specs.Prelude.{Bool, true, IsTrue, Result, Ok, Err, OnOk, IfOk}
+use Rattle.abt_io.specs.declared.device.Source as sources
+use Rattle.abt_io.specs.declared.device.Partition as partitions
+use Rattle.abt_sparse.specs.Block.{cells, over}
+use Rattle.abt_sparse.specs.Mending.{Mendable}
+use Rattle.abt_flash.specs.declared.answer.Delivered.{Delivered}
+use Rattle.abt_flash_faults.specs.declared.fault.FlashFault.{FlashFault}
+use Rattle.abt_flash_faults.specs.declared.fault.FlashFault.TheVariants as flashes
+use Rattle.abt_flash.specs.Delivering.{ImageBlocks, blocks_behind, blocks_in_first, pieces_in}
+use Rattle.abt_flash.specs.Devices.{Counts}
+use Rattle.abt_flash.specs.Raw.{IsAllowed, RawRefused, raw_image}
+use Rattle.abt_flash.specs.Sparse.{Fits, SparseRefused, sparse_image}
+use Rattle.sys_disk.specs.World.{World, Held, HasFailed}
+use Rattle.cmd_common_sparse.specs.Blocks.{RefusedCut}
+use Rattle.cmd_common_sparse.specs.declared.fault.SparseCommandFault.{SparseCommandFault}
+use Rattle.cmd_common_sparse.specs.declared.fault.SparseCommandFault.TheVariants as faults
+use Rattle.cmd_common_sparse.specs.declared.lines.Line.TheVariants as lines
+use Rattle.cmd_common_sparse.specs.Lines.{line_text}
+use Rattle.cmd_flash.specs.Files.{FailsAround, OfFile, OnClosed}
+
+-- ---- the image that bytes are: a sparse one at their front, or a raw one in blocks of so many bytes
+
+abbrev pub image_as : Option ℕ → List ℕ → ImageBlocks
+image_as None x = sparse_image x
+image_as (Some size) x = raw_image size x
+
+-- they are one, the limit has room for each of its blocks, and so many bytes for all
+abbrev pub IsWhole : Option ℕ → List ℕ → ℕ → ℕ → Type 0
+IsWhole None x limit room = Fits x limit room
+IsWhole (Some size) x limit room = IsAllowed size x (length x) limit room true
+
+-- why it is not delivered behind its first pieces, `before`, as the engine says of devices that tell their bytes
+abbrev pub IsRefused : Option ℕ → FlashFault → List ℕ → ℕ → ℕ → ℕ → Counts → Counts → Type 0
+IsRefused None fault x limit room before a z = SparseRefused fault x limit room before true true a z
+IsRefused (Some size) fault x limit room before a z =
+    RawRefused fault size x (length x) limit room before true true a z
+
+-- p under the image x has its first pieces, `done`, on q, and of all others any bytes: going on behind them mends it
+abbrev pub StandsUpTo : Option ℕ → ℕ → ℕ → List ℕ → List ℕ → List ℕ → Type 0
+StandsUpTo raw limit done x p q =
+    Mendable (image_as raw x).size (image_as raw x).blocks p q
+    (blocks_in_first limit (image_as raw x).size (image_as raw x).blocks done)
+
+-- ---- one image x, over what held p and holds p' then
+
+-- x is an image that fits, of which n pieces came behind the first ones. p' is p under the blocks of these n, and all
+-- of any q under the image where p had the first pieces of that.
+pub record IsDelivered (raw : Option ℕ) (limit before n : ℕ) (x p p' : List ℕ) : Type 0 where
+  pub whole : IsWhole raw x limit (length p)
+  pub counts : before + n ≡ pieces_in limit (image_as raw x)
+  pub holds : p' ≡ over p (cells (image_as raw x).size
+      (blocks_behind (blocks_in_first limit (image_as raw x).size (image_as raw x).blocks before)
+      (image_as raw x).blocks))
+  pub mends : (q : List ℕ) (done : ℕ) → before ≤ done → StandsUpTo raw limit done x q p
+      → p' ≡ over q (cells (image_as raw x).size (image_as raw x).blocks)
+
+-- all of its pieces behind the first ones came
+abbrev pub IsDeliveredWhole : Option ℕ → ℕ → ℕ → List ℕ → List ℕ → List ℕ → Type 0
+IsDeliveredWhole raw limit before x p p' = (pieces : ℕ) × IsDelivered raw limit before pieces x p p'
+
+-- a device has failed in piece j of an image that fits; the pieces before it stand, where those did that came before
+pub record IsStopped (failed : Type 0) (raw : Option ℕ) (limit before j : ℕ) (x p p' : List ℕ) : Type 0 where
+  pub whole : IsWhole raw x limit (length p)
+  pub cause : failed
+  pub behind : before < j
+  pub few : j ≤ pieces_in limit (image_as raw x)
+  pub stands : (q : List ℕ) (done : ℕ) → before ≤ done → StandsUpTo raw limit done x q p
+      → StandsUpTo raw limit (j - 1) x q p'
+
+-- nothing was written, for what x is, the limit, no room, or no such piece
+pub record IsEarly (raw : Option ℕ) (fault : FlashFault) (limit before : ℕ) (x p p' : List ℕ) : Type 0 where
+  pub counts : Counts
+  pub counts' : Counts
+  pub refused : IsRefused raw fault x limit (length p) before counts counts'
+  pub kept : p' ≡ p
+
+-- why it is not delivered: it was stopped in a piece; or nothing was written, since a device has failed, or for what x
+-- is, the limit, no room, or no such piece, as the engine says
+abbrev pub IsUndelivered : Type 0 → Option ℕ → FlashFault → ℕ → ℕ → List ℕ → List ℕ → List ℕ → Type 0
+IsUndelivered failed raw (flashes.Stopped j cause) limit before x p p' = IsStopped failed raw limit before j x p p'
+IsUndelivered failed raw (flashes.Read d) limit before x p p' = failed × (p' ≡ p)
+IsUndelivered failed raw fault limit before x p p' = IsEarly raw fault limit before x p p'
+
+-- what is answered of x
+abbrev pub DeliversPieces : Type 0 → Option ℕ → Result Delivered FlashFault → ℕ → ℕ → List ℕ → List ℕ → List ℕ → Type 0
+DeliversPieces failed raw (Ok d) limit before x p p' = IsDelivered raw limit before d.pieces x p p'
+DeliversPieces failed raw (Err fault) limit before x p p' = IsUndelivered failed raw fault limit before x p p'
+
+-- the partition is as long as it was; and where pieces were delivered, of which there is one, it was synced behind each
+pub record SyncsPieces {F : Type 0} (r : Result Delivered F) {C : Type 0} (s : sources.Ghosts C)
+    (p : partitions.Ghosts C) (old new : C) : Type 0 where
+  pub some : IfOk r (λ d. 0 < d.pieces)
+  pub synced : IfOk r (λ d. (p.past new).synced ≡ (p.past old).synced + d.pieces)
+  pub settled : IsTrue s.tells → OnOk r ((p.past new).pending ≡ [])
+  pub size : s.size new ≡ s.size old
+
+-- ---- of files
+
+-- The files at three paths are three; the third may be new. P holds of what the first held, and of what the second held
+-- and holds now.
+pub record Across (input partition spool : List ℕ) (old new : World) (P : List ℕ → List ℕ → List ℕ → Type 0)
+    : Type 0 where
+  pub from : ℕ
+  pub onto : ℕ
+  pub through : ℕ
+  pub there : old.at input ≡ Some from
+  pub here : old.at partition ≡ Some onto
+  pub third : new.at spool ≡ Some through
+  pub apart : from ≢ onto
+  pub apart_from : from ≢ through
+  pub apart_onto : onto ≢ through
+  pub so : P (old.holds from) (old.holds onto) (new.holds onto)
+
+-- every path leads where it led, and each file holds what it held but maybe those at two paths, of which the second may
+-- be new
+pub record SparesBoth (partition spool : List ℕ) (old new : World) : Type 0 where
+  pub paths : (path : List ℕ) (file : ℕ) → old.at path ≡ Some file → new.at path ≡ Some file
+  pub files : (file : ℕ) → ¬ (old.at partition ≡ Some file) → ¬ (new.at spool ≡ Some file)
+      → new.holds file ≡ old.holds file
+
+-- An image that fits was delivered behind its first pieces, and PARTITION was synced behind its last byte. The line
+-- that was printed has the number of the pieces that came.
+pub record FlashesPieces (raw : Option ℕ) (limit before : ℕ) (input partition spool : List ℕ) (old new : World)
+    (held held' : Held) (shows : List ℕ → Type 0) : Type 0 where
+  pub pieces : ℕ
+  pub delivered : Across input partition spool old new (IsDelivered raw limit before pieces)
+  pub synced : held'.syncs ≡ held.syncs + 1
+  pub shown : shows (line_text (lines.Pieces pieces) ++ (10 ∷ []))
+
+-- all was done, and PARTITION closed, but its line is untold
+abbrev pub FlashesPiecesUntold : Option ℕ → ℕ → ℕ → List ℕ → List ℕ → List ℕ → World → World → Held → Held
+    → (List ℕ → Type 0) → Type 0
+FlashesPiecesUntold raw limit before input partition spool old new held held' untold =
+    OnClosed held' (FlashesPieces raw limit before input partition spool old new held held' untold)
+
+-- of a raw image: no image has such blocks, or the limit has no room for one
+abbrev pub IsUncuttable : Option ℕ → SparseCommandFault → ℕ → List ℕ → Type 0
+IsUncuttable raw fault limit x = (size : ℕ) × (raw ≡ Some size) × RefusedCut fault size (length x) limit
+
+-- why the command is refused: for what the files hold; or a file or a device has failed, or the report
+abbrev pub RefusesPieces : SparseCommandFault → Option ℕ → ℕ → ℕ → List ℕ → List ℕ → List ℕ → World → World → Held
+    → Held → (List ℕ → Type 0) → Type 0
+RefusesPieces (faults.Flash f) raw limit before input partition spool old new held held' untold =
+    OnClosed held' (Across input partition spool old new (IsUndelivered (HasFailed held held') raw f limit before))
+RefusesPieces (faults.Host f) raw limit before input partition spool old new held held' untold =
+    FailsAround partition old new held held'
+    (Across input partition spool old new (IsDeliveredWhole raw limit before))
+    ⊎ FlashesPiecesUntold raw limit before input partition spool old new held held' untold
+RefusesPieces fault raw limit before input partition spool old new held held' untold =
+    OfFile input old (IsUncuttable raw fault limit) × (new ≡ old)

@@ -1,0 +1,38 @@
+-- What laying a source over the front of a partition may be refused for.
+use Rattle.std.specs.Prelude.{◌≡◌, ◌<◌, ◌+◌, ℕ, Bool, false, Result, OnOk, IfErr}
+use Rattle.abt_io.specs.declared.device.Source as sources
+use Rattle.abt_io.specs.declared.device.Partition as partitions
+use Rattle.abt_runs.specs.declared.part.RunFault.TheVariants as of_runs
+use Rattle.abt_flash_faults.specs.declared.fault.FlashFault.TheVariants as flashes
+use Rattle.cmd_common_sparse.specs.declared.fault.SparseCommandFault.{SparseCommandFault}
+use Rattle.cmd_common_sparse.specs.declared.fault.SparseCommandFault.TheVariants as faults
+use Rattle.abt_io.specs.declared.copying.CopyFault.{CopyFault}
+use Rattle.abt_io.specs.declared.copying.CopyFault.TheVariants as copies
+
+-- a device has failed; a source gives fewer bytes than it has said only where it doesn't tell them
+abbrev pub IsOfDevices : Bool → Type 0 → CopyFault → Type 0
+IsOfDevices tells failed (copies.Read d) = failed
+IsOfDevices tells failed (copies.Write d) = failed
+IsOfDevices tells failed copies.Changed = tells ≡ false
+
+-- how many bytes behind those that were laid may be anything then: a window that was being written
+abbrev pub torn_by : CopyFault → ℕ
+torn_by (copies.Read d) = 0
+torn_by (copies.Write d) = 65536
+torn_by copies.Changed = 0
+
+-- what is told of it
+abbrev pub unlaid : CopyFault → SparseCommandFault
+unlaid (copies.Read d) = faults.Run (of_runs.Read d)
+unlaid (copies.Write d) = faults.Flash (flashes.Write d)
+unlaid copies.Changed = faults.Run of_runs.SourceChanged
+
+-- Laying a source's bytes over a partition leaves it as long as it was, and syncs nothing. It is refused where one of
+-- the two has failed, and else none has.
+pub record OnlyLays {X : Type 0} (r : Result X CopyFault) {A C : Type 0} (s : sources.Ghosts A) (t : sources.Ghosts C)
+    (p : partitions.Ghosts C) (source source' : A) (onto onto' : C) : Type 0 where
+  pub synced : (p.past onto').synced ≡ (p.past onto).synced
+  pub size : t.size onto' ≡ t.size onto
+  pub refused : IfErr r (IsOfDevices s.tells
+      (s.read_faults source + p.put_faults onto < s.read_faults source' + p.put_faults onto'))
+  pub clean : OnOk r (s.read_faults source' + p.put_faults onto' ≡ s.read_faults source + p.put_faults onto)

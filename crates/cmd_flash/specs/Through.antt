@@ -1,0 +1,31 @@
+-- What closing the file that pieces went through adds to what was delivered.
+use Rattle.std.specs.Prelude.{◌≡◌, ℕ, ◌+◌, ◌-◌, ◌^◌, min, Option, Some, None, Result, Ok, Err}
+use Rattle.sys_disk.specs.Spools.{closed_spool}
+use Rattle.sys_disk.specs.World.{Held}
+use Rattle.abt_flash.specs.declared.answer.Delivered.{Delivered}
+use Rattle.abt_flash_faults.specs.declared.fault.Cause.{Cause}
+use Rattle.abt_flash_faults.specs.declared.fault.FlashFault.{FlashFault}
+use Rattle.abt_flash_faults.specs.declared.fault.FlashFault.TheVariants as flashes
+use Rattle.cmd_common_sparse.specs.declared.fault.SparseCommandFault.{SparseCommandFault}
+use Rattle.cmd_common_sparse.specs.declared.fault.SparseCommandFault.TheVariants as faults
+
+-- the file is closed, whatever has failed
+pub record ClosesSpool (held held' : Held) : Type 0 where
+  pub failures : ℕ
+  pub closed : held' ≡ closed_spool failures held
+
+-- the last of pieces from this one on
+abbrev pub last_from : ℕ → ℕ → ℕ
+last_from from count = min (from - 1 + count) (2 ^ 32 - 1)
+
+-- what is told of pieces from this one on, where there may be a cause that came before what stopped them
+abbrev pub told : Result Delivered FlashFault → ℕ → Option Cause → Result Delivered FlashFault
+told delivered from None = delivered
+told (Ok d) from (Some first) = Err (flashes.Stopped (last_from from d.pieces) first)
+told (Err (flashes.Stopped piece cause)) from (Some first) = Err (flashes.Stopped piece first)
+told (Err fault) from (Some first) = Err fault
+
+-- how many pieces came
+abbrev pub count_delivered : Result Delivered FlashFault → Result ℕ SparseCommandFault
+count_delivered (Ok d) = Ok d.pieces
+count_delivered (Err fault) = Err (faults.Flash fault)

@@ -1,0 +1,61 @@
+//! Each block of a raw image to a partition.
+
+ghost use Rattle.std.specs.Prelude.{◌≡◌, ◌≤◌, ◌<◌, ◌+◌, ◌*◌, IsTrue, OnOk, IfOk};
+ghost use Rattle.abt_flash.specs.Raw.{IsFilled};
+ghost use Rattle.cmd_flash.specs.Flashing.{SyncsOnce};
+ghost use Rattle.cmd_flash.specs.FlashingRaw.{LaysRaw};
+ghost use Rattle.cmd_flash.specs.Laying.{unlaid};
+
+use crate::laying::lay_filled;
+use abt_io::{CopyFault, Meter, Partition, Source, Window};
+use abt_runs::{BlockRuns, RawRuns, RunFault};
+use abt_flash_faults::FlashFault;
+use cmd_common_sparse::SparseCommandFault;
+
+/// Flashes each block of a raw image once, from the first to the last, and then syncs. How many they were. Nothing is
+/// written of an image that has no such blocks, or that the partition has no room for.
+pub(crate) fn flash_blocks<S: Source, P: Partition>(
+    source: &mut S,
+    size: u32,
+    onto: &mut P,
+    w: &mut Window,
+    m: &mut Meter,
+) -> Result<u32, SparseCommandFault>
+    // how many blocks they are, and that the partition has room for them
+    ensures filled { IfOk result (λ blocks. IsFilled blocks size (S.size source.old)) }
+    ensures room { IfOk result (λ blocks. blocks * size ≤ P.size onto.old) }
+    // what the partition holds, or why not
+    ensures lays { IsTrue S.tells → IsTrue P.tells → LaysRaw
+        (S.read_faults source.old + P.put_faults onto.old < S.read_faults source.new + P.put_faults onto.new) result
+        size (S.content source.old) (P.content onto.old) (P.content onto.new) }
+    ensures clean { OnOk result
+        (S.read_faults source.new + P.put_faults onto.new ≡ S.read_faults source.old + P.put_faults onto.old) }
+    ensures syncs { SyncsOnce result P.Source P.Partition.own onto.old onto.new }
+{
+    let runs = match RawRuns::open(source, size) {
+        Ok(runs) => runs,
+        Err(fault) => return Err(SparseCommandFault::Run(fault)),
+    };
+    let blocks = runs.blocks();
+    let need = blocks as u64 * size as u64;
+    if onto.length() < need {
+        return Err(SparseCommandFault::Flash(FlashFault::PartitionTooSmall { need }));
+    }
+    if let Err(fault) = lay_filled(source, need, onto, w, m) {
+        return Err(not_laid(fault));
+    }
+    match onto.sync() {
+        Ok(()) => Ok(blocks),
+        Err(fault) => Err(SparseCommandFault::Flash(FlashFault::Sync(fault))),
+    }
+}
+
+fn not_laid(fault: CopyFault) -> SparseCommandFault
+    ensures { result ≡ unlaid fault }
+{
+    match fault {
+        CopyFault::Read(fault) => SparseCommandFault::Run(RunFault::Read(fault)),
+        CopyFault::Write(fault) => SparseCommandFault::Flash(FlashFault::Write(fault)),
+        CopyFault::Changed => SparseCommandFault::Run(RunFault::SourceChanged),
+    }
+}

@@ -1,0 +1,40 @@
+//! The pieces of an image to a partition, by the engine.
+
+ghost use Rattle.std.specs.Prelude.{◌≡◌, ◌≤◌, ◌<◌, ◌+◌, ◌-◌, [], IsTrue, OnOk};
+ghost use Rattle.cmd_flash.specs.InPieces.{DeliversPieces, SyncsPieces};
+
+use abt_flash::{Delivered, resume, resume_raw_at};
+use abt_io::{Meter, Overwrite, Partition, Source, Spool, Window};
+use sys_report::Carried;
+use abt_flash_faults::FlashFault;
+
+/// Flashes the pieces from this one on, of a raw image in one pass over it.
+pub(crate) fn delivered<S: Source, L: Spool + Overwrite, P: Partition>(
+    source: &mut Carried<'_, S>,
+    raw: Option<u32>,
+    limit: u32,
+    from: u32,
+    spool: &mut L,
+    onto: &mut P,
+    w: &mut Window,
+    m: &mut Meter,
+) -> Result<Delivered, FlashFault>
+    requires some { 1 ≤ from }
+    requires capacity { limit ≤ L.size spool.old }
+    // what the partition holds, or why not: a device's fault where one has failed of devices that had not yet
+    ensures delivers { IsTrue S.tells → IsTrue L.tells → IsTrue P.tells → (P.past onto.old).pending ≡ []
+        → DeliversPieces
+        (S.read_faults source.old.device + P.put_faults onto.old + (L.write_faults spool.old + (L.read_faults spool.old
+        + L.clear_faults spool.old)) ≡ 0 → 0 < S.read_faults source.new.device + P.put_faults onto.new
+        + (L.write_faults spool.new + (L.read_faults spool.new + L.clear_faults spool.new)))
+        raw result limit (from - 1) (S.content source.old.device) (P.content onto.old) (P.content onto.new) }
+    ensures syncs { SyncsPieces result P.Source P.Partition.own onto.old onto.new }
+    ensures clean { OnOk result (S.read_faults source.new.device + P.put_faults onto.new + (L.write_faults spool.new
+        + (L.read_faults spool.new + L.clear_faults spool.new)) ≡ S.read_faults source.old.device
+        + P.put_faults onto.old + (L.write_faults spool.old + (L.read_faults spool.old + L.clear_faults spool.old))) }
+{
+    match raw {
+        Some(size) => resume_raw_at(source, size, limit, from, spool, onto, w, m),
+        None => resume(source, limit, from, spool, onto, w, m),
+    }
+}

@@ -1,0 +1,64 @@
+//! The command `flash` of a raw image that goes straight to a partition.
+
+ghost use Rattle.std.specs.Prelude.{IsTrue, OnOk, IfErr};
+ghost use Rattle.sys_refusals.specs.Paths.{path_of};
+ghost use Rattle.sys_disk.specs.InPlace.{SparesOthers};
+ghost use Rattle.sys_report.specs.Shows.{ShowsBeside, Unprinted};
+ghost use Rattle.sys_disk.specs.DiskCalls.{HasNoPart};
+ghost use Rattle.cmd_flash.specs.Files.{LeavesOthers};
+ghost use Rattle.cmd_flash.specs.FlashingRaw.{FlashesRawFile, RefusesFlashRaw};
+
+use crate::blocks::flash_blocks;
+use sys_disk::{Disk, closed};
+use abt_io::{Meter, Source, Window};
+use sys_refusals::{Place, Sides};
+use sys_report::{Carried, Report};
+use cmd_common_sparse::{Line, SparseCommandFault, SparseRefusal};
+
+/// Flashes a raw image in blocks of so many bytes to a partition, which must be there, and prints how many they were. It
+/// is read once, at any place, so that standard input will do only where it is a file.
+#[inline(never)]
+pub fn flash_raw_file<'a, D: Disk>(
+    disk: &mut D,
+    report: &mut Report,
+    input: Place<'a>,
+    partition: Place<'a>,
+    size: u32,
+    w: &mut Window,
+    m: &mut Meter,
+) -> Result<(), SparseRefusal<'a>>
+    requires ready { IsTrue D.tells → HasNoPart (D.held disk.old) }
+    // PARTITION holds IN in whole blocks at its front, and is synced; what was printed tells of it
+    ensures done { IsTrue D.tells → OnOk result (FlashesRawFile size (path_of input.entry) (path_of partition.entry)
+        (D.world disk.old) (D.world disk.new) (D.held disk.old).syncs (D.held disk.new).syncs
+        (ShowsBeside (D.on_output (path_of partition.entry)) report.old report.new)) }
+    // whatever comes, PARTITION alone may hold anything else, and IN holds what it held; and where it is done nothing
+    // has failed
+    ensures leaves { IsTrue D.tells → LeavesOthers result (SparesOthers (path_of partition.entry) (D.world disk.old)
+        (D.world disk.new)) (path_of input.entry) (D.held disk.old) (D.held disk.new) (D.world disk.old)
+        (D.world disk.new) }
+    // it is refused for its blocks, for want of room, or where a file, a device or the report failed
+    ensures refused { IsTrue D.tells → IfErr result (λ refusal. RefusesFlashRaw refusal.fault size (path_of input.entry)
+        (path_of partition.entry) (D.world disk.old) (D.world disk.new) (D.held disk.old) (D.held disk.new)
+        (Unprinted report.old report.new)) }
+{
+    let source = disk.source(input)?;
+    report.progress.expect(source.length(), 1);
+    let mut onto = disk.partition(partition)?;
+    let mut carried = Carried {
+        device: source,
+        progress: &mut report.progress,
+    };
+    let answer = flash_blocks(&mut carried, size, &mut onto, w, m);
+    let Carried { device: source, .. } = carried;
+    disk.let_go_source(source);
+    let sides = Sides::none()
+        .reading(input, None)
+        .writing(partition, disk.why_of_part(&onto));
+    let (blocks, is_on_output) = match closed(disk, answer, onto, partition, sides) {
+        Ok(end) => end,
+        Err(refusal) => return Err(refusal),
+    };
+    report.line_beside(is_on_output, Line::Blocks(blocks as u64))?;
+    Ok(())
+}

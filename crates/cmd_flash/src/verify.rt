@@ -1,0 +1,163 @@
+//! The command `verify`: whether an image stands on a partition.
+
+ghost use Rattle.std.specs.Prelude.{◌≡◌, ◌<◌, ◌+◌, [], IsTrue, OnOk, IfErr, is_ok};
+ghost use Rattle.sys_refusals.specs.Paths.{path_in, path_of};
+ghost use Rattle.sys_report.specs.Shows.{ShowsHere, Unprinted};
+ghost use Rattle.sys_disk.specs.DiskCalls.{FailsOnly, LeavesAll};
+ghost use Rattle.sys_disk.specs.World.{unless};
+ghost use Rattle.cmd_flash.specs.Verifying.{Finds, FindsRaw, RefusesVerify, RefusesVerifyRaw, VerifiesFile};
+ghost use Rattle.cmd_flash.specs.Verifying.{VerifiesRawFile};
+
+use sys_disk::{Disk, Measured, Reasons};
+use abt_io::{Input, Meter, Source, Window};
+use sys_refusals::{HostRefusal, Place, Sides};
+use sys_report::{Carried, Report};
+use abt_verify::{verify, verify_raw};
+use cmd_common_sparse::{Line, SparseCommandFault, SparseRefusal};
+
+/// Compares a sparse image with what stands on a partition, and prints how many blocks of it were compared. The image is
+/// read forward, so that it may be a pipe.
+#[inline(never)]
+pub fn verify_file<'a, D: Disk>(
+    disk: &mut D,
+    report: &mut Report,
+    input: Place<'a>,
+    partition: Place<'a>,
+    w: &mut Window,
+    m: &mut Meter,
+) -> Result<(), SparseRefusal<'a>>
+    requires first { IsTrue D.tells → (D.held disk.old).begun ≡ [] }
+    // the image that IN holds stands on PARTITION, and what was printed tells of it
+    ensures done { IsTrue D.tells → OnOk result (VerifiesFile (path_in input.entry) (path_of partition.entry)
+        (D.world disk.old) (ShowsHere report.old report.new)) }
+    // every file stays as it is; and where it is done nothing has failed
+    ensures leaves { LeavesAll D.tells result (D.held disk.old) (D.held disk.new) (D.world disk.old) (D.world disk.new) }
+    // it is refused for the first byte that differs or the first fault that IN has, or where a file or the report failed
+    ensures refused { IsTrue D.tells → IfErr result (λ refusal. RefusesVerify refusal.fault (path_in input.entry)
+        (path_of partition.entry) (D.world disk.old) (D.held disk.old) (D.held disk.new)
+        (Unprinted report.old report.new)) }
+{
+    let from = disk.input(input)?;
+    report.progress.expect_if(from.known_length());
+    let mut against = disk.source(partition)?;
+    let mut carried = Carried {
+        device: from,
+        progress: &mut report.progress,
+    };
+    let answer = compared(&mut carried, &mut against, w, m);
+    let Carried { device: from, .. } = carried;
+    let why = from.why();
+    let end = unchanged_behind(disk, &answer);
+    disk.let_go(from);
+    disk.let_go_source(against);
+    let blocks = match answer {
+        Ok(blocks) => blocks,
+        Err(fault) => {
+            let sides = Sides::none().reading(input, why).writing(partition, None);
+            return Err(sides.refuse(fault));
+        }
+    };
+    end?;
+    report.line(Line::Blocks(blocks))?;
+    Ok(())
+}
+
+/// The same of a raw image in blocks of so many bytes. It is read at any place, so that standard input will do only
+/// where it is a file.
+#[inline(never)]
+pub fn verify_raw_file<'a, D: Disk>(
+    disk: &mut D,
+    report: &mut Report,
+    input: Place<'a>,
+    partition: Place<'a>,
+    size: u32,
+    w: &mut Window,
+    m: &mut Meter,
+) -> Result<(), SparseRefusal<'a>>
+    requires first { IsTrue D.tells → (D.held disk.old).begun ≡ [] }
+    // each byte of IN stands on PARTITION, and what was printed tells of it
+    ensures done { IsTrue D.tells → OnOk result (VerifiesRawFile size (path_of input.entry) (path_of partition.entry)
+        (D.world disk.old) (ShowsHere report.old report.new)) }
+    // every file stays as it is; and where it is done nothing has failed
+    ensures leaves { LeavesAll D.tells result (D.held disk.old) (D.held disk.new) (D.world disk.old) (D.world disk.new) }
+    // it is refused for the first byte that differs, for the size of blocks, or where a file or the report failed
+    ensures refused { IsTrue D.tells → IfErr result (λ refusal. RefusesVerifyRaw refusal.fault size
+        (path_of input.entry) (path_of partition.entry) (D.world disk.old) (D.held disk.old) (D.held disk.new)
+        (Unprinted report.old report.new)) }
+{
+    let source = disk.source(input)?;
+    report.progress.expect(source.length(), 1);
+    let mut against = disk.source(partition)?;
+    let mut carried = Carried {
+        device: source,
+        progress: &mut report.progress,
+    };
+    let answer = compared_raw(&mut carried, size, &mut against, w, m);
+    let Carried { device: source, .. } = carried;
+    let end = unchanged_behind(disk, &answer);
+    disk.let_go_source(source);
+    disk.let_go_source(against);
+    let blocks = match answer {
+        Ok(blocks) => blocks,
+        Err(fault) => {
+            let sides = Sides::none().reading(input, None).writing(partition, None);
+            return Err(sides.refuse(fault));
+        }
+    };
+    end?;
+    report.line(Line::Blocks(blocks))?;
+    Ok(())
+}
+
+// Whether what was compared is as it was, where it was compared to its end.
+fn unchanged_behind<'a, D: Disk>(
+    disk: &mut D,
+    answer: &Result<u64, SparseCommandFault>,
+) -> Result<(), HostRefusal<'a>>
+    ensures { FailsOnly D.tells (unless (is_ok result)) (D.held disk.old) (D.held disk.new) (D.world disk.old)
+        (D.world disk.new) }
+{
+    match answer {
+        Ok(_) => disk.unchanged(),
+        Err(_) => Ok(()),
+    }
+}
+
+// How many blocks were compared. (What the engine promises of costs is left behind here, so that no exit above is proved
+// with it.)
+fn compared<I: Input, S: Source>(
+    from: &mut Carried<'_, I>,
+    against: &mut S,
+    w: &mut Window,
+    m: &mut Meter,
+) -> Result<u64, SparseCommandFault>
+    ensures finds { IsTrue I.tells → IsTrue S.tells → Finds
+        (I.read_faults from.old.device + S.read_faults against.old < I.read_faults from.new.device
+        + S.read_faults against.new) result (I.remaining from.old.device) (S.content against.old) }
+    ensures clean { OnOk result (I.read_faults from.new.device + S.read_faults against.new
+        ≡ I.read_faults from.old.device + S.read_faults against.old) }
+{
+    match verify(from, against, w, m) {
+        Ok(verified) => Ok(verified.blocks),
+        Err(fault) => Err(SparseCommandFault::Verify(fault)),
+    }
+}
+
+fn compared_raw<S: Source, A: Source>(
+    source: &mut Carried<'_, S>,
+    size: u32,
+    against: &mut A,
+    w: &mut Window,
+    m: &mut Meter,
+) -> Result<u64, SparseCommandFault>
+    ensures finds { IsTrue S.tells → IsTrue A.tells → FindsRaw
+        (S.read_faults source.old.device + A.read_faults against.old < S.read_faults source.new.device
+        + A.read_faults against.new) result size (S.content source.old.device) (A.content against.old) }
+    ensures clean { OnOk result (S.read_faults source.new.device + A.read_faults against.new
+        ≡ S.read_faults source.old.device + A.read_faults against.old) }
+{
+    match verify_raw(source, size, against, w, m) {
+        Ok(verified) => Ok(verified.blocks),
+        Err(fault) => Err(SparseCommandFault::Verify(fault)),
+    }
+}

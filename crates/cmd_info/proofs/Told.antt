@@ -1,0 +1,249 @@
+-- What a check finds, and which faults are told.
+use Rattle.std.proofs.Common.{◌≡◌, ◌<◌, ◌+◌, ◌⊎◌, inl, inr, ℕ, List, Some, Bool, true, false, IsTrue, ◌&&◌, Result}
+use Rattle.std.proofs.Common.{Ok, Err, refl, sym, ◌∙◌, ap, subst, arith}
+use Rattle.std.proofs.lemmas.Bool.{true≢false}
+use Rattle.sys_disk.specs.World.{World, Held, OpensFile, failing}
+use Rattle.abt_headers.proofs.Fields.{IsBytes}
+use Rattle.sys_report.specs.Shows.{CannotPrint}
+use Rattle.sys_report.specs.declared.report.Report.{Report}
+use Rattle.sys_refusals.specs.declared.refusal.HostFault.{HostFault}
+use Rattle.abt_sections.proofs.Canonical.{canonical_iff}
+use Rattle.abt_sections.specs.Canonical.{StartsAsPacked}
+use Rattle.abt_sections.specs.Check.{IsVerdict}
+use Rattle.abt_sections.specs.Cause.{MoveCause}
+use Rattle.abt_sections.specs.declared.checking.Verdict.{Verdict}
+use Rattle.abt_sections.specs.declared.fault.SectionFault.{SectionFault}
+use Rattle.abt_sections.specs.declared.fault.SectionFault.TheVariants as sections
+use Rattle.abt_sections.specs.Header.{Header}
+use Rattle.abt_sections.specs.Open.{HasImage}
+use Rattle.cmd_common_findings.specs.Reasons.{ReasonCause}
+use Rattle.cmd_common_boot.specs.declared.fault.BootCommandFault.{BootCommandFault}
+use Rattle.cmd_common_boot.specs.declared.fault.BootCommandFault.TheVariants as faults
+use Rattle.cmd_common_texts.specs.Info.{InfoCause, Reports, SectionWriteTold}
+use Rattle.cmd_common_texts.specs.declared.info_lines.Notation.{Notation}
+use Rattle.cmd_info.specs.Informing.{IsCheckRefusal, IsFailedHost, IsFlawedImage, IsInfoFault, IsInfoRefusal}
+use Rattle.cmd_info.specs.Informing.{IsSound, IsSoundImage}
+use Rattle.cmd_info.specs.Informing.{RefusesInfo, TellsFile, TellsImage, TellsText, is_good}
+
+-- ---- the verdict
+
+good_all : (a b c d : Bool) → (a && b && c && d) ≡ true → (a ≡ true) × (b ≡ true) × (c ≡ true) × (d ≡ true)
+good_all true true true true good = (refl, refl, refl, refl)
+good_all true true true false good = absurd (true≢false (sym good))
+good_all true true false d good = absurd (true≢false (sym good))
+good_all true false c d good = absurd (true≢false (sym good))
+good_all false b c d good = absurd (true≢false (sym good))
+
+all_good : (a b c d : Bool) → a ≡ true → b ≡ true → c ≡ true → d ≡ true → (a && b && c && d) ≡ true
+all_good true true true true p q r s = refl
+all_good false b c d p q r s = p
+all_good true false c d p q r s = q
+all_good true true false d p q r s = r
+all_good true true true false p q r s = s
+
+pub sound : (x : List ℕ) (h : Header) (v : Verdict) → IsBytes x → HasImage x h → IsVerdict x h v → is_good v ≡ true
+    → IsSoundImage x
+sound x h v bytes image right good =
+    let all = good_all v.canonical v.padding v.id v.offset good in (
+      h,
+      image,
+      record {
+        packed = (canonical_iff x h bytes image).0 (right.canonical.0 all.0);
+        padding = sym right.padding ∙ all.1;
+        id = right.id.0 all.2;
+        offset = sym right.offset ∙ all.3;
+      },
+    )
+
+pub flawed : (x : List ℕ) (h : Header) (v : Verdict) → IsBytes x → HasImage x h → IsVerdict x h v → is_good v ≡ false
+    → IsFlawedImage x
+flawed x h v bytes image right bad = (
+  h,
+  image,
+  λ holds.
+      true≢false (sym (all_good v.canonical v.padding v.id v.offset
+      (right.canonical.1 ((canonical_iff x h bytes image).1 holds.packed)) (right.padding ∙ holds.padding)
+      (right.id.1 holds.id) (right.offset ∙ holds.offset)) ∙ bad),
+)
+
+-- ---- faults
+
+-- of printing the text
+pub informed : (f : SectionFault) (x : List ℕ) (with_check : Bool) (r r' : ℕ) (nothing : Type 0) (old new : Report)
+    → InfoCause f x r r' nothing → SectionWriteTold f old.out.faults.number new.out.faults.number
+    → IsInfoFault x with_check (r < r') old new f
+informed (sections.Read f) x with_check r r' nothing old new cause writes = cause
+informed (sections.Write f) x with_check r r' nothing old new cause writes = writes
+informed sections.SourceChanged x with_check r r' nothing old new cause writes = absurd cause
+informed (sections.Header f) x with_check r r' nothing old new cause writes = cause.0
+informed (sections.Entry i) x with_check r r' nothing old new cause writes = cause.0
+informed sections.Name x with_check r r' nothing old new cause writes = absurd cause
+informed sections.CommandLine x with_check r r' nothing old new cause writes = absurd cause
+informed (sections.SectionTruncated s) x with_check r r' nothing old new cause writes = cause.0
+informed (sections.SectionTooLarge s) x with_check r r' nothing old new cause writes = absurd cause
+
+pub info_told : (x : List ℕ) (o : Notation) (with_check : Bool) (failed : Type 0) (old new : Report)
+    (fault : BootCommandFault) (f : SectionFault) → fault ≡ faults.Section f
+    → IsInfoFault x with_check failed old new f → IsInfoRefusal x o with_check failed old new fault
+info_told x o with_check failed old new fault f same own =
+    subst (λ g. IsInfoRefusal x o with_check failed old new g) (sym same) own
+
+-- of finding the reasons
+reasons_fail : (f : SectionFault) (v : Verdict) (r r' : ℕ) (unprinted : Type 0) → ReasonCause f r r'
+    → IsCheckRefusal v (r < r') unprinted (faults.Section f)
+reasons_fail (sections.Read f) v r r' unprinted cause = cause
+reasons_fail (sections.Write f) v r r' unprinted cause = absurd (omega (arith, cause))
+reasons_fail sections.SourceChanged v r r' unprinted cause = tt
+reasons_fail (sections.Header f) v r r' unprinted cause = absurd cause
+reasons_fail (sections.Entry i) v r r' unprinted cause = absurd cause
+reasons_fail sections.Name v r r' unprinted cause = absurd cause
+reasons_fail sections.CommandLine v r r' unprinted cause = absurd cause
+reasons_fail (sections.SectionTruncated s) v r r' unprinted cause = absurd cause
+reasons_fail (sections.SectionTooLarge s) v r r' unprinted cause = absurd cause
+
+pub reasons_told : (f : SectionFault) (v : Verdict) (r r' : ℕ) (unprinted : Type 0) (fault : BootCommandFault)
+    → fault ≡ faults.Section f → ReasonCause f r r' → IsCheckRefusal v (r < r') unprinted fault
+reasons_told f v r r' unprinted fault same cause =
+    subst (λ g. IsCheckRefusal v (r < r') unprinted g) (sym same) (reasons_fail f v r r' unprinted cause)
+
+pub line_told : (v : Verdict) (failed unprinted : Type 0) (fault : BootCommandFault) (host : HostFault)
+    → fault ≡ faults.Host host → unprinted → IsCheckRefusal v failed unprinted fault
+line_told v failed unprinted fault host same cannot =
+    subst (λ g. IsCheckRefusal v failed unprinted g) (sym same) cannot
+
+pub flaw_told : (v : Verdict) (failed unprinted : Type 0) (fault : BootCommandFault) → fault ≡ faults.CheckFailed
+    → is_good v ≡ false → IsCheckRefusal v failed unprinted fault
+flaw_told v failed unprinted fault same bad = subst (λ g. IsCheckRefusal v failed unprinted g) (sym same) bad
+
+-- what could not be printed behind a text that was
+pub cannot_behind : (old between new : Report) → between.out.faults.number ≡ old.out.faults.number
+    → between.err.faults.number ≡ old.err.faults.number → between.unshown.number ≡ old.unshown.number
+    → CannotPrint between new → CannotPrint old new
+cannot_behind old between new out err unshown cannot = omega (arith, out, err, unshown, cannot)
+
+-- of the check, behind the text
+pub checked : (x : List ℕ) (o : Notation) (with_check : Bool) (v : Verdict) (r q r' : ℕ) (old new : Report)
+    (U : Type 0) (fault : BootCommandFault) → IsTrue with_check → q ≡ r → TellsText o x old new
+    → (is_good v ≡ false → IsFlawedImage x) → (U → CannotPrint old new)
+    → IsCheckRefusal v (q < r') U fault → IsInfoRefusal x o with_check (r < r') old new fault
+checked x o with_check v r q r' old new U (faults.Host f) wanted same text flaw up told =
+    (wanted, text, up told)
+checked x o with_check v r q r' old new U (faults.Section (sections.Read f)) wanted same text flaw up told =
+    omega (arith, same, told)
+checked x o with_check v r q r' old new U (faults.Section sections.SourceChanged) wanted same text flaw up told = wanted
+checked x o with_check v r q r' old new U (faults.Section
+    (sections.Write f)) wanted same text flaw up told = absurd told
+checked x o with_check v r q r' old new U (faults.Section
+    (sections.Header f)) wanted same text flaw up told = absurd told
+checked x o with_check v r q r' old new U (faults.Section
+    (sections.Entry i)) wanted same text flaw up told = absurd told
+checked x o with_check v r q r' old new U (faults.Section sections.Name) wanted same text flaw up told = absurd told
+checked x o with_check v r q r' old new U (faults.Section sections.CommandLine) wanted same text flaw up told = absurd
+    told
+checked x o with_check v r q r' old new U (faults.Section (sections.SectionTruncated s)) wanted same text flaw up told =
+    absurd told
+checked x o with_check v r q r' old new U (faults.Section (sections.SectionTooLarge s)) wanted same text flaw up told =
+    absurd told
+checked x o with_check v r q r' old new U (faults.OptionNotCarried name) wanted same text flaw up told = absurd told
+checked x o with_check v r q r' old new U (faults.BadFragment word) wanted same text flaw up told = absurd told
+checked x o with_check v r q r' old new U (faults.BadNumber word) wanted same text flaw up told = absurd told
+checked x o with_check v r q r' old new U (faults.BadBoardId word) wanted same text flaw up told = absurd told
+checked x o with_check v r q r' old new U faults.CheckFailed wanted same text flaw up told = (wanted, text, flaw told)
+
+-- ---- of the file
+
+fault_more : (x : List ℕ) (with_check : Bool) (P Q : Type 0) (old new : Report) (f : SectionFault) → (P → Q)
+    → IsInfoFault x with_check P old new f → IsInfoFault x with_check Q old new f
+fault_more x with_check P Q old new (sections.Read f) more fault = more fault
+fault_more x with_check P Q old new (sections.Write f) more fault = fault
+fault_more x with_check P Q old new sections.SourceChanged more fault = fault
+fault_more x with_check P Q old new (sections.Header f) more fault = fault
+fault_more x with_check P Q old new (sections.Entry i) more fault = fault
+fault_more x with_check P Q old new sections.Name more fault = absurd fault
+fault_more x with_check P Q old new sections.CommandLine more fault = absurd fault
+fault_more x with_check P Q old new (sections.SectionTruncated s) more fault = fault
+fault_more x with_check P Q old new (sections.SectionTooLarge s) more fault = absurd fault
+
+refusal_more : (x : List ℕ) (o : Notation) (with_check : Bool) (P Q : Type 0) (old new : Report)
+    (fault : BootCommandFault) → (P → Q) → IsInfoRefusal x o with_check P old new fault
+    → IsInfoRefusal x o with_check Q old new fault
+refusal_more x o with_check P Q old new (faults.Host f) more refuses = refuses
+refusal_more x o with_check P Q old new (faults.Section f) more refuses =
+    fault_more x with_check P Q old new f more refuses
+refusal_more x o with_check P Q old new (faults.OptionNotCarried name) more refuses = absurd refuses
+refusal_more x o with_check P Q old new (faults.BadFragment word) more refuses = absurd refuses
+refusal_more x o with_check P Q old new (faults.BadNumber word) more refuses = absurd refuses
+refusal_more x o with_check P Q old new (faults.BadBoardId word) more refuses = absurd refuses
+refusal_more x o with_check P Q old new faults.CheckFailed more refuses = refuses
+
+pub refuses : (path x : List ℕ) (o : Notation) (with_check : Bool) (world : World) (h h' k : Held) (r r' : ℕ)
+    (old new : Report) (fault : BootCommandFault) → OpensFile world path x h h' → r ≡ 0 → k ≡ failing r' h'
+    → IsInfoRefusal x o with_check (r < r') old new fault
+    → RefusesInfo path o with_check world (h.failed < k.failed) old new fault
+refuses path x o with_check world h h' k r r' old new fault opens none let_go told =
+    let e : h'.failed ≡ h.failed = ap (λ q. q.failed) opens.taken in
+    let d : k.failed ≡ h'.failed + r' = ap (λ q. q.failed) let_go in
+    inr (
+      opens.file,
+      opens.there,
+      subst (λ z. IsInfoRefusal z o with_check (h.failed < k.failed) old new fault) opens.held
+          (refusal_more x o with_check (r < r') (h.failed < k.failed) old new fault (λ failed. omega (
+            arith,
+            e,
+            d,
+            failed,
+          )) told),
+    )
+
+pub refuses_host : (other : Type 0) (h k : Held) (fault : BootCommandFault) (host : HostFault)
+    → fault ≡ faults.Host host → k ≡ failing 1 h → IsFailedHost (h.failed < k.failed) fault ⊎ other
+refuses_host other h k fault host same failed =
+    let d : k.failed ≡ h.failed + 1 = ap (λ q. q.failed) failed in
+    inl (host, same, omega (arith, d))
+
+pub tells_file : (path x : List ℕ) (o : Notation) (with_check : Bool) (world : World) (h h' : Held) (old new : Report)
+    → OpensFile world path x h h' → TellsImage o with_check x old new → TellsFile path o with_check world old new
+tells_file path x o with_check world h h' old new opens told = record {
+  file = opens.file;
+  there = opens.there;
+  told = subst (λ z. TellsImage o with_check z old new) opens.held told;
+}
+
+pub none_failed : (path x : List ℕ) (world : World) (h h' k : Held) (r r' : ℕ) → OpensFile world path x h h' → r ≡ 0
+    → r' ≡ r → k ≡ failing r' h' → k.failed ≡ h.failed
+none_failed path x world h h' k r r' opens none same let_go =
+    let e : h'.failed ≡ h.failed = ap (λ q. q.failed) opens.taken in
+    let d : k.failed ≡ h'.failed + r' = ap (λ q. q.failed) let_go in
+    omega (arith, e, d, none, same)
+
+pub begun_same : (path x : List ℕ) (world : World) (h h' k : Held) (r : ℕ) → OpensFile world path x h h'
+    → k ≡ failing r h' → k.begun ≡ h.begun
+begun_same path x world h h' k r opens let_go = ap (λ q. q.begun) let_go ∙ ap (λ q. q.begun) opens.taken
+
+-- ---- what was printed
+
+pub as_told : (o o' : Notation) (x a b : List ℕ) → o' ≡ o → Reports o' x a b → Reports o x a b
+as_told o o' x a b same text = subst (λ n. Reports n x a b) same text
+
+pub text_alone : (o : Notation) (with_check : Bool) (x : List ℕ) (old new : Report) → with_check ≡ false
+    → Reports o x old.out.log.state.bytes new.out.log.state.bytes → TellsImage o with_check x old new
+text_alone o true x old new off text = absurd (true≢false off)
+text_alone o false x old new off text = record {
+  told = record { between = new; text = text };
+  alone = λ none. refl;
+  good = λ on. absurd (true≢false (sym on));
+}
+
+pub text_checked : (o : Notation) (with_check : Bool) (x : List ℕ) (old between new : Report) → with_check ≡ true
+    → Reports o x old.out.log.state.bytes between.out.log.state.bytes → IsSoundImage x
+    → TellsImage o with_check x old new
+text_checked o true x old between new on text good = record {
+  told = record { between = between; text = text };
+  alone = λ off. absurd (true≢false off);
+  good = λ wanted. good;
+}
+text_checked o false x old between new on text good = absurd (true≢false (sym on))
+
+pub text_before : (o : Notation) (x : List ℕ) (old between new : Report)
+    → Reports o x old.out.log.state.bytes between.out.log.state.bytes → TellsText o x old new
+text_before o x old between new text = record { between = between; text = text }

@@ -1,0 +1,110 @@
+-- What the command `info` prints, and why it is refused.
+use Rattle.std.specs.Prelude.{◌≡◌, ◌<◌, ◌⊎◌, ℕ, List, Some, Bool, true, false, not, IsTrue, ◌&&◌}
+use Rattle.sys_disk.specs.World.{World}
+use Rattle.sys_refusals.specs.declared.refusal.HostFault.{HostFault}
+use Rattle.sys_report.specs.Shows.{CannotPrint}
+use Rattle.sys_report.specs.declared.report.Report.{Report}
+use Rattle.abt_sections.specs.declared.checking.Verdict.{Verdict}
+use Rattle.abt_sections.specs.declared.fault.SectionFault.{SectionFault}
+use Rattle.abt_sections.specs.declared.fault.SectionFault.TheVariants as sections
+use Rattle.abt_sections.specs.Canonical.{StartsAsPacked}
+use Rattle.abt_sections.specs.Check.{padding_holds, IdHolds, offset_holds}
+use Rattle.abt_sections.specs.Header.{Header}
+use Rattle.abt_sections.specs.Open.{HasImage, RefusedAs}
+use Rattle.cmd_common_boot.specs.declared.fault.BootCommandFault.{BootCommandFault}
+use Rattle.cmd_common_boot.specs.declared.fault.BootCommandFault.TheVariants as faults
+use Rattle.cmd_common_texts.specs.Info.{Reports}
+use Rattle.cmd_common_texts.specs.declared.info_lines.Notation.{Notation}
+use Rattle.cmd_common_texts.specs.declared.info_lines.Notation.TheVariants as notations
+
+abbrev pub notation_of : Bool → Notation
+notation_of true = notations.Hexadecimal
+notation_of false = notations.Decimal
+
+-- all four answers of the check are yes
+abbrev pub is_good : Verdict → Bool
+is_good v = v.canonical && v.padding && v.id && v.offset
+
+-- x begins with exactly what packing writes, and each rule of the check holds of the image with the header h
+pub record IsSound (x : List ℕ) (h : Header) : Type 0 where
+  pub packed : StartsAsPacked x
+  pub padding : padding_holds x h ≡ true
+  pub id : IdHolds x h
+  pub offset : offset_holds h ≡ true
+
+-- x begins with an image of which that is so
+abbrev pub IsSoundImage : List ℕ → Type 0
+IsSoundImage x = (h : Header) × HasImage x h × IsSound x h
+
+-- or with one of which it isn't
+abbrev pub IsFlawedImage : List ℕ → Type 0
+IsFlawedImage x = (h : Header) × HasImage x h × (IsSound x h → ⊥)
+
+-- the text of the image x went to standard output, before whatever else was printed
+pub record TellsText (o : Notation) (x : List ℕ) (old new : Report) : Type 0 where
+  pub between : Report
+  pub text : Reports o x old.out.log.state.bytes between.out.log.state.bytes
+
+-- it did, and nothing else without the check; with the check, all answers are yes
+pub record TellsImage (o : Notation) (with_check : Bool) (x : List ℕ) (old new : Report) : Type 0 where
+  pub told : TellsText o x old new
+  pub alone : with_check ≡ false → told.between ≡ new
+  pub good : IsTrue with_check → IsSoundImage x
+
+-- the file at this path holds such an image
+pub record TellsFile (input : List ℕ) (o : Notation) (with_check : Bool) (world : World) (old new : Report)
+    : Type 0 where
+  pub file : ℕ
+  pub there : world.at input ≡ Some file
+  pub told : TellsImage o with_check (world.holds file) old new
+
+-- ---- refusals
+
+-- standard output failed
+abbrev pub OutFailed : Report → Report → Type 0
+OutFailed old new = old.out.faults.number < new.out.faults.number
+
+-- the bytes x have this fault; or the source or standard output has; or what was found of the answers differs from them
+abbrev pub IsInfoFault : List ℕ → Bool → Type 0 → Report → Report → SectionFault → Type 0
+IsInfoFault x with_check failed old new (sections.Read f) = failed
+IsInfoFault x with_check failed old new (sections.Write f) = OutFailed old new
+IsInfoFault x with_check failed old new sections.SourceChanged = IsTrue with_check
+IsInfoFault x with_check failed old new (sections.Header f) = RefusedAs x (sections.Header f)
+IsInfoFault x with_check failed old new (sections.Entry i) = RefusedAs x (sections.Entry i)
+IsInfoFault x with_check failed old new sections.Name = ⊥
+IsInfoFault x with_check failed old new sections.CommandLine = ⊥
+IsInfoFault x with_check failed old new (sections.SectionTruncated s) = RefusedAs x (sections.SectionTruncated s)
+IsInfoFault x with_check failed old new (sections.SectionTooLarge s) = ⊥
+
+-- of the image x: such a fault; or its text was printed, and a line behind it could not be, or an answer is no
+abbrev pub IsInfoRefusal : List ℕ → Notation → Bool → Type 0 → Report → Report → BootCommandFault → Type 0
+IsInfoRefusal x o with_check failed old new (faults.Host f) =
+    IsTrue with_check × TellsText o x old new × CannotPrint old new
+IsInfoRefusal x o with_check failed old new (faults.Section f) = IsInfoFault x with_check failed old new f
+IsInfoRefusal x o with_check failed old new (faults.OptionNotCarried name) = ⊥
+IsInfoRefusal x o with_check failed old new (faults.BadFragment word) = ⊥
+IsInfoRefusal x o with_check failed old new (faults.BadNumber word) = ⊥
+IsInfoRefusal x o with_check failed old new (faults.BadBoardId word) = ⊥
+IsInfoRefusal x o with_check failed old new faults.CheckFailed =
+    IsTrue with_check × TellsText o x old new × IsFlawedImage x
+
+-- of the check alone, which had this verdict
+abbrev pub IsCheckRefusal : Verdict → Type 0 → Type 0 → BootCommandFault → Type 0
+IsCheckRefusal v failed unprinted (faults.Host f) = unprinted
+IsCheckRefusal v failed unprinted (faults.Section (sections.Read f)) = failed
+IsCheckRefusal v failed unprinted (faults.Section sections.SourceChanged) = Unit {0}
+IsCheckRefusal v failed unprinted (faults.Section f) = ⊥
+IsCheckRefusal v failed unprinted (faults.OptionNotCarried name) = ⊥
+IsCheckRefusal v failed unprinted (faults.BadFragment word) = ⊥
+IsCheckRefusal v failed unprinted (faults.BadNumber word) = ⊥
+IsCheckRefusal v failed unprinted (faults.BadBoardId word) = ⊥
+IsCheckRefusal v failed unprinted faults.CheckFailed = is_good v ≡ false
+
+-- a fault of files, of which one failed
+abbrev pub IsFailedHost : Type 0 → BootCommandFault → Type 0
+IsFailedHost failed fault = (host : HostFault) × (fault ≡ faults.Host host) × failed
+
+-- of the file at this path: a fault of what it holds; or it could not be opened
+abbrev pub RefusesInfo : List ℕ → Notation → Bool → World → Type 0 → Report → Report → BootCommandFault → Type 0
+RefusesInfo path o with_check world failed old new fault = IsFailedHost failed fault ⊎ ((file : ℕ)
+    × (world.at path ≡ Some file) × IsInfoRefusal (world.holds file) o with_check failed old new fault)

@@ -1,0 +1,113 @@
+//! What `info` prints of an image.
+
+ghost use Rattle.std.specs.Prelude.{◌≡◌, ◌<◌, ◌&&◌, IsTrue, IfErr, OnOk, OnErr};
+ghost use Rattle.sys_report.specs.Shows.{CannotPrint};
+ghost use Rattle.cmd_info.specs.Informing as spec;
+
+use crate::info::InfoOutcome;
+use abt_io::{Meter, Source, Window};
+use sys_refusals::{HostRefusal, Place, Refusal, Sides};
+use sys_report::Report;
+use abt_sections::{SectionFault, Verdict};
+use cmd_common_findings::{Findings, find_reasons};
+use cmd_common_boot::BootCommandFault;
+use cmd_common_texts::{InfoReport, Notation, report_info};
+
+/// Prints what the header of an image says, and maybe why answers of the check are no.
+pub(crate) fn tell_image<'t, 'a, S: Source>(
+    source: &mut S,
+    report: &mut Report,
+    input: Place<'t>,
+    with_check: bool,
+    with_hex: bool,
+    w: &mut Window,
+    m: &mut Meter,
+) -> InfoOutcome<'t, 'a>
+    ensures done { IsTrue S.tells → OnOk result (spec.TellsImage (spec.notation_of with_hex) with_check
+        (S.content source.old) report.old report.new) }
+    ensures clean { OnOk result (S.read_faults source.new ≡ S.read_faults source.old) }
+    ensures refused { IsTrue S.tells → IfErr result (λ refusal. spec.IsInfoRefusal (S.content source.old)
+        (spec.notation_of with_hex) with_check (S.read_faults source.old < S.read_faults source.new) report.old
+        report.new refusal.fault) }
+{
+    let told = match report_info(source, notation_of(with_hex), &mut report.out, w, m) {
+        Ok(told) => told,
+        Err(fault) => return Err(refused(input, report, fault)),
+    };
+    if !with_check {
+        return Ok(());
+    }
+    match tell_check(&told, source, report, input, w, m) {
+        Ok(()) => Ok(()),
+        Err(refusal) => Err(refusal),
+    }
+}
+
+// Prints why an answer is no, and is refused where there is one.
+fn tell_check<'t, 'a, S: Source>(
+    told: &InfoReport,
+    source: &mut S,
+    report: &mut Report,
+    input: Place<'t>,
+    w: &mut Window,
+    m: &mut Meter,
+) -> InfoOutcome<'t, 'a>
+    ensures good { OnOk result (IsTrue (spec.is_good told.now.verdict)) }
+    ensures clean { OnOk result (S.read_faults source.new ≡ S.read_faults source.old) }
+    ensures refused { IfErr result (λ refusal. spec.IsCheckRefusal told.now.verdict
+        (S.read_faults source.old < S.read_faults source.new) (CannotPrint report.old report.new) refusal.fault) }
+{
+    let findings = match find_reasons(&told.image, told.verdict, source, w, m) {
+        Ok(findings) => findings,
+        Err(fault) => return Err(refused(input, report, fault)),
+    };
+    match tell_reasons(&findings, report) {
+        Ok(()) => {}
+        Err(refusal) => return Err(refusal.into()),
+    }
+    if is_good(told.verdict) {
+        Ok(())
+    } else {
+        Err(Refusal::of(BootCommandFault::CheckFailed))
+    }
+}
+
+fn notation_of(with_hex: bool) -> Notation
+    ensures { result ≡ spec.notation_of with_hex }
+{
+    if with_hex {
+        Notation::Hexadecimal
+    } else {
+        Notation::Decimal
+    }
+}
+
+fn tell_reasons<'t>(findings: &Findings, report: &mut Report) -> Result<(), HostRefusal<'t>>
+    ensures refused { OnErr result (CannotPrint report.old report.new) }
+{
+    for line in findings.lines() {
+        if let Some(line) = line {
+            report.line(line)?;
+        }
+    }
+    Ok(())
+}
+
+fn refused<'t, 'a>(
+    input: Place<'t>,
+    report: &Report,
+    fault: SectionFault,
+) -> Refusal<'t, BootCommandFault<'a>>
+    ensures { result.fault ≡ BootCommandFault.Section fault }
+{
+    let printed = Place::new("report", "standard output");
+    let sides = Sides::none().reading(input, None);
+    let sides = sides.writing(printed, report.out.writer.why);
+    sides.refuse(BootCommandFault::Section(fault))
+}
+
+fn is_good(verdict: Verdict) -> bool
+    ensures { result ≡ spec.is_good verdict }
+{
+    verdict.canonical && verdict.padding && verdict.id && verdict.offset
+}

@@ -1,0 +1,130 @@
+use Rattle.std.proofs.Common.{ap, refl, sym, subst, ◌∙◌}
+use Rattle.std.specs.List.{All}
+use Rattle.sys_report.specs.Shows.{Unprinted}
+use Rattle.sys_disk.specs.World.{World}
+use Rattle.cmd_common_boot.specs.Carried.{IsTaken}
+use Rattle.cmd_pack_outputs.specs.Contents.{packed_image}
+use Rattle.cmd_pack.specs.Packing.{IsPackedBy}
+use Rattle.cmd_common_boot.specs.Sources.{content_of}
+use Rattle.cmd_pack.proofs.Packs.{given_kind, keeps_given, lays_beside, left_behind, opens_kind, packed_by, packs}
+use Rattle.cmd_pack.proofs.Packs.{refuses_filling, refuses_words, refuses_writing, stops_kind}
+use Rattle.cmd_pack_outputs.proofs.Closes.{left_unopened}
+use Rattle.cmd_pack.proofs.pack.pack_file.Goals as goal
+
+-- what the steps ask for
+
+pub contents_of-requires-clause-first : goal.contents_of-requires-clause-first
+contents_of-requires-clause-first g c = λ t. (c.requires.first t).begun
+
+pub contents_of-requires-clause-kind : goal.contents_of-requires-clause-kind
+contents_of-requires-clause-kind g c = c.in-Ok.ensures.kind
+
+pub contents_of-requires-clause-versioned : goal.contents_of-requires-clause-versioned
+contents_of-requires-clause-versioned g c = c.in-Ok.ensures.given.version
+
+pub contents_of-requires-clause-taken : goal.contents_of-requires-clause-taken
+contents_of-requires-clause-taken g c =
+    subst (λ k. All (IsTaken k) c.args.command.now.texts.fragments.items) (sym c.in-Ok.ensures.kind)
+    c.in-Ok.ensures.taken
+
+pub write_image-requires-clause-one : goal.write_image-requires-clause-one
+write_image-requires-clause-one g c = λ t.
+    (c.in-Ok-contents_of.ensures.fills.keeps t).output ∙ (c.requires.first t).output
+
+-- the words are wrong
+
+pub returns-in-Err-clause-refused : goal.returns-in-Err-clause-refused
+returns-in-Err-clause-refused g c = λ t. refuses_words _ _ _ _ _ _ c.in-Err.ensures.wrong c.of.ensures
+
+pub returns-in-Err-clause-inputs : goal.returns-in-Err-clause-inputs
+returns-in-Err-clause-inputs g c = λ t path given f there. refl
+
+pub returns-in-Err-clause-left : goal.returns-in-Err-clause-left
+returns-in-Err-clause-left g c = λ t. left_unopened _ _ _ _ _ _ _ _ (c.requires.first t).output refl
+
+-- the image is not filled
+
+pub returns-in-Err-contents_of-clause-inputs : goal.returns-in-Err-contents_of-clause-inputs
+returns-in-Err-contents_of-clause-inputs g c = λ t path given f there.
+    ap (λ (u : World). u.holds f) (c.in-Err-contents_of.ensures.fills.keeps t).world
+
+pub returns-in-Err-contents_of-clause-left : goal.returns-in-Err-contents_of-clause-left
+returns-in-Err-contents_of-clause-left g c = λ t.
+    left_unopened _ _ _ _ _ _ _ _ ((c.in-Err-contents_of.ensures.fills.keeps t).output ∙ (c.requires.first t).output)
+    (c.in-Err-contents_of.ensures.fills.keeps t).world
+
+pub returns-in-Err-contents_of-clause-refused : goal.returns-in-Err-contents_of-clause-refused
+returns-in-Err-contents_of-clause-refused g c = λ t.
+    refuses_filling _ _ _ _ _ _ _ (c.in-Err-contents_of.ensures.fills.keeps t).world
+    (stops_kind _ _ _ _ _ _ _ _ c.in-Ok.ensures.kind (c.in-Err-contents_of.ensures.refused t))
+
+-- it is not written
+
+pub returns-in-Err-write_image-clause-inputs : goal.returns-in-Err-write_image-clause-inputs
+returns-in-Err-write_image-clause-inputs g c = λ t.
+    keeps_given c.args.command.now _ _ _ _ _ _ (c.in-Ok-contents_of.ensures.fills.keeps t).world
+    (opens_kind _ _ _ _ _ _ c.in-Ok.ensures.kind (c.in-Ok-contents_of.ensures.fills.opened t))
+    (c.in-Err-write_image.ensures.left t).others
+
+pub returns-in-Err-write_image-clause-left : goal.returns-in-Err-write_image-clause-left
+returns-in-Err-write_image-clause-left g c = λ t.
+    left_behind _ _ _ _ g.D.Disk.is_over (IsPackedBy c.args.command.now (g.D.Disk.world c.args.disk.now))
+    (packed_image (content_of g.D.At.Source.content) c.in-Ok-contents_of.contents) (g.D.Disk.world c.args.disk.now)
+    (g.D.Disk.world c.contents_of.new.disk) (g.D.Disk.world c.write_image.new.disk) _ _ _ c.output_at-output.ensures
+    (c.in-Ok-contents_of.ensures.fills.keeps t).world (c.in-Ok-contents_of.ensures.fills.opened t)
+    (λ x e. packed_by (content_of g.D.At.Source.content) c.args.command.now (g.D.Disk.world c.args.disk.now) _
+    c.in-Ok-contents_of.contents x (c.in-Ok.ensures.known refl)
+    (given_kind _ _ _ _ _ c.in-Ok.ensures.kind c.in-Ok.ensures.given)
+    (c.in-Ok-contents_of.ensures.fills.kind ∙ c.in-Ok.ensures.kind) (c.in-Ok-contents_of.ensures.asked t)
+    c.in-Ok-contents_of.ensures.alone e)
+    (c.in-Err-write_image.ensures.left t)
+
+pub returns-in-Err-write_image-clause-refused : goal.returns-in-Err-write_image-clause-refused
+returns-in-Err-write_image-clause-refused g c = λ t.
+    refuses_writing (content_of g.D.At.Source.content) c.args.command.now _ _ _ _ _ _ _ c.in-Ok-contents_of.contents
+    _ _ _ (c.in-Ok-contents_of.ensures.fills.keeps t).world
+    (opens_kind _ _ _ _ _ _ c.in-Ok.ensures.kind (c.in-Ok-contents_of.ensures.fills.opened t))
+    (given_kind _ _ _ _ _ c.in-Ok.ensures.kind c.in-Ok.ensures.given)
+    (c.in-Ok-contents_of.ensures.fills.kind ∙ c.in-Ok.ensures.kind) (c.in-Ok-contents_of.ensures.asked t)
+    (packs c.args.command.now _ _ _ _ _ _ _ (Unprinted c.args.report.now c.write_image.new.report)
+    c.output_at-output.ensures
+    (c.in-Ok-contents_of.ensures.fills.keeps t).world
+    (opens_kind _ _ _ _ _ _ c.in-Ok.ensures.kind (c.in-Ok-contents_of.ensures.fills.opened t))
+    (packed_by (content_of g.D.At.Source.content) c.args.command.now _ _ c.in-Ok-contents_of.contents _
+    (c.in-Ok.ensures.known refl) (given_kind _ _ _ _ _ c.in-Ok.ensures.kind c.in-Ok.ensures.given)
+    (c.in-Ok-contents_of.ensures.fills.kind ∙ c.in-Ok.ensures.kind) (c.in-Ok-contents_of.ensures.asked t)
+    c.in-Ok-contents_of.ensures.alone refl))
+    (c.in-Err-write_image.ensures.refused t)
+
+-- all is done
+
+pub returns-in-Ok-write_image-clause-inputs : goal.returns-in-Ok-write_image-clause-inputs
+returns-in-Ok-write_image-clause-inputs g c = λ t.
+    keeps_given c.args.command.now _ _ _ _ _ _ (c.in-Ok-contents_of.ensures.fills.keeps t).world
+    (opens_kind _ _ _ _ _ _ c.in-Ok.ensures.kind (c.in-Ok-contents_of.ensures.fills.opened t))
+    (c.in-Ok-write_image.ensures.left t).others
+
+pub returns-in-Ok-write_image-clause-left : goal.returns-in-Ok-write_image-clause-left
+returns-in-Ok-write_image-clause-left g c = λ t.
+    left_behind _ _ _ _ g.D.Disk.is_over (IsPackedBy c.args.command.now (g.D.Disk.world c.args.disk.now))
+    (packed_image (content_of g.D.At.Source.content) c.in-Ok-contents_of.contents) (g.D.Disk.world c.args.disk.now)
+    (g.D.Disk.world c.contents_of.new.disk) (g.D.Disk.world c.write_image.new.disk) _ _ _ c.output_at-output.ensures
+    (c.in-Ok-contents_of.ensures.fills.keeps t).world (c.in-Ok-contents_of.ensures.fills.opened t)
+    (λ x e. packed_by (content_of g.D.At.Source.content) c.args.command.now (g.D.Disk.world c.args.disk.now) _
+    c.in-Ok-contents_of.contents x (c.in-Ok.ensures.known refl)
+    (given_kind _ _ _ _ _ c.in-Ok.ensures.kind c.in-Ok.ensures.given)
+    (c.in-Ok-contents_of.ensures.fills.kind ∙ c.in-Ok.ensures.kind) (c.in-Ok-contents_of.ensures.asked t)
+    c.in-Ok-contents_of.ensures.alone e)
+    (c.in-Ok-write_image.ensures.left t)
+
+pub returns-in-Ok-write_image-clause-done : goal.returns-in-Ok-write_image-clause-done
+returns-in-Ok-write_image-clause-done g c = λ t.
+    packs c.args.command.now _ _ _ _ _ _ _ _ c.output_at-output.ensures
+    (c.in-Ok-contents_of.ensures.fills.keeps t).world
+    (opens_kind _ _ _ _ _ _ c.in-Ok.ensures.kind (c.in-Ok-contents_of.ensures.fills.opened t))
+    (packed_by (content_of g.D.At.Source.content) c.args.command.now _ _ c.in-Ok-contents_of.contents _
+    (c.in-Ok.ensures.known refl) (given_kind _ _ _ _ _ c.in-Ok.ensures.kind c.in-Ok.ensures.given)
+    (c.in-Ok-contents_of.ensures.fills.kind ∙ c.in-Ok.ensures.kind) (c.in-Ok-contents_of.ensures.asked t)
+    c.in-Ok-contents_of.ensures.alone refl)
+    (lays_beside g.D.Disk.on_output _ _ _ _ _ _ c.args.report.now c.write_image.new.report c.output_at-output.ensures
+    (c.in-Ok-write_image.ensures.done t))

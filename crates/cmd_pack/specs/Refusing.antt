@@ -1,0 +1,57 @@
+-- Why the commands `pack` and `repack` are refused: each fault is so.
+use Rattle.std.specs.Prelude.{◌≡◌, ℕ, List, length, Some}
+use Rattle.std.specs.Str.{IsUtf8}
+use Rattle.sys_disk.specs.World.{World, Held, HasFailed}
+use Rattle.sys_refusals.specs.declared.refusal.HostFault.{HostFault}
+use Rattle.sys_refusals.specs.declared.refusal.HostFault.TheVariants as hosts
+use Rattle.abt_sections.specs.Fields.{BootFields}
+use Rattle.abt_sections.specs.declared.fault.SectionFault.{SectionFault}
+use Rattle.cmd_common_boot.specs.Given.{AreGiven, no_fields}
+use Rattle.cmd_common_boot.specs.Wrong.{IsWrong}
+use Rattle.cmd_common_boot.specs.declared.fault.BootCommandFault.{BootCommandFault}
+use Rattle.cmd_common_boot.specs.declared.fault.BootCommandFault.TheVariants as faults
+use Rattle.cmd_common_boot.specs.declared.pack_command.PackCommand.{PackCommand}
+use Rattle.cmd_pack_outputs.specs.Contents.{Packing, refusal_from}
+use Rattle.cmd_pack.specs.Packing.{AreAskedFor, board_id_words, asked_kind}
+use Rattle.cmd_pack_inputs.specs.Parts.{IsGivenPath}
+use Rattle.cmd_common_boot.specs.Fault.{IsOutsideBoot}
+use Rattle.cmd_pack_inputs.specs.BadBoards.{IsBadBoard}
+
+-- why an image is not filled: one of its files was not opened, or a board id is wrong
+pub data StopsFilling (named : List ℕ → Type 0) (words : List (List ℕ)) (count : ℕ) (held held' : Held)
+    (fault : BootCommandFault) : Type 0 where
+  unopened : IsOutsideBoot fault → HasFailed held held' → StopsFilling named words count held held' fault
+  no_text : (path : List ℕ) → named path → ¬ IsUtf8 path → fault ≡ faults.Host hosts.CannotOpen
+      → StopsFilling named words count held held' fault
+  no_memory : fault ≡ faults.Host hosts.Memory → StopsFilling named words count held held' fault
+  wrong_board : IsBadBoard words count fault → StopsFilling named words count held held' fault
+
+-- packing refuses what the words ask for: of these fields and of the sizes of the parts
+pub record IsNotPacked (command : PackCommand) (world : World) (f : SectionFault) : Type 0 where
+  pub given : BootFields
+  pub are_given : AreGiven no_fields (asked_kind command) command.page command.texts.options.items given
+  pub packing : Packing
+  pub asked : AreAskedFor command world given packing
+  pub refused : refusal_from (asked_kind command) packing ≡ Some f
+
+-- Why `pack` is refused, of these worlds before and behind it. Done says that all was done.
+pub data RefusesPack (command : PackCommand) (old new : World) (held held' : Held) (Done : Type 0)
+    (fault : BootCommandFault) : Type 0 where
+  -- the words are wrong, before anything is opened
+  wrong_words : IsWrong no_fields (asked_kind command) command.texts.options.items command.texts.fragments.items fault
+      → held' ≡ held → new ≡ old → RefusesPack command old new held held' Done fault
+  -- a board id is, before OUT is opened
+  bad_board : IsBadBoard (board_id_words command) (length command.texts.fragments.items) fault → new ≡ old
+      → RefusesPack command old new held held' Done fault
+  -- packing refuses it, before OUT is opened
+  not_packed : (f : SectionFault) → fault ≡ faults.Section f → IsNotPacked command old f → new ≡ old
+      → RefusesPack command old new held held' Done fault
+  -- a path is no UTF-8, before OUT is opened
+  no_path : (path : List ℕ) → IsGivenPath command.texts (asked_kind command) path → ¬ IsUtf8 path
+      → fault ≡ faults.Host hosts.CannotOpen → new ≡ old → RefusesPack command old new held held' Done fault
+  -- there is no memory, before OUT is opened
+  too_little : fault ≡ faults.Host hosts.Memory → new ≡ old → RefusesPack command old new held held' Done fault
+  -- a call of the disk failed, or a device
+  failed : IsOutsideBoot fault → HasFailed held held' → RefusesPack command old new held held' Done fault
+  -- all is done, and the line could not be printed
+  untold : (f : HostFault) → fault ≡ faults.Host f → Done → RefusesPack command old new held held' Done fault

@@ -1,0 +1,88 @@
+-- Why the command `repack` is refused: each fault is so.
+use Rattle.std.specs.Prelude.{◌≡◌, ℕ, List, length, Some}
+use Rattle.std.specs.Str.{IsUtf8}
+use Rattle.sys_disk.specs.World.{World, Held, HasFailed}
+use Rattle.sys_refusals.specs.declared.refusal.HostFault.{HostFault}
+use Rattle.sys_refusals.specs.declared.refusal.HostFault.TheVariants as hosts
+use Rattle.abt_sections.specs.Fields.{BootFields}
+use Rattle.abt_sections.specs.Header.{Header}
+use Rattle.abt_sections.specs.declared.fault.SectionFault.{SectionFault}
+use Rattle.abt_sections.specs.declared.spec.FragmentSpec.{FragmentSpec}
+use Rattle.cmd_common_boot.specs.ImageFaults.{RefusesImage}
+use Rattle.cmd_common_fields.specs.Kind.{kind_of}
+use Rattle.cmd_common_boot.specs.Wrong.{IsWrong}
+use Rattle.cmd_common_boot.specs.declared.fault.BootCommandFault.{BootCommandFault}
+use Rattle.cmd_common_boot.specs.declared.fault.BootCommandFault.TheVariants as faults
+use Rattle.cmd_common_boot.specs.declared.pack_command.PackCommand.{PackCommand}
+use Rattle.cmd_pack_outputs.specs.Contents.{Packing, refusal_from}
+use Rattle.cmd_pack_inputs.specs.Own.{own_fields}
+use Rattle.cmd_pack.specs.Packing.{board_id_words}
+use Rattle.cmd_pack_inputs.specs.Parts.{IsGivenPath}
+use Rattle.cmd_pack_inputs.specs.BadBoards.{IsBadBoard}
+use Rattle.cmd_pack.specs.Repacking.{AreAskedAgain, AreFieldsAgain, AreFragmentsAgain, BeginsWith}
+use Rattle.cmd_common_boot.specs.Fault.{IsOutsideBoot}
+
+-- the words are wrong of an image with this header
+abbrev pub IsWrongAgain : PackCommand → Header → BootCommandFault → Type 0
+IsWrongAgain command h fault =
+    IsWrong (own_fields h) (kind_of h) command.texts.options.items command.texts.fragments.items fault
+
+-- a word of `--board-id` is wrong of the fragments that are packed
+pub record IsBadBoardAgain (command : PackCommand) (world : World) (x : List ℕ) (h : Header) (fault : BootCommandFault)
+    : Type 0 where
+  pub said : List FragmentSpec
+  pub ramdisks : List (List ℕ)
+  pub fragments : AreFragmentsAgain world command.texts.fragments.items x h said ramdisks
+  pub bad : IsBadBoard (board_id_words command) (length said) fault
+
+-- packing refuses what the words ask for, of the image x: of these fields and of the sizes of the parts
+pub record IsNotRepacked (command : PackCommand) (world : World) (x : List ℕ) (h : Header) (f : SectionFault) : Type 0
+  where
+    pub given : BootFields
+    pub are_given : AreFieldsAgain command h given
+    pub packing : Packing
+    pub asked : AreAskedAgain command world x h given packing
+    pub refused : refusal_from (kind_of h) packing ≡ Some f
+
+-- why an image x with this header is not packed again. Failed says that a call or a device has failed, Done that all
+-- was done.
+pub data RefusesAgain (command : PackCommand) (x : List ℕ) (h : Header) (old new : World) (Failed Done : Type 0)
+    (fault : BootCommandFault) : Type 0 where
+  -- a word is wrong, before OUT is opened
+  wrong_words : IsWrongAgain command h fault → new ≡ old → RefusesAgain command x h old new Failed Done fault
+  wrong_board : IsBadBoardAgain command old x h fault → new ≡ old
+      → RefusesAgain command x h old new Failed Done fault
+  -- packing refuses it, before OUT is opened
+  not_packed : (f : SectionFault) → fault ≡ faults.Section f → IsNotRepacked command old x h f → new ≡ old
+      → RefusesAgain command x h old new Failed Done fault
+  -- a path is no UTF-8, before OUT is opened
+  no_text : (path : List ℕ) → IsGivenPath command.texts (kind_of h) path → ¬ IsUtf8 path
+      → fault ≡ faults.Host hosts.CannotOpen → new ≡ old → RefusesAgain command x h old new Failed Done fault
+  -- there is no memory, before OUT is opened
+  no_memory : fault ≡ faults.Host hosts.Memory → new ≡ old → RefusesAgain command x h old new Failed Done fault
+  -- a call of the disk failed, or a device
+  failed : IsOutsideBoot fault → Failed → RefusesAgain command x h old new Failed Done fault
+  -- all is done, and the line could not be printed
+  untold : (f : HostFault) → fault ≡ faults.Host f → Done → RefusesAgain command x h old new Failed Done fault
+
+-- Why `repack` is refused: IN could not be read or is no image, before anything is opened to be written; or what its
+-- file holds is not packed again.
+pub data RefusesRepack (input : List ℕ) (command : PackCommand) (old new : World) (held held' : Held) (Done : Type 0)
+    (fault : BootCommandFault) : Type 0 where
+  no_image : RefusesImage input old (HasFailed held held') ⊥ fault → new ≡ old
+      → RefusesRepack input command old new held held' Done fault
+  not_again : (x : List ℕ) (h : Header) → BeginsWith input old x h
+      → RefusesAgain command x h old new (HasFailed held held') Done fault
+      → RefusesRepack input command old new held held' Done fault
+
+-- ---- on the way
+
+-- why not all is at hand that an image is packed from again: a call failed, a path is no UTF-8, there is no memory,
+-- or a board id is wrong
+pub data StopsFillingAgain (command : PackCommand) (world : World) (x : List ℕ) (h : Header) (Failed : Type 0)
+    (fault : BootCommandFault) : Type 0 where
+  unopened : IsOutsideBoot fault → Failed → StopsFillingAgain command world x h Failed fault
+  not_text : (path : List ℕ) → IsGivenPath command.texts (kind_of h) path → ¬ IsUtf8 path
+      → fault ≡ faults.Host hosts.CannotOpen → StopsFillingAgain command world x h Failed fault
+  no_space : fault ≡ faults.Host hosts.Memory → StopsFillingAgain command world x h Failed fault
+  bad_board : IsBadBoardAgain command world x h fault → StopsFillingAgain command world x h Failed fault

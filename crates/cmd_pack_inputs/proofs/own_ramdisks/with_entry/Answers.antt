@@ -1,0 +1,52 @@
+use Rattle.std.proofs.Common.{◌∙◌, ◌≡◌, ap, arith, ◌+◌, take, drop, ◌++◌, ◌∷◌, []}
+use Rattle.cmd_pack_inputs.specs.Opening.{no_memory}
+use Rattle.cmd_pack_inputs.specs.Own.{no_path}
+use Rattle.cmd_common_boot.specs.Sources.{content_of, faults_of}
+use Rattle.cmd_pack_inputs.proofs.Openings.{only_failing, stops_once}
+use Rattle.cmd_common_boot.proofs.Calls.{same_failing}
+use Rattle.cmd_pack_inputs.proofs.Owns.{push_bytes, push_unread}
+use Rattle.cmd_pack_inputs.proofs.own_ramdisks.with_entry.Goals as goal
+
+pub returns-in-Err-clause-opens : goal.returns-in-Err-clause-opens
+returns-in-Err-clause-opens g c =
+    let fails = c.in-Err.ensures.opens.fails in
+    record {
+      unread = λ t. tt;
+      held = λ t. tt;
+      refused = λ t. stops_once no_path _ _ _ (fails.held t);
+      keeps = only_failing fails;
+    }
+
+pub returns-in-Err-with-clause-opens : goal.returns-in-Err-with-clause-opens
+returns-in-Err-with-clause-opens g c =
+    let fails = c.in-Ok.ensures.opens.fails in
+    record {
+      unread = λ t. tt;
+      held = λ t. tt;
+      refused = λ t. no_memory c.in-Err-with.ensures.refused;
+      keeps = only_failing fails;
+    }
+
+pub returns-in-Ok-with-clause-specs : goal.returns-in-Ok-with-clause-specs
+returns-in-Ok-with-clause-specs g c =
+    c.in-Ok-with.ensures.specs ∙ ap (λ s. c.args.ramdisks.specs.items ++ (s ∷ [])) c.spec_of.ensures
+
+pub returns-in-Ok-with-clause-bytes : goal.returns-in-Ok-with-clause-bytes
+returns-in-Ok-with-clause-bytes g c = λ t.
+    let at = g.D.At.Source in
+    let here : c.saturating_add-at.result ≡ c.args.front + c.args.entry.now.ramdisk_offset = search (arith) in
+    push_bytes (content_of at.content) (faults_of at.read_faults) _ _ _ _ c.in-Ok-with.ensures.sources
+    (c.in-Ok.ensures.opens.part t
+    ∙ ap (λ k. take c.args.entry.now.ramdisk_size (drop k (at.content c.args.own.now.source))) here)
+
+pub returns-in-Ok-with-clause-opens : goal.returns-in-Ok-with-clause-opens
+returns-in-Ok-with-clause-opens g c =
+    let at = g.D.At.Source in
+    let opens = c.in-Ok.ensures.opens in
+    record {
+      unread = λ t. push_unread (content_of at.content) (faults_of at.read_faults) _ _ _ c.in-Ok-with.ensures.sources
+          (opens.unread t);
+      held = λ t. opens.fails.held t ∙ same_failing _;
+      refused = λ t. tt;
+      keeps = only_failing opens.fails;
+    }

@@ -1,0 +1,171 @@
+//! What an image that is packed again keeps beside its sections, and what is left out of it.
+
+ghost use Rattle.std.specs.Prelude.{◌≡◌, ◌<◌, [], IsTrue, IfErr, IfOk, OnOk, false, if◌then◌else◌};
+ghost use Rattle.std.specs.List.{All};
+ghost use Rattle.abt_io.specs.Lent.{OnlyReads};
+ghost use Rattle.abt_sections.specs.Header.{fragment_count, view_of};
+ghost use Rattle.abt_sections.specs.Open.{IsOpened};
+ghost use Rattle.cmd_common_fields.specs.Fields.{text_of};
+ghost use Rattle.cmd_common_fields.specs.Kind.{kind_of};
+ghost use Rattle.cmd_common_findings.specs.LeftOut.{cmdline_of};
+ghost use Rattle.cmd_common_boot.specs.Carried.{IsTaken};
+ghost use Rattle.cmd_pack_inputs.specs.Own.{entries_to};
+ghost use Rattle.cmd_pack_inputs.specs.Judging.{IsUnread, ReadsOpened, StopsJudging};
+
+use crate::anew::anew_of;
+use crate::fields::own_cmdline;
+use abt_headers::{RamdiskEntry, Section};
+use abt_io::{Meter, Source, Window};
+use sys_refusals::HostFault;
+use abt_sections::{Image, fragment, fragments};
+use cmd_common_fields::ImageKind;
+use cmd_common_findings::{LeftOut, count_left_out, in_no_fragment, place_of};
+use cmd_common_boot::{BootCommandFault, PackCommand, PackTexts};
+use std::alloc::{AllocError, Global};
+
+/// What an image that is packed again has, beside its sections.
+#[derive(Drop)]
+pub struct Kept {
+    /// The entries of its table, where its fragments are kept.
+    pub entries: Vec<RamdiskEntry>,
+    pub cmdline: Vec<u8>,
+    pub left: LeftOut,
+}
+
+/// Judges the words by the image's kind, and counts what is left out of it.
+pub fn judged<'a, S: Source>(
+    image: &Image,
+    source: &mut S,
+    kind: ImageKind,
+    command: &PackCommand<'a>,
+    w: &mut Window,
+    m: &mut Meter,
+) -> Result<Kept, BootCommandFault<'a>>
+    requires { kind ≡ kind_of (view_of image.now.header) }
+    ensures reads { OnlyReads result S.Source source.old source.new }
+    ensures taken { OnOk result (All (IsTaken kind) command.now.texts.fragments.items) }
+    ensures cmdline { IfOk result (λ kept. kept.cmdline.items ≡ text_of (cmdline_of (view_of image.now.header))) }
+    ensures entries { IsTrue S.tells → IfOk result (λ kept. command.now.texts.fragments.items ≡ [] →
+        kept.entries.items ≡ entries_to (S.content source.old) (view_of image.now.header)
+        (fragment_count (view_of image.now.header))) }
+    ensures refused { IsTrue S.tells → IsOpened (S.content source.old) image.now → IfErr result
+        (StopsJudging command.now kind (S.read_faults source.old < S.read_faults source.new)) }
+{
+    let alloc = command.alloc;
+    match command.texts.check(kind) {
+        Ok(()) => {}
+        Err(fault) => return Err(fault),
+    }
+    let keeps = keeps_fragments(kind, &command.texts);
+    let entries = match entries_kept(alloc, image, source, keeps, w, m) {
+        Ok(entries) => entries,
+        Err(fault) => return Err(fault),
+    };
+    let left = match left_out(image, source, command, keeps, entries.as_slice(), w, m) {
+        Ok(left) => left,
+        Err(fault) => return Err(fault),
+    };
+    match own_cmdline(alloc, &image.header) {
+        Ok(cmdline) => Ok(Kept {
+            entries,
+            cmdline,
+            left,
+        }),
+        Err(_) => Err(BootCommandFault::Host(HostFault::Memory)),
+    }
+}
+
+// Whether an image of this kind has fragments, and keeps its own.
+fn keeps_fragments(kind: ImageKind, texts: &PackTexts<'_>) -> bool
+    ensures { texts.now.fragments.items ≡ [] → result ≡ false → kind ≡ ImageKind.Vendor 4 → ⊥ }
+{
+    kind == ImageKind::Vendor(4) && texts.fragments.as_slice().is_empty()
+}
+
+// The entries of its table, where its fragments are kept.
+fn entries_kept<S: Source>(
+    alloc: Global,
+    image: &Image,
+    source: &mut S,
+    keeps: bool,
+    w: &mut Window,
+    m: &mut Meter,
+) -> Result<Vec<RamdiskEntry>, BootCommandFault<'static>>
+    ensures entries { IsTrue S.tells → IfOk result (λ entries. entries.items ≡ entries_to (S.content source.old)
+        (view_of image.now.header) (if keeps then fragment_count (view_of image.now.header) else 0)) }
+    ensures reads { ReadsOpened result S.Source source.old source.new image.now }
+{
+    if keeps {
+        entries_of(alloc, image, source, w, m)
+    } else {
+        Ok(Vec::new(alloc))
+    }
+}
+
+// The entries of an image's table.
+fn entries_of<S: Source>(
+    alloc: Global,
+    image: &Image,
+    source: &mut S,
+    w: &mut Window,
+    m: &mut Meter,
+) -> Result<Vec<RamdiskEntry>, BootCommandFault<'static>>
+    ensures entries { IsTrue S.tells → IfOk result (λ entries. entries.items ≡ entries_to (S.content source.old)
+        (view_of image.now.header) (fragment_count (view_of image.now.header))) }
+    ensures reads { ReadsOpened result S.Source source.old source.new image.now }
+{
+    let mut entries = Vec::new(alloc);
+    for i in 0..fragments(image) {
+        m.tick();
+        let entry = match fragment(image, i, source, w, m) {
+            Ok(entry) => entry,
+            Err(fault) => return Err(BootCommandFault::Section(fault)),
+        };
+        match entries.push(entry) {
+            Ok(()) => {}
+            Err(_) => return Err(BootCommandFault::Host(HostFault::Memory)),
+        }
+    }
+    Ok(entries)
+}
+
+// How many bytes of the image packing again leaves out, of which these are the entries where its fragments are kept.
+fn left_out<S: Source>(
+    image: &Image,
+    source: &mut S,
+    command: &PackCommand<'_>,
+    keeps: bool,
+    entries: &[RamdiskEntry],
+    w: &mut Window,
+    m: &mut Meter,
+) -> Result<LeftOut, BootCommandFault<'static>>
+    ensures reads { OnlyReads result S.Source source.old source.new }
+    ensures refused { IsTrue S.tells → IfErr result
+        (IsUnread (S.read_faults source.old < S.read_faults source.new)) }
+{
+    let gaps = match gaps_kept(command.alloc, image, keeps, entries) {
+        Ok(gaps) => gaps,
+        Err(_) => return Err(BootCommandFault::Host(HostFault::Memory)),
+    };
+    let anew = anew_of(&command.texts, command.keeps_trailing);
+    match count_left_out(image, anew, gaps, source, w, m) {
+        Ok(left) => Ok(left),
+        Err(fault) => Err(BootCommandFault::Section(fault)),
+    }
+}
+
+// How many bytes of the vendor ramdisk lie in no fragment, where its fragments are kept.
+fn gaps_kept(
+    alloc: Global,
+    image: &Image,
+    keeps: bool,
+    entries: &[RamdiskEntry],
+) -> Result<u64, AllocError> {
+    if !keeps {
+        return Ok(0);
+    }
+    match place_of(image, Section::VendorRamdisk) {
+        Some(place) => in_no_fragment(alloc, entries, place.size),
+        None => Ok(0),
+    }
+}

@@ -1,0 +1,122 @@
+//! An image that is open, and what is read beside it.
+
+ghost use Rattle.std.specs.Prelude.{◌≡◌, ◌+◌, ◌<◌, ◌≤◌, IsTrue, IfOk, IfErr, length, take, drop, []};
+ghost use Rattle.sys_disk.specs.World.{HasFailed};
+ghost use Rattle.sys_refusals.specs.Paths.{path_of};
+ghost use Rattle.abt_sections.specs.Header.{view_of};
+ghost use Rattle.abt_sections.specs.Open.{IsOpened};
+ghost use Rattle.cmd_common_boot.specs.ImageFaults.{RefusesImage};
+ghost use Rattle.cmd_pack_inputs.specs.Opening.{OpensAgain, OpensOne};
+ghost use Rattle.cmd_pack_inputs.specs.Own.{IsOpenOwn, IsOwnPart, kept_behind};
+
+use sys_disk::{Disk, Lasting};
+use abt_headers::Section;
+use abt_io::{Meter, Source, Window};
+use sys_refusals::{HostRefusal, Place, Refusal, Sides};
+use abt_sections::{Image, open};
+use cmd_common_findings::{end_of, place_of};
+use cmd_common_boot::{BootCommandFault, PartSource};
+
+/// An image that is packed again.
+#[derive(Drop)]
+pub struct Own<'a, S: Source + Lasting + Drop> {
+    pub image: Image,
+    pub source: S,
+    pub place: Place<'a>,
+}
+
+/// Opens an image.
+pub fn open_own<'t, 'a, D: Disk>(
+    disk: &mut D,
+    place: Place<'t>,
+    w: &mut Window,
+    m: &mut Meter,
+) -> Result<Own<'t, D::At>, Refusal<'t, BootCommandFault<'a>>>
+    requires first { IsTrue D.tells → (D.held disk.old).begun ≡ [] }
+    ensures opens { OpensOne D.tells result (path_of place.entry) (λ own. D.At.content own.source)
+        (λ own. D.At.read_faults own.source) (D.held disk.old) (D.held disk.new) (D.world disk.old)
+        (D.world disk.new) }
+    ensures image { IsTrue D.At.tells → IfOk result (λ own. IsOpened (D.At.content own.source) own.image) }
+    ensures refused { IsTrue D.tells → IfErr result (λ refusal. RefusesImage (path_of place.entry)
+        (D.world disk.old) (HasFailed (D.held disk.old) (D.held disk.new)) ⊥ refusal.fault) }
+{
+    let mut source = match disk.source(place) {
+        Ok(source) => source,
+        Err(refusal) => return Err(refusal.into()),
+    };
+    match open(&mut source, w, m) {
+        Ok(image) => Ok(Own {
+            image,
+            source,
+            place,
+        }),
+        Err(fault) => {
+            disk.let_go_source(source);
+            let sides = Sides::none().reading(place, None);
+            Err(sides.refuse(BootCommandFault::Section(fault)))
+        }
+    }
+}
+
+/// So many bytes from a place on, to be read beside the image.
+pub(crate) fn range_of<'t, D: Disk>(
+    disk: &mut D,
+    own: &Own<'t, D::At>,
+    at: u64,
+    size: u64,
+) -> Result<PartSource<'t, D::At>, HostRefusal<'t>>
+    requires lies { IsTrue D.At.tells → 0 < size → at + size ≤ length (D.At.content own.now.source) }
+    ensures opens { OpensAgain D.tells result (λ x. x ≡ take size (drop at (D.At.content own.now.source)))
+        ⟦<PartSource<'t, D::At> as Source>⟧.content
+        ⟦<PartSource<'t, D::At> as Source>⟧.read_faults (D.held disk.old) (D.held disk.new)
+        (D.world disk.old) (D.world disk.new) }
+{
+    if size == 0 {
+        return Ok(PartSource::empty());
+    }
+    match disk.again(&own.source, own.place) {
+        Ok(file) => Ok(PartSource::range(file, own.place, at, size)),
+        Err(refusal) => Err(refusal),
+    }
+}
+
+/// The part that stands in this section, where there is such an image and it has one.
+pub(crate) fn own_part<'t, D: Disk>(
+    disk: &mut D,
+    own: Option<&Own<'t, D::At>>,
+    section: Section,
+) -> Result<PartSource<'t, D::At>, HostRefusal<'t>>
+    requires { IsTrue D.At.tells → IsOpenOwn D.At.content own }
+    ensures opens { OpensAgain D.tells result (IsOwnPart D.At.content own.entry section)
+        ⟦<PartSource<'t, D::At> as Source>⟧.content
+        ⟦<PartSource<'t, D::At> as Source>⟧.read_faults (D.held disk.old) (D.held disk.new)
+        (D.world disk.old) (D.world disk.new) }
+{
+    let Some(own) = own else {
+        return Ok(PartSource::empty());
+    };
+    match place_of(&own.image, section) {
+        Some(place) => range_of(disk, own, place.at, place.size as u64),
+        None => Ok(PartSource::empty()),
+    }
+}
+
+/// What stands behind the image, where that is kept.
+pub fn trailing_of<'t, D: Disk>(
+    disk: &mut D,
+    own: &Own<'t, D::At>,
+    is_kept: bool,
+) -> Result<PartSource<'t, D::At>, HostRefusal<'t>>
+    requires { IsTrue D.At.tells → IsOpened (D.At.content own.now.source) own.now.image }
+    ensures opens { OpensAgain D.tells result (λ x. x ≡ kept_behind is_kept (D.At.content own.now.source)
+        (view_of own.now.image.header))
+        ⟦<PartSource<'t, D::At> as Source>⟧.content
+        ⟦<PartSource<'t, D::At> as Source>⟧.read_faults (D.held disk.old) (D.held disk.new)
+        (D.world disk.old) (D.world disk.new) }
+{
+    if !is_kept {
+        return Ok(PartSource::empty());
+    }
+    let end = end_of(&own.image);
+    range_of(disk, own, end, own.image.length.saturating_sub(end))
+}

@@ -1,0 +1,84 @@
+//! What is to be done with a sparse image, and the command that does it.
+
+ghost use Rattle.std.specs.Prelude.{◌≡◌, None, IsTrue, IfErr, OnOk};
+ghost use Rattle.sys_disk.specs.World.{IsReading};
+ghost use Rattle.cmd_sparse_dispatch.specs.Commands.{DoesTask, LeavesNoPartOfSparse, LeavesSpared, RefusesTask};
+ghost use Rattle.cmd_sparse_dispatch.specs.Commands.{SparesFiles, state};
+
+use crate::commands::{
+    cut_image, expand_files, flash_pieces, flash_straight, list_image, sparsify, verify_image,
+};
+use sys_disk::Disk;
+use abt_io::{Meter, Window};
+use sys_report::Report;
+use words_orders::SparseTask;
+use cmd_common_sparse::{PieceNaming, SparseRefusal};
+use std::alloc::Global;
+
+/// Does what the words ask for.
+pub fn sparse_command<'a, D: Disk>(
+    disk: &mut D,
+    report: &mut Report,
+    task: SparseTask<'a>,
+    alloc: Global,
+    w: &mut Window,
+    m: &mut Meter,
+) -> Result<(), SparseRefusal<'a>>
+    requires first { IsTrue D.tells → IsReading (D.held disk.old) }
+    requires one { IsTrue D.tells → (D.held disk.old).part ≡ None }
+    requires through { IsTrue D.tells → (D.held disk.old).spool ≡ None }
+    // the task is done, by its own command, at the files that its words name
+    ensures done { IsTrue D.tells → OnOk result (DoesTask D.on_output task.entry (state (D.world disk.old) (D.held disk.old)
+        report.old) (state (D.world disk.new) (D.held disk.new) report.new)) }
+    // whatever the outcome, what it reads holds what it held, and none has changed but what it is to write; it is done
+    // only where nothing failed
+    ensures leaves { IsTrue D.tells → LeavesSpared result (SparesFiles task.entry)
+        (state (D.world disk.old) (D.held disk.old) report.old)
+        (state (D.world disk.new) (D.held disk.new) report.new) }
+    ensures whole { IsTrue D.tells → LeavesNoPartOfSparse D.is_over task.entry
+        (state (D.world disk.old) (D.held disk.old) report.old)
+        (state (D.world disk.new) (D.held disk.new) report.new) }
+    // it is refused for what its command is refused for
+    ensures refused { IsTrue D.tells → IfErr result (λ refusal. RefusesTask refusal.fault task.entry
+        (state (D.world disk.old) (D.held disk.old) report.old)
+        (state (D.world disk.new) (D.held disk.new) report.new)) }
+{
+    match task {
+        SparseTask::Expand { inputs, output } => {
+            expand_files(disk, report, inputs.as_slice(), output, alloc, w, m)
+        }
+        SparseTask::List { input } => list_image(disk, report, input, w, m),
+        SparseTask::Sparse {
+            input,
+            output,
+            block,
+        } => sparsify(disk, report, input, output, block, w, m),
+        SparseTask::Cut {
+            input,
+            limit,
+            prefix,
+            is_from_zero,
+            raw,
+        } => {
+            let names = PieceNaming {
+                prefix,
+                is_from_zero,
+            };
+            cut_image(disk, report, input, limit, names, raw, w, m)
+        }
+        SparseTask::Flash {
+            input,
+            partition,
+            raw,
+            pieces,
+        } => match pieces {
+            Some(pieces) => flash_pieces(disk, report, input, partition, raw, pieces, w, m),
+            None => flash_straight(disk, report, input, partition, raw, w, m),
+        },
+        SparseTask::Verify {
+            input,
+            partition,
+            raw,
+        } => verify_image(disk, report, input, partition, raw, w, m),
+    }
+}

@@ -1,0 +1,139 @@
+-- What a whole run leaves, behind the image that it opened.
+use Rattle.std.proofs.Common.{◌≡◌, ℕ, ◌+◌, Bool, IsTrue, List, [], length, refl, sym, ◌∙◌, ap, subst, arith}
+use Rattle.std.specs.Prelude.{unwrap_or}
+use Rattle.sys_disk.specs.World.{World, Held, OpensFile, KeepsFile, failing}
+use Rattle.abt_sections.specs.Header.{Header, view_of, places_of, fragment_count, fragment_of}
+use Rattle.abt_sections.specs.declared.image.Image.{Image}
+use Rattle.abt_sections.specs.Layout.{part_of}
+use Rattle.abt_sections.specs.Open.{HasImage, IsOpened}
+use Rattle.cmd_common_boot.specs.declared.part_names.Part.TheVariants as parts
+use Rattle.cmd_common_texts.specs.Words.{image_words, words_text}
+use Rattle.sys_disk.specs.Among.{GoesAmong, OnlyAmong, FileHolds}
+use Rattle.cmd_unpack.specs.Unpacking.{FragmentsDone, SectionsDone, WordsDone, path_of_part, section_part}
+use Rattle.cmd_unpack.specs.Unpacking.{IsPartOf, IsPartPath, PartsBegun, PartsStand, SyncsMore, SyncsParts, Unpacks}
+use Rattle.cmd_unpack.specs.Unpacking.{part_total}
+use Rattle.cmd_unpack.specs.Unpacking.{LeavesParts, PartsLeft, first_parts}
+use Rattle.cmd_unpack.specs.Lines.{told_parts}
+use Rattle.sys_disk.proofs.Amongs.{among_behind, goes_more, goes_none, goes_then, kept_beside, stands}
+use Rattle.cmd_unpack.proofs.Loops.{left_later}
+
+pub unpacks : (path folder x : List ℕ) (with_words : Bool) (header : Header) (h h' h'' : Held) (a c : World)
+    (shows : List (List ℕ) → Type 0) → OpensFile a path x h h' → HasImage x header
+    → SectionsDone folder header x (length (places_of header)) h'' c
+    → FragmentsDone folder header x (fragment_count header) h'' c
+    → (IsTrue with_words → WordsDone folder header x h'' c)
+    → ((n : ℕ) × shows (told_parts x header with_words n)) → Unpacks path folder with_words a c shows
+unpacks path folder x with_words header h h' h'' a c shows opens image sections fragments words shown = record {
+  from = opens.file;
+  there = opens.there;
+  header = header;
+  image = subst (λ z. HasImage z header) opens.held image;
+  sections = λ i p below found. subst (λ z. FileHolds c (path_of_part folder (section_part p)) (part_of z p)) opens.held
+      (stands h'' c _ _ (sections i below p found));
+  fragments = λ i below.
+      subst (λ z. FileHolds c (path_of_part folder (parts.Fragment i)) (fragment_of z header i)) opens.held
+      (stands h'' c _ _ (fragments i below));
+  words = λ wanted.
+      subst (λ z. FileHolds c (path_of_part folder parts.Words) (words_text (image_words folder z header))) opens.held
+      (stands h'' c _ _ (words wanted));
+  shown = (shown.0, subst (λ z. shows (told_parts z header with_words shown.0)) opens.held shown.1);
+}
+
+pub syncs_parts : (path x : List ℕ) (with_words : Bool) (header : Header) (h h' h'' : Held) (a : World)
+    → OpensFile a path x h h' → HasImage x header → SyncsMore (part_total with_words header) h h''
+    → SyncsParts path with_words a h h''
+syncs_parts path x with_words header h h' h'' a opens image syncs = record {
+  from = opens.file;
+  there = opens.there;
+  header = header;
+  image = subst (λ z. HasImage z header) opens.held image;
+  syncs = syncs;
+}
+
+pub parts_stand : (path folder x : List ℕ) (with_words : Bool) (header : Header) (h h' h'' : Held) (a c : World)
+    → OpensFile a path x h h' → HasImage x header → PartsBegun folder with_words header x h'' c
+    → PartsStand path folder with_words a h'' c
+parts_stand path folder x with_words header h h' h'' a c opens image begun = record {
+  from = opens.file;
+  there = opens.there;
+  header = header;
+  image = subst (λ z. HasImage z header) opens.held image;
+  begun = subst (λ z. PartsBegun folder with_words header z h'' c) opens.held begun;
+}
+
+goes_part : (path folder x : List ℕ) (with_words : Bool) (header : Header) (h h' h'' : Held) (a b c : World)
+    → OpensFile a path x h h' → HasImage x header → GoesAmong (IsPartPath folder with_words header) h' h'' b c
+    → GoesAmong (IsPartOf path folder with_words a) h' h'' b c
+goes_part path folder x with_words header h h' h'' a b c opens image goes =
+    goes_more _ _ h' h'' b c (λ p named. record {
+      from = opens.file;
+      there = opens.there;
+      header = header;
+      image = subst (λ z. HasImage z header) opens.held image;
+      is_part = named;
+    }) goes
+
+pub only_parts : (path folder x : List ℕ) (with_words : Bool) (header : Header) (h h' h'' : Held) (a b c : World)
+    → h.begun ≡ [] → OpensFile a path x h h' → b ≡ a → HasImage x header
+    → GoesAmong (IsPartPath folder with_words header) h' h'' b c
+    → OnlyAmong (IsPartOf path folder with_words a) h.read h''.begun a c
+only_parts path folder x with_words header h h' h'' a b c none opens same image goes =
+    among_behind _ path x h h' h'' a b c none opens same
+    (goes_part path folder x with_words header h h' h'' a b c opens image goes)
+
+pub only_opened : (P : List ℕ → Type 0) (path x : List ℕ) (h h' h'' : Held) (a b : World) (n : ℕ) → h.begun ≡ []
+    → OpensFile a path x h h' → b ≡ a → h'' ≡ failing n h' → OnlyAmong P h.read h''.begun a b
+only_opened P path x h h' h'' a b n none opens same let_go =
+    among_behind P path x h h' h'' a b b none opens same (goes_none P h' h'' b b n let_go refl)
+
+pub keeps_opened : (P : List ℕ → Type 0) (path bytes : List ℕ) (h h' h'' : Held) (a b c : World)
+    → OpensFile a path bytes h h' → b ≡ a → GoesAmong P h' h'' b c → KeepsFile path a c
+keeps_opened P path bytes h h' h'' a b c opens same goes = λ f there.
+    let same_file : opens.file ≡ f = ap (λ o. unwrap_or o 0) (sym opens.there ∙ there) in
+    subst (λ g. c.holds g ≡ a.holds g) same_file (kept_beside P path bytes h h' h'' a b c opens same goes)
+
+pub keeps_same : (path : List ℕ) (a b : World) → b ≡ a → KeepsFile path a b
+keeps_same path a b same = λ f there. ap (λ w. w.holds f) same
+
+pub has_as : (x y : List ℕ) (image : Image) → y ≡ x → IsOpened x image → HasImage y (view_of image.header)
+has_as x y image same opened = subst (λ z. HasImage z (view_of image.header)) (sym same) opened.has
+
+-- two counts of what failed are one
+pub twice : (h h' h'' : Held) (m n : ℕ) → h' ≡ failing m h → h'' ≡ failing n h' → h'' ≡ failing (m + n) h
+twice h h' h'' m n first next =
+    let sum : h.failed + m + n ≡ h.failed + (m + n) = omega arith in
+    next ∙ ap (λ k. failing n k) first ∙ ap (λ f. record h { failed = f }) sum
+
+-- whatever was done behind a file that was opened, before it was let go
+within : (P : List ℕ → Type 0) (h' g h'' k : Held) (b c d : World) (m n : ℕ) → g ≡ failing m h' → GoesAmong P g h'' b c
+    → k ≡ failing n h'' → d ≡ c → GoesAmong P h' k b d
+within P h' g h'' k b c d m n taken goes let_go same =
+    goes_then P h' h'' k b c d (goes_then P h' g h'' b b c (goes_none P h' g b b m taken refl) goes)
+    (goes_none P h'' k c d n let_go same)
+
+pub only_let_go : (path folder x : List ℕ) (with_words : Bool) (header : Header) (h h' g h'' k : Held) (a b c d : World)
+    (m n : ℕ) → h.begun ≡ [] → OpensFile a path x h h' → b ≡ a → HasImage x header → g ≡ failing m h'
+    → GoesAmong (IsPartPath folder with_words header) g h'' b c → k ≡ failing n h'' → d ≡ c
+    → OnlyAmong (IsPartOf path folder with_words a) h.read k.begun a d
+only_let_go path folder x with_words header h h' g h'' k a b c d m n none opens same image taken goes let_go still =
+    only_parts path folder x with_words header h h' k a b d none opens same image
+    (within _ h' g h'' k b c d m n taken goes let_go still)
+
+pub keeps_let_go : (P : List ℕ → Type 0) (path x : List ℕ) (h h' g h'' k : Held) (a b c d : World) (m n : ℕ)
+    → OpensFile a path x h h' → b ≡ a → g ≡ failing m h' → GoesAmong P g h'' b c → k ≡ failing n h'' → d ≡ c
+    → KeepsFile path a d
+keeps_let_go P path x h h' g h'' k a b c d m n opens same taken goes let_go still =
+    keeps_opened P path x h h' k a b d opens same (within P h' g h'' k b c d m n taken goes let_go still)
+
+pub leaves_parts : (path folder x : List ℕ) (header : Header) (h h' g h'' k : Held) (a b c d : World) (m n : ℕ)
+    → h.begun ≡ [] → OpensFile a path x h h' → b ≡ a → HasImage x header → g ≡ failing m h'
+    → PartsLeft folder header x h'' c (λ named. GoesAmong named g h'' b c) → k ≡ failing n h'' → d ≡ c
+    → LeavesParts path folder h k a d
+leaves_parts path folder x header h h' g h'' k a b c d m n none opens same image taken left let_go still =
+    first_parts opens.file opens.there header (subst (λ z. HasImage z header) opens.held image)
+    (subst (λ z. PartsLeft folder header z k d (λ named. OnlyAmong named h.read k.begun a d)) opens.held
+    (left_later folder header x h'' k n c d (λ named. GoesAmong named g h'' b c)
+    (λ named. OnlyAmong named h.read k.begun a d)
+    (λ P goes. among_behind P path x h h' k a b d none opens same
+    (within P h' g h'' k b c d m n taken goes let_go still))
+    let_go still left))

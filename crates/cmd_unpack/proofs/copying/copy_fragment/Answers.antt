@@ -1,0 +1,40 @@
+use Rattle.std.proofs.Common.{◌∙◌, rules, sym, subst}
+use Rattle.abt_sections.specs.Open.{IsOpened}
+use Rattle.cmd_common_boot.proofs.Causes.{moved_behind, read_first, sum_behind}
+use Rattle.cmd_unpack.proofs.copying.copy_fragment.Goals as goal
+
+pub returns-in-Err-clause-copies : goal.returns-in-Err-clause-copies
+returns-in-Err-clause-copies g c =
+    let e = c.in-Err.ensures.reads in
+    record {
+      written = search rules;
+      content = λ tells. tt;
+      clean = tt;
+      refused = λ tells opened. read_first c.in-Err.fault _ _ _ (g.S.Source.content c.args.source.now) _ e.cause
+          (λ changed. changed tells opened) e.only.faults;
+    }
+
+pub returns-in-Ok-answer-clause-copies : goal.returns-in-Ok-answer-clause-copies
+returns-in-Ok-answer-clause-copies g c =
+    let k = c.in-Ok.ensures.reads.only in
+    let e = c.in-Ok-answer.ensures.moves in
+    record {
+      written = search rules;
+      content = λ tells. e.reads.content tells ∙ k.content tells;
+      clean = sum_behind _ _ _ _ _ k.clean (e.reads.clean, e.writes.clean);
+      refused = λ tells opened. tt;
+    }
+
+pub returns-in-Err-answer-clause-copies : goal.returns-in-Err-answer-clause-copies
+returns-in-Err-answer-clause-copies g c =
+    let k = c.in-Ok.ensures.reads.only in
+    let e = c.in-Err-answer.ensures.moves in
+    record {
+      written = search rules;
+      content = λ tells. tt;
+      clean = tt;
+      refused = λ tells opened.
+          let now = subst (λ x. IsOpened x c.args.image.now) (sym (k.content tells)) opened in
+          moved_behind c.in-Err-answer.fault _ _ _ _ _ (g.S.Source.content c.args.source.now) _ k.clean e.cause
+          (λ changed. changed tells now) e.reads.faults e.writes.faults;
+    }

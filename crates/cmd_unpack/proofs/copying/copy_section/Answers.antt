@@ -1,0 +1,24 @@
+use Rattle.std.proofs.Common.{rules}
+use Rattle.cmd_common_boot.proofs.Causes.{moved, sum_stays}
+use Rattle.cmd_unpack.proofs.copying.copy_section.Goals as goal
+
+pub returns-in-Ok-clause-copies : goal.returns-in-Ok-clause-copies
+returns-in-Ok-clause-copies g c = λ p found.
+    let e = c.in-Ok.ensures.moves in
+    record {
+      written = search rules;
+      content = e.reads.content;
+      clean = sum_stays _ _ _ _ (e.reads.clean, e.writes.clean);
+      refused = λ tells opened. tt;
+    }
+
+pub returns-in-Err-clause-copies : goal.returns-in-Err-clause-copies
+returns-in-Err-clause-copies g c = λ p found.
+    let e = c.in-Err.ensures.moves in
+    record {
+      written = search rules;
+      content = λ tells. tt;
+      clean = tt;
+      refused = λ tells opened. moved c.in-Err.fault _ _ _ _ (g.S.Source.content c.args.source.now) _ e.cause
+          (λ changed. changed tells opened) e.reads.faults e.writes.faults;
+    }

@@ -1,0 +1,60 @@
+use Rattle.std.proofs.Common.{◌≤◌, ◌+◌, refl, sym, subst, arith, rules}
+use Rattle.abt_sections.specs.Open.{IsOpened}
+use Rattle.sys_disk.proofs.Amongs.{goes_more, goes_then}
+use Rattle.cmd_common_boot.proofs.Causes.{refused_more}
+use Rattle.cmd_unpack.proofs.Counts.{some_then}
+use Rattle.cmd_unpack.proofs.Loops.{fragment_any, fragment_under, fragments_later, fragments_more, no_fragments}
+use Rattle.cmd_unpack.proofs.Shown.{cannot_behind, fragment_shown, rises_then, silent}
+use Rattle.cmd_unpack.proofs.Steps.{parts_more, parts_none, parts_then, stop_more, stop_then}
+use Rattle.cmd_unpack.proofs.parts.write_fragments.Goals as goal
+
+pub loop-i-init : goal.loop-i-init
+loop-i-init g c = λ t. (parts_none (c.requires.one t), no_fragments _ _ _ _ _, silent c.args.report.now, omega arith)
+
+pub loop-i-preserved : goal.loop-i-preserved
+loop-i-preserved g c = λ t.
+    let i = c.loop-i.invariant t in
+    let e = c.in-Ok.ensures.writes t in
+    let under : c.loop-i.i ≤ c.loop-i.i + 1 = omega arith in (
+      parts_then (parts_more refl (fragment_under under) i.0) (parts_more refl (λ p named. named) e),
+      fragments_more _ _ _ _ _ _ _ _ _ i.0.content e.keeps i.1 (c.in-Ok.ensures.done t),
+      fragment_shown _ _ _ _ c.args.report.now c.loop-i.report c.write_fragment.new.report i.0.content i.2
+          (c.in-Ok.ensures.shown t),
+      rises_then c.args.report.now c.loop-i.report c.write_fragment.new.report i.3 c.in-Ok.ensures.rises,
+    )
+
+pub returns-in-Err-clause-writes : goal.returns-in-Err-clause-writes
+returns-in-Err-clause-writes g c = λ t.
+    stop_then (parts_more refl fragment_any (c.loop-i.invariant t).0)
+    (stop_more fragment_any (c.in-Err.ensures.writes t))
+
+-- those before it stand
+pub returns-in-Err-clause-stands : goal.returns-in-Err-clause-stands
+returns-in-Err-clause-stands g c = λ t.
+    let i = c.loop-i.invariant t in
+    let e = c.in-Err.ensures.writes t in
+    let under : c.loop-i.i ≤ c.loop-i.i + 1 = omega arith in (
+      c.loop-i.i,
+      fragments_later _ _ _ _ _ _ _ _ e.keeps i.1,
+      goes_then _ _ _ _ _ _ _ (goes_more _ _ _ _ _ _ (fragment_under under) i.0.only) e.only,
+    )
+
+pub returns-in-Err-clause-refused : goal.returns-in-Err-clause-refused
+returns-in-Err-clause-refused g c = λ t opened.
+    let i = c.loop-i.invariant t in
+    refused_more _ _ _ _ _ _ c.in-Err.refusal.fault i.0.content
+    (c.in-Err.ensures.refused t (subst (λ x. IsOpened x c.args.image.now) (sym i.0.content) opened))
+    (λ failed. some_then _ _ _ _ _ _ i.0.clean failed)
+    (λ stands. (
+      c.loop-i.i,
+      search (rules, arith),
+      fragments_more _ _ _ _ _ _ _ _ _ i.0.content (c.in-Err.ensures.writes t).keeps i.1 stands.0,
+      cannot_behind c.args.report.now c.loop-i.report c.write_fragment.new.report i.3 stands.1,
+    ))
+
+pub returns-clause-done : goal.returns-clause-done
+returns-clause-done g c = λ t k below.
+    (c.loop-i.invariant t).1 k (omega (arith, below, c.fragments-i-end.ensures, c.loop-i-test.false))
+
+pub returns-clause-writes : goal.returns-clause-writes
+returns-clause-writes g c = λ t. parts_more (search (rules, arith)) fragment_any (c.loop-i.invariant t).0

@@ -1,0 +1,152 @@
+//! All parts of an image, one after another.
+
+ghost use Rattle.std.specs.Prelude.{◌≡◌, ◌<◌, ◌≤◌, ◌+◌, ℕ, None, IsTrue, IfErr, OnOk, OnErr, length, map};
+ghost use Rattle.abt_sections.specs.Header.{fragment_count, places_of, view_of};
+ghost use Rattle.abt_sections.specs.Open.{IsOpened};
+ghost use Rattle.sys_disk.specs.Among.{GoesAmong};
+ghost use Rattle.sys_report.specs.Shows.{CannotPrint, refusals};
+ghost use Rattle.cmd_common_boot.specs.ImageFaults.{IsRefusedOver, SomeFailed};
+ghost use Rattle.cmd_unpack.specs.Lines.{ShowsEach, told_fragments, told_parts, told_section};
+ghost use Rattle.cmd_unpack.specs.Unpacking.{FragmentsDone, IsFragmentPath, IsPartPath, IsSectionPath, PartsBegun};
+ghost use Rattle.cmd_unpack.specs.Unpacking.{PartsLeft, SectionsDone, WordsDone, part_total};
+ghost use Rattle.cmd_unpack.specs.Writing.{WritesParts};
+
+use crate::writing::{write_fragment, write_pack_words, write_section};
+use sys_disk::Disk;
+use abt_io::{Meter, Window};
+use sys_refusals::Place;
+use sys_report::Report;
+use abt_sections::{Image, fragments, sections};
+use cmd_common_boot::BootOutcome;
+
+/// Writes each section, each fragment, and maybe the words.
+pub(crate) fn write_parts<'t, 'a, D: Disk>(
+    disk: &mut D,
+    image: &Image,
+    source: &mut D::At,
+    input: Place<'t>,
+    folder: &'t str,
+    with_words: bool,
+    report: &mut Report,
+    w: &mut Window,
+    m: &mut Meter,
+) -> BootOutcome<'t, 'a>
+    requires one { IsTrue D.tells → (D.held disk.old).output ≡ None }
+    ensures writes { IsTrue D.tells → WritesParts result (part_total with_words (view_of image.now.header))
+        (IsPartPath folder.now with_words (view_of image.now.header)) D.At.Source source.old source.new
+        (D.held disk.old) (D.held disk.new) (D.world disk.old) (D.world disk.new) }
+    ensures sections { IsTrue D.tells → OnOk result (SectionsDone folder.now (view_of image.now.header)
+        (D.At.content source.old) (length (places_of (view_of image.now.header))) (D.held disk.new) (D.world
+        disk.new)) }
+    ensures fragments { IsTrue D.tells → OnOk result (FragmentsDone folder.now (view_of image.now.header)
+        (D.At.content source.old) (fragment_count (view_of image.now.header)) (D.held disk.new) (D.world
+        disk.new)) }
+    ensures words { IsTrue D.tells → IsTrue with_words → OnOk result (WordsDone folder.now (view_of image.now.header)
+        (D.At.content source.old) (D.held disk.new) (D.world disk.new)) }
+    ensures stands { IsTrue D.tells → OnErr result (PartsLeft folder.now (view_of image.now.header)
+        (D.At.content source.old) (D.held disk.new) (D.world disk.new) (λ named. GoesAmong named (D.held disk.old)
+        (D.held disk.new) (D.world disk.old) (D.world disk.new))) }
+    ensures shown { IsTrue D.tells → OnOk result ((bytes : ℕ) × ShowsEach (told_parts (D.At.content source.old)
+        (view_of image.now.header) with_words bytes) report.old report.new) }
+    ensures refused { IsTrue D.tells → IsOpened (D.At.content source.old) image.now → IfErr result (λ refusal.
+        IsRefusedOver (D.At.content source.old) (SomeFailed (D.held disk.old) (D.At.read_faults source.old)
+        (D.held disk.new) (D.At.read_faults source.new)) (PartsBegun folder.now with_words (view_of
+        image.now.header) (D.At.content source.old) (D.held disk.new) (D.world disk.new)
+        × CannotPrint report.old report.new) refusal.fault) }
+{
+    match write_sections(disk, image, source, input, folder, report, w, m) {
+        Ok(()) => {}
+        Err(refusal) => return Err(refusal),
+    }
+    match write_fragments(disk, image, source, input, folder, report, w, m) {
+        Ok(()) => {}
+        Err(refusal) => return Err(refusal),
+    }
+    if !with_words {
+        return Ok(());
+    }
+    match write_pack_words(disk, image, source, input, folder, report, w, m) {
+        Ok(()) => Ok(()),
+        Err(refusal) => Err(refusal),
+    }
+}
+
+fn write_sections<'t, 'a, D: Disk>(
+    disk: &mut D,
+    image: &Image,
+    source: &mut D::At,
+    input: Place<'t>,
+    folder: &'t str,
+    report: &mut Report,
+    w: &mut Window,
+    m: &mut Meter,
+) -> BootOutcome<'t, 'a>
+    requires one { IsTrue D.tells → (D.held disk.old).output ≡ None }
+    ensures writes { IsTrue D.tells → WritesParts result (length (places_of (view_of image.now.header)))
+        (IsSectionPath folder.now (view_of image.now.header) (length (places_of (view_of image.now.header))))
+        D.At.Source source.old source.new (D.held disk.old) (D.held disk.new) (D.world disk.old) (D.world disk.new) }
+    ensures done { IsTrue D.tells → OnOk result (SectionsDone folder.now (view_of image.now.header)
+        (D.At.content source.old) (length (places_of (view_of image.now.header))) (D.held disk.new) (D.world
+        disk.new)) }
+    ensures stands { IsTrue D.tells → OnErr result ((i : ℕ) × SectionsDone folder.now (view_of image.now.header)
+        (D.At.content source.old) i (D.held disk.new) (D.world disk.new) × GoesAmong (IsSectionPath folder.now
+        (view_of image.now.header) (i + 1)) (D.held disk.old) (D.held disk.new) (D.world disk.old)
+        (D.world disk.new)) }
+    ensures shown { OnOk result (ShowsEach (map told_section (places_of (view_of image.now.header))) report.old
+        report.new) }
+    ensures rises { OnOk result (refusals report.old ≤ refusals report.new) }
+    ensures refused { IsTrue D.tells → IsOpened (D.At.content source.old) image.now → IfErr result (λ refusal.
+        IsRefusedOver (D.At.content source.old) (SomeFailed (D.held disk.old) (D.At.read_faults source.old)
+        (D.held disk.new) (D.At.read_faults source.new)) ((i : ℕ) × (i < length (places_of (view_of
+        image.now.header)))
+        × SectionsDone folder.now (view_of image.now.header) (D.At.content source.old) (i + 1) (D.held disk.new)
+        (D.world disk.new) × CannotPrint report.old report.new) refusal.fault) }
+{
+    for i in 0..sections(image) {
+        match write_section(disk, image, i, source, input, folder, report, w, m) {
+            Ok(()) => {}
+            Err(refusal) => return Err(refusal),
+        }
+    }
+    Ok(())
+}
+
+fn write_fragments<'t, 'a, D: Disk>(
+    disk: &mut D,
+    image: &Image,
+    source: &mut D::At,
+    input: Place<'t>,
+    folder: &'t str,
+    report: &mut Report,
+    w: &mut Window,
+    m: &mut Meter,
+) -> BootOutcome<'t, 'a>
+    requires one { IsTrue D.tells → (D.held disk.old).output ≡ None }
+    ensures writes { IsTrue D.tells → WritesParts result (fragment_count (view_of image.now.header))
+        (IsFragmentPath folder.now (view_of image.now.header) (fragment_count (view_of image.now.header)))
+        D.At.Source source.old source.new (D.held disk.old) (D.held disk.new) (D.world disk.old) (D.world disk.new) }
+    ensures done { IsTrue D.tells → OnOk result (FragmentsDone folder.now (view_of image.now.header)
+        (D.At.content source.old) (fragment_count (view_of image.now.header)) (D.held disk.new) (D.world
+        disk.new)) }
+    ensures stands { IsTrue D.tells → OnErr result ((i : ℕ) × FragmentsDone folder.now (view_of image.now.header)
+        (D.At.content source.old) i (D.held disk.new) (D.world disk.new) × GoesAmong (IsFragmentPath folder.now
+        (view_of image.now.header) (i + 1)) (D.held disk.old) (D.held disk.new) (D.world disk.old)
+        (D.world disk.new)) }
+    ensures shown { IsTrue D.tells → OnOk result (ShowsEach (told_fragments (D.At.content source.old)
+        (view_of image.now.header) (fragment_count (view_of image.now.header))) report.old report.new) }
+    ensures rises { IsTrue D.tells → OnOk result (refusals report.old ≤ refusals report.new) }
+    ensures refused { IsTrue D.tells → IsOpened (D.At.content source.old) image.now → IfErr result (λ refusal.
+        IsRefusedOver (D.At.content source.old) (SomeFailed (D.held disk.old) (D.At.read_faults source.old)
+        (D.held disk.new) (D.At.read_faults source.new)) ((i : ℕ) × (i < fragment_count (view_of
+        image.now.header))
+        × FragmentsDone folder.now (view_of image.now.header) (D.At.content source.old) (i + 1)
+        (D.held disk.new) (D.world disk.new) × CannotPrint report.old report.new) refusal.fault) }
+{
+    for i in 0..fragments(image) {
+        match write_fragment(disk, image, i, source, input, folder, report, w, m) {
+            Ok(()) => {}
+            Err(refusal) => return Err(refusal),
+        }
+    }
+    Ok(())
+}

@@ -1,0 +1,122 @@
+//! The command `unpack`: the sections and ramdisk fragments of an image, each into a file of its own.
+
+ghost use Rattle.std.specs.Prelude.{◌≡◌, IsTrue, IfErr, OnOk, OnErr, is_ok};
+ghost use Rattle.sys_refusals.specs.Paths.{path_of};
+ghost use Rattle.sys_disk.specs.World.{HasFailed, IsReading, unless};
+ghost use Rattle.sys_disk.specs.Among.{OnlyAmong};
+ghost use Rattle.sys_disk.specs.DiskCalls.{FailsOnly, KeepsInput};
+ghost use Rattle.sys_report.specs.Shows.{CannotPrint};
+ghost use Rattle.cmd_common_boot.specs.ImageFaults.{RefusesImage};
+ghost use Rattle.cmd_unpack.specs.Lines.{ShowsEach};
+ghost use Rattle.cmd_unpack.specs.Unpacking.{IsPartOf, LeavesParts, PartsStand, SyncsParts, Unpacks};
+
+use crate::names::place_of;
+use crate::parts::write_parts;
+use sys_disk::Disk;
+use abt_io::{Meter, Window};
+use sys_refusals::{HostRefusal, Place, Refusal, Sides};
+use sys_report::Report;
+use abt_sections::{Image, SectionFault, open};
+use cmd_common_boot::{BootCommandFault, BootOutcome, part_count, part_of};
+
+/// Writes each section and then each ramdisk fragment of an image to a file of a folder, and the words that pack it
+/// again.
+///
+/// Each file is opened when its turn comes, and its line is printed when it is whole. Where the image is one of the
+/// files that are going to be written, none is.
+pub fn unpack_file<'t, 'a, D: Disk>(
+    disk: &mut D,
+    report: &mut Report,
+    input: Place<'t>,
+    folder: &'t str,
+    with_words: bool,
+    w: &mut Window,
+    m: &mut Meter,
+) -> BootOutcome<'t, 'a>
+    requires first { IsTrue D.tells → IsReading (D.held disk.old) }
+    // each part of the image that IN holds stands in the folder under its name; a line was printed of each
+    ensures done { IsTrue D.tells → OnOk result (Unpacks (path_of input.entry) folder.now with_words (D.world disk.old)
+        (D.world disk.new) (λ lines. ShowsEach lines report.old report.new)) }
+    // each was synced, where that is wanted
+    ensures synced { IsTrue D.tells → OnOk result (SyncsParts (path_of input.entry) with_words (D.world disk.old)
+        (D.held disk.old) (D.held disk.new)) }
+    // whatever the outcome, only such files were created or changed, and IN holds what it held; no call failed where all
+    // was done
+    ensures only { IsTrue D.tells → OnlyAmong (IsPartOf (path_of input.entry) folder.now with_words (D.world disk.old))
+        (D.held disk.old).read (D.held disk.new).begun (D.world disk.old) (D.world disk.new) }
+    ensures keeps { KeepsInput D.tells result (path_of input.entry) (D.held disk.old) (D.held disk.new)
+        (D.world disk.old) (D.world disk.new) }
+    // where it is refused, the parts before the one at fault stand, and no file but theirs and its own was changed
+    ensures stands { IsTrue D.tells → OnErr result (LeavesParts (path_of input.entry) folder.now (D.held disk.old)
+        (D.held disk.new) (D.world disk.old) (D.world disk.new)) }
+    // it is refused for a fault that IN has, or since a call failed; or a part is written, whose line could not be printed
+    ensures refused { IsTrue D.tells → IfErr result (λ refusal. RefusesImage (path_of input.entry) (D.world disk.old)
+        (HasFailed (D.held disk.old) (D.held disk.new)) (PartsStand (path_of input.entry) folder.now with_words
+        (D.world disk.old) (D.held disk.new) (D.world disk.new) × CannotPrint report.old report.new) refusal.fault) }
+{
+    let mut device = match disk.source(input) {
+        Ok(device) => device,
+        Err(refusal) => return Err(refusal.into()),
+    };
+    let image = match open(&mut device, w, m) {
+        Ok(image) => image,
+        Err(fault) => {
+            disk.let_go_source(device);
+            return Err(not_opened(input, fault));
+        }
+    };
+    match refuse_taken(disk, &image, folder, with_words) {
+        Ok(()) => {}
+        Err(refusal) => {
+            disk.let_go_source(device);
+            return Err(refusal.into());
+        }
+    }
+    match write_parts(
+        disk,
+        &image,
+        &mut device,
+        input,
+        folder,
+        with_words,
+        report,
+        w,
+        m,
+    ) {
+        Ok(()) => {
+            disk.let_go_source(device);
+            Ok(())
+        }
+        Err(refusal) => {
+            disk.let_go_source(device);
+            Err(refusal)
+        }
+    }
+}
+
+// The refusal of an image that is none.
+fn not_opened<'t, 'a>(input: Place<'t>, fault: SectionFault) -> Refusal<'t, BootCommandFault<'a>>
+    ensures { result.fault ≡ BootCommandFault.Section fault }
+{
+    let sides = Sides::none().reading(input, None);
+    sides.refuse(BootCommandFault::Section(fault))
+}
+
+// Refuses to write where the image is one of the files.
+fn refuse_taken<'t, D: Disk>(
+    disk: &mut D,
+    image: &Image,
+    folder: &'t str,
+    with_words: bool,
+) -> Result<(), HostRefusal<'t>>
+    ensures { FailsOnly D.tells (unless (is_ok result)) (D.held disk.old) (D.held disk.new) (D.world disk.old)
+        (D.world disk.new) }
+{
+    for i in 0..part_count(image, with_words) {
+        match disk.refuse_taken(place_of(part_of(image, i), folder)) {
+            Ok(()) => {}
+            Err(refusal) => return Err(refusal),
+        }
+    }
+    Ok(())
+}

@@ -1,0 +1,110 @@
+-- What unpack_bootimg leaves of files.
+use Rattle.std.specs.Prelude.{◌≡◌, ◌<◌, ◌⊎◌, ℕ, ◌+◌, ◌-◌, List, Option, Some, None, IfSome, if◌then◌else◌}
+use Rattle.std.specs.Prelude.{length, nat_lt}
+use Rattle.std.specs.Prelude.{get_or}
+use Rattle.abt_headers.specs.declared.sections.Place.{Place}
+use Rattle.abt_headers.specs.declared.sections.Section.TheVariants as sections
+use Rattle.abt_sections.specs.declared.fault.SectionFault.TheVariants as section_faults
+use Rattle.abt_sections.specs.Header.{Header, places_of, fragment_count, fragment_of}
+use Rattle.abt_sections.specs.Layout.{part_of}
+use Rattle.abt_sections.specs.Open.{HasImage}
+use Rattle.sys_refusals.specs.Paths.{in_folder}
+use Rattle.sys_refusals.specs.declared.refusal.HostFault.{HostFault}
+use Rattle.sys_disk.specs.World.{World, Held}
+use Rattle.sys_disk.specs.Among.{FileHolds, IsMade}
+use Rattle.cmd_common_boot.specs.ImageFaults.{IsRefusedOver, RefusesImage}
+use Rattle.cmd_common_boot.specs.declared.fault.BootCommandFault.{BootCommandFault}
+use Rattle.cmd_common_boot.specs.declared.fault.BootCommandFault.TheVariants as faults
+use Rattle.cmd_common_texts.specs.Words.{has_table}
+use Rattle.cmd_unpack_aosp_texts.specs.Files.{name_of_fragment, name_of_section}
+
+-- ---- the parts: the sections in their order, and behind them the ramdisk fragments
+
+abbrev pub file_count : Header → ℕ
+file_count h = length (places_of h) + fragment_count h
+
+abbrev pub no_place : Place
+no_place = record { kind = sections.Kernel; at = 0; size = 0 }
+
+-- section i
+abbrev pub place_at : Header → ℕ → Place
+place_at h i = get_or (places_of h) i no_place
+
+-- the name of the file of part i, where it has one
+abbrev pub name_at : Header → ℕ → Option (List ℕ)
+name_at h i =
+    if nat_lt i (length (places_of h)) then name_of_section (has_table h) (place_at h i)
+    else Some (name_of_fragment (i - length (places_of h)))
+
+-- the bytes of part i of an image x
+abbrev pub part_bytes_at : List ℕ → Header → ℕ → List ℕ
+part_bytes_at x h i =
+    if nat_lt i (length (places_of h)) then part_of x (place_at h i) else fragment_of x h (i - length (places_of h))
+
+abbrev pub path_in_folder : List ℕ → List ℕ → List ℕ
+path_in_folder folder name = in_folder (Some folder) name
+
+-- the path of the file of one of the first n parts
+pub record IsFilePath (folder : List ℕ) (h : Header) (n : ℕ) (path : List ℕ) : Type 0 where
+  pub index : ℕ
+  pub name : List ℕ
+  pub below : index < n
+  pub there : index < file_count h
+  pub found : name_at h index ≡ Some name
+  pub is_path : path ≡ path_in_folder folder name
+
+-- the path of a file of the image that the file at another path holds
+pub record IsFileOf (input folder : List ℕ) (world : World) (path : List ℕ) : Type 0 where
+  pub from : ℕ
+  pub there : world.at input ≡ Some from
+  pub header : Header
+  pub image : HasImage (world.holds from) header
+  pub is_file : IsFilePath folder header (file_count header) path
+
+-- ---- on the way
+
+-- part i of an image x is in its file, where it has one
+abbrev pub FileDone : List ℕ → Header → List ℕ → ℕ → Held → World → Type 0
+FileDone folder h x i held world =
+    IfSome (name_at h i) (λ name. IsMade held world (path_in_folder folder name) (part_bytes_at x h i))
+
+-- the first n parts are
+abbrev pub FilesDone : List ℕ → Header → List ℕ → ℕ → Held → World → Type 0
+FilesDone folder h x n held world = (k : ℕ) → k < n → FileDone folder h x k held world
+
+-- ---- refusals
+
+-- a fragment has no name: only the first hundred have one
+pub record IsUnnamed (fault : BootCommandFault) : Type 0 where
+  pub index : ℕ
+  pub told : fault ≡ faults.Section (section_faults.Entry index)
+
+-- a call failed
+pub record IsCallFault (failed : Type 0) (fault : BootCommandFault) : Type 0 where
+  pub host : HostFault
+  pub told : fault ≡ faults.Host host
+  pub rises : failed
+
+-- either, before any part is read
+abbrev pub RefusesName : Type 0 → BootCommandFault → Type 0
+RefusesName failed fault = IsCallFault failed fault ⊎ IsUnnamed fault
+
+-- a fault of the image x, or a device failed, or a call
+abbrev pub RefusesPart : List ℕ → Type 0 → BootCommandFault → Type 0
+RefusesPart x failed fault = IsRefusedOver x failed ⊥ fault ⊎ IsUnnamed fault
+
+-- the same of what the file at a path holds
+abbrev pub RefusesUnpack : List ℕ → World → Type 0 → BootCommandFault → Type 0
+RefusesUnpack path world failed fault = RefusesImage path world failed ⊥ fault ⊎ IsUnnamed fault
+
+-- ---- all of it
+
+-- The file at a path held a boot image or a vendor boot image. In the folder there is a file for each of its parts to
+-- which the tool gives one, under its name, which holds exactly its bytes.
+pub record UnpacksAsAosp (input folder : List ℕ) (old new : World) : Type 0 where
+  pub from : ℕ
+  pub there : old.at input ≡ Some from
+  pub header : Header
+  pub image : HasImage (old.holds from) header
+  pub files : (i : ℕ) → i < file_count header → IfSome (name_at header i)
+      (λ name. FileHolds new (path_in_folder folder name) (part_bytes_at (old.holds from) header i))

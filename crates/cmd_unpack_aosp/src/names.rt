@@ -1,0 +1,39 @@
+//! The file of a part.
+
+ghost use Rattle.std.specs.Prelude.{◌≡◌, ◌<◌, ℕ, IfErr, Some};
+ghost use Rattle.sys_refusals.specs.Paths.{in_folder, path_of};
+ghost use Rattle.abt_sections.specs.Header.{view_of};
+ghost use Rattle.cmd_unpack_aosp.specs.AospFiles.{file_count};
+
+use sys_refusals::Place;
+use abt_sections::{Image, SectionFault, fragments, section, sections};
+use cmd_unpack_aosp_texts::{fragment_file, has_table, section_file};
+
+/// A file in a folder.
+pub(crate) fn place_in<'a>(folder: &'a str, name: &'a str) -> Place<'a>
+    ensures { path_of result ≡ in_folder (Some folder.now) name.now }
+{
+    Place {
+        role: "PART",
+        folder: Some(folder),
+        name,
+        number: None,
+    }
+}
+
+/// The name of the file of part `i`, where it has one: of section `i`, or behind all sections of a ramdisk fragment.
+pub(crate) fn name_at(image: &Image, i: u64) -> Result<Option<&'static str>, SectionFault>
+    requires { i < file_count (view_of image.now.header) }
+    ensures { IfErr result (λ fault. (index : ℕ) × (fault ≡ SectionFault.Entry index)) }
+{
+    let sections = sections(image) as u64;
+    let _fragments = fragments(image);
+    if i < sections {
+        return Ok(section_file(has_table(&image.header), section(image, i as usize)));
+    }
+    let index = (i - sections) as u32;
+    match fragment_file(index) {
+        Some(name) => Ok(Some(name)),
+        None => Err(SectionFault::Entry(index)),
+    }
+}

@@ -1,0 +1,164 @@
+//! The parts of an image, each to the file that unpack_bootimg gives it.
+
+ghost use Rattle.std.specs.Prelude.{◌≡◌, ◌<◌, ◌+◌, ℕ, None, IsTrue, IfErr, OnOk, OnErr};
+ghost use Rattle.sys_refusals.specs.Paths.{path_of};
+ghost use Rattle.abt_sections.specs.Header.{view_of};
+ghost use Rattle.abt_sections.specs.Open.{IsOpened};
+ghost use Rattle.sys_disk.specs.World.{HasFailed, IsReading, failing};
+ghost use Rattle.sys_disk.specs.Among.{OnlyAmong};
+ghost use Rattle.sys_disk.specs.DiskCalls.{KeepsInput};
+ghost use Rattle.cmd_common_boot.specs.ImageFaults.{SomeFailed};
+ghost use Rattle.cmd_unpack.specs.Writing.{WritesParts};
+ghost use Rattle.cmd_unpack_aosp.specs.AospFiles.{FilesDone, IsFileOf, IsFilePath, RefusesName, RefusesPart};
+ghost use Rattle.cmd_unpack_aosp.specs.AospFiles.{RefusesUnpack, UnpacksAsAosp, file_count};
+
+use crate::names::{name_at, place_in};
+use crate::writing::write_file;
+use sys_disk::Disk;
+use abt_io::{Meter, Window};
+use sys_refusals::{Place, Refusal, Sides};
+use sys_report::{Progress, Report};
+use abt_sections::{Image, SectionFault, open};
+use cmd_common_boot::{BootCommandFault, BootOutcome, part_count};
+
+/// Writes the parts of an image to files of a folder, each under the name that unpack_bootimg gives it. It prints
+/// nothing.
+///
+/// Each file is opened when its turn comes. Where the image is one of the files that are going to be written, none is.
+pub fn unpack_as_aosp<'t, 'a, D: Disk>(
+    disk: &mut D,
+    report: &mut Report,
+    input: Place<'t>,
+    folder: &'t str,
+    w: &mut Window,
+    m: &mut Meter,
+) -> BootOutcome<'t, 'a>
+    requires first { IsTrue D.tells → IsReading (D.held disk.old) }
+    // each part of the image that IN holds stands in the folder, in the file that the tool gives it
+    ensures done { IsTrue D.tells → OnOk result (UnpacksAsAosp (path_of input.entry) folder.now (D.world disk.old)
+        (D.world disk.new)) }
+    // whatever the outcome, only such files were created or changed, and IN holds what it held; no call failed where all
+    // was done
+    ensures only { IsTrue D.tells → OnlyAmong (IsFileOf (path_of input.entry) folder.now (D.world disk.old))
+        (D.held disk.old).read (D.held disk.new).begun (D.world disk.old) (D.world disk.new) }
+    ensures keeps { KeepsInput D.tells result (path_of input.entry) (D.held disk.old) (D.held disk.new)
+        (D.world disk.old) (D.world disk.new) }
+    // it is refused for a fault that IN has, or since a call failed, or for a fragment without a name
+    ensures refused { IsTrue D.tells → IfErr result (λ refusal. RefusesUnpack (path_of input.entry) (D.world disk.old)
+        (HasFailed (D.held disk.old) (D.held disk.new)) refusal.fault) }
+{
+    let mut device = match disk.source(input) {
+        Ok(device) => device,
+        Err(refusal) => return Err(refusal.into()),
+    };
+    let image = match open(&mut device, w, m) {
+        Ok(image) => image,
+        Err(fault) => {
+            disk.let_go_source(device);
+            return Err(refused_in(input, fault));
+        }
+    };
+    match refuse_taken(disk, &image, input, folder) {
+        Ok(()) => {}
+        Err(refusal) => {
+            disk.let_go_source(device);
+            return Err(refusal);
+        }
+    }
+    let progress = &mut report.progress;
+    match write_files(disk, &image, &mut device, input, folder, progress, w, m) {
+        Ok(()) => {
+            disk.let_go_source(device);
+            Ok(())
+        }
+        Err(refusal) => {
+            disk.let_go_source(device);
+            Err(refusal)
+        }
+    }
+}
+
+// The refusal of what the image has.
+fn refused_in<'t, 'a>(input: Place<'t>, fault: SectionFault) -> Refusal<'t, BootCommandFault<'a>>
+    ensures { result.fault ≡ BootCommandFault.Section fault }
+{
+    let sides = Sides::none().reading(input, None);
+    sides.refuse(BootCommandFault::Section(fault))
+}
+
+// Refuses to write where the image is one of the files, or where a fragment has no name.
+fn refuse_taken<'t, 'a, D: Disk>(
+    disk: &mut D,
+    image: &Image,
+    input: Place<'t>,
+    folder: &'t str,
+) -> BootOutcome<'t, 'a>
+    ensures held { IsTrue D.tells → (n : ℕ) × (D.held disk.new ≡ failing n (D.held disk.old)) }
+    ensures clean { IsTrue D.tells → OnOk result (D.held disk.new ≡ failing 0 (D.held disk.old)) }
+    ensures world { IsTrue D.tells → D.world disk.new ≡ D.world disk.old }
+    ensures refused { IsTrue D.tells → IfErr result (λ refusal. RefusesName (HasFailed (D.held disk.old)
+        (D.held disk.new)) refusal.fault) }
+{
+    for i in 0..part_count(image, false) {
+        match refuse_part(disk, image, i, input, folder) {
+            Ok(()) => {}
+            Err(refusal) => return Err(refusal),
+        }
+    }
+    Ok(())
+}
+
+fn refuse_part<'t, 'a, D: Disk>(
+    disk: &mut D,
+    image: &Image,
+    i: u64,
+    input: Place<'t>,
+    folder: &'t str,
+) -> BootOutcome<'t, 'a>
+    requires there { i < file_count (view_of image.now.header) }
+    ensures held { IsTrue D.tells → (n : ℕ) × (D.held disk.new ≡ failing n (D.held disk.old)) }
+    ensures clean { IsTrue D.tells → OnOk result (D.held disk.new ≡ failing 0 (D.held disk.old)) }
+    ensures world { IsTrue D.tells → D.world disk.new ≡ D.world disk.old }
+    ensures refused { IsTrue D.tells → IfErr result (λ refusal. RefusesName (HasFailed (D.held disk.old)
+        (D.held disk.new)) refusal.fault) }
+{
+    let name = match name_at(image, i) {
+        Ok(Some(name)) => name,
+        Ok(None) => return Ok(()),
+        Err(fault) => return Err(refused_in(input, fault)),
+    };
+    match disk.refuse_taken(place_in(folder, name)) {
+        Ok(()) => Ok(()),
+        Err(refusal) => Err(refusal.into()),
+    }
+}
+
+// Writes each part to its file.
+fn write_files<'t, 'a, D: Disk>(
+    disk: &mut D,
+    image: &Image,
+    source: &mut D::At,
+    input: Place<'t>,
+    folder: &'t str,
+    progress: &mut Progress,
+    w: &mut Window,
+    m: &mut Meter,
+) -> BootOutcome<'t, 'a>
+    requires one { IsTrue D.tells → (D.held disk.old).output ≡ None }
+    ensures writes { IsTrue D.tells → (n : ℕ) × WritesParts result n (IsFilePath folder.now (view_of image.now.header)
+        (file_count (view_of image.now.header))) D.At.Source source.old source.new (D.held disk.old)
+        (D.held disk.new) (D.world disk.old) (D.world disk.new) }
+    ensures done { IsTrue D.tells → OnOk result (FilesDone folder.now (view_of image.now.header)
+        (D.At.content source.old) (file_count (view_of image.now.header)) (D.held disk.new) (D.world disk.new)) }
+    ensures refused { IsTrue D.tells → IsOpened (D.At.content source.old) image.now → IfErr result (λ refusal.
+        RefusesPart (D.At.content source.old) (SomeFailed (D.held disk.old) (D.At.read_faults source.old)
+        (D.held disk.new) (D.At.read_faults source.new)) refusal.fault) }
+{
+    for i in 0..part_count(image, false) {
+        match write_file(disk, image, i, source, input, folder, progress, w, m) {
+            Ok(()) => {}
+            Err(refusal) => return Err(refusal),
+        }
+    }
+    Ok(())
+}

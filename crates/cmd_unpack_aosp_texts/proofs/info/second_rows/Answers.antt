@@ -1,0 +1,6 @@
+use Rattle.sys_text.proofs.Printing.{◌▸◌}
+use Rattle.cmd_unpack_aosp_texts.proofs.info.second_rows.Goals as goal
+
+pub returns : goal.returns
+returns g c =
+    c.front_rows.ensures ▸ c.dtbo_rows.ensures

@@ -1,0 +1,6 @@
+use Rattle.sys_text.proofs.Printing.{◌▸◌}
+use Rattle.cmd_unpack_aosp_texts.proofs.options.put_name.Goals as goal
+
+pub returns : goal.returns
+returns g c =
+    c.begin_word.ensures ▸ c.word.ensures ▸ c.end_word.ensures

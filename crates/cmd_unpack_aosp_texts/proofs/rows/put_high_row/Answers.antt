@@ -1,0 +1,6 @@
+use Rattle.sys_text.proofs.Printing.{◌▸◌}
+use Rattle.cmd_unpack_aosp_texts.proofs.rows.put_high_row.Goals as goal
+
+pub returns : goal.returns
+returns g c =
+    c.put_label.ensures ▸ c.put_high.ensures ▸ c.end_line.ensures

@@ -1,0 +1,6 @@
+use Rattle.sys_text.proofs.Printing.{◌▸◌}
+use Rattle.cmd_unpack_aosp_texts.proofs.words.first_words.Goals as goal
+
+pub returns : goal.returns
+returns g c =
+    c.opening_words.ensures ▸ c.part_option.ensures ▸ c.load_words.ensures ▸ c.name_words.ensures

@@ -1,0 +1,6 @@
+use Rattle.std.proofs.Common.{rules}
+use Rattle.sys_text.proofs.Printing.{as_text, printed_none}
+use Rattle.cmd_unpack_aosp_texts.proofs.words.part_option.Goals as goal
+
+pub returns-then-size-eq0 : goal.returns-then-size-eq0
+returns-then-size-eq0 g c = as_text (search rules) (printed_none _ _ _)

@@ -1,7 +1,0 @@
-use Rattle.std.proofs.Common.{◌≤◌}
-use Rattle.abt_report.specs.Shows.{refusals}
-use Rattle.info_bodies.proofs.telling.tell_reasons.Given as goal
-
--- what could not be printed is counted
-abbrev pub invariant-loop-line : goal.invariant-loop-line
-invariant-loop-line l = refusals l.initial.report ≤ refusals l.report

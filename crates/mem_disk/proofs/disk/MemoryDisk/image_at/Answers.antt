@@ -1,0 +1,9 @@
+use Rattle.std.proofs.Common.{refl}
+use Rattle.mem_disk.proofs.Files.{refuses_at}
+use Rattle.mem_disk.proofs.disk.MemoryDisk.image_at.Goals as goal
+
+pub returns-in-Err-clause-begins : goal.returns-in-Err-clause-begins
+returns-in-Err-clause-begins c = record {
+  created = tt;
+  refused = refuses_at _ _ _ _ _ refl refl c.in-Ok.ensures c.in-Err.ensures.begins.refused;
+}

@@ -1,0 +1,29 @@
+use Rattle.std.proofs.Common.{rules, length, ◌∙◌, ap, sym, List, ℕ, ◌≡◌}
+use Rattle.std.proofs.Math.Nat.{le_refl}
+use Rattle.std.proofs.lemmas.List.{take_all}
+use Rattle.abt_io.specs.Moment.{wrote, put_at}
+use Rattle.abt_io.proofs.Moments.{one_wrote}
+use Rattle.mem_devices.proofs.Outside.{kept_wrote, unsettled_wrote}
+use Rattle.mem_disk.proofs.partition.MemoryPartitionPartition.write_at.Goals as goal
+
+pub returns-clause-laid : goal.returns-clause-laid
+returns-clause-laid c =
+    let s = c.args.self.now in
+    let n = length c.args.bytes.now in
+    let past : c.wrote.new.self.past ≡ wrote s.history.past c.put_part.new.into.items c.args.at n = search rules in
+    let laid = rw c.put_part.ensures.value at past in
+    record {
+      written = λ tells. c.put_part.ensures.value
+          ∙ ap (λ (l : List ℕ). put_at s.bytes.items c.args.at l) (sym (take_all n c.args.bytes.now (le_refl _)));
+      kept = λ tells. rw c.put_part.ensures.value
+          (kept_wrote s.history.past c.wrote.new.self.past s.bytes.items c.args.bytes.now c.args.at c.requires.fits
+          laid);
+      moments = λ tells. one_wrote s.history.past c.wrote.new.self.past c.put_part.new.into.items c.args.at n past;
+      newest = λ tells. search rules;
+      pending = λ tells. search rules;
+      stays = λ tells. search rules;
+      unsettled = λ tells. rw c.put_part.ensures.value
+          (unsettled_wrote s.history.past c.wrote.new.self.past s.bytes.items c.args.bytes.now c.args.at
+          c.requires.fits laid);
+      synced = search rules;
+    }

@@ -1,0 +1,126 @@
+//! A disk in memory, which tells what its files hold.
+
+ghost use Rattle.std.specs.Prelude.{◌≡◌, [], None, false, IfOk, Contains, get_or};
+ghost use Rattle.mem_disk.specs.Memory.{contents, leads, CountsFailed};
+
+use crate::{Failures, Faults};
+use abt_io::Tally;
+use sys_refusals::HostRefusal;
+use std::alloc::{AllocError, Global};
+
+/// A file of such a disk.
+#[derive(Drop)]
+pub struct MemoryFile {
+    pub bytes: Vec<u8>,
+}
+
+/// A path, and the number of the file that it leads to, counted from 0. Two paths may lead to one file.
+#[derive(Drop)]
+pub struct MemoryPath {
+    pub name: String,
+    pub file: u64,
+}
+
+/// Files in memory, and the paths that lead to them.
+#[derive(Drop)]
+pub struct MemoryDisk {
+    pub(crate) alloc: Global,
+    pub paths: Vec<MemoryPath>,
+    pub files: Vec<MemoryFile>,
+    pub(crate) faults: Faults,
+    pub(crate) read: Vec<u64>,
+    pub(crate) begun: Vec<u64>,
+    pub(crate) output: Option<u64>,
+    pub(crate) part: Option<u64>,
+    pub(crate) spool: Option<u64>,
+    pub(crate) is_synced: bool,
+    pub(crate) syncs: Tally,
+    /// How often a call was refused, or a device failed that was given back.
+    pub failed: Failures,
+}
+
+impl MemoryDisk {
+    /// No file is open.
+    pub fn new(
+        alloc: Global,
+        paths: Vec<MemoryPath>,
+        files: Vec<MemoryFile>,
+        is_synced: bool,
+        faults: Faults,
+    ) -> MemoryDisk
+        ensures read { result.read.items ≡ [] }
+        ensures begun { result.begun.items ≡ [] }
+        ensures output { result.output ≡ None }
+        ensures part { result.part ≡ None }
+        ensures spool { result.spool ≡ None }
+        ensures paths { result.paths ≡ paths }
+        ensures files { result.files ≡ files }
+    {
+        MemoryDisk {
+            alloc,
+            paths,
+            files,
+            faults,
+            read: Vec::new(alloc),
+            begun: Vec::new(alloc),
+            output: None,
+            part: None,
+            spool: None,
+            is_synced,
+            syncs: Tally::new(),
+            failed: Failures::none(),
+        }
+    }
+
+    /// The file that this path leads to.
+    pub fn file_at(&self, path: &str) -> Option<u64>
+        ensures { result ≡ leads self.now.paths.items path.now }
+    {
+        found(self.paths.as_slice(), path)
+    }
+
+    /// What a file holds.
+    pub fn copy_of(&self, file: u64) -> Result<Vec<u8>, AllocError>
+        ensures { IfOk result (λ bytes. bytes.items ≡ get_or (contents self.now.files.items) file []) }
+    {
+        match self.files.as_slice().get(file as usize) {
+            Some(held) => Vec::from_slice(self.alloc, held.bytes.as_slice()),
+            None => Ok(Vec::new(self.alloc)),
+        }
+    }
+
+    // Whether it is a file that is read, or that was begun.
+    pub(crate) fn is_taken(&self, file: u64) -> bool
+        ensures read { result ≡ false → ¬ Contains self.now.read.items file }
+        ensures begun { result ≡ false → ¬ Contains self.now.begun.items file }
+    {
+        self.read.as_slice().contains(&file) || self.begun.as_slice().contains(&file)
+    }
+
+    // Counts a refusal.
+    pub(crate) fn refused<'a>(&mut self, refusal: HostRefusal<'a>) -> HostRefusal<'a>
+        ensures { CountsFailed 1 self.old self.new }
+    {
+        self.failed.add();
+        refusal
+    }
+
+    // Counts how often a device has failed that is given back.
+    pub(crate) fn add_failures(&mut self, failures: &Failures)
+        ensures { CountsFailed failures.now.tally.number self.old self.new }
+    {
+        self.failed.add_all(failures);
+    }
+}
+
+// The first path of this name.
+fn found(paths: &[MemoryPath], name: &str) -> Option<u64>
+    ensures { result ≡ leads paths.now name.now }
+{
+    for path in paths {
+        if name == path.name.as_str() {
+            return Some(path.file);
+        }
+    }
+    None
+}

@@ -1,0 +1,36 @@
+//! What a disk in memory has left of numbered files.
+
+ghost use Rattle.std.specs.Prelude.{◌≡◌, ◌∷◌, ◌++◌, IfOk, IfErr, decimal};
+ghost use Rattle.sys_disk.specs.LeftOver.{IsNextLeft, path_with};
+ghost use Rattle.mem_disk.specs.Memory.{leads, world_of};
+
+use crate::{MemoryDisk, MemoryPath};
+use sys_refusals::Place;
+use sys_numbered_names::{lesser, number_behind};
+use std::alloc::AllocError;
+
+impl MemoryDisk {
+    // The least number above this one at which a file is.
+    pub(crate) fn next_left(&self, place: Place<'_>, behind: u32) -> Result<Option<u32>, AllocError>
+        ensures { IfOk result (IsNextLeft (λ n. (world_of self.now).at (path_with place.entry n)) behind) }
+    {
+        let unnumbered = Place {
+            number: None,
+            ..place
+        };
+        let front = unnumbered.path(self.alloc)?;
+        Ok(least_of(self.paths.as_slice(), front.as_str(), behind))
+    }
+}
+
+// The least number above this one that stands behind a name and a point.
+fn least_of(paths: &[MemoryPath], front: &str, behind: u32) -> Option<u32>
+    ensures { IsNextLeft (λ n. leads paths.now (front.now ++ (46 ∷ decimal n))) behind result }
+{
+    let mut least = None;
+    for path in paths {
+        let number = number_behind(path.name.as_str(), front);
+        least = lesser(least, behind, number);
+    }
+    least
+}

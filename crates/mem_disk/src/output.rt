@@ -1,0 +1,64 @@
+//! What a disk in memory opens to be written from its front on.
+
+ghost use Rattle.std.specs.Prelude.{false};
+ghost use Rattle.mem_disk.specs.Memory.{IsUnused};
+
+use crate::{Countdown, Failures};
+use sys_disk::Reasons;
+use abt_io::{DeviceFault, Output, Tally};
+
+/// Bytes that were written. A write fails where there is no memory for it.
+#[derive(Drop)]
+pub struct MemoryOutput {
+    pub bytes: Vec<u8>,
+    pub calls: Tally,
+    pub failed: Failures,
+    faults: Countdown,
+}
+
+impl MemoryOutput {
+    /// These bytes, where a write may fail.
+    pub fn new(bytes: Vec<u8>, faults: Countdown) -> MemoryOutput
+        ensures unused { IsUnused bytes result.bytes result.failed }
+    {
+        MemoryOutput {
+            bytes,
+            calls: Tally::new(),
+            failed: Failures::none(),
+            faults,
+        }
+    }
+}
+
+impl Output for MemoryOutput {
+    ghost written = { λ o. o.bytes.items };
+
+    ghost is_full = { λ _. false };
+
+    ghost writes = { λ o. o.calls.number };
+
+    ghost write_faults = { λ o. o.failed.tally.number };
+
+    ghost full_faults = { λ _. 0 };
+
+    fn write(&mut self, bytes: &[u8]) -> Result<usize, DeviceFault> {
+        self.calls.add(1);
+        if self.faults.is_over() {
+            self.failed.add();
+            return Err(DeviceFault::Failed);
+        }
+        match self.bytes.extend_from_slice(bytes) {
+            Ok(()) => Ok(bytes.len()),
+            Err(_) => {
+                self.failed.add();
+                Err(DeviceFault::Failed)
+            }
+        }
+    }
+}
+
+impl Reasons for MemoryOutput {
+    fn why(&self) -> Option<i32> {
+        None
+    }
+}

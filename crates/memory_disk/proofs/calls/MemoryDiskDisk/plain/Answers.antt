@@ -1,5 +1,0 @@
-use Rattle.memory_disk.proofs.Files.{creates_path}
-use Rattle.memory_disk.proofs.calls.MemoryDiskDisk.plain.Goals as goal
-
-pub returns-in-Err : goal.returns-in-Err
-returns-in-Err c = creates_path _ _ _ _ _ _ _ c.in-Err.ensures.begins.refused c.refused.ensures

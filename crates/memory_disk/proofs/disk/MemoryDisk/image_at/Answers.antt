@@ -1,9 +1,0 @@
-use Rattle.std.proofs.Common.{refl}
-use Rattle.memory_disk.proofs.Files.{refuses_at}
-use Rattle.memory_disk.proofs.disk.MemoryDisk.image_at.Goals as goal
-
-pub returns-in-Err-clause-begins : goal.returns-in-Err-clause-begins
-returns-in-Err-clause-begins c = record {
-  created = tt;
-  refused = refuses_at _ _ _ _ _ refl refl c.in-Ok.ensures c.in-Err.ensures.begins.refused;
-}

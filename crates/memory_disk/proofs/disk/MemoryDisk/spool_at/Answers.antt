@@ -1,6 +1,0 @@
-use Rattle.std.proofs.Common.{refl}
-use Rattle.memory_disk.proofs.Files.{refuses_at}
-use Rattle.memory_disk.proofs.disk.MemoryDisk.spool_at.Goals as goal
-
-pub returns-in-Err-clause-refused : goal.returns-in-Err-clause-refused
-returns-in-Err-clause-refused c = refuses_at _ _ _ _ _ refl refl c.in-Ok.ensures c.in-Err.ensures.refused

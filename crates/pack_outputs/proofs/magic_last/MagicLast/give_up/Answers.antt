@@ -1,6 +1,0 @@
-use Rattle.pack_outputs.proofs.Magics.{zeros_none}
-use Rattle.pack_outputs.proofs.magic_last.MagicLast.give_up.Goals as goal
-
-pub returns-clause-broken : goal.returns-clause-broken
-returns-clause-broken g c =
-    zeros_none _ c.args.self.kept c.args.self.stand c.args.self.zeros c.args.self.next

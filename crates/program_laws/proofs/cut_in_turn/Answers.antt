@@ -1,8 +1,0 @@
-use Rattle.program_laws.proofs.CutFiles.{cut_then_expanded, cut_then_flashed}
-use Rattle.program_laws.proofs.cut_in_turn.Goals as goal
-
-pub returns-clause-flashed : goal.returns-clause-flashed
-returns-clause-flashed c = cut_then_flashed
-
-pub returns-clause-expanded : goal.returns-clause-expanded
-returns-clause-expanded c = cut_then_expanded

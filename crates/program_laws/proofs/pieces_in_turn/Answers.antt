@@ -1,8 +1,0 @@
-use Rattle.program_laws.proofs.Cuts.{expanded_together, flashed_in_turn_are}
-use Rattle.program_laws.proofs.pieces_in_turn.Goals as goal
-
-pub returns-clause-flashed : goal.returns-clause-flashed
-returns-clause-flashed c = flashed_in_turn_are
-
-pub returns-clause-expanded : goal.returns-clause-expanded
-returns-clause-expanded c = expanded_together

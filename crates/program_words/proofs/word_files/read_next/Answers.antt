@@ -1,8 +1,0 @@
-use Rattle.std.proofs.Common.{refl}
-use Rattle.abt_values.proofs.WordFiles.{unnamed}
-use Rattle.program_words.proofs.WordFiles.{reads_none}
-use Rattle.program_words.proofs.word_files.read_next.Goals as goal
-
-pub returns-in_default-clause-texts : goal.returns-in_default-clause-texts
-returns-in_default-clause-texts g c = λ t.
-    reads_none c.args.word.now _ _ _ (unnamed c.args.word.now (c.in_default.ensures.none refl))

@@ -1,7 +1,0 @@
-use Rattle.std.proofs.Common.{take}
-use Rattle.std.specs.List.{All}
-use Rattle.abt_sections.specs.Canonical.{FragmentFits}
-use Rattle.section_laws.proofs.inputs.fragments_fit.Given as goal
-
-abbrev pub invariant-loop-fragment : goal.invariant-loop-fragment
-invariant-loop-fragment l = All FragmentFits (take l.fragment-index l.fragments)

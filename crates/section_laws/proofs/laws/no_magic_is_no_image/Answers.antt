@@ -1,5 +1,0 @@
-use Rattle.abt_sections.proofs.Magic.{opens_as_nothing}
-use Rattle.section_laws.proofs.laws.no_magic_is_no_image.Goals as goal
-
-pub returns : goal.returns
-returns c = opens_as_nothing

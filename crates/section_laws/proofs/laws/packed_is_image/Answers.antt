@@ -1,5 +1,0 @@
-use Rattle.abt_sections.proofs.Laying.{is_image}
-use Rattle.section_laws.proofs.laws.packed_is_image.Goals as goal
-
-pub returns : goal.returns
-returns c = is_image

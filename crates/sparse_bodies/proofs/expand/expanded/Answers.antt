@@ -1,8 +1,0 @@
-use Rattle.std.proofs.Common.{refl}
-use Rattle.sparse_bodies.proofs.Files.{of_rising}
-use Rattle.sparse_bodies.proofs.expand.expanded.Goals as goal
-
-pub returns-in-Err-clause-blames : goal.returns-in-Err-clause-blames
-returns-in-Err-clause-blames g c =
-    of_rising c.in-Err.fault _ _ _ _ _ refl c.in-Err.ensures.blame.cause
-    c.in-Err.ensures.blame.clean

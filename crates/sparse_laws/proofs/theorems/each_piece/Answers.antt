@@ -1,5 +1,0 @@
-use Rattle.abt_sparse.proofs.Flashing.{each_piece}
-use Rattle.sparse_laws.proofs.theorems.each_piece.Goals as goal
-
-pub returns : goal.returns
-returns c = each_piece

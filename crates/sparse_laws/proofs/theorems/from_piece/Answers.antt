@@ -1,5 +1,0 @@
-use Rattle.abt_sparse.proofs.Flashing.{from_piece}
-use Rattle.sparse_laws.proofs.theorems.from_piece.Goals as goal
-
-pub returns : goal.returns
-returns c = from_piece

@@ -1,5 +1,0 @@
-use Rattle.abt_sparse.proofs.ChunkLaws.{kind-code, code-kind}
-use Rattle.sparse_laws.proofs.theorems.one_code.Goals as goal
-
-pub returns : goal.returns
-returns c = record { known = kind-code; only = code-kind }

@@ -1,5 +1,0 @@
-use Rattle.abt_sparse.proofs.Exactly.{is_so, only}
-use Rattle.sparse_laws.proofs.theorems.one_outcome.Goals as goal
-
-pub returns : goal.returns
-returns c = record { found = is_so; only = only }

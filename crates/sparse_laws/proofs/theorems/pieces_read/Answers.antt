@@ -1,5 +1,0 @@
-use Rattle.abt_sparse.proofs.Spelling.{pieces_read}
-use Rattle.sparse_laws.proofs.theorems.pieces_read.Goals as goal
-
-pub returns : goal.returns
-returns c = pieces_read

@@ -1,5 +1,0 @@
-use Rattle.abt_sparse.proofs.Spelling.{reads_back}
-use Rattle.sparse_laws.proofs.theorems.reads_back.Goals as goal
-
-pub returns : goal.returns
-returns c = reads_back

@@ -1,5 +1,0 @@
-use Rattle.abt_sparse.proofs.Flashing.{same_pieces}
-use Rattle.sparse_laws.proofs.theorems.same_pieces.Goals as goal
-
-pub returns : goal.returns
-returns c = same_pieces

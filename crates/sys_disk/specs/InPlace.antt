@@ -1,0 +1,63 @@
+-- A file that is written in place: it was there, is opened, and is closed.
+use Rattle.std.specs.Prelude.{◌≡◌, ℕ, ◌+◌, List, [], ◌∷◌, length, Option, Some, None, Bool, false, Contains, nat_lt}
+use Rattle.std.specs.Prelude.{◌<◌, IsTrue, if◌then◌else◌, replicate}
+use Rattle.abt_io.specs.Moment.{Past}
+use Rattle.sys_disk.specs.World.{World, Held, Spares, failing}
+
+-- this file more is written, in place
+abbrev pub in_place : ℕ → Held → Held
+in_place file h = record h { begun = file ∷ h.begun; part = Some file }
+
+-- the file at this path is written in place from now on: none that is read or was begun, and these are its bytes
+pub record OpensPart (world : World) (path bytes : List ℕ) (old new : Held) : Type 0 where
+  pub file : ℕ
+  pub there : world.at path ≡ Some file
+  pub free : ¬ Contains old.read file
+  pub fresh : ¬ Contains old.begun file
+  pub held : bytes ≡ world.holds file
+  pub taken : new ≡ in_place file old
+
+-- a sync has succeeded, and nothing was written behind it
+abbrev pub is_settled_in : List (ℕ × ℕ) → ℕ → Bool
+is_settled_in [] synced = nat_lt 0 synced
+is_settled_in (r ∷ rs) synced = false
+
+abbrev pub is_settled : Past → Bool
+is_settled past = is_settled_in past.pending past.synced
+
+-- it is closed, and has failed so often; one sync more, where it was synced behind its last byte
+abbrev pub closed_part : Past → ℕ → Held → Held
+closed_part past failures h = record h {
+  part = None;
+  syncs = h.syncs + (if is_settled past then 1 else 0);
+  failed = h.failed + failures;
+}
+
+-- The file that was written in place is closed, and the call that wrote it was answered so. It is done only where
+-- nothing failed at the end, and where the call had done its work it is refused only where something has.
+pub record ClosesPart (is_written is_done : Bool) (past : Past) (failures : ℕ) (old new : Held) : Type 0 where
+  pub more : ℕ
+  pub closed : new ≡ failing more (closed_part past failures old)
+  pub clean : IsTrue is_done → more ≡ 0
+  pub cause : IsTrue is_written → is_done ≡ false → 0 < more
+
+-- the file at this path was created or emptied, and is so many zeros, to be written in place: none that is read or was
+-- begun, and all others are as before
+pub record MakesZeros (n : ℕ) (path : List ℕ) (held held' : Held) (old new : World) : Type 0 where
+  pub file : ℕ
+  pub begins : held' ≡ in_place file held
+  pub there : new.at path ≡ Some file
+  pub free : ¬ Contains held.read file
+  pub fresh : ¬ Contains held.begun file
+  pub holds : new.holds file ≡ replicate n 0
+  pub spares : Spares file old new
+
+-- these are as many bytes as the file holds
+abbrev pub IsAsLong : Option ℕ → List ℕ → World → Type 0
+IsAsLong None bytes world = Unit {0}
+IsAsLong (Some file) bytes world = length bytes ≡ length (world.holds file)
+
+-- every path leads where it led, and each file holds what it held, but maybe the one at this path
+pub record SparesOthers (path : List ℕ) (old new : World) : Type 0 where
+  pub paths : new.at ≡ old.at
+  pub files : (f : ℕ) → ¬ (old.at path ≡ Some f) → new.holds f ≡ old.holds f

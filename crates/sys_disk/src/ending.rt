@@ -1,0 +1,41 @@
+//! What a call answered, once its output is at its end.
+
+ghost use Rattle.std.specs.Prelude.{◌≡◌, ◌+◌, IsTrue, IsOk, IfOk, IfErr, OnOk, Ok, is_ok};
+ghost use Rattle.sys_disk.specs.World.{Ends, SparesRest, ended, unended};
+ghost use Rattle.sys_refusals.specs.Paths.{path_out};
+ghost use Rattle.sys_refusals.specs.declared.refusal.HostFault.{HostFault};
+
+use crate::{Disk, Reasons};
+use sys_refusals::{HostFault, Place, Refusal, Sides, Told};
+
+/// What a call answered that wrote an output, and whether the output is where standard output goes. Where the call was
+/// refused, the output is sent what it took, and the fault of the call is told.
+pub fn ended<'a, D: Disk, T: Drop, F: Told + From<HostFault> + Drop>(
+    disk: &mut D,
+    answer: Result<T, F>,
+    onto: D::Onto,
+    output: Place<'a>,
+    sides: Sides<'a>,
+) -> Result<(T, bool), Refusal<'a, F>>
+    ensures done { IfOk result (λ end. answer ≡ Ok end.0) }
+    ensures ended { IsTrue D.tells → OnOk result (Ends (D.held disk.old).output (D.Onto.written onto)
+        (D.world disk.old) (D.world disk.new)) }
+    ensures closed { IsTrue D.tells → D.held disk.new ≡ ended (is_ok result)
+        (unended (is_ok answer) (is_ok result) + D.Onto.write_faults onto) (D.held disk.old) }
+    ensures rest { IsTrue D.tells → SparesRest (D.held disk.old).output (D.world disk.old) (D.world disk.new) }
+    ensures stream { IsTrue D.tells → IfOk result (λ end. end.1 ≡ D.on_output (path_out output.entry)) }
+    ensures told { IfErr answer (λ fault. IfErr result (λ refusal. refusal.fault ≡ fault)) }
+    ensures host { IsOk answer → IfErr result (λ refusal. (fault : HostFault) × F.from_gives fault refusal.fault) }
+{
+    match answer {
+        Ok(done) => match disk.finish(onto, output) {
+            Ok(is_on_output) => Ok((done, is_on_output)),
+            Err(refusal) => Err(refusal.into()),
+        },
+        Err(fault) => {
+            let sides = sides.begun(output, onto.why());
+            disk.give_up(onto);
+            Err(sides.refuse(fault))
+        }
+    }
+}

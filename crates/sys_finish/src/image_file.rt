@@ -1,0 +1,104 @@
+//! The file of an image that has a magic. It takes small writes together, as those of chunk headers, and can be written
+//! over.
+
+ghost use Rattle.std.specs.Prelude.{◌≡◌, [], false, length, IfOk};
+ghost use Rattle.sys_finish.specs.Ends.{EndsWith};
+ghost use Rattle.sys_finish.specs.Given.{given_by_writer};
+
+use crate::output_file::{Finished, OutputFile};
+use sys_disk::{Late, Reasons};
+use abt_io::{DeviceFault, Output, Overwrite};
+use sys_refusals::{HostRefusal, Place};
+use sys_file::SystemFile;
+
+/// A regular file that is written from its front on, and over what was written.
+#[derive(Drop)]
+pub struct ImageFile<F: SystemFile + Drop> {
+    pub output: OutputFile<F>,
+    used: u64,
+    ghost long: { used ≡ length (given_by_writer output.to.writer) },
+}
+
+impl<F: SystemFile + Drop> ImageFile<F> {
+    /// Begins at the front of this output, which is an empty file.
+    pub fn new(output: OutputFile<F>) -> ImageFile<F>
+        requires { given_by_writer output.to.writer ≡ [] }
+        ensures { result.output ≡ output }
+    {
+        ImageFile { output, used: 0 }
+    }
+
+    /// Why its last call failed, where one did.
+    pub fn why(&self) -> Option<i32> {
+        self.output.why()
+    }
+
+    /// Brings it to its end.
+    pub fn finish<'a>(self, place: Place<'a>) -> Result<Finished<F>, HostRefusal<'a>>
+        ensures { IfOk result (λ finished. EndsWith F.tells F.stands F.past self.output.is_synced
+            (given_by_writer self.output.to.writer) finished.ended) }
+    {
+        self.output.finish(place)
+    }
+
+    /// Sends what it took together, where the work before failed.
+    pub fn give_up(self) {
+        self.output.give_up()
+    }
+}
+
+impl<F: SystemFile + Drop> Output for ImageFile<F> {
+    ghost written = { λ o. given_by_writer o.output.to.writer };
+
+    ghost is_full = { λ _. false };
+
+    ghost writes = { λ o. o.output.to.calls.number };
+
+    ghost write_faults = { λ o. o.output.to.faults.number };
+
+    ghost full_faults = { λ _. 0 };
+
+    fn write(&mut self, bytes: &[u8]) -> Result<usize, DeviceFault> {
+        let used = self.used;
+        if bytes.len() as u64 > u64::MAX - used {
+            self.output.to.calls.add(1);
+            self.output.to.faults.add(1);
+            return Err(DeviceFault::Failed);
+        }
+        match self.output.to.write(bytes) {
+            Ok(n) => {
+                self.used = used + n as u64;
+                Ok(n)
+            }
+            Err(fault) => Err(fault),
+        }
+    }
+}
+
+impl<F: SystemFile + Drop> Overwrite for ImageFile<F> {
+    fn position(&self) -> u64 {
+        self.used
+    }
+
+    fn write_over(&mut self, at: u64, bytes: &[u8]) -> Result<usize, DeviceFault> {
+        self.output.to.put(at, bytes)
+    }
+}
+
+impl<F: SystemFile + Drop> Late for ImageFile<F> {
+    fn settle(&mut self) -> Result<(), DeviceFault> {
+        match self.output.settle() {
+            Ok(()) => Ok(()),
+            Err(fault) => {
+                self.output.to.faults.add(1);
+                Err(fault)
+            }
+        }
+    }
+}
+
+impl<F: SystemFile + Drop> Reasons for ImageFile<F> {
+    fn why(&self) -> Option<i32> {
+        self.output.why()
+    }
+}

@@ -1,0 +1,144 @@
+//! Where bytes go, and all that was given there.
+
+ghost use Rattle.std.specs.Prelude.{◌≡◌, [], Some, IsTrue, take, IfOk, OnErr};
+ghost use Rattle.abt_io.specs.Frame.{nothing_logged};
+ghost use Rattle.abt_io.specs.Over.{and_put};
+ghost use Rattle.sys_finish.specs.Ends.{EndsWith};
+ghost use Rattle.sys_finish.specs.Follows.{Follows, SettlesTarget, StartsAt};
+ghost use Rattle.sys_finish.specs.Follows.{WritesOrFails};
+ghost use Rattle.sys_outputs.specs.Given.{LaysHole};
+
+use crate::target::{Ended, Target};
+use abt_io::{DeviceFault, Log};
+use std::alloc::Global;
+use std::io;
+use std::io::Write;
+use sys_file::SystemFile;
+use sys_outputs::{HeldFile, HoleFile, Room, StreamFile};
+
+/// A writer that keeps all that it was given, and why it failed. The system took all of that, but for what a gathered file
+/// holds until its end.
+#[derive(Drop)]
+pub struct Sink<F: SystemFile + Drop> {
+    target: Target<F>,
+    pub why: Option<i32>,
+    pub log: Log,
+    ghost follows: { Follows target log.state.bytes },
+}
+
+impl<F: SystemFile + Drop> Sink<F> {
+    /// A file, a pipe or a device, which is given all bytes.
+    pub fn stream(file: F) -> Sink<F>
+        requires empty { IsTrue F.tells → F.stands file ≡ [] }
+        requires front { IsTrue F.tells → F.place file ≡ 0 }
+        ensures { result.log.state ≡ nothing_logged }
+    {
+        Sink::of(Target::Stream(StreamFile::new(file)))
+    }
+
+    /// A regular file that is empty, in which zeros may be holes.
+    pub fn holes(file: F) -> Sink<F>
+        requires { IsTrue F.tells → F.stands file ≡ [] }
+        ensures { result.log.state ≡ nothing_logged }
+    {
+        Sink::of(Target::Holes(HoleFile::new(file)))
+    }
+
+    /// A regular file that is empty. It holds up to 64 KiB of what it was given last, and lays headers there in memory;
+    /// where there is no memory for that, each write goes to the file at once.
+    pub fn gathered(alloc: Global, file: F) -> Sink<F>
+        requires { IsTrue F.tells → F.stands file ≡ [] }
+        ensures { result.log.state ≡ nothing_logged }
+    {
+        Sink::of(Target::Held(HeldFile::new(file, Room::new(alloc))))
+    }
+
+    fn of(target: Target<F>) -> Sink<F>
+        requires { Follows target [] }
+        ensures { StartsAt target result.target result.log.state }
+    {
+        Sink {
+            target,
+            why: None,
+            log: Log::new(),
+        }
+    }
+
+    /// Writes a front of these bytes over what stands at a place of a file.
+    pub(crate) fn put_at(&mut self, at: u64, bytes: &[u8]) -> Result<usize, DeviceFault>
+        ensures writes { WritesOrFails result bytes.now }
+        ensures taken { IfOk result (λ n. self.new.log.state ≡ and_put self.old.log.state at (take n bytes.now)) }
+        ensures kept { OnErr result (self.new.log.state ≡ self.old.log.state) }
+    {
+        let answer = self.target.put_over(at, bytes);
+        match answer {
+            Ok(n) => {
+                self.log.put(&bytes[..n], at);
+                Ok(n)
+            }
+            Err(why) => {
+                self.why = why;
+                Err(DeviceFault::Failed)
+            }
+        }
+    }
+
+    /// Whether so many zeros may be a hole.
+    pub(crate) fn takes_hole(&self, n: u64) -> bool {
+        self.target.takes_hole(n)
+    }
+
+    /// Makes the file longer by a hole of at most so many zeros, and answers how many: 0 where that cannot be done.
+    pub(crate) fn lay_hole(&mut self, n: u64) -> u64
+        ensures { LaysHole n result self.old.log.state self.new.log.state }
+    {
+        let laid = self.target.lay_hole(n);
+        self.log.append_zeros(laid);
+        laid
+    }
+
+    /// Has all written that it holds.
+    pub(crate) fn settle(&mut self) -> Result<(), DeviceFault>
+        ensures { SettlesTarget result self.new.target self.old.log.state self.new.log.state }
+    {
+        match self.target.settle() {
+            Ok(()) => Ok(()),
+            Err(error) => {
+                self.why = error.raw_os_error();
+                Err(DeviceFault::Failed)
+            }
+        }
+    }
+
+    /// Has all written that it holds, and synced, where that is wanted. It answers all that it was given, and its file. Why
+    /// that could not be done, by the number of the system's error: then its file is closed. Standard output stays open.
+    pub(crate) fn end(self, is_synced: bool) -> Result<Ended<F>, Option<i32>>
+        ensures { IfOk result (EndsWith F.tells F.stands F.past is_synced self.log.state.bytes) }
+    {
+        match self.target.end(self.log, is_synced) {
+            Ok(ended) => Ok(ended),
+            Err(error) => Err(error.raw_os_error()),
+        }
+    }
+}
+
+impl<F: SystemFile + Drop> Write for Sink<F> {
+    ghost contents = { λ s. Some s.log.state.bytes };
+
+    fn write(&mut self, bytes: &[u8]) -> io::Result<usize> {
+        match self.target.put(bytes) {
+            Ok(n) => {
+                self.log.append(&bytes[..n]);
+                Ok(n)
+            }
+            Err(error) => {
+                self.why = error.raw_os_error();
+                Err(error)
+            }
+        }
+    }
+
+    fn flush(&mut self) -> io::Result<()> {
+        Ok(())
+    }
+}

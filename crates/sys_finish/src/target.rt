@@ -1,0 +1,125 @@
+//! What bytes are written to: what is written from its front on, a file with holes for its zeros, or one that holds bytes
+//! back.
+
+ghost use Rattle.std.specs.Prelude.{◌≡◌, ◌≤◌, ◌++◌, ℕ, List, IsTrue, replicate, IfOk, OnOk};
+ghost use Rattle.sys_finish.specs.Ends.{EndsWith};
+ghost use Rattle.sys_finish.specs.Follows.{Follows, HoldsNothing, PutsFront, PutsBelow};
+
+use abt_io::Log;
+use std::io;
+use sys_file::SystemFile;
+use sys_outputs::{HeldFile, HoleFile, StreamFile};
+
+// No hole of a file is smaller.
+const PAGE: u64 = 4096;
+
+#[derive(Drop)]
+pub(crate) enum Target<F: SystemFile + Drop> {
+    /// A file, a pipe or a device, which is given all bytes.
+    Stream(StreamFile<F>),
+    /// A regular file that was just created or emptied. Zeros are a hole, which takes no room and no time; so it holds
+    /// exactly what was written, after every call that did not fail.
+    Holes(HoleFile<F>),
+    /// A regular file that was just created or emptied, and holds what it was given last.
+    Held(HeldFile<F>),
+}
+
+/// An output that is at its end.
+#[derive(Drop)]
+pub struct Ended<F> {
+    /// All that it was given.
+    pub sent: Log,
+    /// The file that holds it.
+    pub file: F,
+}
+
+impl<F: SystemFile + Drop> Target<F> {
+    /// One write, once more where a signal came in between.
+    pub(crate) fn put(&mut self, bytes: &[u8]) -> io::Result<usize>
+        ensures { PutsFront result bytes.now self.old self.new }
+    {
+        match self {
+            Target::Stream(stream) => stream.put(bytes),
+            Target::Holes(holes) => holes.put(bytes),
+            Target::Held(held) => held.put(bytes),
+        }
+    }
+
+    /// One write over what stands at a place. Why the call failed, by its number, where it did.
+    pub(crate) fn put_over(&mut self, at: u64, bytes: &[u8]) -> Result<usize, Option<i32>>
+        ensures { PutsBelow result at bytes.now self.old self.new }
+    {
+        match self {
+            Target::Stream(stream) => stream.put_over(at, bytes),
+            Target::Holes(holes) => holes.put_over(at, bytes),
+            Target::Held(held) => held.put_over(at, bytes),
+        }
+    }
+
+    /// Whether so many zeros may be a hole.
+    pub(crate) fn takes_hole(&self, n: u64) -> bool {
+        match self {
+            Target::Holes(_) => n >= PAGE,
+            Target::Stream(_) => false,
+            Target::Held(_) => false,
+        }
+    }
+
+    /// Makes the file longer by a hole of at most so many zeros, and answers how many: 0 where that cannot be done.
+    pub(crate) fn lay_hole(&mut self, n: u64) -> u64
+        ensures within { result ≤ n }
+        ensures laid { (given : List ℕ) → Follows self.old given → Follows self.new (given ++ replicate result 0) }
+    {
+        match self {
+            Target::Holes(holes) => holes.lay_hole(n),
+            Target::Stream(_) => 0,
+            Target::Held(_) => 0,
+        }
+    }
+
+    /// Has all written that it holds.
+    pub(crate) fn settle(&mut self) -> io::Result<()>
+        ensures none { OnOk result (HoldsNothing self.new) }
+        ensures kept { (given : List ℕ) → Follows self.old given → Follows self.new given }
+    {
+        match self {
+            Target::Stream(_) => Ok(()),
+            Target::Holes(_) => Ok(()),
+            Target::Held(held) => held.settle(),
+        }
+    }
+
+    /// Has all written that it holds, and synced, where that is wanted. It answers all that it was given, which is this
+    /// log, and its file.
+    pub(crate) fn end(self, given: Log, is_synced: bool) -> io::Result<Ended<F>>
+        requires { Follows self given.state.bytes }
+        ensures { IfOk result (EndsWith F.tells F.stands F.past is_synced given.state.bytes) }
+    {
+        match self {
+            Target::Stream(stream) => match stream.end() {
+                Ok(file) => end_file(file, given, is_synced),
+                Err(error) => Err(error),
+            },
+            Target::Held(held) => match held.end() {
+                Ok(file) => end_file(file, given, is_synced),
+                Err(error) => Err(error),
+            },
+            Target::Holes(holes) => match holes.end() {
+                Ok(file) => end_file(file, given, is_synced),
+                Err(error) => Err(error),
+            },
+        }
+    }
+}
+
+// The end of a file that holds what was given.
+fn end_file<F: SystemFile + Drop>(file: F, given: Log, is_synced: bool) -> io::Result<Ended<F>>
+    requires { IsTrue F.tells → F.stands file ≡ given.state.bytes }
+    ensures { IfOk result (EndsWith F.tells F.stands F.past is_synced given.state.bytes) }
+{
+    let mut file = file;
+    if is_synced && let Err(error) = file.sync() {
+        return Err(error);
+    }
+    Ok(Ended { sent: given, file })
+}

@@ -1,0 +1,31 @@
+-- What a command does with a file.
+use Rattle.std.specs.Prelude.{Bool, true, false}
+use Rattle.sys_file.specs.declared.system.Opening.{Opening}
+use Rattle.sys_file.specs.declared.system.Opening.TheVariants as openings
+use Rattle.sys_host.specs.declared.opening.Access.{Access}
+use Rattle.sys_host.specs.declared.opening.Access.TheVariants as ways
+
+-- it is written
+abbrev pub may_write : Access → Bool
+may_write ways.Forward = false
+may_write ways.AnyPlace = false
+may_write ways.InPlace = true
+may_write ways.Create = true
+may_write ways.CreateFile = true
+may_write ways.Spool = true
+
+-- it is created where it is not there
+abbrev pub may_create : Access → Bool
+may_create ways.Forward = false
+may_create ways.AnyPlace = false
+may_create ways.InPlace = false
+may_create ways.Create = true
+may_create ways.CreateFile = true
+may_create ways.Spool = true
+
+-- the system is asked for more than to read
+abbrev pub asks_to_write : Opening → Bool
+asks_to_write openings.Read = false
+asks_to_write openings.Write = true
+asks_to_write openings.Create = true
+asks_to_write openings.CreateAndRead = true

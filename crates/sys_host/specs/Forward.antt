@@ -1,0 +1,34 @@
+-- What is read forward, of which the bytes may be known that are still to come.
+use Rattle.std.specs.Prelude.{◌≡◌, ◌≤◌, ◌-◌, ◌++◌, ℕ, List, [], Bool, true, false, IsTrue, Option, Some, None}
+use Rattle.std.specs.Prelude.{length, drop}
+use Rattle.sys_host.specs.declared.origin.Size.{Size}
+use Rattle.sys_host.specs.declared.origin.Size.TheVariants.{Told, Fixed}
+
+-- these bytes, where they are told
+abbrev pub known : Bool → List ℕ → Option (List ℕ)
+known true bytes = Some bytes
+known false bytes = None
+
+abbrev pub bytes_of_known : Option (List ℕ) → List ℕ
+bytes_of_known None = []
+bytes_of_known (Some bytes) = bytes
+
+-- the length that a file always has, if it is fixed
+abbrev pub fixed_size : Size → Option ℕ
+fixed_size Told = None
+fixed_size (Fixed bytes) = Some bytes
+
+-- it goes on behind so many bytes of a file: no more than were asked, and none beyond the end
+pub record GoesPast (tells : Bool) (passed most : ℕ) (old new : List ℕ) (place place' : ℕ) : Type 0 where
+  pub within : passed ≤ most
+  pub present : IsTrue tells → passed ≤ length old - place
+  pub same : IsTrue tells → new ≡ old
+  pub rest : IsTrue tells → drop place' new ≡ drop passed (drop place old)
+
+-- the same of a reader: bytes that it holds, and where it holds none those of its file
+pub record ReaderGoesPast (tells : Bool) (passed most : ℕ) (held held' : List ℕ) (room room' : ℕ) (old new : List ℕ)
+    (place place' : ℕ) : Type 0 where
+  pub bound : passed ≤ most
+  pub there : IsTrue tells → passed ≤ length (held ++ drop place old)
+  pub left : IsTrue tells → held' ++ drop place' new ≡ drop passed (held ++ drop place old)
+  pub same_room : room' ≡ room

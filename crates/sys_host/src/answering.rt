@@ -1,0 +1,196 @@
+//! The exit status of an outcome, and what standard error tells of it.
+
+ghost use Rattle.std.specs.Prelude.{◌≡◌, IfErr, OnOk, if◌then◌else◌};
+ghost use Rattle.sys_host.specs.Answering.{PrintsNothing};
+
+use crate::origin::Origin;
+use sys_refusals::{Magic, Place, Refusal, Told};
+use sys_report::Report;
+use sys_text::Text;
+use sys_std::OsSystem;
+use std::alloc::{AllocError, Global};
+use std::io;
+use std::io::Read;
+use sys_file::{Kind, Opening, System};
+
+/// Done.
+pub const DONE: u8 = 0;
+
+/// Refused, for the fault that standard error tells.
+pub const REFUSED: u8 = 1;
+
+/// The words are wrong, as standard error tells.
+pub const USAGE: u8 = 2;
+
+/// How a fault is told.
+#[derive(Clone, Copy)]
+pub struct Telling {
+    /// The name that the program was called by, before the first line.
+    pub program: &'static str,
+    /// Whether there is a second line.
+    pub is_verbose: bool,
+}
+
+/// The exit status of an outcome, whose fault is told to the user: in one line, and where it was asked for in a second
+/// one, which names the file and says why. Nothing is told where it would land in a file that is read.
+pub fn answer<F: Told + Drop>(
+    outcome: Result<(), Refusal<'_, F>>,
+    how: Telling,
+    rt: HostRuntime,
+    report: &mut Report,
+) -> u8
+    ensures done { OnOk outcome.entry (result ≡ 0) }
+    ensures quiet { OnOk outcome.entry (PrintsNothing report.old report.new) }
+    ensures refused { IfErr outcome.entry (λ refusal. result ≡ (if F.wrong_words refusal.fault then 2 else 1)) }
+{
+    report.progress.erase();
+    let refusal = match outcome {
+        Ok(()) => return DONE,
+        Err(refusal) => refusal,
+    };
+    if !refusal.about.is_untold {
+        tell(&refusal, how, &mut OsSystem { rt }, report);
+    }
+    if refusal.fault.is_usage() {
+        USAGE
+    } else {
+        REFUSED
+    }
+}
+
+fn tell<F: Told, S: System>(
+    refusal: &Refusal<'_, F>,
+    how: Telling,
+    system: &mut S,
+    report: &mut Report,
+) {
+    let second = if how.is_verbose {
+        second_line(system, refusal).ok()
+    } else {
+        None
+    };
+    first_line(refusal, how.program, report);
+    if let Some(line) = second {
+        report.note(line.as_str());
+    }
+}
+
+fn first_line<F: Told>(refusal: &Refusal<'_, F>, program: &str, report: &mut Report) {
+    let mut text = Text::new(&mut report.err);
+    text.word(program);
+    text.word(": ");
+    refusal.fault.put(refusal.about.place, &mut text);
+    text.end_line();
+    let _ = text.finish();
+}
+
+fn second_line<F: Told, S: System>(
+    system: &mut S,
+    refusal: &Refusal<'_, F>,
+) -> Result<String, AllocError> {
+    let alloc = system.alloc();
+    let about = refusal.about;
+    let why = match about.advice.or(other_image(system, refusal)) {
+        Some(advice) => String::from_str(alloc, advice)?,
+        None => why(alloc, about.why, &refusal.fault)?,
+    };
+    let why = why.as_str();
+    let line = match about.place {
+        Some(place) => {
+            let role = place.role;
+            format!(in alloc; "  {role} {place}: {why}")?
+        }
+        None => format!(in alloc; "  {why}")?,
+    };
+    let line = line.as_str();
+    let mended = with_mending(alloc, line, refusal.fault.mending_piece(), about.why)?;
+    with_unfinished(alloc, mended.as_str(), about.unfinished)
+}
+
+fn with_mending(
+    alloc: Global,
+    line: &str,
+    piece: Option<u32>,
+    number: Option<i32>,
+) -> Result<String, AllocError> {
+    match piece {
+        Some(piece) if is_of_room(number) => {
+            format!(in alloc; "{line}; make room, then --from {piece} mends it")
+        }
+        Some(piece) => format!(in alloc; "{line}; --from {piece} mends it"),
+        None => String::from_str(alloc, line),
+    }
+}
+
+// Whether the system's number says that there is no room: on the device, in a quota, or in a file of that length.
+fn is_of_room(number: Option<i32>) -> bool {
+    matches!(number, Some(28 | 122 | 27))
+}
+
+fn with_unfinished(
+    alloc: Global,
+    line: &str,
+    output: Option<Place<'_>>,
+) -> Result<String, AllocError> {
+    match output {
+        Some(place) => {
+            let role = place.role;
+            format!(in alloc; "{line}; {role} {place} is broken off")
+        }
+        None => String::from_str(alloc, line),
+    }
+}
+
+// What the file is that was refused for its magic, where it is an image of another kind. Its front is read anew.
+fn other_image<F: Told, S: System>(
+    system: &mut S,
+    refusal: &Refusal<'_, F>,
+) -> Option<&'static str> {
+    let missing = refusal.fault.missing_magic()?;
+    let place = refusal.about.place?;
+    if place.is_standard() {
+        return None;
+    }
+    let path = place.path(system.alloc()).ok()?;
+    let front = front_of(system, path.as_str()).ok()?;
+    image_of(missing, front)
+}
+
+// The first bytes of a regular file.
+fn front_of<S: System>(system: &mut S, path: &str) -> io::Result<[u8; 8]> {
+    if system.look(path)?.kind != Kind::File {
+        return Err(io::Error::from(io::ErrorKind::InvalidInput));
+    }
+    let mut front = [0; 8];
+    let mut file = Origin::stream(system.open(path, Opening::Read)?);
+    file.read_exact(&mut front)?;
+    Ok(front)
+}
+
+fn image_of(missing: Magic, front: [u8; 8]) -> Option<&'static str> {
+    match missing {
+        Magic::Sparse if front == *b"ANDROID!" => Some("it is a boot image; info shows it"),
+        Magic::Sparse if front == *b"VNDRBOOT" => Some("it is a vendor boot image; info shows it"),
+        Magic::Boot if front.starts_with(b"\x3a\xff\x26\xed") => {
+            Some("it is a sparse image; list shows it")
+        }
+        _ => None,
+    }
+}
+
+// What the system says of a call that failed, without its number; else what can be done.
+fn why<F: Told>(alloc: Global, number: Option<i32>, fault: &F) -> Result<String, AllocError> {
+    match number {
+        Some(number) if fault.is_of_a_device() => told_by_system(alloc, number),
+        _ => String::from_str(alloc, fault.advice()),
+    }
+}
+
+fn told_by_system(alloc: Global, number: i32) -> Result<String, AllocError> {
+    let error = io::Error::from_raw_os_error(number);
+    let told = format!(in alloc; "{error}")?;
+    match told.as_str().split_once(" (os error ") {
+        Some((text, _)) => String::from_str(alloc, text),
+        None => Ok(told),
+    }
+}

@@ -1,0 +1,137 @@
+//! What an input's buffer is filled from: a file that has a place, or what is only read.
+
+ghost use Rattle.std.proofs.Props.{props};
+ghost use Rattle.std.specs.Prelude.{◌≡◌, ◌≤◌, ◌-◌, ◌^◌, false, length, drop, min, IsTrue, IfSome, IfOk, option_and_then};
+ghost use Rattle.sys_host.specs.Forward.{known, fixed_size, GoesPast};
+ghost use Rattle.sys_host.specs.Opens.{WasOpened};
+
+use crate::opening::Opened;
+use std::io;
+use std::io::Read;
+use sys_file::{SystemFile, read};
+
+/// How long a file is.
+#[derive(Clone, Copy, Drop)]
+pub(crate) enum Size {
+    /// A regular file tells it, and may change.
+    Told,
+    /// A block device is always as long.
+    Fixed(u64),
+}
+
+/// Where the next byte of a file is, and how long it is.
+#[derive(Clone, Copy, Drop)]
+pub(crate) struct Placed {
+    at: u64,
+    size: Size,
+}
+
+/// A reader that keeps why it failed.
+#[derive(Drop)]
+pub struct Origin<F: SystemFile + Drop> {
+    pub(crate) file: F,
+    placed: Option<Placed>,
+    pub(crate) why: Option<i32>,
+    ghost at: { IsTrue F.tells → IfSome placed (λ p. p.at ≡ min (F.place file) (2 ^ 64 - 1)) } by { Prim.hlevel props },
+    ghost sized: { IsTrue F.tells → IfSome (option_and_then (λ p. fixed_size p.size) placed)
+        (λ n. n ≡ length (F.stands file)) } by { Prim.hlevel props },
+}
+
+impl<F: SystemFile + Drop> Origin<F> {
+    /// What is only read, as a pipe.
+    pub(crate) fn stream(file: F) -> Origin<F>
+        ensures { result.file ≡ file }
+    {
+        Origin {
+            file,
+            placed: None,
+            why: None,
+        }
+    }
+
+    /// A file that was just opened. A regular file and a block device have a place, which is at their front.
+    pub(crate) fn of_opened(opened: Opened<F>) -> io::Result<Origin<F>>
+        requires { WasOpened F.tells F.stands F.place F.past false opened }
+        ensures { IsTrue F.tells → IfOk result (λ origin. (F.stands origin.file ≡ F.stands opened.file)
+            × (F.place origin.file ≡ 0)) }
+    {
+        let Opened { file, found, .. } = opened;
+        let mut file = file;
+        let size = if found.is_file() {
+            Size::Told
+        } else if found.is_block() {
+            let size = file.length()?;
+            file.go_to(0)?;
+            Size::Fixed(size)
+        } else {
+            return Ok(Origin::stream(file));
+        };
+        Ok(Origin {
+            file,
+            placed: Some(Placed { at: 0, size }),
+            why: None,
+        })
+    }
+
+    /// Goes on behind at most so many bytes, none of them beyond the end. It answers how many: none where only a read
+    /// can tell.
+    pub(crate) fn pass(&mut self, most: usize) -> usize
+        ensures { GoesPast F.tells result most (F.stands self.old.file) (F.stands self.new.file) (F.place self.old.file)
+            (F.place self.new.file) }
+    {
+        let Some(placed) = self.placed else {
+            return 0;
+        };
+        let left = size_of(&self.file, placed.size).saturating_sub(placed.at);
+        let n = left.min(most as u64);
+        if n == 0 {
+            return 0;
+        }
+        let behind = placed.at + n;
+        match self.file.go_to(behind) {
+            Ok(()) => {
+                self.placed = Some(Placed {
+                    at: behind,
+                    size: placed.size,
+                });
+                n as usize
+            }
+            Err(_) => 0,
+        }
+    }
+}
+
+fn size_of<F: SystemFile>(file: &F, size: Size) -> u64
+    requires { IsTrue F.tells → IfSome (fixed_size size) (λ n. n ≡ length (F.stands file.now)) }
+    ensures { IsTrue F.tells → result ≤ length (F.stands file.now) }
+{
+    match size {
+        Size::Fixed(bytes) => bytes,
+        Size::Told => match file.stamp() {
+            Some(stamp) => stamp.length,
+            None => 0,
+        },
+    }
+}
+
+impl<F: SystemFile + Drop> Read for Origin<F> {
+    ghost remaining = { λ o. known F.tells (drop (F.place o.file) (F.stands o.file)) };
+
+    fn read(&mut self, bytes: &mut [u8]) -> io::Result<usize> {
+        match read(&mut self.file, bytes) {
+            Ok(n) => {
+                if let Some(placed) = self.placed {
+                    self.placed = Some(Placed {
+                        at: placed.at.saturating_add(n as u64),
+                        size: placed.size,
+                    });
+                }
+                Ok(n)
+            }
+            Err(error) => {
+                self.why = error.raw_os_error();
+                Err(error)
+            }
+        }
+    }
+}

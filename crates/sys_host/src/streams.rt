@@ -1,0 +1,48 @@
+//! Where reports go, which must be no file that is read, and none that data goes to.
+
+ghost use Rattle.std.specs.Prelude.{◌≡◌, ◌↔◌, IsTrue, OnOk, IfErr};
+ghost use Rattle.sys_host.specs.Streams.{Reported, Mixed};
+
+use sys_refusals::{HostFault, HostRefusal, Place};
+use sys_identity::{ERRORS, Identity, OUTPUT, identity_of_stream};
+use sys_file::System;
+
+/// What standard output and standard error are.
+#[derive(Clone, Copy, Drop)]
+pub struct Streams {
+    pub out: Identity,
+    pub err: Identity,
+}
+
+impl Streams {
+    pub fn of_system<S: System>(system: &S) -> Streams {
+        Streams {
+            out: identity_of_stream(system, OUTPUT),
+            err: identity_of_stream(system, ERRORS),
+        }
+    }
+
+    /// Refuses to read a file with data in which a report would land. Of what would land there itself nothing is told.
+    pub fn spare<'a>(&self, identity: Identity, place: Place<'a>) -> Result<(), HostRefusal<'a>>
+        ensures spared { OnOk result (¬ Reported self.now identity) }
+        ensures reported { IfErr result (λ _. Reported self.now identity) }
+        ensures fault { IfErr result (λ refusal. refusal.fault ≡ HostFault.SameFile) }
+        ensures untold { IfErr result (λ refusal. IsTrue refusal.about.is_untold ↔ (self.now.err ≡ identity)) }
+    {
+        let is_untold = self.err == identity;
+        if identity.holds_data && is_untold {
+            return Err(HostRefusal::at(HostFault::SameFile, place, None).untold_if(is_untold));
+        }
+        if identity.holds_data && self.out == identity {
+            return Err(HostRefusal::at(HostFault::SameFile, place, None).untold_if(is_untold));
+        }
+        Ok(())
+    }
+
+    /// Whether what is told would stand among the data of an output that is this file.
+    pub fn mixes_with(&self, identity: Identity) -> bool
+        ensures { IsTrue result ↔ Mixed self.now identity }
+    {
+        identity.mixes && self.err == identity
+    }
+}

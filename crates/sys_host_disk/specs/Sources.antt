@@ -1,0 +1,14 @@
+-- A source that is opened plainly, or read ahead, or is standard input.
+use Rattle.std.specs.Prelude.{ℕ}
+use Rattle.sys_devices.specs.declared.source.FileSource.{FileSource}
+use Rattle.sys_devices.specs.declared.ahead.AheadSource.{AheadSource}
+use Rattle.sys_identity.specs.declared.standard_input.StandardSource.{StandardSource}
+use Rattle.sys_host_disk.specs.declared.source.HostSource.{HostSource}
+use Rattle.sys_host_disk.specs.declared.source.HostSource.TheVariants.{Plain, Ahead, Standard}
+
+-- a count of one of them
+abbrev pub number_of_source : {F : Type 0} {g : _} → (FileSource F g → ℕ) → (AheadSource F g → ℕ)
+    → (StandardSource F g → ℕ) → HostSource F g → ℕ
+number_of_source plain ahead standard (Plain source) = plain source
+number_of_source plain ahead standard (Ahead source) = ahead source
+number_of_source plain ahead standard (Standard source) = standard source

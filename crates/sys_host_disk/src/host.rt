@@ -1,0 +1,328 @@
+//! The files of the system as a disk.
+
+ghost use Rattle.std.specs.Prelude.{[], None, false};
+ghost use Rattle.std.proofs.lemmas.Bool.{false≢true};
+
+use crate::source::HostSource;
+use sys_disk::{Disk, ImageTo};
+use sys_host::{InputFile, Reading, Writing, not_opened};
+use abt_io::Overwrite;
+use sys_finish::{ImageFile, ImageOutput, OutputFile};
+use sys_refusals::{HostFault, HostRefusal, Place};
+use sys_identity::{INPUT, is_standard_input, standard_source_again};
+use std::alloc::AllocError;
+use sys_devices::{FilePartition, GatheringSpool};
+use sys_file::{System, SystemFile};
+
+// How long the magic of an image is at most.
+const MAGIC: usize = 8;
+
+/// What a run does with files. It tells nothing of what they hold.
+#[derive(Drop)]
+pub struct Host<S: System + Drop> {
+    writing: Writing<S>,
+    // What goes through a spool is looked at where each piece ends: what changes behind the last one does no harm.
+    is_looked_at: bool,
+}
+
+impl<S: System + Drop> Host<S> {
+    /// Begins with what is open to be read, if anything is.
+    pub fn new(reading: Reading<S>) -> Host<S> {
+        Host {
+            writing: reading.all_open(),
+            is_looked_at: false,
+        }
+    }
+
+    /// What opens its files.
+    pub fn system(&mut self) -> &mut S {
+        &mut self.writing.reading.system
+    }
+
+    /// Each output that is a file or a block device is going to be synced at its end.
+    pub fn sync_all(&mut self) {
+        self.writing.reading.sync_outputs();
+    }
+
+    /// Block devices may be written that are in use: mounted, or swap.
+    pub fn allow_all(&mut self) {
+        self.writing.reading.allow_mounted();
+    }
+
+    // Refuses where a file that is read has changed which is not looked at where each piece ends.
+    fn unchanged_at_end<'a>(&self) -> Result<(), HostRefusal<'a>> {
+        if self.is_looked_at {
+            return Ok(());
+        }
+        self.writing.reading.unchanged()
+    }
+
+    // Reads standard input at any place.
+    fn standard<'a>(&mut self, place: Place<'a>) -> Result<HostSource<S::File>, HostRefusal<'a>> {
+        match self.writing.reading.standard_source(place) {
+            Ok(source) => Ok(HostSource::Standard(source)),
+            Err(refusal) => Err(refusal),
+        }
+    }
+}
+
+impl<S: System + Drop> Disk for Host<S> {
+    type From = InputFile<S::File>;
+
+    type Onto = OutputFile<S::File>;
+
+    type At = HostSource<S::File>;
+
+    type Part = FilePartition<S::File>;
+
+    type Image = ImageFile<S::File>;
+
+    type Through = GatheringSpool<S::File>;
+
+    ghost tells = { false };
+
+    ghost world = { λ _. record { at = λ _. None; holds = λ _. [] } };
+
+    ghost held = { λ _. record {
+      read = [];
+      begun = [];
+      output = None;
+      part = None;
+      spool = None;
+      is_synced = false;
+      syncs = 0;
+      failed = 0;
+    } };
+
+    ghost is_over = { λ _. false };
+
+    ghost on_output = { λ _. false };
+
+    ghost told = { λ t. absurd (false≢true t) };
+
+    ghost source_told = { λ t. absurd (false≢true t) };
+
+    ghost part_told = { λ t. absurd (false≢true t) };
+
+    ghost through_told = { λ t. absurd (false≢true t) };
+
+    fn input<'a>(&mut self, place: Place<'a>) -> Result<InputFile<S::File>, HostRefusal<'a>> {
+        self.writing.reading.input(place)
+    }
+
+    fn source<'a>(&mut self, place: Place<'a>) -> Result<HostSource<S::File>, HostRefusal<'a>> {
+        if is_standard_input(&place) {
+            return self.standard(place);
+        }
+        match self.writing.reading.source(place) {
+            Ok(source) => Ok(HostSource::Plain(source)),
+            Err(refusal) => Err(refusal),
+        }
+    }
+
+    fn ahead<'a>(&mut self, place: Place<'a>) -> Result<HostSource<S::File>, HostRefusal<'a>> {
+        if is_standard_input(&place) {
+            return self.standard(place);
+        }
+        let source = self.writing.reading.source(place)?;
+        match HostSource::ahead(self.writing.alloc, source) {
+            Ok(source) => Ok(source),
+            Err(_) => Err(HostRefusal::memory()),
+        }
+    }
+
+    fn again<'a>(
+        &mut self,
+        at: &HostSource<S::File>,
+        place: Place<'a>,
+    ) -> Result<HostSource<S::File>, HostRefusal<'a>> {
+        let source = match at {
+            HostSource::Plain(source) => source,
+            HostSource::Ahead(source) => &source.file().source,
+            HostSource::Standard(source) => {
+                return match standard_source_again(&self.writing.reading.system, source) {
+                    Ok(source) => Ok(HostSource::Standard(source)),
+                    Err(error) => Err(not_opened(&error, place)),
+                };
+            }
+        };
+        match self.writing.reading.again(source, place) {
+            Ok(source) => Ok(HostSource::Plain(source)),
+            Err(refusal) => Err(refusal),
+        }
+    }
+
+    fn text<'a>(&mut self, place: Place<'a>) -> Result<String, HostRefusal<'a>> {
+        self.writing.reading.text(place)
+    }
+
+    fn let_go(&mut self, from: InputFile<S::File>) {
+        let descriptor = self.writing.reading.system.descriptor(from.file());
+        self.writing.reading.let_go(descriptor);
+    }
+
+    fn let_go_source(&mut self, at: HostSource<S::File>) {
+        if at.is_standard() {
+            self.writing.reading.let_go(INPUT);
+        } else if let Some(file) = at.file() {
+            let descriptor = self.writing.reading.system.descriptor(file);
+            self.writing.reading.let_go(descriptor);
+        }
+    }
+
+    fn unchanged<'a>(&mut self) -> Result<(), HostRefusal<'a>> {
+        self.writing.reading.unchanged()
+    }
+
+    fn partition<'a>(
+        &mut self,
+        place: Place<'a>,
+    ) -> Result<FilePartition<S::File>, HostRefusal<'a>> {
+        self.writing.partition(place)
+    }
+
+    fn why_of_part(&self, part: &FilePartition<S::File>) -> Option<i32> {
+        part.why()
+    }
+
+    fn why_of_spool(&self, through: &GatheringSpool<S::File>) -> Option<i32> {
+        through.why()
+    }
+
+    fn close<'a>(
+        &mut self,
+        part: FilePartition<S::File>,
+        place: Place<'a>,
+    ) -> Result<bool, HostRefusal<'a>> {
+        let looked = self.unchanged_at_end();
+        self.writing.close(part, place)?;
+        match looked {
+            Ok(()) => Ok(self.writing.is_data_on_output()),
+            Err(refusal) => Err(refusal),
+        }
+    }
+
+    fn zeros<'a>(
+        &mut self,
+        place: Place<'a>,
+        bytes: u64,
+    ) -> Result<FilePartition<S::File>, HostRefusal<'a>> {
+        self.writing.zeros(place, bytes)
+    }
+
+    fn spool<'a>(
+        &mut self,
+        place: Place<'a>,
+        limit: u32,
+        keeping: bool,
+        from: &HostSource<S::File>,
+    ) -> Result<GatheringSpool<S::File>, HostRefusal<'a>> {
+        let Ok(from) = from.shared() else {
+            return Err(HostRefusal::memory());
+        };
+        self.is_looked_at = from.is_some();
+        let alloc = self.writing.alloc;
+        if !keeping {
+            let file = self.writing.spool(place)?;
+            return Ok(GatheringSpool::new(alloc, file, limit as u64, from, 0));
+        }
+        let (file, stands) = self.writing.kept_spool(place, limit)?;
+        Ok(GatheringSpool::keeping(alloc, file, limit as u64, from, stands))
+    }
+
+    fn close_spool<'a>(
+        &mut self,
+        through: GatheringSpool<S::File>,
+        place: Place<'a>,
+    ) -> Result<bool, HostRefusal<'a>> {
+        let mut through = through;
+        match through.settle() {
+            Ok(()) => {
+                let is_changed = self.unchanged_at_end().is_err();
+                Ok(through.is_from_short() || is_changed)
+            }
+            Err(_) => Err(HostRefusal::at(HostFault::Write, place, None)),
+        }
+    }
+
+    fn is_there<'a>(&self, place: Place<'a>) -> Result<bool, HostRefusal<'a>> {
+        self.writing.is_there(place)
+    }
+
+    fn left_over(&self, place: Place<'_>, behind: u32) -> Result<Option<u32>, AllocError> {
+        self.writing.left_over(place, behind)
+    }
+
+    fn refuse_taken<'a>(&mut self, place: Place<'a>) -> Result<(), HostRefusal<'a>> {
+        self.writing.refuse_taken(place)
+    }
+
+    fn plain<'a>(&mut self, place: Place<'a>) -> Result<OutputFile<S::File>, HostRefusal<'a>> {
+        self.writing.plain(place)
+    }
+
+    fn raw<'a>(&mut self, place: Place<'a>) -> Result<OutputFile<S::File>, HostRefusal<'a>> {
+        self.writing.raw(place)
+    }
+
+    fn finish<'a>(
+        &mut self,
+        onto: OutputFile<S::File>,
+        place: Place<'a>,
+    ) -> Result<bool, HostRefusal<'a>> {
+        if let Err(refusal) = self.writing.reading.unchanged() {
+            onto.give_up();
+            return Err(refusal.begun(place));
+        }
+        let is_data_on_output = onto.finish(place)?.is_data_on_output();
+        self.writing.end_output(place)?;
+        Ok(is_data_on_output)
+    }
+
+    fn give_up(&mut self, onto: OutputFile<S::File>) {
+        onto.give_up()
+    }
+
+    fn image<'a>(
+        &mut self,
+        place: Place<'a>,
+        is_gathered: bool,
+    ) -> Result<ImageTo<ImageFile<S::File>, OutputFile<S::File>>, HostRefusal<'a>> {
+        match self.writing.image(place, is_gathered) {
+            Ok(ImageOutput::File(image)) => Ok(ImageTo::File(image)),
+            Ok(ImageOutput::Stream(output)) => Ok(ImageTo::Stream(output)),
+            Err(refusal) => Err(refusal),
+        }
+    }
+
+    fn finish_image<'a>(
+        &mut self,
+        image: ImageFile<S::File>,
+        place: Place<'a>,
+    ) -> Result<bool, HostRefusal<'a>> {
+        if let Err(refusal) = self.writing.reading.unchanged() {
+            blank_front(image);
+            return Err(refusal.begun(place));
+        }
+        let is_data_on_output = image.finish(place)?.is_data_on_output();
+        self.writing.end_output(place)?;
+        Ok(is_data_on_output)
+    }
+
+    fn give_up_image(&mut self, image: ImageFile<S::File>) {
+        if self.writing.reading.unchanged().is_err() {
+            blank_front(image);
+        } else {
+            image.give_up()
+        }
+    }
+}
+
+// Lets an image go that is not to be taken for one: zeros are laid where its magic is.
+fn blank_front<F: SystemFile + Drop>(image: ImageFile<F>) {
+    let mut image = image;
+    let front = image.position().min(MAGIC as u64) as usize;
+    let zeros = [0u8; MAGIC];
+    let _ = image.write_over(0, &zeros[..front]);
+    image.give_up();
+}

@@ -1,0 +1,148 @@
+//! What is read at any place: a file or a block device.
+
+ghost use Rattle.std.specs.Prelude.{[], false};
+ghost use Rattle.std.proofs.lemmas.Bool.{false≢true};
+ghost use Rattle.sys_host_disk.specs.Sources.{number_of_source};
+
+use sys_disk::Lasting;
+use abt_io::{DeviceFault, Source};
+use sys_identity::StandardSource;
+use std::alloc::{AllocError, Global};
+use std::rc::Rc;
+use sys_devices::{AheadFile, AheadSource, FileSource};
+use sys_file::SystemFile;
+
+/// A file or a block device.
+#[derive(Drop)]
+pub enum HostSource<F: SystemFile + Drop> {
+    /// Each read is made as it is asked for.
+    Plain(FileSource<F>),
+    /// Small reads are answered from what was read before.
+    Ahead(AheadSource<F>),
+    /// Standard input, from where it stands.
+    Standard(StandardSource<F>),
+}
+
+impl<F: SystemFile + Drop> HostSource<F> {
+    /// The same, of which small reads are answered from what was read before.
+    pub(crate) fn ahead(alloc: Global, source: FileSource<F>) -> Result<HostSource<F>, AllocError> {
+        match AheadSource::new(alloc, source) {
+            Ok(source) => Ok(HostSource::Ahead(source)),
+            Err(error) => Err(error),
+        }
+    }
+
+    /// Whether it is standard input.
+    pub(crate) fn is_standard(&self) -> bool {
+        match self {
+            HostSource::Plain(_) => false,
+            HostSource::Ahead(_) => false,
+            HostSource::Standard(_) => true,
+        }
+    }
+
+    /// Its file, if it is one of its own: standard input is not, and neither is nothing at all.
+    pub(crate) fn file(&self) -> Option<&F> {
+        match self {
+            HostSource::Plain(source) => source.file.as_ref(),
+            HostSource::Ahead(source) => source.file().source.file.as_ref(),
+            HostSource::Standard(_) => None,
+        }
+    }
+
+    /// The file that is read ahead, if it is, for what goes through a spool.
+    pub(crate) fn shared(&self) -> Result<Option<Rc<AheadFile<F>>>, AllocError> {
+        match self {
+            HostSource::Plain(_) => Ok(None),
+            HostSource::Standard(_) => Ok(None),
+            HostSource::Ahead(source) => match source.shared() {
+                Ok(file) => Ok(Some(file)),
+                Err(error) => Err(error),
+            },
+        }
+    }
+}
+
+impl<F: SystemFile + Drop> Source for HostSource<F> {
+    ghost tells = { false };
+
+    ghost content = { λ _. [] };
+
+    ghost size = { λ s. number_of_source ⟦<FileSource<F> as Source>⟧.size ⟦<AheadSource<F> as Source>⟧.size
+        ⟦<StandardSource<F> as Source>⟧.size s };
+
+    ghost reads = { λ s. number_of_source ⟦<FileSource<F> as Source>⟧.reads ⟦<AheadSource<F> as Source>⟧.reads
+        ⟦<StandardSource<F> as Source>⟧.reads s };
+
+    ghost given = { λ s. number_of_source ⟦<FileSource<F> as Source>⟧.given ⟦<AheadSource<F> as Source>⟧.given
+        ⟦<StandardSource<F> as Source>⟧.given s };
+
+    ghost read_faults = { λ s. number_of_source ⟦<FileSource<F> as Source>⟧.read_faults
+        ⟦<AheadSource<F> as Source>⟧.read_faults
+        ⟦<StandardSource<F> as Source>⟧.read_faults s };
+
+    ghost sized = { λ _ t. absurd (false≢true t) };
+
+    ghost are_bytes = { λ _ t. absurd (false≢true t) };
+
+    fn length(&self) -> u64 {
+        match self {
+            HostSource::Plain(source) => source.length(),
+            HostSource::Ahead(source) => source.length(),
+            HostSource::Standard(source) => source.length(),
+        }
+    }
+
+    fn read_at(&mut self, at: u64, out: &mut [u8]) -> Result<usize, DeviceFault> {
+        match self {
+            HostSource::Plain(source) => source.read_at(at, out),
+            HostSource::Ahead(source) => source.read_at(at, out),
+            HostSource::Standard(source) => source.read_at(at, out),
+        }
+    }
+}
+
+impl<F: SystemFile + Drop> Lasting for HostSource<F> {
+    fn forget(&mut self) {
+        match self {
+            HostSource::Plain(_) => {}
+            HostSource::Standard(_) => {}
+            HostSource::Ahead(source) => source.forget(),
+        }
+    }
+
+    fn rest(&mut self) {
+        match self {
+            HostSource::Plain(_) => {}
+            HostSource::Standard(_) => {}
+            HostSource::Ahead(source) => source.rest(),
+        }
+    }
+
+    fn shorter(&self) -> Option<u64> {
+        match self {
+            HostSource::Plain(_) => None,
+            HostSource::Standard(_) => None,
+            HostSource::Ahead(source) => source.shorter(),
+        }
+    }
+
+    fn length_now(&mut self) -> u64 {
+        end_of(self)
+    }
+}
+
+fn end_of<F: SystemFile + Drop>(source: &HostSource<F>) -> u64 {
+    match source {
+        HostSource::Plain(source) => end_of_source(source),
+        HostSource::Ahead(source) => end_of_source(&source.file().source),
+        HostSource::Standard(source) => source.length_now(),
+    }
+}
+
+fn end_of_source<F: SystemFile + Drop>(source: &FileSource<F>) -> u64 {
+    match &source.file {
+        Some(file) => file.length().unwrap_or(0),
+        None => 0,
+    }
+}

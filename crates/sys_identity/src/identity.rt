@@ -1,0 +1,177 @@
+//! Which file it is, whatever path, link or descriptor it was reached by, and what else the system tells of it.
+
+ghost use Rattle.std.specs.Prelude.{◌≡◌, ◌↔◌, Some, None, IsTrue, true};
+ghost use Rattle.sys_file.specs.declared.stat.Kind.{Kind};
+ghost use Rattle.sys_identity.specs.Identity.{identity_of};
+
+use crate::descriptors::stat_of_open;
+use std::io;
+use sys_file::{Kind, Stat, System};
+
+/// A file, told from all others.
+#[derive(Clone, Copy, PartialEq, Eq)]
+pub struct Identity {
+    // The device that it is on, or nothing of a block device, which is its own.
+    device: Option<u64>,
+    number: u64,
+    /// Whether writing it would lose what it holds: not of a pipe, a terminal or the null device.
+    pub holds_data: bool,
+    /// Whether what is written there stands among what others write there: a terminal and the null device are no such
+    /// thing.
+    pub mixes: bool,
+}
+
+impl Identity {
+    // No file is this one.
+    fn unknown() -> Identity {
+        Identity {
+            device: None,
+            number: 0,
+            holds_data: false,
+            mixes: false,
+        }
+    }
+
+    /// Of a file of which the system tells this.
+    pub fn of(stat: &Stat) -> Identity
+        ensures { result ≡ identity_of stat.now }
+    {
+        match stat.kind {
+            Kind::Block => Identity::of_block(stat.device),
+            Kind::File => Identity::on_device(stat, true, true),
+            Kind::Pipe => Identity::on_device(stat, false, true),
+            Kind::Socket => Identity::on_device(stat, false, true),
+            Kind::Folder => Identity::on_device(stat, false, false),
+            Kind::Other => Identity::on_device(stat, false, false),
+        }
+    }
+
+    fn on_device(stat: &Stat, holds_data: bool, mixes: bool) -> Identity
+        ensures { result ≡ record {
+          device = Some stat.now.on;
+          number = stat.now.number;
+          holds_data = holds_data;
+          mixes = mixes;
+        } }
+    {
+        Identity {
+            device: Some(stat.on),
+            number: stat.number,
+            holds_data,
+            mixes,
+        }
+    }
+
+    /// The block device of this number.
+    pub fn of_block(number: u64) -> Identity
+        ensures { result ≡ record { device = None; number = number; holds_data = true; mixes = true } }
+    {
+        Identity {
+            device: None,
+            number,
+            holds_data: true,
+            mixes: true,
+        }
+    }
+
+    /// The number of the block device that it is, if it is one.
+    pub fn block(&self) -> Option<u64> {
+        match self.device {
+            None if self.holds_data => Some(self.number),
+            _ => None,
+        }
+    }
+}
+
+/// When a file was last written, as its file system tells.
+#[derive(Clone, Copy, PartialEq, Eq)]
+pub struct Modified {
+    seconds: i64,
+    nanoseconds: i64,
+}
+
+/// What the system tells of a file.
+#[derive(Clone, Copy, Drop)]
+pub struct Found {
+    pub identity: Identity,
+    pub kind: Kind,
+    /// How long a regular file is.
+    pub length: u64,
+    pub modified: Modified,
+}
+
+impl Found {
+    pub fn new(stat: &Stat) -> Found
+        ensures identity { result.identity ≡ identity_of stat.now }
+        ensures kind { result.kind ≡ stat.now.kind }
+        ensures length { result.length ≡ stat.now.length }
+    {
+        Found {
+            identity: Identity::of(stat),
+            kind: stat.kind,
+            length: stat.length,
+            modified: Modified {
+                seconds: stat.second,
+                nanoseconds: stat.nanosecond,
+            },
+        }
+    }
+
+    pub fn is_file(&self) -> bool
+        ensures { IsTrue result ↔ (self.now.kind ≡ Kind.File) }
+    {
+        self.kind == Kind::File
+    }
+
+    pub fn is_block(&self) -> bool {
+        self.kind == Kind::Block
+    }
+}
+
+/// What is open under this descriptor.
+pub fn found_of<S: System>(system: &S, descriptor: i32) -> io::Result<Found> {
+    match stat_of_open(system, descriptor) {
+        Ok(stat) => Ok(Found::new(&stat)),
+        Err(error) => Err(error),
+    }
+}
+
+/// What is at this path, behind any links.
+pub fn found_at<S: System>(system: &S, path: &str) -> io::Result<Found> {
+    match system.look(path) {
+        Ok(stat) => Ok(Found::new(&stat)),
+        Err(error) => Err(error),
+    }
+}
+
+/// What standard input, standard output or standard error is. Where that is closed, or the system does not show it, it
+/// is like no file.
+pub fn identity_of_stream<S: System>(system: &S, descriptor: i32) -> Identity {
+    match found_of(system, descriptor) {
+        Ok(found) => found.identity,
+        Err(_) => Identity::unknown(),
+    }
+}
+
+/// What is at this path, where something is.
+pub fn identity_at<S: System>(system: &S, path: &str) -> Option<Identity> {
+    match found_at(system, path) {
+        Ok(found) => Some(found.identity),
+        Err(_) => None,
+    }
+}
+
+/// The number of a device, of its two, as Linux makes it.
+pub fn device_number(major: u32, minor: u32) -> u64 {
+    let high = ((major & 0xffff_f000) as u64) << 32;
+    let middle = ((minor & 0xffff_ff00) as u64) << 12;
+    let low = ((major & 0xfff) << 8) | (minor & 0xff);
+    high | middle | (low as u64)
+}
+
+/// The two numbers of a device.
+pub fn device_parts(number: u64) -> (u64, u64) {
+    let major = ((number >> 32) & 0xffff_f000) | ((number >> 8) & 0xfff);
+    let minor = ((number >> 12) & 0xffff_ff00) | (number & 0xff);
+    (major, minor)
+}

@@ -1,0 +1,156 @@
+//! What a user is told of a fault.
+
+ghost use Rattle.std.specs.Prelude.{◌≡◌, Bool, List, ℕ};
+ghost use Rattle.sys_refusals.specs.Host.{is_not_text};
+ghost use Rattle.sys_text.specs.Printed.{Prints};
+
+use crate::place::Place;
+use crate::refusal::HostFault;
+use abt_io::Output;
+use sys_text::Text;
+
+/// Which of the files at hand a fault is about.
+#[derive(Clone, Copy, Drop)]
+pub enum Side {
+    /// What is read.
+    Input,
+    /// What is written.
+    Output,
+    /// The file that the pieces of a flash go through.
+    Spool,
+    /// The words.
+    Words,
+}
+
+/// The kinds of images that begin with a magic.
+#[derive(Clone, Copy, Drop)]
+pub enum Magic {
+    /// Sparse images.
+    Sparse,
+    /// Boot images and vendor boot images.
+    Boot,
+}
+
+/// A fault that a user is told of.
+pub trait Told {
+    /// The words are wrong, rather than what they name.
+    ghost wrong_words: { Self → Bool };
+
+    /// Whether the words are wrong, rather than what they name.
+    fn is_usage(&self) -> bool
+        ensures { result ≡ wrong_words self.now };
+
+    /// Which of the files at hand it is about.
+    fn side(&self) -> Side;
+
+    /// Whether a device or the opening of a file failed, of which the system tells why.
+    fn is_of_a_device(&self) -> bool;
+
+    /// What can be done, where the system gives no reason.
+    fn advice(&self) -> &'static str;
+
+    /// The kind of image that a file was taken for, and has not the magic of.
+    fn missing_magic(&self) -> Option<Magic>;
+
+    /// The piece from which on a flash that was stopped goes on.
+    fn mending_piece(&self) -> Option<u32>;
+
+    /// Adds what the first line says of it, behind `abootimg: `.
+    fn put<O: Output>(&self, place: Option<Place<'_>>, text: &mut Text<'_, O>)
+        ensures { (told : List ℕ) × Prints O.written O.write_faults text.old text.new told };
+}
+
+impl HostFault {
+    /// What can be done, where the system gives no reason.
+    pub fn advice(self) -> &'static str {
+        match self {
+            HostFault::CannotOpen => "it is neither a file nor a block device",
+            HostFault::NoFolder => "its folder is missing",
+            HostFault::SameFile => "it is read, so it is not written; name another file",
+            HostFault::Mounted =>
+                "it is in use: unmount it, or end its use as swap; --mounted writes it all the same",
+            HostFault::Changed => "it changed while it was read; try again when nothing writes it",
+            HostFault::NotText => "a file of words is text in UTF-8, with one word a line",
+            HostFault::TooLong => "a file of words has at most 1 MiB",
+            HostFault::Read => "it cannot be read",
+            HostFault::Write => "it cannot be written",
+            HostFault::Memory => "there is too little memory",
+        }
+    }
+
+    /// Whether a device or the opening of a file failed, of which the system tells why.
+    pub fn is_of_a_device(self) -> bool {
+        match self {
+            HostFault::CannotOpen => true,
+            HostFault::Read => true,
+            HostFault::Write => true,
+            HostFault::NoFolder => false,
+            HostFault::SameFile => false,
+            HostFault::Mounted => false,
+            HostFault::Changed => false,
+            HostFault::NotText => false,
+            HostFault::TooLong => false,
+            HostFault::Memory => false,
+        }
+    }
+
+    /// Whether the words are wrong: a file of them is no text, or too long.
+    pub fn is_usage(self) -> bool
+        ensures { result ≡ is_not_text self }
+    {
+        match self {
+            HostFault::NotText => true,
+            HostFault::TooLong => true,
+            HostFault::CannotOpen => false,
+            HostFault::NoFolder => false,
+            HostFault::SameFile => false,
+            HostFault::Mounted => false,
+            HostFault::Changed => false,
+            HostFault::Read => false,
+            HostFault::Write => false,
+            HostFault::Memory => false,
+        }
+    }
+
+    /// Adds what the first line says of it.
+    pub fn put<O: Output>(self, place: Option<Place<'_>>, text: &mut Text<'_, O>)
+        ensures { (told : List ℕ) × Prints O.written O.write_faults text.old text.new told }
+    {
+        text.word(self.wrong());
+        if let Some(place) = place
+            && self.names_its_file()
+        {
+            text.short(place);
+        }
+    }
+
+    fn wrong(self) -> &'static str {
+        match self {
+            HostFault::CannotOpen => "cannot open ",
+            HostFault::NoFolder => "cannot open ",
+            HostFault::SameFile => "same file ",
+            HostFault::Mounted => "mounted ",
+            HostFault::Changed => "14 SourceChanged",
+            HostFault::NotText => "not UTF-8 ",
+            HostFault::TooLong => "too long ",
+            HostFault::Read => "11 Read",
+            HostFault::Write => "12 Write",
+            HostFault::Memory => "memory",
+        }
+    }
+
+    fn names_its_file(self) -> bool {
+        match self {
+            HostFault::CannotOpen => true,
+            HostFault::NoFolder => true,
+            HostFault::SameFile => true,
+            HostFault::Mounted => true,
+            HostFault::Changed => false,
+            HostFault::NotText => true,
+            HostFault::TooLong => true,
+            HostFault::Read => false,
+            HostFault::Write => false,
+            HostFault::Memory => false,
+        }
+    }
+}

@@ -1,0 +1,122 @@
+//! What a command prints.
+
+ghost use Rattle.std.specs.Prelude.{◌≡◌, ◌≤◌, OnOk, OnErr, IfSome};
+ghost use Rattle.std.specs.Fmt.{with_newline};
+ghost use Rattle.sys_report.specs.Shows.{CannotPrint, IsNoted, ShowsBeside, ShowsHere, refusals};
+
+use crate::progress::Progress;
+use crate::standard_output::StandardOutput;
+use sys_readers::ToWrite;
+use abt_io::{DeviceFault, Meter, Tally, write_out};
+use sys_refusals::{HostFault, HostRefusal, Place};
+use sys_text::print_line;
+use arrayvec::ArrayString;
+use std::fmt;
+use std::fmt::Write;
+use std::rt::Stderr;
+
+// How many bytes a line has at most. Those of numbers and names have a fifth of it.
+const LINE: usize = 512;
+
+/// Standard output and standard error, and how far the command is.
+#[derive(Drop)]
+pub struct Report {
+    pub out: ToWrite<StandardOutput>,
+    pub err: ToWrite<Stderr>,
+    pub progress: Progress,
+    // Data went to standard output: then no report does.
+    is_data_on_output: bool,
+    // Lines that are no text, or are longer than any that a command prints.
+    unshown: Tally,
+}
+
+impl Report {
+    pub fn new(rt: HostRuntime) -> Report {
+        Report {
+            out: ToWrite::new(StandardOutput::new(rt.stdout())),
+            err: ToWrite::new(rt.stderr()),
+            progress: Progress::hidden(rt),
+            is_data_on_output: false,
+            unshown: Tally::new(),
+        }
+    }
+
+    /// Prints a line: to standard output, or to standard error where data goes to where standard output goes.
+    pub fn line_beside<'a, D: fmt::Display + Drop>(
+        &mut self,
+        is_data_on_output: bool,
+        line: D,
+    ) -> Result<(), HostRefusal<'a>>
+        ensures shown { OnOk result (IfSome (with_newline (D.output line)) (ShowsBeside is_data_on_output self.old
+            self.new)) }
+        ensures refused { OnErr result (CannotPrint self.old self.new) }
+        ensures rises { refusals self.old ≤ refusals self.new }
+    {
+        if is_data_on_output {
+            self.is_data_on_output = true;
+        }
+        self.line(line)
+    }
+
+    /// Prints a line.
+    pub fn line<'a, D: fmt::Display + Drop>(&mut self, line: D) -> Result<(), HostRefusal<'a>>
+        ensures shown { OnOk result (IfSome (with_newline (D.output line)) (ShowsHere self.old self.new)) }
+        ensures refused { OnErr result (CannotPrint self.old self.new) }
+        ensures rises { refusals self.old ≤ refusals self.new }
+    {
+        self.progress.erase();
+        match self.print(line) {
+            Ok(()) => Ok(()),
+            Err(_) => {
+                let place = Place::new("report", "standard output");
+                Err(HostRefusal::at(HostFault::Write, place, self.out.writer.why))
+            }
+        }
+    }
+
+    fn print<D: fmt::Display + Drop>(&mut self, line: D) -> Result<(), DeviceFault>
+        ensures shown { OnOk result (IfSome (with_newline (D.output line)) (ShowsHere self.old self.new)) }
+        ensures refused { OnErr result (CannotPrint self.old self.new) }
+        ensures rises { refusals self.old ≤ refusals self.new }
+    {
+        let Some(text) = text_of(line) else {
+            self.unshown.add(1);
+            return Err(DeviceFault::Failed);
+        };
+        let mut m = Meter::new();
+        if self.is_data_on_output {
+            write_out(&mut self.err, text.as_bytes(), &mut m)
+        } else {
+            write_out(&mut self.out, text.as_bytes(), &mut m)
+        }
+    }
+
+    /// Prints a line to standard error, which nothing rests on.
+    pub fn note<D: fmt::Display + Drop>(&mut self, line: D)
+        ensures { IsNoted self.old self.new }
+    {
+        self.progress.erase();
+        let _ = print_line(&mut self.err, line);
+    }
+
+    /// Whether each line of a text is awaited that goes to standard output: it is a terminal.
+    pub fn is_awaited(&self) -> bool {
+        self.out.writer.is_terminal()
+    }
+
+    /// The refusal of a text that could not be printed to standard output.
+    pub fn cannot_print<'a>(&self) -> HostRefusal<'a> {
+        HostRefusal::of(HostFault::Write, self.out.writer.why)
+    }
+}
+
+// A line with its end.
+fn text_of<D: fmt::Display + Drop>(line: D) -> Option<ArrayString<LINE>>
+    ensures { IfSome result (λ text. IfSome (with_newline (D.output line)) (λ told. text.bytes ≡ told)) }
+{
+    let mut text = ArrayString::new();
+    match text.writeln(line) {
+        Ok(()) => Some(text),
+        Err(_) => None,
+    }
+}

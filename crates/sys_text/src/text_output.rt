@@ -1,0 +1,211 @@
+//! Text into an output, without memory.
+
+ghost use Rattle.std.specs.Prelude.{◌≡◌, ◌≤◌, ◌<◌, ◌++◌, ◌∷◌, [], Some, IfErr, IfSome, IsNone, OnOk};
+ghost use Rattle.std.specs.Prelude.{List, ℕ, decimal, length, take};
+ghost use Rattle.std.specs.Fmt.{with_newline};
+ghost use Rattle.sys_text.specs.Printed.{Prints};
+ghost use Rattle.sys_text.specs.Shown.{text_in};
+
+use crate::held::{Held, ROOM};
+use abt_io::{DeviceFault, Meter, Output, write_out};
+use std::fmt;
+use std::fmt::Write;
+
+// Once this much is held, the end of a line sends it.
+const ENOUGH: usize = ROOM / 2;
+
+/// Text that gathers in a small buffer and goes out in whole lines. A line of more than 4,096 bytes may go in parts.
+///
+/// Where a write fails, the output holds a beginning of the text, and what is added later goes nowhere: `finish` tells
+/// the fault. What is held goes out in `finish`, which must be called: a `Text` that is dropped loses it.
+#[derive(Drop)]
+pub struct Text<'a, O> {
+    pub output: &'a mut O,
+    pub held: Held,
+    pub fault: Option<DeviceFault>,
+    // Once so much is held, the end of a line sends it.
+    enough: usize,
+}
+
+impl<'a, O: Output> Text<'a, O> {
+    pub fn new(output: &'a mut O) -> Text<'a, O>
+        ensures same_reference { result.output.ghost_name ≡ output.entry.ghost_name }
+        ensures written { O.written result.output.now ≡ O.written output.old }
+        ensures faults { O.write_faults result.output.now ≡ O.write_faults output.old }
+        ensures nothing_held { text_in result.held.bytes result.held.used ≡ [] }
+        ensures whole { IsNone result.fault }
+    {
+        Text {
+            output,
+            held: Held::new(),
+            fault: None,
+            enough: ENOUGH,
+        }
+    }
+
+    /// From now on each line is sent as it ends, for who waits for it, as on a terminal.
+    pub fn send_each_line(&mut self)
+        ensures { self.new ≡ record self.old { enough = 0 } }
+    {
+        self.enough = 0;
+    }
+
+    /// Adds these bytes.
+    pub fn put(&mut self, bytes: &[u8])
+        ensures { Prints O.written O.write_faults self.old self.new bytes.now }
+    {
+        let mut at = 0;
+        while at < bytes.len() {
+            at += self.put_some(&bytes[at..]);
+        }
+    }
+
+    /// Adds a word.
+    pub fn word(&mut self, word: &str)
+        ensures { Prints O.written O.write_faults self.old self.new word.now }
+    {
+        self.put(word.as_bytes());
+    }
+
+    /// Adds a number, in decimal.
+    pub fn number(&mut self, n: u64)
+        ensures { Prints O.written O.write_faults self.old self.new (decimal n) }
+    {
+        let mut digits = itoa::Buffer::new();
+        self.word(digits.format(n));
+    }
+
+    /// Ends a line, and sends what is held where it is enough.
+    pub fn end_line(&mut self)
+        ensures { Prints O.written O.write_faults self.old self.new (10 ∷ []) }
+    {
+        self.put(b"\n");
+        if self.held.len() < self.enough {
+            return;
+        }
+        self.send();
+    }
+
+    /// Whether every write succeeded.
+    pub fn is_whole(&self) -> Result<(), DeviceFault>
+        ensures done { OnOk result (IsNone self.now.fault) }
+        ensures failed { IfErr result (λ f. self.now.fault ≡ Some f) }
+    {
+        match self.fault {
+            None => Ok(()),
+            Some(fault) => Err(fault),
+        }
+    }
+
+    /// Sends what is held, and holds nothing any more, also where it can't be written.
+    pub fn finish(&mut self) -> Result<(), DeviceFault>
+        ensures prints { Prints O.written O.write_faults self.old self.new [] }
+        ensures emptied { text_in self.new.held.bytes self.new.held.used ≡ [] }
+        ensures done { OnOk result (IsNone self.new.fault) }
+        ensures failed { IfErr result (λ f. self.new.fault ≡ Some f) }
+    {
+        self.send();
+        self.is_whole()
+    }
+
+    // Takes some of these bytes, and first sends what is held where nothing else has room.
+    fn put_some(&mut self, bytes: &[u8]) -> usize
+        ensures within { result ≤ length bytes.now }
+        ensures progress { 0 < length bytes.now → 0 < result }
+        ensures prints { Prints O.written O.write_faults self.old self.new (take result bytes.now) }
+    {
+        if self.held.len() < ROOM {
+            return self.held.put(bytes);
+        }
+        self.send();
+        self.held.put(bytes)
+    }
+
+    // Sends what is held, and holds nothing any more. Once a write has failed, none follows.
+    fn send(&mut self)
+        ensures prints { Prints O.written O.write_faults self.old self.new [] }
+        ensures used { self.new.held.used ≡ 0 }
+        ensures emptied { text_in self.new.held.bytes self.new.held.used ≡ [] }
+    {
+        if self.fault.is_some() {
+            self.held.clear();
+            return;
+        }
+        let mut m = Meter::new();
+        match write_out(self.output, self.held.all(), &mut m) {
+            Ok(()) => self.held.clear(),
+            Err(fault) => {
+                self.held.clear();
+                self.fault = Some(fault);
+            }
+        }
+    }
+
+    /// Adds a line that shows itself.
+    pub fn line<D: fmt::Display + Drop>(&mut self, line: D) -> Result<(), DeviceFault>
+        ensures { OnOk
+            result (IfSome (with_newline (D.output line)) (Prints O.written O.write_faults self.old self.new)) }
+    {
+        match self.writeln(line) {
+            Ok(()) => self.end_shown_line(),
+            Err(_) => Err(self.fault.unwrap_or(DeviceFault::Failed)),
+        }
+    }
+
+    /// Adds a short text that shows itself, of at most 8,192 bytes. It is gathered first, so that no write depends on it.
+    pub fn short<D: fmt::Display + Drop>(&mut self, shown: D)
+        ensures { (told : List ℕ) × Prints O.written O.write_faults self.old self.new told }
+    {
+        let mut held = Held::new();
+        let _ = held.write(shown);
+        self.put(held.all());
+    }
+
+    // Sends what is held where it is enough.
+    fn end_shown_line(&mut self) -> Result<(), DeviceFault>
+        ensures { Prints O.written O.write_faults self.old self.new [] }
+    {
+        if self.held.len() < self.enough {
+            self.is_whole()
+        } else {
+            self.finish()
+        }
+    }
+
+    /// Adds text that shows itself and need not end a line.
+    pub fn add<D: fmt::Display + Drop>(&mut self, text: D) -> Result<(), DeviceFault>
+        ensures { OnOk result (IfSome (D.output text) (Prints O.written O.write_faults self.old self.new)) }
+    {
+        match self.write(text) {
+            Ok(()) => Ok(()),
+            Err(_) => Err(self.fault.unwrap_or(DeviceFault::Failed)),
+        }
+    }
+}
+
+impl<O: Output> fmt::Write for Text<'_, O> {
+    ghost write_str_gives = { λ s bs t. Prints O.written O.write_faults s t bs };
+
+    fn write_str(&mut self, s: &str) -> fmt::Result {
+        self.word(s);
+        match self.fault {
+            None => Ok(()),
+            Some(_) => Err(fmt::Error),
+        }
+    }
+}
+
+/// Prints a line at once.
+pub fn print_line<O: Output, D: fmt::Display + Drop>(
+    output: &mut O,
+    line: D,
+) -> Result<(), DeviceFault>
+    ensures { OnOk
+        result (IfSome (with_newline (D.output line)) (λ bs. O.written output.new ≡ O.written output.old ++ bs)) }
+{
+    let mut text = Text::new(output);
+    match text.line(line) {
+        Ok(()) => text.finish(),
+        Err(fault) => Err(fault),
+    }
+}

@@ -1,0 +1,60 @@
+//! The commands over a disk in memory, as one call.
+
+ghost use Rattle.mem_disk.specs.Memory.{held_of};
+ghost use Rattle.sys_disk.specs.World.{IsReading};
+
+use crate::orders::{kernel_alone, nothing_given};
+use abt_io::{Meter, Window};
+use sys_refusals::Place;
+use sys_report::Report;
+use cmd_unpack::unpack_file;
+use cmd_info::info_file;
+use mem_disk::MemoryDisk;
+use cmd_pack::{pack_file, repack_file};
+use std::alloc::AllocError;
+
+/// The commands.
+#[derive(Clone, Copy, Drop)]
+pub(crate) enum Command {
+    Unpack,
+    UnpackWords,
+    Info,
+    InfoHex,
+    InfoCheck,
+    /// A boot image of this version, with IN as its kernel.
+    Pack(u32),
+    /// IN's image, with nothing given.
+    Repack,
+}
+
+/// Whether a command with IN over this disk, of which nothing is open yet, answers Ok.
+pub(crate) fn is_done(
+    rt: HostRuntime,
+    command: Command,
+    disk: &mut MemoryDisk,
+) -> Result<bool, AllocError>
+    requires { IsReading (held_of disk.old) }
+{
+    let mut report = Report::new(rt);
+    let mut w = Box::new(rt.alloc(), Window::new())?;
+    let w = &mut *w;
+    let mut m = Meter::new();
+    let m = &mut m;
+    let input = Place::new("IN", "in");
+    let report = &mut report;
+    Ok(match command {
+        Command::Unpack => unpack_file(disk, report, input, "parts", false, w, m).is_ok(),
+        Command::UnpackWords => unpack_file(disk, report, input, "parts", true, w, m).is_ok(),
+        Command::Info => info_file(disk, report, input, false, false, w, m).is_ok(),
+        Command::InfoHex => info_file(disk, report, input, false, true, w, m).is_ok(),
+        Command::InfoCheck => info_file(disk, report, input, true, false, w, m).is_ok(),
+        Command::Pack(version) => {
+            let order = kernel_alone(rt.alloc(), version)?;
+            pack_file(disk, report, &order, w, m).is_ok()
+        }
+        Command::Repack => {
+            let order = nothing_given(rt.alloc());
+            repack_file(disk, report, input, &order, w, m).is_ok()
+        }
+    })
+}

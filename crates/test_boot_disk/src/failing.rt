@@ -1,0 +1,89 @@
+//! That each command is refused exactly where something has failed.
+
+use crate::commands::{Command, is_done};
+use crate::made::{disk, is_kept};
+use mem_disk::{Countdown, Faults};
+
+const COMMANDS: [Command; 8] = [
+    Command::Unpack,
+    Command::UnpackWords,
+    Command::Info,
+    Command::InfoHex,
+    Command::Pack(0),
+    Command::Pack(3),
+    Command::Pack(4),
+    Command::Repack,
+];
+
+/// Which of the calls fails.
+#[derive(Clone, Copy, Drop)]
+enum Kind {
+    Call,
+    Read,
+    Write,
+}
+
+fn faults(kind: Kind, number: u64) -> Faults {
+    let at = Countdown::at(number);
+    match kind {
+        Kind::Call => Faults {
+            calls: at,
+            ..Faults::none()
+        },
+        Kind::Read => Faults {
+            reads: at,
+            ..Faults::none()
+        },
+        Kind::Write => Faults {
+            writes: at,
+            ..Faults::none()
+        },
+    }
+}
+
+// More than any command makes.
+const CALLS: u64 = 200;
+
+/// How many calls, reads or writes of a command fail, each in a run of its own: as often it is refused, and has counted
+/// that something failed. None, where it is refused for nothing, does not tell, or changes IN.
+fn counted(rt: HostRuntime, command: Command, kind: Kind) -> Option<u64> {
+    for number in 1..CALLS {
+        let Ok(made) = disk(rt.alloc(), &[], faults(kind, number)) else {
+            return None;
+        };
+        let mut disk = made;
+        let is_done = is_done(rt, command, &mut disk) == Ok(true);
+        let has_failed = disk.failed.seen != 0;
+        if is_done == has_failed || is_kept(rt.alloc(), &disk) != Ok(true) {
+            return None;
+        }
+        if is_done {
+            return Some(number - 1);
+        }
+    }
+    None
+}
+
+#[test]
+fn each_call_that_fails_is_told(rt: HostRuntime) {
+    for (n, command) in COMMANDS.iter().enumerate() {
+        let calls = counted(rt, *command, Kind::Call);
+        assert!(rt; calls > Some(0), "row {n}");
+    }
+}
+
+#[test]
+fn each_read_that_fails_is_told(rt: HostRuntime) {
+    for (n, command) in COMMANDS.iter().enumerate() {
+        let reads = counted(rt, *command, Kind::Read);
+        assert!(rt; reads > Some(0), "row {n}");
+    }
+}
+
+#[test]
+fn each_write_that_fails_is_told(rt: HostRuntime) {
+    for (n, command) in COMMANDS.iter().enumerate() {
+        let writes = counted(rt, *command, Kind::Write);
+        assert!(rt; writes.is_some(), "row {n}");
+    }
+}

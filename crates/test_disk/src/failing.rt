@@ -1,0 +1,133 @@
+//! What each command leaves where something fails, and where what it would write is IN's file.
+
+use crate::commands::{Before, Command, run};
+use crate::made::holds;
+use mem_disk::{Countdown, Faults};
+use mem_test_data::vectors::{NO_GAP, THREE_KINDS};
+
+const DOTS: &[u8] = b"..............";
+
+const FLASHED: &[u8] = b"ABCD\x04\x03\x02\x01......";
+
+const RAW: &[u8] = b"a raw one";
+
+const FLASHED_RAW: &[u8] = b"a raw one\0\0\0..";
+
+/// A command, and files that suit it.
+type Row = (Command, Before);
+
+const ROWS: [Row; 13] = [
+    (Command::Expand, (&THREE_KINDS, DOTS)),
+    (Command::ExpandSeveral, (&THREE_KINDS, DOTS)),
+    (Command::Sparse, (b"a raw 12", DOTS)),
+    (Command::Cut, (&NO_GAP, DOTS)),
+    (Command::CutRaw, (RAW, DOTS)),
+    (Command::Flash, (&THREE_KINDS, DOTS)),
+    (Command::FlashRaw, (RAW, DOTS)),
+    (Command::FlashPieces, (&NO_GAP, DOTS)),
+    (Command::FlashFromSecond, (&NO_GAP, DOTS)),
+    (Command::FlashRawPieces, (RAW, DOTS)),
+    (Command::Verify, (&THREE_KINDS, FLASHED)),
+    (Command::VerifyRaw, (RAW, FLASHED_RAW)),
+    (Command::List, (&THREE_KINDS, DOTS)),
+];
+
+/// Which of the calls fails.
+#[derive(Clone, Copy, Drop)]
+enum Kind {
+    Call,
+    Read,
+    Write,
+}
+
+fn faults(kind: Kind, number: u64) -> Faults {
+    let at = Countdown::at(number);
+    match kind {
+        Kind::Call => Faults {
+            calls: at,
+            ..Faults::none()
+        },
+        Kind::Read => Faults {
+            reads: at,
+            ..Faults::none()
+        },
+        Kind::Write => Faults {
+            writes: at,
+            ..Faults::none()
+        },
+    }
+}
+
+// More than any command makes.
+const CALLS: u64 = 200;
+
+/// How many calls, reads or writes of a command fail, each in a run of its own: as often it is refused, and has counted
+/// that something failed. None, where it is refused for nothing, does not tell, or changes IN.
+fn counted(rt: HostRuntime, row: Row, kind: Kind) -> Option<u64> {
+    for number in 1..CALLS {
+        let Ok((is_done, disk)) = run(rt, row.0, "out", row.1, faults(kind, number)) else {
+            return None;
+        };
+        let has_failed = disk.failed.seen != 0;
+        if is_done == has_failed
+            || !holds(&disk, "in", row.1.0)
+            || !holds(&disk, "out.4", b"older")
+        {
+            return None;
+        }
+        if is_done {
+            return Some(number - 1);
+        }
+    }
+    None
+}
+
+#[test]
+fn each_call_that_fails_is_told(rt: HostRuntime) {
+    for (n, row) in ROWS.iter().enumerate() {
+        let calls = counted(rt, *row, Kind::Call);
+        assert!(rt; calls > Some(0), "row {n}");
+    }
+}
+
+#[test]
+fn each_read_that_fails_is_told(rt: HostRuntime) {
+    for (n, row) in ROWS.iter().enumerate() {
+        let reads = counted(rt, *row, Kind::Read);
+        assert!(rt; reads > Some(0), "row {n}");
+    }
+}
+
+#[test]
+fn each_write_that_fails_is_told(rt: HostRuntime) {
+    for (n, row) in ROWS.iter().enumerate() {
+        let writes = counted(rt, *row, Kind::Write);
+        assert!(rt; writes.is_some(), "row {n}");
+    }
+}
+
+/// Whether a command only reads.
+fn is_reading(command: Command) -> bool {
+    match command {
+        Command::VerifyRaw => true,
+        Command::Verify => true,
+        Command::List => true,
+        _ => false,
+    }
+}
+
+#[test]
+fn a_file_that_is_read_is_not_written(rt: HostRuntime) {
+    for (n, (command, before)) in ROWS.iter().enumerate() {
+        let (is_done, disk) = run(rt, *command, "link", *before, Faults::none()).expect(
+            &rt,
+            "has memory",
+        );
+        if !is_reading(*command) {
+            assert!(rt; !is_done, "row {n}");
+            assert!(rt; disk.failed.seen == 1, "row {n}");
+        }
+        assert!(rt; holds(&disk, "in", before.0), "row {n}");
+        assert!(rt; holds(&disk, "out", before.1), "row {n}");
+    }
+}

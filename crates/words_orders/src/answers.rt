@@ -1,0 +1,375 @@
+//! What was given for each row of a command's table.
+
+ghost use Rattle.std.specs.Prelude.{◌≡◌, ◌++◌, IfOk, IfErr, OnOk, map, option_map, unwrap_or, nat_lt, Some, None};
+ghost use Rattle.std.specs.Prelude.{Contains, List, [], ◌∷◌, ◌≤◌, if◌then◌else◌, IfSome, IsTrue, is_some, false};
+ghost use Rattle.std.specs.Prelude.{drop, length, take};
+ghost use Rattle.std.specs.List.{All};
+ghost use Rattle.words_values.specs.NumberWord.{IsRead};
+ghost use Rattle.words_orders.specs.Asked.{IsEnough, IsGiven, IsReadRight, saying_of_answer, answer_named, answer_number, flag_named, number_named, word_named, words_named};
+ghost use Rattle.words_orders.specs.Refused.{TellsNoNumber};
+ghost use Rattle.words_orders.specs.Table.{AreFrom, AreRows, Shape, shape_of};
+ghost use Rattle.words_orders.specs.Words.{answers_due, words_due, default_words, left_over, of_row, option_list};
+ghost use Rattle.words_orders.specs.Words.{saying_of, words_of_row};
+
+use crate::fault::WordsFault;
+use crate::order::Given;
+use crate::saying::{Said, push_said};
+use crate::spelling::is_placed;
+use words_values::{Place, Row, Value, number_in, number_word};
+use clap::ArgMatches;
+use std::alloc::{AllocError, Global};
+
+/// A word that was given, or that a row has where none is.
+#[derive(Clone, Copy)]
+pub struct Answer<'a> {
+    pub row: &'static Row,
+    pub word: &'a str,
+    /// The number that the word writes, where the row is one of numbers, else 0.
+    pub number: u64,
+}
+
+impl<'a> Answer<'a> {
+    /// What a word answers to a row.
+    fn new(
+        alloc: Global,
+        row: &'static Row,
+        word: &'a str,
+        is_verbose: bool,
+    ) -> Result<Answer<'a>, WordsFault>
+        ensures row { IfOk result (λ answer. answer.row.now ≡ row.now) }
+        ensures word { IfOk result (λ answer. answer.word.now ≡ word.now) }
+        ensures number { IfOk result (λ answer. IsRead row.now.value word.now answer.number) }
+        ensures refused { IfErr result (TellsNoNumber row.now.value word.now is_verbose) }
+    {
+        match number_in(row.value, word) {
+            Some(number) => Ok(Answer { row, word, number }),
+            None if is_not_taken(row.value) => Err(WordsFault::NotTaken(row.help)),
+            None => Err(WordsFault::BadNumber {
+                word: String::from_str(alloc, word)?,
+                is_number: number_word(word).is_some(),
+                is_verbose,
+            }),
+        }
+    }
+}
+
+/// The answers of a command, in the order of its table.
+#[derive(Drop)]
+pub struct Answers<'a> {
+    pub all: Vec<Answer<'a>>,
+    /// Whether a refusal is to have its second line.
+    pub is_verbose: bool,
+}
+
+impl<'a> Answers<'a> {
+    /// No answers yet.
+    pub(crate) fn new(alloc: Global, is_verbose: bool) -> Answers<'a>
+        ensures { result.all.items ≡ [] }
+    {
+        Answers {
+            all: Vec::new(alloc),
+            is_verbose,
+        }
+    }
+
+    /// What a parse found for the rows of a tool.
+    pub fn of_rows(
+        alloc: Global,
+        rows: &'static [Row],
+        found: &ArgMatches<'a>,
+    ) -> Result<Answers<'a>, WordsFault>
+        ensures { IfOk result (λ answers. AreFrom (map shape_of rows.now) answers.all.items) }
+    {
+        let mut answers = Answers::new(alloc, false);
+        answers.read_found(alloc, rows, found)?;
+        Ok(answers)
+    }
+
+    fn read_found(
+        &mut self,
+        alloc: Global,
+        rows: &'static [Row],
+        found: &ArgMatches<'a>,
+    ) -> Result<(), WordsFault>
+        ensures { (table : List Shape) → AreFrom table self.old.all.items → AreRows table rows.now →
+            OnOk result (AreFrom table self.new.all.items) }
+    {
+        for row in rows {
+            let Some(words) = found.get_strs(row.name) else {
+                continue;
+            };
+            self.read_words(alloc, row, words)?;
+        }
+        Ok(())
+    }
+
+    /// Adds what is said of each of these rows, else its default, where these are the words by their place; whether none
+    /// of these is left.
+    pub(crate) fn read_rows(
+        &mut self,
+        alloc: Global,
+        rows: &[&'static Row],
+        said: &[Said<'a>],
+        placed: &[&'a str],
+    ) -> Result<bool, WordsFault>
+        ensures are { OnOk result (map saying_of_answer self.new.all.items ≡ map saying_of_answer self.old.all.items
+            ++ answers_due (map (λ row. shape_of row.now) rows.now) (map saying_of said.now) (map (λ s. s.now) placed.now)) }
+        ensures read { All IsReadRight self.old.all.items → OnOk result (All IsReadRight self.new.all.items) }
+        ensures left { IfOk result (λ is_all. IsTrue is_all →
+            left_over (map (λ row. shape_of row.now) rows.now) (map (λ s. s.now) placed.now) ≡ []) }
+    {
+        let mut left = placed;
+        for row in rows {
+            let words = words_for(alloc, row, said, left)?;
+            self.read_words(alloc, row, words.as_slice())?;
+            left = later_words(row.place, left);
+        }
+        Ok(left.is_empty())
+    }
+
+    fn read_words(
+        &mut self,
+        alloc: Global,
+        row: &'static Row,
+        words: &[&'a str],
+    ) -> Result<(), WordsFault>
+        ensures from { (table : List Shape) → AreFrom table self.old.all.items → Contains table (shape_of row.now) →
+            OnOk result (AreFrom table self.new.all.items) }
+        ensures are { OnOk result (map saying_of_answer self.new.all.items ≡ map saying_of_answer self.old.all.items
+            ++ map (of_row (shape_of row.now)) (map (λ s. s.now) words.now)) }
+        ensures read { OnOk result (All IsReadRight self.old.all.items → All IsReadRight self.new.all.items) }
+    {
+        for word in words {
+            let answer = Answer::new(alloc, row, *word, self.is_verbose)?;
+            self.push(answer)?;
+        }
+        Ok(())
+    }
+
+    fn push(&mut self, answer: Answer<'a>) -> Result<(), AllocError>
+        ensures { OnOk result (self.new.all.items ≡ self.old.all.items ++ (answer.entry ∷ [])) }
+    {
+        self.all.push(answer)?;
+        Ok(())
+    }
+
+    /// The first answer of this name.
+    pub fn find(&self, name: &str) -> Option<Answer<'a>>
+        ensures { result ≡ answer_named name.now self.now.all.items }
+    {
+        for answer in &self.all {
+            if answer.row.name == name {
+                return Some(*answer);
+            }
+        }
+        None
+    }
+
+    /// The first word of this name.
+    pub fn word(&self, name: &str) -> Option<&'a str>
+        ensures { option_map (λ word. word.now) result ≡ option_map (λ a. a.word.now) (answer_named name.now
+            self.now.all.items) }
+    {
+        Some(self.find(name)?.word)
+    }
+
+    /// The same of a word that a parse always finds.
+    pub fn given_word(&self, name: &str) -> &'a str
+        ensures { result.now ≡ word_named name.now self.now.all.items }
+    {
+        self.word(name).unwrap_or("")
+    }
+
+    /// The number of this name.
+    pub fn number(&self, name: &str) -> Option<u32>
+        ensures { result ≡ number_named name.now self.now.all.items }
+    {
+        match self.find(name) {
+            Some(answer) => narrow(answer.number),
+            None => None,
+        }
+    }
+
+    /// The same of a number that a parse always finds.
+    pub fn given_number(&self, name: &str) -> u32
+        ensures { result ≡ unwrap_or (number_named name.now self.now.all.items) 0 }
+    {
+        self.number(name).unwrap_or(0)
+    }
+
+    /// The number of this name, which may have 64 bits; 0 where there is none.
+    pub fn long_number(&self, name: &str) -> u64
+        ensures { result ≡ answer_number (answer_named name.now self.now.all.items) }
+    {
+        match self.find(name) {
+            Some(answer) => answer.number,
+            None => 0,
+        }
+    }
+
+    /// What the option of this row was given.
+    pub(crate) fn given(&self, row: &'static Row) -> Given<'a>
+        ensures { IsGiven self.now.all.items (shape_of row.now) result }
+    {
+        match self.find(row.name) {
+            Some(answer) => Given {
+                row,
+                word: Some(answer.word),
+                number: answer.number,
+            },
+            None => Given {
+                row,
+                word: None,
+                number: 0,
+            },
+        }
+    }
+
+    /// Whether these rows are answered as they must be.
+    pub(crate) fn are_enough(&self, rows: &[&'static Row]) -> bool
+        ensures { IsTrue result → All (IsEnough self.now.all.items) (map (λ row. shape_of row.now) rows.now) }
+    {
+        for row in rows {
+            if !self.is_enough(row) {
+                return false;
+            }
+        }
+        true
+    }
+
+    // Whether a row that must be answered is; beside what it needs, and without what it excludes.
+    fn is_enough(&self, row: &'static Row) -> bool
+        ensures { IsTrue result → IsEnough self.now.all.items (shape_of row.now) }
+    {
+        if !self.is_answered(row.name) {
+            return !row.is_required;
+        }
+        self.has_needed(row.needs) && !self.has_excluded(row.excludes)
+    }
+
+    fn has_needed(&self, other: Option<&'static str>) -> bool
+        ensures { IsTrue result → IfSome other.entry (λ name. IsTrue (is_some (answer_named name.now
+            self.now.all.items))) }
+    {
+        match other {
+            Some(name) => self.is_answered(name),
+            None => true,
+        }
+    }
+
+    fn has_excluded(&self, other: Option<&'static str>) -> bool
+        ensures { result ≡ false → IfSome other.entry (λ name. is_some (answer_named name.now
+            self.now.all.items) ≡ false) }
+    {
+        match other {
+            Some(name) => self.is_answered(name),
+            None => false,
+        }
+    }
+
+    fn is_answered(&self, name: &str) -> bool
+        ensures { result ≡ is_some (answer_named name.now self.now.all.items) }
+    {
+        self.find(name).is_some()
+    }
+
+    /// Whether this flag was given.
+    pub fn flag(&self, name: &str) -> bool
+        ensures { result ≡ flag_named name.now self.now.all.items }
+    {
+        self.given_word(name) == "true"
+    }
+
+    /// Every word of this name, behind those that are there already.
+    pub fn push_words(&self, name: &str, words: &mut Vec<&'a str>) -> Result<(), AllocError>
+        ensures { OnOk result (map (λ s. s.now) words.new.items ≡ map (λ s. s.now) words.old.items
+            ++ words_named name.now self.now.all.items) }
+    {
+        for answer in &self.all {
+            if answer.row.name != name {
+                continue;
+            }
+            words.push(answer.word)?;
+        }
+        Ok(())
+    }
+}
+
+// Whether the value is one that no word gives.
+fn is_not_taken(value: Value) -> bool {
+    match value {
+        Value::NotTaken => true,
+        _ => false,
+    }
+}
+
+// The words that answer a row, where these are the words by their place that are left for it.
+fn words_for<'a>(
+    alloc: Global,
+    row: &'static Row,
+    said: &[Said<'a>],
+    placed: &[&'a str],
+) -> Result<Vec<&'a str>, AllocError>
+    ensures { IfOk result (λ words. map (λ s. s.now) words.items ≡ words_of_row (shape_of row.now) (map saying_of said.now)
+        (map (λ s. s.now) placed.now)) }
+{
+    let mut words = Vec::new(alloc);
+    if is_placed(row.place) {
+        words.extend_from_slice(next_words(row.place, placed))?;
+        return Ok(words);
+    }
+    push_said(row.name, said, &mut words)?;
+    if words.is_empty() {
+        if let Some(word) = default_word(row.place, row.default) {
+            words.push(word)?;
+        }
+    }
+    Ok(words)
+}
+
+// Those that go to a row.
+fn next_words<'b, 'a>(place: Place, placed: &'b [&'a str]) -> &'b [&'a str]
+    ensures { map (λ s. s.now) result.now ≡ take (words_due place (length (map (λ s. s.now) placed.entry.now)))
+        (map (λ s. s.now) placed.entry.now) }
+{
+    &placed[..count_of(place, placed.len())]
+}
+
+// Those that are left behind it.
+fn later_words<'b, 'a>(place: Place, placed: &'b [&'a str]) -> &'b [&'a str]
+    ensures { map (λ s. s.now) result.now ≡ drop (words_due place (length (map (λ s. s.now) placed.entry.now)))
+        (map (λ s. s.now) placed.entry.now) }
+{
+    &placed[count_of(place, placed.len())..]
+}
+
+// How many of so many words by their place go to a row.
+fn count_of(place: Place, many: usize) -> usize
+    ensures count { result ≡ words_due place many }
+    ensures most { result ≤ many }
+{
+    match place {
+        Place::Word => if many == 0 { 0 } else { 1 },
+        Place::Words => many.saturating_sub(1),
+        Place::LastWords => many,
+        Place::Option | Place::Options | Place::Letter | Place::Flag | Place::ShortFlag(_) => 0,
+    }
+}
+
+// What an option or a flag has where nothing is said of it.
+fn default_word(place: Place, default: Option<&'static str>) -> Option<&'static str>
+    ensures { option_list (option_map (λ s. s.now) result) ≡ default_words place (option_map (λ s. s.now) default.entry) }
+{
+    match place {
+        Place::Flag | Place::ShortFlag(_) => Some("false"),
+        Place::Word | Place::Words | Place::LastWords => default,
+        Place::Option | Place::Options | Place::Letter => default,
+    }
+}
+
+// A number of 32 bits.
+fn narrow(number: u64) -> Option<u32>
+    ensures { result ≡ (if nat_lt number 4294967296 then Some number else None) }
+{
+    u32::try_from(number).ok()
+}

@@ -1,0 +1,44 @@
+//! Why words are refused.
+
+ghost use Rattle.std.specs.Prelude.{◌≡◌};
+ghost use Rattle.words_orders.specs.declared.fault.WordsFault.TheVariants.{Memory};
+
+use clap::Error;
+use clap::error::ErrorKind;
+use std::alloc::{AllocError, AllocFailed};
+
+/// Why words are refused.
+#[derive(Drop)]
+pub enum WordsFault {
+    /// A mistake, or `--help` or `--version`: the text for the user.
+    Usage(Error),
+    /// This word is no number, or one that has no room where it stands.
+    BadNumber {
+        word: String,
+        /// Whether it writes a number of 64 bits, which then is one of 4 GiB or more.
+        is_number: bool,
+        /// Whether the refusal is to have its second line.
+        is_verbose: bool,
+    },
+    /// A tool does what is asked for and this program doesn't: what does it.
+    NotTaken(&'static str),
+    /// Memory was wanted and refused.
+    Memory,
+}
+
+impl From<AllocError> for WordsFault {
+    ghost from_gives = { λ _ fault. fault ≡ Memory };
+
+    fn from(_error: AllocError) -> WordsFault {
+        WordsFault::Memory
+    }
+}
+
+impl From<Error> for WordsFault {
+    fn from(error: Error) -> WordsFault {
+        match error.kind() {
+            ErrorKind::OutOfMemory => WordsFault::Memory,
+            _ => WordsFault::Usage(error),
+        }
+    }
+}

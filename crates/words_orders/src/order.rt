@@ -1,0 +1,135 @@
+//! What the words of the command line ask for.
+
+use crate::completions::Shell;
+use words_values::Row;
+
+/// What the words ask for.
+#[derive(Drop)]
+pub struct Order<'a> {
+    /// The command's name.
+    pub command: &'static str,
+    pub task: Task<'a>,
+    /// Whether a refusal is to have its second line.
+    pub is_verbose: bool,
+    /// Whether a terminal is not to show how far the command is.
+    pub is_quiet: bool,
+    /// Whether each output is to be synced before the command is done.
+    pub is_synced: bool,
+    /// Whether a block device may be written though it is mounted, or in use as swap.
+    pub is_mounted_allowed: bool,
+}
+
+/// What is to be done.
+#[derive(Drop)]
+pub enum Task<'a> {
+    /// With a sparse image.
+    Sparse(SparseTask<'a>),
+    /// With a boot image or a vendor boot image.
+    Boot(BootTask<'a>),
+    /// Print what this shell needs to complete words.
+    Completions(Shell),
+}
+
+/// What is to be done with a sparse image.
+#[derive(Drop)]
+pub enum SparseTask<'a> {
+    /// Write the raw image that a sparse image stands for, or several laid over one another.
+    Expand {
+        inputs: Vec<&'a str>,
+        output: &'a str,
+    },
+    /// Print the header and the chunks of a sparse image.
+    List {
+        input: &'a str,
+    },
+    /// Write a raw image as a sparse one, in blocks of so many bytes.
+    Sparse {
+        input: &'a str,
+        output: &'a str,
+        block: u32,
+    },
+    /// Cut an image into pieces of at most so many bytes; a raw one where the bytes of its blocks are given.
+    Cut {
+        input: &'a str,
+        limit: u32,
+        prefix: &'a str,
+        /// Whether the first piece has the number 0, in the place of 1.
+        is_from_zero: bool,
+        raw: Option<u32>,
+    },
+    /// Flash an image to a partition, whole or in pieces; a raw one where the bytes of its blocks are given.
+    Flash {
+        input: &'a str,
+        partition: &'a str,
+        raw: Option<u32>,
+        pieces: Option<Pieces<'a>>,
+    },
+    /// Compare an image with what stands on a partition.
+    Verify {
+        input: &'a str,
+        partition: &'a str,
+        raw: Option<u32>,
+    },
+}
+
+/// How an image is flashed in pieces.
+#[derive(Clone, Copy)]
+pub struct Pieces<'a> {
+    /// Bytes that a piece has at most.
+    pub limit: u32,
+    /// The file that each piece goes through.
+    pub spool: &'a str,
+    /// The first piece that is flashed, from 1.
+    pub from: u32,
+}
+
+/// What is to be done with a boot image or a vendor boot image.
+#[derive(Drop)]
+pub enum BootTask<'a> {
+    /// Write one of its parts.
+    Pack(PackOrder<'a>),
+    /// Write one again, with other parts and fields.
+    Repack {
+        input: &'a str,
+        order: PackOrder<'a>,
+    },
+    /// Write the sections to files of a folder, and maybe the words that pack them again.
+    Unpack {
+        input: &'a str,
+        folder: &'a str,
+        with_words: bool,
+    },
+    /// Print what the header says, maybe with numbers in hexadecimal, and maybe why an answer of its check is no.
+    Info {
+        input: &'a str,
+        with_check: bool,
+        with_hex: bool,
+    },
+}
+
+/// What `pack` and `repack` are told.
+#[derive(Drop)]
+pub struct PackOrder<'a> {
+    pub output: &'a str,
+    pub is_vendor: bool,
+    /// The header version of `pack`; 0 for `repack`.
+    pub version: u32,
+    pub page: Option<u32>,
+    /// What each of `options()` was given, in its order.
+    pub given: Vec<Given<'a>>,
+    pub board_ids: Vec<&'a str>,
+    /// Those of `--fragment`, then those behind OUT.
+    pub fragments: Vec<&'a str>,
+    pub keeps_trailing: bool,
+    pub is_escaped: bool,
+}
+
+/// What an option was given.
+#[derive(Clone, Copy)]
+pub struct Given<'a> {
+    /// Its row in the table.
+    pub row: &'static Row,
+    pub word: Option<&'a str>,
+    /// The number that the word writes, of an option that is one; else 0.
+    pub number: u64,
+}

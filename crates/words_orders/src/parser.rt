@@ -1,0 +1,106 @@
+//! The parser of the words, which clap makes of the table.
+
+use crate::rows::CommandRow;
+use crate::table::{ABOUT, AFTER_HELP, PROGRAM, VERSION, commands, telling};
+use words_values::{Place, Row, Value};
+use clap::builder::ValueParser;
+use clap::{Arg, ArgAction, Command};
+use std::alloc::{AllocError, Global};
+
+/// The parser of all commands.
+pub(crate) fn program<'a>(alloc: Global) -> Result<Command<'a>, AllocError> {
+    let program = Command::new(alloc, PROGRAM)
+        .version(VERSION)
+        .about(ABOUT)
+        .after_help(AFTER_HELP)
+        .subcommand_required(true);
+    let mut program = with_rows(alloc, program, telling())?;
+    for row in commands() {
+        program = program.subcommand(command(alloc, row)?)?;
+    }
+    Ok(program)
+}
+
+fn command<'a>(alloc: Global, row: &'static CommandRow) -> Result<Command<'a>, AllocError> {
+    let command = Command::new(alloc, row.name)
+        .about(row.about)
+        .after_help(row.after_help);
+    let command = with_rows(alloc, command, row.own_rows())?;
+    let command = with_rows(alloc, command, row.filling_rows())?;
+    with_rows(alloc, command, row.shared_rows())
+}
+
+/// The parser with an argument for each of these rows.
+pub fn with_rows<'a>(
+    alloc: Global,
+    command: Command<'a>,
+    rows: &'static [Row],
+) -> Result<Command<'a>, AllocError> {
+    let mut command = command;
+    for row in rows {
+        command = command.arg(argument(alloc, row)?)?;
+    }
+    Ok(command)
+}
+
+fn argument<'a>(alloc: Global, row: &'static Row) -> Result<Arg<'a>, AllocError> {
+    let arg = Arg::new(alloc, row.name)
+        .help(row.help)
+        .required(row.is_required);
+    let arg = with_value(placed(arg, row), row);
+    if let Some(other) = row.needs {
+        return arg.requires_arg(other);
+    }
+    if let Some(other) = row.excludes {
+        return arg.conflicts_with(other);
+    }
+    Ok(arg)
+}
+
+// The argument with its place.
+fn placed<'a>(arg: Arg<'a>, row: &'static Row) -> Arg<'a> {
+    let arg = named(arg, row).action(action_of(row.place));
+    match row.place {
+        Place::Words => arg.num_args(1..),
+        Place::LastWords => arg.num_args(0..),
+        _ => arg,
+    }
+}
+
+// The argument with the name that it is given by, where it is an option or a flag.
+fn named<'a>(arg: Arg<'a>, row: &'static Row) -> Arg<'a> {
+    match row.place {
+        Place::Option | Place::Options => arg.long(row.name).value_name(row.value_name),
+        Place::Flag => arg.long(row.name),
+        Place::ShortFlag(letter) => arg.short(letter).long(row.name),
+        Place::Letter => match row.name.chars().next() {
+            Some(letter) => arg.short(letter).value_name(row.value_name),
+            None => arg,
+        },
+        _ => arg,
+    }
+}
+
+fn action_of(place: Place) -> ArgAction {
+    match place {
+        Place::Word | Place::Words | Place::Option | Place::Letter => ArgAction::Set,
+        Place::LastWords | Place::Options => ArgAction::Append,
+        Place::Flag | Place::ShortFlag(_) => ArgAction::SetTrue,
+    }
+}
+
+// The argument with what its value may be.
+fn with_value<'a>(arg: Arg<'a>, row: &'static Row) -> Arg<'a> {
+    let arg = match row.default {
+        Some(word) => arg.default_value(word),
+        None => arg,
+    };
+    match row.value {
+        Value::Count(least) => {
+            arg.value_parser(ValueParser::signed(least as i64, u32::MAX as i64))
+        }
+        Value::Name(names) => arg.value_parser(ValueParser::Names(names)),
+        Value::CommandLine => arg.allow_hyphen_values(true),
+        _ => arg,
+    }
+}

@@ -1,0 +1,331 @@
+//! Reading the words: what the answers to a command's rows ask for.
+
+ghost use Rattle.std.specs.Prelude.{◌≡◌, ◌||◌, [], ℕ, List, IfOk, IfSome, map};
+ghost use Rattle.std.specs.List.{AllZip};
+ghost use Rattle.words_orders.specs.Asked.{AreAnswers, Asks, AsksBoot, AsksPack, AsksPieces, AsksSparse, IsGiven};
+ghost use Rattle.words_orders.specs.Asked.{IsOrderOf, IsSplit};
+ghost use Rattle.words_orders.specs.Table.{name_of, option_rows, shape_of, telling_rows, work_of, work_of_boot, work_of_sparse};
+ghost use Rattle.words_orders.specs.Words.{AreRead, says_name, saying_of, words_by_place};
+ghost use Rattle.words_orders.specs.declared.rows.Work.TheVariants as works;
+
+use crate::answers::Answers;
+use crate::completions::Shell;
+use crate::fault::WordsFault;
+use crate::order::{BootTask, Given, Order, PackOrder, Pieces, SparseTask, Task};
+use crate::parser::program;
+use crate::rows::{CommandRow, Work};
+use crate::saying::{Said, is_said, placed_words, read};
+use crate::table::{commands, front_rows, options};
+use words_values::Row;
+use clap::error::ErrorKind;
+use std::alloc::{AllocError, Global};
+use std::convert::AsStr;
+
+/// Reads the words, of which the first is the program's name. Clap tells what is wrong with them; what they ask for is
+/// read here, and nothing rests on how clap read them.
+pub fn order_of<'a, S: AsStr>(alloc: Global, words: &'a [S]) -> Result<Order<'a>, WordsFault>
+    ensures { IfOk result (IsOrderOf (map S.text words.entry.now)) }
+{
+    let _found = program(alloc)?.try_get_matches_from(words)?;
+    let Some(parts) = split(words) else {
+        return Err(misread(alloc)?);
+    };
+    match read_parts(alloc, parts)? {
+        Some(order) => Ok(order),
+        None => Err(misread(alloc)?),
+    }
+}
+
+/// The options before a command, the command, and the words behind it.
+#[derive(Clone, Copy)]
+struct Parts<'a, S> {
+    front: &'a [S],
+    command: &'static CommandRow,
+    behind: &'a [S],
+}
+
+// The words at the first name of a command.
+fn split<'a, S: AsStr>(words: &'a [S]) -> Option<Parts<'a, S>>
+    ensures command { IfSome result (λ parts. parts.command.now.name.now ≡ name_of parts.command.now.work) }
+    ensures words { IfSome result (λ parts. IsSplit (map S.text words.entry.now) parts.command.now.name.now
+        (map S.text parts.front.now) (map S.text parts.behind.now)) }
+{
+    for i in 1..words.len() {
+        if let Some(command) = command_named(words[i].as_str()) {
+            return Some(Parts {
+                front: &words[1..i],
+                command,
+                behind: &words[i + 1..],
+            });
+        }
+    }
+    None
+}
+
+// What these ask for; none where a word says nothing, or is left over.
+fn read_parts<'a, S: AsStr>(
+    alloc: Global,
+    parts: Parts<'a, S>,
+) -> Result<Option<Order<'a>>, WordsFault>
+    requires { parts.command.now.name.now ≡ name_of parts.command.now.work }
+    ensures { IfOk result (λ found. IfSome found (λ order. (words : List (List ℕ)) →
+        IsSplit words parts.entry.command.now.name.now (map S.text parts.entry.front.now)
+        (map S.text parts.entry.behind.now) → IsOrderOf words order)) }
+{
+    let Some(before) = read_front(alloc, parts.front)? else {
+        return Ok(None);
+    };
+    let rows = parts.command.rows(alloc)?;
+    let Some(said) = read(alloc, rows.as_slice(), parts.behind)? else {
+        return Ok(None);
+    };
+    let is_verbose = is_said_in("verbose", before.as_slice(), said.as_slice());
+    let Some(answers) = answers_to(alloc, rows.as_slice(), said.as_slice(), is_verbose)? else {
+        return Ok(None);
+    };
+    Ok(Some(Order {
+        command: parts.command.name,
+        task: task_for(alloc, parts.command.work, &answers)?,
+        is_verbose,
+        is_quiet: is_said_in("quiet", before.as_slice(), said.as_slice()),
+        is_synced: is_said("sync", said.as_slice()),
+        is_mounted_allowed: is_said("mounted", said.as_slice()),
+    }))
+}
+
+// Whether a flag is said before a command or behind it.
+fn is_said_in(name: &str, before: &[Said<'_>], said: &[Said<'_>]) -> bool
+    ensures { result ≡ (says_name name.now (map saying_of before.now) || says_name name.now (map saying_of said.now)) }
+{
+    is_said(name, before) || is_said(name, said)
+}
+
+// What is said before a command; none where that is not options alone.
+fn read_front<'a, S: AsStr>(
+    alloc: Global,
+    front: &'a [S],
+) -> Result<Option<Vec<Said<'a>>>, AllocError>
+    ensures reads { IfOk result (λ found. IfSome found (λ said. AreRead telling_rows (map S.text front.entry.now)
+        (map saying_of said.items))) }
+    ensures options { IfOk result (λ found. IfSome found (λ said. words_by_place (map saying_of said.items) ≡ [])) }
+{
+    let rows = front_rows(alloc)?;
+    let Some(said) = read(alloc, rows.as_slice(), front)? else {
+        return Ok(None);
+    };
+    if placed_words(alloc, said.as_slice())?.is_empty() {
+        Ok(Some(said))
+    } else {
+        Ok(None)
+    }
+}
+
+// The answers of what is said; none where a word is left over, or one is missing.
+fn answers_to<'a>(
+    alloc: Global,
+    rows: &[&'static Row],
+    said: &[Said<'a>],
+    is_verbose: bool,
+) -> Result<Option<Answers<'a>>, WordsFault>
+    ensures { IfOk result (λ found. IfSome found (λ answers. AreAnswers (map (λ row. shape_of row.now) rows.now)
+        (map saying_of said.now) answers.all.items)) }
+{
+    let placed = placed_words(alloc, said)?;
+    let mut answers = Answers::new(alloc, is_verbose);
+    let is_all = answers.read_rows(alloc, rows, said, placed.as_slice())?;
+    if is_all && answers.are_enough(rows) {
+        Ok(Some(answers))
+    } else {
+        Ok(None)
+    }
+}
+
+// The words were read as others: which no parser does that is right.
+fn misread(alloc: Global) -> Result<WordsFault, AllocError> {
+    let error = program(alloc)?.error(ErrorKind::InvalidValue, "the words were read as others")?;
+    Ok(WordsFault::Usage(error))
+}
+
+fn command_named(name: &str) -> Option<&'static CommandRow>
+    ensures work { IfSome result (λ command. command.now.name.now ≡ name_of command.now.work) }
+    ensures name { IfSome result (λ command. command.now.name.now ≡ name.now) }
+{
+    for command in commands() {
+        if command.name == name {
+            return Some(command);
+        }
+    }
+    None
+}
+
+fn task_for<'a>(alloc: Global, work: Work, answers: &Answers<'a>) -> Result<Task<'a>, AllocError>
+    ensures work { IfOk result (λ task. work_of task ≡ work) }
+    ensures asks { IfOk result (Asks answers.now.all.items) }
+{
+    match work {
+        Work::Expand => expand(alloc, answers),
+        Work::Pack => pack(alloc, answers),
+        Work::Repack => repack(alloc, answers),
+        Work::Unpack => Ok(Task::Boot(unpack(answers))),
+        Work::Info => Ok(Task::Boot(info(answers))),
+        Work::List => Ok(Task::Sparse(list(answers))),
+        Work::Sparse => Ok(Task::Sparse(make_sparse(answers))),
+        Work::Cut => Ok(Task::Sparse(cut(answers))),
+        Work::Flash => Ok(Task::Sparse(flash(answers))),
+        Work::Verify => Ok(Task::Sparse(verify(answers))),
+        Work::Completions => Ok(Task::Completions(Shell::new(answers.given_word("SHELL")))),
+    }
+}
+
+// ---- sparse images
+
+/// The task of `expand`.
+pub fn expand<'a>(alloc: Global, answers: &Answers<'a>) -> Result<Task<'a>, AllocError>
+    ensures work { IfOk result (λ task. work_of task ≡ works.Expand) }
+    ensures asks { IfOk result (Asks answers.now.all.items) }
+{
+    let mut inputs = Vec::new(alloc);
+    answers.push_words("IN", &mut inputs)?;
+    let output = answers.given_word("OUT");
+    Ok(Task::Sparse(SparseTask::Expand { inputs, output }))
+}
+
+fn list<'a>(answers: &Answers<'a>) -> SparseTask<'a>
+    ensures work { work_of_sparse result ≡ works.List }
+    ensures asks { AsksSparse answers.now.all.items result }
+{
+    SparseTask::List {
+        input: answers.given_word("IN"),
+    }
+}
+
+fn make_sparse<'a>(answers: &Answers<'a>) -> SparseTask<'a>
+    ensures work { work_of_sparse result ≡ works.Sparse }
+    ensures asks { AsksSparse answers.now.all.items result }
+{
+    SparseTask::Sparse {
+        input: answers.given_word("IN"),
+        output: answers.given_word("OUT"),
+        block: answers.given_number("block"),
+    }
+}
+
+fn cut<'a>(answers: &Answers<'a>) -> SparseTask<'a>
+    ensures work { work_of_sparse result ≡ works.Cut }
+    ensures asks { AsksSparse answers.now.all.items result }
+{
+    SparseTask::Cut {
+        input: answers.given_word("IN"),
+        limit: answers.given_number("LIMIT"),
+        prefix: answers.given_word("PREFIX"),
+        is_from_zero: false,
+        raw: answers.number("raw"),
+    }
+}
+
+fn flash<'a>(answers: &Answers<'a>) -> SparseTask<'a>
+    ensures work { work_of_sparse result ≡ works.Flash }
+    ensures asks { AsksSparse answers.now.all.items result }
+{
+    SparseTask::Flash {
+        input: answers.given_word("IN"),
+        partition: answers.given_word("PARTITION"),
+        raw: answers.number("raw"),
+        pieces: pieces_for(answers),
+    }
+}
+
+fn pieces_for<'a>(answers: &Answers<'a>) -> Option<Pieces<'a>>
+    ensures { AsksPieces answers.now.all.items result }
+{
+    let spool = answers.word("SPOOL")?;
+    Some(Pieces {
+        limit: answers.given_number("LIMIT"),
+        spool,
+        from: answers.number("from").unwrap_or(1),
+    })
+}
+
+fn verify<'a>(answers: &Answers<'a>) -> SparseTask<'a>
+    ensures work { work_of_sparse result ≡ works.Verify }
+    ensures asks { AsksSparse answers.now.all.items result }
+{
+    SparseTask::Verify {
+        input: answers.given_word("IN"),
+        partition: answers.given_word("PARTITION"),
+        raw: answers.number("raw"),
+    }
+}
+
+// ---- boot images
+
+fn pack<'a>(alloc: Global, answers: &Answers<'a>) -> Result<Task<'a>, AllocError>
+    ensures work { IfOk result (λ task. work_of task ≡ works.Pack) }
+    ensures asks { IfOk result (Asks answers.now.all.items) }
+{
+    let order = pack_order(alloc, answers)?;
+    Ok(Task::Boot(BootTask::Pack(order)))
+}
+
+fn repack<'a>(alloc: Global, answers: &Answers<'a>) -> Result<Task<'a>, AllocError>
+    ensures work { IfOk result (λ task. work_of task ≡ works.Repack) }
+    ensures asks { IfOk result (Asks answers.now.all.items) }
+{
+    let input = answers.given_word("IN");
+    let order = pack_order(alloc, answers)?;
+    Ok(Task::Boot(BootTask::Repack { input, order }))
+}
+
+fn unpack<'a>(answers: &Answers<'a>) -> BootTask<'a>
+    ensures work { work_of_boot result ≡ works.Unpack }
+    ensures asks { AsksBoot answers.now.all.items result }
+{
+    BootTask::Unpack {
+        input: answers.given_word("IN"),
+        folder: answers.given_word("DIR"),
+        with_words: answers.flag("words"),
+    }
+}
+
+fn info<'a>(answers: &Answers<'a>) -> BootTask<'a>
+    ensures work { work_of_boot result ≡ works.Info }
+    ensures asks { AsksBoot answers.now.all.items result }
+{
+    BootTask::Info {
+        input: answers.given_word("IN"),
+        with_check: answers.flag("check"),
+        with_hex: answers.flag("hex"),
+    }
+}
+
+fn pack_order<'a>(alloc: Global, answers: &Answers<'a>) -> Result<PackOrder<'a>, AllocError>
+    ensures { IfOk result (AsksPack answers.now.all.items) }
+{
+    let mut board_ids = Vec::new(alloc);
+    answers.push_words("board-id", &mut board_ids)?;
+    let mut fragments = Vec::new(alloc);
+    answers.push_words("fragment", &mut fragments)?;
+    answers.push_words("FRAGMENT", &mut fragments)?;
+    Ok(PackOrder {
+        output: answers.given_word("OUT"),
+        is_vendor: answers.flag("vendor"),
+        version: answers.given_number("version"),
+        page: answers.number("page"),
+        given: all_given(alloc, answers)?,
+        board_ids,
+        fragments,
+        keeps_trailing: answers.flag("keep-trailing"),
+        is_escaped: answers.flag("escaped"),
+    })
+}
+
+// What each option of the table was given.
+fn all_given<'a>(alloc: Global, answers: &Answers<'a>) -> Result<Vec<Given<'a>>, AllocError>
+    ensures { IfOk result (λ given. AllZip (IsGiven answers.now.all.items) option_rows given.items) }
+{
+    let mut given = Vec::new(alloc);
+    for row in options() {
+        given.push(answers.given(row))?;
+    }
+    Ok(given)
+}

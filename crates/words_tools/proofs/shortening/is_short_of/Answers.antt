@@ -1,0 +1,11 @@
+use Rattle.std.proofs.lemmas.List.Elements.{All-map}
+use Rattle.words_orders.specs.Table.{Shape, shape_of}
+use Rattle.words_tools.specs.Shortened.{IsOnly}
+use Rattle.words_tools.proofs.shortening.is_short_of.Goals as goal
+
+pub returns-in-Some : goal.returns-in-Some
+returns-in-Some c = λ is. record {
+  begins = (c.in-Some._rest.now, c.in-Some.ensures);
+  only = All-map (λ (row : Shape). IsOnly c.args.short.now c.args.name.now row.name) shape_of c.args.rows.now
+      (c.is_only.ensures is);
+}

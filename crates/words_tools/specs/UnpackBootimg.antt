@@ -1,0 +1,35 @@
+-- What the answers to unpack_bootimg's rows ask for.
+use Rattle.std.specs.Prelude.{◌≡◌, ℕ, List, [], ◌∷◌, Option, None, codes, bytes_eq, if◌then◌else◌}
+use Rattle.words_values.specs.declared.rows.Place.TheVariants as places
+use Rattle.words_values.specs.declared.rows.Value.TheVariants as values
+use Rattle.words_orders.specs.declared.answers.Answer.{Answer}
+use Rattle.words_orders.specs.Asked.{flag_named, word_named}
+use Rattle.words_orders.specs.Table.{Shape, part, required, row, usual}
+use Rattle.words_tools.specs.declared.unpack_bootimg.UnpackImage.{UnpackImage}
+use Rattle.words_tools.specs.declared.unpack_bootimg.UnpackText.{UnpackText}
+use Rattle.words_tools.specs.declared.unpack_bootimg.UnpackText.TheVariants as kinds
+
+-- ---- the table
+
+-- an option whose value is one of several names, and this one where none is given
+abbrev pub named_choice : List ℕ → List ℕ → Shape
+named_choice name word = record (usual word (part name)) { value = None }
+
+abbrev pub unpack_rows : List Shape
+unpack_rows =
+    required (part (codes "boot_img")) ∷ usual (codes "out") (part (codes "out"))
+    ∷ named_choice (codes "format") (codes "info") ∷ row (places.ShortFlag 48) values.IsGiven (codes "null") ∷ []
+
+-- ---- what is asked for
+
+-- the words of mkbootimg where `--format mkbootimg` is given, each with a zero byte behind it where `-0` is; else what
+-- the header says
+abbrev pub text_asked : List Answer → UnpackText
+text_asked all =
+    if bytes_eq (word_named (codes "format") all) (codes "mkbootimg")
+    then (if flag_named (codes "null") all then kinds.ZeroWords else kinds.Words) else kinds.Info
+
+pub record AsksUnpack (all : List Answer) (image : UnpackImage) : Type 0 where
+  pub input : image.input.now ≡ word_named (codes "boot_img") all
+  pub folder : image.folder.now ≡ word_named (codes "out") all
+  pub text : image.text ≡ text_asked all

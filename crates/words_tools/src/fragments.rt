@@ -1,0 +1,182 @@
+//! The words of ramdisk fragments, apart from the others of a call of mkbootimg.
+
+ghost use Rattle.std.specs.Prelude.{◌≡◌, ◌++◌, ℕ, List, [], ◌∷◌, IfOk, IfSome, IsTrue, OnOk, Contains, codes, map};
+ghost use Rattle.words_orders.specs.Table.{shape_of};
+ghost use Rattle.words_tools.specs.Fragments.{AreParted, AreParting, IsAnswerTo, IsNameOf, SaysOption, fragment_rows};
+
+use crate::shortening::is_short_of;
+use crate::table::fragment_rows;
+use words_values::{Row, number_in, number_word};
+use words_orders::{Answer, WordsFault};
+use std::alloc::{AllocError, Global};
+use std::convert::AsStr;
+
+// The option that ends a group.
+pub(crate) const FRAGMENT: &str = "vendor_ramdisk_fragment";
+
+const NO_VALUE: &str = "an option of a fragment has no value";
+
+/// The words of a call, apart.
+#[derive(Drop)]
+pub struct Parted<'a> {
+    /// What those of fragments say, in their order.
+    pub said: Vec<Answer<'a>>,
+    pub others: Vec<&'a str>,
+}
+
+impl<'a> Parted<'a> {
+    fn new(alloc: Global) -> Parted<'a>
+        ensures said { result.said.items ≡ [] }
+        ensures others { result.others.items ≡ [] }
+    {
+        Parted {
+            said: Vec::new(alloc),
+            others: Vec::new(alloc),
+        }
+    }
+
+    /// The words of a tool that has no fragments.
+    pub fn of_others<S: AsStr>(alloc: Global, words: &'a [S]) -> Result<Parted<'a>, AllocError>
+        ensures said { IfOk result (λ parted. parted.said.items ≡ []) }
+        ensures others { IfOk result (λ parted. map (λ word. word.now) parted.others.items ≡ map S.text words.now) }
+    {
+        let mut parted = Parted::new(alloc);
+        for word in words {
+            parted.leave(word.as_str())?;
+        }
+        Ok(parted)
+    }
+
+    // Takes the next word, behind an option that awaits its value or behind none. The option that awaits one now. As an
+    // option does, no value begins with a hyphen.
+    fn take(
+        &mut self,
+        alloc: Global,
+        before: Option<&'static Row>,
+        word: &'a str,
+    ) -> Result<Option<&'static Row>, WordsFault>
+        ensures { (words : List (List ℕ)) → AreParting words self.old.said.items
+            (map (λ it. it.now) self.old.others.items) before.entry → IfOk result (AreParting (words ++ (word.now ∷ []))
+            self.new.said.items (map (λ it. it.now) self.new.others.items)) }
+    {
+        if let Some(row) = before {
+            if word.starts_with('-') {
+                return Err(WordsFault::NotTaken(NO_VALUE));
+            }
+            self.say(answer_of(alloc, row, word)?)?;
+            return Ok(None);
+        }
+        match kind_of(word) {
+            WordKind::Other => {
+                self.leave(word)?;
+                Ok(None)
+            }
+            WordKind::WithEquals(row, value) => {
+                self.say(answer_of(alloc, row, value)?)?;
+                Ok(None)
+            }
+            WordKind::WithNext(row) => Ok(Some(row)),
+        }
+    }
+
+    fn leave(&mut self, word: &'a str) -> Result<(), AllocError>
+        ensures said { OnOk result (self.new.said.items ≡ self.old.said.items) }
+        ensures others { OnOk result (map (λ it. it.now) self.new.others.items
+            ≡ map (λ it. it.now) self.old.others.items ++ (word.now ∷ [])) }
+    {
+        self.others.push(word)?;
+        Ok(())
+    }
+
+    fn say(&mut self, answer: Answer<'a>) -> Result<(), AllocError>
+        ensures said { OnOk result (self.new.said.items ≡ self.old.said.items ++ (answer.entry ∷ [])) }
+        ensures others { OnOk result (self.new.others.items ≡ self.old.others.items) }
+    {
+        self.said.push(answer)?;
+        Ok(())
+    }
+}
+
+/// What a word is.
+#[derive(Clone, Copy)]
+pub(crate) enum WordKind<'a> {
+    Other,
+    /// An option with its value behind `=`.
+    WithEquals(&'static Row, &'a str),
+    /// An option whose value is the next word.
+    WithNext(&'static Row),
+}
+
+/// The words of ramdisk fragments, and the others.
+pub fn part_words<'a, S: AsStr>(alloc: Global, words: &'a [S]) -> Result<Parted<'a>, WordsFault>
+    ensures { IfOk result (λ parted. AreParted (map S.text words.now) parted.said.items
+        (map (λ word. word.now) parted.others.items)) }
+{
+    let mut parted = Parted::new(alloc);
+    let mut before = None;
+    for word in words {
+        before = parted.take(alloc, before, word.as_str())?;
+    }
+    match before {
+        Some(_row) => Err(WordsFault::NotTaken(NO_VALUE)),
+        None => Ok(parted),
+    }
+}
+
+// What a word answers to a row.
+fn answer_of<'a>(alloc: Global, row: &'static Row, word: &'a str) -> Result<Answer<'a>, WordsFault>
+    ensures { IfOk result (IsAnswerTo row.now word.now) }
+{
+    match number_in(row.value, word) {
+        Some(number) => Ok(Answer { row, word, number }),
+        None => Err(WordsFault::BadNumber {
+            word: String::from_str(alloc, word)?,
+            is_number: number_word(word).is_some(),
+            is_verbose: false,
+        }),
+    }
+}
+
+fn kind_of<'a>(word: &'a str) -> WordKind<'a>
+    ensures { SaysOption word.now result }
+{
+    let Some(option) = word.strip_prefix("--") else {
+        return WordKind::Other;
+    };
+    match cut(option, "=") {
+        Some((short, value)) => match row_named(short) {
+            Some(row) if row.name != FRAGMENT => WordKind::WithEquals(row, value),
+            _ => WordKind::Other,
+        },
+        None => match row_named(option) {
+            Some(row) => WordKind::WithNext(row),
+            None => WordKind::Other,
+        },
+    }
+}
+
+/// What stands before a text and behind it.
+pub(crate) fn cut<'a>(text: &'a str, by: &str) -> Option<(&'a str, &'a str)>
+    ensures { IfSome result (λ parts. text.now ≡ parts.0.now ++ (by.now ++ parts.1.now)) }
+{
+    text.split_once(by)
+}
+
+// The row that a name means.
+fn row_named(short: &str) -> Option<&'static Row>
+    ensures { IfSome result (λ row. IsNameOf short.now row.now.name.now × Contains fragment_rows (shape_of row.now)) }
+{
+    for row in fragment_rows() {
+        if is_name_of(short, row.name) {
+            return Some(row);
+        }
+    }
+    None
+}
+
+// Whether this is the name, or a beginning of it and of no other. The name of the file is written whole.
+fn is_name_of(short: &str, name: &str) -> bool
+    ensures { IsTrue result → IsNameOf short.now name.now }
+{
+    short == name || (name != FRAGMENT && is_short_of(fragment_rows(), short, name))
+}

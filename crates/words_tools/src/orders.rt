@@ -1,0 +1,237 @@
+//! Reading the words of AOSP's tools: the orders that they ask for.
+
+ghost use Rattle.std.specs.Prelude.{◌≡◌, [], IfOk, get_or, map};
+ghost use Rattle.words_tools.specs.Tools.{AreOrdersOf, AsksBlocks, AsksCut, AsksImages, AsksOrders, AsksUnpacking, IsToolOrder};
+ghost use Rattle.words_tools.specs.Tools.{PacksAsked, standard_or};
+
+use crate::mkbootimg::{Image, id_asked, images_of, names_again, packing, refusal_of};
+use crate::parser::tool_program;
+use crate::shortening::are_spelled_in;
+use crate::texts::fragment_texts;
+use crate::tools::Tool;
+use crate::unpack_bootimg::{UnpackImage, unpacking};
+use words_orders::{Answer, Answers, Order, SparseTask, Task, WordsFault, expand};
+use clap::error::ErrorKind;
+use std::alloc::{AllocError, Global};
+use std::convert::AsStr;
+
+/// What the words of a tool ask for: orders that are done one after the other, or none.
+#[derive(Drop)]
+pub struct Orders<'a> {
+    pub first: Option<Order<'a>>,
+    /// Done where the first is.
+    pub second: Option<Order<'a>>,
+    /// The boot image whose id is printed where all are done.
+    pub id_of: Option<&'a str>,
+    /// The image that is unpacked in the place of orders.
+    pub unpack: Option<UnpackImage<'a>>,
+}
+
+/// Reads the words of a tool, of which the first calls it, without those that say something of ramdisk fragments. How clap
+/// reads them is not trusted: each answer is found again among the words. `texts` are what `texts_of` makes of them, which
+/// is not trusted either.
+pub fn orders_of<'a, S: AsStr>(
+    alloc: Global,
+    tool: Tool,
+    words: &'a [S],
+    said: &[Answer<'a>],
+    texts: &'a [String],
+) -> Result<Orders<'a>, WordsFault>
+    ensures { IfOk result (AreOrdersOf tool (map S.text words.now) said.now) }
+{
+    if let Some(instead) = tool.instead() {
+        return Err(WordsFault::NotTaken(instead));
+    }
+    let found = tool_program(alloc, tool)?.try_get_matches_from(words)?;
+    let rows = tool.rows();
+    let answers = Answers::of_rows(alloc, rows, &found)?;
+    if !are_spelled_in(alloc, words, rows, caller(words), answers.all.as_slice())? {
+        return Err(misread(alloc, tool)?);
+    }
+    let orders = orders_for(alloc, tool, &answers, said, texts)?;
+    Ok(orders)
+}
+
+/// The texts that no word of a tool is, and that its orders need: of mkbootimg the words of `pack` for ramdisk fragments.
+pub fn texts_of<S: AsStr>(
+    alloc: Global,
+    tool: Tool,
+    words: &[S],
+    said: &[Answer<'_>],
+) -> Result<Vec<String>, WordsFault> {
+    if tool.instead().is_some() {
+        return Ok(Vec::new(alloc));
+    }
+    let found = tool_program(alloc, tool)?.try_get_matches_from(words)?;
+    Ok(fragment_texts(alloc, found.get_str("vendor_ramdisk"), said)?)
+}
+
+fn orders_for<'a>(
+    alloc: Global,
+    tool: Tool,
+    answers: &Answers<'a>,
+    said: &[Answer<'a>],
+    texts: &'a [String],
+) -> Result<Orders<'a>, WordsFault>
+    ensures { IfOk result (AsksOrders tool answers.now.all.items said.now) }
+{
+    let task = match tool {
+        Tool::Simg2img => expand(alloc, answers)?,
+        Tool::Img2simg => make_sparse(answers),
+        Tool::Mkbootimg => return image_orders(alloc, answers, said, texts),
+        Tool::Simg2simg => cut(answers),
+        Tool::UnpackBootimg => return Ok(unpack_orders(answers)),
+        _ => return Err(misread(alloc, tool)?),
+    };
+    Ok(Orders {
+        first: Some(order_for(tool, task)),
+        second: None,
+        id_of: None,
+        unpack: None,
+    })
+}
+
+// An image that is unpacked.
+fn unpack_orders<'a>(answers: &Answers<'a>) -> Orders<'a>
+    ensures { AsksUnpacking answers.now.all.items result }
+{
+    Orders {
+        first: None,
+        second: None,
+        id_of: None,
+        unpack: Some(unpacking(answers)),
+    }
+}
+
+// The word that calls the tool.
+fn caller<S: AsStr>(words: &[S]) -> &str
+    ensures { result.now ≡ get_or (map S.text words.now) 0 [] }
+{
+    if words.is_empty() {
+        ""
+    } else {
+        words[0].as_str()
+    }
+}
+
+// The words were read as others: which no parser does that is right.
+fn misread(alloc: Global, tool: Tool) -> Result<WordsFault, AllocError> {
+    let mut program = tool_program(alloc, tool)?;
+    let error = program.error(ErrorKind::InvalidValue, "the words were read as others")?;
+    Ok(WordsFault::Usage(error))
+}
+
+// The order of a task that a tool asks for, which shows nothing of how far it is.
+fn order_for<'a>(tool: Tool, task: Task<'a>) -> Order<'a>
+    ensures task { result.task ≡ task.entry }
+    ensures plain { IsToolOrder tool result }
+{
+    Order {
+        command: tool.name(),
+        task,
+        is_verbose: false,
+        is_quiet: true,
+        is_synced: false,
+        is_mounted_allowed: false,
+    }
+}
+
+fn make_sparse<'a>(answers: &Answers<'a>) -> Task<'a>
+    ensures { AsksBlocks answers.now.all.items result }
+{
+    Task::Sparse(SparseTask::Sparse {
+        input: standard_or(answers.given_word("IN")),
+        output: answers.given_word("OUT"),
+        block: answers.number("BLOCK").unwrap_or(4096),
+    })
+}
+
+fn cut<'a>(answers: &Answers<'a>) -> Task<'a>
+    ensures { AsksCut answers.now.all.items result }
+{
+    Task::Sparse(SparseTask::Cut {
+        input: answers.given_word("IN"),
+        limit: answers.given_number("MAX"),
+        prefix: answers.given_word("PREFIX"),
+        is_from_zero: true,
+        raw: None,
+    })
+}
+
+// The path of what a word names, where `-` is the file that standard input is.
+fn standard_or<'a>(word: &'a str) -> &'a str
+    ensures { result.now ≡ standard_or word.now }
+{
+    if word == "-" { "/proc/self/fd/0" } else { word }
+}
+
+// ---- images
+
+// The vendor boot image first, and then the boot image.
+fn image_orders<'a>(
+    alloc: Global,
+    answers: &Answers<'a>,
+    said: &[Answer<'a>],
+    texts: &'a [String],
+) -> Result<Orders<'a>, WordsFault>
+    ensures { IfOk result (AsksImages answers.now.all.items said.now) }
+{
+    let (vendor, boot) = images_of(answers);
+    if let Some(instead) = refusal_of_call(answers, said, vendor) {
+        return Err(WordsFault::NotTaken(instead));
+    }
+    Ok(Orders {
+        first: image_order(alloc, answers, said, vendor, texts)?,
+        second: image_order(alloc, answers, said, boot, texts)?,
+        id_of: id_asked(answers),
+        unpack: None,
+    })
+}
+
+// Why no image is made.
+fn refusal_of_call(
+    answers: &Answers<'_>,
+    said: &[Answer<'_>],
+    vendor: Option<Image<'_>>,
+) -> Option<&'static str> {
+    let Some(image) = vendor else {
+        return refusal_of_said(said, 0);
+    };
+    if names_again(answers, "vendor_boot", image.output) {
+        return Some(
+            "--vendor_boot names a file that another option names too: give it one of its own",
+        );
+    }
+    refusal_of_said(said, image.version)
+}
+
+// Why words of fragments are refused, where the vendor boot image has this version, or 0 for none.
+fn refusal_of_said(said: &[Answer<'_>], version: u32) -> Option<&'static str> {
+    if said.is_empty() || version > 3 {
+        None
+    } else {
+        Some("ramdisk fragments need --vendor_boot and --header_version 4")
+    }
+}
+
+// The order of an image, where it is asked for.
+fn image_order<'a>(
+    alloc: Global,
+    answers: &Answers<'a>,
+    said: &[Answer<'a>],
+    image: Option<Image<'a>>,
+    texts: &'a [String],
+) -> Result<Option<Order<'a>>, WordsFault>
+    ensures { IfOk result (PacksAsked answers.now.all.items said.now image.entry) }
+{
+    let Some(image) = image else {
+        return Ok(None);
+    };
+    if let Some(instead) = refusal_of(answers, said, image) {
+        return Err(WordsFault::NotTaken(instead));
+    }
+    match packing(alloc, answers, said, image, texts)? {
+        Some(task) => Ok(Some(order_for(Tool::Mkbootimg, task))),
+        None => Err(misread(alloc, Tool::Mkbootimg)?),
+    }
+}

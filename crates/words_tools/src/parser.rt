@@ -1,0 +1,22 @@
+//! The parser of a tool's words, which clap makes of its table.
+
+use crate::tools::Tool;
+use words_orders::with_rows;
+use clap::Command;
+use std::alloc::{AllocError, Global};
+
+/// The parser of a tool's words.
+pub(crate) fn tool_program<'a>(alloc: Global, tool: Tool) -> Result<Command<'a>, AllocError> {
+    let name: &'a str = tool.name();
+    let about: &'a str = tool.about();
+    let program = described(alloc, name, about);
+    with_rows(alloc, program, tool.rows())
+}
+
+// A parser that takes the beginning of an option for the option, where no other begins so, and the last of its values.
+fn described<'a>(alloc: Global, name: &'a str, about: &'a str) -> Command<'a> {
+    Command::new(alloc, name)
+        .about(about)
+        .infer_long_args(true)
+        .args_override_self(true)
+}

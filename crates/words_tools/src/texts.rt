@@ -1,0 +1,81 @@
+//! The texts that the orders of mkbootimg need: the words of `pack` for ramdisk fragments. They are not trusted.
+
+use crate::groups::{Group, is_file_word};
+use words_orders::Answer;
+use std::alloc::{AllocError, Global};
+
+/// Those of the fragments, of which the file of `--vendor_ramdisk` is the first, and then those of their board ids.
+pub(crate) fn fragment_texts(
+    alloc: Global,
+    ramdisk: Option<&str>,
+    said: &[Answer<'_>],
+) -> Result<Vec<String>, AllocError> {
+    let mut texts = Vec::new(alloc);
+    push_platform_text(alloc, &mut texts, ramdisk)?;
+    let first = texts.len() as u64;
+    push_fragment_texts(alloc, &mut texts, said)?;
+    push_board_texts(alloc, &mut texts, first, said)?;
+    Ok(texts)
+}
+
+fn push_platform_text(
+    alloc: Global,
+    texts: &mut Vec<String>,
+    ramdisk: Option<&str>,
+) -> Result<(), AllocError> {
+    if let Some(path) = ramdisk {
+        texts.push(fragment_text(alloc, Group::platform(), path)?)?;
+    }
+    Ok(())
+}
+
+fn push_fragment_texts(
+    alloc: Global,
+    texts: &mut Vec<String>,
+    said: &[Answer<'_>],
+) -> Result<(), AllocError> {
+    let mut group = Group::new();
+    for answer in said {
+        push_ended_text(alloc, texts, group, answer)?;
+        group = group.behind(answer);
+    }
+    Ok(())
+}
+
+// That of the fragment that an answer ends, where it ends one.
+fn push_ended_text(
+    alloc: Global,
+    texts: &mut Vec<String>,
+    group: Group<'_>,
+    said: &Answer<'_>,
+) -> Result<(), AllocError> {
+    if is_file_word(said) {
+        texts.push(fragment_text(alloc, group, said.word)?)?;
+    }
+    Ok(())
+}
+
+fn fragment_text(alloc: Global, group: Group<'_>, path: &str) -> Result<String, AllocError> {
+    let kind = group.kind.unwrap_or(0);
+    let name = group.name.unwrap_or("");
+    format!(in alloc; "{kind}:{name}:{path}")
+}
+
+fn push_board_texts(
+    alloc: Global,
+    texts: &mut Vec<String>,
+    first: u64,
+    said: &[Answer<'_>],
+) -> Result<(), AllocError> {
+    let mut fragment = first;
+    for answer in said {
+        if is_file_word(answer) {
+            fragment = fragment.saturating_add(1);
+        }
+        if let Some(place) = answer.row.name.strip_prefix("board_id") {
+            let number = answer.number;
+            texts.push(format!(in alloc; "{fragment}:{place}={number}")?)?;
+        }
+    }
+    Ok(())
+}

@@ -1,0 +1,121 @@
+//! The tools of AOSP by whose names the program may be called.
+
+ghost use Rattle.std.specs.Prelude.{◌≡◌, ◌≤◌, [], IsTrue, IfSome, get_or, map};
+ghost use Rattle.words_tools.specs.Tools.{IsBehindAs, IsCalled, IsLastPart, tool_name};
+
+use std::convert::AsStr;
+
+/// A tool whose words are read as it reads them.
+#[derive(Clone, Copy)]
+pub enum Tool {
+    Simg2img,
+    Img2simg,
+    Mkbootimg,
+    Simg2simg,
+    UnpackBootimg,
+    Append2simg,
+    SimgDump,
+}
+
+impl Tool {
+    /// Its name.
+    pub fn name(self) -> &'static str
+        ensures { result.now ≡ tool_name self }
+    {
+        match self {
+            Tool::Simg2img => "simg2img",
+            Tool::Img2simg => "img2simg",
+            Tool::Mkbootimg => "mkbootimg",
+            Tool::Simg2simg => "simg2simg",
+            Tool::UnpackBootimg => "unpack_bootimg",
+            Tool::Append2simg => "append2simg",
+            Tool::SimgDump => "simg_dump",
+        }
+    }
+
+    /// The exit status where the words are wrong.
+    pub fn wrong_words(self) -> u8
+        ensures { result ≤ 2 }
+    {
+        match self {
+            Tool::Mkbootimg | Tool::UnpackBootimg => 2,
+            _ => 1,
+        }
+    }
+
+    /// What to use in the place of a tool whose words are not read.
+    pub(crate) fn instead(self) -> Option<&'static str> {
+        match self {
+            Tool::Append2simg => Some(
+                "use abootimg expand, append to the raw image, and abootimg sparse",
+            ),
+            Tool::SimgDump => Some("use abootimg list IMAGE"),
+            _ => None,
+        }
+    }
+
+    // The tool whose name is the last part of a path.
+    fn of_path(path: &str) -> Option<Tool>
+        ensures { IfSome result (λ tool. IsLastPart (tool_name tool) path.now) }
+    {
+        for tool in &TOOLS {
+            if is_last_part(tool.name(), path) {
+                return Some(*tool);
+            }
+        }
+        None
+    }
+}
+
+static TOOLS: [Tool; 7] = [
+    Tool::Simg2img,
+    Tool::Img2simg,
+    Tool::Mkbootimg,
+    Tool::Simg2simg,
+    Tool::UnpackBootimg,
+    Tool::Append2simg,
+    Tool::SimgDump,
+];
+
+// Whether a path ends in this name, behind a folder or alone.
+fn is_last_part(name: &str, path: &str) -> bool
+    ensures { IsTrue result → IsLastPart name.now path.now }
+{
+    match path.strip_suffix(name) {
+        Some(front) => front.is_empty() || front.ends_with('/'),
+        None => false,
+    }
+}
+
+/// The tool that the words call, and its words, of which the first calls it: the program's own name, or the word behind
+/// `as`.
+pub fn called<S: AsStr>(words: &[S]) -> Option<(Tool, &[S])>
+    ensures { IfSome result (λ call. IsCalled (map S.text words.now) call.0 (map S.text call.1.now)) }
+{
+    if let Some(tool) = first_tool(words) {
+        return Some((tool, words));
+    }
+    let own = behind_as(words)?;
+    let tool = first_tool(own)?;
+    Some((tool, own))
+}
+
+// The tool that the first word is a path of.
+fn first_tool<S: AsStr>(words: &[S]) -> Option<Tool>
+    ensures { IfSome result (λ tool. IsLastPart (tool_name tool) (get_or (map S.text words.now) 0 [])) }
+{
+    match words {
+        [word, ..] => Tool::of_path(word.as_str()),
+        [] => None,
+    }
+}
+
+// The words behind the program's name and `as`.
+fn behind_as<S: AsStr>(words: &[S]) -> Option<&[S]>
+    ensures { IfSome result (λ own. IsBehindAs (map S.text words.now) (map S.text own.now)) }
+{
+    match words {
+        [_, word, own @ ..] if word.as_str() == "as" => Some(own),
+        _ => None,
+    }
+}
