@@ -51,7 +51,7 @@ TOOLS = simg2img img2simg simg2simg mkbootimg unpack_bootimg
 EMPTY =
 COMMA = ,
 ARCHIVE = build/abootimg-$(VERSION)-$(MACHINE).tar.gz
-LIBRARIES = $(shell sed -n 's/^\(\w*\)[: ].*/\1/p' crates.txt | grep -v -e _tests -e _data -e '^abootimg$$')
+LIBRARIES = $(shell sed -n 's/^\(\w*\)[: ].*/\1/p' crates.txt | grep -v -e '^test_' -e '^mem_test_data' -e '^abootimg$$')
 
 # All that the program is made from, so that with no change since nothing is proved and rt is not called.
 SOURCES := $(shell find crates \( -name out -o -name must-fail -o -name more-edits \) -prune -o \

@@ -406,7 +406,7 @@ def check_rules(checks, rows):
 
 
 def check_meters(checks, under):
-    for crate in (it for it in under if it not in MAKE_METERS and not it.endswith("_tests")):
+    for crate in (it for it in under if it not in MAKE_METERS and not it.startswith("test_")):
         files = glob.glob(os.path.join(HERE, "crates", crate, "src", "**", "*.rt"), recursive=True)
         made = [os.path.relpath(it, HERE) for it in files if "Meter::new(" in "\n".join(lines_of(it))]
         checks.that(not made, f"{crate} makes no meter{': ' + ', '.join(made) if made else ''}")
@@ -415,7 +415,7 @@ def check_meters(checks, under):
 def check_system(checks, under):
     """What asks the system for anything is in the files that are trusted, and they are short."""
     asks = re.compile(r"^use (?:std::(?:fs|os)\b|std::rt::|std::\{[^}]*\bfs\b|os\b|libc\b)")
-    for crate in (it for it in under if it not in OUTSIDE and not it.endswith("_tests")):
+    for crate in (it for it in under if it not in OUTSIDE and not it.startswith("test_")):
         for path in sorted(glob.glob(os.path.join(HERE, "crates", crate, "src", "**", "*.rt"), recursive=True)):
             path = os.path.relpath(path, HERE)
             if path not in SYSTEM and path not in STREAMS:

@@ -73,7 +73,7 @@ def main():
     if words.first:
         return first_look(words.rt)[1]
     lines, _ = crate_lines()
-    tests = [it for it in lines if it.endswith("_tests")]
+    tests = [it for it in lines if it.startswith("test_")]
     with ThreadPoolExecutor(len(os.sched_getaffinity(0))) as pool:
         asked = [pool.submit(first_look, words.rt), *[pool.submit(tests_of, words.rt, it) for it in tests]]
         asked += [pool.submit(script, it) for it in SCRIPTS if os.path.exists(os.path.join(HERE, it[0]))]

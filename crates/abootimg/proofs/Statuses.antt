@@ -3,7 +3,7 @@ use Rattle.std.proofs.Common.{arith, ◌≡◌, ℕ, List, [], ◌∷◌, Bool, 
 use Rattle.std.specs.Prelude.{Result, Ok, Err, IfErr, OnOk}
 use Rattle.words_orders.specs.declared.order.SparseTask.{SparseTask}
 use Rattle.words_orders.specs.declared.order.SparseTask.TheVariants as tasks
-use Rattle.sys_disk.specs.World.{World, Held}
+use Rattle.sys_disk.specs.World.{World, OpenFiles}
 use Rattle.sys_report.specs.declared.report.Report.{Report}
 use Rattle.sys_report.specs.declared.progress.Progress.{Progress}
 use Rattle.sys_host.specs.Answering.{PrintsNothing}
@@ -23,7 +23,7 @@ status_zero (Err e) n P wrong refused zero_is is = absurd (not_zero n (wrong e) 
 
 -- ---- how far it is has no part in what is done, nor in what stays
 
-expands_as : (on : List ℕ → Bool) (words : List (List ℕ)) (output : List ℕ) (a : State) (w : World) (h : Held)
+expands_as : (on : List ℕ → Bool) (words : List (List ℕ)) (output : List ℕ) (a : State) (w : World) (h : OpenFiles)
     (r : Report) (p : Progress)
     → ExpandsImages on words output a (state w h r)
     → ExpandsImages on words output a (state w h (record r { progress = p }))
@@ -31,7 +31,7 @@ expands_as on [] output a w h r p is = is
 expands_as on (x ∷ []) output a w h r p is = is
 expands_as on (x ∷ (y ∷ rest)) output a w h r p is = is
 
-does_as : (on : List ℕ → Bool) (task : SparseTask) (a : State) (w : World) (h : Held) (r : Report) (p : Progress)
+does_as : (on : List ℕ → Bool) (task : SparseTask) (a : State) (w : World) (h : OpenFiles) (r : Report) (p : Progress)
     → DoesTask on task a (state w h r) → DoesTask on task a (state w h (record r { progress = p }))
 does_as on (tasks.Expand inputs output) a w h r p is =
     expands_as on (map (λ word. word.now) inputs.items) output.now a w h r p is
@@ -46,13 +46,13 @@ does_as on (tasks.Flash input partition (Some size) (Some pieces)) a w h r p is 
 does_as on (tasks.Verify input partition None) a w h r p is = is
 does_as on (tasks.Verify input partition (Some size)) a w h r p is = is
 
-spares_expanded_as : (words : List (List ℕ)) (output : List ℕ) (a : State) (w : World) (h : Held) (r r' : Report)
+spares_expanded_as : (words : List (List ℕ)) (output : List ℕ) (a : State) (w : World) (h : OpenFiles) (r r' : Report)
     → SparesExpanded words output a (state w h r) → SparesExpanded words output a (state w h r')
 spares_expanded_as [] output a w h r r' is = is
 spares_expanded_as (x ∷ []) output a w h r r' is = is
 spares_expanded_as (x ∷ (y ∷ rest)) output a w h r r' is = is
 
-pub spares_as : (task : SparseTask) (a : State) (w : World) (h : Held) (r r' : Report)
+pub spares_as : (task : SparseTask) (a : State) (w : World) (h : OpenFiles) (r r' : Report)
     → SparesFiles task a (state w h r) → SparesFiles task a (state w h r')
 spares_as (tasks.Expand inputs output) a w h r r' is =
     spares_expanded_as (map (λ word. word.now) inputs.items) output.now a w h r r' is
@@ -69,7 +69,7 @@ both_told (Err e) P Q R join p q = tt
 
 -- the answer behind it prints nothing
 pub told_done : {X E : Type 0} (on : List ℕ → Bool) (result : Result X E) (task : SparseTask) (a : State) (w : World)
-    (h : Held)
+    (h : OpenFiles)
     (r r' : Report) → OnOk result (DoesTask on task a (state w h r)) → OnOk result (PrintsNothing r r')
     → OnOk result (DoesTask on task a (state w h r'))
 told_done on result task a w h r r' done quiet = both_told result _ _ _

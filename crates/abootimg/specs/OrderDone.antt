@@ -1,6 +1,6 @@
 -- What status 0 tells of an order.
 use Rattle.std.specs.Prelude.{◌≡◌, ◌++◌, ℕ, List, None, Bool, true, if◌then◌else◌}
-use Rattle.sys_disk.specs.World.{World, Held, IsReading}
+use Rattle.sys_disk.specs.World.{World, OpenFiles, IsReading}
 use Rattle.sys_report.specs.declared.report.Report.{Report}
 use Rattle.words_orders.specs.declared.order.Order.{Order}
 use Rattle.words_orders.specs.declared.order.Task.{Task}
@@ -11,17 +11,17 @@ use Rattle.cmd_sparse_dispatch.specs.Commands.{DoesTask, state}
 use Rattle.abootimg.specs.BootDone.{BootDone}
 
 -- no file is open to be written, and none was begun
-pub record IsReadyForOrder (held : Held) : Type 0 where
+pub record IsReadyForOrder (held : OpenFiles) : Type 0 where
   pub reading : IsReading held
   pub part : held.part ≡ None
   pub spool : held.spool ≡ None
 
 -- outputs are synced at their end, where that is asked for
-abbrev pub synced_if : Bool → Held → Held
+abbrev pub synced_if : Bool → OpenFiles → OpenFiles
 synced_if is_synced held = if is_synced then record held { is_synced = true } else held
 
 -- what a task asks for is done, as its command says it
-abbrev pub TaskDone : (List ℕ → Bool) → Task → World → Held → Report → World → Held → Report → Type 0
+abbrev pub TaskDone : (List ℕ → Bool) → Task → World → OpenFiles → Report → World → OpenFiles → Report → Type 0
 TaskDone on_output (tasks.Sparse task) world held report world' held' report' =
     DoesTask on_output task (state world held report) (state world' held' report')
 TaskDone on_output (tasks.Boot task) world held report world' held' report' =
@@ -30,6 +30,6 @@ TaskDone on_output (tasks.Completions shell) world held report world' held' repo
     (text : List ℕ) × (report'.out.log.state.bytes ≡ report.out.log.state.bytes ++ text)
 
 -- what an order asks for is done: its task, with outputs synced where it says so
-abbrev pub OrderDone : (List ℕ → Bool) → Order → World → Held → Report → World → Held → Report → Type 0
+abbrev pub OrderDone : (List ℕ → Bool) → Order → World → OpenFiles → Report → World → OpenFiles → Report → Type 0
 OrderDone on_output order world held report world' held' report' =
     TaskDone on_output order.task world (synced_if order.is_synced held) report world' held' report'

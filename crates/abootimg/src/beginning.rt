@@ -11,13 +11,13 @@ use sys_std::OsSystem;
 pub trait Beginning: Disk {
     /// Each output that is a file or a block device is going to be synced at its end.
     fn sync_outputs(&mut self)
-        ensures held { IsTrue Self.tells → Self.held self.new ≡ synced_if true (Self.held self.old) }
-        ensures world { IsTrue Self.tells → Self.world self.new ≡ Self.world self.old };
+        ensures held { IsTrue Self.models → Self.held self.new ≡ synced_if true (Self.held self.old) }
+        ensures world { IsTrue Self.models → Self.world self.new ≡ Self.world self.old };
 
     /// Block devices may be written that are in use: mounted, or swap.
     fn allow_mounted(&mut self)
-        ensures held { IsTrue Self.tells → Self.held self.new ≡ Self.held self.old }
-        ensures world { IsTrue Self.tells → Self.world self.new ≡ Self.world self.old };
+        ensures held { IsTrue Self.models → Self.held self.new ≡ Self.held self.old }
+        ensures world { IsTrue Self.models → Self.world self.new ≡ Self.world self.old };
 }
 
 impl Beginning for Host<OsSystem> {
@@ -32,8 +32,8 @@ impl Beginning for Host<OsSystem> {
 
 /// Tells it.
 pub(crate) fn begin<D: Beginning>(disk: &mut D, is_synced: bool, is_mounted_allowed: bool)
-    ensures held { IsTrue D.tells → D.held disk.new ≡ synced_if is_synced (D.held disk.old) }
-    ensures world { IsTrue D.tells → D.world disk.new ≡ D.world disk.old }
+    ensures held { IsTrue D.models → D.held disk.new ≡ synced_if is_synced (D.held disk.old) }
+    ensures world { IsTrue D.models → D.world disk.new ≡ D.world disk.old }
 {
     if is_synced {
         disk.sync_outputs();

@@ -1,12 +1,12 @@
 //! Printing the id of a boot image that was made, as mkbootimg does.
 
+use std::{fmt, io};
+use sys_file::{Kind, Opening, System, read_at};
 use sys_host::Telling;
-use sys_refusals::{HostFault, HostRefusal, Place};
+use sys_refusals::{FileArg, HostFault, HostRefusal};
 use sys_report::Report;
 use sys_std::OsSystem;
 use words_program::{print, refused};
-use std::{fmt, io};
-use sys_file::{Kind, Opening, System, read_at};
 
 // Where the id stands in the header.
 const AT: u64 = 576;
@@ -31,7 +31,7 @@ pub(crate) fn print_id(rt: HostRuntime, path: &str, how: Telling) -> u8 {
     match id_in(rt, path) {
         Ok(id) => print(rt, ShownId(id), how, &mut report),
         Err(error) => {
-            let place = Place::new("OUT", path);
+            let place = FileArg::new("OUT", path);
             let refusal = HostRefusal::at(HostFault::CannotOpen, place, error.raw_os_error());
             refused(rt, refusal, how, &mut report)
         }

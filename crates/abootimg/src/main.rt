@@ -21,14 +21,14 @@ mod sparse_task;
 mod tool;
 mod unpack_image;
 
-use sys_host::{REFUSED, USAGE};
 use abt_io::{Meter, Window};
-use sys_report::Report;
 use running::{demonstrate, run};
 use std::fs::{File, OpenOptions};
 use std::os::fd::{AsRawFd, IntoRawFd};
 use std::process::ExitCode;
 use std::{env, io};
+use sys_host::{REFUSED, USAGE};
+use sys_report::Report;
 use tool::run_tool;
 use words_tools::called;
 

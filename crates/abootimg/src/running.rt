@@ -6,20 +6,20 @@ ghost use Rattle.abootimg.specs.OrderDone.{IsReadyForOrder, OrderDone};
 use crate::beginning::{Beginning, begin};
 use crate::boot_task::do_boot;
 use crate::sparse_task::do_sparse;
-use sys_host::{Reading, Telling, answer};
 use abt_io::{Meter, Window};
-use sys_refusals::{HostRefusal, Refusal};
-use sys_report::{Progress, Report};
-use words_values::expanded;
-use words_orders::{Order, Task, WordsFault, order_of};
 use cmd_boot_dispatch::BootCommand;
-use sys_host_disk::Host;
-use sys_std::OsSystem;
-use words_program::{print, read_word_files, refused, wrong_words};
-use cmd_common_sparse::SparseCommandFault;
 use cmd_common_listing::demo;
+use cmd_common_sparse::SparseCommandFault;
 use std::alloc::Global;
 use std::io::IsTerminal;
+use sys_host::{Reading, Telling, answer};
+use sys_host_disk::Host;
+use sys_refusals::{HostRefusal, Refusal};
+use sys_report::{Progress, Report};
+use sys_std::OsSystem;
+use words_orders::{Order, Task, WordsFault, order_of};
+use words_program::{print, read_word_files, refused, wrong_words};
+use words_values::expanded;
 
 // The name before the first line of a refusal.
 const PROGRAM: &str = "abootimg";
@@ -117,10 +117,10 @@ pub(crate) fn carry_out<D: Beginning>(
     w: &mut Window,
     m: &mut Meter,
 ) -> u8
-    requires ready { IsTrue D.tells → IsReadyForOrder (D.held disk.old) }
+    requires ready { IsTrue D.models → IsReadyForOrder (D.held disk.old) }
     ensures status { result ≤ 2 }
     // the status is 0 only where all is done that the order says, and its outputs are synced where it says so
-    ensures done { IsTrue D.tells → result ≡ 0 → OrderDone D.on_output order.entry (D.world disk.old)
+    ensures done { IsTrue D.models → result ≡ 0 → OrderDone D.on_output order.entry (D.world disk.old)
         (D.held disk.old) report.old (D.world disk.new) (D.held disk.new) report.new }
 {
     begin(disk, order.is_synced, order.is_mounted_allowed);

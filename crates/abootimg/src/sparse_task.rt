@@ -5,12 +5,12 @@ ghost use Rattle.sys_disk.specs.World.{HasNotFailed, IsReading};
 ghost use Rattle.cmd_sparse_dispatch.specs.Commands.{DoesTask, SparesFiles, state};
 
 use crate::outcome::told;
+use abt_io::{Meter, Window};
+use cmd_sparse_dispatch::sparse_command;
 use sys_disk::Disk;
 use sys_host::Telling;
-use abt_io::{Meter, Window};
 use sys_report::Report;
 use words_orders::SparseTask;
-use cmd_sparse_dispatch::sparse_command;
 
 /// Does a task of sparse images, and answers the exit status.
 pub fn do_sparse<D: Disk>(
@@ -22,17 +22,17 @@ pub fn do_sparse<D: Disk>(
     w: &mut Window,
     m: &mut Meter,
 ) -> u8
-    requires first { IsTrue D.tells → IsReading (D.held disk.old) }
-    requires one { IsTrue D.tells → (D.held disk.old).part ≡ None }
-    requires through { IsTrue D.tells → (D.held disk.old).spool ≡ None }
+    requires first { IsTrue D.models → IsReading (D.held disk.old) }
+    requires one { IsTrue D.models → (D.held disk.old).part ≡ None }
+    requires through { IsTrue D.models → (D.held disk.old).spool ≡ None }
     ensures status { result ≤ 2 }
     // the status is 0 only where the task is done, and what was printed tells of it
-    ensures done { IsTrue D.tells → result ≡ 0 → DoesTask D.on_output task.entry (state (D.world disk.old) (D.held disk.old)
+    ensures done { IsTrue D.models → result ≡ 0 → DoesTask D.on_output task.entry (state (D.world disk.old) (D.held disk.old)
         report.old) (state (D.world disk.new) (D.held disk.new) report.new) }
     // and where nothing failed
-    ensures clean { IsTrue D.tells → result ≡ 0 → HasNotFailed (D.held disk.old) (D.held disk.new) }
+    ensures clean { IsTrue D.models → result ≡ 0 → HasNotFailed (D.held disk.old) (D.held disk.new) }
     // whatever the status, what it reads holds what it held, and none has changed but what it is to write
-    ensures spares { IsTrue D.tells → SparesFiles task.entry (state (D.world disk.old) (D.held disk.old) report.old)
+    ensures spares { IsTrue D.models → SparesFiles task.entry (state (D.world disk.old) (D.held disk.old) report.old)
         (state (D.world disk.new) (D.held disk.new) report.new) }
 {
     let outcome = sparse_command(disk, report, task, rt.alloc(), w, m);

@@ -3,22 +3,22 @@
 use crate::image_id::print_id;
 use crate::running::carry_out;
 use crate::unpack_image::unpack_image;
-use sys_disk::Disk;
-use sys_readers::ToWrite;
-use sys_host::{DONE, Reading, Telling, USAGE};
 use abt_io::{Meter, Window};
-use sys_refusals::{HostRefusal, Place};
-use sys_report::{Report, StandardOutput};
-use words_values::Value;
-use words_orders::{Answer, BootTask, Order, Task, WordsFault};
-use sys_host_disk::Host;
-use sys_std::OsSystem;
-use words_program::{refused, wrong_words};
 use std::alloc::Global;
 use std::fs;
 use std::fs::OpenOptions;
 use std::io::IsTerminal;
+use sys_disk::Disk;
+use sys_host::{DONE, Reading, Telling, USAGE};
+use sys_host_disk::Host;
+use sys_readers::ToWrite;
+use sys_refusals::{FileArg, HostRefusal};
+use sys_report::{Report, StandardOutput};
+use sys_std::OsSystem;
+use words_orders::{Answer, BootTask, Order, Task, WordsFault};
+use words_program::{refused, wrong_words};
 use words_tools::{Orders, Parted, Tool, orders_of, part_words, texts_of};
+use words_values::Value;
 
 /// Does what the words of a tool ask for, of which the first calls it, and answers the exit status.
 ///
@@ -215,7 +215,7 @@ fn spare_inputs<'a>(
             && let Some(word) = given.word
             && is_file(rt, word)
         {
-            let at = disk.source(Place::new(given.row.name, word))?;
+            let at = disk.source(FileArg::new(given.row.name, word))?;
             disk.let_go_source(at);
         }
     }

@@ -7,22 +7,22 @@ ghost use Rattle.std.specs.Prelude.{◌<◌};
 ghost use Rattle.abt_sections.specs.Header.{fragment_count, view_of};
 
 use crate::outcome::told;
-use sys_disk::Disk;
-use sys_host::{DONE, Reading, Telling};
 use abt_io::{Meter, Source, Window};
-use sys_refusals::{HostFault, HostRefusal, Place, Sides};
-use sys_report::Report;
 use abt_sections::{Image, SectionFault, fragment, fragments, open};
+use cmd_common_boot::{BootCommandFault, BootOutcome};
+use cmd_common_fields::front_text;
 use cmd_unpack_aosp::unpack_as_aosp;
 use cmd_unpack_aosp_texts::{AospText, Ending, fragment_file, has_table, write_aosp_text};
-use cmd_common_fields::front_text;
-use cmd_common_boot::{BootCommandFault, BootOutcome};
-use sys_host_disk::Host;
-use sys_std::OsSystem;
-use words_program::refused;
 use std::alloc::{AllocError, Global};
 use std::io;
+use sys_disk::Disk;
 use sys_file::System;
+use sys_host::{DONE, Reading, Telling};
+use sys_host_disk::Host;
+use sys_refusals::{FileArg, HostFault, HostRefusal, Sides};
+use sys_report::Report;
+use sys_std::OsSystem;
+use words_program::refused;
 use words_tools::{UnpackImage, UnpackText};
 
 // The folder of the links, in that of the parts.
@@ -99,12 +99,15 @@ fn look_at(
     status
 }
 
-fn input_of<'a>(image: &UnpackImage<'a>) -> Place<'a> {
-    Place::new("boot_img", image.input)
+fn input_of<'a>(image: &UnpackImage<'a>) -> FileArg<'a> {
+    FileArg::new("boot_img", image.input)
 }
 
 // What the image has is at fault.
-fn refusal_in<'t>(place: Place<'t>, fault: BootCommandFault<'static>) -> BootOutcome<'t, 'static> {
+fn refusal_in<'t>(
+    place: FileArg<'t>,
+    fault: BootCommandFault<'static>,
+) -> BootOutcome<'t, 'static> {
     Err(Sides::none().reading(place, None).refuse(fault))
 }
 
@@ -188,7 +191,7 @@ fn spare_input(
         return DONE;
     };
     for link in links {
-        if let Err(refusal) = disk.refuse_taken(Place::new("LINK", link.path.as_str())) {
+        if let Err(refusal) = disk.refuse_taken(FileArg::new("LINK", link.path.as_str())) {
             return refused(rt, refusal, how, report);
         }
     }
@@ -210,7 +213,7 @@ fn make_folder(rt: HostRuntime, path: &str, how: Telling, report: &mut Report) -
 }
 
 fn cannot_make<'a>(path: &'a str, why: Option<i32>) -> HostRefusal<'a> {
-    HostRefusal::at(HostFault::CannotOpen, Place::new("DIR", path), why)
+    HostRefusal::at(HostFault::CannotOpen, FileArg::new("DIR", path), why)
 }
 
 // Writes the parts to their files.

@@ -6,7 +6,7 @@ use Rattle.abt_headers.specs.declared.fault.HeaderFault.TheVariants as faults
 use Rattle.abt_headers.specs.declared.sections.Section.{Section}
 use Rattle.abt_headers.specs.declared.sections.Section.TheVariants.{Kernel, Ramdisk, Second, RecoveryDtbo, Dtb}
 use Rattle.abt_headers.specs.declared.sections.Section.TheVariants.{Signature, VendorRamdisk, Table, Bootconfig}
-use Rattle.abt_headers.specs.declared.sections.Place.{Place}
+use Rattle.abt_headers.specs.declared.sections.SectionPlace.{SectionPlace}
 use Rattle.abt_headers.specs.Boot.{boot_version, boot_page, boot_places, boot_size}
 use Rattle.abt_headers.specs.Vendor.{Vendor, vendor_version, vendor_page, vendor_places, vendor_size}
 use Rattle.abt_headers.specs.Fault.{header_fault_number}
@@ -24,20 +24,20 @@ section_number VendorRamdisk = 7
 section_number Table = 8
 section_number Bootconfig = 9
 
-abbrev pub section_told : Place → AbtSection
+abbrev pub section_told : SectionPlace → AbtSection
 section_told q = record { kind = section_number q.kind; size = q.size; at = q.at }
 
 abbrev pub no_section : AbtSection
 no_section = record { kind = 0; size = 0; at = 0 }
 
 -- section i, and none behind the last
-abbrev pub section_at : List Place → ℕ → AbtSection
+abbrev pub section_at : List SectionPlace → ℕ → AbtSection
 section_at [] i = no_section
 section_at (q ∷ qs) zero = section_told q
 section_at (q ∷ qs) (suc i) = section_at qs i
 
 -- the sections, in their order
-pub record TellsSections (ps : List Place) (o : AbtBoot) : Type 0 where
+pub record TellsSections (ps : List SectionPlace) (o : AbtBoot) : Type 0 where
   pub count : o.count ≡ length ps
   pub sections : o.sections
       ≡ section_at ps 0 ∷ section_at ps 1 ∷ section_at ps 2 ∷ section_at ps 3 ∷ section_at ps 4 ∷ []

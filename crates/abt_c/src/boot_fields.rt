@@ -101,7 +101,7 @@ fn os_parts(os: OsVersion) -> [u32; 5]
 
 /// The fields of boot 0 to 2.
 fn front_told(front: &BootFront) -> AbtFields
-    ensures tells { TellsFront front.now 1007 result }
+    ensures models { TellsFront front.now 1007 result }
     ensures dtb { result.dtb_addr ≡ 0 }
 {
     let mut told = none(0, 0);
@@ -154,7 +154,7 @@ fn boot_fields(header: &BootHeader) -> AbtFields
 }
 
 fn vendor_front_told(front: &VendorFront) -> AbtFields
-    ensures tells { TellsVendorFront front.now result }
+    ensures models { TellsVendorFront front.now result }
     ensures fragments { result.fragments ≡ 0 }
 {
     let mut told = none(0, 0);

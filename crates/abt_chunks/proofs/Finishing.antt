@@ -25,8 +25,8 @@ use Rattle.abt_sparse.specs.View.{view}
 use Rattle.abt_sparse.specs.declared.kind.ChunkKind.{ChunkKind}
 use Rattle.abt_sparse.specs.declared.kind.ChunkKind.TheVariants as kinds
 use Rattle.abt_sparse.proofs.Exactly.{chunks-bad}
-use Rattle.abt_chunks.specs.declared.progress.Progress.{Progress}
-use Rattle.abt_chunks.specs.declared.progress.Progress.TheVariants as answers
+use Rattle.abt_chunks.specs.declared.progress.MachineProgress.{MachineProgress}
+use Rattle.abt_chunks.specs.declared.progress.MachineProgress.TheVariants as answers
 use Rattle.abt_chunks.specs.Whole.{Begun, Expansion, Refusal, image, fault}
 
 abbrev Whole : Type 0
@@ -227,11 +227,11 @@ owed_at phases.Body s fine = owed_walk s.kind s.due (view s.header) s.index s.ha
 owed_at phases.Done s fine = refl
 owed_at (phases.Failed f) s fine = refl
 
-fine : (r : Progress) (p : Phase) → ExpandingLeaves (Ok r) p → IsFine p
+fine : (r : MachineProgress) (p : Phase) → ExpandingLeaves (Ok r) p → IsFine p
 fine answers.More p e = rw e tt
 fine answers.Done p e = rw e tt
 
-pub held_back : (r : Result Progress SparseFault) (s s' : Walk) (c w w' : List ℕ) → ExpandingLeaves r s'.phase → UnlessExpanding r (finish w (ahead s (c ++ [])) ≡ finish w' (ahead s' [])) → OnOk r ((finish w (ahead s c)).0 ≡ w' ++ laid (owed s'))
+pub held_back : (r : Result MachineProgress SparseFault) (s s' : Walk) (c w w' : List ℕ) → ExpandingLeaves r s'.phase → UnlessExpanding r (finish w (ahead s (c ++ [])) ≡ finish w' (ahead s' [])) → OnOk r ((finish w (ahead s c)).0 ≡ w' ++ laid (owed s'))
 held_back (Ok r) s s' c w w' stands told =
     let e : finish w (ahead s c) ≡ finish w' (ahead s' []) = rw append-nil at told in
     ap (λ (p : Whole). p.0) e ∙ ap (λ (cs : List (Option ℕ)). w' ++ laid cs) (owed_at s'.phase s' (fine r s'.phase stands))

@@ -84,8 +84,8 @@ refused q f s s' n part failed same closes cause = record {
 }
 
 -- one call after the other
-pub reads_on : (tells : Bool) (a b z : InputState) → ReadsOn tells a b → ReadsOn tells b z → ReadsOn tells a z
-reads_on tells a b z k d = record {
+pub reads_on : (models : Bool) (a b z : InputState) → ReadsOn models a b → ReadsOn models b z → ReadsOn models a z
+reads_on models a b z k d = record {
   given = le_trans k.given d.given;
   present = λ told.
       let long : length b.remaining ≡ length a.remaining - (b.given - a.given) = ap length (k.rest told)

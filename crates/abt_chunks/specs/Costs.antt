@@ -7,7 +7,7 @@ use Rattle.abt_io.specs.Lent.{OnlyWrites}
 use Rattle.abt_io.specs.declared.device.DeviceFault.{DeviceFault}
 use Rattle.abt_io.specs.declared.device.Output as outputs
 use Rattle.abt_io.specs.declared.meter.Meter.{Meter}
-use Rattle.abt_chunks.specs.declared.progress.Progress.{Progress}
+use Rattle.abt_chunks.specs.declared.progress.MachineProgress.{MachineProgress}
 use Rattle.abt_chunks.specs.Expanding.{OnMoreExpanding, WritesOn}
 use Rattle.abt_chunks.specs.Taking.{InputState}
 
@@ -41,7 +41,7 @@ pub record LaysWords {X : Type 0} (r : Result X DeviceFault) (word : List ℕ) (
   pub costs : WritingCosts r 0 o old new m m'
 
 -- a step of an expander that received so many bytes, by the bytes that it wrote
-pub record ExpandCosts (r : Result Progress SparseFault) (received : ℕ) {B : Type 0} (o : outputs.Ghosts B)
+pub record ExpandCosts (r : Result MachineProgress SparseFault) (received : ℕ) {B : Type 0} (o : outputs.Ghosts B)
     (old new : B) (m m' : Meter) : Type 0 where
   pub writes : o.writes new ≤ o.writes old + 2 * (length (o.written new) - length (o.written old)) + 1
   pub progress : OnMoreExpanding r (0 < received + (length (o.written new) - length (o.written old)))

@@ -10,8 +10,8 @@ use Rattle.abt_chunks.specs.declared.walk.Part.TheVariants as parts
 use Rattle.abt_chunks.specs.declared.walk.Phase.{Phase}
 use Rattle.abt_chunks.specs.declared.walk.Phase.TheVariants as phases
 use Rattle.abt_chunks.specs.Ahead.{somes, fills, gaps}
-use Rattle.abt_chunks.specs.declared.progress.Progress.{Progress}
-use Rattle.abt_chunks.specs.declared.progress.Progress.TheVariants as answers
+use Rattle.abt_chunks.specs.declared.progress.MachineProgress.{MachineProgress}
+use Rattle.abt_chunks.specs.declared.progress.MachineProgress.TheVariants as answers
 
 -- the bytes that a part lays, raw ones from the front of the window
 abbrev pub laid_by : Part → List ℕ → List ℕ
@@ -60,16 +60,16 @@ pub record IsFrontOf (front whole : List ℕ) : Type 0 where
   pub joined : whole ≡ front ++ more
 
 -- what a step answers to a part that was done with, of a fault what it makes of it
-abbrev pub answer_by : {E : Type 0} → (SparseFault → E) → Part → Result Progress E
+abbrev pub answer_by : {E : Type 0} → (SparseFault → E) → Part → Result MachineProgress E
 answer_by g parts.End = Ok answers.Done
 answer_by g (parts.Fault f) = Err (g f)
 answer_by g q = Ok answers.More
 
-abbrev pub answer_of : Part → Result Progress SparseFault
+abbrev pub answer_of : Part → Result MachineProgress SparseFault
 answer_of q = answer_by (λ f. f) q
 
 -- the phase that an answer leaves
-abbrev pub ExpandingLeaves : Result Progress SparseFault → Phase → Type 0
+abbrev pub ExpandingLeaves : Result MachineProgress SparseFault → Phase → Type 0
 ExpandingLeaves (Ok answers.More) p = p ≡ phases.Body
 ExpandingLeaves (Ok answers.Done) p = p ≡ phases.Done
 ExpandingLeaves (Err f) p = p ≡ phases.Failed f
@@ -98,10 +98,10 @@ IsGoing phases.Body = Unit {0}
 IsGoing p = ⊥
 
 -- P, where the machine has more to do, and where it has ended
-abbrev pub OnMoreExpanding : {E : Type 0} → Result Progress E → Type 0 → Type 0
+abbrev pub OnMoreExpanding : {E : Type 0} → Result MachineProgress E → Type 0 → Type 0
 OnMoreExpanding (Ok answers.More) P = P
 OnMoreExpanding r P = Unit {0}
 
-abbrev pub OnDone : {E : Type 0} → Result Progress E → Type 0 → Type 0
+abbrev pub OnDone : {E : Type 0} → Result MachineProgress E → Type 0 → Type 0
 OnDone (Ok answers.Done) P = P
 OnDone r P = Unit {0}

@@ -2,8 +2,8 @@
 use Rattle.std.specs.Prelude.{◌≡◌, ℕ, ◌*◌, ◌<◌, ◌≤◌, true, List, [], ◌∷◌, Option, Some, None, Result, Ok, Err}
 use Rattle.abt_sparse.specs.declared.fault.SparseFault.{SparseFault}
 use Rattle.abt_sparse.specs.View.{view}
-use Rattle.abt_chunks.specs.declared.progress.Progress.{Progress}
-use Rattle.abt_chunks.specs.declared.progress.Progress.TheVariants as answers
+use Rattle.abt_chunks.specs.declared.progress.MachineProgress.{MachineProgress}
+use Rattle.abt_chunks.specs.declared.progress.MachineProgress.TheVariants as answers
 use Rattle.abt_chunks.specs.declared.progress.ChunkInfo.{ChunkInfo}
 use Rattle.abt_chunks.specs.declared.walk.Phase.{Phase}
 use Rattle.abt_chunks.specs.declared.walk.Phase.TheVariants as phases
@@ -13,7 +13,7 @@ use Rattle.abt_chunks.specs.Listing.{Listing, listing_of}
 use Rattle.abt_chunks.specs.ListingAhead.{at_end, breaking, shown_before, upcoming, with_begun}
 
 -- one step, from the bytes x to the bytes y behind those that it read
-abbrev pub ListsTo : Result Progress SparseFault → Walk → Walk → List ℕ → List ℕ → Type 0
+abbrev pub ListsTo : Result MachineProgress SparseFault → Walk → Walk → List ℕ → List ℕ → Type 0
 ListsTo (Ok answers.More) s s' x y = upcoming s x ≡ with_begun s' y
 ListsTo (Ok answers.Done) s s' x y = upcoming s x ≡ record { head = Some (view s'.header); shown = []; ending = Ok y }
 ListsTo (Err f) s s' x y = UnlessExpandingDevice f (upcoming s x ≡ breaking s f)

@@ -85,18 +85,18 @@ input_state i input = record {
 }
 
 -- A call that reads: what it was given is the front of what was left, the rest is left, and nothing else changed.
-pub record ReadsOn (tells : Bool) (old new : InputState) : Type 0 where
+pub record ReadsOn (models : Bool) (old new : InputState) : Type 0 where
   pub given : old.given ≤ new.given
-  pub present : IsTrue tells → new.given - old.given ≤ length old.remaining
-  pub rest : IsTrue tells → new.remaining ≡ drop (new.given - old.given) old.remaining
+  pub present : IsTrue models → new.given - old.given ≤ length old.remaining
+  pub rest : IsTrue models → new.remaining ≡ drop (new.given - old.given) old.remaining
   pub frame : new.frame ≡ old.frame
   pub faults : old.faults ≤ new.faults
 
 -- A step of a walk that reads n bytes: at most so many, and no more than the walk lacks, by at most a read for each
 -- and one more.
-pub record ReadStep (n most : ℕ) (s : Walk) (tells : Bool) (old new : InputState) : Type 0 where
+pub record ReadStep (n most : ℕ) (s : Walk) (models : Bool) (old new : InputState) : Type 0 where
   pub received : new.given ≡ old.given + n
   pub small : n ≤ most
   pub wanted : n ≤ wanted s
-  pub input : ReadsOn tells old new
+  pub input : ReadsOn models old new
   pub reads : new.reads ≤ old.reads + n + 1

@@ -15,23 +15,23 @@ ghost use Rattle.abt_chunks.specs.Stepping.{WalksOn};
 ghost use Rattle.abt_chunks.specs.Taking.{ReadStep, input_state};
 ghost use Rattle.abt_chunks.specs.Turns.{IsWalkOver, todo};
 ghost use Rattle.abt_chunks.specs.Whole.{AllNeeded, Begun, Expands};
-ghost use Rattle.abt_chunks.specs.declared.progress.Progress.TheVariants.{More};
+ghost use Rattle.abt_chunks.specs.declared.progress.MachineProgress.TheVariants.{More};
 
 use crate::expansion::write_part;
-use crate::progress::{Expanded, Progress};
+use crate::progress::{Expanded, MachineProgress};
 use crate::walk::{Part, Phase, Walk};
 use abt_io::{Input, Meter, Output, Window};
 use abt_sparse::{ChunkKind, SparseFault, data_length};
 
 /// What a step answers once its part has been written.
 #[inline(always)]
-pub(crate) fn answer(part: Part) -> Result<Progress, SparseFault>
+pub(crate) fn answer(part: Part) -> Result<MachineProgress, SparseFault>
     ensures { result ≡ answer_of part }
 {
     match part {
-        Part::End => Ok(Progress::Done),
+        Part::End => Ok(MachineProgress::Done),
         Part::Fault(fault) => Err(fault),
-        _ => Ok(Progress::More),
+        _ => Ok(MachineProgress::More),
     }
 }
 
@@ -60,21 +60,21 @@ impl Expander {
         output: &mut O,
         w: &mut Window,
         m: &mut Meter,
-    ) -> Result<Progress, SparseFault>
-        ensures input { ReadStep (I.given input.new - I.given input.old) 65536 self.old.walk I.tells
+    ) -> Result<MachineProgress, SparseFault>
+        ensures input { ReadStep (I.given input.new - I.given input.old) 65536 self.old.walk I.models
             (input_state I.Input input.old) (input_state I.Input input.new) }
         // What is written, finished by what is still to be read, is the whole.
-        ensures told { IsTrue I.tells → (t : List ℕ) → (IsTrue (is_err result) → t ≡ I.remaining input.new) →
+        ensures told { IsTrue I.models → (t : List ℕ) → (IsTrue (is_err result) → t ≡ I.remaining input.new) →
             UnlessExpanding result (finish (O.written output.old) (ahead self.old.walk
             (take (I.given input.new - I.given input.old) (I.remaining input.old) ++ t)) ≡ finish
             (O.written output.new) (ahead self.new.walk t)) }
         // And it is a beginning of what the bytes read so far give.
-        ensures begun { IsTrue I.tells → IsFrontOf (O.written output.new)
+        ensures begun { IsTrue I.models → IsFrontOf (O.written output.new)
             (finish (O.written output.old) (ahead self.old.walk
             (take (I.given input.new - I.given input.old) (I.remaining input.old)))).0 }
         // Nothing is held over: what the bytes read so far give is written, but for the words that a fill or a gap
         // still owes.
-        ensures held { IsTrue I.tells → OnOk result ((finish (O.written output.old)
+        ensures held { IsTrue I.models → OnOk result ((finish (O.written output.old)
             (ahead self.old.walk (take (I.given input.new - I.given input.old) (I.remaining input.old)))).0 ≡
             O.written output.new ++ laid (owed self.new.walk)) }
         ensures stands { ExpandingLeaves result self.new.walk.phase }
@@ -115,13 +115,13 @@ pub fn expand<I: Input, O: Output>(
 ) -> Result<Expanded, SparseFault>
     ensures walks { WalksOn I.Input 65580 input.old input.new m.old m.new }
     // An image is expanded, and anything else is refused with its own fault, behind what came before it.
-    ensures expands { IsTrue I.tells → Expands result (O.written output.old) (O.written output.new)
+    ensures expands { IsTrue I.models → Expands result (O.written output.old) (O.written output.new)
         (I.remaining input.old) (I.remaining input.new) }
     // What is written is a beginning of what the bytes read give.
-    ensures begun { IsTrue I.tells → Begun (O.written output.old) (O.written output.new)
+    ensures begun { IsTrue I.models → Begun (O.written output.old) (O.written output.new)
         (take (I.given input.new - I.given input.old) (I.remaining input.old)) }
     // No byte is read that is not needed: none behind an image, and none once a fault is known.
-    ensures needed { IsTrue I.tells → AllNeeded (I.remaining input.old) (I.given input.new - I.given input.old) }
+    ensures needed { IsTrue I.models → AllNeeded (I.remaining input.old) (I.given input.new - I.given input.old) }
     ensures blame { Blamed result (I.read_faults input.old) (I.read_faults input.new) (O.write_faults output.old)
         (O.write_faults output.new) }
     ensures writes { OnlyWrites result (full_answered result) O.Output output.old output.new }
@@ -136,8 +136,8 @@ pub fn expand<I: Input, O: Output>(
     'steps: loop {
         m.tick();
         match machine.step(input, output, w, m) {
-            Ok(Progress::More) => {}
-            Ok(Progress::Done) => {
+            Ok(MachineProgress::More) => {}
+            Ok(MachineProgress::Done) => {
                 let header = machine.walk.header;
                 return Ok(Expanded {
                     blocks: header.total_blks,

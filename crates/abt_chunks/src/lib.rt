@@ -10,8 +10,8 @@
 //!
 //! | file | what is in it |
 //! |---|---|
-//! | `progress.rt` | what the machines answer: `Progress`, `Expanded`, `ChunkInfo` |
-//! | `walk.rt` | `Walk`, the state of the reading machine, with `Phase`, `Turn`, `Part`, `Taken` |
+//! | `progress.rt` | what the machines answer: `MachineProgress`, `Expanded`, `ChunkInfo` |
+//! | `walk.rt` | `Walk`, the state of the reading machine, with `Phase`, `Turn`, `Part`, `WalkStep` |
 //! | `kinds.rt` | what follows from a chunk's kind |
 //! | `place.rt` | what a walk does next |
 //! | `parts.rt` | `Walk::part`, one step of it |
@@ -49,5 +49,5 @@ pub use expander::{Expander, expand};
 pub use feed::{Pull, Pulled, Puller};
 pub use laws::listings_are_right;
 pub use listing::Chunks;
-pub use progress::{ChunkInfo, Expanded, Progress};
-pub use walk::{Part, Phase, Taken, Walk};
+pub use progress::{ChunkInfo, Expanded, MachineProgress};
+pub use walk::{Part, Phase, Walk, WalkStep};

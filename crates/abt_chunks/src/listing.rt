@@ -14,8 +14,8 @@ ghost use Rattle.abt_chunks.specs.Turns.{AtTurn, IsWalkOver, todo};
 
 use crate::expander::answer;
 use crate::kinds::has_word;
-use crate::progress::{ChunkInfo, Progress};
-use crate::walk::{Phase, Taken, Turn, Walk};
+use crate::progress::{ChunkInfo, MachineProgress};
+use crate::walk::{Phase, Turn, Walk, WalkStep};
 use abt_io::{Input, Meter, Window, pass_full};
 use abt_sparse::{SparseFault, SparseHeader};
 
@@ -29,7 +29,7 @@ pub struct Chunks {
 
 /// Raw bytes, of which a listing shows none: they are passed over, at most a window of them.
 #[inline(always)]
-fn pass_raw<I: Input>(walk: &mut Walk, input: &mut I, w: &mut Window, m: &mut Meter) -> Taken
+fn pass_raw<I: Input>(walk: &mut Walk, input: &mut I, w: &mut Window, m: &mut Meter) -> WalkStep
     requires { AtTurn Turn.Raw walk.old }
     ensures taken { ListTaken I.Input result walk.old walk.new input.old input.new m.old m.new }
     ensures words { (n : ℕ) → WithinWords result.part walk.old walk.new n n }
@@ -41,7 +41,7 @@ fn pass_raw<I: Input>(walk: &mut Walk, input: &mut I, w: &mut Window, m: &mut Me
         Some(fault) => walk.fail(SparseFault::Read(fault)),
         None => walk.take_raw(got.count),
     };
-    Taken {
+    WalkStep {
         part,
         received: got.count as u32,
     }
@@ -56,7 +56,7 @@ fn next_part<I: Input>(
     input: &mut I,
     w: &mut Window,
     m: &mut Meter,
-) -> Taken
+) -> WalkStep
     requires { 0 < most }
     ensures taken { ListTaken I.Input result walk.old walk.new input.old input.new m.old m.new }
     ensures words { WithinWords result.part walk.old walk.new most most }
@@ -74,10 +74,10 @@ fn step<I: Input>(
     input: &mut I,
     w: &mut Window,
     m: &mut Meter,
-) -> Result<Progress, SparseFault>
-    ensures input { ReadStep (I.given input.new - I.given input.old) 65536 walk.old I.tells
+) -> Result<MachineProgress, SparseFault>
+    ensures input { ReadStep (I.given input.new - I.given input.old) 65536 walk.old I.models
         (input_state I.Input input.old) (input_state I.Input input.new) }
-    ensures lists { IsTrue I.tells → ListsTo result walk.old walk.new (I.remaining input.old) (I.remaining input.new) }
+    ensures lists { IsTrue I.models → ListsTo result walk.old walk.new (I.remaining input.old) (I.remaining input.new) }
     ensures numbers { OnMoreExpanding result
         (Numbers walk.old.phase walk.old walk.new (I.given input.new - I.given input.old)) }
     ensures closes { OnDone result (MayEnd walk.old.phase walk.old) }
@@ -107,7 +107,7 @@ fn pass<I: Input>(
 ) -> Result<(), SparseFault>
     requires { walk.old.phase ≡ Phase.Body }
     ensures walks { WalksOn I.Input 65536 input.old input.new m.old m.new }
-    ensures passes { IsTrue I.tells → Passes result walk.old walk.new (I.remaining input.old) (I.remaining input.new) }
+    ensures passes { IsTrue I.models → Passes result walk.old walk.new (I.remaining input.old) (I.remaining input.new) }
     ensures settles { SettlesWalk result walk.new }
     ensures index { OnOk result (walk.new.index ≡ walk.old.index) }
     ensures header { walk.new.header ≡ walk.old.header }
@@ -119,8 +119,8 @@ fn pass<I: Input>(
     'steps: while !walk.is_at_end() {
         m.tick();
         match step(walk, input, w, m) {
-            Ok(Progress::More) => {}
-            Ok(Progress::Done) => return Ok(()),
+            Ok(MachineProgress::More) => {}
+            Ok(MachineProgress::Done) => return Ok(()),
             Err(fault) => return Err(fault),
         }
     }
@@ -153,7 +153,7 @@ impl Chunks {
         m: &mut Meter,
     ) -> Result<Chunks, SparseFault>
         ensures reads { ListReads I.Input input.old input.new m.old m.new }
-        ensures opens { IsTrue I.tells → MatchResult result (λ chunks. Opens chunks.walk (I.remaining input.old)
+        ensures opens { IsTrue I.models → MatchResult result (λ chunks. Opens chunks.walk (I.remaining input.old)
             (I.remaining input.new)) (λ fault. UnlessExpandingDevice fault
             (listing_of (I.remaining input.old) ≡ headless fault)) }
         ensures going { IfOk result (λ chunks. IsGoing chunks.walk.phase) }
@@ -164,8 +164,8 @@ impl Chunks {
         let mut walk = Walk::new();
         m.tick();
         match step(&mut walk, input, w, m) {
-            Ok(Progress::More) => {}
-            Ok(Progress::Done) => return Ok(Chunks { walk }),
+            Ok(MachineProgress::More) => {}
+            Ok(MachineProgress::Done) => return Ok(Chunks { walk }),
             Err(fault) => return Err(fault),
         }
         match pass(&mut walk, input, w, m) {
@@ -191,7 +191,7 @@ impl Chunks {
         m: &mut Meter,
     ) -> Result<Option<ChunkInfo>, SparseFault>
         ensures reads { ListReads I.Input input.old input.new m.old m.new }
-        ensures lists { IsTrue I.tells → Lists_next result self.old.walk self.new.walk (I.remaining input.old)
+        ensures lists { IsTrue I.models → Lists_next result self.old.walk self.new.walk (I.remaining input.old)
             (I.remaining input.new) }
         ensures stands { Stands_next result self.new.walk.phase }
         ensures header { self.new.walk.header ≡ self.old.walk.header }
@@ -205,8 +205,8 @@ impl Chunks {
     {
         m.tick();
         match step(&mut self.walk, input, w, m) {
-            Ok(Progress::More) => {}
-            Ok(Progress::Done) => return Ok(None),
+            Ok(MachineProgress::More) => {}
+            Ok(MachineProgress::Done) => return Ok(None),
             Err(fault) => return Err(fault),
         }
         match pass(&mut self.walk, input, w, m) {

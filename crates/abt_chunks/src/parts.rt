@@ -13,7 +13,7 @@ ghost use Rattle.abt_chunks.specs.Taking.{GivesWords, OwnTurn, ReadsHead, TakesH
 ghost use Rattle.abt_chunks.specs.Turns.{AtTurn, IsWalkOver, ask_of, needed_of};
 
 use crate::kinds::{has_word, laid_words, raw_bytes};
-use crate::walk::{Part, Phase, Taken, Turn, Walk};
+use crate::walk::{Part, Phase, Turn, Walk, WalkStep};
 use abt_io::{Input, Meter, WINDOW, Window, read_full};
 use abt_sparse::{ChunkKind, SparseFault, counted_blocks, data_length, header_of, u16_at, u32_at};
 
@@ -256,10 +256,10 @@ impl Walk {
         input: &mut I,
         w: &mut Window,
         m: &mut Meter,
-    ) -> Taken
+    ) -> WalkStep
         requires words { 0 < fills × 0 < skips }
         ensures step { StepTaken I.Input result 65536 self.old self.new input.old input.new m.old m.new }
-        ensures gives { GivesPart I.tells result fills skips self.old self.new (I.remaining input.old)
+        ensures gives { GivesPart I.models result fills skips self.old self.new (I.remaining input.old)
             (I.remaining input.new) w.new.bytes }
     {
         self.part_within(fills, skips, WINDOW, input, w, m)
@@ -275,12 +275,12 @@ impl Walk {
         input: &mut I,
         w: &mut Window,
         m: &mut Meter,
-    ) -> Taken
+    ) -> WalkStep
         requires words { 0 < fills × 0 < skips }
         requires least { 28 ≤ most }
         requires most { most ≤ 65536 }
         ensures step { StepTaken I.Input result most self.old self.new input.old input.new m.old m.new }
-        ensures gives { GivesPart I.tells result fills skips self.old self.new (I.remaining input.old)
+        ensures gives { GivesPart I.models result fills skips self.old self.new (I.remaining input.old)
             (I.remaining input.new) w.new.bytes }
     {
         let turn = self.turn();
@@ -292,7 +292,7 @@ impl Walk {
             Some(fault) => self.fail(SparseFault::Read(fault)),
             None => self.take(turn, w.part(0, got.count), fills, skips),
         };
-        Taken {
+        WalkStep {
             part,
             received: got.count as u32,
         }

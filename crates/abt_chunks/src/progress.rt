@@ -4,7 +4,7 @@ use abt_sparse::ChunkKind;
 
 /// Whether a machine has more to do.
 #[derive(Clone, Copy, Debug, PartialEq, Eq, Drop)]
-pub enum Progress {
+pub enum MachineProgress {
     /// The next step goes on.
     More,
     /// The image has ended. Every further step answers this again.

@@ -60,7 +60,7 @@ pub enum Part {
 
 /// What a step gives, and how many bytes it read.
 #[derive(Clone, Copy, Debug, PartialEq, Eq, Drop)]
-pub struct Taken {
+pub struct WalkStep {
     pub part: Part,
     pub received: u32,
 }

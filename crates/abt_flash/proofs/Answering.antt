@@ -18,8 +18,8 @@ use Rattle.abt_flash_faults.specs.declared.fault.FlashFault.TheVariants as fails
 use Rattle.abt_flash_faults.specs.Fault.{PutCause, refused_syncs}
 use Rattle.abt_flash.specs.Laying.{Settles, syncs_by}
 use Rattle.abt_flash.specs.Stepping.{Leaves, Measures, OnShort, is_done, need_of, passed, passed_in}
-use Rattle.abt_flash.specs.declared.stage.Stage.TheVariants as stages
-use Rattle.abt_flash.proofs.Steps.{refused_measures}
+use Rattle.abt_flash.specs.declared.stage.FlashStage.TheVariants as stages
+use Rattle.abt_flash.proofs.FlashSteps.{refused_measures}
 use Rattle.abt_chunks.specs.Expanding.{OnMoreExpanding, OnDone, answer_by}
 use Rattle.abt_flash_faults.specs.Fault.{fault_of_sparse}
 

@@ -17,8 +17,8 @@ use Rattle.abt_sparse.specs.View.{view}
 use Rattle.abt_sparse.proofs.Exactly.{is_so}
 use Rattle.abt_sparse.proofs.Fields.{IsBytes}
 use Rattle.abt_sparse.proofs.Spelling.{spelled_blocks}
-use Rattle.abt_chunks.specs.declared.progress.Progress.{Progress}
-use Rattle.abt_chunks.specs.declared.progress.Progress.TheVariants as answers
+use Rattle.abt_chunks.specs.declared.progress.MachineProgress.{MachineProgress}
+use Rattle.abt_chunks.specs.declared.progress.MachineProgress.TheVariants as answers
 use Rattle.abt_chunks.specs.declared.walk.Phase.{Phase}
 use Rattle.abt_chunks.specs.declared.walk.Phase.TheVariants as phases
 use Rattle.abt_chunks.specs.declared.walk.Walk.{Walk}
@@ -33,8 +33,8 @@ use Rattle.abt_pieces.specs.Contents.{written_in}
 use Rattle.abt_flash_faults.specs.declared.fault.FlashFault.{FlashFault}
 use Rattle.abt_flash_faults.specs.declared.fault.FlashFault.TheVariants as fails
 use Rattle.abt_flash.specs.declared.stage.Flashed.{Flashed}
-use Rattle.abt_flash.specs.declared.stage.Stage.{Stage}
-use Rattle.abt_flash.specs.declared.stage.Stage.TheVariants as stages
+use Rattle.abt_flash.specs.declared.stage.FlashStage.{FlashStage}
+use Rattle.abt_flash.specs.declared.stage.FlashStage.TheVariants as stages
 use Rattle.abt_flash.specs.Laying.{During, writes}
 use Rattle.abt_flash.specs.Stepping.{Goes, Heads, IsFresh, IsFresh_in, Laid, Leaves, Measures, OnShort, UnlessFlashing, UnlessFlashingDevice, need_of, passed, passed_in}
 use Rattle.abt_flash.specs.Flashing.{Flashes, Holds, RefusedFlash, WholeFlash}
@@ -44,15 +44,15 @@ use Rattle.abt_flash.proofs.Moments.{during_then, during_within, unsynced_during
 use Rattle.abt_chunks.specs.Places.{from_place, said_by}
 
 -- After k bytes of x these cells have been laid, and the walk stands at s.
-pub record Come (tells : Bool) (s : Walk) (k : ℕ) (x : List ℕ) (size : ℕ) (past0 past : Past) (p0 p : List ℕ) (taken0 taken laid : ℕ) : Type 0 where
+pub record Come (models : Bool) (s : Walk) (k : ℕ) (x : List ℕ) (size : ℕ) (past0 past : Past) (p0 p : List ℕ) (taken0 taken laid : ℕ) : Type 0 where
   pub cells : List (Option ℕ)
   pub told : (t : List ℕ) → seen (outcome (take k x ++ t)) ≡ before cells (ahead s t)
   pub placed : place_of s ≡ length cells
   pub counted : taken ≡ taken0 + said_by cells
   pub noted : laid ≡ min (said_by cells) (2 ^ 64 - 1)
-  pub content : IsTrue tells → p ≡ over p0 cells
-  pub kept : IsTrue tells → Keeps (writes cells) (moment_of past0 p0) (moment_of past p)
-  pub moments : IsTrue tells → EachSince past0.moments past.moments (KeepsUnsynced (writes cells) (moment_of past0 p0))
+  pub content : IsTrue models → p ≡ over p0 cells
+  pub kept : IsTrue models → Keeps (writes cells) (moment_of past0 p0) (moment_of past p)
+  pub moments : IsTrue models → EachSince past0.moments past.moments (KeepsUnsynced (writes cells) (moment_of past0 p0))
   pub head : (listing_of x).head ≡ (upcoming s (drop k x)).head
   pub fits : s.phase ≡ phases.Body → 0 < s.index → (h : Header) → (listing_of x).head ≡ Some h → h.total_blks * h.blk_sz ≤ size
 
@@ -64,8 +64,8 @@ ahead_first : (s : Walk) (t : List ℕ) → s.phase ≡ phases.Header → ahead 
 ahead_first s t e = ap (λ (ph : Phase). ahead_in ph s t) e
 
 -- at the beginning nothing has
-pub come_first : (tells : Bool) (s : Walk) (k : ℕ) (x : List ℕ) (size : ℕ) (past : Past) (p : List ℕ) (taken laid : ℕ) → s.phase ≡ phases.Header → k ≡ 0 → laid ≡ 0 → Come tells s k x size past past p p taken taken laid
-come_first tells s k x size past p taken laid first none fine = record {
+pub come_first : (models : Bool) (s : Walk) (k : ℕ) (x : List ℕ) (size : ℕ) (past : Past) (p : List ℕ) (taken laid : ℕ) → s.phase ≡ phases.Header → k ≡ 0 → laid ≡ 0 → Come models s k x size past past p p taken taken laid
+come_first models s k x size past p taken laid first none fine = record {
   cells = [];
   told = λ t. ap (λ (j : ℕ). seen (outcome (take j x ++ t))) none ∙ sym (ahead_first s t first);
   placed = ap (λ (ph : Phase). place_in ph s) first;
@@ -92,7 +92,7 @@ seen_given (Image h cs rest) = refl
 seen_given (Fault f cs) = refl
 
 -- A flash that answers r, where x was read as far as rest: all cells that it laid or may have touched.
-pub record Ends (tells : Bool) (r : Result Progress FlashFault) (s' : Walk) (x read rest : List ℕ) (past0 past' : Past) (p0 p' : List ℕ) (taken0 taken' laid' : ℕ) : Type 0 where
+pub record Ends (models : Bool) (r : Result MachineProgress FlashFault) (s' : Walk) (x read rest : List ℕ) (past0 past' : Past) (p0 p' : List ℕ) (taken0 taken' laid' : ℕ) : Type 0 where
   pub all : List (Option ℕ)
   pub more : List ℕ → List (Option ℕ)
   pub front : (t : List ℕ) → given (outcome (read ++ t)) ≡ all ++ more t
@@ -100,15 +100,15 @@ pub record Ends (tells : Bool) (r : Result Progress FlashFault) (s' : Walk) (x r
   pub told : UnlessFlashing r (seen (outcome x) ≡ before all (ahead s' rest))
   pub counted : UnlessFlashing r (taken' ≡ taken0 + said_by all)
   pub noted : OnOk r (laid' ≡ min (said_by all) (2 ^ 64 - 1))
-  pub content : IsTrue tells → UnlessFlashing r (p' ≡ over p0 all)
-  pub kept : IsTrue tells → Keeps (writes all) (moment_of past0 p0) (moment_of past' p')
-  pub moments : IsTrue tells → EachSince past0.moments past'.moments (During (writes all) (moment_of past0 p0) (moment_of past' p'))
+  pub content : IsTrue models → UnlessFlashing r (p' ≡ over p0 all)
+  pub kept : IsTrue models → Keeps (writes all) (moment_of past0 p0) (moment_of past' p')
+  pub moments : IsTrue models → EachSince past0.moments past'.moments (During (writes all) (moment_of past0 p0) (moment_of past' p'))
 
 -- ---- one step more
 
-module _ (tells : Bool) (stage : Stage) (s s' : Walk) (x x' rest : List ℕ) (k n j size : ℕ) (past0 past past' : Past) (p0 p p' : List ℕ) (taken0 taken taken' laid : ℕ) (r : Result Progress FlashFault)
+module _ (models : Bool) (stage : FlashStage) (s s' : Walk) (x x' rest : List ℕ) (k n j size : ℕ) (past0 past past' : Past) (p0 p p' : List ℕ) (taken0 taken taken' laid : ℕ) (r : Result MachineProgress FlashFault)
     (left : x' ≡ drop k x) (same : j ≡ k + n) (unsynced : past.synced ≡ past0.synced)
-    (i : Come tells s k x size past0 past p0 p taken0 taken laid) (e : Laid tells stage r s s' (take n x') rest past past' p p' taken taken') where
+    (i : Come models s k x size past0 past p0 p taken0 taken laid) (e : Laid models stage r s s' (take n x') rest past past' p p' taken taken') where
   abbrev All : List (Option ℕ)
   All = i.cells ++ e.cells
 
@@ -140,18 +140,18 @@ module _ (tells : Bool) (stage : Stage) (s s' : Walk) (x x' rest : List ℕ) (k 
   behind : (m : ℕ) → writes All m ≡ false → writes (from_place (place_of s) e.cells) m ≡ false
   behind m q = rw i.placed (unwritten_behind i.cells e.cells m q)
 
-  kept_before : IsTrue tells → Keeps (writes All) First (moment_of past p)
+  kept_before : IsTrue models → Keeps (writes All) First (moment_of past p)
   kept_before t = keeps_within (writes i.cells) (writes All) First (moment_of past p) (unwritten_front i.cells e.cells) (i.kept t)
 
-  pub all_kept : IsTrue tells → Keeps (writes All) First Last
+  pub all_kept : IsTrue models → Keeps (writes All) First Last
   all_kept t = keeps_then (writes All) First (moment_of past p) Last (kept_before t) (keeps_within _ (writes All) (moment_of past p) Last behind (e.kept t))
 
-  pub all_moments : IsTrue tells → EachSince past0.moments past'.moments (During (writes All) First Last)
+  pub all_moments : IsTrue models → EachSince past0.moments past'.moments (During (writes All) First Last)
   all_moments t =
       during_then (writes All) _ First (moment_of past p) Last past0.moments past.moments past'.moments behind (kept_before t) unsynced
       (unsynced_within (writes i.cells) (writes All) First past0.moments past.moments (unwritten_front i.cells e.cells) (i.moments t)) (e.moments t)
 
-  pub all_content : IsTrue tells → UnlessFlashing r (p' ≡ over p0 All)
+  pub all_content : IsTrue models → UnlessFlashing r (p' ≡ over p0 All)
   all_content t = unless_map r _ _ (λ q. over_more p0 p p' i.cells e.cells (place_of s) (i.content t) i.placed q) (e.content t)
 
   pub all_counted : UnlessFlashing r (taken' ≡ taken0 + said_by All)
@@ -164,7 +164,7 @@ module _ (tells : Bool) (stage : Stage) (s s' : Walk) (x x' rest : List ℕ) (k 
   pub all_noted : (laid' : ℕ) → OnOk r (laid' ≡ min (laid + (taken' - taken)) (2 ^ 64 - 1)) → OnOk r (laid' ≡ min (said_by All) (2 ^ 64 - 1))
   all_noted laid' note = on_ok r _ _ _ (λ a b. omega (arith, a, b, i.noted, written_by-append i.cells e.cells)) e.counted note
 
-  pub ends : (laid' : ℕ) → rest ≡ drop j x → OnOk r (laid' ≡ min (laid + (taken' - taken)) (2 ^ 64 - 1)) → Ends tells r s' x (take j x) rest past0 past' p0 p' taken0 taken' laid'
+  pub ends : (laid' : ℕ) → rest ≡ drop j x → OnOk r (laid' ≡ min (laid + (taken' - taken)) (2 ^ 64 - 1)) → Ends models r s' x (take j x) rest past0 past' p0 p' taken0 taken' laid'
   ends laid' at_rest note =
       let whole : take j x ++ rest ≡ x = ap (λ (l : List ℕ). take j x ++ l) at_rest ∙ take-append-drop j x in
       record {
@@ -192,29 +192,29 @@ some_same : (g h : Header) → (let a : Option Header = Some g in let b : Option
 some_same g h e = cc
 
 -- the header that the walk has read is that in front
-pub known_head : (tells : Bool) (s : Walk) (k : ℕ) (x : List ℕ) (size : ℕ) (past0 past : Past) (p0 p : List ℕ) (taken0 taken laid : ℕ) → Come tells s k x size past0 past p0 p taken0 taken laid → IsGoing s.phase → passed s ≡ true
+pub known_head : (models : Bool) (s : Walk) (k : ℕ) (x : List ℕ) (size : ℕ) (past0 past : Past) (p0 p : List ℕ) (taken0 taken laid : ℕ) → Come models s k x size past0 past p0 p taken0 taken laid → IsGoing s.phase → passed s ≡ true
     → (listing_of x).head ≡ Some (view s.header)
-known_head tells s k x size past0 past p0 p taken0 taken laid i going e = i.head ∙ passed_head s (drop k x) (body_of s.phase s going e) e
+known_head models s k x size past0 past p0 p taken0 taken laid i going e = i.head ∙ passed_head s (drop k x) (body_of s.phase s going e) e
 
 fits_known : (s : Walk) (x : List ℕ) (size : ℕ) (h : Header) → (listing_of x).head ≡ Some (view s.header) → (listing_of x).head ≡ Some h → need_of s ≤ size → h.total_blks * h.blk_sz ≤ size
 fits_known s x size h known e le = let same : view s.header ≡ h = some_same (view s.header) h (sym known ∙ e) in rw (← same) le
 
-pub come_next : (tells : Bool) (stage : Stage) (s s' : Walk) (x x' rest : List ℕ) (k n j size : ℕ) (past0 past past' : Past) (p0 p p' : List ℕ) (taken0 taken taken' laid laid' : ℕ)
-    → x' ≡ drop k x → j ≡ k + n → past.synced ≡ past0.synced → Come tells s k x size past0 past p0 p taken0 taken laid → Laid tells stage (Ok answers.More) s s' (take n x') rest past past' p p' taken taken'
+pub come_next : (models : Bool) (stage : FlashStage) (s s' : Walk) (x x' rest : List ℕ) (k n j size : ℕ) (past0 past past' : Past) (p0 p p' : List ℕ) (taken0 taken taken' laid laid' : ℕ)
+    → x' ≡ drop k x → j ≡ k + n → past.synced ≡ past0.synced → Come models s k x size past0 past p0 p taken0 taken laid → Laid models stage (Ok answers.More) s s' (take n x') rest past past' p p' taken taken'
     → laid' ≡ min (laid + (taken' - taken)) (2 ^ 64 - 1) → rest ≡ drop j x → Heads (Ok answers.More) s s' x' rest → (0 < s'.index → passed s ≡ true) → Measures (Ok answers.More) s size → IsGoing s.phase → past'.synced ≡ past.synced
-    → Come tells s' j x size past0 past' p0 p' taken0 taken' laid'
-come_next tells stage s s' x x' rest k n j size past0 past past' p0 p p' taken0 taken taken' laid laid' left same unsynced i e note behind heads begins measures going quiet = record {
+    → Come models s' j x size past0 past' p0 p' taken0 taken' laid'
+come_next models stage s s' x x' rest k n j size past0 past past' p0 p p' taken0 taken taken' laid laid' left same unsynced i e note behind heads begins measures going quiet = record {
   cells = i.cells ++ e.cells;
-  told = λ t. all_told tells stage s s' x x' rest k n j size past0 past past' p0 p p' taken0 taken taken' laid (Ok answers.More) left same unsynced i e t (λ z. absurd cc);
+  told = λ t. all_told models stage s s' x x' rest k n j size past0 past past' p0 p p' taken0 taken taken' laid (Ok answers.More) left same unsynced i e t (λ z. absurd cc);
   placed = e.moved ∙ omega (arith, i.placed, length-append i.cells e.cells);
-  counted = all_counted tells stage s s' x x' rest k n j size past0 past past' p0 p p' taken0 taken taken' laid (Ok answers.More) left same unsynced i e;
+  counted = all_counted models stage s s' x x' rest k n j size past0 past past' p0 p p' taken0 taken taken' laid (Ok answers.More) left same unsynced i e;
   noted = omega (arith, note, i.noted, e.counted, written_by-append i.cells e.cells);
-  content = all_content tells stage s s' x x' rest k n j size past0 past past' p0 p p' taken0 taken taken' laid (Ok answers.More) left same unsynced i e;
-  kept = all_kept tells stage s s' x x' rest k n j size past0 past past' p0 p p' taken0 taken taken' laid (Ok answers.More) left same unsynced i e;
+  content = all_content models stage s s' x x' rest k n j size past0 past past' p0 p p' taken0 taken taken' laid (Ok answers.More) left same unsynced i e;
+  kept = all_kept models stage s s' x x' rest k n j size past0 past past' p0 p p' taken0 taken taken' laid (Ok answers.More) left same unsynced i e;
   moments = λ t. unsynced_during (writes (i.cells ++ e.cells)) (moment_of past0 p0) (moment_of past' p') past0.moments past'.moments (quiet ∙ unsynced)
-      (all_moments tells stage s s' x x' rest k n j size past0 past past' p0 p p' taken0 taken taken' laid (Ok answers.More) left same unsynced i e t);
+      (all_moments models stage s s' x x' rest k n j size past0 past past' p0 p p' taken0 taken taken' laid (Ok answers.More) left same unsynced i e t);
   head = i.head ∙ ap (λ (l : List ℕ). (upcoming s l).head) (sym left) ∙ heads ∙ ap (λ (l : List ℕ). (upcoming s' l).head) behind;
-  fits = λ body some h q. fits_known s x size h (known_head tells s k x size past0 past p0 p taken0 taken laid i going (begins some)) q (measures (begins some));
+  fits = λ body some h q. fits_known s x size h (known_head models s k x size past0 past p0 p taken0 taken laid i going (begins some)) q (measures (begins some));
 }
 
 -- ---- the ends
@@ -261,7 +261,7 @@ counted_back b w most some small few le =
 
 -- ---- what is touched
 
-module _ (tells : Bool) (r : Result Progress FlashFault) (s' : Walk) (x read rest : List ℕ) (past0 past' : Past) (p0 p' : List ℕ) (taken0 taken' laid' : ℕ) (e : Ends tells r s' x read rest past0 past' p0 p' taken0 taken' laid') where
+module _ (models : Bool) (r : Result MachineProgress FlashFault) (s' : Walk) (x read rest : List ℕ) (past0 past' : Past) (p0 p' : List ℕ) (taken0 taken' laid' : ℕ) (e : Ends models r s' x read rest past0 past' p0 p' taken0 taken' laid') where
   given_all : given (outcome x) ≡ e.all ++ e.more rest
   given_all = ap (λ (l : List ℕ). given (outcome l)) (sym e.whole) ∙ e.front rest
 
@@ -274,13 +274,13 @@ module _ (tells : Bool) (r : Result Progress FlashFault) (s' : Walk) (x read res
   within_read : (i : ℕ) → writes (given (outcome read)) i ≡ false → writes e.all i ≡ false
   within_read i q = unwritten_front e.all (e.more []) i (ap (λ (cs : List (Option ℕ)). writes cs i) (sym given_read) ∙ q)
 
-  pub ends_kept : IsTrue tells → Keeps (writes (given (outcome x))) (moment_of past0 p0) (moment_of past' p')
+  pub ends_kept : IsTrue models → Keeps (writes (given (outcome x))) (moment_of past0 p0) (moment_of past' p')
   ends_kept t = keeps_within (writes e.all) (writes (given (outcome x))) (moment_of past0 p0) (moment_of past' p') within_all (e.kept t)
 
-  pub ends_moments : IsTrue tells → EachSince past0.moments past'.moments (During (writes (given (outcome x))) (moment_of past0 p0) (moment_of past' p'))
+  pub ends_moments : IsTrue models → EachSince past0.moments past'.moments (During (writes (given (outcome x))) (moment_of past0 p0) (moment_of past' p'))
   ends_moments t = during_within (writes e.all) (writes (given (outcome x))) (moment_of past0 p0) (moment_of past' p') past0.moments past'.moments within_all (e.moments t)
 
-  pub ends_seen : IsTrue tells → Keeps (writes (given (outcome read))) (moment_of past0 p0) (moment_of past' p')
+  pub ends_seen : IsTrue models → Keeps (writes (given (outcome read))) (moment_of past0 p0) (moment_of past' p')
   ends_seen t = keeps_within (writes e.all) (writes (given (outcome read))) (moment_of past0 p0) (moment_of past' p') within_read (e.kept t)
 
 -- ---- an image
@@ -316,7 +316,7 @@ image_of x all rest hs ht e size taken0 taken' laid' (Image h cs left) is q know
     }
 image_of x all rest hs ht e size taken0 taken' laid' (Fault f cs) is q known fits count note blocks = absurd (err_ok f (view ht) rest (ap (λ (a : Ahead). a.ending) q))
 
-module _ (tells : Bool) (s s' : Walk) (x read rest : List ℕ) (past0 past' : Past) (p0 p' : List ℕ) (taken0 taken' laid' : ℕ) (e : Ends tells (Ok answers.Done) s' x read rest past0 past' p0 p' taken0 taken' laid') (ended : s'.phase ≡ phases.Done) where
+module _ (models : Bool) (s s' : Walk) (x read rest : List ℕ) (past0 past' : Past) (p0 p' : List ℕ) (taken0 taken' laid' : ℕ) (e : Ends models (Ok answers.Done) s' x read rest past0 past' p0 p' taken0 taken' laid') (ended : s'.phase ≡ phases.Done) where
   done_told : seen (outcome x) ≡ before e.all (record { cells = []; ending = Ok (view s'.header, rest) })
   done_told = e.told ∙ ap (λ (a : Ahead). before e.all a) (at_done s' rest ended)
 
@@ -324,7 +324,7 @@ module _ (tells : Bool) (s s' : Walk) (x read rest : List ℕ) (past0 past' : Pa
   pub done_whole : (f : Flashed) (size : ℕ) → IsBytes x → (listing_of x).head ≡ Some (view s.header) → need_of s ≤ size → f.blocks ≡ min (laid' / s'.header.blk_sz) s'.header.total_blks → WholeFlash f size taken0 taken' x rest
   done_whole f size bytes known fits blocks = image_of x e.all rest s.header s'.header f size taken0 taken' laid' (outcome x) (is_so x bytes) done_told known fits e.counted e.noted blocks
 
-  pub done_holds : IsTrue tells → p' ≡ flashed p0 x
+  pub done_holds : IsTrue models → p' ≡ flashed p0 x
   done_holds t =
       let are : given (outcome x) ≡ e.all = sym (seen_given (outcome x)) ∙ ap (λ (a : Ahead). a.cells) done_told ∙ append-nil e.all in
       e.content t ∙ ap (over p0) (sym are)
@@ -359,10 +359,10 @@ no_cells : (cs : List (Option ℕ)) → length cs ≡ 0 → cs ≡ []
 no_cells [] e = refl
 no_cells (c ∷ cs) e = absurd (omega (arith, e))
 
-module _ (tells : Bool) (s s' : Walk) (x x' read rest : List ℕ) (k size : ℕ) (past0 past past' : Past) (p0 p p' : List ℕ) (taken0 taken taken' laid laid' : ℕ) (bytes : IsBytes x) (going : IsGoing s.phase)
-    (left : x' ≡ drop k x) (i : Come tells s k x size past0 past p0 p taken0 taken laid) where
+module _ (models : Bool) (s s' : Walk) (x x' read rest : List ℕ) (k size : ℕ) (past0 past past' : Past) (p0 p p' : List ℕ) (taken0 taken taken' laid laid' : ℕ) (bytes : IsBytes x) (going : IsGoing s.phase)
+    (left : x' ≡ drop k x) (i : Come models s k x size past0 past p0 p taken0 taken laid) where
   known : passed s ≡ true → (listing_of x).head ≡ Some (view s.header)
-  known q = known_head tells s k x size past0 past p0 p taken0 taken laid i going q
+  known q = known_head models s k x size past0 past p0 p taken0 taken laid i going q
 
   fits_all : (g : SparseFault) → Heads (Err (fails.Sparse g)) s s' x' rest → (passed s ≡ true → need_of s ≤ size) → (h : Header) (y : List ℕ) → SpellsHeader x h y → h.total_blks * h.blk_sz ≤ size
   fits_all g heads measures h y sp =
@@ -390,7 +390,7 @@ module _ (tells : Bool) (s s' : Walk) (x x' read rest : List ℕ) (k size : ℕ)
     place_none phases.Done s e = omega (arith, e)
     place_none (phases.Failed g) s e = omega (arith, e)
 
-  pub fault_flashes : (f : FlashFault) → Ends tells (Err f) s' x read rest past0 past' p0 p' taken0 taken' laid' → Leaves (Err f) s'.phase → Heads (Err f) s s' x' rest → Measures (Err f) s size → OnShort {X = Progress} (Err f) (taken' ≡ taken) → Flashes (Err f) size taken0 taken' x rest
+  pub fault_flashes : (f : FlashFault) → Ends models (Err f) s' x read rest past0 past' p0 p' taken0 taken' laid' → Leaves (Err f) s'.phase → Heads (Err f) s s' x' rest → Measures (Err f) s size → OnShort {X = MachineProgress} (Err f) (taken' ≡ taken) → Flashes (Err f) size taken0 taken' x rest
   fault_flashes (fails.Sparse g) e leaves heads measures none = refused_of g x e.all size (outcome x) (is_so x bytes) (e.told ∙ ap (λ (a : Ahead). before e.all a) (at_fault s' rest g leaves)) (fits_all g heads measures)
   fault_flashes (fails.PartitionTooSmall need) e leaves heads measures none =
       let at = known measures.0 in
@@ -410,7 +410,7 @@ module _ (tells : Bool) (s s' : Walk) (x x' read rest : List ℕ) (k size : ℕ)
       (answer, image_of x e.all rest s.header s'.header answer size taken0 taken' laid (outcome x) (is_so x bytes) (e.told ∙ ap (λ (a : Ahead). before e.all a) (at_done s' rest leaves)) (known measures.0) measures.1 e.counted refl refl)
   fault_flashes f e leaves heads measures none = tt
 
-  pub fault_holds : (f : FlashFault) → Ends tells (Err f) s' x read rest past0 past' p0 p' taken0 taken' laid' → Leaves (Err f) s'.phase → Measures (Err f) s size → OnShort {X = Progress} (Err f) (p' ≡ p) → IsTrue tells → Holds (Err f) p0 p' x
+  pub fault_holds : (f : FlashFault) → Ends models (Err f) s' x read rest past0 past' p0 p' taken0 taken' laid' → Leaves (Err f) s'.phase → Measures (Err f) s size → OnShort {X = MachineProgress} (Err f) (p' ≡ p) → IsTrue models → Holds (Err f) p0 p' x
   fault_holds (fails.Sparse g) e leaves measures same t =
       let q = e.told ∙ ap (λ (a : Ahead). before e.all a) (at_fault s' rest g leaves) in
       let are : given (outcome x) ≡ e.all = sym (seen_given (outcome x)) ∙ ap (λ (a : Ahead). a.cells) q ∙ append-nil e.all in
@@ -424,12 +424,12 @@ module _ (tells : Bool) (s s' : Walk) (x x' read rest : List ℕ) (k size : ℕ)
       e.content t ∙ ap (over p0) (sym are)
   fault_holds f e leaves measures same t = tt
 
-pub going_phase : (st : Stage) (p : Phase) → Goes st p → IsGoing p
+pub going_phase : (st : FlashStage) (p : Phase) → Goes st p → IsGoing p
 going_phase stages.Going p h = h
 going_phase stages.Done p h = absurd h
 going_phase (stages.Failed f) p h = absurd h
 
-pub short_same : (f : FlashFault) (A B : Type 0) → (A → B) → OnShort {X = Progress} (Err f) A → OnShort {X = Progress} (Err f) B
+pub short_same : (f : FlashFault) (A B : Type 0) → (A → B) → OnShort {X = MachineProgress} (Err f) A → OnShort {X = MachineProgress} (Err f) B
 short_same (fails.PartitionTooSmall need) A B go h = go h
 short_same f A B go h = tt
 
@@ -439,7 +439,7 @@ pub need_stays : (s s' : Walk) (size : ℕ) → IsGoing s.phase → passed s ≡
 need_stays s s' size going e stays le = rw (stays (body_of s.phase s going e)) le
 
 -- it is found too small only before the first chunk
-pub short_first : (f : FlashFault) (s : Walk) (size : ℕ) (A B : Type 0) → IsGoing s.phase → Measures (Err f) s size → (s.phase ≡ phases.Body → 0 < s.index → need_of s ≤ size) → (IsFresh s → A) → {C : Type 0} → (A → C → B) → OnShort {X = Progress} (Err f) C → OnShort {X = Flashed} (Err f) B
+pub short_first : (f : FlashFault) (s : Walk) (size : ℕ) (A B : Type 0) → IsGoing s.phase → Measures (Err f) s size → (s.phase ≡ phases.Body → 0 < s.index → need_of s ≤ size) → (IsFresh s → A) → {C : Type 0} → (A → C → B) → OnShort {X = MachineProgress} (Err f) C → OnShort {X = Flashed} (Err f) B
 short_first (fails.PartitionTooSmall need) s size A B going measures measured fresh go short =
     let body : s.phase ≡ phases.Body = body_of s.phase s going measures.0 in
     elim (cases_Bool (nat_lt 0 s.index)) [

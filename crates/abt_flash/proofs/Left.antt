@@ -17,8 +17,8 @@ use Rattle.abt_pieces.specs.Cutter.{Made, segments_left}
 use Rattle.abt_pieces.specs.Gather.{frame}
 use Rattle.abt_pieces.specs.Outline.{piece_at, segment_at, first_part}
 use Rattle.abt_pieces.specs.Plan.{between, FirstPiece}
-use Rattle.abt_pieces.specs.declared.stage.Stage.{Stage}
-use Rattle.abt_pieces.specs.declared.stage.Stage.TheVariants.{Between, Done}
+use Rattle.abt_pieces.specs.declared.stage.CutterStage.{CutterStage}
+use Rattle.abt_pieces.specs.declared.stage.CutterStage.TheVariants.{Between, Done}
 use Rattle.abt_pieces.proofs.Counting.{written-append}
 use Rattle.abt_pieces.proofs.Cutting.{piece_is}
 use Rattle.abt_flash.specs.Delivering.{blocks_in_first, blocks_behind, blocks_up_to, pieces_behind}
@@ -27,7 +27,7 @@ use Rattle.abt_flash.specs.Going.{IsBehindPiece, frames_left, pieces_left}
 -- ---- one piece more
 
 -- the segments that are left: that of the next piece, and those behind it
-pub segments_more : (limit b : ℕ) (l : List Block) (s e : ℕ) (st : Stage) → FirstPiece b l limit s e → IsBehindPiece (length l) e st → segments_left b limit l s Between ≡ between l s e ∷ segments_left b limit l e st
+pub segments_more : (limit b : ℕ) (l : List Block) (s e : ℕ) (st : CutterStage) → FirstPiece b l limit s e → IsBehindPiece (length l) e st → segments_left b limit l s Between ≡ between l s e ∷ segments_left b limit l e st
 segments_more limit b l s e st h at = h.cut ∙ ap (λ (x : List (List Block)). between l s e ∷ x) (left (drop e l) refl)
   where
     left : (rest : List Block) → drop e l ≡ rest → tail_parts (λ part. nat_le (weight b part) limit) rest ≡ segments_left b limit l e st
@@ -42,11 +42,11 @@ nothing_behind e l le = none (drop e l) (omega (arith, length-drop e l))
     none (y ∷ x) z = absurd (omega arith)
 
 -- they are the blocks that are left
-pub joined_left : (limit b : ℕ) (l : List Block) (e : ℕ) (st : Stage) → (st ≡ Between) ⊎ ((st ≡ Done) × (length l ≤ e)) → joined (segments_left b limit l e st) ≡ drop e l
+pub joined_left : (limit b : ℕ) (l : List Block) (e : ℕ) (st : CutterStage) → (st ≡ Between) ⊎ ((st ≡ Done) × (length l ≤ e)) → joined (segments_left b limit l e st) ≡ drop e l
 joined_left limit b l e st (inl d) = rw d (joined-greedy (λ part. nat_le (weight b part) limit) (drop e l) [])
 joined_left limit b l e st (inr d) = rw (d.0) (sym (nothing_behind e l d.1))
 
-pub stands_left : (n e : ℕ) (st : Stage) → IsBehindPiece n e st → (st ≡ Between) ⊎ ((st ≡ Done) × (n ≤ e))
+pub stands_left : (n e : ℕ) (st : CutterStage) → IsBehindPiece n e st → (st ≡ Between) ⊎ ((st ≡ Done) × (n ≤ e))
 stands_left n e st at = elim (cases_Bool (nat_lt e n)) [
   | inl t ↦ inl (at.between (ltb-true e n t))
   | inr t ↦ let le = ltb-false e n t in inr (at.done le, le)
@@ -55,7 +55,7 @@ stands_left n e st at = elim (cases_Bool (nat_lt e n)) [
 between_long : (l : List Block) (s e : ℕ) → s ≤ e → e ≤ length l → length (between l s e) ≡ e - s
 between_long l s e order within = length-take-le (e - s) (drop s l) (omega (arith, within, length-drop s l))
 
-pub frames_more : (limit b : ℕ) (l : List Block) (s e : ℕ) (st : Stage) → FirstPiece b l limit s e → IsBehindPiece (length l) e st → frames_left limit b l s Between ≡ frame l s e ∷ frames_left limit b l e st
+pub frames_more : (limit b : ℕ) (l : List Block) (s e : ℕ) (st : CutterStage) → FirstPiece b l limit s e → IsBehindPiece (length l) e st → frames_left limit b l s Between ≡ frame l s e ∷ frames_left limit b l e st
 frames_more limit b l s e st h at =
     let rest = segments_left b limit l e st in
     let behind : length (joined rest) ≡ length l - e = ap length (joined_left limit b l e st (stands_left (length l) e st at)) ∙ length-drop e l in
@@ -64,7 +64,7 @@ frames_more limit b l s e st h at =
     ∙ ap (λ (n : ℕ). framed s (between l s e) n ∷ frames (s + length (between l s e)) rest) behind
     ∙ ap (λ (n : ℕ). frame l s e ∷ frames n rest) end
 
-pub pieces_more : (limit b : ℕ) (l : List Block) (s e : ℕ) (st : Stage) → FirstPiece b l limit s e → IsBehindPiece (length l) e st → pieces_left limit b l s Between ≡ piece_at b limit l s ∷ pieces_left limit b l e st
+pub pieces_more : (limit b : ℕ) (l : List Block) (s e : ℕ) (st : CutterStage) → FirstPiece b l limit s e → IsBehindPiece (length l) e st → pieces_left limit b l s Between ≡ piece_at b limit l s ∷ pieces_left limit b l e st
 pieces_more limit b l s e st h at =
     ap (map (piece b)) (frames_more limit b l s e st h at)
     ∙ ap (λ (x : List ℕ). x ∷ pieces_left limit b l e st) (piece_is b limit l s e h)
@@ -97,11 +97,11 @@ joined-both : (xs ys : List (List Block)) → joined (xs ++ ys) ≡ joined xs ++
 joined-both xs ys = flat_map-append (λ part. part) xs ys
 
 -- where a cutter stands, by how many pieces it has made
-pub record Behind (limit b : ℕ) (l : List Block) (made s : ℕ) (st : Stage) : Type 0 where
+pub record Behind (limit b : ℕ) (l : List Block) (made s : ℕ) (st : CutterStage) : Type 0 where
   pub blocks : blocks_in_first limit b l made ≡ s
   pub rest : drop made (segments limit b l) ≡ segments_left b limit l s st
 
-pub behind : (limit b : ℕ) (l : List Block) (made s : ℕ) (st : Stage) → Made b limit l made (segments_left b limit l s st) → (st ≡ Between) ⊎ ((st ≡ Done) × (length l ≤ s)) → s ≤ length l → Behind limit b l made s st
+pub behind : (limit b : ℕ) (l : List Block) (made s : ℕ) (st : CutterStage) → Made b limit l made (segments_left b limit l s st) → (st ≡ Between) ⊎ ((st ≡ Done) × (length l ≤ s)) → s ≤ length l → Behind limit b l made s st
 behind limit b l made s st m at within =
     let rest = segments_left b limit l s st in
     let front : take made (segments limit b l) ≡ m.before = ap (take made) m.all ∙ take_at m.before rest made m.count in
@@ -120,7 +120,7 @@ frames-drop zero before parts = ap (λ (n : ℕ). frames n parts) (let e : befor
 frames-drop (suc i) before [] = refl
 frames-drop (suc i) before (s ∷ ss) = frames-drop i (before + length s) ss ∙ ap (λ (n : ℕ). frames n (drop i ss)) (let e : before + length s + length (joined (take i ss)) ≡ before + length (s ++ joined (take i ss)) = omega (arith, length-append s (joined (take i ss))) in e)
 
-pub pieces_behind_are : (limit b : ℕ) (l : List Block) (made s : ℕ) (st : Stage) → Behind limit b l made s st → pieces_behind limit b l made ≡ pieces_left limit b l s st
+pub pieces_behind_are : (limit b : ℕ) (l : List Block) (made s : ℕ) (st : CutterStage) → Behind limit b l made s st → pieces_behind limit b l made ≡ pieces_left limit b l s st
 pieces_behind_are limit b l made s st h =
     let parts = segments limit b l in
     drop-map (piece b) made (frames 0 parts)
@@ -130,7 +130,7 @@ drop_good : (b : ℕ) (s : ℕ) (l : List Block) → AreBlocks b l → AreBlocks
 drop_good b s l h = (AreBlocks-parts b (take s l) (drop s l) (rw (take-append-drop s l) h)).1
 
 -- flashing what is left lays the blocks that are left
-pub laid_left : (limit b : ℕ) (p : List ℕ) (l : List Block) (s : ℕ) (st : Stage) → b % 4 ≡ 0 → AreBlocks b l → (st ≡ Between) ⊎ ((st ≡ Done) × (length l ≤ s)) → flashed_all b p (frames_left limit b l s st) ≡ over p (cells b (blocks_behind s l))
+pub laid_left : (limit b : ℕ) (p : List ℕ) (l : List Block) (s : ℕ) (st : CutterStage) → b % 4 ≡ 0 → AreBlocks b l → (st ≡ Between) ⊎ ((st ≡ Done) × (length l ≤ s)) → flashed_all b p (frames_left limit b l s st) ≡ over p (cells b (blocks_behind s l))
 laid_left limit b p l s st four h at =
     let rest = segments_left b limit l s st in
     let j = joined_left limit b l s st at in

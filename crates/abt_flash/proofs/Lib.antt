@@ -1,6 +1,6 @@
 pub mod Cells
 pub mod Moments
-pub mod Steps
+pub mod FlashSteps
 pub mod Answering
 pub mod Tasks
 pub mod Places

@@ -2,23 +2,23 @@
 use Rattle.std.proofs.Common.{◌-◌, ◌≡◌, ℕ, ◌+◌, ◌*◌, ◌≤◌, ◌<◌, ◌⊎◌, max, nat_lt, true, false, refl, sym, ap, ◌∙◌, arith, inl, inr}
 use Rattle.std.proofs.lemmas.Bool.{cases_Bool, ltb-true, ltb-false}
 use Rattle.abt_pieces.specs.Cutter.{Passed, has_more, piece_words}
-use Rattle.abt_pieces.specs.declared.stage.Stage.{Stage}
-use Rattle.abt_pieces.specs.declared.stage.Stage.TheVariants.{Between, Done}
+use Rattle.abt_pieces.specs.declared.stage.CutterStage.{CutterStage}
+use Rattle.abt_pieces.specs.declared.stage.CutterStage.TheVariants.{Between, Done}
 use Rattle.abt_flash.specs.Going.{IsBehindPiece, Unbroken, words_so_far}
 
-pub unbroken_first : (n made e : ℕ) (st : Stage) → st ≡ Between → (0 < made → e < n) → Unbroken n made e st
+pub unbroken_first : (n made e : ℕ) (st : CutterStage) → st ≡ Between → (0 < made → e < n) → Unbroken n made e st
 unbroken_first n made e st is inside = record { stands = inl is; between = λ d some. inside some; done = λ d. absurd (let z = sym is ∙ d in cc) }
 
-pub unbroken_more : (n made e : ℕ) (st : Stage) → IsBehindPiece n e st → Unbroken n (made + 1) e st
+pub unbroken_more : (n made e : ℕ) (st : CutterStage) → IsBehindPiece n e st → Unbroken n (made + 1) e st
 unbroken_more n made e st at = elim (cases_Bool (nat_lt e n)) [
   | inl t ↦ let lt = ltb-true e n t in let is = at.between lt in record { stands = inl is; between = λ d some. lt; done = λ d. absurd (let z = sym is ∙ d in cc) }
   | inr t ↦ let le = ltb-false e n t in let is = at.done le in record { stands = inr is; between = λ d some. absurd (let z = sym is ∙ d in cc); done = λ d. (omega arith, le) }
 ]
 
-pub still_between : (n made e : ℕ) (st : Stage) → Unbroken n made e st → has_more st ≡ true → st ≡ Between
+pub still_between : (n made e : ℕ) (st : CutterStage) → Unbroken n made e st → has_more st ≡ true → st ≡ Between
 still_between n made e st u more = elim u.stands [ inl is ↦ is | inr is ↦ absurd (let z : has_more Done ≡ true = rw is at more in cc) ]
 
-pub now_done : (n made e : ℕ) (st : Stage) → Unbroken n made e st → has_more st ≡ false → st ≡ Done
+pub now_done : (n made e : ℕ) (st : CutterStage) → Unbroken n made e st → has_more st ≡ false → st ≡ Done
 now_done n made e st u none = elim u.stands [ inr is ↦ is | inl is ↦ absurd (let z : has_more Between ≡ false = rw is at none in cc) ]
 
 pub few_more : (n made e : ℕ) → made ≤ e → (0 < made → e < n) → made + 1 ≤ max 1 n
@@ -38,7 +38,7 @@ words_between one n s = elim (cases_Bool (nat_lt (s + 1) n)) [ inl t ↦ rw t (o
 words_none : (one n s : ℕ) → s + 1 < n → words_so_far one n s Between ≡ 0
 words_none one n s lt = elim (cases_Bool (nat_lt (s + 1) n)) [ inl t ↦ rw t refl | inr t ↦ absurd (let z = ltb-false (s + 1) n t in omega (arith, z, lt)) ]
 
-pub words_more : (one n s e : ℕ) (st : Stage) → (e < n → s < e) → IsBehindPiece n e st → words_so_far one n s Between + piece_words one n e ≤ words_so_far one n e st
+pub words_more : (one n s e : ℕ) (st : CutterStage) → (e < n → s < e) → IsBehindPiece n e st → words_so_far one n s Between + piece_words one n e ≤ words_so_far one n e st
 words_more one n s e st moves at = elim (cases_Bool (nat_lt (e + 1) n)) [
   | inl t ↦
       let lt = ltb-true (e + 1) n t in
@@ -57,14 +57,14 @@ words_more one n s e st moves at = elim (cases_Bool (nat_lt (e + 1) n)) [
   ]
 ]
 
-pub words_most : (one n s : ℕ) (st : Stage) → (st ≡ Between) ⊎ (st ≡ Done) → words_so_far one n s st ≤ 4 * one
+pub words_most : (one n s : ℕ) (st : CutterStage) → (st ≡ Between) ⊎ (st ≡ Done) → words_so_far one n s st ≤ 4 * one
 words_most one n s st (inl is) = let z = words_between one n s in rw is (omega (arith, z))
 words_most one n s st (inr is) = rw is (omega arith)
 
-pub words_one : (one n s : ℕ) (st : Stage) → st ≡ Between → words_so_far one n s st ≤ one
+pub words_one : (one n s : ℕ) (st : CutterStage) → st ≡ Between → words_so_far one n s st ≤ one
 words_one one n s st is = let z = words_between one n s in rw is z
 
-pub passed_stands : (n s e : ℕ) (st : Stage) → Passed n s e st → IsBehindPiece n e st
+pub passed_stands : (n s e : ℕ) (st : CutterStage) → Passed n s e st → IsBehindPiece n e st
 passed_stands n s e st h = record { between = h.between; done = h.done }
 
 -- ---- what is read of the source

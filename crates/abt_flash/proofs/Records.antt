@@ -46,18 +46,18 @@ run_early of_runs.TooLarge = tt
 run_early of_runs.SourceChanged = tt
 run_early (of_runs.BadBlock n) = tt
 
-pub plan_early : (e : FlashFault) (before : ℕ) (tells : Bool) (r r' : ℕ) → PlanRefused e before tells r r' → IsEarly e
-plan_early (Read d) before tells r r' h = tt
-plan_early SourceChanged before tells r r' h = tt
-plan_early (NoSuchPiece k) before tells r r' h = tt
-plan_early (Sparse f) before tells r r' h = tt
-plan_early (Write d) before tells r r' h = tt
-plan_early TooLarge before tells r r' h = tt
-plan_early (BadBlock n) before tells r r' h = tt
-plan_early (LimitTooSmall n) before tells r r' h = tt
-plan_early (PartitionTooSmall n) before tells r r' h = tt
-plan_early (Sync d) before tells r r' h = absurd h
-plan_early (Stopped n c) before tells r r' h = absurd h
+pub plan_early : (e : FlashFault) (before : ℕ) (models : Bool) (r r' : ℕ) → PlanRefused e before models r r' → IsEarly e
+plan_early (Read d) before models r r' h = tt
+plan_early SourceChanged before models r r' h = tt
+plan_early (NoSuchPiece k) before models r r' h = tt
+plan_early (Sparse f) before models r r' h = tt
+plan_early (Write d) before models r r' h = tt
+plan_early TooLarge before models r r' h = tt
+plan_early (BadBlock n) before models r r' h = tt
+plan_early (LimitTooSmall n) before models r r' h = tt
+plan_early (PartitionTooSmall n) before models r r' h = tt
+plan_early (Sync d) before models r r' h = absurd h
+plan_early (Stopped n c) before models r r' h = absurd h
 
 none_finished : (e : FlashFault) (made : ℕ) → IsEarly e → finished made (Err e) ≡ 0
 none_finished (Read d) made h = refl

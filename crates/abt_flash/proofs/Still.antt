@@ -3,7 +3,7 @@ use Rattle.std.proofs.Common.{◌≡◌, ℕ, ◌+◌, ◌++◌, List, [], Optio
 use Rattle.abt_io.specs.Moment.{Past, moment_of}
 use Rattle.abt_io.proofs.Moments.{keeps_same}
 use Rattle.abt_pieces.specs.Cutter.{Passed}
-use Rattle.abt_pieces.specs.declared.stage.Stage.{Stage}
+use Rattle.abt_pieces.specs.declared.stage.CutterStage.{CutterStage}
 use Rattle.abt_io.specs.declared.device.Source as sources
 use Rattle.abt_flash.specs.Devices.{LeavesUnread}
 use Rattle.abt_flash.specs.Laying.{writes}
@@ -25,7 +25,7 @@ pub touches_none : (cs : List (Option ℕ)) (past : Past) (p : List ℕ) → Tou
 touches_none cs past p = record { kept = keeps_same (writes cs) (moment_of past p); moments = during_none (writes cs) (moment_of past p) (moment_of past p) past.moments }
 
 -- the piece that was made goes on from where the cutter stood
-pub goes_behind : (n k k' s e first past : ℕ) (st : Stage) → k' ≡ k + 1 → first ≡ s → past ≡ e → Passed n first past st → GoesBehind n k k' s e st
+pub goes_behind : (n k k' s e first past : ℕ) (st : CutterStage) → k' ≡ k + 1 → first ≡ s → past ≡ e → Passed n first past st → GoesBehind n k k' s e st
 goes_behind n k k' s e first past st made begins ends h =
     let at = rw (begins, ends) at h in
     record { made = made; stands = passed_stands n s e st at; moves = at.moves }

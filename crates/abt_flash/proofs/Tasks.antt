@@ -9,8 +9,8 @@ use Rattle.abt_chunks.specs.declared.walk.Part.TheVariants as parts
 use Rattle.abt_chunks.specs.Ahead.{somes}
 use Rattle.abt_chunks.specs.Expanding.{IsWritable}
 use Rattle.abt_chunks.specs.Parts.{is_fault}
-use Rattle.abt_flash.specs.declared.laying.Task.{Task}
-use Rattle.abt_flash.specs.declared.laying.Task.TheVariants as tasks
+use Rattle.abt_flash.specs.declared.write_part.PartTask.{PartTask}
+use Rattle.abt_flash.specs.declared.write_part.PartTask.TheVariants as tasks
 use Rattle.abt_flash_faults.specs.Fault.{OnUnsynced, PutCause, UnlessUnwritten, refused_syncs}
 use Rattle.abt_flash.specs.Laying.{CanDo, IsIdle, IsStill, Settles, SettlesIn, UnlessUndone, answered, bytes_by, put_by, put_in, refused_in, syncs_by, syncs_in, task_of}
 use Rattle.abt_flash.proofs.Cells.{gap_over, nothing_over}
@@ -52,7 +52,7 @@ idle_still (parts.Fault f) h = tt
 
 -- ---- what is answered
 
-pub unless_answered : (t : Task) (r : Result (Unit {0}) DeviceFault) (P Q : Type 0) → (P → Q) → UnlessUndone t r P → UnlessUnwritten (answered t r) Q
+pub unless_answered : (t : PartTask) (r : Result (Unit {0}) DeviceFault) (P Q : Type 0) → (P → Q) → UnlessUndone t r P → UnlessUnwritten (answered t r) Q
 unless_answered (tasks.Bytes n) (Ok u) P Q go h = go h
 unless_answered (tasks.Words word n) (Ok u) P Q go h = go h
 unless_answered tasks.Sync (Ok u) P Q go h = go h
@@ -62,18 +62,18 @@ unless_answered (tasks.Words word n) (Err d) P Q go h = tt
 unless_answered tasks.Sync (Err d) P Q go h = go h
 unless_answered tasks.Nothing (Err d) P Q go h = tt
 
-pub ok_answered : (t : Task) (r : Result (Unit {0}) DeviceFault) (P Q : Type 0) → (P → Q) → OnOk r P → OnOk (answered t r) Q
+pub ok_answered : (t : PartTask) (r : Result (Unit {0}) DeviceFault) (P Q : Type 0) → (P → Q) → OnOk r P → OnOk (answered t r) Q
 ok_answered t (Ok u) P Q go h = go h
 ok_answered t (Err d) P Q go h = tt
 
-pub cause_answered : (t : Task) (r : Result (Unit {0}) DeviceFault) (p p' : ℕ) → OnErr r (p < p') → OnOk r (p' ≡ p) → IfErr r (λ e. e ≡ devices.Failed) → PutCause (answered t r) p p'
+pub cause_answered : (t : PartTask) (r : Result (Unit {0}) DeviceFault) (p p' : ℕ) → OnErr r (p < p') → OnOk r (p' ≡ p) → IfErr r (λ e. e ≡ devices.Failed) → PutCause (answered t r) p p'
 cause_answered t (Ok u) p p' more same failed = same
 cause_answered (tasks.Bytes n) (Err d) p p' more same failed = (more, failed)
 cause_answered (tasks.Words word n) (Err d) p p' more same failed = (more, failed)
 cause_answered tasks.Sync (Err d) p p' more same failed = (more, failed)
 cause_answered tasks.Nothing (Err d) p p' more same failed = (more, failed)
 
-pub refused_answered : (t : Task) (r : Result (Unit {0}) DeviceFault) → refused_in t r ≡ refused_syncs (answered t r)
+pub refused_answered : (t : PartTask) (r : Result (Unit {0}) DeviceFault) → refused_in t r ≡ refused_syncs (answered t r)
 refused_answered (tasks.Bytes n) (Ok u) = refl
 refused_answered (tasks.Words word n) (Ok u) = refl
 refused_answered tasks.Sync (Ok u) = refl

@@ -332,19 +332,19 @@ pub record HasDelivered {A B C : Type 0} (forward : Bool) (i : ImageBlocks) (lim
     (p : partitions.Ghosts C) (r : Result Delivered FlashFault) (a a' : A) (b b' : B) (c c' : C) (m m' : Meter)
     : Type 0 where
   -- what is answered
-  pub delivers : Delivers s.tells i limit made ((b' ≡ b) × (c' ≡ c)) r (counts s f o l p a b c)
+  pub delivers : Delivers s.models i limit made ((b' ≡ b) × (c' ≡ c)) r (counts s f o l p a b c)
       (counts s f o l p a' b' c')
   -- what it wrote
-  pub spool : GivesPieces forward s.tells f.tells i limit made r (spool_state f o l b) (spool_state f o l b')
-  pub partition : LaysBlocks s.tells f.tells q.tells i limit made r (partition_state q p c) (partition_state q p c')
+  pub spool : GivesPieces forward s.models f.models i limit made r (spool_state f o l b) (spool_state f o l b')
+  pub partition : LaysBlocks s.models f.models q.models i limit made r (partition_state q p c) (partition_state q p c')
   -- what stays
-  pub mends : IsTrue s.tells → IsTrue f.tells → IsTrue q.tells
+  pub mends : IsTrue s.models → IsTrue f.models → IsTrue q.models
       → MendsBlocks i limit made r (partition_state q p c) (partition_state q p c')
-  pub mendable : IsTrue s.tells → IsTrue f.tells → IsTrue q.tells → made ≡ 0 → (p.past c).pending ≡ []
+  pub mendable : IsTrue s.models → IsTrue f.models → IsTrue q.models → made ≡ 0 → (p.past c).pending ≡ []
       → AlwaysMendable i limit (partition_state q p c) (partition_state q p c')
   pub source : OnlyReads r s a a'
   -- what it cost
-  pub costs : DeliveryCosts s.tells i limit words each made r (counts s f o l p a b c) (counts s f o l p a' b' c') m m'
+  pub costs : DeliveryCosts s.models i limit words each made r (counts s f o l p a b c) (counts s f o l p a' b' c') m m'
 
 -- What delivering an opened image does, behind its first pieces.
 pub record OpenDelivered {R A B C : Type 0} (g : images.Ghosts R) (runs : R) (forward : Bool) (limit made : ℕ)
@@ -352,7 +352,7 @@ pub record OpenDelivered {R A B C : Type 0} (g : images.Ghosts R) (runs : R) (fo
     (p : partitions.Ghosts C) (r : Result Delivered FlashFault) (a a' : A) (b b' : B) (c c' : C) (m m' : Meter)
     : Type 0 where
   pub granted : OnOk r (Room limit (g.size runs) (g.count runs) (q.size c))
-  pub refused : IfErr r (λ e. RefusedDelivery e limit (g.size runs) (g.count runs) (q.size c) made s.tells f.tells
+  pub refused : IfErr r (λ e. RefusedDelivery e limit (g.size runs) (g.count runs) (q.size c) made s.models f.models
       (counts s f o l p a b c) (counts s f o l p a' b' c'))
   pub image : HasDelivered forward (record { size = g.size runs; blocks = g.list runs (s.content a) }) limit made
       (g.one runs) 400 s f o l q p r a a' b b' c c' m m'

@@ -147,6 +147,6 @@ pub record LeavesUnread {C : Type 0} (s : sources.Ghosts C) (old new : C) : Type
   pub faults : s.read_faults new ≡ s.read_faults old
 
 -- What was read of an input that held x and holds y.
-pub record Reads (tells : Bool) (given given' : ℕ) (x y : List ℕ) : Type 0 where
-  pub present : IsTrue tells → given' - given ≤ length x
-  pub rest : IsTrue tells → y ≡ drop (given' - given) x
+pub record Reads (models : Bool) (given given' : ℕ) (x y : List ℕ) : Type 0 where
+  pub present : IsTrue models → given' - given ≤ length x
+  pub rest : IsTrue models → y ≡ drop (given' - given) x

@@ -65,8 +65,8 @@ TouchesOnly cells past past' p p' = Touches (writes cells) past past' p p'
 
 -- A sync has succeeded where the answer is Ok, and then nothing is pending; every other one that was called was
 -- refused, as the answer says.
-pub record Syncs (tells : Bool) (r : Result Flashed FlashFault) (past past' : Past) (syncs syncs' : ℕ) : Type 0 where
-  pub settled : IsTrue tells → OnOk r (past'.pending ≡ [])
+pub record Syncs (models : Bool) (r : Result Flashed FlashFault) (past past' : Past) (syncs syncs' : ℕ) : Type 0 where
+  pub settled : IsTrue models → OnOk r (past'.pending ≡ [])
   pub synced : past'.synced ≡ past.synced + (if is_ok r then 1 else 0)
   pub refused : syncs' + past.synced ≡ syncs + past'.synced + refused_syncs r
 

@@ -8,8 +8,8 @@ use Rattle.abt_sparse.specs.Chunk.{piece}
 use Rattle.abt_sparse.specs.Mending.{Mendable}
 use Rattle.abt_pieces.specs.Outline.{segment_at}
 use Rattle.abt_pieces.specs.Cutter.{segments_left}
-use Rattle.abt_pieces.specs.declared.stage.Stage.{Stage}
-use Rattle.abt_pieces.specs.declared.stage.Stage.TheVariants.{Between, Plan, Begin, Write, Done, Failed}
+use Rattle.abt_pieces.specs.declared.stage.CutterStage.{CutterStage}
+use Rattle.abt_pieces.specs.declared.stage.CutterStage.TheVariants.{Between, Plan, Begin, Write, Done, Failed}
 use Rattle.abt_io.specs.declared.meter.Meter.{Meter}
 use Rattle.abt_io.specs.declared.device.DeviceFault.TheVariants.{Failed as DeviceFailed}
 use Rattle.abt_flash.specs.Devices.{Counts}
@@ -20,24 +20,24 @@ use Rattle.abt_flash_faults.specs.declared.fault.FlashFault.TheVariants as flash
 -- ---- where a cutter stands
 
 -- behind a piece that ends before block e of n
-pub record IsBehindPiece (n e : ℕ) (st : Stage) : Type 0 where
+pub record IsBehindPiece (n e : ℕ) (st : CutterStage) : Type 0 where
   pub between : e < n → st ≡ Between
   pub done : n ≤ e → st ≡ Done
 
 -- from block s on, one piece more was made, up to block e of n
-pub record GoesBehind (n k k' s e : ℕ) (st : Stage) : Type 0 where
+pub record GoesBehind (n k k' s e : ℕ) (st : CutterStage) : Type 0 where
   pub made : k' ≡ k + 1
   pub stands : IsBehindPiece n e st
   pub moves : e < n → s < e
 
 -- between pieces or behind the last, with so many pieces made up to block e of n
-pub record Unbroken (n made e : ℕ) (st : Stage) : Type 0 where
+pub record Unbroken (n made e : ℕ) (st : CutterStage) : Type 0 where
   pub stands : (st ≡ Between) ⊎ (st ≡ Done)
   pub between : st ≡ Between → 0 < made → e < n
   pub done : st ≡ Done → (0 < made) × (n ≤ e)
 
 -- how many words may have been compared without being read, in all pieces so far
-abbrev pub words_so_far : ℕ → ℕ → ℕ → Stage → ℕ
+abbrev pub words_so_far : ℕ → ℕ → ℕ → CutterStage → ℕ
 words_so_far one n e Between = if nat_lt (e + 1) n then 0 else one
 words_so_far one n e Done = 4 * one
 words_so_far one n e (Plan p) = 0
@@ -48,10 +48,10 @@ words_so_far one n e (Failed f) = 0
 -- ---- what is still to be made
 
 -- the blocks of the pieces that are left, and these pieces
-abbrev pub frames_left : ℕ → ℕ → List Block → ℕ → Stage → List (List Block)
+abbrev pub frames_left : ℕ → ℕ → List Block → ℕ → CutterStage → List (List Block)
 frames_left limit b l s st = frames s (segments_left b limit l s st)
 
-abbrev pub pieces_left : ℕ → ℕ → List Block → ℕ → Stage → List (List ℕ)
+abbrev pub pieces_left : ℕ → ℕ → List Block → ℕ → CutterStage → List (List ℕ)
 pieces_left limit b l s st = map (piece b) (frames_left limit b l s st)
 
 -- the blocks of the next piece
@@ -76,28 +76,28 @@ pub record Staying (limit b : ℕ) (l : List Block) (p : List ℕ) (made synced 
 
 -- planning is refused by the source, or since no piece is left
 abbrev pub PlanRefused : FlashFault → ℕ → Bool → ℕ → ℕ → Type 0
-PlanRefused (flashes.Read d) before tells r r' = (r < r') × (d ≡ DeviceFailed)
-PlanRefused flashes.SourceChanged before tells r r' = tells ≡ false
-PlanRefused (flashes.NoSuchPiece k) before tells r r' = (0 < k) × (k ≤ before)
-PlanRefused (flashes.Sparse f) before tells r r' = ⊥
-PlanRefused (flashes.Write d) before tells r r' = ⊥
-PlanRefused flashes.TooLarge before tells r r' = ⊥
-PlanRefused (flashes.BadBlock n) before tells r r' = ⊥
-PlanRefused (flashes.LimitTooSmall n) before tells r r' = ⊥
-PlanRefused (flashes.PartitionTooSmall n) before tells r r' = ⊥
-PlanRefused (flashes.Sync d) before tells r r' = ⊥
-PlanRefused (flashes.Stopped n c) before tells r r' = ⊥
+PlanRefused (flashes.Read d) before models r r' = (r < r') × (d ≡ DeviceFailed)
+PlanRefused flashes.SourceChanged before models r r' = models ≡ false
+PlanRefused (flashes.NoSuchPiece k) before models r r' = (0 < k) × (k ≤ before)
+PlanRefused (flashes.Sparse f) before models r r' = ⊥
+PlanRefused (flashes.Write d) before models r r' = ⊥
+PlanRefused flashes.TooLarge before models r r' = ⊥
+PlanRefused (flashes.BadBlock n) before models r r' = ⊥
+PlanRefused (flashes.LimitTooSmall n) before models r r' = ⊥
+PlanRefused (flashes.PartitionTooSmall n) before models r r' = ⊥
+PlanRefused (flashes.Sync d) before models r r' = ⊥
+PlanRefused (flashes.Stopped n c) before models r r' = ⊥
 
 -- so many pieces were planned, where so many were to be, of k that the image has
 abbrev pub HasPlanned : Bool → ℕ → Result (Unit {0}) FlashFault → ℕ → ℕ → Type 0
-HasPlanned tells k (Ok u) before n = n ≡ before
-HasPlanned tells k (Err f) before n = HasBegun tells k (Err f) before n
+HasPlanned models k (Ok u) before n = n ≡ before
+HasPlanned models k (Err f) before n = HasBegun models k (Err f) before n
 
 -- what planning costs
-pub record PlanningCosts (tells : Bool) (k before one : ℕ) (r : Result (Unit {0}) FlashFault)
+pub record PlanningCosts (models : Bool) (k before one : ℕ) (r : Result (Unit {0}) FlashFault)
     (reads given reads' given' : ℕ) (m m' : Meter) : Type 0 where
   pub begun : ℕ
-  pub counted : HasPlanned tells k r before begun
+  pub counted : HasPlanned models k r before begun
   pub calls : reads' + 8 * given ≤ reads + 8 * given' + 128 * (begun + 1)
   pub turns : m'.turns.number + 8 * given ≤ m.turns.number + 8 * given' + 4 * one + 129 * (begun + 1) + 1
   pub read : given ≤ given'

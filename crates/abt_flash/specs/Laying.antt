@@ -12,8 +12,8 @@ use Rattle.abt_chunks.specs.declared.walk.Part.TheVariants as parts
 use Rattle.abt_io.specs.declared.device.DeviceFault.{DeviceFault}
 use Rattle.abt_flash_faults.specs.declared.fault.FlashFault.{FlashFault}
 use Rattle.abt_flash_faults.specs.declared.fault.FlashFault.TheVariants as flashes
-use Rattle.abt_flash.specs.declared.laying.Task.{Task}
-use Rattle.abt_flash.specs.declared.laying.Task.TheVariants as tasks
+use Rattle.abt_flash.specs.declared.write_part.PartTask.{PartTask}
+use Rattle.abt_flash.specs.declared.write_part.PartTask.TheVariants as tasks
 
 -- byte i of a device is written by cells that are laid from its first byte on
 abbrev pub writes : List (Option ℕ) → ℕ → Bool
@@ -22,7 +22,7 @@ writes cs i = is_some (slice_index_or cs i None)
 -- ---- what is done for a part
 
 -- its bytes and its words are written, a gap is left as it is, and at the end all is synced
-abbrev pub task_of : Part → Task
+abbrev pub task_of : Part → PartTask
 task_of (parts.Raw n) = tasks.Bytes n
 task_of (parts.Words word n) = tasks.Words word n
 task_of (parts.Skip n) = tasks.Nothing
@@ -31,59 +31,59 @@ task_of parts.End = tasks.Sync
 task_of (parts.Fault f) = tasks.Nothing
 
 -- how many bytes a task writes, and which, its own from the front of the window
-abbrev pub put_in : Task → ℕ
+abbrev pub put_in : PartTask → ℕ
 put_in (tasks.Bytes n) = n
 put_in (tasks.Words word n) = 4 * n
 put_in tasks.Sync = 0
 put_in tasks.Nothing = 0
 
-abbrev pub bytes_by : Task → List ℕ → List ℕ
+abbrev pub bytes_by : PartTask → List ℕ → List ℕ
 bytes_by (tasks.Bytes n) window = take n window
 bytes_by (tasks.Words word n) window = concat (replicate n word)
 bytes_by tasks.Sync window = []
 bytes_by tasks.Nothing window = []
 
 -- a task that can be done: at most a window, and some words
-abbrev pub CanDo : Task → Type 0
+abbrev pub CanDo : PartTask → Type 0
 CanDo (tasks.Bytes n) = n ≤ 65536
 CanDo (tasks.Words word n) = 0 < n
 CanDo tasks.Sync = Unit {0}
 CanDo tasks.Nothing = Unit {0}
 
 -- the partition is not called
-abbrev pub IsIdle : Task → Type 0
+abbrev pub IsIdle : PartTask → Type 0
 IsIdle (tasks.Bytes n) = ⊥
 IsIdle (tasks.Words word n) = ⊥
 IsIdle tasks.Sync = ⊥
 IsIdle tasks.Nothing = Unit {0}
 
 -- what is answered to a task that was done, or refused by the partition
-abbrev pub refused_by : Task → DeviceFault → FlashFault
+abbrev pub refused_by : PartTask → DeviceFault → FlashFault
 refused_by (tasks.Bytes n) d = flashes.Write d
 refused_by (tasks.Words word n) d = flashes.Write d
 refused_by tasks.Sync d = flashes.Sync d
 refused_by tasks.Nothing d = flashes.Write d
 
-abbrev pub answered : Task → Result (Unit {0}) DeviceFault → Result (Unit {0}) FlashFault
+abbrev pub answered : PartTask → Result (Unit {0}) DeviceFault → Result (Unit {0}) FlashFault
 answered task (Ok u) = Ok u
 answered task (Err d) = Err (refused_by task d)
 
 -- a sync that succeeded, and then nothing is pending
-abbrev pub syncs_in : {E : Type 0} → Task → Result (Unit {0}) E → ℕ
+abbrev pub syncs_in : {E : Type 0} → PartTask → Result (Unit {0}) E → ℕ
 syncs_in tasks.Sync (Ok u) = 1
 syncs_in t r = 0
 
-abbrev pub SettlesIn : Task → List (ℕ × ℕ) → Type 0
+abbrev pub SettlesIn : PartTask → List (ℕ × ℕ) → Type 0
 SettlesIn tasks.Sync pending = pending ≡ []
 SettlesIn t pending = Unit {0}
 
 -- a sync that was refused
-abbrev pub refused_in : {E : Type 0} → Task → Result (Unit {0}) E → ℕ
+abbrev pub refused_in : {E : Type 0} → PartTask → Result (Unit {0}) E → ℕ
 refused_in tasks.Sync (Err e) = 1
 refused_in t r = 0
 
 -- P, save where bytes were not written
-abbrev pub UnlessUndone : {E : Type 0} → Task → Result (Unit {0}) E → Type 0 → Type 0
+abbrev pub UnlessUndone : {E : Type 0} → PartTask → Result (Unit {0}) E → Type 0 → Type 0
 UnlessUndone t (Ok u) P = P
 UnlessUndone tasks.Sync (Err e) P = P
 UnlessUndone t (Err e) P = Unit {0}

@@ -5,8 +5,8 @@ use Rattle.abt_io.specs.declared.meter.Meter.{Meter}
 use Rattle.abt_sparse.specs.Block.{Block, cells, over}
 use Rattle.abt_runs.specs.declared.part.Cursor.{Cursor}
 use Rattle.abt_pieces.specs.Contents.{written_in}
-use Rattle.abt_pieces.specs.declared.stage.Stage.{Stage}
-use Rattle.abt_pieces.specs.declared.stage.Stage.TheVariants.{Between}
+use Rattle.abt_pieces.specs.declared.stage.CutterStage.{CutterStage}
+use Rattle.abt_pieces.specs.declared.stage.CutterStage.TheVariants.{Between}
 use Rattle.abt_flash.specs.Delivering.{Begins, EndsWhole, GaveNoPart, NoneFailed, OnFlashed, OnUnsyncedPiece, PiecesFit}
 use Rattle.abt_flash.specs.Delivering.{StopsFor, begun, blocks_behind, blocks_in_first, blocks_up_to, finished}
 use Rattle.abt_flash.specs.Delivering.{unsynced_by}
@@ -70,7 +70,7 @@ pub record PieceFails (source spool : Bool) (r : Result (Unit {0}) Cause) (old n
 -- ---- all that are left
 
 -- so many pieces were made, up to block e of n, and one is to come
-pub record PieceComes (n made e : ℕ) (st : Stage) : Type 0 where
+pub record PieceComes (n made e : ℕ) (st : CutterStage) : Type 0 where
   pub between : st ≡ Between
   pub inside : 0 < made → e < n
   pub few : made ≤ max 1 n

@@ -71,9 +71,9 @@ pub record RawDelivered {A B C : Type 0} (forward : Bool) (n limit made : ℕ)
     (s : sources.Ghosts A) (f : inputs.Ghosts B) (o : outputs.Ghosts B) (l : spools.Ghosts B) (q : sources.Ghosts C)
     (p : partitions.Ghosts C) (r : Result Delivered FlashFault) (a a' : A) (b b' : B) (c c' : C) (m m' : Meter)
     : Type 0 where
-  pub allowed : OnOk r (IsAllowed n (s.content a) (s.size a) limit (q.size c) s.tells)
-  pub refused : IfErr r (λ e. RawRefused e n (s.content a) (s.size a) limit (q.size c) made s.tells f.tells
+  pub allowed : OnOk r (IsAllowed n (s.content a) (s.size a) limit (q.size c) s.models)
+  pub refused : IfErr r (λ e. RawRefused e n (s.content a) (s.size a) limit (q.size c) made s.models f.models
       (counts s f o l p a b c) (counts s f o l p a' b' c'))
   pub image : HasDelivered forward (raw_image n (s.content a)) limit made n 512 s f o l q p r a a' b b' c c' m m'
-  pub long : IsTrue s.tells → IfOk r (λ d. length (o.written b')
+  pub long : IsTrue s.models → IfOk r (λ d. length (o.written b')
       ≤ length (o.written b) + length (classify n (s.content a)) * (n + 16) + 80 * d.pieces)

@@ -72,9 +72,9 @@ pub record SparseDelivered {A B C : Type 0} (limit made : ℕ)
     (s : sources.Ghosts A) (f : inputs.Ghosts B) (o : outputs.Ghosts B) (l : spools.Ghosts B) (q : sources.Ghosts C)
     (p : partitions.Ghosts C) (r : Result Delivered FlashFault) (a a' : A) (b b' : B) (c c' : C) (m m' : Meter)
     : Type 0 where
-  pub granted : IsTrue s.tells → OnOk r (Fits (s.content a) limit (q.size c))
-  pub refused : IfErr r (λ e. SparseRefused e (s.content a) limit (q.size c) made s.tells f.tells
+  pub granted : IsTrue s.models → OnOk r (Fits (s.content a) limit (q.size c))
+  pub refused : IfErr r (λ e. SparseRefused e (s.content a) limit (q.size c) made s.models f.models
       (counts s f o l p a b c) (counts s f o l p a' b' c'))
   pub image : HasDelivered true (sparse_image (s.content a)) limit made 0 512 s f o l q p r a a' b b' c c' m m'
-  pub long : IsTrue s.tells → IfOk r (λ d. length (o.written b')
+  pub long : IsTrue s.models → IfOk r (λ d. length (o.written b')
       ≤ length (o.written b) + image_length (s.content a) + 80 * d.pieces)

@@ -5,8 +5,8 @@ use Rattle.std.specs.Prelude.{◌^◌, take, drop, min}
 use Rattle.abt_io.specs.Moment.{Past, Keeps, EachSince, moment_of}
 use Rattle.abt_sparse.specs.Block.{over}
 use Rattle.abt_sparse.specs.View.{view}
-use Rattle.abt_chunks.specs.declared.progress.Progress.{Progress}
-use Rattle.abt_chunks.specs.declared.progress.Progress.TheVariants as answers
+use Rattle.abt_chunks.specs.declared.progress.MachineProgress.{MachineProgress}
+use Rattle.abt_chunks.specs.declared.progress.MachineProgress.TheVariants as answers
 use Rattle.abt_chunks.specs.declared.walk.Phase.{Phase}
 use Rattle.abt_chunks.specs.declared.walk.Phase.TheVariants as phases
 use Rattle.abt_chunks.specs.declared.walk.Walk.{Walk}
@@ -27,14 +27,14 @@ use Rattle.abt_flash_faults.specs.Fault.{FlashingRises, refused_syncs}
 use Rattle.abt_flash.specs.Laying.{During, writes}
 use Rattle.abt_flash_faults.specs.declared.fault.FlashFault.{FlashFault}
 use Rattle.abt_flash_faults.specs.declared.fault.FlashFault.TheVariants.{Sparse, Read, Write, Sync, PartitionTooSmall}
-use Rattle.abt_flash.specs.declared.stage.Stage.{Stage}
-use Rattle.abt_flash.specs.declared.stage.Stage.TheVariants as stages
+use Rattle.abt_flash.specs.declared.stage.FlashStage.{FlashStage}
+use Rattle.abt_flash.specs.declared.stage.FlashStage.TheVariants as stages
 use Rattle.abt_chunks.specs.Expanding.{OnMoreExpanding, OnDone}
 use Rattle.abt_chunks.specs.ListingAhead.{idle}
 use Rattle.abt_chunks.specs.Places.{from_place, said_by}
 
 -- the stage that an answer leaves
-abbrev pub stage_of : Result Progress FlashFault → Stage
+abbrev pub stage_of : Result MachineProgress FlashFault → FlashStage
 stage_of (Ok answers.More) = stages.Going
 stage_of (Ok answers.Done) = stages.Done
 stage_of (Err f) = stages.Failed f
@@ -50,21 +50,21 @@ UnlessFlashing (Ok x) P = P
 UnlessFlashing (Err f) P = UnlessFlashingDevice f P
 
 -- the flasher has neither ended nor failed, nor has its walk
-abbrev pub Goes : Stage → Phase → Type 0
+abbrev pub Goes : FlashStage → Phase → Type 0
 Goes stages.Going p = IsGoing p
 Goes s p = ⊥
 
 -- the image has just ended
-abbrev pub is_done : Stage → Result Progress FlashFault → Bool
+abbrev pub is_done : FlashStage → Result MachineProgress FlashFault → Bool
 is_done stages.Going (Ok answers.Done) = true
 is_done s r = false
 
-abbrev pub IsOver : Stage → Type 0
+abbrev pub IsOver : FlashStage → Type 0
 IsOver stages.Going = ⊥
 IsOver s = Unit {0}
 
 -- the phase that an answer leaves the walk in
-abbrev pub Leaves : Result Progress FlashFault → Phase → Type 0
+abbrev pub Leaves : Result MachineProgress FlashFault → Phase → Type 0
 Leaves (Ok answers.More) p = p ≡ phases.Body
 Leaves (Ok answers.Done) p = p ≡ phases.Done
 Leaves (Err (Sparse f)) p = p ≡ phases.Failed f
@@ -94,7 +94,7 @@ abbrev pub is_short_of : Walk → ℕ → Bool
 is_short_of s size = passed s && nat_lt size (need_of s)
 
 -- A partition of this size is refused where it is short of the blocks, and only there.
-abbrev pub Measures : Result Progress FlashFault → Walk → ℕ → Type 0
+abbrev pub Measures : Result MachineProgress FlashFault → Walk → ℕ → Type 0
 Measures (Err (PartitionTooSmall need)) s size = (passed s ≡ true) × (need ≡ need_of s) × (size < need)
 Measures (Ok answers.Done) s size = (passed s ≡ true) × (need_of s ≤ size)
 Measures (Err (Sync d)) s size = (passed s ≡ true) × (need_of s ≤ size)
@@ -106,7 +106,7 @@ OnShort (Err (PartitionTooSmall need)) P = P
 OnShort r P = Unit {0}
 
 -- What a step from walk s to walk s' lays over a partition that held p, once the bytes c are read and rest is left.
-pub record Laid (tells : Bool) (stage : Stage) (r : Result Progress FlashFault) (s s' : Walk) (c rest : List ℕ)
+pub record Laid (models : Bool) (stage : FlashStage) (r : Result MachineProgress FlashFault) (s s' : Walk) (c rest : List ℕ)
     (past past' : Past) (p p' : List ℕ) (taken taken' : ℕ) : Type 0 where
   -- the cells that it lays, and what comes behind them where t follows
   pub cells : List (Option ℕ)
@@ -118,16 +118,16 @@ pub record Laid (tells : Bool) (stage : Stage) (r : Result Progress FlashFault) 
   pub moved : OnMoreExpanding r (place_of s' ≡ place_of s + length cells)
   -- each byte of them is written, and written once
   pub counted : UnlessFlashing r (taken' ≡ taken + said_by cells)
-  pub content : IsTrue tells → UnlessFlashing r (p' ≡ over p (from_place (place_of s) cells))
+  pub content : IsTrue models → UnlessFlashing r (p' ≡ over p (from_place (place_of s) cells))
   -- nothing else is touched
-  pub kept : IsTrue tells → Keeps (writes (from_place (place_of s) cells)) (moment_of past p) (moment_of past' p')
-  pub moments : IsTrue tells → EachSince past.moments past'.moments
+  pub kept : IsTrue models → Keeps (writes (from_place (place_of s) cells)) (moment_of past p) (moment_of past' p')
+  pub moments : IsTrue models → EachSince past.moments past'.moments
       (During (writes (from_place (place_of s) cells)) (moment_of past p) (moment_of past' p'))
   -- nothing is held over but words of a fill, and a gap
   pub held : Goes stage s.phase → OnOk r (more [] ≡ owed s')
 
 -- what is known of the image's header along a step, where x is the rest of the input before it and y behind it
-abbrev pub Heads : Result Progress FlashFault → Walk → Walk → List ℕ → List ℕ → Type 0
+abbrev pub Heads : Result MachineProgress FlashFault → Walk → Walk → List ℕ → List ℕ → Type 0
 Heads (Ok answers.More) s s' x y = (upcoming s x).head ≡ (upcoming s' y).head
 Heads (Ok answers.Done) s s' x y = (upcoming s x).head ≡ Some (view s'.header)
 Heads (Err (Sparse f)) s s' x y = (upcoming s x).head ≡ head_in s.phase (at_end s) s
@@ -136,21 +136,21 @@ Heads (Err f) s s' x y = Unit {0}
 
 -- Where the flasher goes on: no chunk has been begun only where none had been and the partition was not called, the
 -- header stays, and the first chunk is begun behind the header.
-pub record GoesOn (r : Result Progress FlashFault) (stage : Stage) (s s' : Walk) (untouched : Type 0) : Type 0 where
+pub record GoesOn (r : Result MachineProgress FlashFault) (stage : FlashStage) (s s' : Walk) (untouched : Type 0) : Type 0 where
   pub fresh : Goes stage s.phase → OnMoreExpanding r (IsFresh s' → IsFresh s × untouched)
   pub header : OnMoreExpanding r (s.phase ≡ phases.Body → s'.header ≡ s.header)
   pub begins : OnMoreExpanding r (0 < s'.index → passed s ≡ true)
 
 -- A sync that was called has succeeded, save where the answer says that it was refused, and then nothing is pending.
-pub record StepSyncs (tells : Bool) (stage : Stage) (s : Walk) (r : Result Progress FlashFault) (past past' : Past)
+pub record StepSyncs (models : Bool) (stage : FlashStage) (s : Walk) (r : Result MachineProgress FlashFault) (past past' : Past)
     (syncs syncs' : ℕ) : Type 0 where
-  pub settled : Goes stage s.phase → IsTrue tells → OnDone r (past'.pending ≡ [])
+  pub settled : Goes stage s.phase → IsTrue models → OnDone r (past'.pending ≡ [])
   pub synced : past'.synced ≡ past.synced + (if is_done stage r then 1 else 0)
   pub refused : Goes stage s.phase → syncs' + past.synced ≡ syncs + past'.synced + refused_syncs r
 
 -- The calls of the devices, and the turns of loops, in the bytes that were moved. A step that moves none is followed
 -- by one that does.
-pub record StepCosts (r : Result Progress FlashFault) (s s' : Walk) (old new : Flow) (m m' : Meter) : Type 0 where
+pub record StepCosts (r : Result MachineProgress FlashFault) (s s' : Walk) (old new : Flow) (m m' : Meter) : Type 0 where
   pub reads : new.reads ≤ old.reads + (new.given - old.given) + 1
   pub puts : new.puts + new.syncs + 2 * old.taken ≤ old.puts + old.syncs + 2 * new.taken + 1
   pub turns : m'.turns.number + 2 * old.taken ≤ m.turns.number + (new.given - old.given) + 2 * new.taken + 17
@@ -163,24 +163,24 @@ pub record StepCosts (r : Result Progress FlashFault) (s s' : Walk) (old new : F
 -- At most a window is read of an input, from its front on.
 pub record StepReads {A : Type 0} (i : inputs.Ghosts A) (old new : A) : Type 0 where
   pub asked : i.given new ≤ i.given old + 65536
-  pub present : IsTrue i.tells → i.given new - i.given old ≤ length (i.remaining old)
-  pub rest : IsTrue i.tells → i.remaining new ≡ drop (i.given new - i.given old) (i.remaining old)
+  pub present : IsTrue i.models → i.given new - i.given old ≤ length (i.remaining old)
+  pub rest : IsTrue i.models → i.remaining new ≡ drop (i.given new - i.given old) (i.remaining old)
   pub frame : i.read_frame new ≡ i.read_frame old
 
 -- what a step of a flasher does
 pub record FlashStep {A C : Type 0} (i : inputs.Ghosts A) (s : sources.Ghosts C) (p : partitions.Ghosts C)
-    (r : Result Progress FlashFault) (old new : Flasher) (input input' : A) (partition partition' : C) (m m' : Meter)
+    (r : Result MachineProgress FlashFault) (old new : Flasher) (input input' : A) (partition partition' : C) (m m' : Meter)
     : Type 0 where
   -- what is read: at most a window, and of the partition nothing
   pub read : StepReads i input input'
   pub unread : LeavesUnread s partition partition'
   -- what it lays over the partition, and that it touches nothing else
-  pub told : IsTrue i.tells → Laid s.tells old.stage r old.walk new.walk
+  pub told : IsTrue i.models → Laid s.models old.stage r old.walk new.walk
       (take (i.given input' - i.given input) (i.remaining input)) (i.remaining input') (p.past partition)
       (p.past partition') (s.content partition) (s.content partition') (p.taken partition) (p.taken partition')
-  pub heads : IsTrue i.tells → Goes old.stage old.walk.phase
+  pub heads : IsTrue i.models → Goes old.stage old.walk.phase
       → Heads r old.walk new.walk (i.remaining input) (i.remaining input')
-  pub syncs : StepSyncs s.tells old.stage old.walk r (p.past partition) (p.past partition') (p.syncs partition)
+  pub syncs : StepSyncs s.models old.stage old.walk r (p.past partition) (p.past partition') (p.syncs partition)
       (p.syncs partition')
   -- it is too small only before the first chunk, and until then it is not called
   pub measures : Goes old.stage old.walk.phase → Measures r old.walk (s.size partition)

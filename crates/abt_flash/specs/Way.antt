@@ -11,7 +11,7 @@ use Rattle.abt_pieces.specs.Image.{Appended, IsPlainImage}
 use Rattle.abt_pieces.specs.NextPiece.{IsNext}
 use Rattle.abt_pieces.specs.declared.fault.PieceFault.{PieceFault}
 use Rattle.abt_pieces.specs.declared.outline.Piece.{Piece}
-use Rattle.abt_pieces.specs.declared.stage.Stage.{Stage}
+use Rattle.abt_pieces.specs.declared.stage.CutterStage.{CutterStage}
 use Rattle.std.proofs.Common.{arith}
 use Rattle.abt_placed.specs.Unfinished.{IsNoImage}
 use Rattle.abt_placed.specs.Whole.{read_of}
@@ -28,7 +28,7 @@ pub record WayCosts (one : ℕ) (a z : Devices) (m m' : Meter) : Type 0 where
 -- Whatever the source gave, the piece p was written behind what stood there: an image, the next one. The source had
 -- given d bytes before, and d' then.
 pub record WritesNext {R : Type 0} (g : images.Ghosts R) (runs : R) (limit : ℕ) (start start' : Cursor)
-    (made made' : ℕ) (st' : Stage) (d d' : ℕ) (old new : List ℕ) (m m' : Meter) (p : Piece) : Type 0 where
+    (made made' : ℕ) (st' : CutterStage) (d d' : ℕ) (old new : List ℕ) (m m' : Meter) (p : Piece) : Type 0 where
   pub image : Appended (IsPlainImage (g.size runs) (g.count runs)) old new
   pub piece : IsNext (g.count runs) limit start.block start'.block made made' st' p
   pub words : m'.turns.number ≤ m.turns.number + 8 * ((d' - d) + (length new - length old)) + 140

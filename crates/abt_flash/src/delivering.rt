@@ -4,7 +4,7 @@ ghost use Rattle.std.specs.Prelude.{◌≡◌, ◌<◌, ◌≤◌, ◌+◌, ◌-
 ghost use Rattle.std.specs.Prelude.{length, max, Ok, Err};
 ghost use Rattle.abt_sparse.specs.Runs.{segments};
 ghost use Rattle.abt_pieces.specs.Cutter.{ToldCutter};
-ghost use Rattle.abt_pieces.specs.declared.stage.Stage.{Stage};
+ghost use Rattle.abt_pieces.specs.declared.stage.CutterStage.{CutterStage};
 ghost use Rattle.abt_flash.specs.Devices.{counts};
 ghost use Rattle.abt_flash.specs.Delivering.{CountsTo};
 ghost use Rattle.abt_flash.specs.Delivering.{StaysMendable};
@@ -20,10 +20,10 @@ ghost use Rattle.abt_flash.specs.Devices.{spool_state, partition_state};
 use crate::answer::Delivered;
 use crate::piece::deliver_piece;
 use crate::way::Way;
+use abt_flash_faults::FlashFault;
 use abt_io::{Meter, Partition, Source, Spool, Window};
 use abt_pieces::{Cutter, PieceFault};
 use abt_runs::BlockRuns;
-use abt_flash_faults::FlashFault;
 
 /// Why a piece is not planned.
 fn not_planned(fault: PieceFault) -> FlashFault
@@ -82,28 +82,28 @@ pub(crate) fn plan_pieces<R: BlockRuns + Drop, S: Source>(
     w: &mut Window,
     m: &mut Meter,
 ) -> Result<(), FlashFault>
-    requires between { cutter.old.stage ≡ Stage.Between }
+    requires between { cutter.old.stage ≡ CutterStage.Between }
     requires first { cutter.old.made ≡ 0 }
     requires ready { ReadyCutter R.BlockRuns S.Source cutter.old.runs source.old cutter.old.limit cutter.old.made
         cutter.old.start cutter.old.stage }
     ensures runs { cutter.new.runs ≡ cutter.old.runs }
     ensures limit { cutter.new.limit ≡ cutter.old.limit }
-    ensures told { IsTrue S.tells → ToldCutter (R.place cutter.old.runs (S.content source.old))
+    ensures told { IsTrue S.models → ToldCutter (R.place cutter.old.runs (S.content source.old))
         (R.together cutter.old.runs (S.content source.old)) (R.size cutter.old.runs)
         (R.list cutter.old.runs (S.content source.old)) cutter.new.limit cutter.new.made cutter.new.start
         cutter.new.stage }
-    ensures planned { OnOk result ((cutter.new.stage ≡ Stage.Between) × (cutter.new.made ≡ before)) }
+    ensures planned { OnOk result ((cutter.new.stage ≡ CutterStage.Between) × (cutter.new.made ≡ before)) }
     ensures inside { OnOk result (0 < cutter.new.made → cutter.new.start.block < R.count cutter.old.runs) }
     ensures few { OnOk result (cutter.new.made ≤ max 1 (R.count cutter.old.runs)) }
-    ensures refused { IfErr result (λ e. PlanRefused e before S.tells (S.read_faults source.old)
+    ensures refused { IfErr result (λ e. PlanRefused e before S.models (S.read_faults source.old)
         (S.read_faults source.new)) }
-    ensures counted { IsTrue S.tells →
+    ensures counted { IsTrue S.models →
         IfErr result (λ e. CountsTo (Err e) before
         (length (segments cutter.old.limit (R.size cutter.old.runs) (R.list cutter.old.runs (S.content source.old))))) }
     ensures source { OnlyReads result S.Source source.old source.new }
     ensures charged { OnOk result (S.given source.new + R.charge cutter.old.runs cutter.old.start
         ≤ S.given source.old + R.charge cutter.old.runs cutter.new.start + before * (48 + R.one cutter.old.runs)) }
-    ensures costs { PlanningCosts S.tells
+    ensures costs { PlanningCosts S.models
         (length (segments cutter.old.limit (R.size cutter.old.runs) (R.list cutter.old.runs (S.content source.old))))
         before (R.one cutter.old.runs) result
         (S.reads source.old) (S.given source.old) (S.reads source.new) (S.given source.new) m.old m.new }
@@ -143,30 +143,30 @@ pub(crate) fn deliver_rest<W: Way<R, L>, R: BlockRuns + Drop, S: Source, L: Spoo
     requires capacity { cutter.old.limit ≤ L.size spool.old }
     requires room { R.count cutter.old.runs * R.size cutter.old.runs ≤ P.size partition.old }
     // What is answered.
-    ensures fails { RestFails S.tells L.tells cutter.old.made result
+    ensures fails { RestFails S.models L.models cutter.old.made result
         (counts S.Source L.Input L.Output L.Spool.own P.Partition.own source.old spool.old partition.old)
         (counts S.Source L.Input L.Output L.Spool.own P.Partition.own source.new spool.new partition.new) }
     ensures some { IfOk result (λ d. 0 < d.pieces) }
     ensures few { begun cutter.old.made result ≤ max 1 (R.count cutter.old.runs) }
-    ensures counted { IsTrue S.tells →
+    ensures counted { IsTrue S.models →
         CountsTo result cutter.old.made
         (length (segments cutter.old.limit (R.size cutter.old.runs) (R.list cutter.old.runs (S.content source.old)))) }
     ensures source { OnlyReads result S.Source source.old source.new }
-    ensures spool { GivesPieces W.is_forward S.tells L.tells
+    ensures spool { GivesPieces W.is_forward S.models L.models
         (record { size = R.size cutter.old.runs; blocks = R.list cutter.old.runs (S.content source.old) })
         cutter.old.limit cutter.old.made result
         (spool_state L.Input L.Output L.Spool.own spool.old) (spool_state L.Input L.Output L.Spool.own spool.new) }
-    ensures partition { LaysRest S.tells L.tells P.tells (R.size cutter.old.runs) cutter.old.limit
+    ensures partition { LaysRest S.models L.models P.models (R.size cutter.old.runs) cutter.old.limit
         (R.list cutter.old.runs (S.content source.old)) cutter.old.start.block cutter.old.made result
         (partition_state P.Source P.Partition.own partition.old)
         (partition_state P.Source P.Partition.own partition.new) }
-    ensures stays { IsTrue S.tells → IsTrue L.tells → IsTrue P.tells →
+    ensures stays { IsTrue S.models → IsTrue L.models → IsTrue P.models →
         StaysMendable cutter.old.limit (R.size cutter.old.runs) (R.list cutter.old.runs (S.content source.old))
         cutter.old.made (P.past partition.old) (P.past partition.new) (P.content partition.old)
         (P.content partition.new) }
     ensures long { IfOk result (λ d. length (L.written spool.new)
         ≤ length (L.written spool.old) + R.most_taken cutter.old.runs + 80 * d.pieces) }
-    ensures spent { IsTrue S.tells →
+    ensures spent { IsTrue S.models →
         IfOk result (λ d. S.given source.new + W.before cutter.old.runs cutter.old.start + W.each cutter.old.runs
         ≤ S.given source.old + W.all cutter.old.runs + W.last cutter.old.runs
         + d.pieces * W.each cutter.old.runs) }

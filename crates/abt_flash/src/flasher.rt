@@ -10,18 +10,18 @@ ghost use Rattle.abt_flash.specs.Stepping.{FlashStep};
 ghost use Rattle.abt_chunks.specs.Expanding.{answer_by};
 ghost use Rattle.abt_flash_faults.specs.Fault.{fault_of_sparse};
 
-use crate::laying::lay_part;
-use crate::stage::Stage;
-use abt_chunks::{Part, Phase, Progress, Walk};
-use abt_io::{Input, Meter, Partition, WINDOW, Window};
+use crate::stage::FlashStage;
+use crate::write_part::lay_part;
+use abt_chunks::{MachineProgress, Part, Phase, Walk};
 use abt_flash_faults::{FlashFault, sparse_fault};
+use abt_io::{Input, Meter, Partition, WINDOW, Window};
 
 /// Writes the raw and fill blocks of a sparse image to their places on a partition, and leaves the blocks that do not
 /// matter as they are. It holds no bytes of the image: each step writes what it read.
 #[derive(Drop)]
 pub struct Flasher {
     pub walk: Walk,
-    pub stage: Stage,
+    pub stage: FlashStage,
     /// How many bytes were written, of which no image has more than fit here.
     pub laid: u64,
 }
@@ -67,28 +67,28 @@ fn most_asked() -> usize
 
 /// What a step answers once its part has been laid.
 #[inline(always)]
-fn answer(part: Part) -> Result<Progress, FlashFault>
+fn answer(part: Part) -> Result<MachineProgress, FlashFault>
     ensures { result ≡ answer_by fault_of_sparse part }
 {
     match part {
-        Part::End => Ok(Progress::Done),
+        Part::End => Ok(MachineProgress::Done),
         Part::Fault(fault) => Err(sparse_fault(fault)),
-        Part::Raw(_) => Ok(Progress::More),
-        Part::Words(_, _) => Ok(Progress::More),
-        Part::Skip(_) => Ok(Progress::More),
-        Part::Nothing => Ok(Progress::More),
+        Part::Raw(_) => Ok(MachineProgress::More),
+        Part::Words(_, _) => Ok(MachineProgress::More),
+        Part::Skip(_) => Ok(MachineProgress::More),
+        Part::Nothing => Ok(MachineProgress::More),
     }
 }
 
 /// Where that leaves the flasher.
 #[inline(always)]
-fn stage_behind(answer: Result<Progress, FlashFault>) -> Stage
+fn stage_behind(answer: Result<MachineProgress, FlashFault>) -> FlashStage
     ensures { result ≡ stage_of answer }
 {
     match answer {
-        Ok(Progress::More) => Stage::Going,
-        Ok(Progress::Done) => Stage::Done,
-        Err(fault) => Stage::Failed(fault),
+        Ok(MachineProgress::More) => FlashStage::Going,
+        Ok(MachineProgress::Done) => FlashStage::Done,
+        Err(fault) => FlashStage::Failed(fault),
     }
 }
 
@@ -96,12 +96,12 @@ impl Flasher {
     /// A flasher that has read nothing.
     pub fn open() -> Flasher
         ensures walk { result.walk.phase ≡ Phase.Header }
-        ensures stage { result.stage ≡ Stage.Going }
+        ensures stage { result.stage ≡ FlashStage.Going }
         ensures laid { result.laid ≡ 0 }
     {
         Flasher {
             walk: Walk::new(),
-            stage: Stage::Going,
+            stage: FlashStage::Going,
             laid: 0,
         }
     }
@@ -158,8 +158,8 @@ impl Flasher {
         partition: &mut P,
         w: &mut Window,
         m: &mut Meter,
-    ) -> Result<Progress, FlashFault>
-        requires going { self.old.stage ≡ Stage.Going }
+    ) -> Result<MachineProgress, FlashFault>
+        requires going { self.old.stage ≡ FlashStage.Going }
         ensures stepped { FlashStep I.Input P.Source P.Partition.own result self.old self.new input.old input.new
             partition.old partition.new m.old m.new }
     {
@@ -167,7 +167,7 @@ impl Flasher {
         if self.is_short(partition.length()) {
             m.close_step(0);
             let fault = FlashFault::PartitionTooSmall { need };
-            self.stage = Stage::Failed(fault);
+            self.stage = FlashStage::Failed(fault);
             return Err(fault);
         }
         let at = self.walk.place();
@@ -183,7 +183,7 @@ impl Flasher {
                 answer
             }
             Err(fault) => {
-                self.stage = Stage::Failed(fault);
+                self.stage = FlashStage::Failed(fault);
                 Err(fault)
             }
         }
@@ -200,22 +200,22 @@ impl Flasher {
         partition: &mut P,
         w: &mut Window,
         m: &mut Meter,
-    ) -> Result<Progress, FlashFault>
+    ) -> Result<MachineProgress, FlashFault>
         ensures stepped { FlashStep I.Input P.Source P.Partition.own result self.old self.new input.old input.new
             partition.old partition.new m.old m.new }
         ensures again { IsOver self.old.stage →
             (self.new ≡ self.old) × (input.new ≡ input.old) × (partition.new ≡ partition.old) }
     {
         match self.stage {
-            Stage::Done => {
+            FlashStage::Done => {
                 m.close_step(0);
-                Ok(Progress::Done)
+                Ok(MachineProgress::Done)
             }
-            Stage::Failed(fault) => {
+            FlashStage::Failed(fault) => {
                 m.close_step(0);
                 Err(fault)
             }
-            Stage::Going => self.go_on(input, partition, w, m),
+            FlashStage::Going => self.go_on(input, partition, w, m),
         }
     }
 }

@@ -13,9 +13,9 @@ ghost use Rattle.abt_flash.specs.Devices.{LeavesUnread};
 
 use crate::flasher::Flasher;
 use crate::stage::Flashed;
-use abt_chunks::Progress;
-use abt_io::{Input, Meter, Partition, Window};
+use abt_chunks::MachineProgress;
 use abt_flash_faults::FlashFault;
+use abt_io::{Input, Meter, Partition, Window};
 
 /// Writes the raw and fill blocks of the image at the front of the input to their places on the partition, each once,
 /// leaves all other bytes as they are, and syncs. It reads no further than the image, and of the partition nothing. An
@@ -28,22 +28,22 @@ pub fn flash<I: Input, P: Partition>(
     m: &mut Meter,
 ) -> Result<Flashed, FlashFault>
     // What was read.
-    ensures read { Reads I.tells (I.given input.old) (I.given input.new) (I.remaining input.old)
+    ensures read { Reads I.models (I.given input.old) (I.given input.new) (I.remaining input.old)
         (I.remaining input.new) }
     // An image that fits is flashed, and anything else is refused with its own fault.
-    ensures flashes { IsTrue I.tells → Flashes result (P.size partition.old) (P.taken partition.old)
+    ensures flashes { IsTrue I.models → Flashes result (P.size partition.old) (P.taken partition.old)
         (P.taken partition.new) (I.remaining input.old) (I.remaining input.new) }
     // What the partition holds, and that no other byte was touched at any moment.
-    ensures holds { IsTrue I.tells → IsTrue P.tells →
+    ensures holds { IsTrue I.models → IsTrue P.models →
         Holds result (P.content partition.old) (P.content partition.new) (I.remaining input.old) }
-    ensures touches { IsTrue I.tells → IsTrue P.tells → TouchesOnly (given (outcome (I.remaining input.old)))
+    ensures touches { IsTrue I.models → IsTrue P.models → TouchesOnly (given (outcome (I.remaining input.old)))
         (P.past partition.old) (P.past partition.new) (P.content partition.old) (P.content partition.new) }
     // Of the bytes that the image writes none but those that the bytes read so far give.
-    ensures seen { IsTrue I.tells → IsTrue P.tells →
+    ensures seen { IsTrue I.models → IsTrue P.models →
         Keeps (writes (given (outcome (take (I.given input.new - I.given input.old) (I.remaining input.old)))))
         (moment_of (P.past partition.old) (P.content partition.old))
         (moment_of (P.past partition.new) (P.content partition.new)) }
-    ensures syncs { Syncs P.tells result (P.past partition.old) (P.past partition.new)
+    ensures syncs { Syncs P.models result (P.past partition.old) (P.past partition.new)
         (P.syncs partition.old) (P.syncs partition.new) }
     // One that is too small is not called.
     ensures untouched { OnShort result (partition.new ≡ partition.old) }
@@ -60,8 +60,8 @@ pub fn flash<I: Input, P: Partition>(
     'steps: loop {
         m.tick();
         match machine.step(input, partition, w, m) {
-            Ok(Progress::More) => {}
-            Ok(Progress::Done) => {
+            Ok(MachineProgress::More) => {}
+            Ok(MachineProgress::Done) => {
                 return Ok(Flashed {
                     blocks: machine.blocks(),
                 });

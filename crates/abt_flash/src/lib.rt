@@ -9,15 +9,15 @@
 //!
 //! | file | what is in it |
 //! |---|---|
-//! | `stage.rt` | `Stage`, and what a flash answers |
-//! | `laying.rt` | what a part of an image asks of the partition, and how that is done |
+//! | `stage.rt` | `FlashStage`, and what a flash answers |
+//! | `write_part.rt` | what a part of an image asks of the partition, and how that is done |
 //! | `flasher.rt` | `Flasher`, flashing in steps |
 //! | `flashing.rt` | `flash` |
 //! | `answer.rt` | `Delivered` |
 //! | `way.rt` | how a piece is written to the spool: forward, or its headers last |
 //! | `piece.rt` | one piece: cleared, written to the spool, flashed from there |
 //! | `delivering.rt` | the pieces that are only planned, and all others |
-//! | `opened.rt` | `deliver_runs`: an opened image |
+//! | `deliver_opened.rt` | `deliver_runs`: an opened image |
 //! | `sparse.rt`, `raw.rt` | `deliver`, `resume`, `deliver_raw`, `resume_raw`: sparse images, and raw ones |
 //! | `raw_at.rt` | `deliver_raw_at`, `resume_raw_at`: raw images in one pass, by a spool that can be written over |
 //!
@@ -29,23 +29,23 @@
 #![tactic(auto)]
 
 mod answer;
+mod deliver_opened;
 mod delivering;
 mod flasher;
 mod flashing;
-mod laying;
-mod opened;
 mod piece;
 mod raw;
 mod raw_at;
 mod sparse;
 mod stage;
 mod way;
+mod write_part;
 
 pub use answer::Delivered;
+pub use deliver_opened::deliver_runs;
 pub use flasher::Flasher;
 pub use flashing::flash;
-pub use opened::deliver_runs;
 pub use raw::{deliver_raw, resume_raw};
 pub use raw_at::{deliver_raw_at, resume_raw_at};
 pub use sparse::{deliver, resume};
-pub use stage::{Flashed, Stage};
+pub use stage::{FlashStage, Flashed};

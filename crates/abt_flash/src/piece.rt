@@ -6,7 +6,7 @@ ghost use Rattle.abt_pieces.specs.Cutter.{ToldCutter, piece_words};
 ghost use Rattle.abt_pieces.specs.Gather.{frame};
 ghost use Rattle.abt_pieces.specs.Outline.{piece_at};
 ghost use Rattle.abt_pieces.specs.Plan.{FirstPiece};
-ghost use Rattle.abt_pieces.specs.declared.stage.Stage.{Stage};
+ghost use Rattle.abt_pieces.specs.declared.stage.CutterStage.{CutterStage};
 ghost use Rattle.abt_flash.specs.Devices.{counts};
 ghost use Rattle.abt_flash.specs.Delivering.{OnFlashed};
 ghost use Rattle.abt_flash.specs.Going.{GoesBehind, blocks_at};
@@ -18,10 +18,10 @@ ghost use Rattle.abt_flash.specs.Devices.{spool_state, partition_state};
 
 use crate::flashing::flash;
 use crate::way::Way;
+use abt_flash_faults::{Cause, FlashFault};
 use abt_io::{DeviceFault, Meter, Partition, Source, Spool, Window};
 use abt_pieces::{Cutter, PieceFault};
 use abt_runs::BlockRuns;
-use abt_flash_faults::{Cause, FlashFault};
 
 /// Empties the spool for the next piece.
 fn clear<L: Spool>(spool: &mut L) -> Result<(), Cause>
@@ -91,34 +91,34 @@ pub(crate) fn deliver_piece<W: Way<R, L>, R: BlockRuns + Drop, S: Source, L: Spo
     w: &mut Window,
     m: &mut Meter,
 ) -> Result<(), Cause>
-    requires between { cutter.old.stage ≡ Stage.Between }
+    requires between { cutter.old.stage ≡ CutterStage.Between }
     requires ready { ReadyCutter R.BlockRuns S.Source cutter.old.runs source.old cutter.old.limit cutter.old.made
         cutter.old.start cutter.old.stage }
     requires capacity { cutter.old.limit ≤ L.size spool.old }
     requires room { R.count cutter.old.runs * R.size cutter.old.runs ≤ P.size partition.old }
     // The cutter goes behind the piece.
     ensures same { (cutter.new.runs ≡ cutter.old.runs) × (cutter.new.limit ≡ cutter.old.limit) }
-    ensures told { IsTrue S.tells → ToldCutter (R.place cutter.old.runs (S.content source.old))
+    ensures told { IsTrue S.models → ToldCutter (R.place cutter.old.runs (S.content source.old))
         (R.together cutter.old.runs (S.content source.old)) (R.size cutter.old.runs)
         (R.list cutter.old.runs (S.content source.old)) cutter.new.limit cutter.new.made cutter.new.start
         cutter.new.stage }
     ensures behind { OnOk result (GoesBehind (R.count cutter.old.runs) cutter.old.made cutter.new.made
         cutter.old.start.block cutter.new.start.block cutter.new.stage) }
-    ensures greatest_end { IsTrue S.tells →
+    ensures greatest_end { IsTrue S.models →
         OnFlashed result (FirstPiece (R.size cutter.old.runs) (R.list cutter.old.runs (S.content source.old))
         cutter.old.limit cutter.old.start.block cutter.new.start.block) }
     ensures source { OnlyReads result S.Source source.old source.new }
-    ensures spool { GivesPiece W.is_forward S.tells L.tells (R.size cutter.old.runs) cutter.old.limit
+    ensures spool { GivesPiece W.is_forward S.models L.models (R.size cutter.old.runs) cutter.old.limit
         (piece_at (R.size cutter.old.runs) cutter.old.limit (R.list cutter.old.runs (S.content source.old))
         cutter.old.start.block) result
         (spool_state L.Input L.Output L.Spool.own spool.old) (spool_state L.Input L.Output L.Spool.own spool.new) }
-    ensures partition { LaysPiece S.tells L.tells P.tells (R.size cutter.old.runs)
+    ensures partition { LaysPiece S.models L.models P.models (R.size cutter.old.runs)
         (frame (R.list cutter.old.runs (S.content source.old)) cutter.old.start.block cutter.new.start.block)
         (blocks_at cutter.old.limit (R.size cutter.old.runs) (R.list cutter.old.runs (S.content source.old))
         cutter.old.start.block) result
         (partition_state P.Source P.Partition.own partition.old)
         (partition_state P.Source P.Partition.own partition.new) }
-    ensures takes { PieceTakes S.tells (R.taken cutter.old.runs) (W.before cutter.old.runs) (R.count cutter.old.runs)
+    ensures takes { PieceTakes S.models (R.taken cutter.old.runs) (W.before cutter.old.runs) (R.count cutter.old.runs)
         (W.each cutter.old.runs) (W.last cutter.old.runs) cutter.old.start cutter.new.start result
         (counts S.Source L.Input L.Output L.Spool.own P.Partition.own source.old spool.old partition.old)
         (counts S.Source L.Input L.Output L.Spool.own P.Partition.own source.new spool.new partition.new) }
@@ -126,7 +126,7 @@ pub(crate) fn deliver_piece<W: Way<R, L>, R: BlockRuns + Drop, S: Source, L: Spo
         (piece_words (R.one cutter.old.runs) (R.count cutter.old.runs) cutter.new.start.block) result
         (counts S.Source L.Input L.Output L.Spool.own P.Partition.own source.old spool.old partition.old)
         (counts S.Source L.Input L.Output L.Spool.own P.Partition.own source.new spool.new partition.new) m.old m.new }
-    ensures fails { PieceFails S.tells L.tells result
+    ensures fails { PieceFails S.models L.models result
         (counts S.Source L.Input L.Output L.Spool.own P.Partition.own source.old spool.old partition.old)
         (counts S.Source L.Input L.Output L.Spool.own P.Partition.own source.new spool.new partition.new) }
 {

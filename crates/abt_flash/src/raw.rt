@@ -7,13 +7,13 @@ ghost use Rattle.abt_flash.specs.Raw.{RawDelivered};
 ghost use Rattle.abt_flash.specs.Way.{ReadForRaw};
 
 use crate::answer::Delivered;
+use crate::deliver_opened::deliver_behind;
 use crate::delivering::pieces_before;
-use crate::opened::deliver_behind;
 use crate::sparse::not_read;
 use crate::way::{Forward, Way};
+use abt_flash_faults::FlashFault;
 use abt_io::{Meter, Partition, Source, Spool, Window};
 use abt_runs::RawRuns;
-use abt_flash_faults::FlashFault;
 
 /// Delivers all pieces of a raw image in blocks of this size but so many of the first, which are only planned.
 pub(crate) fn raw_behind<W: Way<RawRuns, L>, S: Source, L: Spool, P: Partition>(
@@ -31,11 +31,11 @@ pub(crate) fn raw_behind<W: Way<RawRuns, L>, S: Source, L: Spool, P: Partition>(
     ensures delivered { RawDelivered W.is_forward b limit before
         S.Source L.Input L.Output L.Spool.own P.Source P.Partition.own result source.old source.new spool.old
         spool.new partition.old partition.new m.old m.new }
-    ensures reads { IsTrue S.tells →
+    ensures reads { IsTrue S.models →
         IfOk result (λ d. ReadForRaw W.before W.each W.last W.all b (length (S.content source.old))
         (blocks_in_first limit b (classify b (S.content source.old)) before) before d.pieces (S.given source.old)
         (S.given source.new)) }
-    ensures few { IsTrue S.tells →
+    ensures few { IsTrue S.models →
         IfOk result (λ d. before + d.pieces ≤ max 1 (length (classify b (S.content source.old)))) }
 {
     match RawRuns::open(source, b) {
@@ -59,7 +59,7 @@ pub fn deliver_raw<S: Source, L: Spool, P: Partition>(
     ensures delivered { RawDelivered true b limit 0
         S.Source L.Input L.Output L.Spool.own P.Source P.Partition.own result source.old source.new spool.old
         spool.new partition.old partition.new m.old m.new }
-    ensures reads { IsTrue S.tells →
+    ensures reads { IsTrue S.models →
         IfOk result (λ d. S.given source.new ≤ S.given source.old + 8 * length (S.content source.old)
         + 128 * (d.pieces + 1)) }
 {
@@ -82,7 +82,7 @@ pub fn resume_raw<S: Source, L: Spool, P: Partition>(
     ensures delivered { RawDelivered true b limit (from_piece - 1)
         S.Source L.Input L.Output L.Spool.own P.Source P.Partition.own result source.old source.new spool.old
         spool.new partition.old partition.new m.old m.new }
-    ensures reads { IsTrue S.tells →
+    ensures reads { IsTrue S.models →
         IfOk result (λ d. S.given source.new ≤ S.given source.old + 8 * length (S.content source.old)
         + 128 * ((from_piece - 1) + d.pieces + 1)) }
 {

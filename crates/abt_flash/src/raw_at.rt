@@ -9,8 +9,8 @@ use crate::answer::Delivered;
 use crate::delivering::pieces_before;
 use crate::raw::raw_behind;
 use crate::way::Late;
-use abt_io::{Meter, Overwrite, Partition, Source, Spool, Window};
 use abt_flash_faults::FlashFault;
+use abt_io::{Meter, Overwrite, Partition, Source, Spool, Window};
 
 /// Delivers a raw image as `deliver_raw` does, by a spool that can be written over, and reads it once: the bytes of the
 /// image, and at most a window more for each piece.
@@ -30,7 +30,7 @@ pub fn deliver_raw_at<S: Source, L: Spool + Overwrite, P: Partition>(
     ensures delivered { RawDelivered false b limit 0
         S.Source L.Input L.Output L.Spool.own P.Source P.Partition.own result source.old source.new spool.old
         spool.new partition.old partition.new m.old m.new }
-    ensures reads { IsTrue S.tells →
+    ensures reads { IsTrue S.models →
         IfOk result (λ d. S.given source.new ≤ S.given source.old + length (S.content source.old)
         + 65536 * d.pieces) }
 {
@@ -54,7 +54,7 @@ pub fn resume_raw_at<S: Source, L: Spool + Overwrite, P: Partition>(
     ensures delivered { RawDelivered false b limit (from_piece - 1)
         S.Source L.Input L.Output L.Spool.own P.Source P.Partition.own result source.old source.new spool.old
         spool.new partition.old partition.new m.old m.new }
-    ensures reads { IsTrue S.tells →
+    ensures reads { IsTrue S.models →
         IfOk result (λ d. S.given source.new ≤ S.given source.old + length (S.content source.old) + 65536 * d.pieces
         + b * blocks_in_first limit b (classify b (S.content source.old)) (from_piece - 1)
         + (from_piece - 1) * (48 + b)) }

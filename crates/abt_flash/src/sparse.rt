@@ -5,12 +5,12 @@ ghost use Rattle.abt_flash.specs.Causes.{run_fault_of};
 ghost use Rattle.abt_flash.specs.Sparse.{SparseDelivered, image_length};
 
 use crate::answer::Delivered;
+use crate::deliver_opened::deliver_behind;
 use crate::delivering::pieces_before;
-use crate::opened::deliver_behind;
 use crate::way::Forward;
+use abt_flash_faults::FlashFault;
 use abt_io::{Meter, Partition, Source, Spool, Window};
 use abt_runs::{RunFault, SparseRuns};
-use abt_flash_faults::FlashFault;
 
 /// Why an image is not opened.
 pub(crate) fn not_read(fault: RunFault) -> FlashFault
@@ -39,7 +39,7 @@ pub(crate) fn sparse_behind<S: Source, L: Spool, P: Partition>(
     ensures delivered { SparseDelivered limit before
         S.Source L.Input L.Output L.Spool.own P.Source P.Partition.own result source.old source.new spool.old
         spool.new partition.old partition.new m.old m.new }
-    ensures reads { IsTrue S.tells →
+    ensures reads { IsTrue S.models →
         IfOk result (λ d. S.given source.new ≤ S.given source.old + 8 * image_length (S.content source.old)
         + 128 * (before + d.pieces + 1)) }
 {
@@ -73,7 +73,7 @@ pub fn deliver<S: Source, L: Spool, P: Partition>(
     ensures delivered { SparseDelivered limit 0
         S.Source L.Input L.Output L.Spool.own P.Source P.Partition.own result source.old source.new spool.old
         spool.new partition.old partition.new m.old m.new }
-    ensures reads { IsTrue S.tells →
+    ensures reads { IsTrue S.models →
         IfOk result (λ d. S.given source.new ≤ S.given source.old + 8 * image_length (S.content source.old)
         + 128 * (d.pieces + 1)) }
 {
@@ -97,7 +97,7 @@ pub fn resume<S: Source, L: Spool, P: Partition>(
     ensures delivered { SparseDelivered limit (from_piece - 1)
         S.Source L.Input L.Output L.Spool.own P.Source P.Partition.own result source.old source.new spool.old
         spool.new partition.old partition.new m.old m.new }
-    ensures reads { IsTrue S.tells →
+    ensures reads { IsTrue S.models →
         IfOk result (λ d. S.given source.new ≤ S.given source.old + 8 * image_length (S.content source.old)
         + 128 * ((from_piece - 1) + d.pieces + 1)) }
 {

@@ -4,7 +4,7 @@ use abt_flash_faults::FlashFault;
 
 /// Where a flasher stands.
 #[derive(Clone, Copy, Debug, PartialEq, Eq, Drop)]
-pub enum Stage {
+pub enum FlashStage {
     /// The image is read and written.
     Going,
     /// It has been written and synced.

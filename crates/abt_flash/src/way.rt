@@ -9,7 +9,7 @@ ghost use Rattle.abt_pieces.specs.Fault.{CutCause, full_cut};
 ghost use Rattle.abt_pieces.specs.NextPiece.{LaidNext, SameCutter};
 ghost use Rattle.abt_pieces.specs.Outline.{piece_at};
 ghost use Rattle.abt_pieces.specs.SpentStage.{all_passes};
-ghost use Rattle.abt_pieces.specs.declared.stage.Stage.{Stage};
+ghost use Rattle.abt_pieces.specs.declared.stage.CutterStage.{CutterStage};
 ghost use Rattle.abt_placed.specs.Whole.{read_of};
 ghost use Rattle.abt_flash.specs.Delivering.{Begins};
 ghost use Rattle.abt_flash.specs.Way.{GrowsLate, WayCosts, forward_bounded, late_bounded};
@@ -48,12 +48,12 @@ pub(crate) trait Way<R: BlockRuns + Drop, L: Spool> {
         w: &mut Window,
         m: &mut Meter,
     ) -> Result<Piece, PieceFault>
-        requires between { cutter.old.stage ≡ Stage.Between }
+        requires between { cutter.old.stage ≡ CutterStage.Between }
         requires ready { ReadyCutter R.BlockRuns S.Source cutter.old.runs source.old cutter.old.limit cutter.old.made
             cutter.old.start cutter.old.stage }
         ensures cutter { SameCutter cutter.old.runs cutter.new.runs cutter.old.limit cutter.new.limit
             cutter.new.stage }
-        ensures told { IsTrue S.tells → ToldCutter (R.place cutter.old.runs (S.content source.old))
+        ensures told { IsTrue S.models → ToldCutter (R.place cutter.old.runs (S.content source.old))
             (R.together cutter.old.runs (S.content source.old)) (R.size cutter.old.runs)
             (R.list cutter.old.runs (S.content source.old)) cutter.new.limit cutter.new.made cutter.new.start
             cutter.new.stage }
@@ -61,25 +61,25 @@ pub(crate) trait Way<R: BlockRuns + Drop, L: Spool> {
         ensures writes { OnlyWrites result (full_cut result) L.Output spool.old spool.new }
         // What stands in the spool, and the piece that it is told to be.
         ensures within { length (L.written spool.new) ≤ length (L.written spool.old) + cutter.old.limit }
-        ensures begins { IsTrue is_forward → IsTrue S.tells → Begins (L.written spool.new)
+        ensures begins { IsTrue is_forward → IsTrue S.models → Begins (L.written spool.new)
             (L.written spool.old ++ piece_at (R.size cutter.old.runs) cutter.old.limit
             (R.list cutter.old.runs (S.content source.old)) cutter.old.start.block) }
         ensures late { is_forward ≡ false → GrowsLate result (L.written spool.old) (L.written spool.new) }
         ensures made { IfOk result (λ p. WritesNext R.BlockRuns cutter.old.runs cutter.old.limit cutter.old.start
             cutter.new.start cutter.old.made cutter.new.made cutter.new.stage (S.given source.old) (S.given source.new)
             (L.written spool.old) (L.written spool.new) m.old m.new p) }
-        ensures laid { IsTrue S.tells → IfOk result (λ p. LaidNext (R.size cutter.old.runs) cutter.old.limit
+        ensures laid { IsTrue S.models → IfOk result (λ p. LaidNext (R.size cutter.old.runs) cutter.old.limit
             (R.list cutter.old.runs (S.content source.old)) cutter.old.start.block p (L.written spool.old)
             (L.written spool.new)) }
         // What it costs, and what has failed.
         ensures costs { WayCosts (R.one cutter.old.runs) (devices S.Source L.Output source.old spool.old)
             (devices S.Source L.Output source.new spool.new) m.old m.new }
-        ensures spent { IsTrue S.tells → IfOk result (λ p. WaySpent (before cutter.old.runs) (R.count cutter.old.runs)
+        ensures spent { IsTrue S.models → IfOk result (λ p. WaySpent (before cutter.old.runs) (R.count cutter.old.runs)
             (each cutter.old.runs) (last cutter.old.runs) cutter.old.start cutter.new.start (S.given source.old)
             (S.given source.new)) }
         ensures full { full_cut result ≡ 1 → IsTrue (L.is_full spool.new) ×
             (length (L.written spool.new) < length (L.written spool.old) + cutter.old.limit) }
-        ensures cause { IfErr result (λ e. CutCause e S.tells (S.read_faults source.old) (S.read_faults source.new)
+        ensures cause { IfErr result (λ e. CutCause e S.models (S.read_faults source.old) (S.read_faults source.new)
             (L.write_faults spool.old) (L.write_faults spool.new)) };
 
     /// What is read for a part of the image is no more than for all of it.

@@ -14,7 +14,7 @@ use Rattle.abt_headers.specs.declared.boot.BootHeader.TheVariants.{V0, V1, V2, V
 use Rattle.abt_headers.specs.declared.sections.Section.{Section}
 use Rattle.abt_headers.specs.declared.sections.Section.TheVariants.{Kernel, Ramdisk, Second, RecoveryDtbo, Dtb}
 use Rattle.abt_headers.specs.declared.sections.Section.TheVariants.{Signature}
-use Rattle.abt_headers.specs.declared.sections.Place.{Place}
+use Rattle.abt_headers.specs.declared.sections.SectionPlace.{SectionPlace}
 use Rattle.abt_headers.specs.Fault.{needing, mapped}
 use Rattle.abt_headers.specs.Field.{number_at, part_at, joined_fields}
 use Rattle.abt_headers.specs.Page.{page_bytes, page_at, pages}
@@ -161,5 +161,5 @@ boot_sections (V3 f) = (Kernel, f.kernel_size) ∷ (Ramdisk, f.ramdisk_size) ∷
 boot_sections (V4 f signature) = (Kernel, f.kernel_size) ∷ (Ramdisk, f.ramdisk_size) ∷ (Signature, signature) ∷ []
 
 -- from the first page boundary behind the header on
-abbrev pub boot_places : BootHeader → List Place
+abbrev pub boot_places : BootHeader → List SectionPlace
 boot_places h = places_from (boot_page h) (pages (boot_size h) (boot_page h)) (boot_sections h)

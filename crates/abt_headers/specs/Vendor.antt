@@ -12,7 +12,7 @@ use Rattle.abt_headers.specs.declared.vendor.VendorHeader.{VendorHeader}
 use Rattle.abt_headers.specs.declared.vendor.VendorHeader.TheVariants.{V3, V4}
 use Rattle.abt_headers.specs.declared.sections.Section.{Section}
 use Rattle.abt_headers.specs.declared.sections.Section.TheVariants.{VendorRamdisk, Dtb, Table, Bootconfig}
-use Rattle.abt_headers.specs.declared.sections.Place.{Place}
+use Rattle.abt_headers.specs.declared.sections.SectionPlace.{SectionPlace}
 use Rattle.abt_headers.specs.Fault.{needing, mapped, both}
 use Rattle.abt_headers.specs.Field.{number_at, part_at, joined_fields}
 use Rattle.abt_headers.specs.Page.{page_bytes, page_at, pages}
@@ -154,5 +154,5 @@ abbrev pub vendor_sections : Vendor → List (Section × ℕ)
 vendor_sections h = vendor_sections_with h.front h.tail
 
 -- from the first page boundary behind the header on
-abbrev pub vendor_places : Vendor → List Place
+abbrev pub vendor_places : Vendor → List SectionPlace
 vendor_places h = places_from (vendor_page h) (pages (vendor_size h) (vendor_page h)) (vendor_sections h)

@@ -44,7 +44,7 @@ pub use entry::{RamdiskEntry, entry_again, entry_long};
 pub use fault::HeaderFault;
 pub use os::{OsParts, OsVersion};
 pub use page::PageSize;
-pub use sections::{Place, Section, Sections, pages};
+pub use sections::{Section, SectionPlace, Sections, pages};
 pub use vendor::{
     VENDOR_MAGIC, VendorFront, VendorHeader, vendor_again, vendor_front_decides, vendor_long,
 };

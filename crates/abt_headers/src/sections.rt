@@ -74,7 +74,7 @@ impl fmt::Display for Section {
 
 /// Where a section stands in an image.
 #[derive(Clone, Copy, Debug, PartialEq, Eq)]
-pub struct Place {
+pub struct SectionPlace {
     /// What stands there.
     pub kind: Section,
 
@@ -88,15 +88,15 @@ pub struct Place {
 /// The sections of an image in their order, empty ones too: at most five.
 #[derive(Debug, Drop)]
 pub struct Sections {
-    places: [Place; 5],
+    places: [SectionPlace; 5],
     count: usize,
 }
 
 impl Model for Sections {
     ghost use Rattle.std.specs.Prelude.{◌≡◌, ◌≤◌, List, length, take};
-    ghost use Rattle.abt_headers.specs.declared.sections.Place.{Place};
+    ghost use Rattle.abt_headers.specs.declared.sections.SectionPlace.{SectionPlace};
 
-    ghost Value = { List Place };
+    ghost Value = { List SectionPlace };
 
     ghost view = { λ s. take s.count s.places };
 
@@ -112,7 +112,7 @@ impl Sections {
     }
 
     /// Where section `i` stands, counted from 0.
-    pub fn place(&self, i: usize) -> Place
+    pub fn place(&self, i: usize) -> SectionPlace
         requires { i < length self.now }
         ensures { result ≡ slice_index_or self.now i result }
     {
@@ -142,13 +142,13 @@ fn pages_before(page: u32, before: u64, size: u32) -> u64
 }
 
 /// Where a section stands that is behind so many pages.
-fn place_behind(page: u32, before: u64, section: (Section, u32)) -> Place
+fn place_behind(page: u32, before: u64, section: (Section, u32)) -> SectionPlace
     requires high { page ≤ 131072 }
     requires few { before ≤ 8388614 }
     ensures value { result ≡ section_place page before section }
     ensures low { result.at + result.size < 2 ^ 63 }
 {
-    Place {
+    SectionPlace {
         kind: section.0,
         at: page as u64 * before,
         size: section.1,
@@ -157,7 +157,7 @@ fn place_behind(page: u32, before: u64, section: (Section, u32)) -> Place
 
 /// The first five places of sections of these sizes, one behind another, each from a page boundary on and the first
 /// behind `first` pages.
-fn five_places(page: u32, first: u64, sections: &[(Section, u32); 5]) -> [Place; 5]
+fn five_places(page: u32, first: u64, sections: &[(Section, u32); 5]) -> [SectionPlace; 5]
     requires { MayLay page first }
     ensures places { result ≡ places_from page first sections.now }
     ensures low { EachLow result }

@@ -8,8 +8,8 @@ use Rattle.abt_io.specs.declared.device.Output as outputs
 -- nothing was done
 pub reads_none : {X E : Type 0} (r : Result X E) {A : Type 0} (s : sources.Ghosts A) (a : A) → OnlyReads r s a a
 reads_none r s a = record {
-  content = λ tells. refl;
-  size = λ tells. refl;
+  content = λ models. refl;
+  size = λ models. refl;
   frame = refl;
   faults = le_refl _;
   clean = anyway r;
@@ -23,8 +23,8 @@ reads_none r s a = record {
 pub reads_then : {X Y E F : Type 0} {x : X} {r : Result Y F} {A : Type 0} {s : sources.Ghosts A} {a b z : A}
     → OnlyReads {E = E} (Ok x) s a b → OnlyReads r s b z → OnlyReads r s a z
 reads_then {r = r} {s = s} {z = z} k d = record {
-  content = λ tells. d.content tells ∙ k.content tells;
-  size = λ tells. d.size tells ∙ k.size tells;
+  content = λ models. d.content models ∙ k.content models;
+  size = λ models. d.size models ∙ k.size models;
   frame = d.frame ∙ k.frame;
   faults = le_trans k.faults d.faults;
   clean = subst (λ (j : ℕ). OnOk r (s.read_faults z ≡ j)) k.clean d.clean;

@@ -11,13 +11,13 @@ use Rattle.abt_io.specs.Moment.{in_range, moment_of, put_at}
 
 -- One call that reads forward passes over a front of what remains, at most `room` bytes. It passes over none only where
 -- there was no room, or nothing remained.
-pub record HasPassed {A : Type 0} (tells : Bool) (its_remaining : A → List ℕ)
+pub record HasPassed {A : Type 0} (models : Bool) (its_remaining : A → List ℕ)
     (its_reads its_given its_read_faults : A → ℕ) (its_read_frame : A → ReadFrame) (r : Result ℕ DeviceFault)
     (old new : A) (room : ℕ) : Type 0 where
   pub within : count_of r ≤ room
-  pub present : IsTrue tells → count_of r ≤ length (its_remaining old)
-  pub rest : IsTrue tells → its_remaining new ≡ drop (count_of r) (its_remaining old)
-  pub ended : IsTrue tells → IfOk r (λ n. n ≡ 0 → 0 < room → its_remaining old ≡ [])
+  pub present : IsTrue models → count_of r ≤ length (its_remaining old)
+  pub rest : IsTrue models → its_remaining new ≡ drop (count_of r) (its_remaining old)
+  pub ended : IsTrue models → IfOk r (λ n. n ≡ 0 → 0 < room → its_remaining old ≡ [])
   pub frame : its_read_frame new ≡ its_read_frame old
   pub calls : its_reads new ≡ its_reads old + 1
   pub counted : its_given new ≡ its_given old + count_of r
@@ -60,16 +60,16 @@ pub record HasWrittenOver {A : Type 0} (its_written : A → List ℕ)
 
 -- One read at a place gives a front of what is there, of which `out` begins with the bytes. It gives none only for an
 -- empty ask, or where there is nothing.
-pub record HasReadAt {A : Type 0} (tells : Bool) (its_content : A → List ℕ)
+pub record HasReadAt {A : Type 0} (models : Bool) (its_content : A → List ℕ)
     (its_size its_reads its_given its_read_faults : A → ℕ) (its_read_frame : A → PartitionFrame)
     (r : Result ℕ DeviceFault) (old new : A) (at : ℕ) (out : List ℕ) : Type 0 where
   pub within : count_of r ≤ length out
-  pub present : IsTrue tells → count_of r ≤ length (its_content old) - at
-  pub bytes : IsTrue tells → take (count_of r) out ≡ take (count_of r) (drop at (its_content old))
-  pub content : IsTrue tells → its_content new ≡ its_content old
-  pub size : IsTrue tells → its_size new ≡ its_size old
-  pub told : IsTrue tells → OnOk r (length (its_content old) < 2 ^ 64)
-  pub ended : IsTrue tells → IfOk r (λ n. n ≡ 0 → 0 < length out → length (its_content old) ≤ at)
+  pub present : IsTrue models → count_of r ≤ length (its_content old) - at
+  pub bytes : IsTrue models → take (count_of r) out ≡ take (count_of r) (drop at (its_content old))
+  pub content : IsTrue models → its_content new ≡ its_content old
+  pub size : IsTrue models → its_size new ≡ its_size old
+  pub told : IsTrue models → OnOk r (length (its_content old) < 2 ^ 64)
+  pub ended : IsTrue models → IfOk r (λ n. n ≡ 0 → 0 < length out → length (its_content old) ≤ at)
   pub frame : its_read_frame new ≡ its_read_frame old
   pub calls : its_reads new ≡ its_reads old + 1
   pub counted : its_given new ≡ its_given old + count_of r
@@ -80,17 +80,17 @@ pub record HasReadAt {A : Type 0} (tells : Bool) (its_content : A → List ℕ)
 
 -- What one write at a place leaves of a partition's bytes, as its moments tell them: a front of the bytes stands there,
 -- is pending, and may be lost by a crash; nothing outside the range changed.
-pub record HasLaid {A : Type 0} (tells : Bool) (its_content : A → List ℕ) (its_past : A → Past)
+pub record HasLaid {A : Type 0} (models : Bool) (its_content : A → List ℕ) (its_past : A → Past)
     (r : Result ℕ DeviceFault) (old new : A) (at : ℕ) (bytes : List ℕ) : Type 0 where
-  pub written : IsTrue tells → IfOk r (λ n. its_content new ≡ put_at (its_content old) at (take n bytes))
-  pub kept : IsTrue tells → Keeps (in_range at (length bytes)) (moment_of (its_past old) (its_content old))
+  pub written : IsTrue models → IfOk r (λ n. its_content new ≡ put_at (its_content old) at (take n bytes))
+  pub kept : IsTrue models → Keeps (in_range at (length bytes)) (moment_of (its_past old) (its_content old))
       (moment_of (its_past new) (its_content new))
-  pub moments : IsTrue tells → EachSince (its_past old).moments (its_past new).moments
+  pub moments : IsTrue models → EachSince (its_past old).moments (its_past new).moments
       (λ m. m ≡ moment_of (its_past new) (its_content new))
-  pub newest : IsTrue tells → OnOk r (IsNewest (moment_of (its_past new) (its_content new)) (its_past new).moments)
-  pub pending : IsTrue tells → AllPending (in_range at (count_of r)) (its_past new).pending
-  pub stays : IsTrue tells → StaysPending (its_past old).pending (its_past new).pending
-  pub unsettled : IsTrue tells → MayLeave (moment_of (its_past new) (its_content new)) (its_content old)
+  pub newest : IsTrue models → OnOk r (IsNewest (moment_of (its_past new) (its_content new)) (its_past new).moments)
+  pub pending : IsTrue models → AllPending (in_range at (count_of r)) (its_past new).pending
+  pub stays : IsTrue models → StaysPending (its_past old).pending (its_past new).pending
+  pub unsettled : IsTrue models → MayLeave (moment_of (its_past new) (its_content new)) (its_content old)
   pub synced : (its_past new).synced ≡ (its_past old).synced
 
 -- And what it counts, of at most `most` bytes.
@@ -112,14 +112,14 @@ pub record HasPut {A : Type 0}
   pub failed : IfErr r (λ e. e ≡ Failed)
 
 -- What one sync leaves of a partition's bytes: after an Ok none is pending. Where it failed, nothing is stable.
-pub record HasSettled {A X : Type 0} (tells : Bool) (its_content : A → List ℕ) (its_past : A → Past)
+pub record HasSettled {A X : Type 0} (models : Bool) (its_content : A → List ℕ) (its_past : A → Past)
     (r : Result X DeviceFault) (old new : A) : Type 0 where
-  pub kept : IsTrue tells → Keeps (λ _. false) (moment_of (its_past old) (its_content old)) (moment_of (its_past new)
+  pub kept : IsTrue models → Keeps (λ _. false) (moment_of (its_past old) (its_content old)) (moment_of (its_past new)
       (its_content new))
-  pub settled : IsTrue tells → OnOk r ((its_past new).pending ≡ [])
-  pub newest : IsTrue tells → OnOk r (IsNewest (moment_of (its_past new) (its_content new)) (its_past new).moments)
-  pub stays : IsTrue tells → OnErr r (StaysPending (its_past old).pending (its_past new).pending)
-  pub moments : IsTrue tells → EachSince (its_past old).moments (its_past new).moments
+  pub settled : IsTrue models → OnOk r ((its_past new).pending ≡ [])
+  pub newest : IsTrue models → OnOk r (IsNewest (moment_of (its_past new) (its_content new)) (its_past new).moments)
+  pub stays : IsTrue models → OnErr r (StaysPending (its_past old).pending (its_past new).pending)
+  pub moments : IsTrue models → EachSince (its_past old).moments (its_past new).moments
       (λ m. m ≡ moment_of (its_past new) (its_content new))
   pub synced : (its_past new).synced ≡ (its_past old).synced + (if is_ok r then 1 else 0)
 

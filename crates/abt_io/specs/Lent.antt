@@ -11,8 +11,8 @@ use Rattle.abt_io.specs.declared.meter.Meter.{Meter}
 -- A source is only read: it holds what it held and is as long, and what no read changes is as it was. Its count of
 -- faults does not fall; after an Ok it has not failed.
 pub record OnlyReads {X E : Type 0} (r : Result X E) {A : Type 0} (s : sources.Ghosts A) (old new : A) : Type 0 where
-  pub content : IsTrue s.tells → s.content new ≡ s.content old
-  pub size : IsTrue s.tells → s.size new ≡ s.size old
+  pub content : IsTrue s.models → s.content new ≡ s.content old
+  pub size : IsTrue s.models → s.size new ≡ s.size old
   pub frame : s.read_frame new ≡ s.read_frame old
   pub faults : s.read_faults old ≤ s.read_faults new
   pub clean : OnOk r (s.read_faults new ≡ s.read_faults old)
@@ -20,8 +20,8 @@ pub record OnlyReads {X E : Type 0} (r : Result X E) {A : Type 0} (s : sources.G
 -- The same of several sources, whose faults are counted together.
 pub record OnlyReadsAll {X E : Type 0} (r : Result X E) {A : Type 0} (s : sources.Ghosts A) (old new : List A) : Type 0
   where
-    pub content : IsTrue s.tells → map s.content new ≡ map s.content old
-    pub size : IsTrue s.tells → map s.size new ≡ map s.size old
+    pub content : IsTrue s.models → map s.content new ≡ map s.content old
+    pub size : IsTrue s.models → map s.size new ≡ map s.size old
     pub frame : map s.read_frame new ≡ map s.read_frame old
     pub faults : sum_by s.read_faults old ≤ sum_by s.read_faults new
     pub clean : OnOk r (sum_by s.read_faults new ≡ sum_by s.read_faults old)
@@ -50,8 +50,8 @@ pub record OneStep (n : ℕ) (old new : Meter) : Type 0 where
 pub record ReadsForward {A : Type 0} (i : inputs.Ghosts A) (old new : A) (n : ℕ) (fault : Option DeviceFault) : Type 0
   where
     pub given : i.given new ≡ i.given old + n
-    pub present : IsTrue i.tells → n ≤ length (i.remaining old)
-    pub rest : IsTrue i.tells → i.remaining new ≡ drop n (i.remaining old)
+    pub present : IsTrue i.models → n ≤ length (i.remaining old)
+    pub rest : IsTrue i.models → i.remaining new ≡ drop n (i.remaining old)
     pub frame : i.read_frame new ≡ i.read_frame old
     pub faults : i.read_faults old ≤ i.read_faults new
     pub cause : IfSome fault (λ _. i.read_faults old < i.read_faults new)
@@ -62,8 +62,8 @@ pub record ReadsForward {A : Type 0} (i : inputs.Ghosts A) (old new : A) (n : �
 pub record ReadsFrom {A : Type 0} (s : sources.Ghosts A) (old new : A) (n : ℕ) (fault : Option DeviceFault) : Type 0
   where
     pub given : s.given new ≡ s.given old + n
-    pub content : IsTrue s.tells → s.content new ≡ s.content old
-    pub size : IsTrue s.tells → s.size new ≡ s.size old
+    pub content : IsTrue s.models → s.content new ≡ s.content old
+    pub size : IsTrue s.models → s.size new ≡ s.size old
     pub frame : s.read_frame new ≡ s.read_frame old
     pub faults : s.read_faults old ≤ s.read_faults new
     pub cause : IfSome fault (λ _. s.read_faults old < s.read_faults new)

@@ -6,7 +6,7 @@ ghost use Rattle.abt_io.specs.Cause.{CopyCause, full_copied};
 ghost use Rattle.abt_io.specs.Count.{full_of};
 ghost use Rattle.abt_io.specs.Lent.{OnlyReads, OnlyWrites, NoStep};
 
-use crate::laying::lay_byte;
+use crate::fill_window::lay_byte;
 use crate::{DeviceFault, Meter, Output, Source, WINDOW, Window, write_out};
 
 /// Why a copy stopped.
@@ -37,11 +37,11 @@ pub fn copy_step<S: Source, O: Output>(
     ensures asked { S.given source.old ≤ S.given source.new × S.given source.new ≤ S.given source.old + ask }
     ensures held { length (O.written output.old) ≤ length (O.written output.new) × length (O.written output.new)
         ≤ length (O.written output.old) + (S.given source.new - S.given source.old) }
-    ensures present { IsTrue S.tells → S.given source.new - S.given source.old ≤ length (S.content source.old) - at }
-    ensures front { IsTrue S.tells → O.written output.new ≡ O.written output.old ++ take
+    ensures present { IsTrue S.models → S.given source.new - S.given source.old ≤ length (S.content source.old) - at }
+    ensures front { IsTrue S.models → O.written output.new ≡ O.written output.old ++ take
         (length (O.written output.new) - length (O.written output.old)) (drop at (S.content source.old)) }
     ensures grown { take (length (O.written output.old)) (O.written output.new) ≡ O.written output.old }
-    ensures cause { IfErr result (λ e. CopyCause e (IsTrue S.tells → length (S.content source.old) ≤ at)
+    ensures cause { IfErr result (λ e. CopyCause e (IsTrue S.models → length (S.content source.old) ≤ at)
         (S.read_faults source.old) (S.read_faults source.new) (O.write_faults output.old) (O.write_faults output.new)) }
     ensures calls { S.reads source.new ≡ S.reads source.old + 1 }
     ensures write_calls { O.writes output.new
@@ -84,19 +84,19 @@ pub fn copy_range<S: Source, O: Output>(
     m: &mut Meter,
 ) -> Result<(), CopyFault>
     requires { from + n < 2 ^ 64 }
-    ensures written { IsTrue S.tells →
+    ensures written { IsTrue S.models →
         OnOk result (O.written output.new ≡ O.written output.old ++ take n (drop from (S.content source.old))) }
-    ensures front { IsTrue S.tells → O.written output.new ≡ O.written output.old ++ take
+    ensures front { IsTrue S.models → O.written output.new ≡ O.written output.old ++ take
         (length (O.written output.new) - length (O.written output.old)) (take n (drop from (S.content source.old))) }
     ensures all { OnOk result (length (O.written output.new) ≡ length (O.written output.old) + n) }
     ensures given { OnOk result (S.given source.new ≡ S.given source.old + n) }
-    ensures there { IsTrue S.tells → OnOk result (n ≤ length (S.content source.old) - from) }
+    ensures there { IsTrue S.models → OnOk result (n ≤ length (S.content source.old) - from) }
     ensures asked { S.given source.old ≤ S.given source.new × S.given source.new ≤ S.given source.old + n }
     ensures most { length (O.written output.new) ≤ length (O.written output.old) + n }
     ensures held { length (O.written output.new)
         ≤ length (O.written output.old) + (S.given source.new - S.given source.old) }
     ensures grown { take (length (O.written output.old)) (O.written output.new) ≡ O.written output.old }
-    ensures cause { IfErr result (λ e. CopyCause e (IsTrue S.tells → length (S.content source.old) < from + n)
+    ensures cause { IfErr result (λ e. CopyCause e (IsTrue S.models → length (S.content source.old) < from + n)
         (S.read_faults source.old) (S.read_faults source.new) (O.write_faults output.old) (O.write_faults output.new)) }
     ensures calls { S.reads source.new ≤ S.reads source.old + (S.given source.new - S.given source.old) + 1 }
     ensures write_calls { O.writes output.new

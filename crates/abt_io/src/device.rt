@@ -29,7 +29,7 @@ pub enum DeviceFault {
 /// Gives bytes forward, in any cut. A read answers 0 only for an empty ask, or at the end.
 pub trait Input {
     /// It tells its bytes.
-    ghost tells: { Bool };
+    ghost models: { Bool };
 
     /// What it still has to give, where it tells.
     ghost remaining: { Self → List ℕ };
@@ -49,20 +49,20 @@ pub trait Input {
     /// Reads the next bytes, at most as many as `out` has room for.
     fn read(&mut self, out: &mut [u8]) -> Result<usize, DeviceFault>
         requires { length out.old ≤ 65536 }
-        ensures passed { HasPassed tells remaining reads given read_faults read_frame result self.old self.new (length out.new) }
-        ensures bytes { IsTrue tells → take (count_of result) out.new ≡ take (count_of result) (remaining self.old) };
+        ensures passed { HasPassed models remaining reads given read_faults read_frame result self.old self.new (length out.new) }
+        ensures bytes { IsTrue models → take (count_of result) out.new ≡ take (count_of result) (remaining self.old) };
 
     /// Passes over the next bytes, at most as many as `room` has room for: a read of which nobody wants the
     /// bytes. What `room` holds behind it is anything.
     fn pass(&mut self, room: &mut [u8]) -> Result<usize, DeviceFault>
         requires { length room.old ≤ 65536 }
-        ensures passed { HasPassed tells remaining reads given read_faults read_frame result self.old self.new (length room.new) }
+        ensures passed { HasPassed models remaining reads given read_faults read_frame result self.old self.new (length room.new) }
     {
         self.read(room)
     }
 
     /// What it tells are bytes.
-    ghost are_bytes: { (s : Self) → IsTrue tells → AreBytes (remaining s) };
+    ghost are_bytes: { (s : Self) → IsTrue models → AreBytes (remaining s) };
 }
 
 /// Takes bytes, one after another. A write of a nonempty list takes at least 1 of them, from the front.
@@ -111,7 +111,7 @@ pub trait Output {
 /// Gives the bytes at any place. A read answers 0 only for an empty ask, or where there is nothing.
 pub trait Source {
     /// It tells its bytes.
-    ghost tells: { Bool };
+    ghost models: { Bool };
 
     /// What it contains, where it tells.
     ghost content: { Self → List ℕ };
@@ -134,19 +134,19 @@ pub trait Source {
     /// How many bytes it says that it has.
     fn length(&self) -> u64
         ensures size { result ≡ size self.now }
-        ensures told { IsTrue tells → result ≡ length (content self.now) };
+        ensures told { IsTrue models → result ≡ length (content self.now) };
 
     /// Reads bytes from a place on, at most as many as `out` has room for. A place behind the end gives
     /// nothing.
     fn read_at(&mut self, at: u64, out: &mut [u8]) -> Result<usize, DeviceFault>
         requires { length out.old ≤ 65536 }
-        ensures has_read { HasReadAt tells content size reads given read_faults read_frame result self.old self.new at out.new };
+        ensures has_read { HasReadAt models content size reads given read_faults read_frame result self.old self.new at out.new };
 
     /// It is as long as its content.
-    ghost sized: { (s : Self) → IsTrue tells → size s ≡ length (content s) };
+    ghost sized: { (s : Self) → IsTrue models → size s ≡ length (content s) };
 
     /// What it tells are bytes.
-    ghost are_bytes: { (s : Self) → IsTrue tells → AreBytes (content s) };
+    ghost are_bytes: { (s : Self) → IsTrue models → AreBytes (content s) };
 }
 
 /// A source that is written at any place within its length, which never changes.
@@ -180,13 +180,13 @@ pub trait Partition: Source {
     fn write_at(&mut self, at: u64, bytes: &[u8]) -> Result<usize, DeviceFault>
         requires window { length bytes.now ≤ 65536 }
         requires fits { at + length bytes.now ≤ Self.size self.old }
-        ensures laid { HasLaid Self.tells Self.content past result self.old self.new at bytes.now }
+        ensures laid { HasLaid Self.models Self.content past result self.old self.new at bytes.now }
         ensures put { HasPut Self.size Self.reads Self.given Self.read_faults puts taken syncs put_faults result self.old self.new
             (length bytes.now) };
 
     /// Makes all that was written last. Where it fails, nothing is stable for certain.
     fn sync(&mut self) -> Result<(), DeviceFault>
-        ensures settled { HasSettled Self.tells Self.content past result self.old self.new }
+        ensures settled { HasSettled Self.models Self.content past result self.old self.new }
         ensures synced { HasSynced Self.size Self.reads Self.given Self.read_faults puts taken syncs put_faults result
             self.old self.new };
 
@@ -253,7 +253,7 @@ pub trait Spool: Input + Output {
     } };
 
     /// It gives what was written since the last clear, each byte once.
-    ghost held: { (s : Self) → IsTrue Self.tells → Self.remaining s ≡ drop (gone s) (Self.written s) };
+    ghost held: { (s : Self) → IsTrue Self.models → Self.remaining s ≡ drop (gone s) (Self.written s) };
 
     /// It is full only where it holds as much as it has room for.
     ghost filled: { (s : Self) → IsTrue (Self.is_full s) → size s ≤ length (Self.written s) - last_cut (cuts s) };

@@ -35,7 +35,7 @@ impl<S: Source> Forward<S> {
 }
 
 impl<S: Source> Input for Forward<S> {
-    ghost tells = { S.tells };
+    ghost models = { S.models };
 
     ghost remaining = { λ f. drop f.position (S.content f.source) };
 
@@ -50,7 +50,7 @@ impl<S: Source> Input for Forward<S> {
     fn read(&mut self, out: &mut [u8]) -> Result<usize, DeviceFault>
         requires { length out.old ≤ 65536 }
         ensures passed { PassesOnce ⟦<Forward<S> as Input>⟧ result self.old self.new (length out.new) }
-        ensures bytes { IsTrue S.tells → take (count_of result) out.new
+        ensures bytes { IsTrue S.models → take (count_of result) out.new
             ≡ take (count_of result) (drop self.old.position (S.content self.old.source)) }
         ensures position { self.new.position ≡ min (self.old.position + count_of result) u64.MAX }
     {

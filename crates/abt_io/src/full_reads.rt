@@ -19,9 +19,9 @@ pub struct FullRead {
 pub fn read_full<I: Input>(input: &mut I, out: &mut [u8], m: &mut Meter) -> FullRead
     requires { length out.old ≤ 65536 }
     ensures within { result.count ≤ length out.new }
-    ensures all { IsTrue I.tells → IsNone result.fault →
+    ensures all { IsTrue I.models → IsNone result.fault →
         result.count ≡ min (length out.new) (length (I.remaining input.old)) }
-    ensures bytes { IsTrue I.tells → take result.count out.new ≡ take result.count (I.remaining input.old) }
+    ensures bytes { IsTrue I.models → take result.count out.new ≡ take result.count (I.remaining input.old) }
     ensures none { length out.old ≡ 0 → input.new ≡ input.old }
     ensures forward { ReadsForward I.Input input.old input.new result.count result.fault }
     ensures costs { ReadCosts (I.reads input.old) (I.reads input.new) result.count m.old m.new }
@@ -60,10 +60,10 @@ pub fn read_full_at<S: Source>(source: &mut S, at: u64, out: &mut [u8], m: &mut 
     requires window { length out.old ≤ 65536 }
     requires below { at + length out.old < 2 ^ 64 }
     ensures within { result.count ≤ length out.new }
-    ensures present { IsTrue S.tells → result.count ≤ length (S.content source.old) - at }
-    ensures all { IsTrue S.tells → IsNone result.fault →
+    ensures present { IsTrue S.models → result.count ≤ length (S.content source.old) - at }
+    ensures all { IsTrue S.models → IsNone result.fault →
         result.count ≡ min (length out.new) (length (S.content source.old) - at) }
-    ensures bytes { IsTrue S.tells → take result.count out.new ≡ take result.count (drop at (S.content source.old)) }
+    ensures bytes { IsTrue S.models → take result.count out.new ≡ take result.count (drop at (S.content source.old)) }
     ensures none { length out.old ≡ 0 → source.new ≡ source.old }
     ensures source { ReadsFrom S.Source source.old source.new result.count result.fault }
     ensures costs { ReadCosts (S.reads source.old) (S.reads source.new) result.count m.old m.new }

@@ -11,7 +11,7 @@ use crate::{DeviceFault, Input, Meter};
 pub fn pass_full<I: Input>(input: &mut I, room: &mut [u8], m: &mut Meter) -> FullRead
     requires { length room.old ≤ 65536 }
     ensures within { result.count ≤ length room.new }
-    ensures all { IsTrue I.tells → IsNone result.fault →
+    ensures all { IsTrue I.models → IsNone result.fault →
         result.count ≡ min (length room.new) (length (I.remaining input.old)) }
     ensures none { length room.old ≡ 0 → input.new ≡ input.old }
     ensures forward { ReadsForward I.Input input.old input.new result.count result.fault }

@@ -35,7 +35,7 @@ impl<'a> SliceSource<'a> {
 }
 
 impl<'a> Source for SliceSource<'a> {
-    ghost tells = { true };
+    ghost models = { true };
 
     ghost content = { λ s. s.bytes.now };
 

@@ -10,7 +10,7 @@ use Rattle.abt_runs.specs.Part.{AllOf}
 use Rattle.abt_runs.specs.declared.part.RunKind.{RunKind}
 use Rattle.abt_runs.specs.declared.part.RunKind.TheVariants as kinds
 use Rattle.abt_runs.specs.Whole.{alike_kinds}
-use Rattle.abt_pieces.specs.declared.contents.Contents.{Contents}
+use Rattle.abt_pieces.specs.declared.contents.PieceContents.{PieceContents}
 use Rattle.abt_pieces.specs.Contents.{run_kind_of, opens, opens_len, copy_len, held, with_blocks, contents_before, chunks_of_kinds, sizes, written_in, last_of, IsContents}
 use Rattle.abt_pieces.specs.Plan.{last_kind}
 use Rattle.abt_pieces.specs.declared.segment_tail.Tail.TheVariants as tails
@@ -100,7 +100,7 @@ one_part b j k (x ∷ xs) h some =
 
 -- ---- a piece that grows
 
-pub contents_on : (b : ℕ) (l xs : List Block) (c : Contents) (j k : RunKind) (q : ℕ) → IsContents b l c → j ≡ last_of kinds.End l → AllOf k xs → 0 < q → length xs ≡ q
+pub contents_on : (b : ℕ) (l xs : List Block) (c : PieceContents) (j k : RunKind) (q : ℕ) → IsContents b l c → j ≡ last_of kinds.End l → AllOf k xs → 0 < q → length xs ≡ q
     → IsContents b (l ++ xs) (with_blocks c j k q b) × (last_of kinds.End (l ++ xs) ≡ k)
 contents_on b l xs c j k q h last all some long =
     let p = one_part b (last_of kinds.End l) k xs all (omega arith) in

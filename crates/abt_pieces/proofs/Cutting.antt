@@ -18,9 +18,9 @@ use Rattle.abt_pieces.specs.declared.outline.Outline.{Outline}
 use Rattle.abt_pieces.specs.declared.plan.Planner.{Planner}
 use Rattle.std.proofs.lemmas.List.{length-map}
 use Rattle.abt_pieces.specs.Cutter.{most_raw, first_writer, has_more, SoundOutline, ToldCutter, ToldStage, Made, segments_left}
-use Rattle.abt_pieces.specs.declared.stage.Stage.{Stage}
+use Rattle.abt_pieces.specs.declared.stage.CutterStage.{CutterStage}
 use Rattle.abt_pieces.specs.declared.fault.PieceFault.{PieceFault}
-use Rattle.abt_pieces.specs.declared.stage.Stage.TheVariants.{Between, Plan, Begin, Write, Done, Failed}
+use Rattle.abt_pieces.specs.declared.stage.CutterStage.TheVariants.{Between, Plan, Begin, Write, Done, Failed}
 use Rattle.std.specs.List.{flat_map}
 use Rattle.abt_pieces.proofs.Framing.{length-frame}
 use Rattle.abt_pieces.proofs.Writing.{frame_blocks}
@@ -128,7 +128,7 @@ writer_told P T b n limit l c o place same first good some room fits h =
 
 -- ---- a piece more
 
-pub made_more : (b limit : ℕ) (l : List Block) (made s e : ℕ) (st : Stage) → Made b limit l made (segments_left b limit l s Between) → FirstPiece b l limit s e → (e ≡ length l → st ≡ Done) → (e < length l → st ≡ Between) → Made b limit l (made + 1) (segments_left b limit l e st)
+pub made_more : (b limit : ℕ) (l : List Block) (made s e : ℕ) (st : CutterStage) → Made b limit l made (segments_left b limit l s Between) → FirstPiece b l limit s e → (e ≡ length l → st ≡ Done) → (e < length l → st ≡ Between) → Made b limit l (made + 1) (segments_left b limit l e st)
 made_more b limit l made s e st m h done more =
     let fits : List Block → Bool = λ part. nat_le (weight b part) limit in
     let one : segments limit b l ≡ m.before ++ (between l s e ∷ tail_parts fits (drop e l)) = m.all ∙ ap (λ (x : List (List Block)). m.before ++ x) h.cut in
@@ -145,7 +145,7 @@ greedy_some fits part [] = omega arith
 greedy_some fits part (x ∷ rest) = elim (cases_Bool (fits (part ++ x ∷ []))) [ inl e ↦ rw (e, length) (greedy_some fits (part ++ x ∷ []) rest) | inr e ↦ rw (e, length) (omega arith) ]
 
 -- what is left has a piece, unless it is done
-some_left : (b limit : ℕ) (l : List Block) (s : ℕ) (st : Stage) → (if has_more st then 1 else 0) ≤ length (segments_left b limit l s st)
+some_left : (b limit : ℕ) (l : List Block) (s : ℕ) (st : CutterStage) → (if has_more st then 1 else 0) ≤ length (segments_left b limit l s st)
 some_left b limit l s Between = greedy_some (λ part. nat_le (weight b part) limit) [] (drop s l)
 some_left b limit l s (Plan p) = greedy_some (λ part. nat_le (weight b part) limit) [] (drop s l)
 some_left b limit l s (Begin o) = greedy_some (λ part. nat_le (weight b part) limit) [] (drop s l)
@@ -153,13 +153,13 @@ some_left b limit l s (Write o w) = greedy_some (λ part. nat_le (weight b part)
 some_left b limit l s Done = omega arith
 some_left b limit l s (Failed f) = greedy_some (λ part. nat_le (weight b part) limit) [] (drop s l)
 
-pub least_pieces : (b limit : ℕ) (l : List Block) (made s : ℕ) (st : Stage) (parts : List (List Block)) → Made b limit l made (segments_left b limit l s st) → Division limit b l parts → made + (if has_more st then 1 else 0) ≤ length parts
+pub least_pieces : (b limit : ℕ) (l : List Block) (made s : ℕ) (st : CutterStage) (parts : List (List Block)) → Made b limit l made (segments_left b limit l s st) → Division limit b l parts → made + (if has_more st then 1 else 0) ≤ length parts
 least_pieces b limit l made s st parts m d =
     let a = ap length m.all ∙ length-append m.before (segments_left b limit l s st) in
     omega (arith, a, m.count, some_left b limit l s st, fewest limit b l parts d)
 
 -- a piece is left as long as it is begun
-left_same : (b limit : ℕ) (l : List Block) (s : ℕ) (st : Stage) → has_more st ≡ true → segments_left b limit l s st ≡ segments_left b limit l s Between
+left_same : (b limit : ℕ) (l : List Block) (s : ℕ) (st : CutterStage) → has_more st ≡ true → segments_left b limit l s st ≡ segments_left b limit l s Between
 left_same b limit l s Between h = refl
 left_same b limit l s (Plan p) h = refl
 left_same b limit l s (Begin o) h = refl
@@ -168,12 +168,12 @@ left_same b limit l s Done h = absurd cc
 left_same b limit l s (Failed f) h = refl
 
 -- nothing is known of a stage between pieces
-untold : (P : Cursor → Type 0) (T : Cursor → ℕ) (b : ℕ) (l : List Block) (limit s : ℕ) (st : Stage) → (st ≡ Done) ⊎ (st ≡ Between) → ToldStage P T b l limit s st
+untold : (P : Cursor → Type 0) (T : Cursor → ℕ) (b : ℕ) (l : List Block) (limit s : ℕ) (st : CutterStage) → (st ≡ Done) ⊎ (st ≡ Between) → ToldStage P T b l limit s st
 untold P T b l limit s st (inl e) = rw e tt
 untold P T b l limit s st (inr e) = rw e tt
 
 -- a cutter behind a piece more
-pub told_more : (P : Cursor → Type 0) (T : Cursor → ℕ) (W : Cursor → Type 0) (b n limit made : ℕ) (l : List Block) (start : Cursor) (o : Outline) (old st : Stage) → has_more old ≡ true → ToldCutter P T b l limit made start old → SoundOutline W n limit start.block o → n ≡ length l → FirstPiece b l limit start.block o.piece.past → P o.next
+pub told_more : (P : Cursor → Type 0) (T : Cursor → ℕ) (W : Cursor → Type 0) (b n limit made : ℕ) (l : List Block) (start : Cursor) (o : Outline) (old st : CutterStage) → has_more old ≡ true → ToldCutter P T b l limit made start old → SoundOutline W n limit start.block o → n ≡ length l → FirstPiece b l limit start.block o.piece.past → P o.next
     → (o.piece.past ≡ n → st ≡ Done) → (o.piece.past < n → st ≡ Between) → ToldCutter P T b l limit (made + 1) o.next st
 told_more P T W b n limit made l start o old st more h sound same first place done between = record {
   place = place;
@@ -185,5 +185,5 @@ told_more P T W b n limit made l start o old st more h sound same first place do
 }
 
 -- one that has refused
-pub told_failed : (P : Cursor → Type 0) (T : Cursor → ℕ) (b limit made : ℕ) (l : List Block) (start : Cursor) (old : Stage) (f : PieceFault) → has_more old ≡ true → ToldCutter P T b l limit made start old → ToldCutter P T b l limit made start (Failed f)
+pub told_failed : (P : Cursor → Type 0) (T : Cursor → ℕ) (b limit made : ℕ) (l : List Block) (start : Cursor) (old : CutterStage) (f : PieceFault) → has_more old ≡ true → ToldCutter P T b l limit made start old → ToldCutter P T b l limit made start (Failed f)
 told_failed P T b limit made l start old f more h = record { place = h.place; cuts = rw (left_same b limit l start.block old more) at h.cuts; stage = tt }

@@ -75,45 +75,45 @@ whole_join w0 w1 x low front none =
 
 -- ---- causes
 
-pub run_cause : (f : RunFault) (tells : Bool) (r r' w w' : ℕ) → RunCaused f tells r r' → CutCause (fault_of_run f) tells
+pub run_cause : (f : RunFault) (models : Bool) (r r' w w' : ℕ) → RunCaused f models r r' → CutCause (fault_of_run f) models
     r r' w w'
-run_cause (of_runs.Read d) tells r r' w w' h = h
-run_cause of_runs.TooLarge tells r r' w w' h = absurd h
-run_cause of_runs.SourceChanged tells r r' w w' h = h
-run_cause (of_runs.BadBlock n) tells r r' w w' h = absurd h
-run_cause (of_runs.Sparse d) tells r r' w w' h = absurd h
+run_cause (of_runs.Read d) models r r' w w' h = h
+run_cause of_runs.TooLarge models r r' w w' h = absurd h
+run_cause of_runs.SourceChanged models r r' w w' h = h
+run_cause (of_runs.BadBlock n) models r r' w w' h = absurd h
+run_cause (of_runs.Sparse d) models r r' w w' h = absurd h
 
-pub not_told : (tells : Bool) → (IsTrue tells → ⊥) → tells ≡ false
+pub not_told : (models : Bool) → (IsTrue models → ⊥) → models ≡ false
 not_told true h = absurd (h refl)
 not_told false h = refl
 
-pub chunk_cause : (e : PieceFault) (tells : Bool) (chunks bytes need r r' w w' : ℕ) →
-    (IsTrue tells → (0 < chunks) × (need ≤ bytes)) → ChunkCause e chunks bytes need w w' → CutCause e tells r r' w w'
-chunk_cause SourceChanged tells chunks bytes need r r' w w' fits h = not_told tells
+pub chunk_cause : (e : PieceFault) (models : Bool) (chunks bytes need r r' w w' : ℕ) →
+    (IsTrue models → (0 < chunks) × (need ≤ bytes)) → ChunkCause e chunks bytes need w w' → CutCause e models r r' w w'
+chunk_cause SourceChanged models chunks bytes need r r' w w' fits h = not_told models
     (λ t. let z = fits t in over z.0 z.1 h)
   where
     over : 0 < chunks → need ≤ bytes → (chunks ≡ 0) ⊎ (bytes < need) → ⊥
     over a b (inl c) = omega arith
     over a b (inr c) = omega arith
-chunk_cause (Write f) tells chunks bytes need r r' w w' fits h = h
-chunk_cause (Read f) tells chunks bytes need r r' w w' fits h = absurd h
-chunk_cause TooLarge tells chunks bytes need r r' w w' fits h = absurd h
-chunk_cause (BadBlock n) tells chunks bytes need r r' w w' fits h = absurd h
-chunk_cause (LimitTooSmall n) tells chunks bytes need r r' w w' fits h = absurd h
+chunk_cause (Write f) models chunks bytes need r r' w w' fits h = h
+chunk_cause (Read f) models chunks bytes need r r' w w' fits h = absurd h
+chunk_cause TooLarge models chunks bytes need r r' w w' fits h = absurd h
+chunk_cause (BadBlock n) models chunks bytes need r r' w w' fits h = absurd h
+chunk_cause (LimitTooSmall n) models chunks bytes need r r' w w' fits h = absurd h
 
 pub no_bytes : (x : List ℕ) → length x ≡ 0 → x ≡ []
 no_bytes [] e = refl
 no_bytes (y ∷ x) e = absurd (omega arith)
 
 -- a fault since then is a fault since earlier
-pub cause_since : (e : PieceFault) (tells : Bool) (r0 r r' w0 w w' : ℕ) → r0 ≤ r → w0 ≤ w → CutCause e tells r r' w w' →
-    CutCause e tells r0 r' w0 w'
-cause_since (Read f) tells r0 r r' w0 w w' a b h = (omega (arith, a, h.0), h.1)
-cause_since (Write f) tells r0 r r' w0 w w' a b h = omega (arith, b, h)
-cause_since SourceChanged tells r0 r r' w0 w w' a b h = h
-cause_since TooLarge tells r0 r r' w0 w w' a b h = absurd h
-cause_since (BadBlock n) tells r0 r r' w0 w w' a b h = absurd h
-cause_since (LimitTooSmall n) tells r0 r r' w0 w w' a b h = absurd h
+pub cause_since : (e : PieceFault) (models : Bool) (r0 r r' w0 w w' : ℕ) → r0 ≤ r → w0 ≤ w → CutCause e models r r' w w' →
+    CutCause e models r0 r' w0 w'
+cause_since (Read f) models r0 r r' w0 w w' a b h = (omega (arith, a, h.0), h.1)
+cause_since (Write f) models r0 r r' w0 w w' a b h = omega (arith, b, h)
+cause_since SourceChanged models r0 r r' w0 w w' a b h = h
+cause_since TooLarge models r0 r r' w0 w w' a b h = absurd h
+cause_since (BadBlock n) models r0 r r' w0 w w' a b h = absurd h
+cause_since (LimitTooSmall n) models r0 r r' w0 w w' a b h = absurd h
 
 pub whole_of : (w0 w1 w2 h c x : List ℕ) → w1 ≡ w0 ++ h → w2 ≡ w1 ++ c → x ≡ h ++ c → w2 ≡ w0 ++ x
 whole_of w0 w1 w2 h c x ok all whole = all ∙ ap (λ (y : List ℕ). y ++ c) ok ∙ append_assoc w0 h c ∙ ap
@@ -143,9 +143,9 @@ no_more_than n j k = omega arith
 pub max_most : (n k : ℕ) → n ≤ max n k
 max_most n k = omega arith
 
-pub run_causes : (e : PieceFault) (f : RunFault) (tells : Bool) (r r' w w' : ℕ) → e ≡ fault_of_run f → RunCaused f tells
-    r r' → CutCause e tells r r' w w'
-run_causes e f tells r r' w w' is h = rw is (run_cause f tells r r' w w' h)
+pub run_causes : (e : PieceFault) (f : RunFault) (models : Bool) (r r' w w' : ℕ) → e ≡ fault_of_run f → RunCaused f models
+    r r' → CutCause e models r r' w w'
+run_causes e f models r r' w w' is h = rw is (run_cause f models r r' w w' h)
 
 pub run_unfilled : (e : PieceFault) (f : RunFault) (n : ℕ) → e ≡ fault_of_run f → n ≡ n + full_in_cut e
 run_unfilled e f n is = let z = run_not_full f in rw is (omega (arith, z))
@@ -163,14 +163,14 @@ pub not_full : ◌≡◌ {A = ℕ} 0 1 → ⊥
 not_full h = omega (arith, h)
 
 -- a call that has no output
-pub cause_unwritten : (e : PieceFault) (tells : Bool) (r r' w w' : ℕ) → CutCause e tells r r' 0 0 → CutCause e tells r
+pub cause_unwritten : (e : PieceFault) (models : Bool) (r r' w w' : ℕ) → CutCause e models r r' 0 0 → CutCause e models r
     r' w w'
-cause_unwritten (Read f) tells r r' w w' h = h
-cause_unwritten (Write f) tells r r' w w' h = absurd (omega (arith, h))
-cause_unwritten SourceChanged tells r r' w w' h = h
-cause_unwritten TooLarge tells r r' w w' h = absurd h
-cause_unwritten (BadBlock n) tells r r' w w' h = absurd h
-cause_unwritten (LimitTooSmall n) tells r r' w w' h = absurd h
+cause_unwritten (Read f) models r r' w w' h = h
+cause_unwritten (Write f) models r r' w w' h = absurd (omega (arith, h))
+cause_unwritten SourceChanged models r r' w w' h = h
+cause_unwritten TooLarge models r r' w w' h = absurd h
+cause_unwritten (BadBlock n) models r r' w w' h = absurd h
+cause_unwritten (LimitTooSmall n) models r r' w w' h = absurd h
 
 pub none_says : (k : ℕ) → k ≡ 0 → k ≡ 1 → ⊥
 none_says k none says = omega (arith, none, says)
@@ -188,10 +188,10 @@ pub whole_ended : (r : Result Bool PieceFault) (A B Q : Type 0) → IfOk r (λ d
 whole_ended (Ok d) A B Q h q = λ e. (h.1, q)
 whole_ended (Err f) A B Q h q = tt
 
-pub whole_cause : (r : Result Bool PieceFault) (tells : Bool) (X : Type 0) (n n' w w' : ℕ) → IfErr r
-    (λ e. (e ≡ SourceChanged) × (X → ⊥)) → (IsTrue tells → X) → IfErr r (λ e. CutCause e tells n n' w w')
-whole_cause (Ok d) tells X n n' w w' h all = tt
-whole_cause (Err f) tells X n n' w w' h all = rw h.0 (not_told tells (λ t. h.1 (all t)))
+pub whole_cause : (r : Result Bool PieceFault) (models : Bool) (X : Type 0) (n n' w w' : ℕ) → IfErr r
+    (λ e. (e ≡ SourceChanged) × (X → ⊥)) → (IsTrue models → X) → IfErr r (λ e. CutCause e models n n' w w')
+whole_cause (Ok d) models X n n' w w' h all = tt
+whole_cause (Err f) models X n n' w w' h all = rw h.0 (not_told models (λ t. h.1 (all t)))
 
 pub whole_unfilled : (r : Result Bool PieceFault) (X : Type 0) → IfErr r (λ e. (e ≡ SourceChanged) × X) → full_cut r ≡ 0
 whole_unfilled (Ok d) X h = refl

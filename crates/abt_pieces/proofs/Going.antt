@@ -25,7 +25,7 @@ use Rattle.abt_pieces.proofs.Fronts.{wrote_rest, chunk_cause}
 use Rattle.abt_pieces.proofs.Classes.{all_take}
 use Rattle.abt_pieces.proofs.Framing.{frame_take, length-frame}
 use Rattle.abt_pieces.proofs.Writing.{blocks_take, blocks_drop, between_two, front_long, raw_back, raw_front, raw_long, raw_behind, raw_within, frame_blocks}
-use Rattle.abt_pieces.proofs.Cuts.{no_cut, one_cut, FirstCut, first_cut, cut_next}
+use Rattle.abt_pieces.proofs.PieceCuts.{no_cut, one_cut, FirstCut, first_cut, cut_next}
 
 -- ---- a run that has ended
 
@@ -211,9 +211,9 @@ pub begun_rest : {A : Type 0} (f : List Block) (w t : Writer) (front : List ℕ)
 begun_rest f w t front (Ok x) v old new z e h = rw e (wrote_rest old new front (rest_of f w) (rest_of f t) h z)
 begun_rest f w t front (Err e') v old new z e h = tt
 
-pub chunk_causes : {A : Type 0} (res : Result A PieceFault) (tells : Bool) (chunks bytes need r r' w w' : ℕ) → IfErr res (λ e. ChunkCause e chunks bytes need w w') → (IsTrue tells → (0 < chunks) × (need ≤ bytes)) → IfErr res (λ e. CutCause e tells r r' w w')
-chunk_causes (Ok x) tells chunks bytes need r r' w w' h fits = tt
-chunk_causes (Err f) tells chunks bytes need r r' w w' h fits = chunk_cause f tells chunks bytes need r r' w w' fits h
+pub chunk_causes : {A : Type 0} (res : Result A PieceFault) (models : Bool) (chunks bytes need r r' w w' : ℕ) → IfErr res (λ e. ChunkCause e chunks bytes need w w') → (IsTrue models → (0 < chunks) × (need ≤ bytes)) → IfErr res (λ e. CutCause e models r r' w w')
+chunk_causes (Ok x) models chunks bytes need r r' w w' h fits = tt
+chunk_causes (Err f) models chunks bytes need r r' w w' h fits = chunk_cause f models chunks bytes need r r' w w' fits h
 
 -- ---- a run that is still open
 

@@ -21,8 +21,8 @@ use Rattle.abt_pieces.specs.declared.gather.Gatherer.{Gatherer}
 use Rattle.abt_pieces.specs.declared.outline.Outline.{Outline}
 use Rattle.abt_pieces.specs.declared.write.Copying.{Copying}
 use Rattle.abt_pieces.specs.declared.write.Writer.{Writer}
-use Rattle.abt_pieces.specs.declared.stage.Stage.{Stage}
-use Rattle.abt_pieces.specs.declared.stage.Stage.TheVariants.{Between, Plan, Begin, Write, Done, Failed}
+use Rattle.abt_pieces.specs.declared.stage.CutterStage.{CutterStage}
+use Rattle.abt_pieces.specs.declared.stage.CutterStage.TheVariants.{Between, Plan, Begin, Write, Done, Failed}
 use Rattle.abt_pieces.proofs.Writing.{raw_chunk, fill_chunk}
 use Rattle.abt_pieces.proofs.Going.{gathering, copying_on, ended, goes, copy_case}
 
@@ -262,7 +262,7 @@ whole_header h old new front whole =
 
 -- ---- stages
 
-begun_unfailed : (st : Stage) → is_begun st ≡ true → has_failed st ≡ false
+begun_unfailed : (st : CutterStage) → is_begun st ≡ true → has_failed st ≡ false
 begun_unfailed Between h = refl
 begun_unfailed (Plan p) h = refl
 begun_unfailed (Begin o) h = refl
@@ -270,11 +270,11 @@ begun_unfailed (Write o w) h = refl
 begun_unfailed Done h = refl
 begun_unfailed (Failed f) h = absurd (let e : false ≡ true = h in cc)
 
-pub still_unfailed : {X A B C : Type 0} (start now : Stage) → ((is_begun now ≡ true) × X) ⊎ (A × B × C × (now ≡ start)) → has_failed start ≡ false → has_failed now ≡ false
+pub still_unfailed : {X A B C : Type 0} (start now : CutterStage) → ((is_begun now ≡ true) × X) ⊎ (A × B × C × (now ≡ start)) → has_failed start ≡ false → has_failed now ≡ false
 still_unfailed start now (inl h) unfailed = begun_unfailed now h.0
 still_unfailed start now (inr h) unfailed = ap has_failed h.3 ∙ unfailed
 
-pub between_image : (b n : ℕ) (st : Stage) (old new : List ℕ) → st ≡ Between → Appended (StageMayCome b n st) old new → Appended (IsPlainImage b n) old new
+pub between_image : (b n : ℕ) (st : CutterStage) (old new : List ℕ) → st ≡ Between → Appended (StageMayCome b n st) old new → Appended (IsPlainImage b n) old new
 between_image b n st old new is h = rw is at h
 
 -- a writer that ends

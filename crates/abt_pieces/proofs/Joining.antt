@@ -9,8 +9,8 @@ use Rattle.abt_pieces.specs.declared.fault.PieceFault.{PieceFault}
 use Rattle.abt_pieces.specs.declared.stage.PieceProgress.{PieceProgress}
 use Rattle.abt_pieces.specs.declared.stage.PieceProgress.TheVariants as answers
 use Rattle.abt_pieces.specs.declared.outline.Piece.{Piece}
-use Rattle.abt_pieces.specs.declared.stage.Stage.{Stage}
-use Rattle.abt_pieces.specs.declared.stage.Stage.TheVariants.{Between, Done, Failed}
+use Rattle.abt_pieces.specs.declared.stage.CutterStage.{CutterStage}
+use Rattle.abt_pieces.specs.declared.stage.CutterStage.TheVariants.{Between, Done, Failed}
 use Rattle.abt_pieces.proofs.Stepping.{is_between}
 
 pub steps_join : (g0 g1 g2 p0 p1 pt p2 : ℕ) → g1 + 65536 * p0 ≤ g0 + 65536 * p1 → pt ≡ p1 → p2 ≡ pt + 1 → g2 ≤ g1 +
@@ -85,7 +85,7 @@ costs_join one words silent a y z m m' tick m'' e given grown steps greatest cal
 pub no_fault : {A E : Type 0} (x : A) (f : E) → ◌≡◌ {A = Result A E} (Ok x) (Err f) → ⊥
 no_fault x f is = absurd cc
 
-pub from_between : {A B C : Type 0} (start now : Stage) → is_begun start ≡ false →
+pub from_between : {A B C : Type 0} (start now : CutterStage) → is_begun start ≡ false →
     ((is_begun now ≡ true) × (start ≡ Between)) ⊎ (A × B × C × (now ≡ start)) → (now ≡ Done → ⊥) →
     ((f : PieceFault) → now ≡ Failed f → ⊥) → start ≡ Between
 from_between start now unbegun (inl h) done failed = h.1
@@ -99,8 +99,8 @@ pub piece_no_end : {E : Type 0} (p : Piece) → ◌≡◌ {A = Result PieceProgr
     ⊥
 piece_no_end p is = absurd cc
 
-pub between_undone : (st : Stage) → st ≡ Between → st ≡ Done → ⊥
+pub between_undone : (st : CutterStage) → st ≡ Between → st ≡ Done → ⊥
 between_undone st between done = absurd cc
 
-pub between_unfailed : (st : Stage) (f : PieceFault) → st ≡ Between → st ≡ Failed f → ⊥
+pub between_unfailed : (st : CutterStage) (f : PieceFault) → st ≡ Between → st ≡ Failed f → ⊥
 between_unfailed st f between failed = absurd cc

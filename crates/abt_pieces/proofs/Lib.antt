@@ -4,7 +4,7 @@ pub mod Planning
 pub mod Framing
 pub mod Gathering
 pub mod Writing
-pub mod Cuts
+pub mod PieceCuts
 pub mod Uncut
 pub mod Going
 pub mod Fronts

@@ -20,7 +20,7 @@ use Rattle.abt_runs.specs.declared.part.Run.{Run}
 use Rattle.abt_pieces.specs.declared.plan.Planner.{Planner}
 use Rattle.abt_runs.specs.declared.part.RunKind.{RunKind}
 use Rattle.abt_runs.specs.declared.part.RunKind.TheVariants as kinds
-use Rattle.abt_pieces.specs.declared.contents.Contents.{Contents}
+use Rattle.abt_pieces.specs.declared.contents.PieceContents.{PieceContents}
 use Rattle.abt_runs.specs.Whole.{alike_kinds}
 use Rattle.abt_runs.proofs.Alike.{not_end_some}
 use Rattle.abt_pieces.specs.Contents.{opens, opens_len, copy_len, held, with_blocks, contents_before, last_of}
@@ -237,7 +237,7 @@ last_after tails.Raw kinds.Skip at q some e = refl
 last_after (tails.Fill w) kinds.Skip at q some e = refl
 last_after t kinds.End at q some e = absurd cc
 
-pub planned_on : (b : ℕ) (l : List Block) (p : Planner) (r : Run) (more : ℕ) (t : Tail) (j : RunKind) (c : Contents) →
+pub planned_on : (b : ℕ) (l : List Block) (p : Planner) (r : Run) (more : ℕ) (t : Tail) (j : RunKind) (c : PieceContents) →
     Planned b l p → PartOf l p.at.block r → 0 < r.blocks → more ≡ gain_of p.tail r.kind r.blocks b → t ≡ tail_after
     p.tail r.kind
     → j ≡ last_kind p.tail p.at.block → c ≡ with_blocks p.contents j r.kind r.blocks b
@@ -262,19 +262,19 @@ planned_on b l p r more t j c plan part some gains ends behind grows =
 
 -- ---- the numbers, whatever the source gave
 
-pub even_on : (p : Planner) (r : Run) (more : ℕ) (t : Tail) (j : RunKind) (c : Contents) (b : ℕ) → Even p → r.next.block
+pub even_on : (p : Planner) (r : Run) (more : ℕ) (t : Tail) (j : RunKind) (c : PieceContents) (b : ℕ) → Even p → r.next.block
     ≡ p.at.block + r.blocks → 0 < r.blocks → is_end r.kind ≡ false → more ≡ gain_of p.tail r.kind r.blocks b → t ≡
     tail_after p.tail r.kind
     → j ≡ last_kind p.tail p.at.block → c ≡ with_blocks p.contents j r.kind r.blocks b
     → Even (record { first = p.first; at = r.next; tail = t; weight = p.weight + more; contents = c })
 even_on p r more t j c b even next some going gains ends behind grows = record {
   order = omega (arith, even.order);
-  chunks = let z = ap (λ (x : Contents). x.chunks) grows in omega (arith, z, even.chunks, opens_le j r.kind);
-  written = let z = ap (λ (x : Contents). x.written) grows in omega (arith, z, even.written, held_le r.kind r.blocks);
+  chunks = let z = ap (λ (x : PieceContents). x.chunks) grows in omega (arith, z, even.chunks, opens_le j r.kind);
+  written = let z = ap (λ (x : PieceContents). x.written) grows in omega (arith, z, even.written, held_le r.kind r.blocks);
   least = let z : c.bytes ≡ p.contents.bytes + (opens_len j r.kind + copy_len r.kind r.blocks b) = ap
-      (λ (x : Contents). x.bytes) grows in omega (arith, z, even.least);
+      (λ (x : PieceContents). x.bytes) grows in omega (arith, z, even.least);
   slim = let z : c.bytes ≡ p.contents.bytes + (opens_len j r.kind + copy_len r.kind r.blocks b) = ap
-      (λ (x : Contents). x.bytes) grows in rw (next, z, ends, gains, behind)
+      (λ (x : PieceContents). x.bytes) grows in rw (next, z, ends, gains, behind)
       (slim_on p.tail r.kind p.at.block r.blocks b p.contents.bytes p.weight some going even.slim);
 }
   where
@@ -413,7 +413,7 @@ no_room t k q b room some raw behind little fits =
 -- ---- a piece that is planned
 
 -- the numbers with what is skipped behind the segment
-pub outlined : (b : ℕ) (l : List Block) (p : Planner) → AreBlocks b l → Planned b l p → (c : Contents) →
+pub outlined : (b : ℕ) (l : List Block) (p : Planner) → AreBlocks b l → Planned b l p → (c : PieceContents) →
     (p.at.block < length l → c ≡ with_blocks p.contents (last_kind p.tail p.at.block) kinds.Skip (length l - p.at.block)
     b) → (length l ≤ p.at.block → c ≡ p.contents)
     → (c.chunks ≡ length (runs (framed p.first (between l p.first p.at.block) (length l - p.at.block)))) ×

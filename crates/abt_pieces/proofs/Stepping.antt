@@ -20,8 +20,8 @@ use Rattle.abt_pieces.specs.declared.fault.PieceFault.{PieceFault}
 use Rattle.abt_pieces.specs.declared.outline.Outline.{Outline}
 use Rattle.abt_pieces.specs.declared.plan.Planner.{Planner}
 use Rattle.abt_pieces.specs.declared.write.Writer.{Writer}
-use Rattle.abt_pieces.specs.declared.stage.Stage.{Stage}
-use Rattle.abt_pieces.specs.declared.stage.Stage.TheVariants.{Between, Plan, Begin, Write, Done, Failed}
+use Rattle.abt_pieces.specs.declared.stage.CutterStage.{CutterStage}
+use Rattle.abt_pieces.specs.declared.stage.CutterStage.TheVariants.{Between, Plan, Begin, Write, Done, Failed}
 use Rattle.abt_pieces.proofs.Counts.{words_none, words_most, words_top, writer_none, writer_most, begin_bytes}
 use Rattle.abt_pieces.proofs.Cutting.{piece_is, writer_told, header_first}
 
@@ -72,7 +72,7 @@ first_left left n r c o = let z = looks_first left n o.piece.past c in omega (ar
 
 -- ---- a piece from its first step on
 
-pub is_between : (st : Stage) → is_begun st ≡ false → (st ≡ Done → ⊥) → ((f : PieceFault) → st ≡ Failed f → ⊥) → st ≡
+pub is_between : (st : CutterStage) → is_begun st ≡ false → (st ≡ Done → ⊥) → ((f : PieceFault) → st ≡ Failed f → ⊥) → st ≡
     Between
 is_between Between h done failed = refl
 is_between (Plan p) h done failed = absurd cc
@@ -88,7 +88,7 @@ whole_front w0 w1 w2 x c d front rest all =
     ∙ ap (λ (y : List ℕ). w0 ++ (take d x ++ y)) rest ∙ ap (λ (y : List ℕ). w0 ++ y) (take-append-drop d x)
 
 -- the piece that was to come
-pub piece_came : (b limit : ℕ) (l : List Block) (s : ℕ) (p : Piece) (st : Stage) → st ≡ Between → p.first ≡ s →
+pub piece_came : (b limit : ℕ) (l : List Block) (s : ℕ) (p : Piece) (st : CutterStage) → st ≡ Between → p.first ≡ s →
     FirstPiece b l limit p.first p.past → coming b limit l s st ≡ piece b (piece_blocks l p)
 piece_came b limit l s p st e first h = rw (e, ← first) (sym (piece_is b limit l p.first p.past h))
 
@@ -138,18 +138,18 @@ piece_covers_plan one n e = elim (cases_Bool (nat_lt (e + 1) n)) [
 -- ---- behind a piece
 
 -- how a cutter stands behind a piece of an image of n blocks that ends before block e
-pub record Behind (n e : ℕ) (st : Stage) : Type 0 where
+pub record Behind (n e : ℕ) (st : CutterStage) : Type 0 where
   pub end : e ≤ n
   pub done : e ≡ n → st ≡ Done
   pub between : e < n → st ≡ Between
 
-pub behind_unbegun : (n e : ℕ) (st : Stage) → Behind n e st → is_begun st ≡ false
+pub behind_unbegun : (n e : ℕ) (st : CutterStage) → Behind n e st → is_begun st ≡ false
 behind_unbegun n e st h = elim (cases_Bool (nat_lt e n)) [
   | inl l ↦ rw (h.between (ltb-true e n l)) refl
   | inr l ↦ rw (h.done (let z = ltb-false e n l in omega (arith, z, h.end))) refl
 ]
 
-pub behind_passed : (n s e : ℕ) (st : Stage) → (e < n → s < e) → Behind n e st → Passed n s e st
+pub behind_passed : (n s e : ℕ) (st : CutterStage) → (e < n → s < e) → Behind n e st → Passed n s e st
 behind_passed n s e st moves h = record {
   moves = moves;
   within = h.end;
@@ -159,7 +159,7 @@ behind_passed n s e st moves h = record {
 }
 
 pub told_moves : (P : Cursor → Type 0) (T : Cursor → ℕ) (b : ℕ) (l : List Block) (limit made : ℕ) (start : Cursor)
-    (st new : Stage) → ToldCutter P T b l limit made start st → segments_left b limit l start.block new ≡ segments_left
+    (st new : CutterStage) → ToldCutter P T b l limit made start st → segments_left b limit l start.block new ≡ segments_left
     b limit l start.block st → ToldStage P T b l limit start.block new → ToldCutter P T b l limit made start new
 told_moves P T b l limit made start st new told same stage = record {
   place = told.place;

@@ -11,7 +11,7 @@ use Rattle.abt_pieces.specs.Cutter.{Made, segments_left}
 use Rattle.abt_pieces.specs.Gather.{frame}
 use Rattle.abt_pieces.specs.Plan.{between, FirstPiece}
 use Rattle.abt_pieces.specs.Turn.{HasAt}
-use Rattle.abt_pieces.specs.declared.stage.Stage.TheVariants.{Between}
+use Rattle.abt_pieces.specs.declared.stage.CutterStage.TheVariants.{Between}
 
 frames-drop : (i before : ℕ) (parts : List (List Block)) → drop i (frames before parts) ≡ frames (before + length (joined (take i parts))) (drop i parts)
 frames-drop zero before parts = ap (λ (n : ℕ). frames n parts) (let e : before ≡ before + 0 = omega arith in e)

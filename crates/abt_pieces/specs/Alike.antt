@@ -13,8 +13,8 @@ use Rattle.abt_pieces.specs.declared.outline.Outline.{Outline}
 use Rattle.abt_pieces.specs.declared.plan.Planner.{Planner}
 use Rattle.abt_pieces.specs.declared.write.Copying.{Copying}
 use Rattle.abt_pieces.specs.declared.write.Writer.{Writer}
-use Rattle.abt_pieces.specs.declared.stage.Stage.{Stage}
-use Rattle.abt_pieces.specs.declared.stage.Stage.TheVariants.{Between, Plan, Begin, Write, Done, Failed}
+use Rattle.abt_pieces.specs.declared.stage.CutterStage.{CutterStage}
+use Rattle.abt_pieces.specs.declared.stage.CutterStage.TheVariants.{Between, Plan, Begin, Write, Done, Failed}
 
 Slim-prop : (t : Tail) (at bytes weight : ℕ) → IsProp (Slim t at bytes weight)
 Slim-prop tails.Fresh at bytes weight = Prim.hlevel props
@@ -52,7 +52,7 @@ SoundWriting-prop W alike reach n b limit s o w =
     Prim.hlevel (props, SoundOutline-prop W alike, SoundWriter-prop W alike)
 
 SoundStage-prop : (W : Cursor → Type 0) → ((c : Cursor) → IsProp (W c))
-    → (reach : Cursor → ℕ) (n b limit s : ℕ) (st : Stage) → IsProp (SoundStage W reach n b limit s st)
+    → (reach : Cursor → ℕ) (n b limit s : ℕ) (st : CutterStage) → IsProp (SoundStage W reach n b limit s st)
 SoundStage-prop W alike reach n b limit s Between = Prim.hlevel props
 SoundStage-prop W alike reach n b limit s (Plan p) = SoundPlanner-prop W alike limit s p
 SoundStage-prop W alike reach n b limit s (Begin o) = SoundOutline-prop W alike n limit s o
@@ -60,7 +60,7 @@ SoundStage-prop W alike reach n b limit s (Write o w) = SoundWriting-prop W alik
 SoundStage-prop W alike reach n b limit s Done = Prim.hlevel props
 SoundStage-prop W alike reach n b limit s (Failed f) = Prim.hlevel props
 
-TakenStage-prop : (K : Cursor → ℕ) (b limit : ℕ) (start : Cursor) (st : Stage) → IsProp (TakenStage K b limit start st)
+TakenStage-prop : (K : Cursor → ℕ) (b limit : ℕ) (start : Cursor) (st : CutterStage) → IsProp (TakenStage K b limit start st)
 TakenStage-prop K b limit start Between = Prim.hlevel props
 TakenStage-prop K b limit start (Plan p) = Prim.hlevel props
 TakenStage-prop K b limit start (Begin o) = Prim.hlevel props
@@ -69,7 +69,7 @@ TakenStage-prop K b limit start Done = Prim.hlevel props
 TakenStage-prop K b limit start (Failed f) = Prim.hlevel props
 
 pub SoundCutter-prop : (W : Cursor → Type 0) → ((c : Cursor) → IsProp (W c))
-    → (reach K : Cursor → ℕ) (n b limit made : ℕ) (start : Cursor) (st : Stage)
+    → (reach K : Cursor → ℕ) (n b limit made : ℕ) (start : Cursor) (st : CutterStage)
     → IsProp (SoundCutter W reach K n b limit made start st)
 SoundCutter-prop W alike reach K n b limit made start st =
     Prim.hlevel (props, alike, SoundStage-prop W alike, TakenStage-prop)

@@ -32,7 +32,7 @@ devices s o source output = record {
 pub record ReadsCut {X : Type 0} (r : Result X PieceFault) {A : Type 0} (s : sources.Ghosts A) (old new : A) : Type 0
   where
     pub reads : OnlyReads r s old new
-    pub cause : IfErr r (λ e. CutCause e s.tells (s.read_faults old) (s.read_faults new) 0 0)
+    pub cause : IfErr r (λ e. CutCause e s.models (s.read_faults old) (s.read_faults new) 0 0)
 
 -- no count of faults falls, and after an Ok none has risen
 pub record Failing {X : Type 0} (r : Result X PieceFault) (a z : Devices) : Type 0 where

@@ -4,7 +4,7 @@ use Rattle.abt_sparse.specs.Block.{Block, Raw, Fill, Skip}
 use Rattle.abt_runs.specs.declared.part.RunKind.{RunKind}
 use Rattle.abt_runs.specs.declared.part.RunKind.TheVariants as kinds
 use Rattle.abt_runs.specs.Whole.{alike_kinds}
-use Rattle.abt_pieces.specs.declared.contents.Contents.{Contents}
+use Rattle.abt_pieces.specs.declared.contents.PieceContents.{PieceContents}
 
 abbrev pub run_kind_of : Block → RunKind
 run_kind_of (Raw x) = kinds.Raw
@@ -40,7 +40,7 @@ held kinds.Skip q = 0
 held kinds.End q = 0
 
 -- with q blocks of class k more, behind class j
-abbrev pub with_blocks : Contents → RunKind → RunKind → ℕ → ℕ → Contents
+abbrev pub with_blocks : PieceContents → RunKind → RunKind → ℕ → ℕ → PieceContents
 with_blocks c j k q b = record {
   chunks = c.chunks + opens j k;
   written = c.written + held k q;
@@ -48,7 +48,7 @@ with_blocks c j k q b = record {
 }
 
 -- with nothing but n skipped blocks
-abbrev pub contents_before : ℕ → Contents
+abbrev pub contents_before : ℕ → PieceContents
 contents_before zero = record { chunks = 0; written = 0; bytes = 28 }
 contents_before (suc n) = record { chunks = 1; written = 0; bytes = 40 }
 
@@ -72,7 +72,7 @@ last_of j [] = j
 last_of j (x ∷ l) = last_of (run_kind_of x) l
 
 -- the numbers of a piece of these blocks; End stands for nothing, since no block is like it
-pub record IsContents (b : ℕ) (l : List Block) (c : Contents) : Type 0 where
+pub record IsContents (b : ℕ) (l : List Block) (c : PieceContents) : Type 0 where
   pub chunks : c.chunks ≡ chunks_of_kinds kinds.End l
   pub written : c.written ≡ written_in l
   pub bytes : c.bytes ≡ 28 + sizes b kinds.End l

@@ -15,8 +15,8 @@ use Rattle.abt_pieces.specs.declared.outline.Piece.{Piece}
 use Rattle.abt_pieces.specs.declared.outline.Outline.{Outline}
 use Rattle.abt_pieces.specs.declared.plan.Planner.{Planner}
 use Rattle.abt_pieces.specs.declared.write.Writer.{Writer}
-use Rattle.abt_pieces.specs.declared.stage.Stage.{Stage}
-use Rattle.abt_pieces.specs.declared.stage.Stage.TheVariants.{Between, Plan, Begin, Write, Done, Failed}
+use Rattle.abt_pieces.specs.declared.stage.CutterStage.{CutterStage}
+use Rattle.abt_pieces.specs.declared.stage.CutterStage.TheVariants.{Between, Plan, Begin, Write, Done, Failed}
 use Rattle.abt_pieces.specs.declared.stage.PieceProgress.{PieceProgress}
 use Rattle.abt_pieces.specs.declared.stage.PieceProgress.TheVariants as answers
 
@@ -37,7 +37,7 @@ first_writer c o r = record {
 }
 
 -- a piece is begun or left, or a call has refused
-abbrev pub has_more : Stage → Bool
+abbrev pub has_more : CutterStage → Bool
 has_more Between = true
 has_more (Plan p) = true
 has_more (Begin o) = true
@@ -46,7 +46,7 @@ has_more Done = false
 has_more (Failed f) = true
 
 -- a piece is begun: the last step answered that it goes on
-abbrev pub is_begun : Stage → Bool
+abbrev pub is_begun : CutterStage → Bool
 is_begun Between = false
 is_begun (Plan p) = true
 is_begun (Begin o) = true
@@ -55,7 +55,7 @@ is_begun Done = false
 is_begun (Failed f) = false
 
 -- a call has refused, and each further one answers that again
-abbrev pub has_failed : Stage → Bool
+abbrev pub has_failed : CutterStage → Bool
 has_failed Between = false
 has_failed (Plan p) = false
 has_failed (Begin o) = false
@@ -64,11 +64,11 @@ has_failed Done = false
 has_failed (Failed f) = true
 
 -- how often more a call answers that the output is full: one that answers a fault again calls no output
-abbrev pub full_at : {X : Type 0} → Stage → Result X PieceFault → ℕ
+abbrev pub full_at : {X : Type 0} → CutterStage → Result X PieceFault → ℕ
 full_at st r = if has_failed st then 0 else full_cut r
 
 -- how many bytes of the begun piece are written
-abbrev pub so_far : Stage → ℕ
+abbrev pub so_far : CutterStage → ℕ
 so_far Between = 0
 so_far (Plan p) = 0
 so_far (Begin o) = 0
@@ -98,7 +98,7 @@ OnPiece r P = ⊤
 
 -- behind a piece from block s up to e, of an image of n blocks: only the last piece ends with the image, and each
 -- other one has a block
-pub record Passed (n s e : ℕ) (st : Stage) : Type 0 where
+pub record Passed (n s e : ℕ) (st : CutterStage) : Type 0 where
   pub moves : e < n → s < e
   pub within : e ≤ n
   pub between : e < n → st ≡ Between
@@ -133,7 +133,7 @@ pub record SoundWriting (W : Cursor → Type 0) (reach : Cursor → ℕ) (n b li
   pub past : w.past ≡ o.piece.past
   pub rest : w.bytes ≤ o.piece.bytes
 
-abbrev pub SoundStage : (Cursor → Type 0) → (Cursor → ℕ) → ℕ → ℕ → ℕ → ℕ → Stage → Type 0
+abbrev pub SoundStage : (Cursor → Type 0) → (Cursor → ℕ) → ℕ → ℕ → ℕ → ℕ → CutterStage → Type 0
 SoundStage W reach n b limit s Between = ⊤
 SoundStage W reach n b limit s (Plan p) = SoundPlanner W limit s p
 SoundStage W reach n b limit s (Begin o) = SoundOutline W n limit s o
@@ -149,7 +149,7 @@ pub record TakenPlan (K : Cursor → ℕ) (b limit : ℕ) (start : Cursor) (p : 
       → p.contents.bytes + K start ≤ 40 + K p.at
 
 -- how long the begun piece is
-abbrev pub TakenStage : (Cursor → ℕ) → ℕ → ℕ → Cursor → Stage → Type 0
+abbrev pub TakenStage : (Cursor → ℕ) → ℕ → ℕ → Cursor → CutterStage → Type 0
 TakenStage K b limit start Between = ⊤
 TakenStage K b limit start (Plan p) = TakenPlan K b limit start p
 TakenStage K b limit start (Begin o) = o.piece.bytes + K start ≤ K o.next + 80
@@ -159,7 +159,7 @@ TakenStage K b limit start (Failed f) = ⊤
 
 -- the numbers of a cutter
 pub record SoundCutter (W : Cursor → Type 0) (reach K : Cursor → ℕ) (n b limit made : ℕ) (start : Cursor)
-    (st : Stage) : Type 0 where
+    (st : CutterStage) : Type 0 where
   pub granted : 64 + b ≤ limit
   pub within : W start
   pub few : made ≤ start.block + 1
@@ -170,7 +170,7 @@ pub record SoundCutter (W : Cursor → Type 0) (reach K : Cursor → ℕ) (n b l
 -- ---- what is known of a source that tells its bytes
 
 -- what is still to come of the piece that begins at block s
-abbrev pub coming : ℕ → ℕ → List Block → ℕ → Stage → List ℕ
+abbrev pub coming : ℕ → ℕ → List Block → ℕ → CutterStage → List ℕ
 coming b limit l s Between = piece_at b limit l s
 coming b limit l s (Plan p) = piece_at b limit l s
 coming b limit l s (Begin o) = piece_at b limit l s
@@ -179,7 +179,7 @@ coming b limit l s Done = []
 coming b limit l s (Failed f) = []
 
 -- the segments that are still to come, the begun one among them
-abbrev pub segments_left : ℕ → ℕ → List Block → ℕ → Stage → List (List Block)
+abbrev pub segments_left : ℕ → ℕ → List Block → ℕ → CutterStage → List (List Block)
 segments_left b limit l s Between = greedy (λ part. nat_le (weight b part) limit) [] (drop s l)
 segments_left b limit l s (Plan p) = greedy (λ part. nat_le (weight b part) limit) [] (drop s l)
 segments_left b limit l s (Begin o) = greedy (λ part. nat_le (weight b part) limit) [] (drop s l)
@@ -210,7 +210,7 @@ pub record ToldWriting (P : Cursor → Type 0) (T : Cursor → ℕ) (b : ℕ) (l
   pub outline : ToldOutline P b l limit s o
   pub writer : ToldWriter P T l w
 
-abbrev pub ToldStage : (Cursor → Type 0) → (Cursor → ℕ) → ℕ → List Block → ℕ → ℕ → Stage → Type 0
+abbrev pub ToldStage : (Cursor → Type 0) → (Cursor → ℕ) → ℕ → List Block → ℕ → ℕ → CutterStage → Type 0
 ToldStage P T b l limit s Between = ⊤
 ToldStage P T b l limit s (Plan p) = ToldPlanner P b l p
 ToldStage P T b l limit s (Begin o) = ToldOutline P b l limit s o
@@ -219,7 +219,7 @@ ToldStage P T b l limit s Done = ⊤
 ToldStage P T b l limit s (Failed f) = ⊤
 
 pub record ToldCutter (P : Cursor → Type 0) (T : Cursor → ℕ) (b : ℕ) (l : List Block) (limit made : ℕ)
-    (start : Cursor) (st : Stage) : Type 0 where
+    (start : Cursor) (st : CutterStage) : Type 0 where
   pub place : P start
   pub cuts : Made b limit l made (segments_left b limit l start.block st)
   pub stage : ToldStage P T b l limit start.block st
@@ -230,7 +230,7 @@ pub record ToldCutter (P : Cursor → Type 0) (T : Cursor → ℕ) (b : ℕ) (l 
 unfoldable pub planned_left : (Cursor → ℕ) → Cursor → ℕ
 planned_left left start = (left start + 3) * 2 ^ 65 + 2
 
-abbrev pub cut_left : (Cursor → ℕ) → ℕ → Cursor → Stage → ℕ
+abbrev pub cut_left : (Cursor → ℕ) → ℕ → Cursor → CutterStage → ℕ
 cut_left left n start Between = planned_left left start + left start + 1
 cut_left left n start (Plan p) = planned_left left start + left p.at
 cut_left left n start (Begin o) = planned_left left start - 1
@@ -241,7 +241,7 @@ cut_left left n start (Failed f) = 0
 -- ---- what the steps of a piece cost
 
 -- how many of the steps that are left may read nothing and write nothing
-abbrev pub silent_cut : ℕ → Stage → ℕ
+abbrev pub silent_cut : ℕ → CutterStage → ℕ
 silent_cut n Between = 6
 silent_cut n (Plan p) = 6
 silent_cut n (Begin o) = 5
@@ -258,7 +258,7 @@ abbrev pub piece_words : ℕ → ℕ → ℕ → ℕ
 piece_words one n e = if nat_lt (e + 1) n then 0 else if nat_lt e n then one else 3 * one
 
 -- how many of these may have been so far
-abbrev pub cut_words : ℕ → ℕ → Cursor → Stage → ℕ
+abbrev pub cut_words : ℕ → ℕ → Cursor → CutterStage → ℕ
 cut_words one n start Between = last_words one n start.block
 cut_words one n start (Plan p) = last_words one n p.at.block
 cut_words one n start (Begin o) = plan_words one n o.piece.past

@@ -26,12 +26,12 @@ fault_of_run (of_runs.BadBlock n) = BadBlock n
 -- While a piece is planned or written a device has failed, the source with the reason that is handed on, or a source
 -- that does not tell its bytes has changed.
 abbrev pub CutCause : PieceFault → Bool → ℕ → ℕ → ℕ → ℕ → Type 0
-CutCause (Read f) tells reads reads' writes writes' = (reads < reads') × (f ≡ Failed)
-CutCause (Write f) tells reads reads' writes writes' = writes < writes'
-CutCause SourceChanged tells reads reads' writes writes' = tells ≡ false
-CutCause TooLarge tells reads reads' writes writes' = ⊥
-CutCause (BadBlock n) tells reads reads' writes writes' = ⊥
-CutCause (LimitTooSmall n) tells reads reads' writes writes' = ⊥
+CutCause (Read f) models reads reads' writes writes' = (reads < reads') × (f ≡ Failed)
+CutCause (Write f) models reads reads' writes writes' = writes < writes'
+CutCause SourceChanged models reads reads' writes writes' = models ≡ false
+CutCause TooLarge models reads reads' writes writes' = ⊥
+CutCause (BadBlock n) models reads reads' writes writes' = ⊥
+CutCause (LimitTooSmall n) models reads reads' writes writes' = ⊥
 
 -- 1 where a fault hands on that the output is full
 abbrev pub full_in_cut : PieceFault → ℕ

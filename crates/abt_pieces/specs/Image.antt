@@ -7,8 +7,8 @@ use Rattle.abt_sparse.specs.Fails.{Spells, counted_in}
 use Rattle.abt_pieces.specs.Write.{begins}
 use Rattle.abt_pieces.specs.declared.write.Copying.{Copying}
 use Rattle.abt_pieces.specs.declared.write.Writer.{Writer}
-use Rattle.abt_pieces.specs.declared.stage.Stage.{Stage}
-use Rattle.abt_pieces.specs.declared.stage.Stage.TheVariants.{Between, Plan, Begin, Write, Done, Failed}
+use Rattle.abt_pieces.specs.declared.stage.CutterStage.{CutterStage}
+use Rattle.abt_pieces.specs.declared.stage.CutterStage.TheVariants.{Between, Plan, Begin, Write, Done, Failed}
 
 -- behind `old` stands more in `new`, of which P is so
 pub record Appended (P : List ℕ → Type 0) (old new : List ℕ) : Type 0 where
@@ -58,7 +58,7 @@ pub record MayCome (b n : ℕ) (w : Writer) (t : List ℕ) : Type 0 where
   pub bytes : t ≡ raw ++ rest
 
 -- the same at any stage: all of an image, or the rest of one
-abbrev pub StageMayCome : ℕ → ℕ → Stage → List ℕ → Type 0
+abbrev pub StageMayCome : ℕ → ℕ → CutterStage → List ℕ → Type 0
 StageMayCome b n Between t = IsPlainImage b n t
 StageMayCome b n (Plan p) t = IsPlainImage b n t
 StageMayCome b n (Begin o) t = IsPlainImage b n t

@@ -14,18 +14,18 @@ use Rattle.abt_pieces.specs.Plan.{FirstPiece}
 use Rattle.abt_pieces.specs.PlanStep.{Charged}
 use Rattle.abt_pieces.specs.declared.fault.PieceFault.{PieceFault}
 use Rattle.abt_pieces.specs.declared.outline.Piece.{Piece}
-use Rattle.abt_pieces.specs.declared.stage.Stage.{Stage}
-use Rattle.abt_pieces.specs.declared.stage.Stage.TheVariants.{Failed}
+use Rattle.abt_pieces.specs.declared.stage.CutterStage.{CutterStage}
+use Rattle.abt_pieces.specs.declared.stage.CutterStage.TheVariants.{Failed}
 
 -- the cutter is of the same image and limit, and no piece is begun
-pub record SameCutter {R : Type 0} (runs runs' : R) (limit limit' : ℕ) (st : Stage) : Type 0 where
+pub record SameCutter {R : Type 0} (runs runs' : R) (limit limit' : ℕ) (st : CutterStage) : Type 0 where
   pub same_image : runs' ≡ runs
   pub same_limit : limit' ≡ limit
   pub unbegun : is_begun st ≡ false
 
 -- A step that plans, or begins, stays at its place, and refuses for good.
 pub record KeepsPlace {X R : Type 0} (r : Result X PieceFault) (image image' : R) (limit limit' : ℕ)
-    (start start' : Cursor) (made made' : ℕ) (st' : Stage) : Type 0 where
+    (start start' : Cursor) (made made' : ℕ) (st' : CutterStage) : Type 0 where
   pub runs : image' ≡ image
   pub rest : (limit' ≡ limit) × (start' ≡ start) × (made' ≡ made)
   pub refused : IfErr r (λ e. st' ≡ Failed e)
@@ -33,17 +33,17 @@ pub record KeepsPlace {X R : Type 0} (r : Result X PieceFault) (image image' : R
 -- A call that reads for the next piece leaves the cutter so, with what it knows of a source that tells; it refuses for
 -- good.
 pub record LeavesCutter {R A : Type 0} (g : images.Ghosts R) (s : sources.Ghosts A) {X : Type 0}
-    (r : Result X PieceFault) (runs runs' : R) (limit limit' made' : ℕ) (start' : Cursor) (st' : Stage) (old new : A)
+    (r : Result X PieceFault) (runs runs' : R) (limit limit' made' : ℕ) (start' : Cursor) (st' : CutterStage) (old new : A)
     : Type 0 where
   pub cutter : SameCutter runs runs' limit limit' st'
   pub reads : OnlyReads r s old new
-  pub told : IsTrue s.tells → ToldCutter (g.place runs (s.content old)) (g.together runs (s.content old))
+  pub told : IsTrue s.models → ToldCutter (g.place runs (s.content old)) (g.together runs (s.content old))
       (g.size runs) (g.list runs (s.content old)) limit' made' start' st'
   pub refused : IfErr r (λ e. st' ≡ Failed e)
 
 -- The piece p goes from the block where the cutter stood to the one where it stands now, of the n blocks of the image;
 -- one piece more was made.
-pub record IsNext (n limit first next made made' : ℕ) (st : Stage) (p : Piece) : Type 0 where
+pub record IsNext (n limit first next made made' : ℕ) (st : CutterStage) (p : Piece) : Type 0 where
   pub passed : Passed n p.first p.past st
   pub begins : p.first ≡ first
   pub ends : p.past ≡ next
@@ -61,7 +61,7 @@ pub record LaidNext (b limit : ℕ) (l : List Block) (first : ℕ) (p : Piece) (
 -- Whatever the source gave, the piece p was written behind what stood there: an image, as long as it says. The source
 -- had given d bytes before, and d' then.
 pub record PieceMade {R : Type 0} (g : images.Ghosts R) (runs : R) (limit : ℕ) (start start' : Cursor)
-    (made made' : ℕ) (st' : Stage) (d d' : ℕ) (old new : List ℕ) (m m' : Meter) (p : Piece) : Type 0 where
+    (made made' : ℕ) (st' : CutterStage) (d d' : ℕ) (old new : List ℕ) (m m' : Meter) (p : Piece) : Type 0 where
   pub image : Appended (IsPlainImage (g.size runs) (g.count runs)) old new
   pub piece : IsNext (g.count runs) limit start.block start'.block made made' st' p
   pub long : length new ≡ length old + p.bytes
@@ -71,7 +71,7 @@ pub record PieceMade {R : Type 0} (g : images.Ghosts R) (runs : R) (limit : ℕ)
 
 -- the piece p was planned and passed
 pub record PiecePassed {R : Type 0} (g : images.Ghosts R) (image : R) (limit : ℕ) (start start' : Cursor)
-    (made made' : ℕ) (st' : Stage) (d d' : ℕ) (m m' : Meter) (p : Piece) : Type 0 where
+    (made made' : ℕ) (st' : CutterStage) (d d' : ℕ) (m m' : Meter) (p : Piece) : Type 0 where
   pub piece : IsNext (g.count image) limit start.block start'.block made made' st' p
   pub charges : Charged (g.charge image) (g.one image) (g.count image) start start' p.past d d'
   pub takes : p.bytes + g.taken image start ≤ g.taken image start' + 80

@@ -10,7 +10,7 @@ use Rattle.abt_pieces.specs.Image.{IsPlainImage, StageMayCome}
 use Rattle.abt_pieces.specs.Plan.{last_words, rested}
 use Rattle.abt_pieces.specs.declared.plan.Planner.{Planner}
 use Rattle.abt_pieces.specs.declared.segment_tail.Tail.TheVariants as tails
-use Rattle.abt_pieces.specs.declared.stage.Stage.{Stage}
+use Rattle.abt_pieces.specs.declared.stage.CutterStage.{CutterStage}
 
 -- The plan goes on from p to q. The source had given d bytes before, and d' then.
 pub record PlanGoes {R : Type 0} (g : images.Ghosts R) (image : R) (limit d d' : ℕ) (p q : Planner) : Type 0 where
@@ -37,7 +37,7 @@ pub record Charged (charge : Cursor → ℕ) (one n : ℕ) (from to : Cursor) (p
   pub charged_end : n ≤ past → d' + charge from ≤ d + charge to + 16
 
 -- The plan that stood at the place `at` goes on or has ended, and the stage is st.
-pub record PlanStaged {R : Type 0} (g : images.Ghosts R) (image : R) (limit : ℕ) (start at : Cursor) (st : Stage)
+pub record PlanStaged {R : Type 0} (g : images.Ghosts R) (image : R) (limit : ℕ) (start at : Cursor) (st : CutterStage)
     (d d' : ℕ) (m m' : Meter) : Type 0 where
   pub begun : (is_begun st ≡ true) × (so_far st ≡ 0)
   pub sound : SoundStage (g.within image) (g.reach image) (g.count image) (g.size image) limit start.block st

@@ -9,7 +9,7 @@ use Rattle.abt_pieces.specs.Gather.{SoundGatherer, ToldGatherer}
 use Rattle.abt_pieces.specs.Write.{SoundWriter, ToldWriter}
 use Rattle.abt_pieces.specs.declared.gather.Gatherer.{Gatherer}
 use Rattle.abt_pieces.specs.declared.plan.Planner.{Planner}
-use Rattle.abt_pieces.specs.declared.stage.Stage.{Stage}
+use Rattle.abt_pieces.specs.declared.stage.CutterStage.{CutterStage}
 use Rattle.abt_pieces.specs.declared.write.Copying.{Copying}
 use Rattle.abt_pieces.specs.declared.write.Writer.{Writer}
 
@@ -21,7 +21,7 @@ pub record ReadyPart {R A : Type 0} (g : images.Ghosts R) (s : sources.Ghosts A)
   pub room : at.block ≤ g.count image
   pub end : past ≤ g.count image
   pub within : at.block < past → g.within image at
-  pub told : IsTrue s.tells → g.opened image (s.content source)
+  pub told : IsTrue s.models → g.opened image (s.content source)
       × (at.block < past → g.place image (s.content source) at)
   pub behind : past < at.block → at.block ≡ g.count image
 
@@ -29,16 +29,16 @@ pub record ReadyPart {R A : Type 0} (g : images.Ghosts R) (s : sources.Ghosts A)
 pub record ReadyGatherer {R A : Type 0} (g : images.Ghosts R) (s : sources.Ghosts A) (image : R) (source : A)
     (first past : ℕ) (x : Gatherer) : Type 0 where
   pub sound : SoundGatherer (g.within image) (g.count image) first past x
-  pub opened : IsTrue s.tells → g.opened image (s.content source)
-  pub told : IsTrue s.tells → ToldGatherer (g.place image (s.content source)) (g.list image (s.content source)) first
+  pub opened : IsTrue s.models → g.opened image (s.content source)
+  pub told : IsTrue s.models → ToldGatherer (g.place image (s.content source)) (g.list image (s.content source)) first
       past x
 
 -- a piece is being written
 pub record ReadyWriter {R A : Type 0} (g : images.Ghosts R) (s : sources.Ghosts A) (image : R) (source : A)
     (w : Writer) : Type 0 where
   pub sound : SoundWriter (g.within image) (g.reach image) (g.count image) (g.size image) w
-  pub opened : IsTrue s.tells → g.opened image (s.content source)
-  pub told : IsTrue s.tells → ToldWriter (g.place image (s.content source)) (g.together image (s.content source))
+  pub opened : IsTrue s.models → g.opened image (s.content source)
+  pub told : IsTrue s.models → ToldWriter (g.place image (s.content source)) (g.together image (s.content source))
       (g.list image (s.content source)) w
 
 -- and bytes of the open chunk of a raw run are still to be copied
@@ -52,8 +52,8 @@ pub record ReadyCopying {R A : Type 0} (g : images.Ghosts R) (s : sources.Ghosts
 pub record ReadyPlanner {R A : Type 0} (g : images.Ghosts R) (s : sources.Ghosts A) (image : R) (source : A)
     (limit : ℕ) (p : Planner) : Type 0 where
   pub sound : SoundPlanner (g.within image) limit p.first p
-  pub opened : IsTrue s.tells → g.opened image (s.content source)
-  pub told : IsTrue s.tells → ToldPlanner (g.place image (s.content source)) (g.size image)
+  pub opened : IsTrue s.models → g.opened image (s.content source)
+  pub told : IsTrue s.models → ToldPlanner (g.place image (s.content source)) (g.size image)
       (g.list image (s.content source)) p
 
 -- a cutter plans the piece that begins at the place `start`, the one behind as many as are made
@@ -62,13 +62,13 @@ pub record ReadyPlan {R A : Type 0} (g : images.Ghosts R) (s : sources.Ghosts A)
   pub few : made ≤ start.block
   pub sound : SoundPlanner (g.within image) limit start.block p
   pub taken : TakenPlan (g.taken image) (g.size image) limit start p
-  pub opened : IsTrue s.tells → g.opened image (s.content source)
-  pub planned : IsTrue s.tells → ToldPlanner (g.place image (s.content source)) (g.size image)
+  pub opened : IsTrue s.models → g.opened image (s.content source)
+  pub planned : IsTrue s.models → ToldPlanner (g.place image (s.content source)) (g.size image)
       (g.list image (s.content source)) p
 
 -- a cutter goes on
 pub record ReadyCutter {R A : Type 0} (g : images.Ghosts R) (s : sources.Ghosts A) (image : R) (source : A)
-    (limit made : ℕ) (start : Cursor) (st : Stage) : Type 0 where
-  pub opened : IsTrue s.tells → g.opened image (s.content source)
-  pub told : IsTrue s.tells → ToldCutter (g.place image (s.content source)) (g.together image (s.content source))
+    (limit made : ℕ) (start : Cursor) (st : CutterStage) : Type 0 where
+  pub opened : IsTrue s.models → g.opened image (s.content source)
+  pub told : IsTrue s.models → ToldCutter (g.place image (s.content source)) (g.together image (s.content source))
       (g.size image) (g.list image (s.content source)) limit made start st

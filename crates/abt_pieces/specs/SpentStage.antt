@@ -6,8 +6,8 @@ use Rattle.abt_pieces.specs.declared.segment_tail.Tail.TheVariants as tails
 use Rattle.abt_pieces.specs.declared.outline.Outline.{Outline}
 use Rattle.abt_pieces.specs.declared.plan.Planner.{Planner}
 use Rattle.abt_pieces.specs.declared.write.Writer.{Writer}
-use Rattle.abt_pieces.specs.declared.stage.Stage.{Stage}
-use Rattle.abt_pieces.specs.declared.stage.Stage.TheVariants.{Between, Plan, Begin, Write, Done, Failed}
+use Rattle.abt_pieces.specs.declared.stage.CutterStage.{CutterStage}
+use Rattle.abt_pieces.specs.declared.stage.CutterStage.TheVariants.{Between, Plan, Begin, Write, Done, Failed}
 
 -- how many bytes three passes and copying may have read before a place
 abbrev pub all_passes : (Cursor → ℕ) → (Cursor → ℕ) → Cursor → ℕ
@@ -40,7 +40,7 @@ pub record SpentWriting (IsPlace : Cursor → Type 0) (charge copied : Cursor �
   pub end : n ≤ o.piece.past → t ≤ charge o.next + total + 16
 
 abbrev pub SpentStage : (Cursor → Type 0) → (Cursor → ℕ) → (Cursor → ℕ) → (Cursor → ℕ → ℕ) → ℕ → ℕ → ℕ → ℕ → Cursor
-    → ℕ → Stage → Type 0
+    → ℕ → CutterStage → Type 0
 SpentStage IsPlace charge copied held b limit n one start t Between = t ≡ all_passes charge copied start
 SpentStage IsPlace charge copied held b limit n one start t (Plan p) = SpentPlan charge copied b limit start t p
 SpentStage IsPlace charge copied held b limit n one start t (Begin o) = SpentOutline charge copied n one start t o

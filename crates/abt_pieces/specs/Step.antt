@@ -9,7 +9,7 @@ use Rattle.abt_pieces.specs.Cutter.{coming, so_far, cut_left, silent_cut, cut_wo
 use Rattle.abt_pieces.specs.Outline.{IsPieceOf}
 use Rattle.abt_pieces.specs.Plan.{FirstPiece}
 use Rattle.abt_pieces.specs.declared.outline.Piece.{Piece}
-use Rattle.abt_pieces.specs.declared.stage.Stage.{Stage}
+use Rattle.abt_pieces.specs.declared.stage.CutterStage.{CutterStage}
 
 -- One step receives at most a window, and writes at most 80 bytes more than it received. Of words that are compared
 -- without being read, `words` were counted before, and at most `more` may be.
@@ -28,7 +28,7 @@ pub record CutStepCosts (words more : ℕ) (a z : Devices) (m m' : Meter) : Type
 -- The begun piece of an image goes on: what was written is counted, there is less left to do, and a step that moves no
 -- byte is paid for by what was moved before.
 pub record PieceGoesOn {R : Type 0} (g : images.Ghosts R) (image : R) (start start' : Cursor) (made made' : ℕ)
-    (st st' : Stage) (a z : Devices) (m m' : Meter) : Type 0 where
+    (st st' : CutterStage) (a z : Devices) (m m' : Meter) : Type 0 where
   pub same_place : start' ≡ start
   pub same_number : made' ≡ made
   pub counted : so_far st' ≡ so_far st + (z.written - a.written)
@@ -40,7 +40,7 @@ pub record PieceGoesOn {R : Type 0} (g : images.Ghosts R) (image : R) (start sta
       + cut_words (g.one image) (g.count image) start' st'
 
 -- The begun piece of an image has ended as p: its bytes are those that were written of it.
-pub record PieceEnds {R : Type 0} (g : images.Ghosts R) (image : R) (start start' : Cursor) (st : Stage) (p : Piece)
+pub record PieceEnds {R : Type 0} (g : images.Ghosts R) (image : R) (start start' : Cursor) (st : CutterStage) (p : Piece)
     (a z : Devices) (m m' : Meter) : Type 0 where
   pub long : p.bytes ≡ so_far st + (z.written - a.written)
   pub takes : p.bytes + g.taken image start ≤ g.taken image start' + 80
@@ -49,7 +49,7 @@ pub record PieceEnds {R : Type 0} (g : images.Ghosts R) (image : R) (start start
       + piece_words (g.one image) (g.count image) p.past
 
 -- What was to come of the piece stands behind what stood there, and p is the piece that the limit allows.
-pub record CameWhole (b limit : ℕ) (l : List Block) (first : ℕ) (st : Stage) (p : Piece) (old new : List ℕ) :
+pub record CameWhole (b limit : ℕ) (l : List Block) (first : ℕ) (st : CutterStage) (p : Piece) (old new : List ℕ) :
     Type 0 where
   pub written : new ≡ old ++ coming b limit l first st
   pub exact : IsPieceOf b l p

@@ -6,7 +6,7 @@ use Rattle.abt_sparse.specs.Pieces.{pieces}
 use Rattle.abt_pieces.specs.Cutter.{Made, segments_left}
 use Rattle.abt_pieces.specs.Gather.{frame}
 use Rattle.abt_pieces.specs.Plan.{FirstPiece}
-use Rattle.abt_pieces.specs.declared.stage.Stage.TheVariants.{Between}
+use Rattle.abt_pieces.specs.declared.stage.CutterStage.TheVariants.{Between}
 
 -- behind i others stands x
 pub record HasAt {X : Type 0} (xs : List X) (i : ℕ) (x : X) : Type 0 where

@@ -70,27 +70,27 @@ pub record WriterStepped {R A B : Type 0} (g : images.Ghosts R) (s : sources.Gho
   pub reads : OnlyReads r s source source'
   pub writes : OnlyWrites r (full_cut r) o output output'
   pub sound : OnOk r (SoundWriter (g.within image) (g.reach image) (g.count image) (g.size image) w')
-  pub told : IsTrue s.tells → OnOk r (ToldWriter (g.place image (s.content source))
+  pub told : IsTrue s.models → OnOk r (ToldWriter (g.place image (s.content source))
       (g.together image (s.content source)) (g.list image (s.content source)) w')
   pub segment : (w'.first ≡ w.first) × (w'.past ≡ w.past) × (w'.most ≡ w.most)
   -- what was written is what was to come, and counted
   pub within : length (o.written output') ≤ length (o.written output) + w.bytes
   pub counted : OnOk r (length (o.written output') + w'.bytes ≡ length (o.written output) + w.bytes)
-  pub front : IsTrue s.tells → o.written output' ≡ o.written output
+  pub front : IsTrue s.models → o.written output' ≡ o.written output
       ++ take (length (o.written output') - length (o.written output))
       (rest_of (frame_of (g.list image (s.content source)) w) w)
-  pub rest : IsTrue s.tells → OnOk r (rest_of (frame_of (g.list image (s.content source)) w) w'
+  pub rest : IsTrue s.models → OnOk r (rest_of (frame_of (g.list image (s.content source)) w) w'
       ≡ drop (length (o.written output') - length (o.written output))
       (rest_of (frame_of (g.list image (s.content source)) w) w))
   pub leads : On (Leads (MayCome (g.size image) (g.count image) w) (MayCome (g.size image) (g.count image) w')
       (o.written output) (o.written output'))
-  pub cause : IfErr r (λ e. CutCause e s.tells (s.read_faults source) (s.read_faults source')
+  pub cause : IfErr r (λ e. CutCause e s.models (s.read_faults source) (s.read_faults source')
       (o.write_faults output) (o.write_faults output'))
   pub left : On (write_left (g.left image) (g.count image) w' < write_left (g.left image) (g.count image) w)
   pub paid : On (silent_write (g.count image) w' < silent_write (g.count image) w + (s.given source' - s.given source)
       + (length (o.written output') - length (o.written output)))
   -- where b bytes count for the second pass, and t were read in all, what the step has added
-  pub spends : IsTrue s.tells → (d : Cursor) → g.within image d → g.place image (s.content source) d
+  pub spends : IsTrue s.models → (d : Cursor) → g.within image d → g.place image (s.content source) d
       → d.block ≡ w.past → d.ask ≡ 1 → (b t : ℕ) → Spent (λ c. g.within image c × g.place image (s.content source) c)
       (g.charge image) (g.copied image) (g.held image) d b t w →
       OnOk r (Spent (λ c. g.within image c × g.place image (s.content source) c) (g.charge image) (g.copied image)

@@ -7,7 +7,7 @@ use abt_runs::{RunKind, are_alike};
 
 /// The numbers of a piece, as far as it has been passed.
 #[derive(Clone, Copy, Drop)]
-pub struct Contents {
+pub struct PieceContents {
     /// How many chunks it has.
     pub chunks: u32,
     /// How many of its blocks are raw or fill.
@@ -60,18 +60,18 @@ fn opened(last: RunKind, kind: RunKind) -> (u32, u64)
     }
 }
 
-impl Contents {
+impl PieceContents {
     /// A piece with nothing but the blocks before its segment, which are skipped.
-    pub fn begin(first: u32) -> Contents
+    pub fn begin(first: u32) -> PieceContents
         ensures { result ≡ contents_before first }
     {
         match first {
-            0 => Contents {
+            0 => PieceContents {
                 chunks: 0,
                 written: 0,
                 bytes: 28,
             },
-            _ => Contents {
+            _ => PieceContents {
                 chunks: 1,
                 written: 0,
                 bytes: 40,
@@ -80,14 +80,14 @@ impl Contents {
     }
 
     /// With so many blocks of a class more, behind a block of class `last`.
-    pub fn with(self, last: RunKind, kind: RunKind, blocks: u32, size: u32) -> Contents
+    pub fn with(self, last: RunKind, kind: RunKind, blocks: u32, size: u32) -> PieceContents
         requires chunks { self.chunks + opens last kind < 2 ^ 32 }
         requires written { self.written + held kind blocks < 2 ^ 32 }
         requires bytes { self.bytes + (opens_len last kind + copy_len kind blocks size) < 2 ^ 64 }
         ensures { result ≡ with_blocks self last kind blocks size }
     {
         let (chunks, bytes) = opened(last, kind);
-        Contents {
+        PieceContents {
             chunks: self.chunks + chunks,
             written: self.written + held_in(kind, blocks),
             bytes: self.bytes + (bytes + copied_len(kind, blocks, size)),

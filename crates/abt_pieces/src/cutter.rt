@@ -13,7 +13,7 @@ ghost use Rattle.abt_pieces.specs.Calls.{ReadsCut, PieceCosts, PlanCosts, device
 ghost use Rattle.abt_pieces.specs.NextPiece.{LaidNext, LeavesCutter, PieceMade, PiecePassed};
 ghost use Rattle.abt_pieces.specs.SpentStage.{SpentPiece, all_passes};
 ghost use Rattle.abt_pieces.specs.Turn.{NextInTurn};
-ghost use Rattle.abt_pieces.specs.declared.stage.Stage.{Stage};
+ghost use Rattle.abt_pieces.specs.declared.stage.CutterStage.{CutterStage};
 ghost use Rattle.abt_io.specs.Lent.{OnlyWrites};
 ghost use Rattle.abt_pieces.specs.Ready.{ReadyCutter};
 ghost use Rattle.abt_pieces.specs.PlanStep.{Charged};
@@ -22,7 +22,7 @@ use crate::PieceFault;
 use crate::fault::run_fault;
 use crate::outline::{Outline, Piece};
 use crate::plan::plan_piece;
-use crate::stage::{PieceProgress, Stage};
+use crate::stage::{CutterStage, PieceProgress};
 use abt_io::{Meter, Output, Source, Window};
 use abt_runs::{BlockRuns, Cursor};
 
@@ -46,7 +46,7 @@ pub struct Cutter<R: BlockRuns + Drop> {
     /// How many pieces are behind it.
     pub made: u64,
     /// Where it stands.
-    pub stage: Stage,
+    pub stage: CutterStage,
     /// The places are within the image, and the numbers of a begun piece fit one another and the limit.
     pub ghost sound: { SoundCutter (R.within runs) (R.reach runs) (R.taken runs) (R.count runs) (R.size runs) limit made
         start stage } by { SoundCutter-prop (R.within runs) (R.within_alike runs) (R.reach runs) (R.taken runs)
@@ -62,7 +62,7 @@ impl<R: BlockRuns + Drop> Cutter<R> {
         ensures granted { IfOk result (λ c. 64 + R.size runs ≤ limit) }
         ensures refused { IfErr result (λ e. (e ≡ PieceFault.LimitTooSmall (64 + R.size runs)) ×
             (limit < 64 + R.size runs)) }
-        ensures begins { IfOk result (λ c. (c.stage ≡ Stage.Between) × (c.made ≡ 0) × (c.start.block ≡ 0)) }
+        ensures begins { IfOk result (λ c. (c.stage ≡ CutterStage.Between) × (c.made ≡ 0) × (c.start.block ≡ 0)) }
         ensures told { (x : List ℕ) → R.opened runs x →
             IfOk result (λ c. ToldCutter (R.place runs x) (R.together runs x) (R.size runs) (R.list runs x) c.limit
             c.made c.start c.stage) }
@@ -77,7 +77,7 @@ impl<R: BlockRuns + Drop> Cutter<R> {
             limit,
             start,
             made: 0,
-            stage: Stage::Between,
+            stage: CutterStage::Between,
         })
     }
 
@@ -86,12 +86,12 @@ impl<R: BlockRuns + Drop> Cutter<R> {
         ensures { result ≡ has_more self.now.stage }
     {
         match self.stage {
-            Stage::Done => false,
-            Stage::Between
-            | Stage::Plan(_)
-            | Stage::Begin(_)
-            | Stage::Write(_, _)
-            | Stage::Failed(_) => true,
+            CutterStage::Done => false,
+            CutterStage::Between
+            | CutterStage::Plan(_)
+            | CutterStage::Begin(_)
+            | CutterStage::Write(_, _)
+            | CutterStage::Failed(_) => true,
         }
     }
 
@@ -102,12 +102,12 @@ impl<R: BlockRuns + Drop> Cutter<R> {
         w: &mut Window,
         m: &mut Meter,
     ) -> Result<Outline, PieceFault>
-        requires told { IsTrue S.tells → R.opened self.now.runs (S.content source.old) ×
+        requires told { IsTrue S.models → R.opened self.now.runs (S.content source.old) ×
             R.place self.now.runs (S.content source.old) self.now.start }
         ensures source { ReadsCut result S.Source source.old source.new }
         ensures sound { IfOk result (λ o. SoundOutline (R.within self.now.runs) (R.count self.now.runs) self.now.limit
             self.now.start.block o) }
-        ensures told { IsTrue S.tells → IfOk result (λ o. ToldOutline (R.place self.now.runs (S.content source.old))
+        ensures told { IsTrue S.models → IfOk result (λ o. ToldOutline (R.place self.now.runs (S.content source.old))
             (R.size self.now.runs) (R.list self.now.runs (S.content source.old)) self.now.limit self.now.start.block
             o) }
         ensures charges { IfOk result (λ o. Charged (R.charge self.now.runs) (R.one self.now.runs)
@@ -152,31 +152,31 @@ impl<R: BlockRuns + Drop> Cutter<R> {
             self.new.limit self.new.made self.new.start self.new.stage source.old source.new }
         ensures writes { OnlyWrites result (full_at self.old.stage result) O.Output output.old output.new }
         ensures within { length (O.written output.new) ≤ length (O.written output.old) + self.old.limit }
-        ensures front { IsTrue S.tells → O.written output.new ≡ O.written output.old ++ take
+        ensures front { IsTrue S.models → O.written output.new ≡ O.written output.old ++ take
             (length (O.written output.new) - length (O.written output.old))
             (coming (R.size self.old.runs) self.old.limit (R.list self.old.runs (S.content source.old))
             self.old.start.block self.old.stage) }
         ensures made { IfOk result (λ o. IfSome o (λ p. PieceMade R.BlockRuns self.old.runs self.old.limit
             self.old.start self.new.start self.old.made self.new.made self.new.stage (S.given source.old)
             (S.given source.new) (O.written output.old) (O.written output.new) m.old m.new p)) }
-        ensures laid { IsTrue S.tells → IfOk result (λ o. IfSome o (λ p. LaidNext (R.size self.old.runs) self.old.limit
+        ensures laid { IsTrue S.models → IfOk result (λ o. IfSome o (λ p. LaidNext (R.size self.old.runs) self.old.limit
             (R.list self.old.runs (S.content source.old)) self.old.start.block p (O.written output.old)
             (O.written output.new))) }
-        ensures none { IfOk result (λ o. IfNone o ((self.old.stage ≡ Stage.Done) × (output.new ≡ output.old) ×
+        ensures none { IfOk result (λ o. IfNone o ((self.old.stage ≡ CutterStage.Done) × (output.new ≡ output.old) ×
             (source.new ≡ source.old) × (self.new ≡ self.old))) }
-        ensures after_last { self.old.stage ≡ Stage.Done → IfOk result (λ o. IfSome o (λ p. ⊥)) × OnErr result ⊥ }
-        ensures again { (f : PieceFault) → self.old.stage ≡ Stage.Failed f → (result ≡ Err f) ×
+        ensures after_last { self.old.stage ≡ CutterStage.Done → IfOk result (λ o. IfSome o (λ p. ⊥)) × OnErr result ⊥ }
+        ensures again { (f : PieceFault) → self.old.stage ≡ CutterStage.Failed f → (result ≡ Err f) ×
             (output.new ≡ output.old) × (source.new ≡ source.old) }
         ensures costs { PieceCosts (R.one self.old.runs) (devices S.Source O.Output source.old output.old)
             (devices S.Source O.Output source.new output.new) m.old m.new }
-        ensures spent { IsTrue S.tells → IfOk result (λ o. IfSome o (λ p. SpentPiece (R.charge self.old.runs)
+        ensures spent { IsTrue S.models → IfOk result (λ o. IfSome o (λ p. SpentPiece (R.charge self.old.runs)
             (R.copied self.old.runs) (R.count self.old.runs) (R.one self.old.runs) p.past self.new.start
             (all_passes (R.charge self.old.runs) (R.copied self.old.runs) self.old.start +
             (S.given source.new - S.given source.old)))) }
         ensures full { has_failed self.old.stage ≡ false → full_cut result ≡ 1 → IsTrue (O.is_full output.new) ×
             (length (O.written output.new) < length (O.written output.old) + self.old.limit) }
-        ensures cause { IfErr result (λ e. (self.old.stage ≡ Stage.Failed e) ⊎
-            CutCause e S.tells (S.read_faults source.old) (S.read_faults source.new) (O.write_faults output.old)
+        ensures cause { IfErr result (λ e. (self.old.stage ≡ CutterStage.Failed e) ⊎
+            CutCause e S.models (S.read_faults source.old) (S.read_faults source.new) (O.write_faults output.old)
             (O.write_faults output.new)) }
     {
         'steps: loop {
@@ -206,27 +206,30 @@ impl<R: BlockRuns + Drop> Cutter<R> {
         ensures passed { IfOk result (λ o. IfSome o (λ p. PiecePassed R.BlockRuns self.old.runs self.old.limit
             self.old.start self.new.start self.old.made self.new.made self.new.stage (S.given source.old)
             (S.given source.new) m.old m.new p)) }
-        ensures exact { IsTrue S.tells →
+        ensures exact { IsTrue S.models →
             IfOk
             result (λ o. IfSome o (λ p. IsPieceOf (R.size self.old.runs) (R.list self.old.runs (S.content source.old))
             p)) }
-        ensures greatest { IsTrue S.tells →
+        ensures greatest { IsTrue S.models →
             IfOk
             result (λ o. IfSome o (λ p. FirstPiece (R.size self.old.runs) (R.list self.old.runs (S.content source.old))
             self.old.limit p.first p.past)) }
-        ensures none { IfOk result (λ o. IfNone o ((self.old.stage ≡ Stage.Done) × (source.new ≡ source.old) ×
+        ensures none { IfOk result (λ o. IfNone o ((self.old.stage ≡ CutterStage.Done) × (source.new ≡ source.old) ×
             (self.new ≡ self.old))) }
-        ensures again { (f : PieceFault) → self.old.stage ≡ Stage.Failed f → (result ≡ Err f) ×
+        ensures again { (f : PieceFault) → self.old.stage ≡ CutterStage.Failed f → (result ≡ Err f) ×
             (source.new ≡ source.old) }
         ensures costs { PlanCosts (R.one self.old.runs) (S.reads source.old) (S.given source.old) (S.reads source.new)
             (S.given source.new) m.old m.new }
-        ensures cause { IfErr result (λ e. (self.old.stage ≡ Stage.Failed e) ⊎
-            CutCause e S.tells (S.read_faults source.old) (S.read_faults source.new) 0 0) }
+        ensures cause { IfErr result (λ e. (self.old.stage ≡ CutterStage.Failed e) ⊎
+            CutCause e S.models (S.read_faults source.old) (S.read_faults source.new) 0 0) }
     {
         match self.stage {
-            Stage::Done => return Ok(None),
-            Stage::Failed(fault) => return Err(fault),
-            Stage::Between | Stage::Plan(_) | Stage::Begin(_) | Stage::Write(_, _) => {}
+            CutterStage::Done => return Ok(None),
+            CutterStage::Failed(fault) => return Err(fault),
+            CutterStage::Between
+            | CutterStage::Plan(_)
+            | CutterStage::Begin(_)
+            | CutterStage::Write(_, _) => {}
         }
         match self.outline(source, w, m) {
             Ok(outline) => Ok(Some(self.pass(outline))),
@@ -238,7 +241,7 @@ impl<R: BlockRuns + Drop> Cutter<R> {
 /// With so many pieces made, and one more where there is more, no way to divide the image within
 /// the limit has fewer pieces.
 pub fn no_fewer_pieces()
-    ensures { (b limit made s : ℕ) (l : List Block) (st : Stage) (parts : List (List Block)) →
+    ensures { (b limit made s : ℕ) (l : List Block) (st : CutterStage) (parts : List (List Block)) →
         Made b limit l made (segments_left b limit l s st) → Division limit b l parts →
         made + (if has_more st then 1 else 0) ≤ length parts }
 {}

@@ -30,7 +30,7 @@ pub fn framed_part<R: BlockRuns, S: Source>(
     ensures source { ReadsImage result S.Source source.old source.new }
     ensures found { IfOk result (λ r. PartFound R.BlockRuns runs.now past at (S.given source.old) (S.given source.new)
         r) }
-    ensures told { IsTrue S.tells →
+    ensures told { IsTrue S.models →
         IfOk result (λ r. PartTold R.BlockRuns S.Source runs.now source.old source.new first past at r) }
     ensures costs { WordCosts (last_words (R.one runs.now) (R.count runs.now) (min at.block past)) (R.one runs.now)
         S.Source source.old source.new m.old m.new }
@@ -170,12 +170,12 @@ impl Gatherer {
         requires ready { ReadyGatherer R.BlockRuns S.Source runs.now source.old first past self.old }
         ensures source { ReadsImage result S.Source source.old source.new }
         ensures sound { SoundGatherer (R.within runs.now) (R.count runs.now) first past self.new }
-        ensures told { IsTrue S.tells → ToldGatherer (R.place runs.now (S.content source.old))
+        ensures told { IsTrue S.models → ToldGatherer (R.place runs.now (S.content source.old))
             (R.list runs.now (S.content source.old)) first past self.new }
         ensures grows { IfOk
             result (λ o. IfNone o (self.new.at.block + self.old.count ≡ self.old.at.block + self.new.count)) }
         ensures run { IfOk result (λ o. IfSome o (λ r. ClosedRun self.old self.new r)) }
-        ensures closed { IsTrue S.tells →
+        ensures closed { IsTrue S.models →
             IfOk
             result (λ o. IfSome o (λ r. Closed (frame (R.list runs.now (S.content source.old)) first past) self.old
             self.new r)) }
@@ -185,11 +185,11 @@ impl Gatherer {
         ensures paid { ends self.old.kind ≡ false →
             IfOk result (λ o. silent_left (R.count runs.now) past self.new < silent_left (R.count runs.now) past
             self.old + (S.given source.new - S.given source.old)) }
-        ensures gathered { IsTrue S.tells → (d : Cursor) → R.within runs.now d →
+        ensures gathered { IsTrue S.models → (d : Cursor) → R.within runs.now d →
             R.place runs.now (S.content source.old) d → d.block ≡ past → d.ask ≡ 1 →
             IfOk result (λ o. S.given source.new + gathered_to (R.charge runs.now) past d self.old.at
             ≤ S.given source.old + gathered_to (R.charge runs.now) past d self.new.at) }
-        ensures spends { IsTrue S.tells → (d : Cursor) → R.within runs.now d → R.place runs.now (S.content source.old) d
+        ensures spends { IsTrue S.models → (d : Cursor) → R.within runs.now d → R.place runs.now (S.content source.old) d
             → d.block ≡ past → d.ask ≡ 1 → (s : ℕ) → SpentGathering (R.charge runs.now) (R.copied runs.now) first past d
             s self.old →
             IfOk result (λ o. SpentGathering (R.charge runs.now) (R.copied runs.now) first past d s self.new) }

@@ -29,12 +29,12 @@ mod stage;
 mod write;
 
 pub use chunk::{chunk_front, image_header, write_front, write_header};
-pub use contents::{Contents, copied_len, head_len};
+pub use contents::{PieceContents, copied_len, head_len};
 pub use cutter::{Cutter, least_limit, next_in_turn, no_fewer_pieces};
 pub use fault::{PieceFault, run_fault};
 pub use gather::{Gatherer, framed_part};
 pub use outline::{Outline, Piece};
 pub use plan::{Planner, plan_piece};
 pub use segment_tail::{Tail, added, raw_cap};
-pub use stage::{PieceProgress, Stage};
+pub use stage::{CutterStage, PieceProgress};
 pub use write::{Copying, Writer};

@@ -5,7 +5,7 @@ ghost use Rattle.abt_pieces.specs.Contents.{with_blocks};
 ghost use Rattle.abt_pieces.specs.Plan.{Planned, RestsWithin, last_kind};
 ghost use Rattle.abt_pieces.specs.Outline.{IsOutline};
 
-use crate::contents::Contents;
+use crate::contents::PieceContents;
 use crate::plan::Planner;
 use crate::segment_tail::last;
 use abt_runs::{Cursor, RunKind};
@@ -57,7 +57,7 @@ pub fn outlined(planner: &Planner, count: u32, size: u32) -> Outline
 }
 
 /// The numbers of the piece with what is skipped behind its segment.
-fn whole(planner: &Planner, count: u32, size: u32) -> Contents
+fn whole(planner: &Planner, count: u32, size: u32) -> PieceContents
     requires rests { RestsWithin count planner.now }
     ensures more { planner.now.at.block < count →
         result ≡ with_blocks planner.now.contents (last_kind planner.now.tail planner.now.at.block) RunKind.Skip

@@ -9,7 +9,7 @@ ghost use Rattle.abt_pieces.specs.Outline.{IsOutline, piece_at};
 ghost use Rattle.abt_pieces.specs.Cutter.{SoundOutline, ToldStage, ToldCutter, OnEnd, coming, first_writer, most_raw};
 ghost use Rattle.abt_pieces.specs.SpentStage.{SpentPlan, SpentStage};
 ghost use Rattle.abt_pieces.specs.Stepped.{Stepped};
-ghost use Rattle.abt_pieces.specs.declared.stage.Stage.{Stage};
+ghost use Rattle.abt_pieces.specs.declared.stage.CutterStage.{CutterStage};
 ghost use Rattle.abt_pieces.specs.declared.stage.PieceProgress.{PieceProgress};
 ghost use Rattle.abt_io.specs.Lent.{OnlyWrites, OneStep};
 ghost use Rattle.abt_pieces.specs.Calls.{ReadsCut, WordCosts, WriteCosts};
@@ -23,7 +23,7 @@ use crate::cutter::Cutter;
 use crate::fault::run_fault;
 use crate::outline::{Outline, Piece, outlined};
 use crate::plan::Planner;
-use crate::stage::{PieceProgress, Stage};
+use crate::stage::{CutterStage, PieceProgress};
 use crate::write::Writer;
 use abt_io::{Meter, Output, Source, Window};
 use abt_runs::{BlockRuns, Cursor};
@@ -66,16 +66,16 @@ impl<R: BlockRuns + Drop> Cutter<R> {
         ensures piece { result ≡ outline.piece }
         ensures start { self.new.start ≡ outline.next }
         ensures made { self.new.made ≡ self.old.made + 1 }
-        ensures done { outline.piece.past ≡ R.count self.old.runs → self.new.stage ≡ Stage.Done }
-        ensures between { outline.piece.past < R.count self.old.runs → self.new.stage ≡ Stage.Between }
+        ensures done { outline.piece.past ≡ R.count self.old.runs → self.new.stage ≡ CutterStage.Done }
+        ensures between { outline.piece.past < R.count self.old.runs → self.new.stage ≡ CutterStage.Between }
     {
         let count = self.runs.blocks();
         self.start = outline.next;
         self.made += 1;
         self.stage = if outline.piece.past == count {
-            Stage::Done
+            CutterStage::Done
         } else {
-            Stage::Between
+            CutterStage::Between
         };
         outline.piece
     }
@@ -84,11 +84,11 @@ impl<R: BlockRuns + Drop> Cutter<R> {
     pub fn fail(&mut self, fault: PieceFault) -> PieceFault
         requires few { self.old.made ≤ self.old.start.block }
         ensures fault { result ≡ fault }
-        ensures stage { self.new.stage ≡ Stage.Failed fault }
+        ensures stage { self.new.stage ≡ CutterStage.Failed fault }
         ensures rest { (self.new.runs ≡ self.old.runs) × (self.new.limit ≡ self.old.limit) ×
             (self.new.start ≡ self.old.start) × (self.new.made ≡ self.old.made) }
     {
-        self.stage = Stage::Failed(fault);
+        self.stage = CutterStage::Failed(fault);
         fault
     }
 
@@ -109,11 +109,11 @@ impl<R: BlockRuns + Drop> Cutter<R> {
         ensures source { ReadsCut result S.Source source.old source.new }
         ensures goes_on { OnOk result (PlanStaged R.BlockRuns self.old.runs self.old.limit self.old.start from.at
             self.new.stage (S.given source.old) (S.given source.new) m.old m.new) }
-        ensures told { IsTrue S.tells →
+        ensures told { IsTrue S.models →
             OnOk result (ToldStage (R.place self.old.runs (S.content source.old))
             (R.together self.old.runs (S.content source.old)) (R.size self.old.runs)
             (R.list self.old.runs (S.content source.old)) self.old.limit self.old.start.block self.new.stage) }
-        ensures coming { IsTrue S.tells →
+        ensures coming { IsTrue S.models →
             OnOk result (coming (R.size self.old.runs) self.old.limit (R.list self.old.runs (S.content source.old))
             self.old.start.block self.new.stage ≡ piece_at (R.size self.old.runs) self.old.limit
             (R.list self.old.runs (S.content source.old)) self.old.start.block) }
@@ -131,12 +131,12 @@ impl<R: BlockRuns + Drop> Cutter<R> {
         let limit = self.limit;
         match planner.step(&self.runs, source, limit, w, m) {
             Ok(false) => {
-                self.stage = Stage::Plan(planner);
+                self.stage = CutterStage::Plan(planner);
                 Ok(())
             }
             Ok(true) => match self.planned(&planner) {
                 Ok(outline) => {
-                    self.stage = Stage::Begin(outline);
+                    self.stage = CutterStage::Begin(outline);
                     Ok(())
                 }
                 Err(fault) => Err(self.fail(fault)),
@@ -157,9 +157,9 @@ impl<R: BlockRuns + Drop> Cutter<R> {
     ) -> Result<PieceProgress, PieceFault>
         requires ready { ReadyPlan R.BlockRuns S.Source self.old.runs source.old self.old.limit self.old.made
             self.old.start from }
-        requires at { (self.old.stage ≡ Stage.Plan from) ⊎ ((self.old.stage ≡ Stage.Between) ×
+        requires at { (self.old.stage ≡ CutterStage.Plan from) ⊎ ((self.old.stage ≡ CutterStage.Between) ×
             (from.at ≡ self.old.start)) }
-        requires told { IsTrue S.tells → ToldCutter (R.place self.old.runs (S.content source.old))
+        requires told { IsTrue S.models → ToldCutter (R.place self.old.runs (S.content source.old))
             (R.together self.old.runs (S.content source.old)) (R.size self.old.runs)
             (R.list self.old.runs (S.content source.old)) self.old.limit self.old.made self.old.start self.old.stage }
         ensures stepped { Stepped R.BlockRuns S.Source O.Output result self.old.runs self.new.runs self.old.limit
@@ -180,12 +180,12 @@ impl<R: BlockRuns + Drop> Cutter<R> {
         output: &mut O,
         m: &mut Meter,
     ) -> Result<(), PieceFault>
-        requires at { self.old.stage ≡ Stage.Begin outline }
+        requires at { self.old.stage ≡ CutterStage.Begin outline }
         ensures keeps { KeepsPlace result self.old.runs self.new.runs self.old.limit self.new.limit self.old.start
             self.new.start self.old.made self.new.made self.new.stage }
         ensures small { self.old.limit < 2 ^ 32 }
         ensures fits { (R.size self.old.runs < 2 ^ 32) × (R.count self.old.runs < 2 ^ 32) × (outline.chunks < 2 ^ 32) }
-        ensures stage { OnOk result (self.new.stage ≡ Stage.Write outline (first_writer self.old.start outline
+        ensures stage { OnOk result (self.new.stage ≡ CutterStage.Write outline (first_writer self.old.start outline
             (most_raw (R.size self.old.runs) self.old.limit))) }
         ensures writes { OnlyWrites result (full_cut result) O.Output output.old output.new }
         ensures within { length (O.written output.new) ≤ length (O.written output.old) + 28 }
@@ -210,7 +210,7 @@ impl<R: BlockRuns + Drop> Cutter<R> {
         match written {
             Ok(()) => {
                 let most = (self.limit - 40) / size;
-                self.stage = Stage::Write(outline, Writer::begin(start, &outline, most));
+                self.stage = CutterStage::Write(outline, Writer::begin(start, &outline, most));
                 Ok(())
             }
             Err(fault) => Err(self.fail(PieceFault::Write(fault))),
@@ -228,7 +228,7 @@ impl<R: BlockRuns + Drop> Cutter<R> {
         w: &mut Window,
         m: &mut Meter,
     ) -> Result<PieceProgress, PieceFault>
-        requires at { self.old.stage ≡ Stage.Write outline from }
+        requires at { self.old.stage ≡ CutterStage.Write outline from }
         requires ready { ReadyCutter R.BlockRuns S.Source self.old.runs source.old self.old.limit self.old.made
             self.old.start self.old.stage }
         ensures stepped { Stepped R.BlockRuns S.Source O.Output result self.old.runs self.new.runs self.old.limit
@@ -239,7 +239,7 @@ impl<R: BlockRuns + Drop> Cutter<R> {
         let mut writer = from;
         match writer.step(&self.runs, source, output, w, m) {
             Ok(false) => {
-                self.stage = Stage::Write(outline, writer);
+                self.stage = CutterStage::Write(outline, writer);
                 Ok(PieceProgress::More)
             }
             Ok(true) => Ok(PieceProgress::Piece(self.pass(outline))),
@@ -265,25 +265,27 @@ impl<R: BlockRuns + Drop> Cutter<R> {
         ensures stepped { Stepped R.BlockRuns S.Source O.Output result self.old.runs self.new.runs self.old.limit
             self.new.limit self.old.start self.new.start self.old.made self.new.made self.old.stage self.new.stage
             source.old source.new output.old output.new m.old m.new }
-        ensures end { OnEnd result ((self.old.stage ≡ Stage.Done) × (output.new ≡ output.old) ×
+        ensures end { OnEnd result ((self.old.stage ≡ CutterStage.Done) × (output.new ≡ output.old) ×
             (source.new ≡ source.old) × (self.new ≡ self.old)) }
-        ensures after_last { self.old.stage ≡ Stage.Done → result ≡ Ok PieceProgress.End }
-        ensures again { (f : PieceFault) → self.old.stage ≡ Stage.Failed f → (result ≡ Err f) ×
+        ensures after_last { self.old.stage ≡ CutterStage.Done → result ≡ Ok PieceProgress.End }
+        ensures again { (f : PieceFault) → self.old.stage ≡ CutterStage.Failed f → (result ≡ Err f) ×
             (output.new ≡ output.old) × (source.new ≡ source.old) × (self.new ≡ self.old) }
     {
         match self.stage {
-            Stage::Between => self.plan_on(Planner::begin(self.start), source, output, w, m),
-            Stage::Plan(planner) => self.plan_on(planner, source, output, w, m),
-            Stage::Begin(outline) => match self.begin(outline, output, m) {
+            CutterStage::Between => self.plan_on(Planner::begin(self.start), source, output, w, m),
+            CutterStage::Plan(planner) => self.plan_on(planner, source, output, w, m),
+            CutterStage::Begin(outline) => match self.begin(outline, output, m) {
                 Ok(()) => Ok(PieceProgress::More),
                 Err(fault) => Err(fault),
             },
-            Stage::Write(outline, writer) => self.write(outline, writer, source, output, w, m),
-            Stage::Done => {
+            CutterStage::Write(outline, writer) => self.write(
+                outline, writer, source, output, w, m,
+            ),
+            CutterStage::Done => {
                 m.close_step(0);
                 Ok(PieceProgress::End)
             }
-            Stage::Failed(fault) => {
+            CutterStage::Failed(fault) => {
                 m.close_step(0);
                 Err(fault)
             }

@@ -9,7 +9,7 @@ ghost use Rattle.abt_pieces.specs.Ready.{ReadyPlanner};
 ghost use Rattle.abt_pieces.specs.PlanStep.{PlanGoes, PlanRests, Charged};
 ghost use Rattle.abt_pieces.specs.Cutter.{SoundPlanner, ToldPlanner};
 
-use crate::contents::Contents;
+use crate::contents::PieceContents;
 use crate::segment_tail::{Tail, added, last, raw_cap};
 use abt_io::{Meter, Source, Window};
 use abt_runs::{BlockRuns, Cursor, RunFault, RunKind};
@@ -21,7 +21,7 @@ pub struct Planner {
     pub at: Cursor,
     pub tail: Tail,
     pub weight: u64,
-    pub contents: Contents,
+    pub contents: PieceContents,
 }
 
 impl Planner {
@@ -40,7 +40,7 @@ impl Planner {
             at: from,
             tail: Tail::Fresh,
             weight: 52,
-            contents: Contents::begin(from.block),
+            contents: PieceContents::begin(from.block),
         }
     }
 
@@ -57,13 +57,13 @@ impl Planner {
         requires ready { ReadyPlanner R.BlockRuns S.Source runs.now source.old limit self.old }
         ensures source { ReadsImage result S.Source source.old source.new }
         ensures sound { SoundPlanner (R.within runs.now) limit self.old.first self.new }
-        ensures told { IsTrue S.tells → ToldPlanner (R.place runs.now (S.content source.old)) (R.size runs.now)
+        ensures told { IsTrue S.models → ToldPlanner (R.place runs.now (S.content source.old)) (R.size runs.now)
             (R.list runs.now (S.content source.old)) self.new }
         ensures goes_on { IfOk result (λ d. d ≡ false → PlanGoes R.BlockRuns runs.now limit (S.given source.old)
             (S.given source.new) self.old self.new) }
         ensures rests { IfOk result (λ d. d ≡ true → PlanRests R.BlockRuns runs.now (S.given source.old)
             (S.given source.new) self.old self.new) }
-        ensures ends { IsTrue S.tells →
+        ensures ends { IsTrue S.models →
             IfOk result (λ d. IsTrue d → PlanEnds (R.size runs.now) (R.list runs.now (S.content source.old)) limit
             self.new) }
         ensures onward { IfOk result (λ d. R.copied runs.now self.old.at ≤ R.copied runs.now self.new.at) }
@@ -111,17 +111,17 @@ pub fn plan_piece<R: BlockRuns, S: Source>(
     m: &mut Meter,
 ) -> Result<Planner, RunFault>
     requires within { R.within runs.now from }
-    requires told { IsTrue S.tells → R.opened runs.now (S.content source.old) ×
+    requires told { IsTrue S.models → R.opened runs.now (S.content source.old) ×
         R.place runs.now (S.content source.old) from }
     requires limit { 64 + R.size runs.now ≤ limit }
     ensures source { ReadsImage result S.Source source.old source.new }
     ensures sound { IfOk result (λ p. SoundPlanner (R.within runs.now) limit from.block p) }
-    ensures told { IsTrue S.tells → IfOk result (λ p. ToldPlanner (R.place runs.now (S.content source.old))
+    ensures told { IsTrue S.models → IfOk result (λ p. ToldPlanner (R.place runs.now (S.content source.old))
         (R.size runs.now) (R.list runs.now (S.content source.old)) p) }
-    ensures greatest { IsTrue S.tells →
+    ensures greatest { IsTrue S.models →
         IfOk result (λ p. FirstPiece (R.size runs.now) (R.list runs.now (S.content source.old)) limit from.block
         p.at.block) }
-    ensures ends { IsTrue S.tells →
+    ensures ends { IsTrue S.models →
         IfOk result (λ p. PlanEnds (R.size runs.now) (R.list runs.now (S.content source.old)) limit p) }
     ensures charges { IfOk result (λ p. Charged (R.charge runs.now) (R.one runs.now) (R.count runs.now) from p.at
         p.at.block (S.given source.old) (S.given source.new)) }

@@ -6,7 +6,7 @@ use crate::write::Writer;
 
 /// Where a cutter stands between its calls.
 #[derive(Clone, Copy, Drop)]
-pub enum Stage {
+pub enum CutterStage {
     /// Before a piece.
     Between,
     /// Planning a piece.

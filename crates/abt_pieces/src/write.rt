@@ -276,18 +276,18 @@ impl Writer {
         requires copies { ReadyCopying R.BlockRuns S.Source runs.now source.old self.old copying }
         requires whole { copying.done ≡ copying.size }
         ensures source { ReadsCut result S.Source source.old source.new }
-        ensures told { IsTrue S.tells →
+        ensures told { IsTrue S.models →
             OnOk result (ToldWriter (R.place runs.now (S.content source.old))
             (R.together runs.now (S.content source.old)) (R.list runs.now (S.content source.old)) self.new) }
         ensures segment { (self.new.first ≡ self.old.first) × (self.new.past ≡ self.old.past) ×
             (self.new.most ≡ self.old.most) }
         ensures bytes { self.new.bytes ≡ self.old.bytes }
-        ensures rest { IsTrue S.tells →
+        ensures rest { IsTrue S.models →
             OnOk result (rest_of (frame_of (R.list runs.now (S.content source.old)) self.old) self.new
             ≡ rest_of (frame_of (R.list runs.now (S.content source.old)) self.old) self.old) }
         ensures goes_on { OnOk result (RawGoes R.BlockRuns runs.now self.old self.new (S.given source.old)
             (S.given source.new) m.old m.new) }
-        ensures spends { IsTrue S.tells → (d : Cursor) → R.within runs.now d → R.place runs.now (S.content source.old) d
+        ensures spends { IsTrue S.models → (d : Cursor) → R.within runs.now d → R.place runs.now (S.content source.old) d
             → d.block ≡ self.old.past → d.ask ≡ 1 → (s t : ℕ) →
             Spent (λ c. R.within runs.now c × R.place runs.now (S.content source.old) c) (R.charge runs.now)
             (R.copied runs.now) (R.held runs.now) d s t self.old →
@@ -375,7 +375,7 @@ impl Writer {
         ensures all { IfOk result (λ d. d ≡ true → MayCome (R.size runs.now) (R.count runs.now) self.old []) }
         ensures ended { IfOk result (λ d. d ≡ true → (self.old.bytes ≡ 0) ×
             (O.written output.new ≡ O.written output.old)) }
-        ensures spent { IsTrue S.tells → (d : Cursor) → R.within runs.now d → R.place runs.now (S.content source.old) d
+        ensures spent { IsTrue S.models → (d : Cursor) → R.within runs.now d → R.place runs.now (S.content source.old) d
             → d.block ≡ self.old.past → d.ask ≡ 1 → (s t : ℕ) →
             Spent (λ c. R.within runs.now c × R.place runs.now (S.content source.old) c) (R.charge runs.now)
             (R.copied runs.now) (R.held runs.now) d s t self.old →

@@ -66,9 +66,9 @@ end_laid b n k g now mid new s p t whole sound placed passed most front before i
 
 -- ---- a whole piece
 
-pub whole_piece : (tells : Bool) (x : List ℕ) (b len n limit r first past chunks : ℕ) (old now old' new : List ℕ) (s : Segment) → 4 ≤ b → len ≤ n * b → n * b < len + b → (IsTrue tells → len ≡ length x) → SoundSegment b (length now) s → (t : ToldSegment tells x b now s) → EndedSegment tells x b n s → s.first ≡ first → taken s.placer ≡ past → s.limit ≡ limit → past ≤ n
-    → old' ≡ old → LaidPiece b n r chunks (framed s.first t.blocks (n - taken s.placer)) old' new → WholePiece tells x b n limit r first past chunks old new
-whole_piece tells x b len n limit r first past chunks old now old' new s four covers last known h t e at to most within same l = rw (← at, ← to, ← most) (record {
+pub whole_piece : (models : Bool) (x : List ℕ) (b len n limit r first past chunks : ℕ) (old now old' new : List ℕ) (s : Segment) → 4 ≤ b → len ≤ n * b → n * b < len + b → (IsTrue models → len ≡ length x) → SoundSegment b (length now) s → (t : ToldSegment models x b now s) → EndedSegment models x b n s → s.first ≡ first → taken s.placer ≡ past → s.limit ≡ limit → past ≤ n
+    → old' ≡ old → LaidPiece b n r chunks (framed s.first t.blocks (n - taken s.placer)) old' new → WholePiece models x b n limit r first past chunks old new
+whole_piece models x b len n limit r first past chunks old now old' new s four covers last known h t e at to most within same l = rw (← at, ← to, ← most) (record {
   blocks = t.blocks;
   laid = rw same at l;
   held = t.laid.held;
@@ -81,8 +81,8 @@ whole_piece tells x b len n limit r first past chunks old now old' new s four co
 })
 
 -- it reads as an image, whatever the source gave
-pub piece_image : (tells : Bool) (x : List ℕ) (b n limit r first past chunks : ℕ) (old new : List ℕ) → (0 < b) × (b % 4 ≡ 0) × (b < 2 ^ 32) → 1 ≤ r → 12 + r * b < 2 ^ 32 → n < 2 ^ 32 → WholePiece tells x b n limit r first past chunks old new → Appended (IsPlainImage b n) old new
-piece_image tells x b n limit r first past chunks old new good some small few w =
+pub piece_image : (models : Bool) (x : List ℕ) (b n limit r first past chunks : ℕ) (old new : List ℕ) → (0 < b) × (b % 4 ≡ 0) × (b < 2 ^ 32) → 1 ≤ r → 12 + r * b < 2 ^ 32 → n < 2 ^ 32 → WholePiece models x b n limit r first past chunks old new → Appended (IsPlainImage b n) old new
+piece_image models x b n limit r first past chunks old new good some small few w =
     let f = framed first w.blocks (n - past) in
     let l = w.laid in
     let cs = chunks_of r f in
@@ -94,15 +94,15 @@ piece_image tells x b n limit r first past chunks old new good some small few w 
 -- ---- what it is where the source tells its bytes
 
 -- a whole image
-pub image_blocks : (tells : Bool) (x : List ℕ) (b len n limit r past chunks : ℕ) (old new : List ℕ) → 4 ≤ b → len ≤ n * b → n * b < len + b → (IsTrue tells → len ≡ length x) → IsTrue tells → past ≡ n → (w : WholePiece tells x b n limit r 0 past chunks old new) → framed 0 w.blocks (n - past) ≡ classify b x
-image_blocks tells x b len n limit r past chunks old new some covers last known t all w =
+pub image_blocks : (models : Bool) (x : List ℕ) (b len n limit r past chunks : ℕ) (old new : List ℕ) → 4 ≤ b → len ≤ n * b → n * b < len + b → (IsTrue models → len ≡ length x) → IsTrue models → past ≡ n → (w : WholePiece models x b n limit r 0 past chunks old new) → framed 0 w.blocks (n - past) ≡ classify b x
+image_blocks models x b len n limit r past chunks old new some covers last known t all w =
     let l = classify b x in
     let none : n - past ≡ 0 = omega (arith, all) in
     ap (λ (k : ℕ). framed 0 w.blocks k) none ∙ append-nil w.blocks ∙ (w.told t).0 ∙ take_all (past - 0) l (let z = raw_long len n b x some covers last (known t) in omega (arith, z, all))
 
 -- no raw run of a piece is cut
-pub piece_told : (tells : Bool) (x : List ℕ) (b n limit r first past chunks : ℕ) (old new : List ℕ) → IsUncut b limit r → IsTrue tells → n ≡ length (classify b x) → WholePiece tells x b n limit r first past chunks old new → new ≡ old ++ piece b (frame (classify b x) first past)
-piece_told tells x b n limit r first past chunks old new few t long w =
+pub piece_told : (models : Bool) (x : List ℕ) (b n limit r first past chunks : ℕ) (old new : List ℕ) → IsUncut b limit r → IsTrue models → n ≡ length (classify b x) → WholePiece models x b n limit r first past chunks old new → new ≡ old ++ piece b (frame (classify b x) first past)
+piece_told models x b n limit r first past chunks old new few t long w =
     let f = framed first w.blocks (n - past) in
     let le = piece_le b w.blocks first (n - past) (blocks_of_segment b first w.blocks (skips (n - past)) w.laid.good) in
     let bytes = flat_map plain (map chunk_of_run (runs f)) in
@@ -120,8 +120,8 @@ none_held : (n : ℕ) → written_in (skips n) ≡ 0
 none_held zero = refl
 none_held (suc n) = let z = none_held n in omega (arith, z)
 
-pub piece_held : (tells : Bool) (x : List ℕ) (b n limit r first past chunks : ℕ) (old new : List ℕ) → IsTrue tells → n ≡ length (classify b x) → first ≤ past → past ≤ n → WholePiece tells x b n limit r first past chunks old new → past - first ≡ written_in (frame (classify b x) first past)
-piece_held tells x b n limit r first past chunks old new t long order within w =
+pub piece_held : (models : Bool) (x : List ℕ) (b n limit r first past chunks : ℕ) (old new : List ℕ) → IsTrue models → n ≡ length (classify b x) → first ≤ past → past ≤ n → WholePiece models x b n limit r first past chunks old new → past - first ≡ written_in (frame (classify b x) first past)
+piece_held models x b n limit r first past chunks old new t long order within w =
     let l = classify b x in
     let g = between l first past in
     let held : AllByRecursion IsHeldBlock g = subst (λ (y : List Block). AllByRecursion IsHeldBlock y) (w.told t).0 w.held in
@@ -141,8 +141,8 @@ all_taken past n limit within reached far = elim (cases_Bool (nat_lt past n)) [
 
 -- ---- the beginning of a piece
 
-pub first_told : (tells : Bool) (x : List ℕ) (b first : ℕ) (now : List ℕ) (s : Segment) → s.first ≡ first → taken s.placer ≡ first → LaidSegment b [] now s → ToldSegment tells x b now s
-first_told tells x b first now s at all l = record {
+pub first_told : (models : Bool) (x : List ℕ) (b first : ℕ) (now : List ℕ) (s : Segment) → s.first ≡ first → taken s.placer ≡ first → LaidSegment b [] now s → ToldSegment models x b now s
+first_told models x b first now s at all l = record {
   blocks = [];
   laid = l;
   told = λ t. (let z : taken s.placer - s.first ≡ 0 = omega (arith, at, all) in sym (ap (λ (n : ℕ). take n (drop s.first (classify b x))) z));
@@ -164,15 +164,15 @@ unfinished_at f old new at h = subst (λ (n : ℕ). IsUnfinished (drop n new)) a
 
 -- ---- what is answered
 
-pub piece_exact : (tells : Bool) (x : List ℕ) (b n limit r first chunks : ℕ) (old new : List ℕ) (p : Piece) → IsUncut b limit r → IsTrue tells → n ≡ length (classify b x) → p.first ≡ first → p.first ≤ p.past → p.past ≤ n → p.written ≡ p.past - p.first → length new ≡ length old + p.bytes → WholePiece tells x b n limit r first p.past chunks old new → IsPieceOf b (classify b x) p
-piece_exact tells x b n limit r first chunks old new p few t long at order within held bytes w =
+pub piece_exact : (models : Bool) (x : List ℕ) (b n limit r first chunks : ℕ) (old new : List ℕ) (p : Piece) → IsUncut b limit r → IsTrue models → n ≡ length (classify b x) → p.first ≡ first → p.first ≤ p.past → p.past ≤ n → p.written ≡ p.past - p.first → length new ≡ length old + p.bytes → WholePiece models x b n limit r first p.past chunks old new → IsPieceOf b (classify b x) p
+piece_exact models x b n limit r first chunks old new p few t long at order within held bytes w =
     let l = classify b x in
-    let q : WholePiece tells x b n limit r p.first p.past chunks old new = rw at w in
-    let e = piece_told tells x b n limit r p.first p.past chunks old new few t long q in
+    let q : WholePiece models x b n limit r p.first p.past chunks old new = rw at w in
+    let e = piece_told models x b n limit r p.first p.past chunks old new few t long q in
     record {
       order = order;
       within = omega (arith, within, long);
-      held = held ∙ piece_held tells x b n limit r p.first p.past chunks old new t long order within q;
+      held = held ∙ piece_held models x b n limit r p.first p.past chunks old new t long order within q;
       long = omega (arith, bytes, ap length e, length-append old (piece b (frame l p.first p.past)));
     }
 

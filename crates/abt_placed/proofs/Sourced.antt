@@ -37,9 +37,9 @@ more_told x b len n a j want room w g s s' some covers last within few passed sa
     ∙ sym (between_more l s.first i j order) ∙ ap (λ (m : ℕ). between l m (i + j)) (sym same) ∙ ap (λ (m : ℕ). between l s'.first m) (sym passed)
 
 -- with the next blocks
-pub told_on : (tells : Bool) (x : List ℕ) (b len n a j want room : ℕ) (now now' w : List ℕ) (s s' : Segment) → 4 ≤ b → len ≤ n * b → n * b < len + b → taken s.placer + a ≤ n → j ≤ a → taken s'.placer ≡ taken s.placer + j → s'.first ≡ s.first → s.first ≤ taken s.placer → room ≡ a * b
-    → (t : ToldSegment tells x b now s) → LaidSegment b (t.blocks ++ classes b j w) now' s' → (IsTrue tells → Loaded b len (taken s.placer) want room x w) → ToldSegment tells x b now' s'
-told_on tells x b len n a j want room now now' w s s' some covers last within few passed same order wide t laid read = record {
+pub told_on : (models : Bool) (x : List ℕ) (b len n a j want room : ℕ) (now now' w : List ℕ) (s s' : Segment) → 4 ≤ b → len ≤ n * b → n * b < len + b → taken s.placer + a ≤ n → j ≤ a → taken s'.placer ≡ taken s.placer + j → s'.first ≡ s.first → s.first ≤ taken s.placer → room ≡ a * b
+    → (t : ToldSegment models x b now s) → LaidSegment b (t.blocks ++ classes b j w) now' s' → (IsTrue models → Loaded b len (taken s.placer) want room x w) → ToldSegment models x b now' s'
+told_on models x b len n a j want room now now' w s s' some covers last within few passed same order wide t laid read = record {
   blocks = t.blocks ++ classes b j w;
   laid = laid;
   told = λ y. more_told x b len n a j want room w t.blocks s s' some covers last within few passed same order wide (t.told y) (read y);
@@ -65,9 +65,9 @@ no_more_than true x y a all short = let z = short refl in omega (arith, z)
 no_more_than false x y a all short = let z = all refl in omega (arith, z)
 
 -- the segment ends before a block that has no room
-pub ended_on : (tells : Bool) (x : List ℕ) (b len n a j want room : ℕ) (now now' w : List ℕ) (s s' : Segment) → 4 ≤ b → len ≤ n * b → n * b < len + b → taken s.placer + a ≤ n → j < a → taken s'.placer ≡ taken s.placer + j → s'.first ≡ s.first → s'.limit ≡ s.limit → s.first ≤ taken s.placer → s.first < taken s'.placer → s.limit < 2 ^ 49 → room ≡ a * b
-    → (t : ToldSegment tells x b now s) → LaidSegment b (t.blocks ++ classes b j w) now' s' → (IsTrue tells → Loaded b len (taken s.placer) want room x w) → OneMoreExceeds s.limit b (t.blocks ++ classes b j w) (drop j (classes b a w)) → EndedSegment tells x b n s'
-ended_on tells x b len n a j want room now now' w s s' some covers last within few passed same cap order more reached wide t laid read o = record {
+pub ended_on : (models : Bool) (x : List ℕ) (b len n a j want room : ℕ) (now now' w : List ℕ) (s s' : Segment) → 4 ≤ b → len ≤ n * b → n * b < len + b → taken s.placer + a ≤ n → j < a → taken s'.placer ≡ taken s.placer + j → s'.first ≡ s.first → s'.limit ≡ s.limit → s.first ≤ taken s.placer → s.first < taken s'.placer → s.limit < 2 ^ 49 → room ≡ a * b
+    → (t : ToldSegment models x b now s) → LaidSegment b (t.blocks ++ classes b j w) now' s' → (IsTrue models → Loaded b len (taken s.placer) want room x w) → OneMoreExceeds s.limit b (t.blocks ++ classes b j w) (drop j (classes b a w)) → EndedSegment models x b n s'
+ended_on models x b len n a j want room now now' w s s' some covers last within few passed same cap order more reached wide t laid read o = record {
   moves = λ _. rw same more;
   reached = λ _. rw cap reached;
   over = λ y.
@@ -81,23 +81,23 @@ ended_on tells x b len n a j want room now now' w s s' some covers last within f
 }
 
 -- where no block is left
-pub none_over : (tells : Bool) (x : List ℕ) (b len n : ℕ) (s : Segment) → 4 ≤ b → len ≤ n * b → n * b < len + b → (IsTrue tells → len ≡ length x) → taken s.placer ≡ n → EndedSegment tells x b n s
-none_over tells x b len n s some covers last known all = record {
+pub none_over : (models : Bool) (x : List ℕ) (b len n : ℕ) (s : Segment) → 4 ≤ b → len ≤ n * b → n * b < len + b → (IsTrue models → len ≡ length x) → taken s.placer ≡ n → EndedSegment models x b n s
+none_over models x b len n s some covers last known all = record {
   moves = λ less. absurd (omega (arith, less, all));
   reached = λ less. absurd (omega (arith, less, all));
   over = λ t y more e. absurd (let l = raw_long len n b x some covers last (known t) in let z : length (drop (taken s.placer) (classify b x)) ≡ suc (length more) = ap length e in omega (arith, z, l, all, length-drop (taken s.placer) (classify b x)));
 }
 
 -- a source that tells the same
-pub same_told : (tells : Bool) (x x' : List ℕ) (b : ℕ) (now : List ℕ) (s : Segment) → (IsTrue tells → x ≡ x') → ToldSegment tells x b now s → ToldSegment tells x' b now s
-same_told tells x x' b now s e h = record {
+pub same_told : (models : Bool) (x x' : List ℕ) (b : ℕ) (now : List ℕ) (s : Segment) → (IsTrue models → x ≡ x') → ToldSegment models x b now s → ToldSegment models x' b now s
+same_told models x x' b now s e h = record {
   blocks = h.blocks;
   laid = h.laid;
   told = λ t. h.told t ∙ ap (λ (y : List ℕ). between (classify b y) s.first (taken s.placer)) (e t);
 }
 
-pub same_ended : (tells : Bool) (x x' : List ℕ) (b n : ℕ) (s : Segment) → (IsTrue tells → x ≡ x') → EndedSegment tells x b n s → EndedSegment tells x' b n s
-same_ended tells x x' b n s e h = record {
+pub same_ended : (models : Bool) (x x' : List ℕ) (b n : ℕ) (s : Segment) → (IsTrue models → x ≡ x') → EndedSegment models x b n s → EndedSegment models x' b n s
+same_ended models x x' b n s e h = record {
   moves = h.moves;
   reached = h.reached;
   over = λ t. subst (λ (y : List ℕ). OneMoreExceeds s.limit b (between (classify b y) s.first (taken s.placer)) (drop (taken s.placer) (classify b y))) (e t) (h.over t);

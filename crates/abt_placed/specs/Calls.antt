@@ -75,9 +75,9 @@ scene s o source output m = record {
 
 -- A call that lays what it reads: no step receives more than a window, and it is answered r, Ok where neither device
 -- has failed, and else with the reason.
-pub record LaysOn {X : Type 0} (r : Result X PieceFault) (tells : Bool) (a z : Scene) : Type 0 where
-  pub content : IsTrue tells → z.content ≡ a.content
-  pub size : IsTrue tells → z.size ≡ a.size
+pub record LaysOn {X : Type 0} (r : Result X PieceFault) (models : Bool) (a z : Scene) : Type 0 where
+  pub content : IsTrue models → z.content ≡ a.content
+  pub size : IsTrue models → z.size ≡ a.size
   pub read_frame : z.frame ≡ a.frame
   pub write_frame : z.output.frame ≡ a.output.frame
   pub grown : a.output.long ≤ z.output.long
@@ -89,7 +89,7 @@ pub record LaysOn {X : Type 0} (r : Result X PieceFault) (tells : Bool) (a z : S
   pub clean : OnOk r ((z.faults ≡ a.faults) × (z.output.faults ≡ a.output.faults))
   pub full_faults : z.output.full_faults ≡ a.output.full_faults + full_cut r
   pub full : full_cut r ≡ 1 → IsTrue z.output.is_full
-  pub cause : IfErr r (λ e. CutCause e tells a.faults z.faults a.output.faults z.output.faults)
+  pub cause : IfErr r (λ e. CutCause e models a.faults z.faults a.output.faults z.output.faults)
 
 -- Nothing is taken back. What stood in the output stays, and where the call is refused, nothing stands behind it, or
 -- what is no image whatever follows it.

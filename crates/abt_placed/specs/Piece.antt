@@ -18,8 +18,8 @@ use Rattle.abt_pieces.specs.NextPiece.{IsNext}
 use Rattle.abt_pieces.specs.declared.fault.PieceFault.{PieceFault}
 use Rattle.abt_pieces.specs.declared.outline.Outline.{Outline}
 use Rattle.abt_pieces.specs.declared.outline.Piece.{Piece}
-use Rattle.abt_pieces.specs.declared.stage.Stage.{Stage}
-use Rattle.abt_pieces.specs.declared.stage.Stage.TheVariants.{Done, Failed}
+use Rattle.abt_pieces.specs.declared.stage.CutterStage.{CutterStage}
+use Rattle.abt_pieces.specs.declared.stage.CutterStage.TheVariants.{Done, Failed}
 use Rattle.abt_sparsify.specs.declared.count.Written.{Written}
 use Rattle.abt_placed.specs.Segment.{IsUncut}
 use Rattle.abt_placed.specs.Whole.{read_of}
@@ -33,16 +33,16 @@ pub record LaidPiece (b n r chunks : ℕ) (f : List Block) (old now : List ℕ) 
 
 -- So does that of some segment from block `first` up to `past` of an image of n blocks; where the source tells its
 -- bytes x, it is the first piece of what begins there.
-pub record WholePiece (tells : Bool) (x : List ℕ) (b n limit r first past chunks : ℕ) (old now : List ℕ) : Type 0 where
+pub record WholePiece (models : Bool) (x : List ℕ) (b n limit r first past chunks : ℕ) (old now : List ℕ) : Type 0 where
   pub blocks : List Block
   pub laid : LaidPiece b n r chunks (framed first blocks (n - past)) old now
   pub held : AllByRecursion IsHeldBlock blocks
   pub fits : weight b blocks ≤ limit
-  pub told : IsTrue tells → (blocks ≡ between (classify b x) first past) × FirstPiece b (classify b x) limit first past
+  pub told : IsTrue models → (blocks ≡ between (classify b x) first past) × FirstPiece b (classify b x) limit first past
 
 -- So is laid what an outline says, from block `first` of these runs on: the next piece, within its limit where no raw
 -- run is cut, and whole where the limit is none.
-pub record OutlineLaid (tells : Bool) (x : List ℕ) (runs : RawRuns) (limit r first : ℕ) (old new : List ℕ) (o : Outline)
+pub record OutlineLaid (models : Bool) (x : List ℕ) (runs : RawRuns) (limit r first : ℕ) (old new : List ℕ) (o : Outline)
     : Type 0 where
   pub sound : IsUncut runs.size limit r
       → SoundOutline (λ c. RawPlace runs.blocks runs.size c) runs.blocks limit first o
@@ -50,7 +50,7 @@ pub record OutlineLaid (tells : Bool) (x : List ℕ) (runs : RawRuns) (limit r f
   pub next : RawPlace runs.blocks runs.size o.next
   pub written : o.piece.written ≡ o.piece.past - o.piece.first
   pub bytes : length new ≡ length old + o.piece.bytes
-  pub whole : WholePiece tells x runs.size runs.blocks limit r first o.piece.past o.chunks old new
+  pub whole : WholePiece models x runs.size runs.blocks limit r first o.piece.past o.chunks old new
   pub takes : IsUncut runs.size limit r → o.piece.bytes ≤ (o.piece.past - o.piece.first) * (runs.size + 16) + 80
 
 -- What that reads and costs. The source gives each byte once, and at most a window more; only words of the last block
@@ -68,7 +68,7 @@ pub record OutlineWork (runs : RawRuns) (first : ℕ) (r : Result Outline PieceF
       ≤ m.turns.number + z.written + 8 * (z.given - a.given) + 100)
 
 -- The same of a cutter's next piece p, whatever the source gave.
-pub record PieceAt (runs : RawRuns) (limit first first' made made' : ℕ) (st' : Stage) (old new : List ℕ) (a z : Devices)
+pub record PieceAt (runs : RawRuns) (limit first first' made made' : ℕ) (st' : CutterStage) (old new : List ℕ) (a z : Devices)
     (m m' : Meter) (p : Piece) : Type 0 where
   pub image : Appended (IsPlainImage runs.size runs.blocks) old new
   pub piece : IsNext runs.blocks limit first first' made made' st' p
@@ -85,15 +85,15 @@ pub record PieceAtWork (runs : RawRuns) (first : ℕ) (a z : Devices) (m m' : Me
   pub turns : m'.turns.number + a.written ≤ m.turns.number + z.written + 8 * (z.given - a.given) + runs.size + 100
 
 -- before the call: the cutter is one of a source that holds x, and where it stands is so
-pub record ReadyRaw (tells : Bool) (x : List ℕ) (runs : RawRuns) (limit made : ℕ) (start : Cursor) (st : Stage)
+pub record ReadyRaw (models : Bool) (x : List ℕ) (runs : RawRuns) (limit made : ℕ) (start : Cursor) (st : CutterStage)
     : Type 0 where
-  pub opened : IsTrue tells → runs.length ≡ length x
-  pub told : IsTrue tells → ToldCutter (λ c. RawPlace runs.blocks runs.size c) (λ c. runs.blocks - c.block) runs.size
+  pub opened : IsTrue models → runs.length ≡ length x
+  pub told : IsTrue models → ToldCutter (λ c. RawPlace runs.blocks runs.size c) (λ c. runs.blocks - c.block) runs.size
       (classify runs.size x) limit made start st
 
 -- Behind the last piece none is answered, and no fault; behind a fault it is answered again, and nothing is done. A
 -- fault is kept.
-pub record AnswersOver (st st' : Stage) (unchanged still : Type 0) (r : Result (Option Piece) PieceFault) : Type 0 where
+pub record AnswersOver (st st' : CutterStage) (unchanged still : Type 0) (r : Result (Option Piece) PieceFault) : Type 0 where
   pub none : IfOk r (λ o. IfNone o ((st ≡ Done) × unchanged × still))
   pub after_last : st ≡ Done → IfOk r (λ o. IfSome o (λ p. ⊥)) × OnErr r ⊥
   pub again : (f : PieceFault) → st ≡ Failed f → (r ≡ Err f) × unchanged

@@ -79,10 +79,10 @@ pub record LaidSegment (b : ℕ) (g : List Block) (now : List ℕ) (s : Segment)
   pub held : AllByRecursion IsHeldBlock g
 
 -- some blocks stand so, and where the source tells its bytes x they are those of x
-pub record ToldSegment (tells : Bool) (x : List ℕ) (b : ℕ) (now : List ℕ) (s : Segment) : Type 0 where
+pub record ToldSegment (models : Bool) (x : List ℕ) (b : ℕ) (now : List ℕ) (s : Segment) : Type 0 where
   pub blocks : List Block
   pub laid : LaidSegment b blocks now s
-  pub told : IsTrue tells → blocks ≡ between (classify b x) s.first (taken s.placer)
+  pub told : IsTrue models → blocks ≡ between (classify b x) s.first (taken s.placer)
 
 -- not one block more of the rest would be within the limit
 abbrev pub OneMoreExceeds : ℕ → ℕ → List Block → List Block → Type 0
@@ -90,10 +90,10 @@ OneMoreExceeds limit b g rest = (x : Block) (more : List Block) → rest ≡ x �
 
 -- The segment goes no further: of n blocks all are taken, or one more would be beyond the limit, which then is one that
 -- an image can reach.
-pub record EndedSegment (tells : Bool) (x : List ℕ) (b n : ℕ) (s : Segment) : Type 0 where
+pub record EndedSegment (models : Bool) (x : List ℕ) (b n : ℕ) (s : Segment) : Type 0 where
   pub moves : taken s.placer < n → s.first < taken s.placer
   pub reached : taken s.placer < n → s.limit < 2 ^ 49
-  pub over : IsTrue tells
+  pub over : IsTrue models
       → OneMoreExceeds s.limit b (between (classify b x) s.first (taken s.placer))
       (drop (taken s.placer) (classify b x))
 
@@ -114,11 +114,11 @@ pub record PartBlocks (k : RunKind) (n b : ℕ) (x : List ℕ) : Type 0 where
   pub all : AllOf k (classes b n x)
 
 -- The blocks of a segment of these runs, whose source holds x, are taken so far, and stand in the output.
-pub record ReadySegment (tells : Bool) (x : List ℕ) (runs : RawRuns) (s : Segment) (now : List ℕ) : Type 0 where
+pub record ReadySegment (models : Bool) (x : List ℕ) (runs : RawRuns) (s : Segment) (now : List ℕ) : Type 0 where
   pub sound : SoundSegment runs.size (length now) s
   pub within : taken s.placer ≤ runs.blocks
-  pub opened : IsTrue tells → runs.length ≡ length x
-  pub told : ToldSegment tells x runs.size now s
+  pub opened : IsTrue models → runs.length ≡ length x
+  pub told : ToldSegment models x runs.size now s
 
 -- A segment goes on, by which up to n blocks are laid in all. What stood before its chunks stays; where no raw run is
 -- cut it stays within its limit, also where the output is full.
@@ -153,10 +153,10 @@ pub record SegmentReads {X E : Type 0} (r : Result X E) (runs : RawRuns) (s s' :
         ≤ given + read_of runs.length runs.size (taken s'.placer) + 65536)
 
 -- A segment takes blocks of its source, which is read for them: what stands is laid, and is told.
-pub record SegmentLays {X : Type 0} (r : Result X PieceFault) (tells : Bool) (runs : RawRuns) (s s' : Segment)
+pub record SegmentLays {X : Type 0} (r : Result X PieceFault) (models : Bool) (runs : RawRuns) (s s' : Segment)
     (old new : List ℕ) (a z : Scene) : Type 0 where
-  pub lays : LaysOn r tells a z
-  pub told : OnOk r (ToldSegment tells a.content runs.size new s')
+  pub lays : LaysOn r models a z
+  pub told : OnOk r (ToldSegment models a.content runs.size new s')
   pub segment : SegmentGoes runs.size runs.blocks (full_cut r) r s s' old new
   pub inside : OnOk r (taken s'.placer ≤ runs.blocks)
   pub reads : SegmentReads r runs s s' a.given z.given

@@ -5,7 +5,7 @@ ghost use Rattle.abt_sparse.specs.Block.{classify};
 ghost use Rattle.abt_runs.specs.Raw.{RawPlace};
 ghost use Rattle.abt_pieces.specs.Cutter.{ToldCutter, is_begun, has_failed};
 ghost use Rattle.abt_pieces.specs.Fault.{CutCause, full_cut};
-ghost use Rattle.abt_pieces.specs.declared.stage.Stage.{Stage};
+ghost use Rattle.abt_pieces.specs.declared.stage.CutterStage.{CutterStage};
 ghost use Rattle.abt_pieces.specs.Calls.{CallCosts, devices};
 ghost use Rattle.abt_placed.specs.Calls.{OutputGrows, LaysOn, scene};
 ghost use Rattle.abt_pieces.specs.NextPiece.{LaidNext, SameCutter};
@@ -17,7 +17,7 @@ ghost use Rattle.abt_pieces.specs.Cutter.{full_at};
 
 use crate::segment::{Segment, most_raw};
 use abt_io::{Meter, Overwrite, Source, Window, write_out};
-use abt_pieces::{Cutter, Outline, Piece, PieceFault, Stage};
+use abt_pieces::{Cutter, CutterStage, Outline, Piece, PieceFault};
 use abt_runs::{Cursor, RawRuns};
 
 /// Lays the piece of what begins at a block, behind what stands in the output: no raw chunk has more than
@@ -36,10 +36,10 @@ pub(crate) fn lay_piece<S: Source, O: Overwrite>(
     requires some { 0 < most }
     requires small { 12 + most * runs.now.size < 2 ^ 32 }
     requires limit { 64 + runs.now.size ≤ limit }
-    requires opened { IsTrue S.tells → runs.now.length ≡ length (S.content source.old) }
-    ensures lays { LaysOn result S.tells (scene S.Source O.Output source.old output.old m.old)
+    requires opened { IsTrue S.models → runs.now.length ≡ length (S.content source.old) }
+    ensures lays { LaysOn result S.models (scene S.Source O.Output source.old output.old m.old)
         (scene S.Source O.Output source.new output.new m.new) }
-    ensures made { IfOk result (λ o. OutlineLaid S.tells (S.content source.old) runs.now limit most first
+    ensures made { IfOk result (λ o. OutlineLaid S.models (S.content source.old) runs.now limit most first
         (O.written output.old) (O.written output.new) o) }
     ensures before { take (length (O.written output.old)) (O.written output.new) ≡ O.written output.old }
     ensures unfinished { OnErr result ((O.written output.new ≡ O.written output.old) ⊎
@@ -103,10 +103,10 @@ pub fn next_piece_at<S: Source, O: Overwrite>(
     m: &mut Meter,
 ) -> Result<Option<Piece>, PieceFault>
     requires unbegun { is_begun cutter.old.stage ≡ false }
-    requires ready { ReadyRaw S.tells (S.content source.old) cutter.old.runs cutter.old.limit cutter.old.made
+    requires ready { ReadyRaw S.models (S.content source.old) cutter.old.runs cutter.old.limit cutter.old.made
         cutter.old.start cutter.old.stage }
     ensures cutter { SameCutter cutter.old.runs cutter.new.runs cutter.old.limit cutter.new.limit cutter.new.stage }
-    ensures told { IsTrue S.tells → ToldCutter (λ c. RawPlace cutter.old.runs.blocks cutter.old.runs.size c)
+    ensures told { IsTrue S.models → ToldCutter (λ c. RawPlace cutter.old.runs.blocks cutter.old.runs.size c)
         (λ c. cutter.old.runs.blocks - c.block) cutter.old.runs.size
         (classify cutter.old.runs.size (S.content source.old)) cutter.new.limit cutter.new.made cutter.new.start
         cutter.new.stage }
@@ -119,7 +119,7 @@ pub fn next_piece_at<S: Source, O: Overwrite>(
         cutter.new.start.block cutter.old.made cutter.new.made cutter.new.stage (O.written output.old)
         (O.written output.new) (devices S.Source O.Output source.old output.old)
         (devices S.Source O.Output source.new output.new) m.old m.new p)) }
-    ensures laid { IsTrue S.tells → IfOk result (λ o. IfSome o (λ p. LaidNext cutter.old.runs.size cutter.old.limit
+    ensures laid { IsTrue S.models → IfOk result (λ o. IfSome o (λ p. LaidNext cutter.old.runs.size cutter.old.limit
         (classify cutter.old.runs.size (S.content source.old)) cutter.old.start.block p (O.written output.old)
         (O.written output.new))) }
     ensures over { AnswersOver cutter.old.stage cutter.new.stage
@@ -131,14 +131,17 @@ pub fn next_piece_at<S: Source, O: Overwrite>(
         (devices S.Source O.Output source.new output.new) m.old m.new }
     ensures full { has_failed cutter.old.stage ≡ false → full_cut result ≡ 1 → IsTrue (O.is_full output.new) ×
         (length (O.written output.new) < length (O.written output.old) + cutter.old.limit) }
-    ensures cause { IfErr result (λ e. (cutter.old.stage ≡ Stage.Failed e) ⊎
-        CutCause e S.tells (S.read_faults source.old) (S.read_faults source.new) (O.write_faults output.old)
+    ensures cause { IfErr result (λ e. (cutter.old.stage ≡ CutterStage.Failed e) ⊎
+        CutCause e S.models (S.read_faults source.old) (S.read_faults source.new) (O.write_faults output.old)
         (O.write_faults output.new)) }
 {
     match cutter.stage {
-        Stage::Done => return Ok(None),
-        Stage::Failed(fault) => return Err(fault),
-        Stage::Between | Stage::Plan(_) | Stage::Begin(_) | Stage::Write(_, _) => {}
+        CutterStage::Done => return Ok(None),
+        CutterStage::Failed(fault) => return Err(fault),
+        CutterStage::Between
+        | CutterStage::Plan(_)
+        | CutterStage::Begin(_)
+        | CutterStage::Write(_, _) => {}
     }
     let first = cutter.start.block;
     let most = most_raw(cutter.limit, cutter.runs.size);

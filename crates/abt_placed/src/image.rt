@@ -37,10 +37,10 @@ pub fn sparsify_at<S: Source, O: Overwrite>(
         m.new }
     ensures written { IfOk result (λ a. ImageWritten block_size (S.size source.old) a (O.written output.old)
         (O.written output.new)) }
-    ensures chunks { IsTrue S.tells → IfOk result (λ a. (a.blocks ≡ length (classify block_size (S.content source.old)))
+    ensures chunks { IsTrue S.models → IfOk result (λ a. (a.blocks ≡ length (classify block_size (S.content source.old)))
         × (a.chunks ≡ length (chunks_of most (classify block_size (S.content source.old))))) }
     ensures grows { OutputGrows result (O.written output.old) (O.written output.new) }
-    ensures whole { IsTrue S.tells →
+    ensures whole { IsTrue S.models →
         OnOk result (O.written output.new ≡ O.written output.old ++ spelling block_size most
         (classify block_size (S.content source.old))) }
     ensures takes { ReadsOnce (S.size source.old) result (S.given source.old) (S.given source.new) }

@@ -225,11 +225,11 @@ impl Segment {
         w: &mut Window,
         m: &mut Meter,
     ) -> Result<bool, PieceFault>
-        requires ready { ReadySegment S.tells (S.content source.old) runs.now self.old (O.written output.old) }
-        ensures lays { SegmentLays result S.tells runs.now self.old self.new (O.written output.old)
+        requires ready { ReadySegment S.models (S.content source.old) runs.now self.old (O.written output.old) }
+        ensures lays { SegmentLays result S.models runs.now self.old self.new (O.written output.old)
             (O.written output.new) (scene S.Source O.Output source.old output.old m.old)
             (scene S.Source O.Output source.new output.new m.new) }
-        ensures ended { IfOk result (λ d. d ≡ true → EndedSegment S.tells (S.content source.old) runs.now.size
+        ensures ended { IfOk result (λ d. d ≡ true → EndedSegment S.models (S.content source.old) runs.now.size
             runs.now.blocks self.new) }
         ensures on { IfOk result (λ d. d ≡ false → taken self.old.placer < taken self.new.placer) }
         ensures once { IfOk result (λ d. d ≡ false → S.given source.new + read_of runs.now.length runs.now.size
@@ -286,11 +286,11 @@ impl Segment {
         w: &mut Window,
         m: &mut Meter,
     ) -> Result<(), PieceFault>
-        requires ready { ReadySegment S.tells (S.content source.old) runs.now self.old (O.written output.old) }
-        ensures lays { SegmentLays result S.tells runs.now self.old self.new (O.written output.old)
+        requires ready { ReadySegment S.models (S.content source.old) runs.now self.old (O.written output.old) }
+        ensures lays { SegmentLays result S.models runs.now self.old self.new (O.written output.old)
             (O.written output.new) (scene S.Source O.Output source.old output.old m.old)
             (scene S.Source O.Output source.new output.new m.new) }
-        ensures ended { OnOk result (EndedSegment S.tells (S.content source.old) runs.now.size runs.now.blocks
+        ensures ended { OnOk result (EndedSegment S.models (S.content source.old) runs.now.size runs.now.blocks
             self.new) }
         ensures calls { S.reads source.new + O.writes output.new + length (O.written output.old)
             ≤ S.reads source.old + O.writes output.old + length (O.written output.new) + 6

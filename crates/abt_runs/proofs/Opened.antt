@@ -11,15 +11,15 @@ use Rattle.abt_sparse.specs.Reading.{number_at, header_at, checked_header, kind_
 use Rattle.abt_sparse.proofs.Exactly.{chunks-got, chunks-bad}
 use Rattle.abt_sparse.specs.declared.chunk_header.ChunkHeader.{ChunkHeader}
 use Rattle.abt_runs.specs.declared.part.RunFault.TheVariants.{Sparse, Read, TooLarge, SourceChanged, BadBlock}
-use Rattle.abt_runs.specs.declared.stage.Stage.{Stage}
-use Rattle.abt_runs.specs.declared.stage.Stage.TheVariants as stages
+use Rattle.abt_runs.specs.declared.stage.OpeningStage.{OpeningStage}
+use Rattle.abt_runs.specs.declared.stage.OpeningStage.TheVariants as stages
 use Rattle.abt_runs.specs.Head.{chunk_header_of, head_of_kind}
 use Rattle.abt_runs.specs.Verdict.{ends, chunks_end, rest_ends, Verdict, CausedIn, ComesTo, IsFormat}
 use Rattle.abt_runs.specs.Part.{RunCaused}
 use Rattle.abt_runs.specs.Advance.{Advances, Takes}
-use Rattle.abt_runs.specs.declared.opening.Opening.{Opening}
+use Rattle.abt_runs.specs.declared.opening_state.Opening.{Opening}
 use Rattle.abt_runs.specs.declared.part.RunFault.{RunFault}
-use Rattle.abt_runs.specs.declared.stage.Progress.{Progress}
+use Rattle.abt_runs.specs.declared.stage.OpeningProgress.{OpeningProgress}
 use Rattle.std.specs.Prelude.{IsTrue, IfErr}
 
 -- ---- fields that lie in front
@@ -229,7 +229,7 @@ few_ends h i have at x le e =
 
 -- ---- what an opening has seen, from one stage to the next
 
-pub failed_is : (s : Stage) (f : SparseFault) (h : Header) (long i have at : ℕ) (x : List ℕ) (v : Result (Header × ℕ) SparseFault) → s ≡ stages.Failed (Sparse f) → Err f ≡ v → Verdict s h long i have at x v
+pub failed_is : (s : OpeningStage) (f : SparseFault) (h : Header) (long i have at : ℕ) (x : List ℕ) (v : Result (Header × ℕ) SparseFault) → s ≡ stages.Failed (Sparse f) → Err f ≡ v → Verdict s h long i have at x v
 failed_is s f h long i have at x v e k = rw e k
 
 -- a fault of the image's own bytes blames no device
@@ -240,28 +240,28 @@ format_caused TooLarge b a P h = absurd h
 format_caused SourceChanged b a P h = absurd h
 format_caused (BadBlock n) b a P h = absurd h
 
-pub own_caused : (r : Result Progress RunFault) (b a : ℕ) (P : Type 0) → IfErr r IsFormat
+pub own_caused : (r : Result OpeningProgress RunFault) (b a : ℕ) (P : Type 0) → IfErr r IsFormat
     → IfErr r (λ e. CausedIn e b a P)
 own_caused (Ok x) b a P h = tt
 own_caused (Err e) b a P h = format_caused e b a P h
 
-pub load_caused : (e : RunFault) (tells : Bool) (b a : ℕ) (S : Type 0) → RunCaused e tells b a
-    → CausedIn e b a (IsTrue tells × S)
-load_caused (Sparse f) tells b a S h = absurd h
-load_caused (Read f) tells b a S h = h
-load_caused TooLarge tells b a S h = absurd h
-load_caused SourceChanged tells b a S h = λ p. absurd (let z : true ≡ false = sym p.0 ∙ h in cc)
-load_caused (BadBlock n) tells b a S h = absurd h
+pub load_caused : (e : RunFault) (models : Bool) (b a : ℕ) (S : Type 0) → RunCaused e models b a
+    → CausedIn e b a (IsTrue models × S)
+load_caused (Sparse f) models b a S h = absurd h
+load_caused (Read f) models b a S h = h
+load_caused TooLarge models b a S h = absurd h
+load_caused SourceChanged models b a S h = λ p. absurd (let z : true ≡ false = sym p.0 ∙ h in cc)
+load_caused (BadBlock n) models b a S h = absurd h
 
 -- a fault that is answered stands
-pub failed_takes : {least : ℕ} {o o' : Opening} (r : Result Progress RunFault) (f : RunFault) → r ≡ Err f
+pub failed_takes : {least : ℕ} {o o' : Opening} (r : Result OpeningProgress RunFault) (f : RunFault) → r ≡ Err f
     → o'.stage ≡ stages.Failed f → IsFormat f → Takes least r o o'
 failed_takes r f e stage own = rw e (record { leaves = stage; on = tt; own = own })
 
-pub failed_advances : {tells : Bool} {x : List ℕ} {g g' : ℕ} {o o' : Opening} (r : Result Progress RunFault)
+pub failed_advances : {models : Bool} {x : List ℕ} {g g' : ℕ} {o o' : Opening} (r : Result OpeningProgress RunFault)
     (f : RunFault) → r ≡ Err f → o'.stage ≡ stages.Failed f
-    → (IsTrue tells → (v : Result (Header × ℕ) SparseFault) → ComesTo o x v → ComesTo o' x v)
-    → Advances tells x g g' r o o'
+    → (IsTrue models → (v : Result (Header × ℕ) SparseFault) → ComesTo o x v → ComesTo o' x v)
+    → Advances models x g g' r o o'
 failed_advances r f e stage keeps = rw e (record {
   keeps = keeps;
   leaves = stage;
@@ -270,10 +270,10 @@ failed_advances r f e stage keeps = rw e (record {
   some = λ more. absurd cc;
 })
 
-pub from_chunks : (s : Stage) (h : Header) (long i have at : ℕ) (x : List ℕ) (v : Result (Header × ℕ) SparseFault) → s ≡ stages.Chunks → Verdict s h long i have at x v → (long ≡ length x) × (rest_ends h i have at x ≡ v)
+pub from_chunks : (s : OpeningStage) (h : Header) (long i have at : ℕ) (x : List ℕ) (v : Result (Header × ℕ) SparseFault) → s ≡ stages.Chunks → Verdict s h long i have at x v → (long ≡ length x) × (rest_ends h i have at x ≡ v)
 from_chunks s h long i have at x v e k = rw e at k
 
-pub from_header : (s : Stage) (h : Header) (long i have at : ℕ) (x : List ℕ) (v : Result (Header × ℕ) SparseFault) → s ≡ stages.Header → Verdict s h long i have at x v → ends (outcome x) ≡ v
+pub from_header : (s : OpeningStage) (h : Header) (long i have at : ℕ) (x : List ℕ) (v : Result (Header × ℕ) SparseFault) → s ≡ stages.Header → Verdict s h long i have at x v → ends (outcome x) ≡ v
 from_header s h long i have at x v e k = rw e at k
 
 some_is : {a b : ChunkHeader} → Some a ≡ Some b → a ≡ b

@@ -16,14 +16,14 @@ use Rattle.abt_runs.specs.Whole.{RunOf}
 pub record ReadsImage {X : Type 0} (r : Result X RunFault) {A : Type 0} (s : sources.Ghosts A) (old new : A) : Type 0
   where
     pub reads : OnlyReads r s old new
-    pub cause : IfErr r (λ e. RunCaused e s.tells (s.read_faults old) (s.read_faults new))
+    pub cause : IfErr r (λ e. RunCaused e s.models (s.read_faults old) (s.read_faults new))
 
 -- Some blocks are asked for from a place on, of an image that was opened over the bytes x of the source that is lent.
-pub record AsksPart (W : Cursor → Type 0) (Opened : List ℕ → Type 0) (P : List ℕ → Cursor → Type 0) (tells : Bool)
+pub record AsksPart (W : Cursor → Type 0) (Opened : List ℕ → Type 0) (P : List ℕ → Cursor → Type 0) (models : Bool)
     (x : List ℕ) (from : Cursor) (cap : ℕ) : Type 0 where
   pub some : 0 < cap
   pub within : W from
-  pub told : IsTrue tells → Opened x × P x from
+  pub told : IsTrue models → Opened x × P x from
 
 -- Of whatever source: r, of at most `cap` blocks of `size` bytes where they are raw, was found from a place on in an
 -- image of `count` blocks. The source had given g bytes before, and g' then.
@@ -78,7 +78,7 @@ pub record FindsPart (W : Cursor → Type 0) (size count : ℕ) (lefts charge re
     (together : List ℕ → Cursor → ℕ) (r : Result Run RunFault) {A : Type 0} (s : sources.Ghosts A) (old new : A)
     (from : Cursor) (cap : ℕ) (m m' : Meter) : Type 0 where
   pub source : ReadsImage r s old new
-  pub told : IsTrue s.tells → IfOk r (λ q. IsToldRun (list (s.content old)) W (P (s.content old))
+  pub told : IsTrue s.models → IfOk r (λ q. IsToldRun (list (s.content old)) W (P (s.content old))
       (together (s.content old)) copied charge from cap q)
   pub found : IfOk r (λ q. Found W size count lefts charge reach taken copied padding held from cap (s.given old)
       (s.given new) q)

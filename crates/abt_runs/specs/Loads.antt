@@ -20,12 +20,12 @@ pub record Loads (fault : Option RunFault) (n : ℕ) {A : Type 0} (s : sources.G
   pub calls : s.reads new ≤ s.reads old + n + 1
   pub turns : m'.turns.number ≤ m.turns.number + n + 1
   pub no_step : NoStep m m'
-  pub cause : IfSome fault (λ e. RunCaused e s.tells (s.read_faults old) (s.read_faults new))
+  pub cause : IfSome fault (λ e. RunCaused e s.models (s.read_faults old) (s.read_faults new))
 
 -- They are asked for from a place on of a source that holds them, where it tells.
-pub record AsksBytes (tells : Bool) (x : List ℕ) (at want : ℕ) : Type 0 where
+pub record AsksBytes (models : Bool) (x : List ℕ) (at want : ℕ) : Type 0 where
   pub below : at + want < 2 ^ 64
-  pub there : IsTrue tells → at + want ≤ length x
+  pub there : IsTrue models → at + want ≤ length x
 
 -- No more came than were wanted, and all of them where nothing failed.
 pub record LoadsWanted (fault : Option RunFault) (n want : ℕ) {A : Type 0} (s : sources.Ghosts A) (old new : A)

@@ -45,11 +45,11 @@ pub record Capped (cap : ℕ) (r : Run) : Type 0 where
 
 -- a device has failed and answered so, or one that tells nothing has changed
 abbrev pub RunCaused : RunFault → Bool → ℕ → ℕ → Type 0
-RunCaused (Read f) tells before after = (before < after) × (f ≡ Failed)
-RunCaused SourceChanged tells before after = tells ≡ false
-RunCaused (Sparse f) tells before after = ⊥
-RunCaused TooLarge tells before after = ⊥
-RunCaused (BadBlock n) tells before after = ⊥
+RunCaused (Read f) models before after = (before < after) × (f ≡ Failed)
+RunCaused SourceChanged models before after = models ≡ false
+RunCaused (Sparse f) models before after = ⊥
+RunCaused TooLarge models before after = ⊥
+RunCaused (BadBlock n) models before after = ⊥
 
 -- what a part may read besides what it passes: where it begins inside a chunk, that chunk's header
 abbrev pub entry : Cursor → ℕ

@@ -9,9 +9,9 @@ use Rattle.abt_sparse.specs.View.{view}
 use Rattle.abt_io.specs.declared.device.DeviceFault.TheVariants as devices
 use Rattle.abt_runs.specs.declared.part.RunFault.{RunFault}
 use Rattle.abt_runs.specs.declared.part.RunFault.TheVariants.{Sparse, Read, TooLarge, SourceChanged, BadBlock}
-use Rattle.abt_runs.specs.declared.stage.Stage.{Stage}
-use Rattle.abt_runs.specs.declared.stage.Stage.TheVariants as stages
-use Rattle.abt_runs.specs.declared.opening.Opening.{Opening}
+use Rattle.abt_runs.specs.declared.stage.OpeningStage.{OpeningStage}
+use Rattle.abt_runs.specs.declared.stage.OpeningStage.TheVariants as stages
+use Rattle.abt_runs.specs.declared.opening_state.Opening.{Opening}
 
 -- an image ends with its header and so many bytes behind it, and all else with a fault
 abbrev pub ends : Outcome → Result (Header × ℕ) SparseFault
@@ -27,7 +27,7 @@ abbrev pub rest_ends : Header → ℕ → ℕ → ℕ → List ℕ → Result (H
 rest_ends h index have at x = chunks_end h (chunks_at h (length x) index have (h.total_chunks - index) (drop at x))
 
 -- at this stage the whole of x comes to v
-abbrev pub Verdict : Stage → Header → ℕ → ℕ → ℕ → ℕ → List ℕ → Result (Header × ℕ) SparseFault → Type 0
+abbrev pub Verdict : OpeningStage → Header → ℕ → ℕ → ℕ → ℕ → List ℕ → Result (Header × ℕ) SparseFault → Type 0
 Verdict stages.Header h long index have at x v = ends (outcome x) ≡ v
 Verdict stages.Chunks h long index have at x v = (long ≡ length x) × (rest_ends h index have at x ≡ v)
 Verdict stages.Done h long index have at x v = (long ≡ length x) × (Ok (h, length x - at) ≡ v)
@@ -39,7 +39,7 @@ abbrev pub ComesTo : Opening → List ℕ → Result (Header × ℕ) SparseFault
 ComesTo o x v = Verdict o.stage (view o.header) o.length o.index o.have o.at x v
 
 -- the length that an opening has found, once it has, is that of x
-abbrev pub SameLength : Stage → ℕ → List ℕ → Type 0
+abbrev pub SameLength : OpeningStage → ℕ → List ℕ → Type 0
 SameLength stages.Chunks long x = long ≡ length x
 SameLength s long x = ⊤
 
@@ -58,12 +58,12 @@ CausedIn TooLarge before after Same = ⊥
 CausedIn (BadBlock n) before after Same = ⊥
 
 -- and each where the opening had failed so
-abbrev pub CausedAt : Stage → RunFault → ℕ → ℕ → Type 0 → Type 0
+abbrev pub CausedAt : OpeningStage → RunFault → ℕ → ℕ → Type 0 → Type 0
 CausedAt (stages.Failed f) e before after Same = f ≡ e
 CausedAt s e before after Same = CausedIn e before after Same
 
 -- how many steps there are at most
-abbrev pub steps_left : Stage → ℕ → ℕ → ℕ
+abbrev pub steps_left : OpeningStage → ℕ → ℕ → ℕ
 steps_left stages.Header index total = 2 ^ 33
 steps_left stages.Chunks index total = 1 + (total - index)
 steps_left s index total = 0

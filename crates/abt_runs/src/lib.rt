@@ -25,7 +25,7 @@
 #![tactic(auto)]
 
 mod head;
-mod opening;
+mod opening_state;
 mod opening_steps;
 mod part;
 mod raw;
@@ -38,12 +38,12 @@ mod stage;
 mod whole;
 mod words;
 
-pub use opening::Opening;
+pub use opening_state::Opening;
 pub use part::{Cursor, Run, RunFault, RunKind};
 pub use raw::{RawRuns, leading, load_filled};
 pub use reading::Loaded;
 pub use runs::BlockRuns;
 pub use sparse::SparseRuns;
-pub use stage::{Progress, Stage};
+pub use stage::{OpeningProgress, OpeningStage};
 pub use whole::are_alike;
 pub use words::equal_word;

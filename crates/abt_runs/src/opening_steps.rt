@@ -10,7 +10,7 @@ ghost use Rattle.abt_runs.specs.Head.{chunk_header_of};
 
 use crate::head::{CHUNK_HEADER, head_at};
 use crate::reading::load;
-use crate::{Opening, Progress, RunFault, Stage};
+use crate::{Opening, OpeningProgress, OpeningStage, RunFault};
 use abt_io::{Meter, Source, Window};
 use abt_sparse::{
     ChunkHeader, SparseFault, SparseHeader, counted_blocks, data_length, header_of, u16_at,
@@ -22,11 +22,11 @@ const FILE_HEADER: usize = 28;
 impl Opening {
     /// An opening that has done nothing yet.
     pub fn begin() -> Opening
-        ensures fresh { result.stage ≡ Stage.Header }
+        ensures fresh { result.stage ≡ OpeningStage.Header }
         ensures told { (x : List ℕ) → ComesTo result x (ends (outcome x)) }
     {
         Opening {
-            stage: Stage::Header,
+            stage: OpeningStage::Header,
             header: SparseHeader {
                 minor: 0,
                 file_hdr_sz: 28,
@@ -48,23 +48,23 @@ impl Opening {
         ensures { result ≡ is_opening_done self.now.stage }
     {
         match self.stage {
-            Stage::Done => true,
-            Stage::Header | Stage::Chunks | Stage::Failed(_) => false,
+            OpeningStage::Done => true,
+            OpeningStage::Header | OpeningStage::Chunks | OpeningStage::Failed(_) => false,
         }
     }
 
     /// Ends with a fault.
-    fn fail(&mut self, fault: RunFault) -> Result<Progress, RunFault>
+    fn fail(&mut self, fault: RunFault) -> Result<OpeningProgress, RunFault>
         ensures answer { result ≡ Err fault }
-        ensures failed { self.new.stage ≡ Stage.Failed fault }
+        ensures failed { self.new.stage ≡ OpeningStage.Failed fault }
     {
-        self.stage = Stage::Failed(fault);
+        self.stage = OpeningStage::Failed(fault);
         Err(fault)
     }
 
     /// The step over the bytes of the image's header, of a source that is so long.
-    fn take_header(&mut self, bytes: &[u8], size: u64) -> Result<Progress, RunFault>
-        requires here { self.old.stage ≡ Stage.Header }
+    fn take_header(&mut self, bytes: &[u8], size: u64) -> Result<OpeningProgress, RunFault>
+        requires here { self.old.stage ≡ OpeningStage.Header }
         requires whole { length bytes.now ≡ 28 }
         requires long { 28 ≤ size }
         ensures keeps { (x : List ℕ) → length x ≡ size → bytes.now ≡ take 28 x → (v : Result (Header × ℕ) SparseFaults)
@@ -77,14 +77,14 @@ impl Opening {
                     return self.fail(RunFault::Sparse(SparseFault::Truncated { at: size }));
                 }
                 *self = Opening {
-                    stage: Stage::Chunks,
+                    stage: OpeningStage::Chunks,
                     header,
                     length: size,
                     index: 0,
                     have: 0,
                     at: u64::from(header.file_hdr_sz),
                 };
-                Ok(Progress::More)
+                Ok(OpeningProgress::More)
             }
             Err(fault) => self.fail(RunFault::Sparse(fault)),
         }
@@ -92,7 +92,7 @@ impl Opening {
 
     /// The step over the bytes of a chunk's header.
     #[inline(always)]
-    fn take_chunk(&mut self, bytes: &[u8]) -> Result<Progress, RunFault>
+    fn take_chunk(&mut self, bytes: &[u8]) -> Result<OpeningProgress, RunFault>
         requires chunk { AtChunk self.old bytes.now }
         ensures takes { TakesChunk bytes.now result self.old self.new }
     {
@@ -107,7 +107,7 @@ impl Opening {
 
     /// The same where the type is known.
     #[inline(always)]
-    fn take_known(&mut self, bytes: &[u8], chunk: ChunkHeader) -> Result<Progress, RunFault>
+    fn take_known(&mut self, bytes: &[u8], chunk: ChunkHeader) -> Result<OpeningProgress, RunFault>
         requires chunk { AtChunk self.old bytes.now }
         requires known { chunk_header_of bytes.now ≡ Some chunk }
         ensures takes { TakesChunk bytes.now result self.old self.new }
@@ -125,19 +125,19 @@ impl Opening {
             return self.fail(RunFault::Sparse(SparseFault::Truncated { at: self.length }));
         }
         *self = Opening {
-            stage: Stage::Chunks,
+            stage: OpeningStage::Chunks,
             header,
             length: self.length,
             index: self.index + 1,
             have: self.have + counts,
             at: self.at + u64::from(chunk.total),
         };
-        Ok(Progress::More)
+        Ok(OpeningProgress::More)
     }
 
     /// The step behind the last chunk.
-    fn end(&mut self) -> Result<Progress, RunFault>
-        requires here { self.old.stage ≡ Stage.Chunks }
+    fn end(&mut self) -> Result<OpeningProgress, RunFault>
+        requires here { self.old.stage ≡ OpeningStage.Chunks }
         requires last { self.old.header.total_chunks ≤ self.old.index }
         ensures keeps { (x : List ℕ) (v : Result (Header × ℕ) SparseFaults) → ComesTo self.old x v →
             ComesTo self.new x v }
@@ -148,8 +148,8 @@ impl Opening {
         if self.have != self.header.total_blks {
             return self.fail(RunFault::Sparse(SparseFault::TooFewBlocks { have: self.have }));
         }
-        self.stage = Stage::Done;
-        Ok(Progress::Done)
+        self.stage = OpeningStage::Done;
+        Ok(OpeningProgress::Done)
     }
 
     /// Reads the image's header.
@@ -158,8 +158,8 @@ impl Opening {
         source: &mut S,
         w: &mut Window,
         m: &mut Meter,
-    ) -> Result<Progress, RunFault>
-        requires here { self.old.stage ≡ Stage.Header }
+    ) -> Result<OpeningProgress, RunFault>
+        requires here { self.old.stage ≡ OpeningStage.Header }
         ensures step { StepsOpening result S.Source source.old source.new self.old self.new m.old m.new }
     {
         let size = source.length();
@@ -183,8 +183,8 @@ impl Opening {
         source: &mut S,
         w: &mut Window,
         m: &mut Meter,
-    ) -> Result<Progress, RunFault>
-        requires here { self.old.stage ≡ Stage.Chunks }
+    ) -> Result<OpeningProgress, RunFault>
+        requires here { self.old.stage ≡ OpeningStage.Chunks }
         ensures step { StepsOpening result S.Source source.old source.new self.old self.new m.old m.new }
     {
         if self.index == self.header.total_chunks {
@@ -220,18 +220,18 @@ impl Opening {
         source: &mut S,
         w: &mut Window,
         m: &mut Meter,
-    ) -> Result<Progress, RunFault>
+    ) -> Result<OpeningProgress, RunFault>
         ensures step { StepsOpening result S.Source source.old source.new self.old self.new m.old m.new }
         ensures again { IsOpeningOver self.old.stage → (self.new ≡ self.old) × (source.new ≡ source.old) }
     {
         match self.stage {
-            Stage::Header => self.read_header(source, w, m),
-            Stage::Chunks => self.read_chunk(source, w, m),
-            Stage::Done => {
+            OpeningStage::Header => self.read_header(source, w, m),
+            OpeningStage::Chunks => self.read_chunk(source, w, m),
+            OpeningStage::Done => {
                 m.close_step(0);
-                Ok(Progress::Done)
+                Ok(OpeningProgress::Done)
             }
-            Stage::Failed(fault) => {
+            OpeningStage::Failed(fault) => {
                 m.close_step(0);
                 Err(fault)
             }

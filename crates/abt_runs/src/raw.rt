@@ -91,9 +91,9 @@ pub fn load_filled<S: Source>(
 ) -> Loaded
     requires order { want ≤ room }
     requires window { room ≤ 65536 }
-    requires asks { AsksBytes S.tells (S.content source.old) at want }
+    requires asks { AsksBytes S.models (S.content source.old) at want }
     ensures wanted { LoadsWanted result.fault result.received want S.Source source.old source.new m.old m.new }
-    ensures bytes { IsTrue S.tells →
+    ensures bytes { IsTrue S.models →
         IfNone result.fault (slice_range w.new.bytes 0 room ≡ take want (drop at (S.content source.old)) ++ replicate
         (room - want) 0) }
 {
@@ -121,7 +121,7 @@ impl RawRuns {
     /// The raw image that is all of the source, in blocks of this size.
     pub fn open<S: Source>(source: &S, size: u32) -> Result<RawRuns, RunFault>
         ensures size { IfOk result (λ r. (r.size ≡ size) × (r.length ≡ S.size source.now)) }
-        ensures opened { IsTrue S.tells → IfOk result (λ r. r.length ≡ length (S.content source.now)) }
+        ensures opened { IsTrue S.models → IfOk result (λ r. r.length ≡ length (S.content source.now)) }
         ensures refused { IfErr result (λ e. RefusedRaw e size (S.size source.now)) }
     {
         if size < 4 || size > 65_536 || size % 4 != 0 {

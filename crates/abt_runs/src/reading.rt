@@ -22,9 +22,9 @@ pub fn load<S: Source>(
     m: &mut Meter,
 ) -> Loaded
     requires window { want ≤ 65536 }
-    requires asks { AsksBytes S.tells (S.content source.old) at want }
+    requires asks { AsksBytes S.models (S.content source.old) at want }
     ensures wanted { LoadsWanted result.fault result.received want S.Source source.old source.new m.old m.new }
-    ensures bytes { IsTrue S.tells →
+    ensures bytes { IsTrue S.models →
         IfNone result.fault (take want w.new.bytes ≡ take want (drop at (S.content source.old))) }
 {
     w.is_whole();

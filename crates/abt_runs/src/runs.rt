@@ -109,7 +109,7 @@ pub trait BlockRuns {
         w: &mut Window,
         m: &mut Meter,
     ) -> Result<Run, RunFault>
-        requires asks { AsksPart (within self.now) (opened self.now) (place self.now) S.tells (S.content source.old)
+        requires asks { AsksPart (within self.now) (opened self.now) (place self.now) S.models (S.content source.old)
             from cap }
         ensures part { FindsPart (within self.now) (size self.now) (count self.now) (left self.now) (charge self.now)
             (reach self.now) (taken self.now) (copied self.now) (padding self.now) (held self.now) (list self.now)
@@ -131,10 +131,10 @@ pub trait BlockRuns {
         w: &mut Window,
         m: &mut Meter,
     ) -> Result<Run, RunFault>
-        requires asks { AsksPart (within self.now) (opened self.now) (place self.now) S.tells (S.content source.old)
+        requires asks { AsksPart (within self.now) (opened self.now) (place self.now) S.models (S.content source.old)
             from cap }
         requires inside { from.block + cap ≤ count self.now }
-        requires raw { IsTrue S.tells →
+        requires raw { IsTrue S.models →
             AllOf RunKind.Raw (take cap (drop from.block (list self.now (S.content source.old)))) }
         ensures part { FindsPart (within self.now) (size self.now) (count self.now) (left self.now) (charge self.now)
             (reach self.now) (taken self.now) (copied self.now) (padding self.now) (held self.now) (list self.now)
@@ -158,12 +158,12 @@ pub trait BlockRuns {
         requires window { length out.old ≤ 65536 }
         requires within { within self.now here }
         requires room { at + length out.old ≤ reach self.now here }
-        requires told { IsTrue S.tells → opened self.now (S.content source.old) ×
+        requires told { IsTrue S.models → opened self.now (S.content source.old) ×
             place self.now (S.content source.old) here }
         ensures source { ReadsImage result S.Source source.old source.new }
         ensures within { count_of result ≤ length out.new }
         ensures some { IfOk result (λ n. 0 < length out.new → 0 < n) }
-        ensures bytes { IsTrue S.tells → IfOk result (λ n. (q : ℕ) → q ≤ together self.now (S.content source.old) here →
+        ensures bytes { IsTrue S.models → IfOk result (λ n. (q : ℕ) → q ≤ together self.now (S.content source.old) here →
             AllOf RunKind.Raw (take q (drop here.block (list self.now (S.content source.old)))) →
             at + n ≤ q * size self.now →
             take n out.new
@@ -185,10 +185,10 @@ pub trait BlockRuns {
         w: &mut Window,
         m: &mut Meter,
     ) -> Result<Run, RunFault>
-        requires asks { AsksPart (within self.now) (opened self.now) (place self.now) S.tells (S.content source.old)
+        requires asks { AsksPart (within self.now) (opened self.now) (place self.now) S.models (S.content source.old)
             from cap }
         ensures source { ReadsImage result S.Source source.old source.new }
-        ensures told { IsTrue S.tells → IfOk result (λ r. ToldRun (list self.now (S.content source.old))
+        ensures told { IsTrue S.models → IfOk result (λ r. ToldRun (list self.now (S.content source.old))
             (place self.now (S.content source.old)) (together self.now (S.content source.old)) from cap r) }
         ensures found { IfOk result (λ r. FoundRun (within self.now) (size self.now) (count self.now) (one self.now)
             (charge self.now) (reach self.now) from cap (S.given source.old) (S.given source.new) r) }

@@ -7,7 +7,7 @@ ghost use Rattle.abt_runs.specs.Stage.{is_opening_done};
 ghost use Rattle.abt_runs.specs.Verdict.{ComesTo, CausedAt, Refuses, ends};
 ghost use Rattle.abt_runs.specs.Sparse.{SparseOpened};
 
-use crate::{Opening, Progress, RunFault, SparseRuns, Stage};
+use crate::{Opening, OpeningProgress, OpeningStage, RunFault, SparseRuns};
 use abt_io::{Meter, Source, Window};
 
 impl Opening {
@@ -35,9 +35,9 @@ impl SparseRuns {
         w: &mut Window,
         m: &mut Meter,
     ) -> Result<SparseRuns, RunFault>
-        ensures opened { IsTrue S.tells →
+        ensures opened { IsTrue S.models →
             IfOk result (λ r. SparseOpened (view r.header) r.length r.image (S.content source.old)) }
-        ensures refused { IsTrue S.tells → IfErr result (λ e. Refuses e (outcome (S.content source.old))) }
+        ensures refused { IsTrue S.models → IfErr result (λ e. Refuses e (outcome (S.content source.old))) }
         ensures reads { OnlyReads result S.Source source.old source.new }
         ensures charged { IfOk result (λ r. S.given source.new ≤ S.given source.old + r.image) }
         ensures given { S.given source.old ≤ S.given source.new }
@@ -45,15 +45,15 @@ impl SparseRuns {
         ensures calls { S.reads source.new ≤ S.reads source.old + 2 * (S.given source.new - S.given source.old) + 1 }
         ensures turns { m.new.turns.number ≤ m.old.turns.number + 2 * (S.given source.new - S.given source.old) + 2 }
         ensures greatest { m.new.greatest.number ≤ max m.old.greatest.number 28 }
-        ensures cause { IfErr result (λ e. CausedAt Stage.Header e (S.read_faults source.old) (S.read_faults source.new)
-            (IsTrue S.tells)) }
+        ensures cause { IfErr result (λ e. CausedAt OpeningStage.Header e (S.read_faults source.old) (S.read_faults source.new)
+            (IsTrue S.models)) }
     {
         let mut opening = Opening::begin();
         'steps: loop {
             m.tick();
             match opening.opening_step(source, w, m) {
-                Ok(Progress::More) => {}
-                Ok(Progress::Done) => return Ok(opening.into_runs()),
+                Ok(OpeningProgress::More) => {}
+                Ok(OpeningProgress::Done) => return Ok(opening.into_runs()),
                 Err(fault) => return Err(fault),
             }
         }

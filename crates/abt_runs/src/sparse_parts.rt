@@ -121,11 +121,11 @@ fn load_word<S: Source>(
     m: &mut Meter,
 ) -> Word
     requires below { at + 4 < 2 ^ 64 }
-    requires there { IsTrue S.tells → wants_word chunk.now.kind chunk.now.blocks ≡ true →
+    requires there { IsTrue S.models → wants_word chunk.now.kind chunk.now.blocks ≡ true →
         at + 4 ≤ length (S.content source.old) }
     ensures few { result.received ≤ 4 }
     ensures none { wants_word chunk.now.kind chunk.now.blocks ≡ false → result.received ≡ 0 }
-    ensures bytes { IsTrue S.tells → IfNone result.fault (wants_word chunk.now.kind chunk.now.blocks ≡ true →
+    ensures bytes { IsTrue S.models → IfNone result.fault (wants_word chunk.now.kind chunk.now.blocks ≡ true →
         result.bytes ≡ take 4 (drop at (S.content source.old))) }
     ensures loads { Loads result.fault result.received S.Source source.old source.new m.old m.new }
 {

@@ -3,7 +3,7 @@ use crate::RunFault;
 
 /// What a step answers that was not refused.
 #[derive(Clone, Copy, Debug, PartialEq, Eq, Drop)]
-pub enum Progress {
+pub enum OpeningProgress {
     /// There is more to do.
     More,
     /// All is done.
@@ -12,7 +12,7 @@ pub enum Progress {
 
 /// What an opening does next.
 #[derive(Clone, Copy, Debug, PartialEq, Eq, Drop)]
-pub enum Stage {
+pub enum OpeningStage {
     /// It reads the image's header.
     Header,
     /// It reads the next chunk's header, or tests the count of blocks behind the last.

@@ -6,7 +6,7 @@ use Rattle.byteorder.specs.Endian.{little_bytes}
 use Rattle.sha1.specs.declared.Sha1.{Sha1}
 use Rattle.sha1.specs.Sha1.{Holds, sha1}
 use Rattle.abt_io.proofs.Parts.{take_plus}
-use Rattle.abt_headers.specs.declared.sections.Place.{Place}
+use Rattle.abt_headers.specs.declared.sections.SectionPlace.{SectionPlace}
 use Rattle.std.specs.Prelude.{IsTrue}
 use Rattle.abt_sections.specs.BootCanon.{id_for}
 use Rattle.abt_sections.specs.Id.{sized_parts, id_of}
@@ -60,13 +60,13 @@ there_length x at zero h = refl
 there_length x at (suc n) h = let k = h (omega arith) in length-take-le (suc n) (drop at x) (omega (arith, length-drop at x, k))
 
 -- what stands at one place more
-pub hash_stored : (h : Sha1) (x x' : List ℕ) (ps : List Place) (i : ℕ) (p : Place) → x' ≡ x → i < length ps → p ≡ get_or ps i p → (0 < p.size → p.at + p.size ≤ length x') → Holds h ((sized_parts (take i (parts_of x ps)) ++ take p.size (drop p.at x')) ++ little_bytes 4 p.size)
+pub hash_stored : (h : Sha1) (x x' : List ℕ) (ps : List SectionPlace) (i : ℕ) (p : SectionPlace) → x' ≡ x → i < length ps → p ≡ get_or ps i p → (0 < p.size → p.at + p.size ≤ length x') → Holds h ((sized_parts (take i (parts_of x ps)) ++ take p.size (drop p.at x')) ++ little_bytes 4 p.size)
     → Holds h (sized_parts (take (i + 1) (parts_of x ps)))
 hash_stored h x x' ps i p same lt is there held =
     let f = part_of x in
     let b = part_of x p in
     let long : length b ≡ p.size = there_length x p.at p.size (λ k. omega (arith, there k, ap length same)) in
-    let next : take (i + 1) (parts_of x ps) ≡ take i (parts_of x ps) ++ (b ∷ []) = next_part f ps ps i p refl lt ∙ ap (λ (q : Place). take i (parts_of x ps) ++ (f q ∷ [])) (sym is) in
+    let next : take (i + 1) (parts_of x ps) ≡ take i (parts_of x ps) ++ (b ∷ []) = next_part f ps ps i p refl lt ∙ ap (λ (q : SectionPlace). take i (parts_of x ps) ++ (f q ∷ [])) (sym is) in
     let all : take p.size b ≡ b = take_all p.size b (omega (arith, long)) in
     let e : (sized_parts (take i (parts_of x ps)) ++ take p.size (drop p.at x')) ++ little_bytes 4 p.size ≡ (sized_parts (take i (parts_of x ps)) ++ take p.size b) ++ little_bytes 4 p.size =
     ap (λ (l : List ℕ). (sized_parts (take i (parts_of x ps)) ++ take p.size (drop p.at l)) ++ little_bytes 4 p.size) same

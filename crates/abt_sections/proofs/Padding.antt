@@ -4,7 +4,7 @@ use Rattle.std.proofs.Math.Nat.{mul-add}
 use Rattle.std.proofs.lemmas.Bool.{and_parts, and_from, eqb-true, eq-eqb}
 use Rattle.std.proofs.lemmas.List.{take_at, drop_at, length-replicate}
 use Rattle.abt_headers.specs.declared.sections.Section.{Section}
-use Rattle.abt_headers.specs.declared.sections.Place.{Place}
+use Rattle.abt_headers.specs.declared.sections.SectionPlace.{SectionPlace}
 use Rattle.abt_headers.specs.Page.{pages}
 use Rattle.abt_headers.specs.Places.{places_from}
 use Rattle.abt_headers.proofs.Places.{enough_pages}
@@ -54,7 +54,7 @@ pub laid_back : (p : ℕ) → 0 < p → (k : ℕ) (ss : List (Section × ℕ)) (
     → (rest : List ℕ) × (drop (p * k) x ≡ laid p (parts_of x (places_from p k ss)) ++ rest)
 laid_back p some k [] x there e = (drop (p * k) x, refl)
 laid_back p some k (s ∷ ss) x there e =
-    let place : Place = record { kind = s.0; at = p * k; size = s.1 } in
+    let place : SectionPlace = record { kind = s.0; at = p * k; size = s.1 } in
     let n = none_at place (places_from p (k + pages s.1 p) ss) (length x) there in
     let z = and_parts (zeros_there x (p * k + s.1) (padding s.1 p)) (padded_places x p (places_from p (k + pages s.1 p) ss)) e in
     let q = part_of x place in
@@ -119,7 +119,7 @@ laid_out_padded x h parts rest fits s e =
     let next : drop (p * pages n p) x ≡ tail = ap (drop (p * pages n p)) whole ∙ drop_at (padded p r) tail (p * pages n p) first in
     and_from _ _ (stand_zeros x tail n (padding n p) behind) (laid_padded p (some_page h) (pages n p) (sections_of h) parts x rest next s)
 
-pub placed_parts : (x : List ℕ) (ps : List Place) (parts : List (List ℕ)) → PartsPlaced x ps parts → parts_of x ps ≡ parts
+pub placed_parts : (x : List ℕ) (ps : List SectionPlace) (parts : List (List ℕ)) → PartsPlaced x ps parts → parts_of x ps ≡ parts
 placed_parts x [] [] h = refl
 placed_parts x [] (q ∷ qs) h = absurd h
 placed_parts x (p ∷ ps) [] h = absurd h

@@ -72,8 +72,8 @@ pub all_part : {X Y E F : Type 0} {y : Y} {r : Result X E} {A : Type 0} (s : sou
 all_part {r = r} s ps0 ps i d a within k e =
     let risen = sum_by-set s.read_faults ps i a d within in
     record {
-      content = λ tells. kept s.content ps i d a (e.content tells) ∙ k.content tells;
-      size = λ tells. kept s.size ps i d a (e.size tells) ∙ k.size tells;
+      content = λ models. kept s.content ps i d a (e.content models) ∙ k.content models;
+      size = λ models. kept s.size ps i d a (e.size models) ∙ k.size models;
       frame = kept s.read_frame ps i d a e.frame ∙ k.frame;
       faults = omega (arith, k.faults, risen, e.faults);
       clean = on_ok_then r (λ same. omega (arith, k.clean, risen, same)) e.clean;

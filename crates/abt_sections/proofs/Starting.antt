@@ -2,7 +2,7 @@
 use Rattle.std.proofs.Common.{◌≡◌, ℕ, ◌+◌, ◌*◌, List, [], ◌∷◌, ◌++◌, length, take, drop, refl, sym, ap, ◌∙◌, take-append-drop, None}
 use Rattle.std.proofs.lemmas.List.{take_at}
 use Rattle.abt_headers.specs.declared.sections.Section.{Section}
-use Rattle.abt_headers.specs.declared.sections.Place.{Place}
+use Rattle.abt_headers.specs.declared.sections.SectionPlace.{SectionPlace}
 use Rattle.abt_headers.specs.Page.{pages}
 use Rattle.abt_headers.specs.Places.{places_from}
 use Rattle.abt_sections.specs.Layout.{Sized, parts_of}
@@ -21,6 +21,6 @@ continues x y e = sym (take-append-drop (length y) x) ∙ ap (λ (l : List ℕ).
 pub sized_there : (p k : ℕ) (ss : List (Section × ℕ)) (x : List ℕ) → beyond (places_from p k ss) (length x) ≡ None → Sized ss (parts_of x (places_from p k ss))
 sized_there p k [] x there = tt
 sized_there p k (s ∷ ss) x there =
-    let place : Place = record { kind = s.0; at = p * k; size = s.1 } in
+    let place : SectionPlace = record { kind = s.0; at = p * k; size = s.1 } in
     let n = none_at place (places_from p (k + pages s.1 p) ss) (length x) there in
     (there_length x (p * k) s.1 (ends_there place (length x) n.0), sized_there p (k + pages s.1 p) ss x n.1)

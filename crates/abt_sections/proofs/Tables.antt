@@ -2,7 +2,7 @@
 use Rattle.std.proofs.Common.{◌≡◌, ℕ, zero, suc, ◌+◌, ◌*◌, ◌≤◌, ◌<◌, Bool, true, false, cond, List, [], ◌∷◌, length, get_or, refl, sym, ap, ◌∙◌, arith, Option, Some, None, nat_lt, ◌&&◌, ◌-◌, take, drop, drop-drop}
 use Rattle.std.proofs.lemmas.List.{take-take, drop-take, get_or_default}
 use Rattle.std.proofs.lemmas.Bool.{ltb-false, lt-ltb}
-use Rattle.abt_headers.specs.declared.sections.Place.{Place}
+use Rattle.abt_headers.specs.declared.sections.SectionPlace.{SectionPlace}
 use Rattle.abt_headers.specs.declared.sections.Section.{Section}
 use Rattle.abt_headers.specs.declared.sections.Section.TheVariants.{VendorRamdisk, Table}
 use Rattle.abt_headers.specs.declared.vendor.VendorFront.{VendorFront}
@@ -15,28 +15,28 @@ here : (b : Bool) (s : Section) (o : Option Section) → cond b (Some s) o ≡ N
 here true s o e = absurd cc
 here false s o e = (refl, e)
 
-pub none_at : (p : Place) (ps : List Place) (n : ℕ) → beyond (p ∷ ps) n ≡ None → (ends_beyond p n ≡ false) × (beyond ps n ≡ None)
+pub none_at : (p : SectionPlace) (ps : List SectionPlace) (n : ℕ) → beyond (p ∷ ps) n ≡ None → (ends_beyond p n ≡ false) × (beyond ps n ≡ None)
 unfolding beyond
 none_at p ps n e = here (ends_beyond p n) p.kind (beyond ps n) e
 
-pub ends_there : (p : Place) (n : ℕ) → ends_beyond p n ≡ false → 0 < p.size → p.at + p.size ≤ n
+pub ends_there : (p : SectionPlace) (n : ℕ) → ends_beyond p n ≡ false → 0 < p.size → p.at + p.size ≤ n
 ends_there p n e some =
     let first = lt-ltb 0 p.size some in
     ltb-false n (p.at + p.size) (ap (λ (b : Bool). b && nat_lt n (p.at + p.size)) (sym first) ∙ e)
 
 -- a section that isn't empty is there
-pub place_there : (ps : List Place) (n i : ℕ) (p : Place) → beyond ps n ≡ None → i < length ps → p ≡ get_or ps i p → 0 < p.size → p.at + p.size ≤ n
+pub place_there : (ps : List SectionPlace) (n i : ℕ) (p : SectionPlace) → beyond ps n ≡ None → i < length ps → p ≡ get_or ps i p → 0 < p.size → p.at + p.size ≤ n
 place_there [] n i p e h is some = absurd (omega arith)
 place_there (q ∷ ps) n zero p e h is some =
-    let t : 0 < q.size = omega (arith, ap (λ (r : Place). r.size) is) in
+    let t : 0 < q.size = omega (arith, ap (λ (r : SectionPlace). r.size) is) in
     let k = ends_there q n (none_at q ps n e).0 t in
-    omega (arith, k, ap (λ (r : Place). r.size) is, ap (λ (r : Place). r.at) is)
+    omega (arith, k, ap (λ (r : SectionPlace). r.size) is, ap (λ (r : SectionPlace). r.at) is)
 place_there (q ∷ ps) n (suc i) p e h is some = place_there ps n i p (none_at q ps n e).1 (omega arith) is some
 
 whole_table : (f : VendorFront) (t : Tail) (n i : ℕ) → t.table_size ≡ 108 * t.entry_num → beyond (places_of (OfVendor (record { front = f; tail = Some t }))) n ≡ None → i < t.entry_num → table_at (OfVendor (record { front = f; tail = Some t })) + 108 * i + 108 ≤ n
 whole_table f t n i whole e h =
     let h4 : Header = OfVendor (record { front = f; tail = Some t }) in
-    let p : Place = record { kind = Table; at = table_at h4; size = t.table_size } in
+    let p : SectionPlace = record { kind = Table; at = table_at h4; size = t.table_size } in
     let k = place_there (places_of h4) n 2 p e (omega arith) refl (omega (arith, whole)) in
     omega (arith, k, whole)
 
@@ -52,11 +52,11 @@ entry_there (OfVendor v) n i whole e lt = vendor_entry v.front v.tail n i whole 
 vendor_ramdisk : (f : VendorFront) (t : Option Tail) (n : ℕ) → beyond (places_of (OfVendor (record { front = f; tail = t }))) n ≡ None → 0 < f.vendor_ramdisk_size → ramdisk_at (OfVendor (record { front = f; tail = t })) + f.vendor_ramdisk_size ≤ n
 vendor_ramdisk f None n e some =
     let h : Header = OfVendor (record { front = f; tail = None }) in
-    let p : Place = record { kind = VendorRamdisk; at = ramdisk_at h; size = f.vendor_ramdisk_size } in
+    let p : SectionPlace = record { kind = VendorRamdisk; at = ramdisk_at h; size = f.vendor_ramdisk_size } in
     place_there (places_of h) n 0 p e (omega arith) refl some
 vendor_ramdisk f (Some t) n e some =
     let h : Header = OfVendor (record { front = f; tail = Some t }) in
-    let p : Place = record { kind = VendorRamdisk; at = ramdisk_at h; size = f.vendor_ramdisk_size } in
+    let p : SectionPlace = record { kind = VendorRamdisk; at = ramdisk_at h; size = f.vendor_ramdisk_size } in
     place_there (places_of h) n 0 p e (omega arith) refl some
 
 -- the vendor ramdisk is there
@@ -72,7 +72,7 @@ part_within x at r o n h =
     sym (ap (λ (m : ℕ). take n (drop o (take m (drop at x)))) e ∙ ap (take n) (drop-take o (r - o) (drop at x)) ∙ take-take n (r - o) (drop o (drop at x)) k ∙ ap (take n) (drop-drop o at x))
 
 -- the section at a place of the list is one
-pub same_place : (ps : List Place) (i : ℕ) (p q : Place) → i < length ps → p ≡ get_or ps i p → q ≡ get_or ps i q → p ≡ q
+pub same_place : (ps : List SectionPlace) (i : ℕ) (p q : SectionPlace) → i < length ps → p ≡ get_or ps i p → q ≡ get_or ps i q → p ≡ q
 same_place ps i p q lt a b = a ∙ get_or_default ps i p q lt ∙ sym b
 
 -- the fragment that an entry says

@@ -4,7 +4,7 @@ use Rattle.std.specs.Prelude.{◌↔◌}
 use Rattle.std.proofs.lemmas.Bool.{and_left, and_right, le-ltb, cases_lt}
 use Rattle.abt_headers.specs.declared.fault.HeaderFault.{HeaderFault}
 use Rattle.abt_headers.specs.declared.sections.Section.{Section}
-use Rattle.abt_headers.specs.declared.sections.Place.{Place}
+use Rattle.abt_headers.specs.declared.sections.SectionPlace.{SectionPlace}
 use Rattle.abt_headers.specs.declared.vendor.VendorFront.{VendorFront}
 use Rattle.abt_headers.specs.Page.{pages}
 use Rattle.abt_headers.specs.Places.{places_from}
@@ -35,13 +35,13 @@ pub record IsPacked (x : List ℕ) (h : Header) : Type 0 where
 
 -- ---- parts that stand whole are there, and back
 
-not_beyond : (x : List ℕ) (p : Place) → length (part_of x p) ≡ p.size → ends_beyond p (length x) ≡ false
+not_beyond : (x : List ℕ) (p : SectionPlace) → length (part_of x p) ≡ p.size → ends_beyond p (length x) ≡ false
 not_beyond x p e = elim (cases_lt 0 p.size) [
   | inl some ↦ and_right (nat_lt 0 p.size) (nat_lt (length x) (p.at + p.size)) (le-ltb (length x) (p.at + p.size) (omega (arith, some, e, length-take p.size (drop p.at x), length-drop p.at x)))
   | inr none ↦ and_left (nat_lt 0 p.size) (nat_lt (length x) (p.at + p.size)) (le-ltb 0 p.size none)
 ]
 
-pub placed_there : (x : List ℕ) (ps : List Place) (parts : List (List ℕ)) → PartsPlaced x ps parts → beyond ps (length x) ≡ None
+pub placed_there : (x : List ℕ) (ps : List SectionPlace) (parts : List (List ℕ)) → PartsPlaced x ps parts → beyond ps (length x) ≡ None
 unfolding beyond
 placed_there x [] [] h = refl
 placed_there x [] (q ∷ qs) h = absurd h
@@ -53,7 +53,7 @@ placed_there x (p ∷ ps) (q ∷ qs) h =
 there_placed : (p k : ℕ) (ss : List (Section × ℕ)) (x : List ℕ) → beyond (places_from p k ss) (length x) ≡ None → PartsPlaced x (places_from p k ss) (parts_of x (places_from p k ss))
 there_placed p k [] x there = tt
 there_placed p k (s ∷ ss) x there =
-    let place : Place = record { kind = s.0; at = p * k; size = s.1 } in
+    let place : SectionPlace = record { kind = s.0; at = p * k; size = s.1 } in
     let n = none_at place (places_from p (k + pages s.1 p) ss) (length x) there in
     (there_length x (p * k) s.1 (ends_there place (length x) n.0), refl, there_placed p (k + pages s.1 p) ss x n.1)
 

@@ -1,7 +1,7 @@
 -- What checking an image tells.
 use Rattle.std.specs.Prelude.{◌≡◌, ℕ, zero, suc, IsSome, ◌+◌, ◌==◌, ◌&&◌, Bool, true, false, if◌then◌else◌, IsTrue}
 use Rattle.std.specs.Prelude.{List, [], ◌∷◌, ◌++◌, length, take, drop, ◌<◌, ◌↔◌}
-use Rattle.abt_headers.specs.declared.sections.Place.{Place}
+use Rattle.abt_headers.specs.declared.sections.SectionPlace.{SectionPlace}
 use Rattle.abt_headers.specs.declared.boot.BootFront.{BootFront}
 use Rattle.abt_headers.specs.declared.boot.ShortFront.{ShortFront}
 use Rattle.abt_headers.specs.declared.boot.BootHeader.{BootHeader}
@@ -26,7 +26,7 @@ abbrev pub zeros_there : List ℕ → ℕ → ℕ → Bool
 zeros_there x at n = (length (take n (drop at x)) == n) && all_zero (take n (drop at x))
 
 -- behind each of these places, up to a page boundary
-abbrev pub padded_places : List ℕ → ℕ → List Place → Bool
+abbrev pub padded_places : List ℕ → ℕ → List SectionPlace → Bool
 padded_places x page [] = true
 padded_places x page (p ∷ ps) = zeros_there x (p.at + p.size) (padding p.size page) && padded_places x page ps
 

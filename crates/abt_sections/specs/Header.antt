@@ -4,7 +4,7 @@ use Rattle.std.specs.Prelude.{drop, Option, Some, None, Result}
 use Rattle.abt_headers.specs.declared.fault.HeaderFault.{HeaderFault}
 use Rattle.abt_headers.specs.declared.boot.BootHeader.{BootHeader}
 use Rattle.abt_headers.specs.declared.sections.Section.{Section}
-use Rattle.abt_headers.specs.declared.sections.Place.{Place}
+use Rattle.abt_headers.specs.declared.sections.SectionPlace.{SectionPlace}
 use Rattle.abt_headers.specs.declared.entry.RamdiskEntry.{RamdiskEntry}
 use Rattle.abt_headers.specs.Field.{number_at}
 use Rattle.abt_headers.specs.Page.{pages}
@@ -45,7 +45,7 @@ sections_of (OfBoot h) = boot_sections h
 sections_of (OfVendor v) = vendor_sections v
 
 -- where the sections stand: each at the first page boundary behind the one before
-abbrev pub places_of : Header → List Place
+abbrev pub places_of : Header → List SectionPlace
 places_of h = places_from (page_of h) (pages (size_of h) (page_of h)) (sections_of h)
 
 -- the values that the fields can have

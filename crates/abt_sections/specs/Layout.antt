@@ -1,7 +1,7 @@
 -- How an image is laid out: its record first, then its parts, each from a page boundary on, zeros between.
 use Rattle.std.specs.Prelude.{◌≡◌, ℕ, ◌-◌, ◌*◌, List, [], ◌∷◌, ◌++◌, length, take, drop, map, replicate, sum_by}
 use Rattle.abt_headers.specs.declared.sections.Section.{Section}
-use Rattle.abt_headers.specs.declared.sections.Place.{Place}
+use Rattle.abt_headers.specs.declared.sections.SectionPlace.{SectionPlace}
 use Rattle.abt_headers.specs.Page.{pages}
 
 -- how many bytes of the last page n bytes leave free
@@ -30,14 +30,14 @@ abbrev pub laid_size : ℕ → List ℕ → ℕ
 laid_size page sizes = sum_by (λ n. pages n page * page) sizes
 
 -- what stands at a place of x
-abbrev pub part_of : List ℕ → Place → List ℕ
+abbrev pub part_of : List ℕ → SectionPlace → List ℕ
 part_of x p = take p.size (drop p.at x)
 
-abbrev pub parts_of : List ℕ → List Place → List (List ℕ)
+abbrev pub parts_of : List ℕ → List SectionPlace → List (List ℕ)
 parts_of x places = map (part_of x) places
 
 -- each part stands whole at its place, and has the size of the place
-abbrev pub PartsPlaced : List ℕ → List Place → List (List ℕ) → Type 0
+abbrev pub PartsPlaced : List ℕ → List SectionPlace → List (List ℕ) → Type 0
 PartsPlaced x [] [] = Unit {0}
 PartsPlaced x [] (q ∷ qs) = ⊥
 PartsPlaced x (p ∷ ps) [] = ⊥

@@ -69,22 +69,22 @@ pub record LaysRecord {X : Type 0} (r : Result X SectionFault) {B : Type 0} (o :
 -- A part that must have this size, and must still have it then, is moved to an output: x is appended, of n bytes.
 pub record MovesPart {X : Type 0} (r : Result X SectionFault) {A : Type 0} (s : sources.Ghosts A) (a a' : A)
     {B : Type 0} (o : outputs.Ghosts B) (b b' : B) (size : ℕ) (x : List ℕ) (n : ℕ) : Type 0 where
-  pub moves : MovesUnless r s a a' o b b' (IsTrue s.tells → s.size a ≡ size → ⊥)
-  pub written : IsTrue s.tells → OnOk r (o.written b' ≡ o.written b ++ x)
+  pub moves : MovesUnless r s a a' o b b' (IsTrue s.models → s.size a ≡ size → ⊥)
+  pub written : IsTrue s.models → OnOk r (o.written b' ≡ o.written b ++ x)
   pub bytes : GrowsBy r (o.written b) (o.written b') n
   pub lasting : OnOk r ((s.size a ≡ size) × (s.size a' ≡ size))
 
 -- Parts that must have these sizes, and must still have them then, are moved to an output, which then holds `whole`.
 pub record MovesParts {X : Type 0} (r : Result X SectionFault) {A : Type 0} (s : sources.Ghosts A) (a a' : List A)
     {B : Type 0} (o : outputs.Ghosts B) (b b' : B) (sizes whole : List ℕ) : Type 0 where
-  pub moves : MovesAllUnless r s a a' o b b' (IsTrue s.tells → sizes ≡ filled 5 (map s.size a) → ⊥)
-  pub written : IsTrue s.tells → OnOk r (o.written b' ≡ whole)
+  pub moves : MovesAllUnless r s a a' o b b' (IsTrue s.models → sizes ≡ filled 5 (map s.size a) → ⊥)
+  pub written : IsTrue s.models → OnOk r (o.written b' ≡ whole)
   pub lasting : OnOk r (map s.size a' ≡ take (length a) sizes)
 
 -- Ramdisks, which must keep their sizes, are moved to an output: x is appended, or where it fails a beginning of x.
 pub record MovesRamdisks {X : Type 0} (r : Result X SectionFault) {A : Type 0} (s : sources.Ghosts A) (a a' : List A)
     {B : Type 0} (o : outputs.Ghosts B) (b b' : B) (x : List ℕ) : Type 0 where
-  pub moves : MovesAllUnless r s a a' o b b' (IsTrue s.tells → ⊥)
+  pub moves : MovesAllUnless r s a a' o b b' (IsTrue s.models → ⊥)
   pub lasting : OnOk r (map s.size a' ≡ map s.size a)
-  pub written : IsTrue s.tells → OnOk r (o.written b' ≡ o.written b ++ x)
-  pub front : IsTrue s.tells → AppendsFront (o.written b) (o.written b') x
+  pub written : IsTrue s.models → OnOk r (o.written b' ≡ o.written b ++ x)
+  pub front : IsTrue s.models → AppendsFront (o.written b) (o.written b') x

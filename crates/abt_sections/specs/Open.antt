@@ -1,7 +1,7 @@
 -- What opening an image finds.
 use Rattle.std.specs.Prelude.{◌≡◌, ℕ, ◌+◌, ◌<◌, ◌&&◌, nat_lt, Bool, if◌then◌else◌, List, [], ◌∷◌, length, Option, Some}
 use Rattle.std.specs.Prelude.{None, Result, Ok, Err}
-use Rattle.abt_headers.specs.declared.sections.Place.{Place}
+use Rattle.abt_headers.specs.declared.sections.SectionPlace.{SectionPlace}
 use Rattle.abt_headers.specs.declared.sections.Section.{Section}
 use Rattle.abt_sections.specs.declared.fault.SectionFault.{SectionFault}
 use Rattle.abt_sections.specs.declared.fault.SectionFault.TheVariants as faults
@@ -10,11 +10,11 @@ use Rattle.abt_sections.specs.Header.{Header, view_of, image_header_at, places_o
 use Rattle.abt_sections.specs.Header.{EachWithin, IsImage}
 
 -- a place isn't empty and ends past n bytes
-abbrev pub ends_beyond : Place → ℕ → Bool
+abbrev pub ends_beyond : SectionPlace → ℕ → Bool
 ends_beyond p n = nat_lt 0 p.size && nat_lt n (p.at + p.size)
 
 -- the first such place
-unfoldable pub beyond : List Place → ℕ → Option Section
+unfoldable pub beyond : List SectionPlace → ℕ → Option Section
 beyond [] n = None
 beyond (p ∷ ps) n = if ends_beyond p n then Some p.kind else beyond ps n
 

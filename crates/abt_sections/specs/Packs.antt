@@ -17,10 +17,10 @@ pub record AppendsBoot (r : Result Packed SectionFault) {A : Type 0} (s : source
   pub reads : OnlyReadsAll r s a a'
   pub writes : OnlyWrites r (full_handed r) o b b'
   pub refused : IfRefused (pack_boot_refusal fields (map s.size a)) (λ f. (r ≡ Err f) × (b' ≡ b))
-  pub written : IsTrue s.tells → OnOk r (o.written b' ≡ o.written b ++ boot_canon fields (map s.content a))
+  pub written : IsTrue s.models → OnOk r (o.written b' ≡ o.written b ++ boot_canon fields (map s.content a))
   pub most : length (o.written b') ≤ length (o.written b) + boot_image_size fields (map s.size a)
   pub packed : IfOk r (λ p. (p.bytes ≡ boot_image_size fields (map s.size a)) × (length (o.written b') ≡ length
       (o.written b) + p.bytes))
   pub lasting : OnOk r (map s.size a' ≡ map s.size a)
   pub cause : IfErr r (λ e. PackCause (pack_boot_refusal fields (map s.size a)) e (total s.read_faults a)
-      (total s.read_faults a') (o.write_faults b) (o.write_faults b') (IsTrue s.tells → ⊥))
+      (total s.read_faults a') (o.write_faults b) (o.write_faults b') (IsTrue s.models → ⊥))

@@ -24,4 +24,4 @@ pub record OpensUnless {X : Type 0} (r : Result X SectionFault) {A : Type 0} (s 
 pub record FindsUnless {X : Type 0} (r : Result X SectionFault) {A : Type 0} (s : sources.Ghosts A) (old new : A)
     (changed : Type 0) (P : X → Type 0) : Type 0 where
   pub reads : ReadsUnless r s old new changed
-  pub value : IsTrue s.tells → IfOk r P
+  pub value : IsTrue s.models → IfOk r P

@@ -17,7 +17,7 @@ use crate::hashing::stored_id;
 use crate::image::{Image, ImageHeader, is_as_long};
 use crate::reading::{next_ask, read_front};
 use crate::texts::no_zero;
-use crate::writing::padding;
+use crate::write_padded::padding;
 use abt_headers::{BootFront, BootHeader, Sections, ShortFront, VendorHeader};
 use abt_io::{Meter, Source, Window};
 
@@ -56,7 +56,7 @@ fn zeros_there<S: Source>(
     w: &mut Window,
     m: &mut Meter,
 ) -> Result<bool, SectionFault>
-    ensures found { FindsUnless result S.Source source.old source.new (IsTrue S.tells → ⊥)
+    ensures found { FindsUnless result S.Source source.old source.new (IsTrue S.models → ⊥)
         (λ b. b ≡ check_spec.zeros_there (S.content source.old) at n) }
 {
     if n == 0 {
@@ -94,7 +94,7 @@ fn places_padded<S: Source>(
 ) -> Result<bool, SectionFault>
     requires some { 0 < page }
     requires low { EachLow sections.now }
-    ensures found { FindsUnless result S.Source source.old source.new (IsTrue S.tells → ⊥)
+    ensures found { FindsUnless result S.Source source.old source.new (IsTrue S.models → ⊥)
         (λ b. b ≡ check_spec.padded_places (S.content source.old) page sections.now) }
 {
     for i in 0..sections.count() {
@@ -116,7 +116,7 @@ fn padding_holds<S: Source>(
     w: &mut Window,
     m: &mut Meter,
 ) -> Result<bool, SectionFault>
-    ensures found { FindsUnless result S.Source source.old source.new (IsTrue S.tells → ⊥)
+    ensures found { FindsUnless result S.Source source.old source.new (IsTrue S.models → ⊥)
         (λ b. b ≡ check_spec.padding_holds (S.content source.old) (view_of header.now)) }
 {
     let page = header.page_size();
@@ -138,8 +138,8 @@ fn id_holds<S: Source>(
     m: &mut Meter,
 ) -> Result<bool, SectionFault>
     ensures reads { ReadsUnless result S.Source source.old source.new
-        (IsTrue S.tells → beyond (places_of (view_of header.now)) (length (S.content source.old)) ≡ None → ⊥) }
-    ensures value { IsTrue S.tells → IfOk result (λ b. IsTrue b ↔ check_spec.IdHolds (S.content source.old)
+        (IsTrue S.models → beyond (places_of (view_of header.now)) (length (S.content source.old)) ≡ None → ⊥) }
+    ensures value { IsTrue S.models → IfOk result (λ b. IsTrue b ↔ check_spec.IdHolds (S.content source.old)
         (view_of header.now)) }
 {
     let front = match header {
@@ -274,7 +274,7 @@ fn compare<S: Source>(
     m: &mut Meter,
 ) -> Result<Verdict, SectionFault>
     ensures found { FindsUnless result S.Source source.old source.new
-        (IsTrue S.tells → IsOpened (S.content source.old) image.now → ⊥)
+        (IsTrue S.models → IsOpened (S.content source.old) image.now → ⊥)
         (check_spec.IsVerdict (S.content source.old) (view_of image.now.header)) }
     ensures offset { IfOk result (λ v. v.offset ≡ check_spec.offset_holds (view_of image.now.header)) }
     ensures changed { (S.size source.old ≡ image.now.length → ⊥) → (result ≡ Err SectionFault.SourceChanged) ×
@@ -319,11 +319,11 @@ pub fn check<S: Source>(
     m: &mut Meter,
 ) -> Result<Verdict, SectionFault>
     ensures reads { ReadsUnless result S.Source source.old source.new
-        (IsTrue S.tells → IsOpened (S.content source.old) image.now → ⊥) }
-    ensures verdict { IsTrue S.tells →
+        (IsTrue S.models → IsOpened (S.content source.old) image.now → ⊥) }
+    ensures verdict { IsTrue S.models →
         IfOk result (check_spec.IsVerdict (S.content source.old) (view_of image.now.header)) }
     ensures offset { IfOk result (λ v. v.offset ≡ check_spec.offset_holds (view_of image.now.header)) }
-    ensures packed { IsTrue S.tells → IsOpened (S.content source.old) image.now →
+    ensures packed { IsTrue S.models → IsOpened (S.content source.old) image.now →
         IfOk result (λ v. IsTrue v.canonical ↔ StartsAsPacked (S.content source.old)) }
     ensures changed { (S.size source.old ≡ image.now.length → ⊥) → (result ≡ Err SectionFault.SourceChanged) ×
         (source.new ≡ source.old) }

@@ -93,8 +93,8 @@ fn read_entry<S: Source>(
 ) -> Result<RamdiskEntry, SectionFault>
     requires { table.now.at < 2 ^ 62 }
     ensures reads { ReadsUnless result S.Source source.old source.new
-        (IsTrue S.tells → table.now.at + 108 * i + 108 ≤ length (S.content source.old) → ⊥) }
-    ensures entry { IsTrue S.tells → IfOk result (λ e. e ≡ entry_at (take 108
+        (IsTrue S.models → table.now.at + 108 * i + 108 ≤ length (S.content source.old) → ⊥) }
+    ensures entry { IsTrue S.models → IfOk result (λ e. e ≡ entry_at (take 108
         (drop (table.now.at + 108 * i) (S.content source.old)))) }
 {
     match read_front(source, place_of_entry(table, i), 108, w, m) {
@@ -109,13 +109,13 @@ fn read_entry<S: Source>(
 /// The entries of a table that stand at the window's front: from `first` up to `end`. The step that read them ends once
 /// they are used.
 #[derive(Clone, Copy)]
-struct Held {
+struct LoadedEntries {
     first: u32,
     end: u32,
 }
 
 /// Ends the step that read the entries at the window's front.
-fn end_held(held: Held, m: &mut Meter)
+fn end_held(held: LoadedEntries, m: &mut Meter)
     requires from { held.first ≤ held.end }
     requires few { held.end ≤ held.first + 606 }
 {
@@ -129,16 +129,16 @@ fn end_held(held: Held, m: &mut Meter)
 fn hold_entry<S: Source>(
     table: &Table,
     i: u32,
-    held: Held,
+    held: LoadedEntries,
     source: &mut S,
     w: &mut Window,
     m: &mut Meter,
-) -> Result<Held, SectionFault>
+) -> Result<LoadedEntries, SectionFault>
     requires entry { MayAskEntry table.now.at held.first held.end i table.now.count }
-    requires stand { IsTrue S.tells → EntriesStand w.old.bytes (S.content source.old) table.now.at held.first held.end }
+    requires stand { IsTrue S.models → EntriesStand w.old.bytes (S.content source.old) table.now.at held.first held.end }
     ensures reads { ReadsUnless result S.Source source.old source.new
-        (IsTrue S.tells → table.now.at + 108 * table.now.count ≤ length (S.content source.old) → ⊥) }
-    ensures stand { IsTrue S.tells → IfOk result (λ h. EntriesStand w.new.bytes
+        (IsTrue S.models → table.now.at + 108 * table.now.count ≤ length (S.content source.old) → ⊥) }
+    ensures stand { IsTrue S.models → IfOk result (λ h. EntriesStand w.new.bytes
         (S.content source.old) table.now.at h.first h.end) }
     ensures held { IfOk result (λ h. HoldsEntry h.first h.end i table.now.count) }
 {
@@ -151,7 +151,7 @@ fn hold_entry<S: Source>(
         Ok(()) => {}
         Err(fault) => return Err(fault),
     }
-    Ok(Held {
+    Ok(LoadedEntries {
         first: i,
         end: i + n,
     })
@@ -172,18 +172,18 @@ fn entry_in(w: &Window, j: u32) -> RamdiskEntry
 fn next_entry<S: Source>(
     table: &Table,
     i: u32,
-    held: &mut Held,
+    held: &mut LoadedEntries,
     source: &mut S,
     w: &mut Window,
     m: &mut Meter,
 ) -> Result<RamdiskEntry, SectionFault>
     requires entry { MayAskEntry table.now.at held.old.first held.old.end i table.now.count }
-    requires stand { IsTrue S.tells → EntriesStand w.old.bytes (S.content source.old) table.now.at held.old.first
+    requires stand { IsTrue S.models → EntriesStand w.old.bytes (S.content source.old) table.now.at held.old.first
         held.old.end }
     ensures found { FindsUnless result S.Source source.old source.new
-        (IsTrue S.tells → table.now.at + 108 * table.now.count ≤ length (S.content source.old) → ⊥)
+        (IsTrue S.models → table.now.at + 108 * table.now.count ≤ length (S.content source.old) → ⊥)
         (λ e. e ≡ entry_at (take 108 (drop (table.now.at + 108 * i) (S.content source.old)))) }
-    ensures stand { IsTrue S.tells → OnOk result (EntriesStand w.new.bytes
+    ensures stand { IsTrue S.models → OnOk result (EntriesStand w.new.bytes
         (S.content source.old) table.now.at held.new.first held.new.end) }
     ensures held { OnOk result (HoldsEntry held.new.first held.new.end i table.now.count) }
 {
@@ -209,15 +209,15 @@ pub(crate) fn check_entries<S: Source>(
     m: &mut Meter,
 ) -> Result<(), SectionFault>
     ensures reads { OpensUnless result S.Source source.old source.new
-        (IsTrue S.tells → beyond (header_spec.places_of (header_spec.view_of header.now))
+        (IsTrue S.models → beyond (header_spec.places_of (header_spec.view_of header.now))
         (length (S.content source.old)) ≡ None → ⊥) }
-    ensures found { IsTrue S.tells → beyond (header_spec.places_of (header_spec.view_of header.now))
+    ensures found { IsTrue S.models → beyond (header_spec.places_of (header_spec.view_of header.now))
         (length (S.content source.old)) ≡ None → MatchResult result (λ _. header_spec.EachWithin (S.content source.old)
         (header_spec.view_of header.now)) (λ f. EntryRefusedAs (S.content source.old)
         (header_spec.view_of header.now) f) }
 {
     let table = table_of(header);
-    let mut held = Held { first: 0, end: 0 };
+    let mut held = LoadedEntries { first: 0, end: 0 };
     for i in 0..table.count {
         m.tick();
         let entry = match next_entry(&table, i, &mut held, source, w, m) {
@@ -254,8 +254,8 @@ pub fn fragment<S: Source>(
 ) -> Result<RamdiskEntry, SectionFault>
     requires { i < header_spec.fragment_count (header_spec.view_of image.now.header) }
     ensures reads { ReadsUnless result S.Source source.old source.new
-        (IsTrue S.tells → IsOpened (S.content source.old) image.now → ⊥) }
-    ensures entry { IsTrue S.tells → IfOk result (λ e. e ≡ header_spec.entry_of (S.content source.old)
+        (IsTrue S.models → IsOpened (S.content source.old) image.now → ⊥) }
+    ensures entry { IsTrue S.models → IfOk result (λ e. e ≡ header_spec.entry_of (S.content source.old)
         (header_spec.view_of image.now.header) i) }
     ensures within { IfOk result (λ e. header_spec.IsWithin (header_spec.view_of image.now.header) e) }
     ensures changed { (S.size source.old ≡ image.now.length → ⊥) → (result ≡ Err SectionFault.SourceChanged) ×
@@ -283,16 +283,16 @@ pub(crate) fn fragments_fill<S: Source>(
     m: &mut Meter,
 ) -> Result<bool, SectionFault>
     ensures reads { ReadsUnless result S.Source source.old source.new
-        (IsTrue S.tells → beyond (header_spec.places_of (header_spec.view_of header.now))
+        (IsTrue S.models → beyond (header_spec.places_of (header_spec.view_of header.now))
         (length (S.content source.old)) ≡ None → ⊥) }
-    ensures value { IsTrue S.tells → IfOk result (λ b. IsTrue b ↔ FragmentsFill (S.content source.old)
+    ensures value { IsTrue S.models → IfOk result (λ b. IsTrue b ↔ FragmentsFill (S.content source.old)
         (header_spec.view_of header.now)) }
 {
     if !has_table(header) {
         return Ok(true);
     }
     let table = table_of(header);
-    let mut held = Held { first: 0, end: 0 };
+    let mut held = LoadedEntries { first: 0, end: 0 };
     let mut next = 0u64;
     for i in 0..table.count {
         m.tick();

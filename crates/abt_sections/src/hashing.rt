@@ -33,9 +33,9 @@ fn hash_range<S: Source>(
 ) -> Result<(), SectionFault>
     requires { from + n < 2 ^ 64 }
     ensures reads { ReadsUnless result S.Source source.old source.new
-        (IsTrue S.tells → (0 < n → from + n ≤ length (S.content source.old)) → ⊥) }
-    ensures present { IsTrue S.tells → OnOk result (0 < n → from + n ≤ length (S.content source.old)) }
-    ensures hashed { IsTrue S.tells → OnOk result ((t : List ℕ) → Holds hasher.old t →
+        (IsTrue S.models → (0 < n → from + n ≤ length (S.content source.old)) → ⊥) }
+    ensures present { IsTrue S.models → OnOk result (0 < n → from + n ≤ length (S.content source.old)) }
+    ensures hashed { IsTrue S.models → OnOk result ((t : List ℕ) → Holds hasher.old t →
         Holds hasher.new (t ++ take n (drop from (S.content source.old)))) }
 {
     let mut at = 0;
@@ -78,8 +78,8 @@ fn hash_part<S: Source>(
     m: &mut Meter,
 ) -> Result<(), SectionFault>
     ensures reads { ReadsUnless result S.Source part.old part.new
-        (IsTrue S.tells → S.size part.old ≡ size → ⊥) }
-    ensures hashed { IsTrue S.tells → OnOk result ((parts : List (List ℕ)) → Holds hasher.old (sized_parts parts) →
+        (IsTrue S.models → S.size part.old ≡ size → ⊥) }
+    ensures hashed { IsTrue S.models → OnOk result ((parts : List (List ℕ)) → Holds hasher.old (sized_parts parts) →
         Holds hasher.new (sized_parts (parts ++ (S.content part.old ∷ [])))) }
 {
     if part.length() != size as u64 {
@@ -102,8 +102,8 @@ pub(crate) fn hash_parts<S: Source>(
 ) -> Result<[u8; 32], SectionFault>
     requires { length parts.old ≤ 5 }
     ensures reads { ReadsAllUnless result S.Source parts.old parts.new
-        (IsTrue S.tells → sizes.now ≡ filled 5 (map S.size parts.old) → ⊥) }
-    ensures id { IsTrue S.tells → IfOk result (λ d. d ≡ id_of (map S.content parts.old)) }
+        (IsTrue S.models → sizes.now ≡ filled 5 (map S.size parts.old) → ⊥) }
+    ensures id { IsTrue S.models → IfOk result (λ d. d ≡ id_of (map S.content parts.old)) }
 {
     let mut hasher = Sha1::new();
     for i in 0..parts.len() {
@@ -133,9 +133,9 @@ pub fn image_id<S: Source>(
     ensures reads { OnlyReadsAll result S.Source parts.old parts.new }
     ensures refused { IfRefused (size_refusal (boot_names version) (map S.size parts.old))
         (λ f. (result ≡ Err f) × (parts.new ≡ parts.old)) }
-    ensures id { IsTrue S.tells → IfOk result (λ d. d ≡ id_of (map S.content parts.old)) }
+    ensures id { IsTrue S.models → IfOk result (λ d. d ≡ id_of (map S.content parts.old)) }
     ensures cause { IfErr result (λ e. PackCause (size_refusal (boot_names version) (map S.size parts.old)) e
-        (total S.read_faults parts.old) (total S.read_faults parts.new) 0 0 (IsTrue S.tells → ⊥)) }
+        (total S.read_faults parts.old) (total S.read_faults parts.new) 0 0 (IsTrue S.models → ⊥)) }
     ensures failed { full_handed result ≡ 0 }
 {
     let sizes = boot_sizes(version, parts, m)?;
@@ -151,8 +151,8 @@ pub(crate) fn stored_id<S: Source>(
 ) -> Result<[u8; 32], SectionFault>
     requires { EachLow sections.now }
     ensures reads { ReadsUnless result S.Source source.old source.new
-        (IsTrue S.tells → beyond sections.now (length (S.content source.old)) ≡ None → ⊥) }
-    ensures id { IsTrue S.tells → IfOk result (λ d. d ≡ id_of (parts_of (S.content source.old) sections.now)) }
+        (IsTrue S.models → beyond sections.now (length (S.content source.old)) ≡ None → ⊥) }
+    ensures id { IsTrue S.models → IfOk result (λ d. d ≡ id_of (parts_of (S.content source.old) sections.now)) }
 {
     let mut hasher = Sha1::new();
     for i in 0..sections.count() {

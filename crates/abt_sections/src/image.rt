@@ -5,7 +5,7 @@ ghost use Rattle.abt_headers.specs.Page.{IsPage};
 ghost use Rattle.abt_headers.specs.Places.{EachLow};
 ghost use Rattle.abt_sections.specs.Header.{view_of, size_of, page_of, places_of};
 
-use abt_headers::{BootHeader, Place, Sections, VendorHeader};
+use abt_headers::{BootHeader, SectionPlace, Sections, VendorHeader};
 use abt_io::Source;
 
 /// The header of either kind of image.
@@ -75,7 +75,7 @@ pub fn sections(image: &Image) -> usize
 }
 
 /// Where section `i` stands, in the order of the image.
-pub fn section(image: &Image, i: usize) -> Place
+pub fn section(image: &Image, i: usize) -> SectionPlace
     requires { i < length (places_of (view_of image.now.header)) }
     ensures value { result ≡ slice_index_or (places_of (view_of image.now.header)) i result }
     ensures low { result.at + result.size < 2 ^ 63 }

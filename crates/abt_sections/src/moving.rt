@@ -16,7 +16,7 @@ ghost use Rattle.abt_sections.specs.Moves.{MovesUnless, MovesPart, MovesParts};
 
 use crate::fault::SectionFault;
 use crate::reading::{next_ask, read_front};
-use crate::writing::{padding, write_padding};
+use crate::write_padded::{padding, write_padding};
 use abt_io::{Meter, Output, Source, Window, write_out};
 use sha1::Sha1;
 
@@ -42,12 +42,12 @@ fn move_step<S: Source, O: Output>(
 ) -> Result<(), SectionFault>
     requires { MayAsk at ask }
     ensures moves { MovesUnless result S.Source source.old source.new O.Output output.old output.new
-        (IsTrue S.tells → (0 < ask → at + ask ≤ length (S.content source.old)) → ⊥) }
+        (IsTrue S.models → (0 < ask → at + ask ≤ length (S.content source.old)) → ⊥) }
     ensures once { S.given source.new ≤ S.given source.old + ask }
-    ensures present { IsTrue S.tells → OnOk result (0 < ask → at + ask ≤ length (S.content source.old)) }
-    ensures written { IsTrue S.tells → OnOk result (O.written output.new ≡ O.written output.old
+    ensures present { IsTrue S.models → OnOk result (0 < ask → at + ask ≤ length (S.content source.old)) }
+    ensures written { IsTrue S.models → OnOk result (O.written output.new ≡ O.written output.old
         ++ take ask (drop at (S.content source.old))) }
-    ensures hashed { IsTrue id → IsTrue S.tells → OnOk result ((t : List ℕ) → Holds hasher.old t →
+    ensures hashed { IsTrue id → IsTrue S.models → OnOk result ((t : List ℕ) → Holds hasher.old t →
         Holds hasher.new (t ++ take ask (drop at (S.content source.old)))) }
     ensures bytes { GrowsBy result (O.written output.old) (O.written output.new) ask }
 {
@@ -75,11 +75,11 @@ fn move_bytes<S: Source, O: Output>(
     m: &mut Meter,
 ) -> Result<(), SectionFault>
     ensures moves { MovesUnless result S.Source part.old part.new O.Output output.old output.new
-        (IsTrue S.tells → n ≤ length (S.content part.old) → ⊥) }
+        (IsTrue S.models → n ≤ length (S.content part.old) → ⊥) }
     ensures once { S.given part.new ≤ S.given part.old + n }
-    ensures written { IsTrue S.tells → OnOk result (O.written output.new ≡ O.written output.old
+    ensures written { IsTrue S.models → OnOk result (O.written output.new ≡ O.written output.old
         ++ take n (S.content part.old)) }
-    ensures hashed { IsTrue id → IsTrue S.tells → OnOk result ((t : List ℕ) → Holds hasher.old t →
+    ensures hashed { IsTrue id → IsTrue S.models → OnOk result ((t : List ℕ) → Holds hasher.old t →
         Holds hasher.new (t ++ take n (S.content part.old))) }
     ensures bytes { GrowsBy result (O.written output.old) (O.written output.new) n }
 {
@@ -112,7 +112,7 @@ fn move_part<S: Source, O: Output>(
     ensures part { MovesPart result S.Source part.old part.new O.Output output.old output.new size
         (layout.padded page (S.content part.old)) (of_page.pages size page * page) }
     ensures once { S.given part.new ≤ S.given part.old + size }
-    ensures hashed { IsTrue id → IsTrue S.tells → OnOk result ((parts : List (List ℕ)) →
+    ensures hashed { IsTrue id → IsTrue S.models → OnOk result ((parts : List (List ℕ)) →
         Holds hasher.old (sized_parts parts) → Holds hasher.new (sized_parts (parts ++ (S.content part.old ∷ [])))) }
 {
     let _free = padding(size as u64, page);
@@ -146,7 +146,7 @@ pub(crate) fn move_parts<S: Source, O: Output>(
     ensures parts { MovesParts result S.Source parts.old parts.new O.Output output.old output.new sizes.now
         (O.written output.old ++ layout.laid page (map S.content parts.old)) }
     ensures once { total S.given parts.new ≤ total S.given parts.old + sum (take (length parts.old) sizes.now) }
-    ensures hashed { IsTrue id → IsTrue S.tells → OnOk result (Holds hasher.old [] →
+    ensures hashed { IsTrue id → IsTrue S.models → OnOk result (Holds hasher.old [] →
         Holds hasher.new (sized_parts (map S.content parts.old))) }
     ensures bytes { GrowsBy result (O.written output.old) (O.written output.new)
         (layout.laid_size page (take (length parts.old) sizes.now)) }

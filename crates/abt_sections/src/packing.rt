@@ -16,7 +16,7 @@ use crate::fault::SectionFault;
 use crate::hashing::hash_parts;
 use crate::sizes::{boot_sizes, image_bytes};
 use crate::spec::{BootSpec, Packed};
-use crate::writing::{write_parts, write_record};
+use crate::write_padded::{write_parts, write_record};
 use abt_headers::BootHeader;
 use abt_io::{Meter, Output, Source, Window};
 
@@ -30,8 +30,8 @@ fn id_for<S: Source>(
 ) -> Result<[u8; 32], SectionFault>
     requires { length parts.old ≤ 5 }
     ensures reads { ReadsAllUnless result S.Source parts.old parts.new
-        (IsTrue S.tells → sizes.now ≡ filled 5 (map S.size parts.old) → ⊥) }
-    ensures id { IsTrue S.tells → IfOk result (λ d. d ≡ canon.id_for version (map S.content parts.old)) }
+        (IsTrue S.models → sizes.now ≡ filled 5 (map S.size parts.old) → ⊥) }
+    ensures id { IsTrue S.models → IfOk result (λ d. d ≡ canon.id_for version (map S.content parts.old)) }
 {
     if version < 3 {
         hash_parts(parts, sizes, w, m)
@@ -69,7 +69,7 @@ fn write_image<S: Source, O: Output>(
     requires { length parts.old ≤ 5 }
     ensures parts { MovesParts result S.Source parts.old parts.new O.Output output.old output.new sizes.now
         (O.written output.old ++ canon.boot_image header.now (map S.content parts.old)) }
-    ensures front { IsTrue S.tells → AppendsFront (O.written output.old) (O.written output.new)
+    ensures front { IsTrue S.models → AppendsFront (O.written output.old) (O.written output.new)
         (canon.boot_image header.now (map S.content parts.old)) }
     ensures bytes { AddsUpTo result (O.written output.old) (O.written output.new)
         (canon.image_size (boot_page header.now) (boot_size header.now) (take (length parts.old) sizes.now)) }
@@ -101,7 +101,7 @@ pub fn pack_boot<S: Source, O: Output>(
     requires { spec.now.version ≤ 4 → length parts.old ≡ length (boot_names spec.now.version) }
     ensures packs { AppendsBoot result S.Source parts.old parts.new O.Output output.old output.new
         (cmd_common_fields spec.now) }
-    ensures front { IsTrue S.tells → AppendsFront (O.written output.old) (O.written output.new)
+    ensures front { IsTrue S.models → AppendsFront (O.written output.old) (O.written output.new)
         (canon.boot_canon (cmd_common_fields spec.now) (map S.content parts.old)) }
 {
     let page = check_boot_spec(spec, m)?;

@@ -73,7 +73,7 @@ fn write_behind<S: Source, O: Output>(
     ensures parts { MovesParts result S.Source parts.old parts.new O.Output output.old output.new sizes.now
         ((O.written output.old ++ replicate page 0) ++ layout.laid page (map S.content parts.old)) }
     ensures once { total S.given parts.new ≤ total S.given parts.old + sum (take (length parts.old) sizes.now) }
-    ensures id { IsTrue S.tells → IfOk result (λ d. d ≡ canon.id_for version (map S.content parts.old)) }
+    ensures id { IsTrue S.models → IfOk result (λ d. d ≡ canon.id_for version (map S.content parts.old)) }
     ensures zeros { OnOk result (Grows (O.written output.old ++ replicate page 0) (O.written output.new)) }
     ensures broken { OnErr result (IsBrokenOff (O.written output.old) (O.written output.new)) }
     ensures bytes { GrowsBy result (O.written output.old) (O.written output.new)

@@ -19,10 +19,10 @@ pub(crate) fn read_front<S: Source>(
 ) -> Result<(), SectionFault>
     requires { MayAsk at ask }
     ensures reads { ReadsUnless result S.Source source.old source.new
-        (IsTrue S.tells → (0 < ask → at + ask ≤ length (S.content source.old)) → ⊥) }
+        (IsTrue S.models → (0 < ask → at + ask ≤ length (S.content source.old)) → ⊥) }
     ensures given { S.given source.new ≤ S.given source.old + ask }
-    ensures present { IsTrue S.tells → OnOk result (0 < ask → at + ask ≤ length (S.content source.old)) }
-    ensures bytes { IsTrue S.tells → OnOk result (slice_range w.new.bytes 0 ask
+    ensures present { IsTrue S.models → OnOk result (0 < ask → at + ask ≤ length (S.content source.old)) }
+    ensures bytes { IsTrue S.models → OnOk result (slice_range w.new.bytes 0 ask
         ≡ take ask (drop at (S.content source.old))) }
     ensures open { OnOk result (m.new.steps.number ≡ m.old.steps.number) }
     ensures ended { OnErr result (m.new.steps.number ≡ m.old.steps.number + 1) }

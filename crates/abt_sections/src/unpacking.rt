@@ -2,7 +2,7 @@
 
 ghost use Rattle.std.specs.Prelude.{◌≡◌, ◌<◌, ◌≤◌, ◌+◌, ◌-◌, ◌^◌, ◌++◌, IsTrue, OnOk, Err, length, take, drop};
 ghost use Rattle.std.specs.Prelude.{slice_index_or};
-ghost use Rattle.abt_headers.specs.declared.sections.Place.{Place};
+ghost use Rattle.abt_headers.specs.declared.sections.SectionPlace.{SectionPlace};
 ghost use Rattle.abt_sections.specs.Grown.{AddsUpTo, AppendsFront};
 ghost use Rattle.abt_sections.specs.Header as header_spec;
 ghost use Rattle.abt_sections.specs.Layout.{part_of};
@@ -12,7 +12,7 @@ ghost use Rattle.abt_sections.specs.Open.{IsOpened};
 use crate::fault::SectionFault;
 use crate::fragment_table::{fragment, table_of};
 use crate::image::{Image, ImageHeader, is_as_long, section};
-use crate::writing::of_copy;
+use crate::write_padded::of_copy;
 use abt_headers::RamdiskEntry;
 use abt_io::{Meter, Output, Source, Window, copy_range};
 
@@ -27,10 +27,10 @@ fn copy_part<S: Source, O: Output>(
 ) -> Result<(), SectionFault>
     requires { at < 2 ^ 63 }
     ensures moves { MovesUnless result S.Source source.old source.new O.Output output.old output.new
-        (IsTrue S.tells → (0 < size → at + size ≤ length (S.content source.old)) → ⊥) }
-    ensures written { IsTrue S.tells → OnOk result (O.written output.new ≡ O.written output.old
+        (IsTrue S.models → (0 < size → at + size ≤ length (S.content source.old)) → ⊥) }
+    ensures written { IsTrue S.models → OnOk result (O.written output.new ≡ O.written output.old
         ++ take size (drop at (S.content source.old))) }
-    ensures front { IsTrue S.tells → AppendsFront (O.written output.old) (O.written output.new)
+    ensures front { IsTrue S.models → AppendsFront (O.written output.old) (O.written output.new)
         (take size (drop at (S.content source.old))) }
     ensures bytes { AddsUpTo result (O.written output.old) (O.written output.new) size }
 {
@@ -58,14 +58,14 @@ pub fn unpack<S: Source, O: Output>(
 ) -> Result<(), SectionFault>
     requires { i < length (header_spec.places_of (header_spec.view_of image.now.header)) }
     ensures moves { MovesUnless result S.Source source.old source.new O.Output output.old output.new
-        (IsTrue S.tells → IsOpened (S.content source.old) image.now → ⊥) }
-    ensures written { (p : Place) → p ≡ slice_index_or (header_spec.places_of (header_spec.view_of image.now.header)) i
-        p → IsTrue S.tells → OnOk result (O.written output.new ≡ O.written output.old
+        (IsTrue S.models → IsOpened (S.content source.old) image.now → ⊥) }
+    ensures written { (p : SectionPlace) → p ≡ slice_index_or (header_spec.places_of (header_spec.view_of image.now.header)) i
+        p → IsTrue S.models → OnOk result (O.written output.new ≡ O.written output.old
         ++ part_of (S.content source.old) p) }
-    ensures front { (p : Place) → p ≡ slice_index_or (header_spec.places_of (header_spec.view_of image.now.header)) i
-        p → IsTrue S.tells → AppendsFront (O.written output.old) (O.written output.new)
+    ensures front { (p : SectionPlace) → p ≡ slice_index_or (header_spec.places_of (header_spec.view_of image.now.header)) i
+        p → IsTrue S.models → AppendsFront (O.written output.old) (O.written output.new)
         (part_of (S.content source.old) p) }
-    ensures bytes { (p : Place) → p ≡ slice_index_or (header_spec.places_of (header_spec.view_of image.now.header)) i
+    ensures bytes { (p : SectionPlace) → p ≡ slice_index_or (header_spec.places_of (header_spec.view_of image.now.header)) i
         p → AddsUpTo result (O.written output.old) (O.written output.new) p.size }
     ensures changed { (S.size source.old ≡ image.now.length → ⊥) → (result ≡ Err SectionFault.SourceChanged) ×
         (source.new ≡ source.old) × (output.new ≡ output.old) }
@@ -99,20 +99,20 @@ pub fn unpack_fragment<S: Source, O: Output>(
 ) -> Result<(), SectionFault>
     requires { i < header_spec.fragment_count (header_spec.view_of image.now.header) }
     ensures moves { MovesUnless result S.Source source.old source.new O.Output output.old output.new
-        (IsTrue S.tells → IsOpened (S.content source.old) image.now → ⊥) }
-    ensures written { IsTrue S.tells → OnOk result (O.written output.new ≡ O.written output.old
+        (IsTrue S.models → IsOpened (S.content source.old) image.now → ⊥) }
+    ensures written { IsTrue S.models → OnOk result (O.written output.new ≡ O.written output.old
         ++ header_spec.fragment_of (S.content source.old) (header_spec.view_of image.now.header) i) }
-    ensures front { IsTrue S.tells → AppendsFront (O.written output.old) (O.written output.new)
+    ensures front { IsTrue S.models → AppendsFront (O.written output.old) (O.written output.new)
         (header_spec.fragment_of (S.content source.old) (header_spec.view_of image.now.header) i) }
     ensures most { length (O.written output.new) ≤ length (O.written output.old) + header_spec.ramdisk_size
         (header_spec.view_of image.now.header) }
-    ensures within { IsTrue S.tells → OnOk result (header_spec.IsWithin (header_spec.view_of image.now.header)
+    ensures within { IsTrue S.models → OnOk result (header_spec.IsWithin (header_spec.view_of image.now.header)
         (header_spec.entry_of (S.content source.old) (header_spec.view_of image.now.header) i)) }
-    ensures part { IsTrue S.tells → OnOk result (header_spec.fragment_of (S.content source.old)
+    ensures part { IsTrue S.models → OnOk result (header_spec.fragment_of (S.content source.old)
         (header_spec.view_of image.now.header) i ≡ header_spec.ramdisk_part (S.content source.old)
         (header_spec.view_of image.now.header) (header_spec.entry_of (S.content source.old)
         (header_spec.view_of image.now.header) i)) }
-    ensures all { IsTrue S.tells → OnOk result (length (O.written output.new)
+    ensures all { IsTrue S.models → OnOk result (length (O.written output.new)
         ≡ length (O.written output.old) + (header_spec.entry_of (S.content source.old)
         (header_spec.view_of image.now.header) i).ramdisk_size) }
     ensures changed { (S.size source.old ≡ image.now.length → ⊥) → (result ≡ Err SectionFault.SourceChanged) ×

@@ -18,7 +18,7 @@ use crate::fault::SectionFault;
 use crate::sizes::{image_bytes, vendor_sizes};
 use crate::spec::{FragmentSpec, Packed, VendorSpec};
 use crate::vendor_header::{check_vendor_spec, vendor_header_for};
-use crate::writing::{padding, write_bytes, write_padding, write_part, write_record};
+use crate::write_padded::{padding, write_bytes, write_padding, write_part, write_record};
 use abt_headers::{RamdiskEntry, VendorHeader};
 use abt_io::{Meter, Output, Source, Window, write_out};
 
@@ -142,13 +142,13 @@ fn write_table_and_bootconfig<S: Source, O: Output>(
     requires ramdisk { total S.size ramdisks.now ≡ slice_index sizes.now 0 }
     requires table { slice_index sizes.now 2 ≡ 108 * length fragments.now }
     ensures moves { MovesUnless result S.Source bootconfig.old bootconfig.new O.Output output.old output.new
-        (IsTrue S.tells → S.size bootconfig.old ≡ slice_index sizes.now 3 → ⊥) }
+        (IsTrue S.models → S.size bootconfig.old ≡ slice_index sizes.now 3 → ⊥) }
     ensures lasting { OnOk result ((S.size bootconfig.old ≡ slice_index sizes.now 3) ×
         (S.size bootconfig.new ≡ slice_index sizes.now 3)) }
-    ensures written { IsTrue S.tells → OnOk result (O.written output.new ≡ O.written output.old
+    ensures written { IsTrue S.models → OnOk result (O.written output.new ≡ O.written output.old
         ++ layout.laid page (canon.table_for fragments.now (map S.size ramdisks.now) 0 ∷ S.content
         bootconfig.old ∷ [])) }
-    ensures front { IsTrue S.tells → AppendsFront (O.written output.old) (O.written output.new)
+    ensures front { IsTrue S.models → AppendsFront (O.written output.old) (O.written output.new)
         (layout.laid page (canon.table_for fragments.now (map S.size ramdisks.now) 0 ∷ S.content bootconfig.old ∷ [])) }
     ensures table { OnOk result (take (108 * length fragments.now) (drop (length (O.written output.old))
         (O.written output.new)) ≡ canon.table_for fragments.now (map S.size ramdisks.now) 0) }
@@ -178,12 +178,12 @@ fn write_first_sections<S: Source, O: Output>(
 ) -> Result<(), SectionFault>
     requires ramdisk { total S.size ramdisks.old ≡ slice_index sizes.now 0 }
     ensures moves { MovesMoreUnless result S.Source ramdisks.old ramdisks.new dtb.old dtb.new O.Output output.old
-        output.new (IsTrue S.tells → S.size dtb.old ≡ slice_index sizes.now 1 → ⊥) }
+        output.new (IsTrue S.models → S.size dtb.old ≡ slice_index sizes.now 1 → ⊥) }
     ensures lasting { OnOk result ((map S.size ramdisks.new ≡ map S.size ramdisks.old) ×
         (S.size dtb.old ≡ slice_index sizes.now 1) × (S.size dtb.new ≡ slice_index sizes.now 1)) }
-    ensures written { IsTrue S.tells → OnOk result (O.written output.new ≡ O.written output.old
+    ensures written { IsTrue S.models → OnOk result (O.written output.new ≡ O.written output.old
         ++ canon.first_sections (vendor_view header.now) (concat (map S.content ramdisks.old)) (S.content dtb.old)) }
-    ensures front { IsTrue S.tells → AppendsFront (O.written output.old) (O.written output.new)
+    ensures front { IsTrue S.models → AppendsFront (O.written output.old) (O.written output.new)
         (canon.first_sections (vendor_view header.now) (concat (map S.content ramdisks.old)) (S.content dtb.old)) }
     ensures bytes { AddsUpTo result (O.written output.old) (O.written output.new)
         (canon.first_size (vendor_view header.now) (slice_index sizes.now 0) (slice_index sizes.now 1)) }
@@ -230,10 +230,10 @@ pub fn pack_vendor<S: Source, O: Output>(
     ensures refused { IfRefused (pack_vendor_refusal (vendor_fields spec.now)
         (canon.vendor_sizes_for (total S.size ramdisks.old) (S.size dtb.old) (length fragments.now)
         (S.size bootconfig.old))) (λ f. (result ≡ Err f) × (output.new ≡ output.old)) }
-    ensures written { IsTrue S.tells → OnOk result (O.written output.new ≡ O.written output.old
+    ensures written { IsTrue S.models → OnOk result (O.written output.new ≡ O.written output.old
         ++ canon.vendor_canon (vendor_fields spec.now) (canon.vendor_parts fragments.now (map S.content ramdisks.old)
         (S.content dtb.old) (S.content bootconfig.old))) }
-    ensures front { IsTrue S.tells → AppendsFront (O.written output.old) (O.written output.new)
+    ensures front { IsTrue S.models → AppendsFront (O.written output.old) (O.written output.new)
         (canon.vendor_canon (vendor_fields spec.now) (canon.vendor_parts fragments.now (map S.content ramdisks.old)
         (S.content dtb.old) (S.content bootconfig.old))) }
     ensures table { spec.now.version ≡ 4 → OnOk result (take (108 * length fragments.now)
@@ -252,7 +252,7 @@ pub fn pack_vendor<S: Source, O: Output>(
         (canon.vendor_sizes_for (total S.size ramdisks.old) (S.size dtb.old) (length fragments.now)
         (S.size bootconfig.old))) e (total S.read_faults ramdisks.old + S.read_faults dtb.old + S.read_faults
         bootconfig.old) (total S.read_faults ramdisks.new + S.read_faults dtb.new + S.read_faults bootconfig.new)
-        (O.write_faults output.old) (O.write_faults output.new) (IsTrue S.tells → ⊥)) }
+        (O.write_faults output.old) (O.write_faults output.new) (IsTrue S.models → ⊥)) }
 {
     let page = check_vendor_spec(spec, m)?;
     let sizes = vendor_sizes(fragments.len(), ramdisks, dtb, bootconfig, m)?;

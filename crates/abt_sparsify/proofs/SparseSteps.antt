@@ -29,7 +29,7 @@ use Rattle.abt_pieces.specs.declared.fault.PieceFault.TheVariants.{Read, Write, 
 use Rattle.abt_pieces.specs.declared.fault.PieceFault.TheVariants.{LimitTooSmall}
 use Rattle.abt_pieces.specs.declared.gather.Gatherer.{Gatherer}
 use Rattle.abt_pieces.proofs.Counts.{not_below}
-use Rattle.abt_pieces.proofs.Cuts.{few_cuts}
+use Rattle.abt_pieces.proofs.PieceCuts.{few_cuts}
 use Rattle.abt_pieces.proofs.Cutting.{sound_first, gathered_first}
 use Rattle.abt_pieces.proofs.Going.{run_ended}
 use Rattle.abt_pieces.proofs.Image.{no_raw, chunks_image, leads_same}
@@ -321,27 +321,27 @@ within_blocks x n b len last fits = elim (cases_Bool (nat_lt n x)) [
 -- ---- refusals
 
 -- counting has no output
-pub unwritten : (e : PieceFault) (tells : Bool) (r r' : ℕ) → CutCause e tells r r' 0 0 → full_in_cut e ≡ 0
-unwritten (Read f) tells r r' h = refl
-unwritten (Write f) tells r r' h = absurd (omega (arith, h))
-unwritten TooLarge tells r r' h = absurd h
-unwritten SourceChanged tells r r' h = refl
-unwritten (BadBlock n) tells r r' h = absurd h
-unwritten (LimitTooSmall n) tells r r' h = absurd h
+pub unwritten : (e : PieceFault) (models : Bool) (r r' : ℕ) → CutCause e models r r' 0 0 → full_in_cut e ≡ 0
+unwritten (Read f) models r r' h = refl
+unwritten (Write f) models r r' h = absurd (omega (arith, h))
+unwritten TooLarge models r r' h = absurd h
+unwritten SourceChanged models r r' h = refl
+unwritten (BadBlock n) models r r' h = absurd h
+unwritten (LimitTooSmall n) models r r' h = absurd h
 
 pub few_blocks : (x b long : ℕ) → long ≤ x * b → x < 2 ^ 32 → (2 ^ 32 - 1) * b < long → ⊥
 few_blocks x b long covers fits large = let p : x * b ≤ (2 ^ 32 - 1) * b = mul-le-mul_right b
     (let z : x ≤ 2 ^ 32 - 1 = omega (arith, fits) in z) in omega (arith, p, covers, large)
 
-pub sparsify_causes : (res : Result Written PieceFault) (b long : ℕ) (tells : Bool) (r r' w w' : ℕ) → IfErr res
-    (λ e. CutCause e tells r r' w w') → IfErr res (λ e. SparsifyCause e b long tells r r' w w')
-sparsify_causes (Ok a) b long tells r r' w w' h = tt
-sparsify_causes (Err (Read f)) b long tells r r' w w' h = h
-sparsify_causes (Err (Write f)) b long tells r r' w w' h = h
-sparsify_causes (Err SourceChanged) b long tells r r' w w' h = h
-sparsify_causes (Err TooLarge) b long tells r r' w w' h = absurd h
-sparsify_causes (Err (BadBlock n)) b long tells r r' w w' h = absurd h
-sparsify_causes (Err (LimitTooSmall n)) b long tells r r' w w' h = absurd h
+pub sparsify_causes : (res : Result Written PieceFault) (b long : ℕ) (models : Bool) (r r' w w' : ℕ) → IfErr res
+    (λ e. CutCause e models r r' w w') → IfErr res (λ e. SparsifyCause e b long models r r' w w')
+sparsify_causes (Ok a) b long models r r' w w' h = tt
+sparsify_causes (Err (Read f)) b long models r r' w w' h = h
+sparsify_causes (Err (Write f)) b long models r r' w w' h = h
+sparsify_causes (Err SourceChanged) b long models r r' w w' h = h
+sparsify_causes (Err TooLarge) b long models r r' w w' h = absurd h
+sparsify_causes (Err (BadBlock n)) b long models r r' w w' h = absurd h
+sparsify_causes (Err (LimitTooSmall n)) b long models r r' w w' h = absurd h
 
 pub refused_bad : (e : PieceFault) (f : RunFault) (b long : ℕ) → e ≡ fault_of_run f → RefusedRaw f b long →
     (IsRawSize b → ⊥) → e ≡ BadBlock b
@@ -359,10 +359,10 @@ refused_large e (of_runs.Sparse f) b long is h good = absurd h
 refused_large e (of_runs.Read f) b long is h good = absurd h
 refused_large e of_runs.SourceChanged b long is h good = absurd h
 
-pub refused_cause : (e : PieceFault) (f : RunFault) (b long : ℕ) (tells : Bool) (r r' w w' : ℕ) → e ≡ fault_of_run f →
-    RefusedRaw f b long → SparsifyCause e b long tells r r' w w'
-refused_cause e (of_runs.BadBlock n) b long tells r r' w w' is h = rw is h
-refused_cause e of_runs.TooLarge b long tells r r' w w' is h = rw is ((h.0, h.1, h.2), h.3)
-refused_cause e (of_runs.Sparse f) b long tells r r' w w' is h = absurd h
-refused_cause e (of_runs.Read f) b long tells r r' w w' is h = absurd h
-refused_cause e of_runs.SourceChanged b long tells r r' w w' is h = absurd h
+pub refused_cause : (e : PieceFault) (f : RunFault) (b long : ℕ) (models : Bool) (r r' w w' : ℕ) → e ≡ fault_of_run f →
+    RefusedRaw f b long → SparsifyCause e b long models r r' w w'
+refused_cause e (of_runs.BadBlock n) b long models r r' w w' is h = rw is h
+refused_cause e of_runs.TooLarge b long models r r' w w' is h = rw is ((h.0, h.1, h.2), h.3)
+refused_cause e (of_runs.Sparse f) b long models r r' w w' is h = absurd h
+refused_cause e (of_runs.Read f) b long models r r' w w' is h = absurd h
+refused_cause e of_runs.SourceChanged b long models r r' w w' is h = absurd h

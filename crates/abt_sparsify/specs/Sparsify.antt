@@ -65,10 +65,10 @@ pub record CountCosts (b : ℕ) {A : Type 0} (s : sources.Ghosts A) (source sour
 -- ---- writing
 
 -- the image x of len bytes, opened in blocks of b bytes, can be written in chunks of at most r raw blocks
-pub record ReadyRuns (tells : Bool) (r b len : ℕ) (x : List ℕ) : Type 0 where
+pub record ReadyRuns (models : Bool) (r b len : ℕ) (x : List ℕ) : Type 0 where
   pub some : 0 < r
   pub small : 12 + r * b < 2 ^ 32
-  pub opened : IsTrue tells → len ≡ length x
+  pub opened : IsTrue models → len ≡ length x
 
 -- what writing an opened image, or its chunks, leaves of both devices, and why it is refused
 pub record MovesImage {X : Type 0} (r : Result X PieceFault) {A B : Type 0} (s : sources.Ghosts A)
@@ -76,7 +76,7 @@ pub record MovesImage {X : Type 0} (r : Result X PieceFault) {A B : Type 0} (s :
   pub reads : OnlyReads r s source source'
   pub writes : OnlyWrites r (full_cut r) o output output'
   pub full : full_cut r ≡ 1 → IsTrue (o.is_full output')
-  pub cause : IfErr r (λ e. CutCause e s.tells (s.read_faults source) (s.read_faults source') (o.write_faults output)
+  pub cause : IfErr r (λ e. CutCause e s.models (s.read_faults source) (s.read_faults source') (o.write_faults output)
       (o.write_faults output'))
 
 -- what writing all chunks costs, over all its steps
@@ -137,12 +137,12 @@ IsRawSize b = (4 ≤ b) × (b ≤ 65536) × (b % 4 ≡ 0)
 
 -- why an image of so many bytes is not written in blocks of b
 abbrev pub SparsifyCause : PieceFault → ℕ → ℕ → Bool → ℕ → ℕ → ℕ → ℕ → Type 0
-SparsifyCause (Read f) b long tells reads reads' writes writes' = (reads < reads') × (f ≡ Failed)
-SparsifyCause (Write f) b long tells reads reads' writes writes' = writes < writes'
-SparsifyCause SourceChanged b long tells reads reads' writes writes' = tells ≡ false
-SparsifyCause TooLarge b long tells reads reads' writes writes' = IsRawSize b × ((2 ^ 32 - 1) * b < long)
-SparsifyCause (BadBlock n) b long tells reads reads' writes writes' = (n ≡ b) × (IsRawSize b → ⊥)
-SparsifyCause (LimitTooSmall n) b long tells reads reads' writes writes' = ⊥
+SparsifyCause (Read f) b long models reads reads' writes writes' = (reads < reads') × (f ≡ Failed)
+SparsifyCause (Write f) b long models reads reads' writes writes' = writes < writes'
+SparsifyCause SourceChanged b long models reads reads' writes writes' = models ≡ false
+SparsifyCause TooLarge b long models reads reads' writes writes' = IsRawSize b × ((2 ^ 32 - 1) * b < long)
+SparsifyCause (BadBlock n) b long models reads reads' writes writes' = (n ≡ b) × (IsRawSize b → ⊥)
+SparsifyCause (LimitTooSmall n) b long models reads reads' writes writes' = ⊥
 
 -- What writing a raw image as a sparse one, in blocks of b bytes, leaves of both devices, and when it is refused.
 pub record WritesSparse (r : Result Written PieceFault) (b : ℕ) {A B : Type 0} (s : sources.Ghosts A)
@@ -156,5 +156,5 @@ pub record WritesSparse (r : Result Written PieceFault) (b : ℕ) {A B : Type 0}
       ≤ length (o.written output) + (28 + n * (b + 16))
   pub costs : CallCosts b (devices s o source output) (devices s o source' output') m m'
   pub full : full_cut r ≡ 1 → IsTrue (o.is_full output')
-  pub cause : IfErr r (λ e. SparsifyCause e b (s.size source) s.tells (s.read_faults source) (s.read_faults source')
+  pub cause : IfErr r (λ e. SparsifyCause e b (s.size source) s.models (s.read_faults source) (s.read_faults source')
       (o.write_faults output) (o.write_faults output'))

@@ -70,13 +70,13 @@ pub fn count_runs<S: Source>(
     m: &mut Meter,
 ) -> Result<Written, PieceFault>
     requires some { 0 < most }
-    requires opened { IsTrue S.tells → runs.now.length ≡ length (S.content source.old) }
+    requires opened { IsTrue S.models → runs.now.length ≡ length (S.content source.old) }
     ensures source { ReadsCut result S.Source source.old source.new }
     ensures blocks { IfOk result (λ a. a.blocks ≡ runs.now.blocks) }
-    ensures counts { IsTrue S.tells →
+    ensures counts { IsTrue S.models →
         IfOk result (λ a. CountsOf most runs.now.size (classify runs.now.size (S.content source.old)) a) }
     ensures bounded { IfOk result (λ a. (28 ≤ a.bytes) × (a.bytes ≤ 28 + runs.now.blocks * (runs.now.size + 16))) }
-    ensures economy { IsTrue S.tells →
+    ensures economy { IsTrue S.models →
         IfOk result (λ a. S.given source.new ≤ S.given source.old + 2 * runs.now.length) }
     ensures costs { CountCosts runs.now.size S.Source source.old source.new m.old m.new }
 {

@@ -19,9 +19,9 @@ fn write_image<S: Source, O: Output>(
     w: &mut Window,
     m: &mut Meter,
 ) -> Result<Written, PieceFault>
-    requires ready { ReadyRuns S.tells most runs.now.size runs.now.length (S.content source.old) }
+    requires ready { ReadyRuns S.models most runs.now.size runs.now.length (S.content source.old) }
     ensures moves { MovesImage result S.Source O.Output source.old source.new output.old output.new }
-    ensures told { IsTrue S.tells → ToldImage result runs.now.size most (classify runs.now.size (S.content source.old))
+    ensures told { IsTrue S.models → ToldImage result runs.now.size most (classify runs.now.size (S.content source.old))
         (O.written output.old) (O.written output.new) (length (S.content source.old)) (S.given source.old)
         (S.given source.new) }
     ensures sparse { IfOk result (Sparsified runs.now.size runs.now.length (O.written output.old)
@@ -70,7 +70,7 @@ pub fn sparsify<S: Source, O: Output>(
     requires small { 12 + most * block_size < 2 ^ 32 }
     ensures does { WritesSparse result block_size S.Source O.Output source.old source.new output.old output.new m.old
         m.new }
-    ensures told { IsTrue S.tells → ToldImage result block_size most (classify block_size (S.content source.old))
+    ensures told { IsTrue S.models → ToldImage result block_size most (classify block_size (S.content source.old))
         (O.written output.old) (O.written output.new) (length (S.content source.old)) (S.given source.old)
         (S.given source.new) }
     ensures sparse { IfOk result (Sparsified block_size (S.size source.old) (O.written output.old)

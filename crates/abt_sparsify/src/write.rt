@@ -35,22 +35,22 @@ pub fn write_runs<S: Source, O: Output>(
     w: &mut Window,
     m: &mut Meter,
 ) -> Result<(), PieceFault>
-    requires ready { ReadyRuns S.tells most runs.now.size runs.now.length (S.content source.old) }
+    requires ready { ReadyRuns S.models most runs.now.size runs.now.length (S.content source.old) }
     requires least { 28 ≤ counted.bytes }
-    requires counts { IsTrue S.tells →
+    requires counts { IsTrue S.models →
         CountsOf most runs.now.size (classify runs.now.size (S.content source.old)) counted }
     ensures moves { MovesImage result S.Source O.Output source.old source.new output.old output.new }
     ensures within { length (O.written output.new) + 28 ≤ length (O.written output.old) + counted.bytes }
     ensures long { OnOk result (length (O.written output.new) + 28 ≡ length (O.written output.old) + counted.bytes) }
-    ensures front { IsTrue S.tells → O.written output.new ≡ O.written output.old ++ take
+    ensures front { IsTrue S.models → O.written output.new ≡ O.written output.old ++ take
         (length (O.written output.new) - length (O.written output.old))
         (bytes_of most (classify runs.now.size (S.content source.old))) }
-    ensures whole { IsTrue S.tells →
+    ensures whole { IsTrue S.models →
         OnOk result (O.written output.new ≡ O.written output.old ++ bytes_of most
         (classify runs.now.size (S.content source.old))) }
     ensures image { OnOk result (Appended (AreChunks runs.now.size counted.chunks runs.now.blocks)
         (O.written output.old) (O.written output.new)) }
-    ensures economy { IsTrue S.tells → OnOk result (S.given source.new ≤ S.given source.old + 5 * runs.now.length) }
+    ensures economy { IsTrue S.models → OnOk result (S.given source.new ≤ S.given source.old + 5 * runs.now.length) }
     ensures costs { ChunkCosts runs.now.size S.Source O.Output source.old source.new output.old output.new m.old m.new }
 {
     let count = runs.blocks();

@@ -14,8 +14,8 @@ use Rattle.abt_sparse.specs.View.{view}
 use Rattle.abt_sparse.proofs.Exactly.{is_so}
 use Rattle.abt_sparse.proofs.Fields.{IsBytes}
 use Rattle.abt_sparse.proofs.Spelling.{spelled_blocks}
-use Rattle.abt_chunks.specs.declared.progress.Progress.{Progress}
-use Rattle.abt_chunks.specs.declared.progress.Progress.TheVariants as answers
+use Rattle.abt_chunks.specs.declared.progress.MachineProgress.{MachineProgress}
+use Rattle.abt_chunks.specs.declared.progress.MachineProgress.TheVariants as answers
 use Rattle.abt_chunks.specs.declared.walk.Phase.{Phase}
 use Rattle.abt_chunks.specs.declared.walk.Phase.TheVariants as phases
 use Rattle.abt_chunks.specs.declared.walk.Walk.{Walk}
@@ -32,11 +32,11 @@ use Rattle.abt_verify.specs.Verifying.{RefusedVerify, SaysOfPartition, Verifies,
 use Rattle.abt_verify.proofs.Said.{first_more, held_le, said_by-append, said_cells, stands_more}
 
 -- After k bytes of x these cells stand on a partition that holds p, and the walk stands at s.
-pub record Come (tells : Bool) (s : Walk) (k : ℕ) (x p : List ℕ) (given0 given compared : ℕ) : Type 0 where
+pub record Come (models : Bool) (s : Walk) (k : ℕ) (x p : List ℕ) (given0 given compared : ℕ) : Type 0 where
   pub cells : List (Option ℕ)
   pub told : (t : List ℕ) → seen (outcome (take k x ++ t)) ≡ before cells (ahead s t)
   pub placed : place_of s ≡ length cells
-  pub stands : IsTrue tells → Stands p cells
+  pub stands : IsTrue models → Stands p cells
   pub counted : given ≡ given0 + said_by cells
   pub noted : compared ≡ min (said_by cells) (2 ^ 64 - 1)
 
@@ -44,8 +44,8 @@ ahead_first : (s : Walk) (t : List ℕ) → s.phase ≡ phases.Header → ahead 
 ahead_first s t e = ap (λ (ph : Phase). ahead_in ph s t) e
 
 -- at the beginning none do
-pub come_first : (tells : Bool) (s : Walk) (k : ℕ) (x p : List ℕ) (given compared : ℕ) → s.phase ≡ phases.Header → k ≡ 0 → compared ≡ 0 → Come tells s k x p given given compared
-come_first tells s k x p given compared first none fine = record {
+pub come_first : (models : Bool) (s : Walk) (k : ℕ) (x p : List ℕ) (given compared : ℕ) → s.phase ≡ phases.Header → k ≡ 0 → compared ≡ 0 → Come models s k x p given given compared
+come_first models s k x p given compared first none fine = record {
   cells = [];
   told = λ t. ap (λ (j : ℕ). seen (outcome (take j x ++ t))) none ∙ sym (ahead_first s t first);
   placed = ap (λ (ph : Phase). place_in ph s) first;
@@ -66,43 +66,43 @@ unless_map : {X : Type 0} (r : Result X VerifyFault) (P Q : Type 0) → (P → Q
 unless_map (Ok v) P Q go h = go h
 unless_map (Err f) P Q go h = unless_fault f P Q go h
 
-standing_fault : (f : VerifyFault) (P Q : Type 0) → (P → Q) → OnStanding {X = Progress} (Err f) P → OnStanding {X = Progress} (Err f) Q
+standing_fault : (f : VerifyFault) (P Q : Type 0) → (P → Q) → OnStanding {X = MachineProgress} (Err f) P → OnStanding {X = MachineProgress} (Err f) Q
 standing_fault (fails.Sparse g) P Q go h = go h
 standing_fault f P Q go h = tt
 
-standing_map : (r : Result Progress VerifyFault) (P Q : Type 0) → (P → Q) → OnStanding r P → OnStanding r Q
+standing_map : (r : Result MachineProgress VerifyFault) (P Q : Type 0) → (P → Q) → OnStanding r P → OnStanding r Q
 standing_map (Ok v) P Q go h = go h
 standing_map (Err f) P Q go h = standing_fault f P Q go h
 
-ok_map : (r : Result Progress VerifyFault) (P Q : Type 0) → (P → Q) → OnOk r P → OnOk r Q
+ok_map : (r : Result MachineProgress VerifyFault) (P Q : Type 0) → (P → Q) → OnOk r P → OnOk r Q
 ok_map (Ok v) P Q go h = go h
 ok_map (Err f) P Q go h = tt
 
-ok_both : (r : Result Progress VerifyFault) (P Q R : Type 0) → (P → Q → R) → OnOk r P → OnOk r Q → OnOk r R
+ok_both : (r : Result MachineProgress VerifyFault) (P Q R : Type 0) → (P → Q → R) → OnOk r P → OnOk r Q → OnOk r R
 ok_both (Ok v) P Q R go a b = go a b
 ok_both (Err f) P Q R go a b = tt
 
 -- A step that answers r, where x was read as far as rest: all cells that were compared.
-pub record Ends (tells : Bool) (r : Result Progress VerifyFault) (s' : Walk) (x read rest p : List ℕ) (given0 given' compared' : ℕ) : Type 0 where
+pub record Ends (models : Bool) (r : Result MachineProgress VerifyFault) (s' : Walk) (x read rest p : List ℕ) (given0 given' compared' : ℕ) : Type 0 where
   pub all : List (Option ℕ)
   pub whole : read ++ rest ≡ x
   pub told : UnlessUnread r (seen (outcome x) ≡ before all (ahead s' rest))
-  pub stands : IsTrue tells → OnStanding r (Stands p all)
-  pub differs : IsTrue tells → (more : List (Option ℕ)) → OnDiffers r (λ n. FirstDiffers p (all ++ more) n)
+  pub stands : IsTrue models → OnStanding r (Stands p all)
+  pub differs : IsTrue models → (more : List (Option ℕ)) → OnDiffers r (λ n. FirstDiffers p (all ++ more) n)
   pub counted : OnOk r (given' ≡ given0 + said_by all)
   pub noted : OnOk r (compared' ≡ min (said_by all) (2 ^ 64 - 1))
 
-differs_fault : (f : VerifyFault) (P Q : ℕ → Type 0) → ((n : ℕ) → P n → Q n) → OnDiffers {X = Progress} (Err f) P → OnDiffers {X = Progress} (Err f) Q
+differs_fault : (f : VerifyFault) (P Q : ℕ → Type 0) → ((n : ℕ) → P n → Q n) → OnDiffers {X = MachineProgress} (Err f) P → OnDiffers {X = MachineProgress} (Err f) Q
 differs_fault (fails.Differs n) P Q go h = go n h
 differs_fault f P Q go h = tt
 
-differs_map : (r : Result Progress VerifyFault) (P Q : ℕ → Type 0) → ((n : ℕ) → P n → Q n) → OnDiffers r P → OnDiffers r Q
+differs_map : (r : Result MachineProgress VerifyFault) (P Q : ℕ → Type 0) → ((n : ℕ) → P n → Q n) → OnDiffers r P → OnDiffers r Q
 differs_map (Ok v) P Q go h = tt
 differs_map (Err f) P Q go h = differs_fault f P Q go h
 
 -- a step over the same bytes
-pub same_there : (tells : Bool) (r : Result Progress VerifyFault) (s s' : Walk) (c rest p p' : List ℕ) (given given' : ℕ) → (IsTrue tells → p' ≡ p) → Compares tells r s s' c rest p' given given' → Compares tells r s s' c rest p given given'
-same_there tells r s s' c rest p p' given given' is e = record {
+pub same_there : (models : Bool) (r : Result MachineProgress VerifyFault) (s s' : Walk) (c rest p p' : List ℕ) (given given' : ℕ) → (IsTrue models → p' ≡ p) → Compares models r s s' c rest p' given given' → Compares models r s s' c rest p given given'
+same_there models r s s' c rest p p' given given' is e = record {
   cells = e.cells;
   told = e.told;
   moved = e.moved;
@@ -113,8 +113,8 @@ same_there tells r s s' c rest p p' given given' is e = record {
 
 -- ---- one step more
 
-module _ (tells : Bool) (s s' : Walk) (x x' rest p : List ℕ) (k n j : ℕ) (given0 given given' compared : ℕ) (r : Result Progress VerifyFault)
-    (left : x' ≡ drop k x) (same : j ≡ k + n) (i : Come tells s k x p given0 given compared) (e : Compares tells r s s' (take n x') rest p given given') where
+module _ (models : Bool) (s s' : Walk) (x x' rest p : List ℕ) (k n j : ℕ) (given0 given given' compared : ℕ) (r : Result MachineProgress VerifyFault)
+    (left : x' ≡ drop k x) (same : j ≡ k + n) (i : Come models s k x p given0 given compared) (e : Compares models r s s' (take n x') rest p given given') where
   abbrev All : List (Option ℕ)
   All = i.cells ++ e.cells
 
@@ -132,10 +132,10 @@ module _ (tells : Bool) (s s' : Walk) (x x' rest p : List ℕ) (k n j : ℕ) (gi
       → UnlessUnread r (seen (outcome (take j x ++ t)) ≡ before All (ahead s' t))
   all_told t h = unless_map r _ _ (all_from t) (e.told t h)
 
-  pub all_stand : IsTrue tells → OnStanding r (Stands p All)
+  pub all_stand : IsTrue models → OnStanding r (Stands p All)
   all_stand t = standing_map r _ _ (stands_more p i.cells e.cells (place_of s) (i.stands t) i.placed) (e.stands t)
 
-  all_differ : IsTrue tells → (more : List (Option ℕ)) → OnDiffers r (λ d. FirstDiffers p (All ++ more) d)
+  all_differ : IsTrue models → (more : List (Option ℕ)) → OnDiffers r (λ d. FirstDiffers p (All ++ more) d)
   all_differ t more = differs_map r _ _ (λ d. first_more p i.cells e.cells more (place_of s) d (i.stands t) i.placed) (e.differs t)
 
   pub all_counted : OnOk r (given' ≡ given0 + said_by All)
@@ -144,7 +144,7 @@ module _ (tells : Bool) (s s' : Walk) (x x' rest p : List ℕ) (k n j : ℕ) (gi
   pub all_noted : (compared' : ℕ) → OnOk r (compared' ≡ min (compared + (given' - given)) (2 ^ 64 - 1)) → OnOk r (compared' ≡ min (said_by All) (2 ^ 64 - 1))
   all_noted compared' note = ok_both r _ _ _ (λ a b. omega (arith, a, b, i.noted, said_by-append i.cells e.cells)) e.counted note
 
-  pub ends : (compared' : ℕ) → rest ≡ drop j x → OnOk r (compared' ≡ min (compared + (given' - given)) (2 ^ 64 - 1)) → Ends tells r s' x (take j x) rest p given0 given' compared'
+  pub ends : (compared' : ℕ) → rest ≡ drop j x → OnOk r (compared' ≡ min (compared + (given' - given)) (2 ^ 64 - 1)) → Ends models r s' x (take j x) rest p given0 given' compared'
   ends compared' at_rest note =
       let whole : take j x ++ rest ≡ x = ap (λ (l : List ℕ). take j x ++ l) at_rest ∙ take-append-drop j x in
       record {
@@ -157,15 +157,15 @@ module _ (tells : Bool) (s s' : Walk) (x x' rest p : List ℕ) (k n j : ℕ) (gi
         noted = all_noted compared' note;
       }
 
-pub come_next : (tells : Bool) (s s' : Walk) (x x' rest p : List ℕ) (k n j : ℕ) (given0 given given' compared compared' : ℕ) → x' ≡ drop k x → j ≡ k + n → Come tells s k x p given0 given compared → Compares tells (Ok answers.More) s s' (take n x') rest p given given'
-    → compared' ≡ min (compared + (given' - given)) (2 ^ 64 - 1) → Come tells s' j x p given0 given' compared'
-come_next tells s s' x x' rest p k n j given0 given given' compared compared' left same i e note = record {
+pub come_next : (models : Bool) (s s' : Walk) (x x' rest p : List ℕ) (k n j : ℕ) (given0 given given' compared compared' : ℕ) → x' ≡ drop k x → j ≡ k + n → Come models s k x p given0 given compared → Compares models (Ok answers.More) s s' (take n x') rest p given given'
+    → compared' ≡ min (compared + (given' - given)) (2 ^ 64 - 1) → Come models s' j x p given0 given' compared'
+come_next models s s' x x' rest p k n j given0 given given' compared compared' left same i e note = record {
   cells = i.cells ++ e.cells;
-  told = λ t. all_told tells s s' x x' rest p k n j given0 given given' compared (Ok answers.More) left same i e t (λ z. absurd cc);
+  told = λ t. all_told models s s' x x' rest p k n j given0 given given' compared (Ok answers.More) left same i e t (λ z. absurd cc);
   placed = e.moved ∙ omega (arith, i.placed, length-append i.cells e.cells);
-  stands = all_stand tells s s' x x' rest p k n j given0 given given' compared (Ok answers.More) left same i e;
-  counted = all_counted tells s s' x x' rest p k n j given0 given given' compared (Ok answers.More) left same i e;
-  noted = all_noted tells s s' x x' rest p k n j given0 given given' compared (Ok answers.More) left same i e compared' note;
+  stands = all_stand models s s' x x' rest p k n j given0 given given' compared (Ok answers.More) left same i e;
+  counted = all_counted models s s' x x' rest p k n j given0 given given' compared (Ok answers.More) left same i e;
+  noted = all_noted models s s' x x' rest p k n j given0 given given' compared (Ok answers.More) left same i e compared' note;
 }
 
 -- ---- the ends
@@ -210,9 +210,9 @@ counted_back b w most some small few le =
     let back : min (b * w) (2 ^ 64 - 1) / b ≡ w = ap (λ (n : ℕ). n / b) whole ∙ mul-div_cancel_left w some in
     omega (arith, back, le)
 
-image_of : (tells : Bool) (x p : List ℕ) (all : List (Option ℕ)) (rest : List ℕ) (ht : SparseHeader) (e : Verified) (given0 given' compared' : ℕ) (o : Outcome) → IsOutcome x o → seen o ≡ before all (record { cells = []; ending = Ok (view ht, rest) })
-    → (IsTrue tells → Stands p all) → given' ≡ given0 + said_by all → compared' ≡ min (said_by all) (2 ^ 64 - 1) → e.blocks ≡ min (compared' / ht.blk_sz) ht.total_blks → WholeVerify tells e p x rest given0 given'
-image_of tells x p all rest ht e given0 given' compared' (Image h cs left) is q stands count note blocks =
+image_of : (models : Bool) (x p : List ℕ) (all : List (Option ℕ)) (rest : List ℕ) (ht : SparseHeader) (e : Verified) (given0 given' compared' : ℕ) (o : Outcome) → IsOutcome x o → seen o ≡ before all (record { cells = []; ending = Ok (view ht, rest) })
+    → (IsTrue models → Stands p all) → given' ≡ given0 + said_by all → compared' ≡ min (said_by all) (2 ^ 64 - 1) → e.blocks ≡ min (compared' / ht.blk_sz) ht.total_blks → WholeVerify models e p x rest given0 given'
+image_of models x p all rest ht e given0 given' compared' (Image h cs left) is q stands count note blocks =
     let b = h.blk_sz in
     let w = held_in (classed cs) in
     let ends = ap (λ (a : Ahead). a.ending) q in
@@ -238,19 +238,19 @@ image_of tells x p all rest ht e given0 given' compared' (Image h cs left) is q 
       blocks = answer;
       once = count ∙ ap (λ (n : ℕ). given0 + n) (bytes ∙ ap (λ (n : ℕ). b * n) (sym answer));
     }
-image_of tells x p all rest ht e given0 given' compared' (Fault f cs) is q stands count note blocks = absurd (err_ok f (view ht) rest (ap (λ (a : Ahead). a.ending) q))
+image_of models x p all rest ht e given0 given' compared' (Fault f cs) is q stands count note blocks = absurd (err_ok f (view ht) rest (ap (λ (a : Ahead). a.ending) q))
 
 -- the end of an image
-pub done_whole : (tells : Bool) (s' : Walk) (x read rest p : List ℕ) (given0 given' compared' : ℕ) → Ends tells (Ok answers.Done) s' x read rest p given0 given' compared' → s'.phase ≡ phases.Done → IsBytes x → (v : Verified) → v.blocks ≡ min (compared' / s'.header.blk_sz) s'.header.total_blks
-    → WholeVerify tells v p x rest given0 given'
-done_whole tells s' x read rest p given0 given' compared' e ended bytes v blocks =
-    image_of tells x p e.all rest s'.header v given0 given' compared' (outcome x) (is_so x bytes) (e.told ∙ ap (λ (a : Ahead). before e.all a) (at_done s' rest ended)) e.stands e.counted e.noted blocks
+pub done_whole : (models : Bool) (s' : Walk) (x read rest p : List ℕ) (given0 given' compared' : ℕ) → Ends models (Ok answers.Done) s' x read rest p given0 given' compared' → s'.phase ≡ phases.Done → IsBytes x → (v : Verified) → v.blocks ≡ min (compared' / s'.header.blk_sz) s'.header.total_blks
+    → WholeVerify models v p x rest given0 given'
+done_whole models s' x read rest p given0 given' compared' e ended bytes v blocks =
+    image_of models x p e.all rest s'.header v given0 given' compared' (outcome x) (is_so x bytes) (e.told ∙ ap (λ (a : Ahead). before e.all a) (at_done s' rest ended)) e.stands e.counted e.noted blocks
 
 -- ---- a fault
 
-refused_of : (tells : Bool) (f : SparseFault) (x p : List ℕ) (all : List (Option ℕ)) (o : Outcome) → IsOutcome x o → seen o ≡ before all (stopping f) → (IsTrue tells → Stands p all) → RefusedVerify tells f p x
-refused_of tells f x p all (Image h cs left) is q stands = absurd (ok_err f h left (ap (λ (a : Ahead). a.ending) q))
-refused_of tells f x p all (Fault g cs) is q stands =
+refused_of : (models : Bool) (f : SparseFault) (x p : List ℕ) (all : List (Option ℕ)) (o : Outcome) → IsOutcome x o → seen o ≡ before all (stopping f) → (IsTrue models → Stands p all) → RefusedVerify models f p x
+refused_of models f x p all (Image h cs left) is q stands = absurd (ok_err f h left (ap (λ (a : Ahead). a.ending) q))
+refused_of models f x p all (Fault g cs) is q stands =
     let same : g ≡ f = err_err g f (ap (λ (a : Ahead). a.ending) q) in
     let cells_are : cs ≡ all = ap (λ (a : Ahead). a.cells) q ∙ append-nil all in
     record {
@@ -267,16 +267,16 @@ seen_given : (o : Outcome) → (seen o).cells ≡ given o
 seen_given (Image h cs rest) = refl
 seen_given (Fault f cs) = refl
 
-pub fault_verifies : (tells : Bool) (f : VerifyFault) (s' : Walk) (x read rest p : List ℕ) (given0 given' compared' :
-    ℕ) → Ends tells (Err f) s' x read rest p given0 given' compared' → LeavesWalk (Err f) s'.phase → IsBytes x
-    → Verifies tells (Err f) p x rest given0 given'
-fault_verifies tells (fails.Sparse g) s' x read rest p given0 given' compared' e leaves bytes =
-    refused_of tells g x p e.all (outcome x) (is_so x bytes) (e.told ∙ ap (λ (a : Ahead). before e.all a) (at_fault s' rest g leaves)) e.stands
-fault_verifies tells (fails.Differs n) s' x read rest p given0 given' compared' e leaves bytes =
+pub fault_verifies : (models : Bool) (f : VerifyFault) (s' : Walk) (x read rest p : List ℕ) (given0 given' compared' :
+    ℕ) → Ends models (Err f) s' x read rest p given0 given' compared' → LeavesWalk (Err f) s'.phase → IsBytes x
+    → Verifies models (Err f) p x rest given0 given'
+fault_verifies models (fails.Sparse g) s' x read rest p given0 given' compared' e leaves bytes =
+    refused_of models g x p e.all (outcome x) (is_so x bytes) (e.told ∙ ap (λ (a : Ahead). before e.all a) (at_fault s' rest g leaves)) e.stands
+fault_verifies models (fails.Differs n) s' x read rest p given0 given' compared' e leaves bytes =
     let are : given (outcome x) ≡ e.all ++ (ahead s' rest).cells = sym (seen_given (outcome x)) ∙ ap (λ (a : Ahead). a.cells) e.told in
     record {
       said = given (outcome x);
       says = says_given x (outcome x) (is_so x bytes);
       first = λ t. subst (λ (l : List (Option ℕ)). FirstDiffers p l n) (sym are) (e.differs t (ahead s' rest).cells);
     }
-fault_verifies tells f s' x read rest p given0 given' compared' e leaves bytes = tt
+fault_verifies models f s' x read rest p given0 given' compared' e leaves bytes = tt

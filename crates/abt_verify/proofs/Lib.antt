@@ -1,5 +1,5 @@
 pub mod Said
-pub mod Steps
+pub mod VerifySteps
 pub mod Come
 pub mod RawSteps
 pub mod Flashed

@@ -7,7 +7,7 @@ use Rattle.abt_io.specs.declared.device.DeviceFault.{DeviceFault}
 use Rattle.abt_chunks.specs.Places.{from_place}
 use Rattle.abt_verify.specs.Fault.{HasRawCause, short_fault}
 use Rattle.abt_io.proofs.Parts.{take_plus}
-use Rattle.abt_chunks.specs.declared.progress.Progress.{Progress}
+use Rattle.abt_chunks.specs.declared.progress.MachineProgress.{MachineProgress}
 use Rattle.abt_chunks.specs.Ahead.{somes}
 use Rattle.abt_verify.specs.declared.fault.VerifyFault.{VerifyFault}
 use Rattle.abt_verify.specs.declared.fault.VerifyFault.TheVariants as fails
@@ -35,7 +35,7 @@ module _ (p x : List ℕ) (at n : ℕ) (there : at + n ≤ length x) where
   pub raw_differs : (d : ℕ) → Stands p (somes (take at x)) → FirstDiffers p (from_place at (somes (take n (drop at x)))) d → FirstDiffers p (somes x) d
   raw_differs d before here = subst (λ (cs : List (Option ℕ)). FirstDiffers p cs d) whole (first_more p (somes (take at x)) (somes (take n (drop at x))) (somes (drop (at + n) x)) at d before long here)
 
-  raw_fault : (f : VerifyFault) → Stands p (somes (take at x)) → PartDiffers (Some f) p (from_place at (somes (take n (drop at x)))) → OnDiffers {X = Progress} (Err f) (λ d. FirstDiffers p (somes x) d)
+  raw_fault : (f : VerifyFault) → Stands p (somes (take at x)) → PartDiffers (Some f) p (from_place at (somes (take n (drop at x)))) → OnDiffers {X = MachineProgress} (Err f) (λ d. FirstDiffers p (somes x) d)
   raw_fault (fails.Differs d) before here = raw_differs d before here
   raw_fault f before here = tt
 
@@ -72,9 +72,9 @@ not_telling : (b : Bool) → (IsTrue b → ⊥) → b ≡ false
 not_telling true h = absurd (h refl)
 not_telling false h = refl
 
-too_few : (b : Bool) (f : VerifyFault) (tells : Bool) (r r' p : ℕ) → (let a : Option VerifyFault = Some f in a ≡ (if b then Some fails.SourceChanged else None)) → (b ≡ true → tells ≡ false) → r' ≡ r → HasRawCause f tells r r' p p
-too_few true f tells r r' p e changed same = subst (λ (g : VerifyFault). HasRawCause g tells r r' p p) (let z : fails.SourceChanged ≡ f = cc in z) (changed refl, same, refl)
-too_few false f tells r r' p e changed same = absurd cc
+too_few : (b : Bool) (f : VerifyFault) (models : Bool) (r r' p : ℕ) → (let a : Option VerifyFault = Some f in a ≡ (if b then Some fails.SourceChanged else None)) → (b ≡ true → models ≡ false) → r' ≡ r → HasRawCause f models r r' p p
+too_few true f models r r' p e changed same = subst (λ (g : VerifyFault). HasRawCause g models r r' p p) (let z : fails.SourceChanged ≡ f = cc in z) (changed refl, same, refl)
+too_few false f models r r' p e changed same = absurd cc
 
 pub none_failed : (o : Option DeviceFault) (came wanted : ℕ) → (let a : Option VerifyFault = None in a ≡ short_fault o came wanted) → IsNone o
 none_failed (Some d) came wanted e = absurd cc

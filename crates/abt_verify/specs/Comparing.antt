@@ -48,8 +48,8 @@ pub record ReadsBytes (n most : ℕ) {A : Type 0} (s : sources.Ghosts A) (old ne
 -- not be read. It stays as it is.
 pub record PartCompared {A : Type 0} (p : sources.Ghosts A) (fault : Option VerifyFault) (cells : List (Option ℕ))
     (old new : A) : Type 0 where
-  pub stands : IsTrue p.tells → IfNone fault (Stands (p.content old) cells)
-  pub differs : IsTrue p.tells → PartDiffers fault (p.content old) cells
+  pub stands : IsTrue p.models → IfNone fault (Stands (p.content old) cells)
+  pub differs : IsTrue p.models → PartDiffers fault (p.content old) cells
   pub cause : PartCause fault (p.read_faults old) (p.read_faults new)
   pub partition : OnlyReads (answer_to fault) p old new
 

@@ -40,18 +40,18 @@ VerifyRises (Err f) r r' p p' = HasVerifyCause f r r' p p'
 -- Of the bytes of a raw image: the same, and 14 comes where a source that doesn't tell its bytes gives fewer than it
 -- has said. 1 to 10 never come, nor 15.
 abbrev pub HasRawCause : VerifyFault → Bool → ℕ → ℕ → ℕ → ℕ → Type 0
-HasRawCause (Sparse f) tells r r' p p' = ⊥
-HasRawCause SourceChanged tells r r' p p' = (tells ≡ false) × (r' ≡ r) × (p' ≡ p)
-HasRawCause f tells r r' p p' = HasVerifyCause f r r' p p'
+HasRawCause (Sparse f) models r r' p p' = ⊥
+HasRawCause SourceChanged models r r' p p' = (models ≡ false) × (r' ≡ r) × (p' ≡ p)
+HasRawCause f models r r' p p' = HasVerifyCause f r r' p p'
 
 abbrev pub RawRises : {X : Type 0} → Result X VerifyFault → Bool → ℕ → ℕ → ℕ → ℕ → Type 0
-RawRises (Ok x) tells r r' p p' = (r' ≡ r) × (p' ≡ p)
-RawRises (Err f) tells r r' p p' = HasRawCause f tells r r' p p'
+RawRises (Ok x) models r r' p p' = (r' ≡ r) × (p' ≡ p)
+RawRises (Err f) models r r' p p' = HasRawCause f models r r' p p'
 
 -- the same with 15, which is the size of a block and no device's failure
 abbrev pub RawCause : {X : Type 0} → Result X VerifyFault → Bool → ℕ → ℕ → ℕ → ℕ → Type 0
-RawCause (Err (BadBlock n)) tells r r' p p' = (r' ≡ r) × (p' ≡ p)
-RawCause a tells r r' p p' = RawRises a tells r r' p p'
+RawCause (Err (BadBlock n)) models r r' p p' = (r' ≡ r) × (p' ≡ p)
+RawCause a models r r' p p' = RawRises a models r r' p p'
 
 -- and of comparing a part alone
 abbrev pub PartCause : Option VerifyFault → ℕ → ℕ → Type 0
@@ -62,8 +62,8 @@ PartCause (Some f) p p' = ⊥
 
 -- or a piece of a raw image
 abbrev pub PieceCause : Option VerifyFault → Bool → ℕ → ℕ → ℕ → ℕ → Type 0
-PieceCause None tells r r' p p' = (r' ≡ r) × (p' ≡ p)
-PieceCause (Some f) tells r r' p p' = HasRawCause f tells r r' p p'
+PieceCause None models r r' p p' = (r' ≡ r) × (p' ≡ p)
+PieceCause (Some f) models r r' p p' = HasRawCause f models r r' p p'
 
 -- why fewer bytes of a raw image came than were asked for
 abbrev pub short_fault : Option DeviceFault → ℕ → ℕ → Option VerifyFault

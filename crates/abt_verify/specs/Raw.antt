@@ -14,16 +14,16 @@ pub record IsRawBlock (b : ℕ) : Type 0 where
   pub words : b % 4 ≡ 0
 
 -- Each byte of x is at its place, and was read of the partition, once. The answer counts the blocks that hold them.
-pub record WholeRaw (tells : Bool) (e : Verified) (b : ℕ) (p x : List ℕ) (given given' : ℕ) : Type 0 where
-  pub stands : IsTrue tells → Stands p (somes x)
+pub record WholeRaw (models : Bool) (e : Verified) (b : ℕ) (p x : List ℕ) (given given' : ℕ) : Type 0 where
+  pub stands : IsTrue models → Stands p (somes x)
   pub blocks : e.blocks ≡ div_ceil (length x) b
   pub once : given' ≡ given + length x
 
 -- what is answered over a raw image x, and a partition that holds p, save where bytes were not read
 abbrev pub VerifiesRaw : Bool → Result Verified VerifyFault → ℕ → List ℕ → List ℕ → ℕ → ℕ → Type 0
-VerifiesRaw tells (Ok e) b p x given given' = WholeRaw tells e b p x given given'
-VerifiesRaw tells (Err (Differs n)) b p x given given' = IsTrue tells → FirstDiffers p (somes x) n
-VerifiesRaw tells (Err f) b p x given given' = Unit {0}
+VerifiesRaw models (Ok e) b p x given given' = WholeRaw models e b p x given given'
+VerifiesRaw models (Err (Differs n)) b p x given given' = IsTrue models → FirstDiffers p (somes x) n
+VerifiesRaw models (Err f) b p x given given' = Unit {0}
 
 -- 15 comes for this size of blocks, which none may have; any other answer where one may
 abbrev pub JudgesBlockSize : Result Verified VerifyFault → ℕ → Type 0

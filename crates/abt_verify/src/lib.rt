@@ -11,7 +11,7 @@
 //! | file | what is in it |
 //! |---|---|
 //! | `fault.rt` | why all this is refused: `VerifyFault` |
-//! | `stage.rt` | `Stage`, and what is answered |
+//! | `stage.rt` | `VerifyStage`, and what is answered |
 //! | `alike.rt` | how many leading bytes are the same |
 //! | `comparing.rt` | a part of an image against its place |
 //! | `verifier.rt` | `Verifier`, verifying a sparse image in steps |
@@ -38,6 +38,6 @@ pub use fault::VerifyFault;
 pub use laws::{unwritten_partition_stays, verifying_is_right};
 pub use raw_verifier::RawVerifier;
 pub use raw_verifying::verify_raw;
-pub use stage::{Stage, Verified};
+pub use stage::{Verified, VerifyStage};
 pub use verifier::Verifier;
 pub use verifying::verify;

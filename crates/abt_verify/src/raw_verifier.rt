@@ -13,9 +13,9 @@ ghost use Rattle.abt_verify.specs.Stepping.{HasEnded, IsUnderway, OnDiffers, Raw
 
 use crate::comparing::{Compared, HALF, compare_at};
 use crate::fault::VerifyFault;
-use crate::stage::Stage;
+use crate::stage::VerifyStage;
 use crate::verifier::stage_behind;
-use abt_chunks::Progress;
+use abt_chunks::MachineProgress;
 use abt_io::{FullRead, Meter, Source, Window, read_full_at};
 
 /// Compares the bytes of a raw image with what stands at their places on a partition. It holds no bytes: each step
@@ -26,7 +26,7 @@ pub struct RawVerifier {
     pub length: u64,
     /// How many were compared.
     pub at: u64,
-    pub stage: Stage,
+    pub stage: VerifyStage,
     pub ghost within: { at ≤ length },
 }
 
@@ -57,16 +57,16 @@ fn compare_piece<S: Source, P: Source>(
 ) -> Compared
     requires half { n ≤ 32768 }
     requires below { at + n < 2 ^ 64 }
-    requires there { IsTrue S.tells → at + n ≤ length (S.content source.old) }
+    requires there { IsTrue S.models → at + n ≤ length (S.content source.old) }
     ensures received { result.received ≡ (S.given source.new - S.given source.old)
         + (P.given partition.new - P.given partition.old) }
     ensures all { IfNone result.fault ((S.given source.new ≡ S.given source.old + n) ×
         (P.given partition.new ≡ P.given partition.old + n)) }
-    ensures stands { IsTrue S.tells → IsTrue P.tells → IfNone result.fault
+    ensures stands { IsTrue S.models → IsTrue P.models → IfNone result.fault
         (Stands (P.content partition.old) (from_place at (somes (take n (drop at (S.content source.old)))))) }
-    ensures differs { IsTrue S.tells → IsTrue P.tells → PartDiffers result.fault (P.content partition.old)
+    ensures differs { IsTrue S.models → IsTrue P.models → PartDiffers result.fault (P.content partition.old)
         (from_place at (somes (take n (drop at (S.content source.old))))) }
-    ensures cause { PieceCause result.fault S.tells (S.read_faults source.old) (S.read_faults source.new)
+    ensures cause { PieceCause result.fault S.models (S.read_faults source.old) (S.read_faults source.new)
         (P.read_faults partition.old) (P.read_faults partition.new) }
     ensures source { ReadsUpTo (answer_to result.fault) n S.Source source.old source.new }
     ensures partition { ReadsUpTo (answer_to result.fault) n P.Source partition.old partition.new }
@@ -91,16 +91,16 @@ fn compare_piece<S: Source, P: Source>(
 }
 
 /// What a step answers once it has compared n bytes.
-fn answer(n: usize, fault: Option<VerifyFault>) -> Result<Progress, VerifyFault>
+fn answer(n: usize, fault: Option<VerifyFault>) -> Result<MachineProgress, VerifyFault>
     ensures { result ≡ raw_answer n fault }
 {
     match fault {
         Some(fault) => Err(fault),
         None => {
             if n == 0 {
-                Ok(Progress::Done)
+                Ok(MachineProgress::Done)
             } else {
-                Ok(Progress::More)
+                Ok(MachineProgress::More)
             }
         }
     }
@@ -121,14 +121,14 @@ impl RawVerifier {
     /// A verifier that has read nothing of the raw image that is all of the source.
     pub fn open<S: Source>(source: &S) -> RawVerifier
         ensures size { result.length ≡ S.size source.now }
-        ensures told { IsTrue S.tells → result.length ≡ length (S.content source.now) }
+        ensures told { IsTrue S.models → result.length ≡ length (S.content source.now) }
         ensures at { result.at ≡ 0 }
-        ensures stage { result.stage ≡ Stage.Going }
+        ensures stage { result.stage ≡ VerifyStage.Going }
     {
         RawVerifier {
             length: source.length(),
             at: 0,
-            stage: Stage::Going,
+            stage: VerifyStage::Going,
         }
     }
 
@@ -150,13 +150,13 @@ impl RawVerifier {
         partition: &mut P,
         w: &mut Window,
         m: &mut Meter,
-    ) -> Result<Progress, VerifyFault>
-        requires { IsTrue S.tells → self.old.length ≡ length (S.content source.old) }
+    ) -> Result<MachineProgress, VerifyFault>
+        requires { IsTrue S.models → self.old.length ≡ length (S.content source.old) }
         // What stood so far stands with what was compared, or the first byte that differs is told.
-        ensures stands { IsTrue S.tells → IsTrue P.tells → Stands (P.content partition.old)
+        ensures stands { IsTrue S.models → IsTrue P.models → Stands (P.content partition.old)
             (somes (take self.old.at (S.content source.old))) →
             OnOk result (Stands (P.content partition.old) (somes (take self.new.at (S.content source.old)))) }
-        ensures differs { IsTrue S.tells → IsTrue P.tells → IsUnderway self.old.stage →
+        ensures differs { IsTrue S.models → IsTrue P.models → IsUnderway self.old.stage →
             Stands (P.content partition.old) (somes (take self.old.at (S.content source.old))) →
             OnDiffers result (λ n. FirstDiffers (P.content partition.old) (somes (S.content source.old)) n) }
         ensures goes { RawAdvances result self.old.stage self.new.stage self.old.length self.new.length self.old.at
@@ -165,7 +165,7 @@ impl RawVerifier {
             (P.given partition.new ≡ P.given partition.old + (self.new.at - self.old.at))) }
         ensures again { HasEnded self.old.stage → (self.new ≡ self.old) × (source.new ≡ source.old) ×
             (partition.new ≡ partition.old) }
-        ensures cause { IsUnderway self.old.stage → RawRises result S.tells (S.read_faults source.old)
+        ensures cause { IsUnderway self.old.stage → RawRises result S.models (S.read_faults source.old)
             (S.read_faults source.new) (P.read_faults partition.old) (P.read_faults partition.new) }
         // Both stay as they are.
         ensures source { ReadsUpTo result 32768 S.Source source.old source.new }
@@ -176,15 +176,15 @@ impl RawVerifier {
             + (P.given partition.new - P.given partition.old)) m.old m.new }
     {
         match self.stage {
-            Stage::Done => {
+            VerifyStage::Done => {
                 m.close_step(0);
-                Ok(Progress::Done)
+                Ok(MachineProgress::Done)
             }
-            Stage::Failed(fault) => {
+            VerifyStage::Failed(fault) => {
                 m.close_step(0);
                 Err(fault)
             }
-            Stage::Going => {
+            VerifyStage::Going => {
                 let n = self.ask();
                 let done = compare_piece(source, n, self.at, partition, w, m);
                 m.close_step(done.received);

@@ -9,7 +9,7 @@ ghost use Rattle.abt_verify.specs.Raw.{IsRawBlock, JudgesBlockSize, VerifiesRaw}
 use crate::fault::VerifyFault;
 use crate::raw_verifier::RawVerifier;
 use crate::stage::Verified;
-use abt_chunks::Progress;
+use abt_chunks::MachineProgress;
 use abt_io::{Meter, Source, Window};
 
 /// Whether a raw image may have blocks of this size.
@@ -32,10 +32,10 @@ pub fn verify_raw<S: Source, P: Source>(
     w: &mut Window,
     m: &mut Meter,
 ) -> Result<Verified, VerifyFault>
-    ensures verifies { IsTrue S.tells → VerifiesRaw P.tells result b (P.content partition.old) (S.content source.old)
+    ensures verifies { IsTrue S.models → VerifiesRaw P.models result b (P.content partition.old) (S.content source.old)
         (P.given partition.old) (P.given partition.new) }
     ensures sized { JudgesBlockSize result b }
-    ensures cause { RawCause result S.tells (S.read_faults source.old) (S.read_faults source.new)
+    ensures cause { RawCause result S.models (S.read_faults source.old) (S.read_faults source.new)
         (P.read_faults partition.old) (P.read_faults partition.new) }
     // Both stay as they are; of the partition its bytes, its length, and all that a write or a sync would change.
     ensures source { ReadsMore result S.Source source.old source.new }
@@ -55,8 +55,8 @@ pub fn verify_raw<S: Source, P: Source>(
     'steps: loop {
         m.tick();
         match machine.step(source, partition, w, m) {
-            Ok(Progress::More) => {}
-            Ok(Progress::Done) => {
+            Ok(MachineProgress::More) => {}
+            Ok(MachineProgress::Done) => {
                 return Ok(Verified {
                     blocks: machine.length.div_ceil(u64::from(b)),
                 });

@@ -4,7 +4,7 @@ use crate::fault::VerifyFault;
 
 /// Where a verifier stands.
 #[derive(Clone, Copy, Debug, PartialEq, Eq, Drop)]
-pub enum Stage {
+pub enum VerifyStage {
     /// The image is read and compared.
     Going,
     /// All of it stands.

@@ -13,8 +13,8 @@ ghost use Rattle.abt_verify.specs.Stepping.{Compares, HasEnded, IsComparing, Lea
 
 use crate::comparing::{HALF, HALF_WORDS, compare_part};
 use crate::fault::{VerifyFault, sparse_fault};
-use crate::stage::Stage;
-use abt_chunks::{Part, Phase, Progress, Walk};
+use crate::stage::VerifyStage;
+use abt_chunks::{MachineProgress, Part, Phase, Walk};
 use abt_io::{Input, Meter, Source, Window};
 
 /// Compares the raw and fill blocks of a sparse image with what stands at their places on a partition, and passes over
@@ -22,7 +22,7 @@ use abt_io::{Input, Meter, Source, Window};
 #[derive(Drop)]
 pub struct Verifier {
     pub walk: Walk,
-    pub stage: Stage,
+    pub stage: VerifyStage,
     /// How many bytes were compared, of which no image has more than fit here.
     pub compared: u64,
 }
@@ -46,28 +46,28 @@ fn is_in_range(walk: &Walk)
 
 /// What a step answers once its part stands.
 #[inline(always)]
-fn answer(part: Part) -> Result<Progress, VerifyFault>
+fn answer(part: Part) -> Result<MachineProgress, VerifyFault>
     ensures { result ≡ answer_by verify_fault_of part }
 {
     match part {
-        Part::End => Ok(Progress::Done),
+        Part::End => Ok(MachineProgress::Done),
         Part::Fault(fault) => Err(sparse_fault(fault)),
-        Part::Raw(_) => Ok(Progress::More),
-        Part::Words(_, _) => Ok(Progress::More),
-        Part::Skip(_) => Ok(Progress::More),
-        Part::Nothing => Ok(Progress::More),
+        Part::Raw(_) => Ok(MachineProgress::More),
+        Part::Words(_, _) => Ok(MachineProgress::More),
+        Part::Skip(_) => Ok(MachineProgress::More),
+        Part::Nothing => Ok(MachineProgress::More),
     }
 }
 
 /// Where that leaves a verifier.
 #[inline(always)]
-pub(crate) fn stage_behind(answer: Result<Progress, VerifyFault>) -> Stage
+pub(crate) fn stage_behind(answer: Result<MachineProgress, VerifyFault>) -> VerifyStage
     ensures { result ≡ stage_after answer }
 {
     match answer {
-        Ok(Progress::More) => Stage::Going,
-        Ok(Progress::Done) => Stage::Done,
-        Err(fault) => Stage::Failed(fault),
+        Ok(MachineProgress::More) => VerifyStage::Going,
+        Ok(MachineProgress::Done) => VerifyStage::Done,
+        Err(fault) => VerifyStage::Failed(fault),
     }
 }
 
@@ -75,12 +75,12 @@ impl Verifier {
     /// A verifier that has read nothing.
     pub fn open() -> Verifier
         ensures walk { result.walk.phase ≡ Phase.Header }
-        ensures stage { result.stage ≡ Stage.Going }
+        ensures stage { result.stage ≡ VerifyStage.Going }
         ensures compared { result.compared ≡ 0 }
     {
         Verifier {
             walk: Walk::new(),
-            stage: Stage::Going,
+            stage: VerifyStage::Going,
             compared: 0,
         }
     }
@@ -104,12 +104,12 @@ impl Verifier {
         partition: &mut P,
         w: &mut Window,
         m: &mut Meter,
-    ) -> Result<Progress, VerifyFault>
-        ensures input { ReadStep (I.given input.new - I.given input.old) 32768 self.old.walk I.tells
+    ) -> Result<MachineProgress, VerifyFault>
+        ensures input { ReadStep (I.given input.new - I.given input.old) 32768 self.old.walk I.models
             (input_state I.Input input.old) (input_state I.Input input.new) }
         // What it compares, and whether that stands.
-        ensures told { IsTrue I.tells → IsComparing self.old.stage self.old.walk.phase →
-            Compares P.tells result self.old.walk self.new.walk
+        ensures told { IsTrue I.models → IsComparing self.old.stage self.old.walk.phase →
+            Compares P.models result self.old.walk self.new.walk
             (take (I.given input.new - I.given input.old) (I.remaining input.old)) (I.remaining input.new)
             (P.content partition.old) (P.given partition.old) (P.given partition.new) }
         ensures compared { IsComparing self.old.stage self.old.walk.phase →
@@ -137,15 +137,15 @@ impl Verifier {
             + (P.given partition.new - P.given partition.old)) m.old m.new }
     {
         match self.stage {
-            Stage::Done => {
+            VerifyStage::Done => {
                 m.close_step(0);
-                Ok(Progress::Done)
+                Ok(MachineProgress::Done)
             }
-            Stage::Failed(fault) => {
+            VerifyStage::Failed(fault) => {
                 m.close_step(0);
                 Err(fault)
             }
-            Stage::Going => {
+            VerifyStage::Going => {
                 is_in_range(&self.walk);
                 let at = self.walk.place();
                 let all = self.walk.words.max(1);

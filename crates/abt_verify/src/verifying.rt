@@ -10,7 +10,7 @@ ghost use Rattle.abt_verify.specs.Verifying.{Verifies};
 use crate::fault::VerifyFault;
 use crate::stage::Verified;
 use crate::verifier::Verifier;
-use abt_chunks::Progress;
+use abt_chunks::MachineProgress;
 use abt_io::{Input, Meter, Source, Window};
 
 /// Compares the raw and fill blocks of the image at the front of the input with what stands at their places on the
@@ -24,9 +24,9 @@ pub fn verify<I: Input, P: Source>(
     m: &mut Meter,
 ) -> Result<Verified, VerifyFault>
     // What was read.
-    ensures input { ReadsOn I.tells (input_state I.Input input.old) (input_state I.Input input.new) }
+    ensures input { ReadsOn I.models (input_state I.Input input.old) (input_state I.Input input.new) }
     // An image that stands is found, and anything else is refused with its first difference or its own fault.
-    ensures verifies { IsTrue I.tells → Verifies P.tells result (P.content partition.old) (I.remaining input.old)
+    ensures verifies { IsTrue I.models → Verifies P.models result (P.content partition.old) (I.remaining input.old)
         (I.remaining input.new) (P.given partition.old) (P.given partition.new) }
     ensures cause { VerifyRises result (I.read_faults input.old) (I.read_faults input.new) (P.read_faults partition.old)
         (P.read_faults partition.new) }
@@ -44,8 +44,8 @@ pub fn verify<I: Input, P: Source>(
     'steps: loop {
         m.tick();
         match machine.step(input, partition, w, m) {
-            Ok(Progress::More) => {}
-            Ok(Progress::Done) => {
+            Ok(MachineProgress::More) => {}
+            Ok(MachineProgress::Done) => {
                 return Ok(Verified {
                     blocks: machine.blocks(),
                 });

@@ -6,7 +6,7 @@ use Rattle.words_orders.specs.declared.order.BootTask.TheVariants as tasks
 use Rattle.sys_report.specs.declared.report.Report.{Report}
 use Rattle.sys_report.specs.Shows.{CannotPrint, ShowsBeside, Unprinted}
 use Rattle.sys_disk.specs.Among.{OnlyAmong}
-use Rattle.sys_disk.specs.World.{World, Held, HasFailed, OnlyAt, KeepsFile}
+use Rattle.sys_disk.specs.World.{World, OpenFiles, HasFailed, OnlyAt, KeepsFile}
 use Rattle.cmd_common_boot.specs.declared.fault.BootCommandFault.{BootCommandFault}
 use Rattle.cmd_common_boot.specs.ImageFaults.{RefusesImage}
 use Rattle.cmd_unpack.specs.Lines.{ShowsEach}
@@ -32,12 +32,12 @@ IsKindOf (tasks.Info input with_check with_hex) (kinds.Info from check hex) =
 IsKindOf task kind = ⊥
 
 -- one output more was synced, where that is wanted
-abbrev pub SyncsOne : Held → Held → Type 0
+abbrev pub SyncsOne : OpenFiles → OpenFiles → Type 0
 SyncsOne old new = new.syncs ≡ old.syncs + (if old.is_synced then 1 else 0)
 
 -- ---- what is done, from one moment to another, where these outputs are where standard output goes
 
-abbrev pub DoesKind : (List ℕ → Bool) → Kind → World → Held → Report → World → Held → Report → Type 0
+abbrev pub DoesKind : (List ℕ → Bool) → Kind → World → OpenFiles → Report → World → OpenFiles → Report → Type 0
 DoesKind on_output (kinds.Pack command) world held report world' held' report' =
     PacksFile command world world' (ShowsBeside (on_output (output_path command.output.now)) report report')
     × SyncsOne held held'
@@ -52,7 +52,7 @@ DoesKind on_output (kinds.Info input with_check with_hex) world held report worl
 
 -- ---- what stays, whatever the outcome: OUT, or files of the parts' names, alone may hold anything else
 
-abbrev pub SparesKind : Kind → World → Held → World → Held → Type 0
+abbrev pub SparesKind : Kind → World → OpenFiles → World → OpenFiles → Type 0
 SparesKind (kinds.Pack command) world held world' held' =
     OnlyAt held.read (output_path command.output.now) world world' × KeepsGiven command world world'
 SparesKind (kinds.Repack input command) world held world' held' =
@@ -73,7 +73,7 @@ LeavesNoPartOfBoot over (kinds.Info input with_check with_hex) world world' = Un
 
 -- ---- why it is refused
 
-abbrev pub RefusesKind : BootCommandFault → Kind → World → Held → Report → World → Held → Report → Type 0
+abbrev pub RefusesKind : BootCommandFault → Kind → World → OpenFiles → Report → World → OpenFiles → Report → Type 0
 RefusesKind fault (kinds.Pack command) world held report world' held' report' =
     RefusesPack command world world' held held' (PacksFile command world world' (Unprinted report report')) fault
 RefusesKind fault (kinds.Repack input command) world held report world' held' report' =

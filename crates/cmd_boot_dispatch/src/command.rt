@@ -6,16 +6,16 @@ ghost use Rattle.sys_refusals.specs.Paths.{path_of};
 ghost use Rattle.cmd_boot_dispatch.specs.Commands.{DoesKind, IsKindOf, LeavesNoPartOfBoot, RefusesKind, SparesKind};
 
 use crate::pack_order::command_of;
-use sys_disk::Disk;
 use abt_io::{Meter, Window};
-use sys_refusals::Place;
-use sys_report::Report;
-use words_orders::BootTask;
-use cmd_unpack::unpack_file;
 use cmd_common_boot::{BootOutcome, PackCommand};
 use cmd_info::info_file;
 use cmd_pack::{pack_file, repack_file};
+use cmd_unpack::unpack_file;
 use std::alloc::{AllocError, Global};
+use sys_disk::Disk;
+use sys_refusals::FileArg;
+use sys_report::Report;
+use words_orders::BootTask;
 
 /// A command over boot images, whose words are read.
 #[derive(Drop)]
@@ -88,19 +88,19 @@ pub fn boot_command<'t, 'a, D: Disk>(
     w: &mut Window,
     m: &mut Meter,
 ) -> BootOutcome<'t, 'a>
-    requires first { IsTrue D.tells → IsReading (D.held disk.old) }
+    requires first { IsTrue D.models → IsReading (D.held disk.old) }
     // it is done, by its own body, at the files that its words name
-    ensures done { IsTrue D.tells → OnOk result (DoesKind D.on_output command.now.kind (D.world disk.old)
+    ensures done { IsTrue D.models → OnOk result (DoesKind D.on_output command.now.kind (D.world disk.old)
         (D.held disk.old) report.old (D.world disk.new) (D.held disk.new) report.new) }
     // whatever the outcome, what it reads holds what it held, and none has changed but what it is to write
-    ensures spares { IsTrue D.tells → SparesKind command.now.kind (D.world disk.old) (D.held disk.old)
+    ensures spares { IsTrue D.models → SparesKind command.now.kind (D.world disk.old) (D.held disk.old)
         (D.world disk.new) (D.held disk.new) }
-    ensures whole { IsTrue D.tells
+    ensures whole { IsTrue D.models
         → LeavesNoPartOfBoot D.is_over command.now.kind (D.world disk.old) (D.world disk.new) }
     // it is done only where nothing failed
-    ensures clean { IsTrue D.tells → OnOk result (HasNotFailed (D.held disk.old) (D.held disk.new)) }
+    ensures clean { IsTrue D.models → OnOk result (HasNotFailed (D.held disk.old) (D.held disk.new)) }
     // it is refused for what its body is refused for
-    ensures refused { IsTrue D.tells → IfErr result (λ refusal. RefusesKind refusal.fault command.now.kind
+    ensures refused { IsTrue D.models → IfErr result (λ refusal. RefusesKind refusal.fault command.now.kind
         (D.world disk.old) (D.held disk.old) report.old (D.world disk.new) (D.held disk.new) report.new) }
 {
     match &command.kind {
@@ -122,10 +122,10 @@ pub fn boot_command<'t, 'a, D: Disk>(
 }
 
 // The file at a word, where `-` is a file of that name.
-fn input_at<'a>(word: &'a str) -> Place<'a>
+fn input_at<'a>(word: &'a str) -> FileArg<'a>
     ensures { path_of result ≡ word.now }
 {
-    Place {
+    FileArg {
         role: "IN",
         folder: None,
         name: word,

@@ -6,10 +6,10 @@ ghost use Rattle.cmd_boot_dispatch.specs.Ordered.{IsCommandOf, IsOfItsWord, IsRe
 ghost use Rattle.cmd_boot_dispatch.specs.Ordered.{command_option, command_options, ordered_option, ordered_options};
 
 use abt_sections::FragmentSpec;
-use words_orders::{Given, PackOrder};
-use cmd_common_fields::{FragmentWord, unescaped};
 use cmd_common_boot::{FragmentText, OptionText, PackCommand, PackTexts};
+use cmd_common_fields::{FragmentWord, unescaped};
 use std::alloc::{AllocError, Global};
+use words_orders::{Given, PackOrder};
 
 /// Reads what each option of the table was given, and the words of the fragments.
 pub(crate) fn command_of<'a>(

@@ -1,10 +1,10 @@
 -- Calls of a disk, and what they answer.
 use Rattle.std.proofs.Common.{◌≡◌, ◌+◌, ap, arith}
 use Rattle.std.specs.Prelude.{OnOk, Result, Ok, Err}
-use Rattle.sys_disk.specs.World.{Held, failing}
+use Rattle.sys_disk.specs.World.{OpenFiles, failing}
 
 -- none has failed
-pub same_failing : (h : Held) → failing 0 h ≡ h
+pub same_failing : (h : OpenFiles) → failing 0 h ≡ h
 same_failing h = let e : h.failed + 0 ≡ h.failed = omega arith in ap (λ f. record h { failed = f }) e
 
 -- what is so anyway

@@ -3,7 +3,7 @@ use Rattle.std.proofs.Common.{◌≡◌, inl, inr, ℕ, ◌+◌, ◌<◌, ◌≤
 use Rattle.std.specs.Prelude.{IfErr, IsOk, OnOk}
 use Rattle.sys_refusals.specs.declared.refusal.HostFault.{HostFault}
 use Rattle.std.proofs.lemmas.Bool.{false≢true}
-use Rattle.sys_disk.specs.World.{World, Held, OpensFile, failing}
+use Rattle.sys_disk.specs.World.{World, OpenFiles, OpensFile, failing}
 use Rattle.abt_sections.specs.declared.fault.SectionFault.{SectionFault}
 use Rattle.abt_sections.specs.declared.fault.SectionFault.TheVariants as sections
 use Rattle.abt_sections.specs.Cause.{MoveCause, OpenCause, ReadCause}
@@ -114,7 +114,7 @@ refused_more x y P Q U V fault same refused more stands = record {
 }
 
 -- and so of the file that they were opened from
-file_refuses : (path bytes : List ℕ) (held held' : Held) (world : World) (P U Q V : Type 0)
+file_refuses : (path bytes : List ℕ) (held held' : OpenFiles) (world : World) (P U Q V : Type 0)
     (fault : BootCommandFault) → OpensFile world path bytes held held' → (P → Q) → (U → V)
     → IsRefusalOf bytes P U fault → RefusesImage path world Q V fault
 file_refuses path bytes held held' world P U Q V (faults.Host f) opens more stands (inl failed) = inl (more failed)
@@ -129,7 +129,7 @@ file_refuses path bytes held held' world P U Q V (faults.BadNumber word) opens m
 file_refuses path bytes held held' world P U Q V (faults.BadBoardId word) opens more stands refuses = absurd refuses
 file_refuses path bytes held held' world P U Q V faults.CheckFailed opens more stands refuses = absurd refuses
 
-pub refuses_file : (path bytes : List ℕ) (held held' : Held) (world : World) (P U Q V : Type 0)
+pub refuses_file : (path bytes : List ℕ) (held held' : OpenFiles) (world : World) (P U Q V : Type 0)
     (fault : BootCommandFault) → OpensFile world path bytes held held' → IsRefusedOver bytes P U fault → (P → Q)
     → (U → V)
     → RefusesImage path world Q V fault
@@ -168,14 +168,14 @@ host_refused x P U fault host same failed = record { refuses = host_refuses x P 
 
 -- ---- the file that an image is opened from
 
-pub opens_as : (path x y : List ℕ) (h h' : Held) (a : World) → y ≡ x → OpensFile a path x h h' → OpensFile a path y h h'
+pub opens_as : (path x y : List ℕ) (h h' : OpenFiles) (a : World) → y ≡ x → OpensFile a path x h h' → OpensFile a path y h h'
 opens_as path x y h h' a same opens = subst (λ z. OpensFile a path z h h') (sym same) opens
 
 pub opened_as : (x y : List ℕ) (image : Image) → y ≡ x → IsOpened x image → IsOpened y image
 opened_as x y image same opened = subst (λ z. IsOpened z image) (sym same) opened
 
 -- it was opened, and is no image
-pub open_failed : (path bytes : List ℕ) (w : World) (h h' h'' : Held) (r r' : ℕ) → OpensFile w path bytes h h' → r ≡ 0
+pub open_failed : (path bytes : List ℕ) (w : World) (h h' h'' : OpenFiles) (r r' : ℕ) → OpensFile w path bytes h h' → r ≡ 0
     → h'' ≡ failing r' h' → r < r' → h.failed < h''.failed
 open_failed path bytes w h h' h'' r r' opens none let_go failed =
     let e : h'.failed ≡ h.failed = ap (λ q. q.failed) opens.taken in
@@ -183,5 +183,5 @@ open_failed path bytes w h h' h'' r r' opens none let_go failed =
     omega (arith, e, d, failed)
 
 -- it could not be opened
-pub source_failed : (h h' : Held) → h' ≡ failing 1 h → h.failed < h'.failed
+pub source_failed : (h h' : OpenFiles) → h' ≡ failing 1 h → h.failed < h'.failed
 source_failed h h' same = let e : h'.failed ≡ h.failed + 1 = ap (λ q. q.failed) same in omega (arith, e)

@@ -3,16 +3,16 @@ use Rattle.std.specs.Prelude.{◌≡◌, ◌<◌, ◌+◌, ◌⊎◌, ℕ, List,
 use Rattle.abt_sections.specs.declared.fault.SectionFault.{SectionFault}
 use Rattle.abt_sections.specs.declared.fault.SectionFault.TheVariants as sections
 use Rattle.abt_sections.specs.Open.{RefusedAs}
-use Rattle.sys_disk.specs.World.{World, Held}
+use Rattle.sys_disk.specs.World.{World, OpenFiles}
 use Rattle.cmd_common_boot.specs.declared.fault.BootCommandFault.{BootCommandFault}
 use Rattle.cmd_common_boot.specs.declared.fault.BootCommandFault.TheVariants as faults
 
 -- from one moment to another a call of the disk failed, or a read of the source, whose faults are counted too
-pub record SomeFailed (held : Held) (reads : ℕ) (held' : Held) (reads' : ℕ) : Type 0 where
+pub record SomeFailed (held : OpenFiles) (reads : ℕ) (held' : OpenFiles) (reads' : ℕ) : Type 0 where
   pub rises : held.failed + reads < held'.failed + reads'
 
 -- and none did
-pub record NoMoreFailed (held : Held) (reads : ℕ) (held' : Held) (reads' : ℕ) : Type 0 where
+pub record NoMoreFailed (held : OpenFiles) (reads : ℕ) (held' : OpenFiles) (reads' : ℕ) : Type 0 where
   pub stays : held'.failed + reads' ≡ held.failed + reads
 
 -- the bytes x have this fault, or a device has, which failed

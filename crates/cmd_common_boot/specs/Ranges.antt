@@ -25,10 +25,10 @@ long_in (Some x) = length x
 pub record ReadsIn {A : Type 0} (s : sources.Ghosts A) (r : Result ℕ DeviceFault) (old new : Option A) (at : ℕ)
     (out : List ℕ) : Type 0 where
   pub within : count_of r ≤ length out
-  pub bytes : IsTrue s.tells
+  pub bytes : IsTrue s.models
       → take (count_of r) out ≡ take (count_of r) (range_bytes (option_map s.content old) at (count_of r))
-  pub content : IsTrue s.tells → option_map s.content new ≡ option_map s.content old
-  pub ended : IsTrue s.tells → IfOk r (λ n. n ≡ 0 → 0 < length out → long_in (option_map s.content old) ≤ at)
+  pub content : IsTrue s.models → option_map s.content new ≡ option_map s.content old
+  pub ended : IsTrue s.models → IfOk r (λ n. n ≡ 0 → 0 < length out → long_in (option_map s.content old) ≤ at)
   pub counted : count_in (option_map s.given new) ≡ count_in (option_map s.given old) + count_of r
   pub faults : count_in (option_map s.read_faults old) ≤ count_in (option_map s.read_faults new)
   pub cause : OnErr r (count_in (option_map s.read_faults old) < count_in (option_map s.read_faults new))

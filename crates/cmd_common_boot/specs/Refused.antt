@@ -70,7 +70,7 @@ pub record PacksParts {X : Type 0} (r : Result X SectionFault) (refusal : Option
     (s : sources.Ghosts A) (reads reads' : ℕ) {B : Type 0} (o : outputs.Ghosts B) (old new : B) : Type 0 where
   pub faults : reads ≤ reads'
   pub cause : IfErr r (λ f. PackCause refusal f reads reads' (o.write_faults old) (o.write_faults new)
-      (IsTrue s.tells → ⊥))
+      (IsTrue s.models → ⊥))
   pub clean : OnOk r ((reads' ≡ reads) × (o.write_faults new ≡ o.write_faults old))
   pub write_faults : o.write_faults old ≤ o.write_faults new
 

@@ -148,7 +148,7 @@ pub fn pack_image<P: Source, O: Output>(
 ) -> Result<u64, SectionFault>
     requires fits { FitsKind kind fields.now (length parts.old) (length specs.now) (length sources.old) }
     requires empty { P.size empty.old ≡ 0 }
-    ensures written { IsTrue P.tells → OnOk result (O.written output.new ≡ O.written output.old
+    ensures written { IsTrue P.models → OnOk result (O.written output.new ≡ O.written output.old
         ++ packed kind fields.now (map P.content parts.old) specs.now (map P.content sources.old)) }
     ensures bytes { IfOk result (λ bytes. length (O.written output.new) ≡ length (O.written output.old) + bytes) }
     ensures packs { PacksParts result (refusal_of kind fields.now (map P.size parts.old) (map P.size sources.old))
@@ -185,7 +185,7 @@ fn pack_vendor_parts<P: Source, O: Output>(
     requires empty { P.size empty.old ≡ 0 }
     ensures refused { IfRefused (pack_vendor_refusal (vendor_fields_asked fields.now) (vendor_sizes fields.now.version
         (map P.size parts.old) (map P.size sources.old))) (λ fault. result ≡ Err fault) }
-    ensures written { IsTrue P.tells → OnOk result (O.written output.new ≡ O.written output.old
+    ensures written { IsTrue P.models → OnOk result (O.written output.new ≡ O.written output.old
         ++ canon.vendor_canon (vendor_fields_asked fields.now) (vendor_parts_asked fields.now.version
         (map P.content parts.old) specs.now (map P.content sources.old))) }
     ensures bytes { IfOk result (λ p. length (O.written output.new) ≡ length (O.written output.old) + p.bytes) }

@@ -7,8 +7,8 @@ ghost use Rattle.cmd_common_boot.specs.declared.fault.BootCommandFault.TheVarian
 
 use abt_headers::HeaderFault;
 use abt_io::Output;
-use sys_refusals::{HostFault, Magic, Place, Refusal, Side, Told};
 use abt_sections::SectionFault;
+use sys_refusals::{FileArg, HostFault, Magic, Refusal, Side, Told};
 use sys_text::{ShownPath, Text};
 
 /// Why a command over boot images is refused.
@@ -135,7 +135,7 @@ impl Told for BootCommandFault<'_> {
         None
     }
 
-    fn put<O: Output>(&self, place: Option<Place<'_>>, text: &mut Text<'_, O>) {
+    fn put<O: Output>(&self, place: Option<FileArg<'_>>, text: &mut Text<'_, O>) {
         match self {
             BootCommandFault::Host(fault) => fault.put(place, text),
             BootCommandFault::Section(fault) => text.short(format_args!("{fault}")),

@@ -35,6 +35,6 @@ pub use loads::{counts_ramdisk, counts_second};
 pub use pack_command::{PackCommand, judge_words};
 pub use pack_fields::with_given;
 pub use pack_texts::{FragmentText, OptionText, PackTexts};
-pub use part_names::{Part, part_count, part_of};
+pub use part_names::{ImagePart, part_count, part_of};
 pub use part_rows::{PartRow, rows_of};
 pub use part_source::PartSource;

@@ -25,7 +25,7 @@ impl Measure {
 }
 
 impl Source for Measure {
-    ghost tells = { false };
+    ghost models = { false };
 
     ghost content = { λ _. [] };
 

@@ -8,8 +8,8 @@ ghost use Rattle.cmd_common_boot.specs.Wrong.{IsBadFragment, IsNotCarried, IsUnt
 
 use crate::fault::BootCommandFault;
 use abt_sections::FragmentSpec;
-use words_values::Row;
 use cmd_common_fields::ImageKind;
+use words_values::Row;
 
 /// An option that was given.
 #[derive(Drop)]

@@ -5,12 +5,12 @@ ghost use Rattle.abt_sections.specs.Header.{view_of};
 ghost use Rattle.cmd_common_boot.specs.Unpacked.{IsPart, part_count};
 
 use abt_headers::Section;
-use sys_refusals::Place;
 use abt_sections::{Image, fragments, section, sections};
+use sys_refusals::FileArg;
 
 /// A file that `unpack` writes.
 #[derive(Clone, Copy, Drop)]
-pub enum Part {
+pub enum ImagePart {
     /// A section.
     Section(Section),
     /// The ramdisk fragment of this index.
@@ -19,10 +19,10 @@ pub enum Part {
     Words,
 }
 
-impl Part {
+impl ImagePart {
     /// The file in a folder: `kernel`, `fragment.0`, `pack.words`.
-    pub fn place<'a>(self, folder: &'a str) -> Place<'a> {
-        Place {
+    pub fn place<'a>(self, folder: &'a str) -> FileArg<'a> {
+        FileArg {
             role: "PART",
             folder: Some(folder),
             name: self.name(),
@@ -32,16 +32,16 @@ impl Part {
 
     fn number(self) -> Option<u32> {
         match self {
-            Part::Fragment(index) => Some(index),
-            Part::Section(_) | Part::Words => None,
+            ImagePart::Fragment(index) => Some(index),
+            ImagePart::Section(_) | ImagePart::Words => None,
         }
     }
 
     fn name(self) -> &'static str {
         match self {
-            Part::Section(kind) => kind.name(),
-            Part::Fragment(_) => "fragment",
-            Part::Words => "pack.words",
+            ImagePart::Section(kind) => kind.name(),
+            ImagePart::Fragment(_) => "fragment",
+            ImagePart::Words => "pack.words",
         }
     }
 }
@@ -55,16 +55,16 @@ pub fn part_count(image: &Image, with_words: bool) -> u64
 }
 
 /// The file that is written as file `i`: sections come first, then fragments, then the words.
-pub fn part_of(image: &Image, i: u64) -> Part
+pub fn part_of(image: &Image, i: u64) -> ImagePart
     ensures { IsPart (view_of image.now.header) i result }
 {
     let sections = sections(image) as u64;
     if i < sections {
-        return Part::Section(section(image, i as usize).kind);
+        return ImagePart::Section(section(image, i as usize).kind);
     }
     let index = i - sections;
     if index < fragments(image) as u64 {
-        return Part::Fragment(index as u32);
+        return ImagePart::Fragment(index as u32);
     }
-    Part::Words
+    ImagePart::Words
 }

@@ -5,9 +5,9 @@ ghost use Rattle.std.specs.Prelude.{length, option_map};
 ghost use Rattle.cmd_common_boot.specs.Ranges.{ReadsIn, range_bytes, count_in, long_in};
 ghost use Rattle.cmd_common_boot.specs.RangesLaws.{part_bytes, part_sized};
 
-use sys_disk::Lasting;
 use abt_io::{DeviceFault, Source, Tally};
-use sys_refusals::Place;
+use sys_disk::Lasting;
+use sys_refusals::FileArg;
 
 /// A range of a file, or no bytes. It tells what its file does.
 #[derive(Drop)]
@@ -18,13 +18,13 @@ pub struct PartSource<'a, S: Source + Lasting> {
     /// How many bytes it has.
     pub size: u64,
     /// The file that it is all of, or a range of.
-    pub place: Option<Place<'a>>,
+    pub place: Option<FileArg<'a>>,
     is_whole: bool,
     has_failed: bool,
     calls: Tally,
-    pub ghost lies: { IsTrue S.tells → at + size ≤ long_in (option_map S.content file) },
-    pub ghost short: { IsTrue S.tells → long_in (option_map S.content file) < 2 ^ 64 },
-    pub ghost all: { IsTrue S.tells → IsTrue is_whole → long_in (option_map S.content file) ≤ size },
+    pub ghost lies: { IsTrue S.models → at + size ≤ long_in (option_map S.content file) },
+    pub ghost short: { IsTrue S.models → long_in (option_map S.content file) < 2 ^ 64 },
+    pub ghost all: { IsTrue S.models → IsTrue is_whole → long_in (option_map S.content file) ≤ size },
 }
 
 impl<'a, S: Source + Lasting> PartSource<'a, S> {
@@ -45,10 +45,10 @@ impl<'a, S: Source + Lasting> PartSource<'a, S> {
     }
 
     /// All of a file.
-    pub fn whole(file: S, place: Place<'a>) -> PartSource<'a, S>
+    pub fn whole(file: S, place: FileArg<'a>) -> PartSource<'a, S>
         ensures file { result.file ≡ Some file }
         ensures at { result.at ≡ 0 }
-        ensures size { IsTrue S.tells → result.size ≡ length (S.content file) }
+        ensures size { IsTrue S.models → result.size ≡ length (S.content file) }
     {
         let size = file.length();
         PartSource {
@@ -63,8 +63,8 @@ impl<'a, S: Source + Lasting> PartSource<'a, S> {
     }
 
     /// So many bytes of a file from a place on, which it has.
-    pub fn range(file: S, place: Place<'a>, at: u64, size: u64) -> PartSource<'a, S>
-        requires { IsTrue S.tells → at + size ≤ length (S.content file) }
+    pub fn range(file: S, place: FileArg<'a>, at: u64, size: u64) -> PartSource<'a, S>
+        requires { IsTrue S.models → at + size ≤ length (S.content file) }
         ensures file { result.file ≡ Some file }
         ensures at { result.at ≡ at }
         ensures size { result.size ≡ size }
@@ -100,8 +100,8 @@ fn read_in<S: Source>(file: &mut Option<S>, at: u64, out: &mut [u8]) -> Result<u
 
 // How long a file is now, or 0.
 fn length_in<S: Source + Lasting>(file: &mut Option<S>) -> u64
-    ensures length { IsTrue S.tells → result ≡ long_in (option_map S.content file.old) }
-    ensures content { IsTrue S.tells → option_map S.content file.new ≡ option_map S.content file.old }
+    ensures length { IsTrue S.models → result ≡ long_in (option_map S.content file.old) }
+    ensures content { IsTrue S.models → option_map S.content file.new ≡ option_map S.content file.old }
     ensures given { option_map S.given file.new ≡ option_map S.given file.old }
     ensures faults { option_map S.read_faults file.new ≡ option_map S.read_faults file.old }
 {
@@ -112,7 +112,7 @@ fn length_in<S: Source + Lasting>(file: &mut Option<S>) -> u64
 }
 
 impl<S: Source + Lasting> Source for PartSource<'_, S> {
-    ghost tells = { S.tells };
+    ghost models = { S.models };
 
     ghost content = { λ p. range_bytes (option_map S.content p.file) p.at p.size };
 
@@ -151,9 +151,9 @@ impl<S: Source + Lasting> PartSource<'_, S> {
     // Takes the file's length once more, so that a file that grew is no longer as long as it was.
     fn ask_length(&mut self)
         requires { IsTrue self.old.is_whole }
-        ensures content { IsTrue S.tells → option_map S.content self.new.file ≡ option_map S.content self.old.file }
+        ensures content { IsTrue S.models → option_map S.content self.new.file ≡ option_map S.content self.old.file }
         ensures at { self.new.at ≡ self.old.at }
-        ensures size { IsTrue S.tells → self.new.size ≡ self.old.size }
+        ensures size { IsTrue S.models → self.new.size ≡ self.old.size }
         ensures calls { self.new.calls ≡ self.old.calls }
         ensures given { option_map S.given self.new.file ≡ option_map S.given self.old.file }
         ensures faults { option_map S.read_faults self.new.file ≡ option_map S.read_faults self.old.file }

@@ -2,7 +2,7 @@
 use Rattle.std.proofs.Common.{◌≡◌, ℕ, suc, ◌+◌, ◌-◌, ◌≤◌, ◌<◌, ◌==◌, cond, List, [], ◌∷◌, ◌++◌, length, take, drop, get_or, min, refl, sym, ap, ◌∙◌, arith, drop-drop}
 use Rattle.std.proofs.lemmas.List.{drop_more, length-drop, take_all}
 use Rattle.abt_io.proofs.Parts.{take_plus}
-use Rattle.abt_headers.specs.declared.sections.Place.{Place}
+use Rattle.abt_headers.specs.declared.sections.SectionPlace.{SectionPlace}
 use Rattle.cmd_common_findings.specs.LeftOut.{set_in_padding, behind_places, set_in}
 
 pub set_append : (x y : List ℕ) → set_in (x ++ y) ≡ set_in x + set_in y
@@ -26,9 +26,9 @@ counted_all s at few many h all =
     ap set_in (take_all few x (omega (arith, long, all)) ∙ sym (take_all many x (omega (arith, long, all, h))))
 
 -- one section more
-pub place_counted : (x : List ℕ) (page i : ℕ) (ps : List Place) (p : Place) (n : ℕ) → i < length ps → p ≡ get_or ps i p → n ≡ set_in_padding x page (p.at + p.size)
+pub place_counted : (x : List ℕ) (page i : ℕ) (ps : List SectionPlace) (p : SectionPlace) (n : ℕ) → i < length ps → p ≡ get_or ps i p → n ≡ set_in_padding x page (p.at + p.size)
     → behind_places x page (drop i ps) ≡ n + behind_places x page (drop (i + 1) ps)
 place_counted x page i ps p n h is e =
     ap (behind_places x page) (drop_more ps i p h)
-    ∙ ap (λ (q : Place). set_in_padding x page (q.at + q.size) + behind_places x page (drop (i + 1) ps)) (sym is)
+    ∙ ap (λ (q : SectionPlace). set_in_padding x page (q.at + q.size) + behind_places x page (drop (i + 1) ps)) (sym is)
     ∙ ap (λ (k : ℕ). k + behind_places x page (drop (i + 1) ps)) (sym e)

@@ -7,8 +7,8 @@ use Rattle.abt_sections.specs.declared.fault.SectionFault.{SectionFault}
 -- A source is only read, and `Is` holds of the answer, where the source tells what it holds.
 pub record LooksFor {X : Type 0} (r : Result X SectionFault) {A : Type 0} (s : sources.Ghosts A) (old new : A)
     (Is : X → Type 0) : Type 0 where
-  pub reads : ReadsUnless r s old new (IsTrue s.tells → ⊥)
-  pub value : IsTrue s.tells → IfOk r Is
+  pub reads : ReadsUnless r s old new (IsTrue s.models → ⊥)
+  pub value : IsTrue s.models → IfOk r Is
 
 -- The window has room for so many bytes, and a place for each behind this one.
 pub record HasRoomFor (ask at : ℕ) : Type 0 where

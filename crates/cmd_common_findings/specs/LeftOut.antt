@@ -3,7 +3,7 @@ use Rattle.std.specs.Prelude.{ℕ, ◌+◌, ◌*◌, ◌-◌, ◌==◌, ◌&&◌
 use Rattle.std.specs.Prelude.{codes, decimal, length, take, drop}
 use Rattle.abt_headers.specs.declared.boot.BootHeader.{BootHeader}
 use Rattle.abt_headers.specs.declared.boot.BootHeader.TheVariants.{V0, V1, V2, V3, V4}
-use Rattle.abt_headers.specs.declared.sections.Place.{Place}
+use Rattle.abt_headers.specs.declared.sections.SectionPlace.{SectionPlace}
 use Rattle.abt_headers.specs.Page.{pages}
 use Rattle.abt_sections.specs.Header.{Header, OfBoot, OfVendor, page_of, places_of, size_of}
 use Rattle.abt_sections.specs.Layout.{padding}
@@ -18,7 +18,7 @@ set_in [] = 0
 set_in (b ∷ x) = (if b == 0 then 0 else 1) + set_in x
 
 -- where the bytes of an image end, at the boundary of a page
-abbrev pub last_end : ℕ → List Place → ℕ
+abbrev pub last_end : ℕ → List SectionPlace → ℕ
 last_end n [] = n
 last_end n (p ∷ ps) = last_end (p.at + p.size) ps
 
@@ -64,7 +64,7 @@ texts_left anew h = text_left anew.name (header_name h) + text_left anew.cmdline
 abbrev pub set_in_padding : List ℕ → ℕ → ℕ → ℕ
 set_in_padding x page n = set_in (take (padding n page) (drop n x))
 
-abbrev pub behind_places : List ℕ → ℕ → List Place → ℕ
+abbrev pub behind_places : List ℕ → ℕ → List SectionPlace → ℕ
 behind_places x page [] = 0
 behind_places x page (p ∷ ps) = set_in_padding x page (p.at + p.size) + behind_places x page ps
 

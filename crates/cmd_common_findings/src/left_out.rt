@@ -6,7 +6,7 @@ ghost use Rattle.abt_sections.specs.Open.{IsOpened};
 ghost use Rattle.cmd_common_findings.specs.Finding.{LooksFor};
 ghost use Rattle.cmd_common_findings.specs.LeftOut as spec;
 
-use crate::places::end_of;
+use crate::section_places::end_of;
 use crate::set_bytes::{count_set, set_between};
 use abt_headers::{BootHeader, pages};
 use abt_io::{Meter, Source, Window};

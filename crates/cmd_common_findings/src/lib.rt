@@ -7,7 +7,7 @@
 //! | file | has |
 //! |---|---|
 //! | `set_bytes.rt` | counting and finding bytes that are not zero |
-//! | `places.rt` | where sections stand, and where the image ends |
+//! | `section_places.rt` | where sections stand, and where the image ends |
 //! | `left_out.rt` | what packing an image again leaves out |
 //! | `fragment_gaps.rt` | the bytes of a vendor ramdisk in no fragment |
 //! | `reasons.rt`, `reason_lines.rt` | why a check answers no, and the line that says so |
@@ -15,13 +15,13 @@
 
 mod fragment_gaps;
 mod left_out;
-mod places;
 mod reason_lines;
 mod reasons;
+mod section_places;
 mod set_bytes;
 
 pub use fragment_gaps::in_no_fragment;
 pub use left_out::{Anew, LeftOut, count_left_out};
-pub use places::{end_of, place_of};
 pub use reason_lines::Finding;
-pub use reasons::{Answer, Findings, Reason, Unended, find_reasons};
+pub use reasons::{CheckAnswer, Findings, Reason, Unended, find_reasons};
+pub use section_places::{end_of, place_of};

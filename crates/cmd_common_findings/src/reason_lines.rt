@@ -1,13 +1,13 @@
 //! The lines behind the line `check`: why an answer is no, and how much stands behind the image.
 
-use crate::reasons::{Answer, Findings, Reason, Unended};
+use crate::reasons::{CheckAnswer, Findings, Reason, Unended};
 use std::fmt;
 
 /// A line.
 #[derive(Clone, Copy, Drop)]
 pub enum Finding {
     /// An answer that is no.
-    No(Answer, Reason),
+    No(CheckAnswer, Reason),
     /// How many bytes stand behind the image.
     Trailing(u64),
 }
@@ -21,16 +21,16 @@ impl Findings {
             Some(Finding::Trailing(self.trailing))
         };
         [
-            line_of(Answer::Canonical, self.canonical),
-            line_of(Answer::Padding, self.padding),
-            line_of(Answer::Id, self.id),
-            line_of(Answer::Offset, self.offset),
+            line_of(CheckAnswer::Canonical, self.canonical),
+            line_of(CheckAnswer::Padding, self.padding),
+            line_of(CheckAnswer::Id, self.id),
+            line_of(CheckAnswer::Offset, self.offset),
             trailing,
         ]
     }
 }
 
-fn line_of(answer: Answer, reason: Option<Reason>) -> Option<Finding> {
+fn line_of(answer: CheckAnswer, reason: Option<Reason>) -> Option<Finding> {
     match reason {
         Some(reason) => Some(Finding::No(answer, reason)),
         None => None,
@@ -49,13 +49,13 @@ impl fmt::Display for Finding {
     }
 }
 
-impl Answer {
+impl CheckAnswer {
     fn name(self) -> &'static str {
         match self {
-            Answer::Canonical => "canonical",
-            Answer::Padding => "padding",
-            Answer::Id => "id",
-            Answer::Offset => "offset",
+            CheckAnswer::Canonical => "canonical",
+            CheckAnswer::Padding => "padding",
+            CheckAnswer::Id => "id",
+            CheckAnswer::Offset => "offset",
         }
     }
 }

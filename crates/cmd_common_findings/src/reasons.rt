@@ -5,7 +5,7 @@ ghost use Rattle.abt_io.specs.Lent.{OnlyReads};
 ghost use Rattle.abt_sections.specs.Reads.{ReadsUnless};
 ghost use Rattle.cmd_common_findings.specs.Reasons.{ReasonCause, ReasonsAre};
 
-use crate::places::{end_of, place_of};
+use crate::section_places::{end_of, place_of};
 use crate::set_bytes::{first_set, zeros_in_front};
 use abt_headers::{BootHeader, DtboFields, Section, ShortFront, VendorHeader, pages};
 use abt_io::{Meter, Source, Window};
@@ -25,7 +25,7 @@ pub enum Unended {
 
 /// An answer of the check.
 #[derive(Clone, Copy, Drop)]
-pub enum Answer {
+pub enum CheckAnswer {
     Canonical,
     Padding,
     Id,
@@ -122,7 +122,7 @@ fn first_unpadded<S: Source>(
     w: &mut Window,
     m: &mut Meter,
 ) -> Result<Option<u64>, SectionFault>
-    ensures reads { ReadsUnless result S.Source source.old source.new (IsTrue S.tells → ⊥) }
+    ensures reads { ReadsUnless result S.Source source.old source.new (IsTrue S.models → ⊥) }
 {
     let page = image.header.page_size();
     let mut end = image.header.size() as u64;

@@ -104,7 +104,7 @@ fn zeros_at<S: Source>(
     m: &mut Meter,
 ) -> Result<usize, SectionFault>
     requires { HasRoomFor ask at }
-    ensures reads { ReadsUnless result S.Source source.old source.new (IsTrue S.tells → ⊥) }
+    ensures reads { ReadsUnless result S.Source source.old source.new (IsTrue S.models → ⊥) }
     ensures few { IfOk result (λ zeros. zeros ≤ ask) }
 {
     let read = read_full_at(source, at, w.part_mut(0, ask), m);
@@ -122,7 +122,7 @@ pub(crate) fn first_set<S: Source>(
     w: &mut Window,
     m: &mut Meter,
 ) -> Result<Option<u64>, SectionFault>
-    ensures reads { ReadsUnless result S.Source source.old source.new (IsTrue S.tells → ⊥) }
+    ensures reads { ReadsUnless result S.Source source.old source.new (IsTrue S.models → ⊥) }
 {
     let all = end.saturating_sub(from);
     let mut done = 0;

@@ -26,13 +26,13 @@ pub fn report_list<I: Input, O: Output>(
     w: &mut Window,
     m: &mut Meter,
 ) -> Result<(), SparseFault>
-    ensures printed { IsTrue I.tells →
+    ensures printed { IsTrue I.models →
         OnOk result (Listed (I.remaining input.old) (I.remaining input.new)
         (λ text. O.written out.new ≡ O.written out.old ++ text)) }
-    ensures begun { IsTrue I.tells →
+    ensures begun { IsTrue I.models →
         Begins (O.written out.old) (O.written out.new) (listing_text (listing_of (I.remaining input.old))) }
     // An image that is refused is so for its own fault, behind the lines of all that came before it.
-    ensures refused { IsTrue I.tells →
+    ensures refused { IsTrue I.models →
         IfErr result (λ f. UnlessExpandingDevice f (ListingRefuses (listing_of (I.remaining input.old)) f
         (λ text. O.written out.new ≡ O.written out.old ++ text))) }
     ensures reads { ReadTold result (I.read_faults input.old) (I.read_faults input.new) }
@@ -63,13 +63,13 @@ fn lines<I: Input, O: Output>(
     w: &mut Window,
     m: &mut Meter,
 ) -> Result<(), SparseFault>
-    ensures listed { IsTrue I.tells →
+    ensures listed { IsTrue I.models →
         OnOk result (Listed (I.remaining input.old) (I.remaining input.new)
         (Prints O.written O.write_faults text.old text.new)) }
-    ensures begun { IsTrue I.tells →
+    ensures begun { IsTrue I.models →
         PrintsFront O.written O.write_faults text.old text.new (listing_text (listing_of (I.remaining input.old))) }
     ensures prints { (done : List ℕ) × Prints O.written O.write_faults text.old text.new done }
-    ensures refused { IsTrue I.tells →
+    ensures refused { IsTrue I.models →
         IfErr result (λ f. UnlessExpandingDevice f (ListingRefuses (listing_of (I.remaining input.old)) f
         (Prints O.written O.write_faults text.old text.new))) }
     ensures reads { ReadTold result (I.read_faults input.old) (I.read_faults input.new) }
@@ -93,15 +93,15 @@ fn chunk_lines<I: Input, O: Output>(
     w: &mut Window,
     m: &mut Meter,
 ) -> Result<(), SparseFault>
-    ensures listed { IsTrue I.tells → length (upcoming chunks.old.walk (I.remaining input.old)).shown ≤ most →
+    ensures listed { IsTrue I.models → length (upcoming chunks.old.walk (I.remaining input.old)).shown ≤ most →
         OnOk result (((upcoming chunks.old.walk (I.remaining input.old)).ending ≡ Ok (I.remaining input.new)) ×
         Prints O.written O.write_faults text.old text.new
         (flat_map chunk_line (upcoming chunks.old.walk (I.remaining input.old)).shown)) }
-    ensures begun { IsTrue I.tells →
+    ensures begun { IsTrue I.models →
         PrintsFront O.written O.write_faults text.old text.new
         (flat_map chunk_line (upcoming chunks.old.walk (I.remaining input.old)).shown) }
     ensures prints { (done : List ℕ) × Prints O.written O.write_faults text.old text.new done }
-    ensures refused { IsTrue I.tells →
+    ensures refused { IsTrue I.models →
         IfErr result (λ f. UnlessExpandingDevice f
         (((upcoming chunks.old.walk (I.remaining input.old)).ending ≡ Err f) ×
         Prints O.written O.write_faults text.old text.new

@@ -1,6 +1,6 @@
 -- Which paths are those of pieces.
 use Rattle.std.specs.Prelude.{◌≡◌, ◌≤◌, ◌<◌, ◌-◌, ℕ, List, ◌∷◌, ◌++◌, All, length, Bool, if◌then◌else◌}
-use Rattle.cmd_common_sparse.specs.declared.places.PieceNaming.{PieceNaming}
+use Rattle.cmd_common_sparse.specs.declared.piece_files.PieceNaming.{PieceNaming}
 
 -- a decimal digit
 abbrev pub IsDigit : ℕ → Type 0

@@ -5,14 +5,14 @@ ghost use Rattle.sys_text.specs.Printed.{Prints};
 ghost use Rattle.cmd_common_sparse.specs.Fault.{sparse_command_fault_number, side_of_cause, side_of_number, wrong_words};
 ghost use Rattle.cmd_common_sparse.specs.declared.fault.SparseCommandFault.TheVariants.{Host};
 
+use abt_flash_faults::{Cause, FlashFault};
 use abt_io::Output;
 use abt_pieces::PieceFault;
-use sys_refusals::{HostFault, HostRefusal, Magic, Place, Refusal, Side, Told};
 use abt_runs::RunFault;
 use abt_sparse::SparseFault;
-use sys_text::Text;
 use abt_verify::VerifyFault;
-use abt_flash_faults::{Cause, FlashFault};
+use sys_refusals::{FileArg, HostFault, HostRefusal, Magic, Refusal, Side, Told};
+use sys_text::Text;
 
 /// Why a command of sparse images is refused.
 #[derive(Drop)]
@@ -127,7 +127,7 @@ impl Told for SparseCommandFault {
         }
     }
 
-    fn put<O: Output>(&self, place: Option<Place<'_>>, text: &mut Text<'_, O>) {
+    fn put<O: Output>(&self, place: Option<FileArg<'_>>, text: &mut Text<'_, O>) {
         match self {
             SparseCommandFault::Sparse(fault) => text.short(format_args!("{fault}")),
             SparseCommandFault::Run(fault) => text.short(format_args!("{fault}")),

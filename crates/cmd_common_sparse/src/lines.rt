@@ -3,8 +3,8 @@
 ghost use Rattle.std.specs.Prelude.{Some};
 ghost use Rattle.cmd_common_sparse.specs.Lines.{line_text};
 
-use sys_refusals::Place;
 use std::fmt;
+use sys_refusals::FileArg;
 
 /// A line of a report.
 #[derive(Clone, Copy, Drop)]
@@ -58,7 +58,7 @@ impl fmt::Display for Line {
 
 /// A file of an older cut that is no piece of this one.
 #[derive(Clone, Copy, Drop)]
-pub struct LeftOver<'a>(pub Place<'a>);
+pub struct LeftOver<'a>(pub FileArg<'a>);
 
 impl fmt::Display for LeftOver<'_> {
     fn fmt<W: fmt::Write>(&self, f: &mut fmt::Formatter<W>) -> fmt::Result {

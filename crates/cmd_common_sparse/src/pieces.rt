@@ -3,7 +3,7 @@
 ghost use Rattle.std.specs.Prelude.{◌≡◌, ◌<◌, ◌≤◌, ◌+◌, ◌-◌, ℕ, List, length, false, IsTrue, IfErr, IfOk, OnOk};
 ghost use Rattle.abt_pieces.specs.Cutter.{is_begun};
 ghost use Rattle.abt_pieces.specs.Cutter.{ToldCutter};
-ghost use Rattle.abt_pieces.specs.declared.stage.Stage.{Stage};
+ghost use Rattle.abt_pieces.specs.declared.stage.CutterStage.{CutterStage};
 ghost use Rattle.abt_runs.specs.Raw.{RawPlace};
 ghost use Rattle.abt_sparse.specs.Block.{classify};
 ghost use Rattle.cmd_common_sparse.specs.Blocks.{IsRawBlockSize, RefusedCut};
@@ -29,10 +29,10 @@ pub fn raw_pieces<S: Source>(
 ) -> Result<PiecesOf<RawRuns>, SparseCommandFault>
     ensures granted { OnOk result (IsRawBlockSize size × (64 + size ≤ limit)) }
     ensures runs { IfOk result (λ pieces. (pieces.cutter.runs.size ≡ size) × (pieces.cutter.limit ≡ limit)) }
-    ensures opened { IsTrue S.tells → IfOk result (λ pieces. pieces.cutter.runs.length
+    ensures opened { IsTrue S.models → IfOk result (λ pieces. pieces.cutter.runs.length
         ≡ length (S.content source.now)) }
-    ensures begins { IfOk result (λ pieces. (pieces.cutter.made ≡ 0) × (pieces.cutter.stage ≡ Stage.Between)) }
-    ensures told { IsTrue S.tells → IfOk result (λ pieces. ToldCutter
+    ensures begins { IfOk result (λ pieces. (pieces.cutter.made ≡ 0) × (pieces.cutter.stage ≡ CutterStage.Between)) }
+    ensures told { IsTrue S.models → IfOk result (λ pieces. ToldCutter
         (λ c. RawPlace pieces.cutter.runs.blocks pieces.cutter.runs.size c) (λ c. pieces.cutter.runs.blocks - c.block)
         pieces.cutter.runs.size (classify pieces.cutter.runs.size (S.content source.now)) pieces.cutter.limit
         pieces.cutter.made pieces.cutter.start pieces.cutter.stage) }
@@ -47,7 +47,7 @@ impl<B: BlockRuns + Drop> PiecesOf<B> {
     pub fn open(runs: B, limit: u32) -> Result<PiecesOf<B>, SparseCommandFault>
         ensures cutter { IfOk result (λ pieces. (pieces.cutter.limit ≡ limit) × (pieces.cutter.made ≡ 0)) }
         ensures runs { IfOk result (λ pieces. pieces.cutter.runs ≡ runs) }
-        ensures begins { IfOk result (λ pieces. pieces.cutter.stage ≡ Stage.Between) }
+        ensures begins { IfOk result (λ pieces. pieces.cutter.stage ≡ CutterStage.Between) }
         ensures told { (x : List ℕ) → B.opened runs x → IfOk result (λ pieces. ToldCutter (B.place runs x)
             (B.together runs x) (B.size runs) (B.list runs x) pieces.cutter.limit pieces.cutter.made
             pieces.cutter.start pieces.cutter.stage) }

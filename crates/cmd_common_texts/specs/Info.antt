@@ -11,7 +11,7 @@ use Rattle.sys_text.specs.Printed.{Prints}
 use Rattle.sys_text.specs.declared.text_output.Text.{Text}
 use Rattle.abt_headers.specs.declared.entry.RamdiskEntry.{RamdiskEntry}
 use Rattle.abt_headers.specs.declared.os.OsParts.{OsParts}
-use Rattle.abt_headers.specs.declared.sections.Place.{Place}
+use Rattle.abt_headers.specs.declared.sections.SectionPlace.{SectionPlace}
 use Rattle.abt_headers.specs.Boot.{boot_page, boot_version}
 use Rattle.abt_headers.specs.Os.{os_parts}
 use Rattle.abt_headers.specs.Places.{section_name}
@@ -60,7 +60,7 @@ abbrev pub image_kind_text : Notation → Header → List ℕ
 image_kind_text o (OfBoot h) = kind_line o (codes "boot") (boot_version h) (boot_page h)
 image_kind_text o (OfVendor v) = kind_line o (codes "vendor") (vendor_version v) (vendor_page v)
 
-abbrev pub section_text : Notation → Place → List ℕ
+abbrev pub section_text : Notation → SectionPlace → List ℕ
 section_text o p = codes "section " ++ (section_name p.kind
     ++ (codes " at " ++ (number_text o p.at ++ (codes " size " ++ number_text o p.size))))
 
@@ -110,7 +110,7 @@ abbrev pub line_if : {X : Type 0} → (X → List ℕ) → Option X → List ℕ
 line_if text None = []
 line_if text (Some x) = line (text x)
 
-abbrev pub section_line : Notation → Place → List ℕ
+abbrev pub section_line : Notation → SectionPlace → List ℕ
 section_line o p = line (section_text o p)
 
 -- the first k fragments of the image x
@@ -216,17 +216,17 @@ pub record Reports (o : Notation) (x old new : List ℕ) : Type 0 where
 -- text; where the image still stands, there is none but of devices.
 pub record PrintsImage {X : Type 0} (r : Result X SectionFault) {A : Type 0} (s : sources.Ghosts A) (old new : A)
     {B : Type 0} (o : outputs.Ghosts B) (before after : Text B) (image : Image) : Type 0 where
-  pub content : IsTrue s.tells → OnOk r (s.content new ≡ s.content old)
+  pub content : IsTrue s.models → OnOk r (s.content new ≡ s.content old)
   pub prints : (done : List ℕ) × Prints o.written o.write_faults before after done
   pub told : IfErr r (λ f. IsSectionWrite f → IsSome after.fault)
   pub reads : SectionReadTold r (s.read_faults old) (s.read_faults new)
-  pub refused : IsTrue s.tells → IsOpened (s.content old) image
+  pub refused : IsTrue s.models → IsOpened (s.content old) image
       → IfErr r (λ f. PrintCause f (s.read_faults old) (s.read_faults new))
 
 -- All of it went to an output: after an Ok none of the two devices has failed.
 pub record WritesImage {X : Type 0} (r : Result X SectionFault) {A : Type 0} (s : sources.Ghosts A) (old new : A)
     {B : Type 0} (o : outputs.Ghosts B) (before after : B) : Type 0 where
-  pub content : IsTrue s.tells → OnOk r (s.content new ≡ s.content old)
+  pub content : IsTrue s.models → OnOk r (s.content new ≡ s.content old)
   pub reads : SectionReadTold r (s.read_faults old) (s.read_faults new)
   pub failed : IfErr r (λ f. SectionWriteTold f (o.write_faults before) (o.write_faults after))
   pub clean : OnOk r (o.write_faults after ≡ o.write_faults before)

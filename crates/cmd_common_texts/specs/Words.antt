@@ -4,7 +4,7 @@ use Rattle.std.specs.Prelude.{Option, Some, None, codes, decimal, is_some, lengt
 use Rattle.std.specs.List.{flat_map}
 use Rattle.abt_headers.specs.declared.entry.RamdiskEntry.{RamdiskEntry}
 use Rattle.abt_headers.specs.declared.os.OsParts.{OsParts}
-use Rattle.abt_headers.specs.declared.sections.Place.{Place}
+use Rattle.abt_headers.specs.declared.sections.SectionPlace.{SectionPlace}
 use Rattle.abt_headers.specs.declared.sections.Section.{Section}
 use Rattle.abt_headers.specs.declared.sections.Section.TheVariants.{Kernel, Ramdisk, Second, RecoveryDtbo, Dtb}
 use Rattle.abt_headers.specs.declared.sections.Section.TheVariants.{Signature, VendorRamdisk, Table, Bootconfig}
@@ -99,7 +99,7 @@ section_option false VendorRamdisk = Some (option_of VendorRamdisk)
 section_option table Table = None
 section_option table Bootconfig = Some (option_of Bootconfig)
 
-abbrev pub section_words : List ℕ → Bool → Place → List (List ℕ)
+abbrev pub section_words : List ℕ → Bool → SectionPlace → List (List ℕ)
 section_words folder table p =
     words_if (λ name. part_word name folder (section_name p.kind)) (section_option table p.kind)
 

@@ -16,8 +16,8 @@ use abt_io::{Meter, Output, Source, Window};
 use abt_sections::{
     Image, ImageHeader, SectionFault, Verdict, check, fragment, fragments, open, section, sections,
 };
-use sys_text::Text;
 use cmd_common_fields::{Address, TextField, address_of, id_of, os_version_of, text_field_of};
+use sys_text::Text;
 
 /// What was printed of an image.
 #[derive(Clone, Copy)]
@@ -39,14 +39,14 @@ pub fn report_info<S: Source, O: Output>(
     m: &mut Meter,
 ) -> Result<InfoReport, SectionFault>
     ensures leaves { spec.WritesImage result S.Source source.old source.new O.Output out.old out.new }
-    ensures reported { IsTrue S.tells → IfOk result (λ r. IsOpened (S.content source.old) r.image ×
+    ensures reported { IsTrue S.models → IfOk result (λ r. IsOpened (S.content source.old) r.image ×
         IsVerdict (S.content source.old) (view_of r.image.header) r.verdict) }
-    ensures printed { IsTrue S.tells →
+    ensures printed { IsTrue S.models →
         OnOk result (spec.Reports notation (S.content source.old) (O.written out.old) (O.written out.new)) }
-    ensures refused { IsTrue S.tells →
+    ensures refused { IsTrue S.models →
         IfErr result (λ f. spec.InfoCause f (S.content source.old) (S.read_faults source.old) (S.read_faults source.new)
         (O.written out.new ≡ O.written out.old)) }
-    ensures begun { IsTrue S.tells → (h : Header) → HasImage (S.content source.old) h → (v : Verdict) →
+    ensures begun { IsTrue S.models → (h : Header) → HasImage (S.content source.old) h → (v : Verdict) →
         IsVerdict (S.content source.old) h v →
         AppendsFront (O.written out.old) (O.written out.new) (spec.info_text notation (S.content source.old) h v) }
 {
@@ -72,11 +72,11 @@ fn image_lines<S: Source, O: Output>(
     m: &mut Meter,
 ) -> Result<Verdict, SectionFault>
     ensures leaves { spec.PrintsImage result S.Source source.old source.new O.Output text.old text.new image.now }
-    ensures verdict { IsTrue S.tells → IfOk result (IsVerdict (S.content source.old) (view_of image.now.header)) }
-    ensures lines { IsTrue S.tells →
+    ensures verdict { IsTrue S.models → IfOk result (IsVerdict (S.content source.old) (view_of image.now.header)) }
+    ensures lines { IsTrue S.models →
         OnOk result (spec.Checked notation (S.content source.old) (view_of image.now.header)
         (Prints O.written O.write_faults text.old text.new)) }
-    ensures begun { IsTrue S.tells → (v : Verdict) →
+    ensures begun { IsTrue S.models → (v : Verdict) →
         IsVerdict (S.content source.old) (view_of image.now.header) v →
         PrintsFront O.written O.write_faults text.old text.new
         (spec.info_text notation (S.content source.old) (view_of image.now.header) v) }
@@ -121,12 +121,12 @@ fn fragment_lines<S: Source, O: Output>(
     m: &mut Meter,
 ) -> Result<(), SectionFault>
     ensures leaves { spec.PrintsImage result S.Source source.old source.new O.Output text.old text.new image.now }
-    ensures lines { IsTrue S.tells →
+    ensures lines { IsTrue S.models →
         OnOk
         result (Prints O.written O.write_faults text.old text.new
         (spec.fragment_lines notation (S.content source.old) (view_of image.now.header)
         (fragment_count (view_of image.now.header)))) }
-    ensures begun { IsTrue S.tells → PrintsFront O.written O.write_faults text.old text.new
+    ensures begun { IsTrue S.models → PrintsFront O.written O.write_faults text.old text.new
         (spec.fragment_lines notation (S.content source.old) (view_of image.now.header)
         (fragment_count (view_of image.now.header))) }
 {

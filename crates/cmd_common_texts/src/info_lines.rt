@@ -9,11 +9,11 @@ ghost use Rattle.abt_sections.specs.Header.{view_of};
 ghost use Rattle.cmd_common_texts.specs.Info as info;
 ghost use Rattle.sys_text.specs.Printed.{Prints};
 
-use abt_headers::{OsVersion, Place, RamdiskEntry};
+use abt_headers::{OsVersion, RamdiskEntry, SectionPlace};
 use abt_io::Output;
 use abt_sections::{ImageHeader, Verdict};
-use sys_text::Text;
 use cmd_common_fields::{Address, TextField, front_text};
+use sys_text::Text;
 
 // How many digits a number has at most, in any base.
 const DIGITS: usize = 64;
@@ -113,7 +113,7 @@ fn digit_of(number: u64) -> u8
 }
 
 /// Adds the line of a section.
-pub fn put_section<O: Output>(place: Place, notation: Notation, text: &mut Text<'_, O>)
+pub fn put_section<O: Output>(place: SectionPlace, notation: Notation, text: &mut Text<'_, O>)
     ensures { Prints O.written O.write_faults text.old text.new (info.section_line notation place) }
 {
     text.word("section ");

@@ -13,11 +13,11 @@ use crate::word_lines::{
     put_board_word, put_flag_word, put_fragment_word, put_number_word, put_os_word, put_part_word,
     put_text_word,
 };
-use abt_headers::{Place, RamdiskEntry, Section, VendorHeader};
+use abt_headers::{RamdiskEntry, Section, SectionPlace, VendorHeader};
 use abt_io::{Meter, Output, Source, Window};
 use abt_sections::{Image, ImageHeader, SectionFault, fragment, fragments, section, sections};
-use sys_text::Text;
 use cmd_common_fields::{Address, TextField, address_of, front_text, os_version_of, text_field_of};
+use sys_text::Text;
 
 /// Writes the words, one a line, with which `pack` makes this image again from the files that `unpack` writes to a
 /// folder.
@@ -32,10 +32,10 @@ pub fn write_words<S: Source, O: Output>(
     m: &mut Meter,
 ) -> Result<(), SectionFault>
     ensures leaves { info.WritesImage result S.Source source.old source.new O.Output out.old out.new }
-    ensures written { IsTrue S.tells →
+    ensures written { IsTrue S.models →
         OnOk result (O.written out.new ≡ O.written out.old ++ words.words_text
         (words.image_words folder.now (S.content source.old) (view_of image.now.header))) }
-    ensures refused { IsTrue S.tells → IsOpened (S.content source.old) image.now →
+    ensures refused { IsTrue S.models → IsOpened (S.content source.old) image.now →
         IfErr result (λ f. info.PrintCause f (S.read_faults source.old) (S.read_faults source.new)) }
 {
     let mut text = Text::new(out);
@@ -56,7 +56,7 @@ fn image_words<S: Source, O: Output>(
     m: &mut Meter,
 ) -> Result<(), SectionFault>
     ensures leaves { info.PrintsImage result S.Source source.old source.new O.Output text.old text.new image.now }
-    ensures lines { IsTrue S.tells →
+    ensures lines { IsTrue S.models →
         OnOk
         result (Prints O.written O.write_faults text.old text.new
         (words.words_text (words.image_words folder.now (S.content source.old) (view_of image.now.header)))) }
@@ -109,7 +109,7 @@ fn section_words<O: Output>(image: &Image, folder: &str, text: &mut Text<'_, O>,
     }
 }
 
-fn section_word<O: Output>(place: Place, folder: &str, table: bool, text: &mut Text<'_, O>)
+fn section_word<O: Output>(place: SectionPlace, folder: &str, table: bool, text: &mut Text<'_, O>)
     ensures { Prints
         O.written O.write_faults text.old text.new (words.words_text (words.section_words folder.now table place)) }
 {
@@ -208,7 +208,7 @@ fn fragment_words<S: Source, O: Output>(
     m: &mut Meter,
 ) -> Result<(), SectionFault>
     ensures leaves { info.PrintsImage result S.Source source.old source.new O.Output text.old text.new image.now }
-    ensures lines { IsTrue S.tells →
+    ensures lines { IsTrue S.models →
         OnOk
         result (Prints O.written O.write_faults text.old text.new
         (words.words_text (words.fragment_words folder.now (S.content source.old) (view_of image.now.header)

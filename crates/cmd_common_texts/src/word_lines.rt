@@ -10,8 +10,8 @@ ghost use Rattle.cmd_common_texts.specs.Words as words;
 use crate::info_lines::{put_byte, put_escaped, put_two_digits};
 use abt_headers::{OsParts, OsVersion};
 use abt_io::Output;
-use sys_text::Text;
 use cmd_common_fields::front_text;
+use sys_text::Text;
 
 /// Adds the word `--NAME`.
 pub fn put_flag_word<O: Output>(name: &str, text: &mut Text<'_, O>)

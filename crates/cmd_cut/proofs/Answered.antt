@@ -36,14 +36,14 @@ written size most x old new a empty is counts more whole =
     }
 
 -- the block size is one that the image has
-pub outside : (e : PieceFault) (b long : ℕ) (tells : Bool) (r r' w w' : ℕ) → IsTrue tells → IsRawBlockSize b
-    → long ≤ (2 ^ 32 - 1) * b → SparsifyCause e b long tells r r' w w' → IsOfPieceDevices e
-outside (pieces.Read f) b long tells r r' w w' t sized few cause = tt
-outside (pieces.Write f) b long tells r r' w w' t sized few cause = tt
-outside pieces.SourceChanged b long tells r r' w w' t sized few cause = absurd (false≢true (sym cause ∙ t))
-outside pieces.TooLarge b long tells r r' w w' t sized few cause = absurd (omega (arith, few, cause.1))
-outside (pieces.BadBlock n) b long tells r r' w w' t sized few cause = absurd (cause.1 sized)
-outside (pieces.LimitTooSmall n) b long tells r r' w w' t sized few cause = absurd cause
+pub outside : (e : PieceFault) (b long : ℕ) (models : Bool) (r r' w w' : ℕ) → IsTrue models → IsRawBlockSize b
+    → long ≤ (2 ^ 32 - 1) * b → SparsifyCause e b long models r r' w w' → IsOfPieceDevices e
+outside (pieces.Read f) b long models r r' w w' t sized few cause = tt
+outside (pieces.Write f) b long models r r' w w' t sized few cause = tt
+outside pieces.SourceChanged b long models r r' w w' t sized few cause = absurd (false≢true (sym cause ∙ t))
+outside pieces.TooLarge b long models r r' w w' t sized few cause = absurd (omega (arith, few, cause.1))
+outside (pieces.BadBlock n) b long models r r' w w' t sized few cause = absurd (cause.1 sized)
+outside (pieces.LimitTooSmall n) b long models r r' w w' t sized few cause = absurd cause
 
 pub torn : (x : List ℕ) → HasNoFront x → HoldsNoSparse x
 torn x (inl few) = inl few

@@ -4,7 +4,7 @@ use Rattle.std.specs.Prelude.{IsOk, IfOk, OnOk, OnErr, Result, Ok, Err, is_ok, u
 use Rattle.std.specs.Prelude.{Option}
 use Rattle.std.proofs.lemmas.Bool.{false≢true}
 use Rattle.abt_pieces.specs.Turn.{HasAt}
-use Rattle.sys_disk.specs.World.{World, Held, Creates, OnlyAt, Ends, Spares, SparesRest, KeepsBegun, ended, unended}
+use Rattle.sys_disk.specs.World.{World, OpenFiles, Creates, OnlyAt, Ends, Spares, SparesRest, KeepsBegun, ended, unended}
 use Rattle.sys_disk.specs.World.{failing}
 use Rattle.cmd_cut.specs.Cutting.{AddsNone, AddsPiece, ClosesBeside, HoldsPiece}
 use Rattle.sys_disk.specs.Among.{GoesAmong, IsMade, KeepsMade}
@@ -12,7 +12,7 @@ use Rattle.sys_disk.proofs.Amongs.{made_written, goes_written, keeps_refused, ke
 
 -- ---- an output that is closed, beside what is read
 
-pub beside_done : (r r' w0 w : ℕ) (h h' : Held) → w0 ≡ 0 → h' ≡ ended true (0 + w) h → r' + w ≡ r + w0
+pub beside_done : (r r' w0 w : ℕ) (h h' : OpenFiles) → w0 ≡ 0 → h' ≡ ended true (0 + w) h → r' + w ≡ r + w0
     → ClosesBeside true r r' h h'
 beside_done r r' w0 w h h' none end clean = record {
   failures = 0 + w;
@@ -21,7 +21,7 @@ beside_done r r' w0 w h h' none end clean = record {
   cause = λ f. absurd (false≢true (sym f));
 }
 
-pub beside_undone : (r r' w0 w : ℕ) (h h' : Held) → w0 ≡ 0 → h' ≡ ended false (1 + w) h → r' + w ≡ r + w0
+pub beside_undone : (r r' w0 w : ℕ) (h h' : OpenFiles) → w0 ≡ 0 → h' ≡ ended false (1 + w) h → r' + w ≡ r + w0
     → ClosesBeside false r r' h h'
 beside_undone r r' w0 w h h' none end clean = record {
   failures = 1 + w;
@@ -30,7 +30,7 @@ beside_undone r r' w0 w h h' none end clean = record {
   cause = λ f. omega (arith, none, clean);
 }
 
-pub beside_answer : {X Y F G : Type 0} (answer : Result X F) (result : Result Y G) (r r' w0 w : ℕ) (h h' : Held)
+pub beside_answer : {X Y F G : Type 0} (answer : Result X F) (result : Result Y G) (r r' w0 w : ℕ) (h h' : OpenFiles)
     → w0 ≡ 0 → h' ≡ ended (is_ok result) (unended (is_ok answer) (is_ok result) + w) h
     → OnOk answer (r' + w ≡ r + w0) → OnErr answer (r + w0 < r' + w) → OnOk result (IsOk answer)
     → ClosesBeside (is_ok result) r r' h h'
@@ -63,7 +63,7 @@ holds_piece answer (Err e) ps made x o a b own is ends = tt
 -- ---- from its opening on
 
 pub adds_piece : {X E : Type 0} (result : Result X E) (path : List ℕ) (ps : List (List ℕ)) (made r r' : ℕ)
-    (h h' h'' : Held) (a b c : World) → Creates path h h' a b → OnOk result (HoldsPiece ps made h'.output b c)
+    (h h' h'' : OpenFiles) (a b c : World) → Creates path h h' a b → OnOk result (HoldsPiece ps made h'.output b c)
     → ClosesBeside (is_ok result) r r' h' h'' → SparesRest h'.output b c
     → OnOk result (AddsPiece ps made path h h'' a c)
 adds_piece (Err e) path ps made r r' h h' h'' a b c created holds closes rest = tt
@@ -86,7 +86,7 @@ adds_piece (Ok y) path ps made r r' h h' h'' a b c created holds closes rest =
           ∙ ap (λ k. k.syncs + (if k.is_synced then 1 else 0)) created.begins;
     }
 
-pub adds_none : {X E : Type 0} (result : Result X E) (path : List ℕ) (r r' : ℕ) (h h' h'' : Held) (a b c : World)
+pub adds_none : {X E : Type 0} (result : Result X E) (path : List ℕ) (r r' : ℕ) (h h' h'' : OpenFiles) (a b c : World)
     → Creates path h h' a b → ClosesBeside (is_ok result) r r' h' h'' → SparesRest h'.output b c
     → OnErr result (AddsNone h h'' a c)
 adds_none (Ok y) path r r' h h' h'' a b c created closes rest = tt
@@ -97,7 +97,7 @@ adds_none (Err e) path r r' h h' h'' a b c created closes rest = record {
 }
 
 -- its output could not be opened
-pub adds_none_refused : (path : List ℕ) (h h' : Held) (a b : World) → h.output ≡ None → h' ≡ failing 1 h
+pub adds_none_refused : (path : List ℕ) (h h' : OpenFiles) (a b : World) → h.output ≡ None → h' ≡ failing 1 h
     → OnlyAt h.read path a b → KeepsBegun h.begun a b → AddsNone h h' a b
 adds_none_refused path h h' a b closed later only begun = record {
   keeps = keeps_refused path h h' a b 1 closed later only begun;
@@ -110,21 +110,21 @@ pub any_refused : {X E : Type 0} (r : Result X E) (P : Type 0) → P → OnErr r
 any_refused (Ok x) P is = tt
 any_refused (Err e) P is = is
 
-pub goes_piece : (done : Bool) (path : List ℕ) (r r' : ℕ) (h h' h'' : Held) (a b c : World) → Creates path h h' a b
+pub goes_piece : (done : Bool) (path : List ℕ) (r r' : ℕ) (h h' h'' : OpenFiles) (a b c : World) → Creates path h h' a b
     → ClosesBeside done r r' h' h'' → SparesRest h'.output b c → GoesAmong (λ p. p ≡ path) h h'' a c
 goes_piece done path r r' h h' h'' a b c created closes rest =
     goes_written (λ p. p ≡ path) path done closes.failures h h' h'' a b c refl created closes.closed rest
 
-pub none_open : (done : Bool) (r r' : ℕ) (h' h'' : Held) → ClosesBeside done r r' h' h'' → h''.output ≡ None
+pub none_open : (done : Bool) (r r' : ℕ) (h' h'' : OpenFiles) → ClosesBeside done r r' h' h'' → h''.output ≡ None
 none_open done r r' h' h'' closes = ap (λ k. k.output) closes.closed
 
-pub clean_piece : {X E : Type 0} (result : Result X E) (path : List ℕ) (r r' : ℕ) (h h' h'' : Held) (a b : World)
+pub clean_piece : {X E : Type 0} (result : Result X E) (path : List ℕ) (r r' : ℕ) (h h' h'' : OpenFiles) (a b : World)
     → Creates path h h' a b → ClosesBeside (is_ok result) r r' h' h'' → OnOk result (h''.failed + r' ≡ h.failed + r)
 clean_piece (Ok y) path r r' h h' h'' a b created closes =
     omega (arith, closes.clean refl, ap (λ k. k.failed) closes.closed, ap (λ k. k.failed) created.begins)
 clean_piece (Err e) path r r' h h' h'' a b created closes = tt
 
-pub cause_piece : {X E : Type 0} (result : Result X E) (path : List ℕ) (r r' : ℕ) (h h' h'' : Held) (a b : World)
+pub cause_piece : {X E : Type 0} (result : Result X E) (path : List ℕ) (r r' : ℕ) (h h' h'' : OpenFiles) (a b : World)
     → Creates path h h' a b → ClosesBeside (is_ok result) r r' h' h'' → OnErr result (h.failed + r < h''.failed + r')
 cause_piece (Ok y) path r r' h h' h'' a b created closes = tt
 cause_piece (Err e) path r r' h h' h'' a b created closes =

@@ -7,7 +7,7 @@ use Rattle.abt_pieces.specs.declared.fault.PieceFault.{PieceFault}
 use Rattle.abt_pieces.specs.declared.fault.PieceFault.TheVariants as pieces
 use Rattle.abt_pieces.specs.Fault.{CutCause}
 use Rattle.abt_sparsify.specs.Sparsify.{SparsifyCause}
-use Rattle.sys_disk.specs.World.{World, Held, OpensFile, Creates, HasFailed, HasNotFailed, failing, ended, unended}
+use Rattle.sys_disk.specs.World.{World, OpenFiles, OpensFile, Creates, HasFailed, HasNotFailed, failing, ended, unended}
 use Rattle.sys_disk.specs.World.{ClosesOutput, SparesRest}
 use Rattle.cmd_common_sparse.specs.Blocks.{IsRawBlockSize}
 use Rattle.cmd_cut.specs.Sparsing.{GivesUp, IsOfPieceDevices}
@@ -15,20 +15,20 @@ use Rattle.cmd_cut.specs.Sparsing.{GivesUp, IsOfPieceDevices}
 -- ---- of the engine's calls
 
 -- where a raw image was not written, a device has failed
-pub fails_raw : (e : PieceFault) (b long : ℕ) (tells : Bool) (r r' w w' : ℕ) → IsTrue tells → IsRawBlockSize b
-    → long ≤ (2 ^ 32 - 1) * b → r ≤ r' → w ≤ w' → SparsifyCause e b long tells r r' w w' → r + w < r' + w'
-fails_raw (pieces.Read f) b long tells r r' w w' t sized few reads writes cause = omega (arith, cause.0, writes)
-fails_raw (pieces.Write f) b long tells r r' w w' t sized few reads writes cause = omega (arith, cause, reads)
-fails_raw pieces.SourceChanged b long tells r r' w w' t sized few reads writes cause = absurd (false≢true (sym cause
+pub fails_raw : (e : PieceFault) (b long : ℕ) (models : Bool) (r r' w w' : ℕ) → IsTrue models → IsRawBlockSize b
+    → long ≤ (2 ^ 32 - 1) * b → r ≤ r' → w ≤ w' → SparsifyCause e b long models r r' w w' → r + w < r' + w'
+fails_raw (pieces.Read f) b long models r r' w w' t sized few reads writes cause = omega (arith, cause.0, writes)
+fails_raw (pieces.Write f) b long models r r' w w' t sized few reads writes cause = omega (arith, cause, reads)
+fails_raw pieces.SourceChanged b long models r r' w w' t sized few reads writes cause = absurd (false≢true (sym cause
     ∙ t))
-fails_raw pieces.TooLarge b long tells r r' w w' t sized few reads writes cause = absurd (omega (arith, few, cause.1))
-fails_raw (pieces.BadBlock n) b long tells r r' w w' t sized few reads writes cause = absurd (cause.1 sized)
-fails_raw (pieces.LimitTooSmall n) b long tells r r' w w' t sized few reads writes cause = absurd cause
+fails_raw pieces.TooLarge b long models r r' w w' t sized few reads writes cause = absurd (omega (arith, few, cause.1))
+fails_raw (pieces.BadBlock n) b long models r r' w w' t sized few reads writes cause = absurd (cause.1 sized)
+fails_raw (pieces.LimitTooSmall n) b long models r r' w w' t sized few reads writes cause = absurd cause
 
 -- ---- of an output that is closed
 
 -- with so many failures before
-pub ended_behind : (d : Bool) (r n : ℕ) (h : Held) → ended d n (failing r h) ≡ ended d (r + n) h
+pub ended_behind : (d : Bool) (r n : ℕ) (h : OpenFiles) → ended d n (failing r h) ≡ ended d (r + n) h
 ended_behind d r n h =
     ap (λ (k : ℕ). record {
       read = h.read;
@@ -41,7 +41,7 @@ ended_behind d r n h =
       failed = k;
     }) (let z : h.failed + r + n ≡ h.failed + (r + n) = omega arith in z)
 
-pub closes_done : (r n : ℕ) (h h' h'' : Held) → h' ≡ failing r h → h'' ≡ ended true n h' → r + n ≡ 0
+pub closes_done : (r n : ℕ) (h h' h'' : OpenFiles) → h' ≡ failing r h → h'' ≡ ended true n h' → r + n ≡ 0
     → ClosesOutput true h h''
 closes_done r n h h' h'' before end none = record {
   failures = r + n;
@@ -50,7 +50,7 @@ closes_done r n h h' h'' before end none = record {
   cause = λ f. absurd (false≢true (sym f));
 }
 
-pub closes_undone : (r n : ℕ) (h h' h'' : Held) → h' ≡ failing r h → h'' ≡ ended false n h' → 0 < r + n
+pub closes_undone : (r n : ℕ) (h h' h'' : OpenFiles) → h' ≡ failing r h → h'' ≡ ended false n h' → 0 < r + n
     → ClosesOutput false h h''
 closes_undone r n h h' h'' before end some = record {
   failures = r + n;
@@ -59,7 +59,7 @@ closes_undone r n h h' h'' before end some = record {
   cause = λ f. some;
 }
 
-pub closes_given_up : (r n : ℕ) (h h' h'' : Held) (a b : World) → h' ≡ failing r h → GivesUp n h' h'' a b → 0 < r + n
+pub closes_given_up : (r n : ℕ) (h h' h'' : OpenFiles) (a b : World) → h' ≡ failing r h → GivesUp n h' h'' a b → 0 < r + n
     → ClosesOutput false h h''
 closes_given_up r n h h' h'' a b before given some =
     closes_undone r given.failures h h' h'' before given.closed (omega (arith, given.least, some))
@@ -71,7 +71,7 @@ answered answer (Ok y) is = ap is_ok is
 answered answer (Err e) is = tt
 
 -- what was answered is told by the end
-pub closes_answer : {X Y F G : Type 0} (answer : Result X F) (result : Result Y G) (r0 w0 r n : ℕ) (h h' h'' : Held)
+pub closes_answer : {X Y F G : Type 0} (answer : Result X F) (result : Result Y G) (r0 w0 r n : ℕ) (h h' h'' : OpenFiles)
     → r0 ≡ 0 → w0 ≡ 0 → h' ≡ failing r h → h'' ≡ ended (is_ok result) (unended (is_ok answer) (is_ok result) + n) h'
     → OnOk answer (r + n ≡ r0 + w0) → OnErr answer (r0 + w0 < r + n) → OnOk result (IsOk answer)
     → ClosesOutput (is_ok result) h h''
@@ -86,7 +86,7 @@ closes_answer (Err f) (Ok y) r0 w0 r n h h' h'' zero_r zero_w before end clean c
 -- ---- from the front of a run
 
 -- a file was opened, an output created and closed
-pub failed_behind : (input path bytes : List ℕ) (h h' h'' h''' : Held) (w a b : World) → OpensFile w input bytes h h'
+pub failed_behind : (input path bytes : List ℕ) (h h' h'' h''' : OpenFiles) (w a b : World) → OpensFile w input bytes h h'
     → Creates path h' h'' a b → ClosesOutput false h'' h''' → HasFailed h h'''
 failed_behind input path bytes h h' h'' h''' w a b opened made closes =
     omega (
@@ -97,7 +97,7 @@ failed_behind input path bytes h h' h'' h''' w a b opened made closes =
       closes.cause refl,
     )
 
-pub clean_behind : (input path bytes : List ℕ) (h h' h'' h''' : Held) (w a b : World) → OpensFile w input bytes h h'
+pub clean_behind : (input path bytes : List ℕ) (h h' h'' h''' : OpenFiles) (w a b : World) → OpensFile w input bytes h h'
     → Creates path h' h'' a b → ClosesOutput true h'' h''' → HasNotFailed h h'''
 clean_behind input path bytes h h' h'' h''' w a b opened made closes =
     omega (

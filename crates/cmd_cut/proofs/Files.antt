@@ -6,7 +6,7 @@ use Rattle.abt_runs.specs.declared.part.RunFault.{RunFault}
 use Rattle.abt_runs.specs.Raw.{RefusedRaw}
 use Rattle.abt_sparsify.specs.declared.count.Written.{Written}
 use Rattle.sys_disk.specs.Images.{EmptiesAt}
-use Rattle.sys_disk.specs.World.{World, Held, Spares, OpensFile, Creates, untouched, SparesRest}
+use Rattle.sys_disk.specs.World.{World, OpenFiles, Spares, OpensFile, Creates, untouched, SparesRest}
 use Rattle.sys_disk.specs.World.{ClosesOutput, HasFailed, HasNotFailed}
 use Rattle.sys_disk.proofs.Worlds.{apart, kept_behind, only_behind, only_written, spares_trans}
 use Rattle.sys_refusals.specs.declared.refusal.HostFault.{HostFault}
@@ -24,12 +24,12 @@ one : (o : Option ℕ) (f g : ℕ) → o ≡ Some f → o ≡ Some g → f ≡ g
 one o f g a b = ap (λ p. unwrap_or p 0) (sym a ∙ b)
 
 -- an output that was created, and then brought to its end or let go
-after : (path : List ℕ) (h h' : Held) (a b c : World) (made : Creates path h h' a b) → SparesRest h'.output b c
+after : (path : List ℕ) (h h' : OpenFiles) (a b c : World) (made : Creates path h h' a b) → SparesRest h'.output b c
     → Spares made.file b c
 after path h h' a b c made rest = subst (λ k. SparesRest k.output b c) made.begins rest
 
 -- the output may be opened
-pub none_open : (input bytes : List ℕ) (h h' : Held) (a : World) → OpensFile a input bytes h h' → h.output ≡ None
+pub none_open : (input bytes : List ℕ) (h h' : OpenFiles) (a : World) → OpensFile a input bytes h h' → h.output ≡ None
     → h'.output ≡ None
 none_open input bytes h h' a opened none = ap (λ k. k.output) opened.taken ∙ none
 
@@ -50,7 +50,7 @@ part_emptied input output size a b c same empties = λ file at. elim (empties fi
 ]
 
 -- it was begun, and could not be brought to its end
-pub part_left : (input output bytes : List ℕ) (size n : ℕ) (h h' h'' : Held) (a b c d : World) → n ≡ size
+pub part_left : (input output bytes : List ℕ) (size n : ℕ) (h h' h'' : OpenFiles) (a b c d : World) → n ≡ size
     → OpensFile a input bytes h h' → Creates output h' h'' b c → SparesRest h''.output c d
     → LeavesNoneOrSparse n bytes h''.output d → HoldsNoPartOfSparse input output size a d
 part_left input output bytes size n h h' h'' a b c d sized opened made rest left = λ file at.
@@ -70,7 +70,7 @@ part_left input output bytes size n h h' h'' a b c d sized opened made rest left
     ])
 
 -- it was brought to its end
-pub part_whole : (input output bytes : List ℕ) (size n : ℕ) (x : Written) (h h' h'' : Held) (a b c d : World)
+pub part_whole : (input output bytes : List ℕ) (size n : ℕ) (x : Written) (h h' h'' : OpenFiles) (a b c d : World)
     → n ≡ size → OpensFile a input bytes h h' → Creates output h' h'' b c → HoldsWritten n bytes x h''.output c d
     → HoldsNoPartOfSparse input output size a d
 part_whole input output bytes size n x h h' h'' a b c d sized opened made has = λ file at.
@@ -87,7 +87,7 @@ part_whole input output bytes size n x h h' h'' a b c d sized opened made has = 
 -- ---- what OUT is left as
 
 -- it was not begun
-pub left_unbegun : {X F : Type 0} (e : F) (input output : List ℕ) (size : ℕ) (over : Bool) (h h' : Held) (a c : World)
+pub left_unbegun : {X F : Type 0} (e : F) (input output : List ℕ) (size : ℕ) (over : Bool) (h h' : OpenFiles) (a c : World)
     → h'.output ≡ None → c ≡ a → LeavesImage {X = X} (Err e) input output size over h h' a c
 left_unbegun e input output size over h h' a c none same = record {
   synced = tt;
@@ -100,7 +100,7 @@ left_unbegun e input output size over h h' a c none same = record {
 
 -- it was written, whatever was told of it then
 pub left_whole : {X F : Type 0} (r : Result X F) (input output bytes : List ℕ) (size n : ℕ) (x : Written) (over : Bool)
-    (h h' h'' h''' : Held) (a b c d : World) → n ≡ size → OpensFile a input bytes h h' → b ≡ a
+    (h h' h'' h''' : OpenFiles) (a b c d : World) → n ≡ size → OpensFile a input bytes h h' → b ≡ a
     → Creates output h' h'' b c → HoldsWritten n bytes x h''.output c d → SparesRest h''.output c d
     → ClosesOutput true h'' h''' → OnOk r (h'''.syncs ≡ h.syncs + (if h.is_synced then 1 else 0))
     → OnOk r (HasNotFailed h h''') → LeavesImage r input output size over h h''' a d
@@ -117,7 +117,7 @@ left_whole r input output bytes size n x over h h' h'' h''' a b c d sized opened
 
 -- ---- why it is refused
 
-pub no_blocks : (path bytes : List ℕ) (size long : ℕ) (h h' k k' : Held) (a b : World) (f : RunFault)
+pub no_blocks : (path bytes : List ℕ) (size long : ℕ) (h h' k k' : OpenFiles) (a b : World) (f : RunFault)
     (told : SparseCommandFault) (Done : Type 0) → OpensFile a path bytes h h' → b ≡ a → long ≡ length bytes
     → RefusedRaw f size long → told ≡ faults.Run f → RefusesRaw path size a b k k' Done told
 no_blocks path bytes size long h h' k k' a b f told Done opened same is refused told_is =
@@ -128,7 +128,7 @@ no_blocks path bytes size long h h' k k' a b f told Done opened same is refused 
       untouched = same;
     })
 
-pub refuses : (path : List ℕ) (size : ℕ) (a b : World) (h h' : Held) (Done : Type 0) (f : SparseCommandFault)
+pub refuses : (path : List ℕ) (size : ℕ) (a b : World) (h h' : OpenFiles) (Done : Type 0) (f : SparseCommandFault)
     → IsOutsideSparse f → HasFailed h h' → RefusesRaw path size a b h h' Done f
 refuses path size a b h h' Done (faults.Sparse f) is failed = absurd is
 refuses path size a b h h' Done (faults.Run f) is failed = absurd is
@@ -140,14 +140,14 @@ refuses path size a b h h' Done (faults.OtherCut image) is failed = absurd is
 refuses path size a b h h' Done (faults.Host f) is failed = inl failed
 
 -- a call of the disk was refused, or only the line
-pub refuses_host : (path : List ℕ) (size : ℕ) (a b : World) (h h' : Held) (Done : Type 0) (f : SparseCommandFault)
+pub refuses_host : (path : List ℕ) (size : ℕ) (a b : World) (h h' : OpenFiles) (Done : Type 0) (f : SparseCommandFault)
     (k : HostFault) → f ≡ faults.Host k → HasFailed h h' ⊎ Done → RefusesRaw path size a b h h' Done f
 refuses_host path size a b h h' Done f k told why =
     subst (λ e. RefusesRaw path size a b h h' Done e) (sym told) why
 
 -- ---- all is done
 
-pub sparsifies : (input output bytes : List ℕ) (size n : ℕ) (x : Written) (h h' h'' : Held) (a b c d : World)
+pub sparsifies : (input output bytes : List ℕ) (size n : ℕ) (x : Written) (h h' h'' : OpenFiles) (a b c d : World)
     (shows : List ℕ → Type 0) → n ≡ size → IsRawBlockSize size → OpensFile a input bytes h h' → b ≡ a
     → Creates output h' h'' b c → HoldsWritten n bytes x h''.output c d
     → shows (line_text (lines.Sparse x.blocks x.chunks x.bytes) ++ (10 ∷ []))

@@ -1,7 +1,7 @@
 pub mod Answered
 pub mod Beside
 pub mod Counted
-pub mod Cuts
+pub mod CutCommands
 pub mod Files
 pub mod Nexts
 pub mod Opened

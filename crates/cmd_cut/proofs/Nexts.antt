@@ -10,17 +10,17 @@ use Rattle.abt_pieces.specs.NextPiece.{LaidNext}
 use Rattle.abt_pieces.specs.Outline.{piece_blocks}
 use Rattle.abt_pieces.specs.Turn.{HasAt}
 use Rattle.abt_pieces.specs.declared.outline.Piece.{Piece}
-use Rattle.abt_pieces.specs.declared.stage.Stage.{Stage}
-use Rattle.abt_pieces.specs.declared.stage.Stage.TheVariants.{Between, Done}
+use Rattle.abt_pieces.specs.declared.stage.CutterStage.{CutterStage}
+use Rattle.abt_pieces.specs.declared.stage.CutterStage.TheVariants.{Between, Done}
 use Rattle.abt_pieces.proofs.Turning.{in_turn}
 use Rattle.cmd_cut.specs.Cutting.{NumbersOfPiece}
 
 -- between two pieces a cutter is not done, and no call has refused
-pub not_done : (st : Stage) → st ≡ Between → st ≡ Done → ⊥
+pub not_done : (st : CutterStage) → st ≡ Between → st ≡ Done → ⊥
 not_done st between done = false≢true (sym (ap has_more (sym between ∙ done)))
 
 -- what was written behind nothing is the piece behind those that are made
-pub next_laid : (b limit made first : ℕ) (l : List Block) (p : Piece) (old new : List ℕ) (st : Stage) → st ≡ Between
+pub next_laid : (b limit made first : ℕ) (l : List Block) (p : Piece) (old new : List ℕ) (st : CutterStage) → st ≡ Between
     → old ≡ [] → Made b limit l made (segments_left b limit l first st) → p.first ≡ first
     → LaidNext b limit l first p old new → HasAt (pieces limit b l) made new
 next_laid b limit made first l p old new st between empty cuts begins laid =
@@ -34,7 +34,7 @@ next_laid b limit made first l p old new st between empty cuts begins laid =
     subst (λ x. HasAt (pieces limit b l) made x) (sym is) here
 
 -- and these are its numbers
-pub next_told : (b limit made first : ℕ) (l : List Block) (p : Piece) (old new : List ℕ) (st : Stage) → st ≡ Between
+pub next_told : (b limit made first : ℕ) (l : List Block) (p : Piece) (old new : List ℕ) (st : CutterStage) → st ≡ Between
     → old ≡ [] → Made b limit l made (segments_left b limit l first st) → p.first ≡ first
     → LaidNext b limit l first p old new → NumbersOfPiece limit b l made p
 next_told b limit made first l p old new st between empty cuts begins laid =

@@ -11,7 +11,7 @@ use Rattle.abt_runs.specs.Raw.{RefusedRaw}
 use Rattle.abt_runs.specs.Sparse.{SparseOpened, blocks_in, sparse_list}
 use Rattle.abt_runs.specs.Verdict.{Refuses}
 use Rattle.abt_runs.specs.declared.part.RunFault.TheVariants as of_runs
-use Rattle.sys_disk.specs.World.{World, Held}
+use Rattle.sys_disk.specs.World.{World, OpenFiles}
 use Rattle.cmd_common_sparse.specs.Blocks.{IsRawBlockSize, RefusedCut}
 use Rattle.cmd_common_sparse.specs.PieceNames.{Naming}
 use Rattle.cmd_common_sparse.specs.declared.fault.SparseCommandFault.{SparseCommandFault}
@@ -25,7 +25,7 @@ if_err (Err e) P Q go is = go e is
 
 -- an image of these blocks was cut, or not
 pub cut_of : {X E : Type 0} (r : Result X E) (raw : Option ℕ) (size size' limit limit' : ℕ) (l l' : List Block)
-    (names : Naming) (x : List ℕ) (h h' : Held) (a b : World) (shows : ℕ → ℕ → List Block → Type 0)
+    (names : Naming) (x : List ℕ) (h h' : OpenFiles) (a b : World) (shows : ℕ → ℕ → List Block → Type 0)
     → IsImageOfBlocks raw size l x
     → 64 + size ≤ limit
     → size' ≡ size → limit' ≡ limit → l' ≡ l → OnOk r (CutsAll names (pieces limit' size' l') h h' a b
@@ -44,7 +44,7 @@ cut_of (Ok y) raw size size' limit limit' l l' names x h h' a b shows image gran
 
 pub stop_of : (Unprinted : Type 0) (fault : SparseCommandFault) (raw : Option ℕ) (size size' limit limit' : ℕ)
     (l l' : List Block)
-    (names : Naming) (x : List ℕ) (h h' : Held) (a b : World) (Failed Same : Type 0) → IsImageOfBlocks raw size l x
+    (names : Naming) (x : List ℕ) (h h' : OpenFiles) (a b : World) (Failed Same : Type 0) → IsImageOfBlocks raw size l x
     → size' ≡ size → limit' ≡ limit → l' ≡ l
     → StopsCut fault Failed Unprinted (λ n m. CutsSoFar names (pieces limit' size' l') n m h h' a b)
     → StopsImage raw limit x fault Failed Unprinted Same (λ ps n m. CutsSoFar names ps n m h h' a b)

@@ -11,7 +11,7 @@ use Rattle.sys_report.specs.Shows.{IsSilent}
 use Rattle.sys_report.specs.declared.report.Report.{Report}
 use Rattle.sys_refusals.specs.declared.refusal.HostFault.{HostFault}
 use Rattle.sys_refusals.specs.declared.refusal.HostFault.TheVariants as hosts
-use Rattle.sys_disk.specs.World.{World, Held, OpensFile, KeepsFile, HasFailed, HasNotFailed, failing}
+use Rattle.sys_disk.specs.World.{World, OpenFiles, OpensFile, KeepsFile, HasFailed, HasNotFailed, failing}
 use Rattle.cmd_common_sparse.specs.PieceNames.{Naming}
 use Rattle.cmd_common_sparse.specs.declared.lines.Line.TheVariants as lines
 use Rattle.cmd_common_sparse.specs.declared.fault.SparseCommandFault.{SparseCommandFault}
@@ -22,12 +22,12 @@ use Rattle.cmd_cut.specs.Cutting.{IsFirstPiecePath, IsPiecePath, LeavesCut, Leav
 use Rattle.cmd_cut.specs.Cutting.{RefusesCut, StopsCut, StopsImage, failed, no_cut, no_memory, no_room, opened}
 use Rattle.cmd_cut.specs.Cutting.{ShowsCut, ShowsPieces, path_in_turn, stopped, unopened, unread, untold}
 use Rattle.sys_disk.specs.Among.{GoesAmong, IsMade}
-use Rattle.cmd_cut.proofs.Cuts.{cuts_none}
+use Rattle.cmd_cut.proofs.CutCommands.{cuts_none}
 use Rattle.sys_disk.proofs.Amongs.{goes_none, goes_then, kept_beside, among_behind}
 
 -- ---- once what was read is let go
 
-made_past : (h h' : Held) (a b : World) (path bytes : List ℕ) (n : ℕ) → h' ≡ failing n h → b ≡ a
+made_past : (h h' : OpenFiles) (a b : World) (path bytes : List ℕ) (n : ℕ) → h' ≡ failing n h → b ≡ a
     → IsMade h a path bytes → IsMade h' b path bytes
 made_past h h' a b path bytes n later same made = record {
   file = made.file;
@@ -36,7 +36,7 @@ made_past h h' a b path bytes n later same made = record {
   listed = subst (λ k. Contains k.begun made.file) (sym later) made.listed;
 }
 
-pub cuts_past : (names : Naming) (ps : List (List ℕ)) (n m r : ℕ) (h h' h'' : Held) (a b c : World)
+pub cuts_past : (names : Naming) (ps : List (List ℕ)) (n m r : ℕ) (h h' h'' : OpenFiles) (a b c : World)
     → h'' ≡ failing r h' → c ≡ b → CutsSoFar names ps n m h h' a b → CutsSoFar names ps n m h h'' a c
 cuts_past names ps n m r h h' h'' a b c later same cuts = record {
   goes = goes_then (IsFirstPiecePath names m) h h' h'' a b c cuts.goes
@@ -56,7 +56,7 @@ cuts_past names ps n m r h h' h'' a b c later same cuts = record {
 
 -- a call of the disk was refused, or memory was, before the first piece
 pub stops_host : (Unprinted : Type 0) (fault : SparseCommandFault) (k : HostFault) (names : Naming) (ps : List
-    (List ℕ)) (h h' : Held)
+    (List ℕ)) (h h' : OpenFiles)
     (a b : World) → h.output ≡ None → OnlyFails h h' → b ≡ a → fault ≡ faults.Host k
     → (k ≡ hosts.Memory) ⊎ HasFailed h h'
     → StopsCut fault (HasFailed h h') Unprinted (λ n m. CutsSoFar names ps n m h h' a b)
@@ -70,7 +70,7 @@ stops_host Unprinted fault k names ps h h' a b closed fails same told (inr why) 
 -- ---- the files of a run
 
 -- the image is none of the files that were begun
-beside_read : (names : Naming) (ps : List (List ℕ)) (n m from : ℕ) (h h' : Held) (a b : World) → h.begun ≡ []
+beside_read : (names : Naming) (ps : List (List ℕ)) (n m from : ℕ) (h h' : OpenFiles) (a b : World) → h.begun ≡ []
     → Contains h.read from → CutsSoFar names ps n m h h' a b → (j f : ℕ) → j < n
     → b.at (path_in_turn names (j + 1)) ≡ Some f → f ≢ from
 beside_read names ps n m from h h' a b none listed cuts j f below at is =
@@ -85,7 +85,7 @@ beside_read names ps n m from h h' a b none listed cuts j f below at is =
     ]
 
 -- behind the opening of the image
-pub first_stand : (names : Naming) (path bytes : List ℕ) (ps : List (List ℕ)) (n m : ℕ) (h h' h'' : Held)
+pub first_stand : (names : Naming) (path bytes : List ℕ) (ps : List (List ℕ)) (n m : ℕ) (h h' h'' : OpenFiles)
     (a b c : World) → h.begun ≡ [] → (o : OpensFile a path bytes h h') → b ≡ a → CutsSoFar names ps n m h' h'' b c
     → FirstStand names o.file h h'' a c ps n m
 first_stand names path bytes ps n m h h' h'' a b c none o same cuts = record {
@@ -98,7 +98,7 @@ first_stand names path bytes ps n m h h' h'' a b c none o same cuts = record {
 }
 
 pub cuts_file : (raw : Option ℕ) (limit : ℕ) (input : List ℕ) (names : Naming) (bytes : List ℕ)
-    (h h' h'' : Held) (a b c : World) (shows : ℕ → List Block → Type 0) → h.begun ≡ [] → OpensFile a input bytes h h'
+    (h h' h'' : OpenFiles) (a b c : World) (shows : ℕ → List Block → Type 0) → h.begun ≡ [] → OpensFile a input bytes h h'
     → b ≡ a
     → CutsImage raw limit names bytes h' h'' b c shows → CutsFile raw limit input names h h'' a c shows
 cuts_file raw limit input names bytes h h' h'' a b c shows none o same i = record {
@@ -116,7 +116,7 @@ cuts_file raw limit input names bytes h h' h'' a b c shows none o same i = recor
 }
 
 stops_file : (Unprinted : Type 0) (fault : SparseCommandFault) (names : Naming) (path bytes : List ℕ) (ps : List
-    (List ℕ)) (h h' h'' : Held)
+    (List ℕ)) (h h' h'' : OpenFiles)
     (a b c : World) → h.begun ≡ [] → (o : OpensFile a path bytes h h') → b ≡ a
     → StopsCut fault (HasFailed h' h'') Unprinted (λ n m. CutsSoFar names ps n m h' h'' b c)
     → StopsCut fault (HasFailed h h'') Unprinted (FirstStand names o.file h h'' a c ps)
@@ -130,7 +130,7 @@ stops_file Unprinted fault names path bytes ps h h' h'' a b c none o same (no_me
 
 image_file : (Unprinted : Type 0) (raw : Option ℕ) (limit : ℕ) (x : List ℕ) (fault : SparseCommandFault)
     (names : Naming)
-    (path bytes : List ℕ) (h h' h'' : Held) (a b c : World) → h.begun ≡ [] → (o : OpensFile a path bytes h h') → b ≡ a
+    (path bytes : List ℕ) (h h' h'' : OpenFiles) (a b c : World) → h.begun ≡ [] → (o : OpensFile a path bytes h h') → b ≡ a
     → StopsImage raw limit x fault (HasFailed h' h'') Unprinted (c ≡ b) (λ ps n m. CutsSoFar names ps n m h' h'' b c)
     → StopsImage raw limit x fault (HasFailed h h'') Unprinted (c ≡ a) (FirstStand names o.file h h'' a c)
 image_file Unprinted raw limit x fault names path bytes h h' h'' a b c none o same (no_cut f told why still) =
@@ -145,7 +145,7 @@ image_file Unprinted raw limit x fault names path bytes h h' h'' a b c none o sa
     (stops_file Unprinted fault names path bytes (pieces limit size blocks) h h' h'' a b c none o same why)
 
 pub refuses_file : (Unprinted : Type 0) (raw : Option ℕ) (limit : ℕ) (input : List ℕ) (names : Naming) (bytes : List ℕ)
-    (fault : SparseCommandFault) (h h' h'' : Held) (a b c : World) → h.begun ≡ [] → OpensFile a input bytes h h' → b ≡ a
+    (fault : SparseCommandFault) (h h' h'' : OpenFiles) (a b c : World) → h.begun ≡ [] → OpensFile a input bytes h h' → b ≡ a
     → StopsImage raw limit bytes fault (HasFailed h' h'') Unprinted (c ≡ b)
     (λ ps n m. CutsSoFar names ps n m h' h'' b c)
     → RefusesCut raw limit input names fault h h'' a c Unprinted
@@ -155,22 +155,22 @@ refuses_file Unprinted raw limit input names bytes fault h h' h'' a b c none o s
     (FirstStand names o.file h h'' a c)) o.held
     (image_file Unprinted raw limit bytes fault names input bytes h h' h'' a b c none o same why))
 
-keeps_input : (prefix path bytes : List ℕ) (h h' h'' : Held) (a b c : World) → OpensFile a path bytes h h' → b ≡ a
+keeps_input : (prefix path bytes : List ℕ) (h h' h'' : OpenFiles) (a b c : World) → OpensFile a path bytes h h' → b ≡ a
     → GoesAmong (IsPiecePath prefix) h' h'' b c → KeepsFile path a c
 keeps_input prefix path bytes h h' h'' a b c o same goes = λ f there.
     let is : o.file ≡ f = ap (λ p. unwrap_or p 0) (sym o.there ∙ there) in
     subst (λ g. c.holds g ≡ a.holds g) is (kept_beside (IsPiecePath prefix) path bytes h h' h'' a b c o same goes)
 
-clean_file : (path bytes : List ℕ) (h h' h'' : Held) (a : World) → OpensFile a path bytes h h' → HasNotFailed h' h''
+clean_file : (path bytes : List ℕ) (h h' h'' : OpenFiles) (a : World) → OpensFile a path bytes h h' → HasNotFailed h' h''
     → HasNotFailed h h''
 clean_file path bytes h h' h'' a o clean = omega (arith, clean, ap (λ k. k.failed) o.taken)
 
-clean_file_as : {X F : Type 0} (r : Result X F) (path bytes : List ℕ) (h h' h'' : Held) (a : World)
+clean_file_as : {X F : Type 0} (r : Result X F) (path bytes : List ℕ) (h h' h'' : OpenFiles) (a : World)
     → OpensFile a path bytes h h' → OnOk r (HasNotFailed h' h'') → OnOk r (HasNotFailed h h'')
 clean_file_as (Ok x) path bytes h h' h'' a o clean = clean_file path bytes h h' h'' a o clean
 clean_file_as (Err e) path bytes h h' h'' a o clean = tt
 
-pub leaves_cut : {X F : Type 0} (r : Result X F) (prefix path bytes : List ℕ) (h h' h'' : Held) (a b c : World)
+pub leaves_cut : {X F : Type 0} (r : Result X F) (prefix path bytes : List ℕ) (h h' h'' : OpenFiles) (a b c : World)
     → h.begun ≡ [] → OpensFile a path bytes h h' → b ≡ a → LeavesPieces r (IsPiecePath prefix) h' h'' b c
     → LeavesCut r path prefix h h'' a c
 leaves_cut r prefix path bytes h h' h'' a b c none o same leaves = record {
@@ -183,7 +183,7 @@ leaves_cut r prefix path bytes h h' h'' a b c none o same leaves = record {
 -- the image could not be opened
 pub refuses_unopened : (Unprinted : Type 0) (raw : Option ℕ) (limit : ℕ) (input : List ℕ) (names : Naming)
     (fault : SparseCommandFault)
-    (k : HostFault) (h h' : Held) (a c : World) → fault ≡ faults.Host k → h' ≡ failing 1 h → c ≡ a
+    (k : HostFault) (h h' : OpenFiles) (a c : World) → fault ≡ faults.Host k → h' ≡ failing 1 h → c ≡ a
     → RefusesCut raw limit input names fault h h' a c Unprinted
 refuses_unopened Unprinted raw limit input names fault k h h' a c told now same =
     unopened k told (omega (arith, ap (λ q. q.failed) now)) same
@@ -192,30 +192,30 @@ refuses_unopened Unprinted raw limit input names fault k h h' a c told now same 
 
 -- ---- between the opening of the image and its end
 
-pub left_failed : (P : List ℕ → Type 0) (h h' : Held) (a b : World) → h.output ≡ None → OnlyFails h h' → b ≡ a
+pub left_failed : (P : List ℕ → Type 0) (h h' : OpenFiles) (a b : World) → h.output ≡ None → OnlyFails h h' → b ≡ a
     → OnlyLeaves P h h' a b
 left_failed P h h' a b none fails same = record {
   only = goes_none P h h' a b fails.failures fails.same same;
   closed = ap (λ k. k.output) fails.same ∙ none;
 }
 
-pub left_between : (P : List ℕ → Type 0) (r : ℕ) (h h1 h2 h3 : Held) (a a1 b c : World) → h1 ≡ h → a1 ≡ a
+pub left_between : (P : List ℕ → Type 0) (r : ℕ) (h h1 h2 h3 : OpenFiles) (a a1 b c : World) → h1 ≡ h → a1 ≡ a
     → OnlyLeaves P h1 h2 a1 b → h3 ≡ failing r h2 → c ≡ b → OnlyLeaves P h h3 a c
 left_between P r h h1 h2 h3 a a1 b c held world left later same = record {
-  only = goes_then P h h2 h3 a b c (subst (λ (k : Held). GoesAmong P k h2 a b) held
+  only = goes_then P h h2 h3 a b c (subst (λ (k : OpenFiles). GoesAmong P k h2 a b) held
       (subst (λ (w : World). GoesAmong P h1 h2 w b) world left.only)) (goes_none P h2 h3 b c r later same);
   closed = ap (λ k. k.output) later ∙ left.closed;
 }
 
-pub cuts_between : (names : Naming) (ps : List (List ℕ)) (n m r : ℕ) (h h1 h2 h3 : Held) (a a1 b c : World) → h1 ≡ h
+pub cuts_between : (names : Naming) (ps : List (List ℕ)) (n m r : ℕ) (h h1 h2 h3 : OpenFiles) (a a1 b c : World) → h1 ≡ h
     → a1 ≡ a → CutsSoFar names ps n m h1 h2 a1 b → h3 ≡ failing r h2 → c ≡ b → CutsSoFar names ps n m h h3 a c
 cuts_between names ps n m r h h1 h2 h3 a a1 b c held world cuts later same =
     cuts_past names ps n m r h h2 h3 a b c later same
-    (subst (λ (k : Held). CutsSoFar names ps n m k h2 a b) held
+    (subst (λ (k : OpenFiles). CutsSoFar names ps n m k h2 a b) held
     (subst (λ (w : World). CutsSoFar names ps n m h1 h2 w b) world cuts))
 
 pub stops_between : (Unprinted : Type 0) (fault : SparseCommandFault) (names : Naming) (ps : List (List ℕ)) (r r' : ℕ)
-    (h h1 h2 h3 : Held)
+    (h h1 h2 h3 : OpenFiles)
     (a a1 b c : World) → h1 ≡ h → a1 ≡ a → r ≡ 0
     → StopsCut fault (h1.failed + r < h2.failed + r') Unprinted (λ n m. CutsSoFar names ps n m h1 h2 a1 b)
     → h3 ≡ failing r' h2
@@ -234,7 +234,7 @@ stops_between Unprinted fault names ps r r' h h1 h2 h3 a a1 b c held world none 
 -- ---- from the answer of the call
 
 pub cuts_file_as : {X E : Type 0} (r : Result X E) (raw raw' : Option ℕ) (limit : ℕ) (input : List ℕ)
-    (names : Naming) (bytes : List ℕ) (h h' h'' : Held) (a b c : World) (shows : ℕ → List Block → Type 0) → raw ≡ raw'
+    (names : Naming) (bytes : List ℕ) (h h' h'' : OpenFiles) (a b c : World) (shows : ℕ → List Block → Type 0) → raw ≡ raw'
     → h.begun ≡ []
     → OpensFile a input bytes h h' → b ≡ a
     → OnOk r (CutsImage raw' limit names bytes h' h'' b c shows)
@@ -264,7 +264,7 @@ cut_shown names limit size blocks world a b z same s = record {
 }
 
 pub cuts_shown : {X E : Type 0} (r : Result X E) (raw : Option ℕ) (limit : ℕ) (input : List ℕ) (names : Naming)
-    (h h' : Held) (a c : World) (p q z : Report) → IsSilent p q
+    (h h' : OpenFiles) (a c : World) (p q z : Report) → IsSilent p q
     → OnOk r (CutsFile raw limit input names h h' a c (ShowsCut names limit c q z))
     → OnOk r (CutsFile raw limit input names h h' a c (ShowsCut names limit c p z))
 cuts_shown (Err e) raw limit input names h h' a c p q z same cuts = tt
@@ -283,7 +283,7 @@ cuts_shown (Ok x) raw limit input names h h' a c p q z same cuts = record {
 
 pub refuses_file_as : (Unprinted : Type 0) (raw raw' : Option ℕ) (limit : ℕ) (input : List ℕ) (names : Naming)
     (bytes : List ℕ)
-    (fault : SparseCommandFault) (h h' h'' : Held) (a b c : World) → raw ≡ raw' → h.begun ≡ []
+    (fault : SparseCommandFault) (h h' h'' : OpenFiles) (a b c : World) → raw ≡ raw' → h.begun ≡ []
     → OpensFile a input bytes h h' → b ≡ a
     → StopsImage raw' limit bytes fault (HasFailed h' h'') Unprinted (c ≡ b)
     (λ ps n m. CutsSoFar names ps n m h' h'' b c)

@@ -21,14 +21,14 @@ use Rattle.abt_pieces.specs.Outline.{piece_blocks}
 use Rattle.abt_pieces.specs.Ready.{ReadyCutter}
 use Rattle.abt_pieces.specs.Turn.{HasAt}
 use Rattle.abt_pieces.specs.declared.outline.Piece.{Piece}
-use Rattle.abt_pieces.specs.declared.stage.Stage.{Stage}
-use Rattle.abt_pieces.specs.declared.stage.Stage.TheVariants.{Between}
+use Rattle.abt_pieces.specs.declared.stage.CutterStage.{CutterStage}
+use Rattle.abt_pieces.specs.declared.stage.CutterStage.TheVariants.{Between}
 use Rattle.abt_pieces.specs.declared.fault.PieceFault.{PieceFault}
 use Rattle.abt_pieces.specs.declared.fault.PieceFault.TheVariants as of_pieces
 use Rattle.sys_refusals.specs.Paths.{numbered}
 use Rattle.sys_refusals.specs.declared.refusal.HostFault.{HostFault}
 use Rattle.sys_refusals.specs.declared.refusal.HostFault.TheVariants as hosts
-use Rattle.sys_disk.specs.World.{World, Held, Ends, KeepsFile, Spares, SparesRest, HasFailed, HasNotFailed, ended}
+use Rattle.sys_disk.specs.World.{World, OpenFiles, Ends, KeepsFile, Spares, SparesRest, HasFailed, HasNotFailed, ended}
 use Rattle.sys_disk.specs.World.{failing}
 use Rattle.cmd_common_sparse.specs.Blocks.{IsRawBlockSize}
 use Rattle.cmd_common_sparse.specs.Lines.{line_text}
@@ -86,13 +86,13 @@ pub record IsFirstPiecePath (names : Naming) (m : ℕ) (path : List ℕ) : Type 
   pub is_path : path ≡ path_in_turn names (index + 1)
 
 -- of these pieces the one behind j others was begun, and stands whole under its name
-pub record PieceStands (names : Naming) (ps : List (List ℕ)) (j : ℕ) (held : Held) (world : World) : Type 0 where
+pub record PieceStands (names : Naming) (ps : List (List ℕ)) (j : ℕ) (held : OpenFiles) (world : World) : Type 0 where
   pub bytes : List ℕ
   pub is_next : HasAt ps j bytes
   pub made : IsMade held world (path_in_turn names (j + 1)) bytes
 
 -- so do the first n
-abbrev pub PiecesStand : Naming → List (List ℕ) → ℕ → Held → World → Type 0
+abbrev pub PiecesStand : Naming → List (List ℕ) → ℕ → OpenFiles → World → Type 0
 PiecesStand names ps n held world = (j : ℕ) → j < n → PieceStands names ps j held world
 
 -- no two of the first n have one file
@@ -102,7 +102,7 @@ AreApart names n world = (i j f : ℕ) → i < j → j < n → world.at (path_in
 
 -- From one moment of a run to another: the first n pieces stand, in files of their own, each synced where that is
 -- wanted. Nothing but the files of the first m was changed, and no output is open.
-pub record CutsSoFar (names : Naming) (ps : List (List ℕ)) (n m : ℕ) (held held' : Held) (old new : World)
+pub record CutsSoFar (names : Naming) (ps : List (List ℕ)) (n m : ℕ) (held held' : OpenFiles) (old new : World)
     : Type 0 where
   pub goes : GoesAmong (IsFirstPiecePath names m) held held' old new
   pub stand : PiecesStand names ps n held' new
@@ -149,7 +149,7 @@ pub record ShowsCut (names : Naming) (limit : ℕ) (world : World) (old new : Re
   pub count_told : ShowsCount names count world between new
 
 -- all of them stand, and their lines were printed
-pub record CutsAll (names : Naming) (ps : List (List ℕ)) (held held' : Held) (old new : World) (shows : Type 0)
+pub record CutsAll (names : Naming) (ps : List (List ℕ)) (held held' : OpenFiles) (old new : World) (shows : Type 0)
     : Type 0 where
   pub count : ℕ
   pub all : count ≡ length ps
@@ -157,17 +157,17 @@ pub record CutsAll (names : Naming) (ps : List (List ℕ)) (held held' : Held) (
   pub shown : shows
 
 -- no output is open, and what is read has not failed
-pub record IsUnbegun (held : Held) (reads : ℕ) : Type 0 where
+pub record IsUnbegun (held : OpenFiles) (reads : ℕ) : Type 0 where
   pub one : held.output ≡ None
   pub clean : reads ≡ 0
 
 -- only files at such paths were created or changed, and no output is open
-pub record OnlyLeaves (named : List ℕ → Type 0) (held held' : Held) (old new : World) : Type 0 where
+pub record OnlyLeaves (named : List ℕ → Type 0) (held held' : OpenFiles) (old new : World) : Type 0 where
   pub only : GoesAmong named held held' old new
   pub closed : held'.output ≡ None
 
 -- and it is done only where nothing has failed
-pub record LeavesPieces {X F : Type 0} (r : Result X F) (named : List ℕ → Type 0) (held held' : Held) (old new : World)
+pub record LeavesPieces {X F : Type 0} (r : Result X F) (named : List ℕ → Type 0) (held held' : OpenFiles) (old new : World)
     : Type 0 where
   pub left : OnlyLeaves named held held' old new
   pub clean : OnOk r (HasNotFailed held held')
@@ -176,24 +176,24 @@ pub record LeavesPieces {X F : Type 0} (r : Result X F) (named : List ℕ → Ty
 
 -- the next piece of an image is to be cut, and none is begun
 pub record ReadyPiece {R A : Type 0} (g : images.Ghosts R) (s : sources.Ghosts A) (image : R) (source : A)
-    (limit made : ℕ) (start : Cursor) (st : Stage) : Type 0 where
+    (limit made : ℕ) (start : Cursor) (st : CutterStage) : Type 0 where
   pub between : st ≡ Between
   pub ready : ReadyCutter g s image source limit made start st
 
 -- nor was any
 pub record ReadyFirstPiece {R A : Type 0} (g : images.Ghosts R) (s : sources.Ghosts A) (image : R) (source : A)
-    (limit made : ℕ) (start : Cursor) (st : Stage) : Type 0 where
+    (limit made : ℕ) (start : Cursor) (st : CutterStage) : Type 0 where
   pub first : made ≡ 0
   pub ready : ReadyPiece g s image source limit made start st
 
 -- what the piece is that was cut, and that what cuts, and the source, go on as they were
 pub record CutsPiece {X E : Type 0} (r : Result X E) (piece : X → Piece) {R A : Type 0} (g : images.Ghosts R)
     (s : sources.Ghosts A) (image image' : R) (source source' : A) (limit limit' made made' : ℕ) (start start' : Cursor)
-    (st' : Stage) : Type 0 where
+    (st' : CutterStage) : Type 0 where
   pub is_next : IfOk r (λ x. IsNext (g.count image) limit start.block start'.block made made' st' (piece x))
   pub cutter : SameCutter image image' limit limit' st'
-  pub content : IsTrue s.tells → s.content source' ≡ s.content source
-  pub told : IsTrue s.tells → ToldCutter (g.place image (s.content source)) (g.together image (s.content source))
+  pub content : IsTrue s.models → s.content source' ≡ s.content source
+  pub told : IsTrue s.models → ToldCutter (g.place image (s.content source)) (g.together image (s.content source))
       (g.size image) (g.list image (s.content source)) limit' made' start' st'
 
 -- the output that was open holds the piece behind so many others, and all other files are as before
@@ -203,7 +203,7 @@ pub record HoldsPiece (ps : List (List ℕ)) (made : ℕ) (output : Option ℕ) 
   pub ends : Ends output bytes old new
 
 -- the output that was open is closed, beside what is read: all was brought to its end exactly where nothing has failed
-pub record ClosesBeside (is_done : Bool) (reads reads' : ℕ) (old new : Held) : Type 0 where
+pub record ClosesBeside (is_done : Bool) (reads reads' : ℕ) (old new : OpenFiles) : Type 0 where
   pub failures : ℕ
   pub closed : new ≡ ended is_done failures old
   pub clean : is_done ≡ true → reads' + failures ≡ reads
@@ -212,14 +212,14 @@ pub record ClosesBeside (is_done : Bool) (reads reads' : ℕ) (old new : Held) :
 -- The output that was open is brought to its end and closed, beside what is read: where the answer is Ok it holds the
 -- piece behind so many others; no other file has changed; and where it is refused a device or a file was at fault.
 pub record PutsPiece {X E : Type 0} (r : Result X E) (fault : E → SparseCommandFault) (ps : List (List ℕ))
-    (made reads reads' : ℕ) (held held' : Held) (old new : World) : Type 0 where
+    (made reads reads' : ℕ) (held held' : OpenFiles) (old new : World) : Type 0 where
   pub holds : OnOk r (HoldsPiece ps made held.output old new)
   pub closed : ClosesBeside (is_ok r) reads reads' held held'
   pub rest : SparesRest held.output old new
   pub outside : IfErr r (λ refusal. IsOutsideSparse (fault refusal))
 
 -- the next piece stands under its name, in a file that was not begun before
-pub record AddsPiece (ps : List (List ℕ)) (made : ℕ) (path : List ℕ) (held held' : Held)
+pub record AddsPiece (ps : List (List ℕ)) (made : ℕ) (path : List ℕ) (held held' : OpenFiles)
     (old new : World) : Type 0 where
   pub bytes : List ℕ
   pub is_next : HasAt ps made bytes
@@ -230,7 +230,7 @@ pub record AddsPiece (ps : List (List ℕ)) (made : ℕ) (path : List ℕ) (held
   pub synced : held'.syncs ≡ held.syncs + (if held.is_synced then 1 else 0)
 
 -- it is not added: those that were begun before are as they were
-pub record AddsNone (held held' : Held) (old new : World) : Type 0 where
+pub record AddsNone (held held' : OpenFiles) (old new : World) : Type 0 where
   pub keeps : KeepsMade held held' old new
   pub is_synced : held'.is_synced ≡ held.is_synced
   pub synced : held'.syncs ≡ held.syncs
@@ -283,12 +283,12 @@ pub record IsTooSmall (fault : PieceFault) (limit : ℕ) (x : List ℕ) : Type 0
   pub short : limit < 64 + header.blk_sz
 
 -- calls were refused, and nothing else has changed
-pub record OnlyFails (old new : Held) : Type 0 where
+pub record OnlyFails (old new : OpenFiles) : Type 0 where
   pub failures : ℕ
   pub same : new ≡ failing failures old
 
 -- nor has any file
-pub record ChangesNoFile (held held' : Held) (old new : World) : Type 0 where
+pub record ChangesNoFile (held held' : OpenFiles) (old new : World) : Type 0 where
   pub fails : OnlyFails held held'
   pub world : new ≡ old
 
@@ -303,7 +303,7 @@ IsUncutSparse f limit x reads reads' = ⊥
 -- ---- an image and its pieces
 
 -- x is an image of these blocks, and all its pieces stand
-pub record CutsImage (raw : Option ℕ) (limit : ℕ) (names : Naming) (x : List ℕ) (held held' : Held) (old new : World)
+pub record CutsImage (raw : Option ℕ) (limit : ℕ) (names : Naming) (x : List ℕ) (held held' : OpenFiles) (old new : World)
     (shows : ℕ → List Block → Type 0) : Type 0 where
   pub size : ℕ
   pub blocks : List Block
@@ -315,7 +315,7 @@ pub record CutsImage (raw : Option ℕ) (limit : ℕ) (names : Naming) (x : List
 
 -- The first n pieces stand, each under its name, in a file that is none of the others and not the image's, synced where
 -- that is wanted. Nothing but the files of the first m was created or changed.
-pub record FirstStand (names : Naming) (from : ℕ) (held held' : Held) (old new : World) (ps : List (List ℕ)) (n m : ℕ)
+pub record FirstStand (names : Naming) (from : ℕ) (held held' : OpenFiles) (old new : World) (ps : List (List ℕ)) (n m : ℕ)
     : Type 0 where
   pub stand : PiecesStand names ps n held' new
   pub apart : AreApart names n new
@@ -324,7 +324,7 @@ pub record FirstStand (names : Naming) (from : ℕ) (held held' : Held) (old new
   pub only : OnlyAmong (IsFirstPiecePath names m) held.read held'.begun old new
 
 -- The file at one path held an image, and all its pieces stand. Their lines were printed, and how many they are.
-pub record CutsFile (raw : Option ℕ) (limit : ℕ) (input : List ℕ) (names : Naming) (held held' : Held) (old new : World)
+pub record CutsFile (raw : Option ℕ) (limit : ℕ) (input : List ℕ) (names : Naming) (held held' : OpenFiles) (old new : World)
     (shows : ℕ → List Block → Type 0) : Type 0 where
   pub from : ℕ
   pub there : old.at input ≡ Some from
@@ -339,7 +339,7 @@ pub record CutsFile (raw : Option ℕ) (limit : ℕ) (input : List ℕ) (names :
 
 -- What is left of files, whatever the outcome: only such files as pieces have were created or changed, IN holds what it
 -- held, and no output is open. It is done only where nothing has failed.
-pub record LeavesCut {X F : Type 0} (r : Result X F) (from prefix : List ℕ) (held held' : Held) (old new : World)
+pub record LeavesCut {X F : Type 0} (r : Result X F) (from prefix : List ℕ) (held held' : OpenFiles) (old new : World)
     : Type 0 where
   pub only : OnlyAmong (IsPiecePath prefix) held.read held'.begun old new
   pub input : KeepsFile from old new
@@ -348,7 +348,7 @@ pub record LeavesCut {X F : Type 0} (r : Result X F) (from prefix : List ℕ) (h
 
 -- why the command is refused: the file could not be opened, before anything was changed; or for what it holds
 pub data RefusesCut (raw : Option ℕ) (limit : ℕ) (input : List ℕ) (names : Naming) (fault : SparseCommandFault)
-    (held held' : Held) (old new : World) (Unprinted : Type 0) : Type 0 where
+    (held held' : OpenFiles) (old new : World) (Unprinted : Type 0) : Type 0 where
   unopened : (f : HostFault) → fault ≡ faults.Host f → HasFailed held held' → new ≡ old
       → RefusesCut raw limit input names fault held held' old new Unprinted
   opened : (from : ℕ) → old.at input ≡ Some from → StopsImage raw limit (old.holds from) fault (HasFailed held held')

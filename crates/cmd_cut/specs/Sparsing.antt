@@ -9,7 +9,7 @@ use Rattle.abt_pieces.specs.declared.fault.PieceFault.{PieceFault}
 use Rattle.abt_pieces.specs.declared.fault.PieceFault.TheVariants as pieces
 use Rattle.abt_placed.specs.Unfinished.{IsNoImage}
 use Rattle.abt_sparsify.specs.declared.count.Written.{Written}
-use Rattle.sys_disk.specs.World.{World, Held, ClosesOutput, KeepsFile, OnlyAt, Spares, SparesRest, HasFailed}
+use Rattle.sys_disk.specs.World.{World, OpenFiles, ClosesOutput, KeepsFile, OnlyAt, Spares, SparesRest, HasFailed}
 use Rattle.sys_disk.specs.World.{HasNotFailed, ended}
 use Rattle.cmd_common_sparse.specs.Blocks.{IsRawBlockSize, most_of}
 use Rattle.cmd_common_sparse.specs.declared.blocks.Blocks.{Blocks}
@@ -62,7 +62,7 @@ HoldsNoPartOfSparse input output size old new = (file : ℕ) → new.at output �
 -- anything else, the first holds what it held, no output is open, and a file that can be written over has no part of an
 -- image; after an Ok it was synced, where that is wanted, and nothing has failed.
 pub record LeavesImage {X F : Type 0} (r : Result X F) (from onto : List ℕ) (size : ℕ) (is_over : Bool)
-    (held held' : Held) (old new : World) : Type 0 where
+    (held held' : OpenFiles) (old new : World) : Type 0 where
   pub synced : OnOk r (held'.syncs ≡ held.syncs + (if held.is_synced then 1 else 0))
   pub others : OnlyAt held.read onto old new
   pub input : KeepsFile from old new
@@ -99,7 +99,7 @@ IsOutsideSparse (faults.Host f) = Unit {0}
 
 -- the block size is none that the file at this path has, which is told before anything is touched; or a device failed;
 -- or a call of the disk did, or all was done and the line could not be printed
-abbrev pub RefusesRaw : List ℕ → ℕ → World → World → Held → Held → Type 0 → SparseCommandFault → Type 0
+abbrev pub RefusesRaw : List ℕ → ℕ → World → World → OpenFiles → OpenFiles → Type 0 → SparseCommandFault → Type 0
 RefusesRaw path size old new held held' Done (faults.Run f) = HasNoBlocks path size old new f
 RefusesRaw path size old new held held' Done (faults.Piece f) = IsOfPieceDevices f × HasFailed held held'
 RefusesRaw path size old new held held' Done (faults.Host f) = HasFailed held held' ⊎ Done
@@ -110,7 +110,7 @@ RefusesRaw path size old new held held' Done (faults.OtherBlocks image) = ⊥
 RefusesRaw path size old new held held' Done (faults.OtherCut image) = ⊥
 
 -- the output that was open was let go, which had failed so often, or more often in the end; no other file has changed
-pub record GivesUp (faults : ℕ) (held held' : Held) (old new : World) : Type 0 where
+pub record GivesUp (faults : ℕ) (held held' : OpenFiles) (old new : World) : Type 0 where
   pub failures : ℕ
   pub closed : held' ≡ ended false failures held
   pub least : faults ≤ failures
@@ -123,20 +123,20 @@ pub record FitsBlocks (blocks : Blocks) (bytes : ℕ) : Type 0 where
   pub few : bytes ≤ (2 ^ 32 - 1) * blocks.size
 
 -- what is read is such an image, and has not failed
-pub record ReadyRawImage (tells : Bool) (blocks : Blocks) (bytes reads : ℕ) : Type 0 where
+pub record ReadyRawImage (models : Bool) (blocks : Blocks) (bytes reads : ℕ) : Type 0 where
   pub fits : FitsBlocks blocks bytes
-  pub read : IsTrue tells → reads ≡ 0
+  pub read : IsTrue models → reads ≡ 0
 
 -- nothing was written yet, and nothing has failed
-pub record ReadyOutput (tells : Bool) (written : List ℕ) (faults : ℕ) : Type 0 where
+pub record ReadyOutput (models : Bool) (written : List ℕ) (faults : ℕ) : Type 0 where
   pub empty : written ≡ []
-  pub clean : IsTrue tells → faults ≡ 0
+  pub clean : IsTrue models → faults ≡ 0
 
 -- both
-pub record ReadyToWrite (tells : Bool) (blocks : Blocks) (bytes reads : ℕ) (written : List ℕ) (faults : ℕ) : Type 0
+pub record ReadyToWrite (models : Bool) (blocks : Blocks) (bytes reads : ℕ) (written : List ℕ) (faults : ℕ) : Type 0
   where
-    pub image : ReadyRawImage tells blocks bytes reads
-    pub output : ReadyOutput tells written faults
+    pub image : ReadyRawImage models blocks bytes reads
+    pub output : ReadyOutput models written faults
 
 -- such an image can be written behind nothing
 pub record ReadyToLay (blocks : Blocks) (bytes : ℕ) (written : List ℕ) : Type 0 where
@@ -145,11 +145,11 @@ pub record ReadyToLay (blocks : Blocks) (bytes : ℕ) (written : List ℕ) : Typ
 
 -- Of devices that had failed so often before, and have now, none has failed more where all was done; and where it was
 -- not, one has, and the fault is theirs.
-pub record OnlyDevicesFail {X : Type 0} (r : Result X SparseCommandFault) (tells : Bool) (failed failed' : ℕ)
+pub record OnlyDevicesFail {X : Type 0} (r : Result X SparseCommandFault) (models : Bool) (failed failed' : ℕ)
     : Type 0 where
-  pub outside : IsTrue tells → IfErr r IsOutsideSparse
+  pub outside : IsTrue models → IfErr r IsOutsideSparse
   pub clean : OnOk r (failed' ≡ failed)
-  pub cause : IsTrue tells → OnErr r (failed < failed')
+  pub cause : IsTrue models → OnErr r (failed < failed')
 
 -- these are the numbers of the sparse image of these bytes, and behind nothing it was written
 pub record IsWritten (size : ℕ) (x : List ℕ) (a : Written) (bytes : List ℕ) : Type 0 where
@@ -159,10 +159,10 @@ pub record IsWritten (size : ℕ) (x : List ℕ) (a : Written) (bytes : List ℕ
   pub holds : bytes ≡ image_of_raw size x
 
 -- What a call leaves that writes it of devices that had failed so often before, and have now.
-pub record LaysSparseImage (r : Result Written SparseCommandFault) (tells : Bool) (size : ℕ) (x bytes : List ℕ)
+pub record LaysSparseImage (r : Result Written SparseCommandFault) (models : Bool) (size : ℕ) (x bytes : List ℕ)
     (failed failed' : ℕ) : Type 0 where
-  pub written : IsTrue tells → IfOk r (λ a. IsWritten size x a bytes)
-  pub fails : OnlyDevicesFail r tells failed failed'
+  pub written : IsTrue models → IfOk r (λ a. IsWritten size x a bytes)
+  pub fails : OnlyDevicesFail r models failed failed'
 
 -- the output that was open holds the sparse image of these bytes, which has these numbers
 abbrev pub HoldsWritten : ℕ → List ℕ → Written → Option ℕ → World → World → Type 0
@@ -177,7 +177,7 @@ LeavesNoneOrSparse size x (Some file) new = HoldsNoSparse (new.holds file) ⊎ (
 -- The output that was open is brought to its end and closed: where the answer is Ok it holds the sparse image of these
 -- bytes, which has these numbers; no other file has changed; and where it is refused a device or a file was at fault.
 pub record WritesSparseImage {F : Type 0} (r : Result (Written × Bool) F) (fault : F → SparseCommandFault) (size : ℕ)
-    (x : List ℕ) (held held' : Held) (old new : World) : Type 0 where
+    (x : List ℕ) (held held' : OpenFiles) (old new : World) : Type 0 where
   pub holds : IfOk r (λ end. HoldsWritten size x end.0 held.output old new)
   pub closed : ClosesOutput (is_ok r) held held'
   pub rest : SparesRest held.output old new

@@ -4,7 +4,7 @@ ghost use Rattle.std.specs.Prelude.{◌≡◌, ◌<◌, ◌≤◌, ◌+◌, [], 
 ghost use Rattle.sys_disk.specs.World.{HasFailed, IsReading};
 ghost use Rattle.abt_io.specs.Lent.{OnlyReads};
 ghost use Rattle.abt_pieces.specs.Cutter.{ToldCutter};
-ghost use Rattle.abt_pieces.specs.declared.stage.Stage.{Stage};
+ghost use Rattle.abt_pieces.specs.declared.stage.CutterStage.{CutterStage};
 ghost use Rattle.sys_refusals.specs.Paths.{path_of};
 ghost use Rattle.sys_report.specs.Shows.{CannotPrint};
 ghost use Rattle.abt_runs.specs.Sparse.{SparseOpened, SparsePlace, blocks_together, sparse_list};
@@ -13,14 +13,14 @@ ghost use Rattle.cmd_cut.specs.Cutting.{CutsFile, CutsImage, CutsSoFar, IsPieceP
 ghost use Rattle.cmd_cut.specs.Cutting.{LeavesCut, LeavesPieces, RefusesCut, ShowsCut, StopsImage};
 ghost use Rattle.cmd_common_sparse.specs.PieceNames.{naming_of};
 
-use crate::turns::cut_pieces;
-use sys_disk::{Disk, Lasting};
+use crate::cut_loop::cut_pieces;
 use abt_io::{Meter, Source, Window};
-use sys_refusals::{Place, Sides};
-use sys_report::Report;
 use abt_runs::{RunFault, SparseRuns};
 use abt_sparse::SparseFault;
 use cmd_common_sparse::{PieceNaming, PiecesOf, SparseCommandFault, SparseRefusal, raw_pieces};
+use sys_disk::{Disk, Lasting};
+use sys_refusals::{FileArg, Sides};
+use sys_report::Report;
 
 // How often a raw image is read whose pieces get each header before what it tells of, as a pipe and a device do: to plan a
 // piece, to find each run whole, and to copy it.
@@ -30,7 +30,7 @@ const RAW_PASSES: u64 = 3;
 #[derive(Clone, Copy, Drop)]
 pub struct Cutting<'a> {
     /// The image.
-    pub input: Place<'a>,
+    pub input: FileArg<'a>,
     /// How many bytes a piece has at most.
     pub limit: u32,
     /// How the files of the pieces are named.
@@ -52,17 +52,17 @@ pub fn cut_file<'a, D: Disk>(
     w: &mut Window,
     m: &mut Meter,
 ) -> Result<(), SparseRefusal<'a>>
-    requires first { IsTrue D.tells → IsReading (D.held disk.old) }
+    requires first { IsTrue D.models → IsReading (D.held disk.old) }
     // each piece of the image that IN holds stands under its name, in a file of its own
-    ensures done { IsTrue D.tells → OnOk result (CutsFile order.entry.raw order.entry.limit (path_of order.entry.input)
+    ensures done { IsTrue D.models → OnOk result (CutsFile order.entry.raw order.entry.limit (path_of order.entry.input)
         (naming_of order.entry.names) (D.held disk.old) (D.held disk.new) (D.world disk.old) (D.world disk.new)
         (ShowsCut (naming_of order.entry.names) order.entry.limit (D.world disk.new) report.old report.new)) }
     // whatever comes, only such files were created or changed, IN holds what it held, and no output is open; where it is
     // done nothing has failed
-    ensures leaves { IsTrue D.tells → LeavesCut result (path_of order.entry.input) order.entry.names.prefix.now
+    ensures leaves { IsTrue D.models → LeavesCut result (path_of order.entry.input) order.entry.names.prefix.now
         (D.held disk.old) (D.held disk.new) (D.world disk.old) (D.world disk.new) }
     // it is refused for what IN holds, for the limit, or for a fault of files or devices that came
-    ensures refused { IsTrue D.tells → IfErr result (λ refusal. RefusesCut order.entry.raw order.entry.limit
+    ensures refused { IsTrue D.models → IfErr result (λ refusal. RefusesCut order.entry.raw order.entry.limit
         (path_of order.entry.input) (naming_of order.entry.names) refusal.fault (D.held disk.old) (D.held disk.new)
         (D.world disk.old) (D.world disk.new) (CannotPrint report.old report.new)) }
 {
@@ -87,14 +87,14 @@ fn cut_raw<'a, D: Disk>(
     w: &mut Window,
     m: &mut Meter,
 ) -> Result<(), SparseRefusal<'a>>
-    requires fresh { IsTrue D.tells → IsUnbegun (D.held disk.old) (D.At.read_faults source) }
-    ensures done { IsTrue D.tells → OnOk result (CutsImage (Some size) order.entry.limit (naming_of order.entry.names)
+    requires fresh { IsTrue D.models → IsUnbegun (D.held disk.old) (D.At.read_faults source) }
+    ensures done { IsTrue D.models → OnOk result (CutsImage (Some size) order.entry.limit (naming_of order.entry.names)
         (D.At.content source)
         (D.held disk.old) (D.held disk.new) (D.world disk.old) (D.world disk.new)
         (ShowsCut (naming_of order.entry.names) order.entry.limit (D.world disk.new) report.old report.new)) }
-    ensures leaves { IsTrue D.tells → LeavesPieces result (IsPiecePath order.entry.names.prefix.now) (D.held disk.old)
+    ensures leaves { IsTrue D.models → LeavesPieces result (IsPiecePath order.entry.names.prefix.now) (D.held disk.old)
         (D.held disk.new) (D.world disk.old) (D.world disk.new) }
-    ensures refused { IsTrue D.tells → IfErr result (λ refusal. StopsImage (Some size) order.entry.limit
+    ensures refused { IsTrue D.models → IfErr result (λ refusal. StopsImage (Some size) order.entry.limit
         (D.At.content source) refusal.fault (HasFailed (D.held disk.old) (D.held disk.new)) (CannotPrint report.old
         report.new) (D.world disk.new ≡ D.world disk.old)
         (λ ps n m. CutsSoFar (naming_of order.entry.names) ps n m (D.held disk.old) (D.held disk.new) (D.world disk.old)
@@ -125,13 +125,13 @@ fn cut_sparse<'a, D: Disk>(
     w: &mut Window,
     m: &mut Meter,
 ) -> Result<(), SparseRefusal<'a>>
-    requires fresh { IsTrue D.tells → IsUnbegun (D.held disk.old) (D.At.read_faults source) }
-    ensures done { IsTrue D.tells → OnOk result (CutsImage None order.entry.limit (naming_of order.entry.names)
+    requires fresh { IsTrue D.models → IsUnbegun (D.held disk.old) (D.At.read_faults source) }
+    ensures done { IsTrue D.models → OnOk result (CutsImage None order.entry.limit (naming_of order.entry.names)
         (D.At.content source) (D.held disk.old) (D.held disk.new) (D.world disk.old) (D.world disk.new)
         (ShowsCut (naming_of order.entry.names) order.entry.limit (D.world disk.new) report.old report.new)) }
-    ensures leaves { IsTrue D.tells → LeavesPieces result (IsPiecePath order.entry.names.prefix.now) (D.held disk.old)
+    ensures leaves { IsTrue D.models → LeavesPieces result (IsPiecePath order.entry.names.prefix.now) (D.held disk.old)
         (D.held disk.new) (D.world disk.old) (D.world disk.new) }
-    ensures refused { IsTrue D.tells → IfErr result (λ refusal. StopsImage None order.entry.limit (D.At.content source)
+    ensures refused { IsTrue D.models → IfErr result (λ refusal. StopsImage None order.entry.limit (D.At.content source)
         refusal.fault (HasFailed (D.held disk.old) (D.held disk.new)) (CannotPrint report.old
         report.new) (D.world disk.new ≡ D.world disk.old)
         (λ ps n m. CutsSoFar (naming_of order.entry.names) ps n m (D.held disk.old) (D.held disk.new) (D.world disk.old)
@@ -166,16 +166,16 @@ fn sparse_pieces<S: Lasting>(
     m: &mut Meter,
 ) -> Result<PiecesOf<SparseRuns>, SparseCommandFault>
     ensures reads { OnlyReads result S.Source source.old source.new }
-    ensures begins { IfOk result (λ pieces. (pieces.cutter.made ≡ 0) × (pieces.cutter.stage ≡ Stage.Between)) }
+    ensures begins { IfOk result (λ pieces. (pieces.cutter.made ≡ 0) × (pieces.cutter.stage ≡ CutterStage.Between)) }
     ensures limit { IfOk result (λ pieces. pieces.cutter.limit ≡ limit) }
     ensures granted { IfOk result (λ pieces. 64 + pieces.cutter.runs.header.blk_sz ≤ limit) }
-    ensures opened { IsTrue S.tells → IfOk result (λ pieces. SparseOpened (view pieces.cutter.runs.header)
+    ensures opened { IsTrue S.models → IfOk result (λ pieces. SparseOpened (view pieces.cutter.runs.header)
         pieces.cutter.runs.length pieces.cutter.runs.image (S.content source.old)) }
-    ensures told { IsTrue S.tells → IfOk result (λ pieces. ToldCutter (SparsePlace (view pieces.cutter.runs.header)
+    ensures told { IsTrue S.models → IfOk result (λ pieces. ToldCutter (SparsePlace (view pieces.cutter.runs.header)
         (S.content source.old)) (blocks_together (view pieces.cutter.runs.header) (S.content source.old))
         pieces.cutter.runs.header.blk_sz (sparse_list (S.content source.old)) pieces.cutter.limit pieces.cutter.made
         pieces.cutter.start pieces.cutter.stage) }
-    ensures refused { IsTrue S.tells → IfErr result (λ fault. IsUncutSparse fault limit (S.content source.old)
+    ensures refused { IsTrue S.models → IfErr result (λ fault. IsUncutSparse fault limit (S.content source.old)
         (S.read_faults source.old) (S.read_faults source.new)) }
 {
     let runs = match SparseRuns::open(source, w, m) {

@@ -6,14 +6,14 @@ ghost use Rattle.abt_sparse.specs.Pieces.{pieces};
 ghost use Rattle.cmd_cut.specs.Cutting.{CutsPiece, ReadyPiece, NumbersOfPiece};
 ghost use Rattle.cmd_cut.specs.Sparsing.{OnlyDevicesFail};
 
-use sys_disk::Lasting;
 use abt_io::{FrontLast, Meter, Output, Overwrite, Window};
 use abt_pieces::{Cutter, Piece, PieceFault};
 use abt_placed::next_piece_at;
-use sys_refusals::HostFault;
-use sys_report::Carried;
 use abt_runs::{BlockRuns, RawRuns, SparseRuns};
 use cmd_common_sparse::SparseCommandFault;
+use sys_disk::Lasting;
+use sys_refusals::HostFault;
+use sys_report::Carried;
 
 /// Writes the next piece from its front on. It is refused where its source is shorter then than what was given of it.
 pub(crate) fn write_next<B: BlockRuns + Drop, S: Lasting, O: Output>(
@@ -27,15 +27,15 @@ pub(crate) fn write_next<B: BlockRuns + Drop, S: Lasting, O: Output>(
         cutter.old.start cutter.old.stage }
     requires empty { O.written output.old ≡ [] }
     // it is the piece behind those that are made
-    ensures laid { IsTrue S.tells → IfOk result (λ p. HasAt (pieces cutter.old.limit (B.size cutter.old.runs)
+    ensures laid { IsTrue S.models → IfOk result (λ p. HasAt (pieces cutter.old.limit (B.size cutter.old.runs)
         (B.list cutter.old.runs (S.content source.old.device))) cutter.old.made (O.written output.new)) }
-    ensures told { IsTrue S.tells → IfOk result (NumbersOfPiece cutter.old.limit (B.size cutter.old.runs)
+    ensures told { IsTrue S.models → IfOk result (NumbersOfPiece cutter.old.limit (B.size cutter.old.runs)
         (B.list cutter.old.runs (S.content source.old.device)) cutter.old.made) }
     ensures cuts { CutsPiece result (λ p. p) B.BlockRuns S.Source cutter.old.runs cutter.new.runs source.old.device
         source.new.device cutter.old.limit cutter.new.limit cutter.old.made cutter.new.made cutter.old.start
         cutter.new.start cutter.new.stage }
     // it is refused where one of the devices has failed
-    ensures fails { OnlyDevicesFail result S.tells (S.read_faults source.old.device + O.write_faults output.old)
+    ensures fails { OnlyDevicesFail result S.models (S.read_faults source.old.device + O.write_faults output.old)
         (S.read_faults source.new.device + O.write_faults output.new) }
 {
     let answer = cutter.next_piece(source, output, w, m);
@@ -77,15 +77,15 @@ pub(crate) trait LaysPieces: BlockRuns + Drop {
             cutter.old.start cutter.old.stage }
         requires empty { O.written image ≡ [] }
         // it is the piece behind those that are made
-        ensures laid { IsTrue S.tells → IfOk result.1 (λ p. HasAt (pieces cutter.old.limit (Self.size cutter.old.runs)
+        ensures laid { IsTrue S.models → IfOk result.1 (λ p. HasAt (pieces cutter.old.limit (Self.size cutter.old.runs)
             (Self.list cutter.old.runs (S.content source.old.device))) cutter.old.made (O.written result.0)) }
-        ensures told { IsTrue S.tells → IfOk result.1 (NumbersOfPiece cutter.old.limit (Self.size cutter.old.runs)
+        ensures told { IsTrue S.models → IfOk result.1 (NumbersOfPiece cutter.old.limit (Self.size cutter.old.runs)
             (Self.list cutter.old.runs (S.content source.old.device)) cutter.old.made) }
         ensures cuts { CutsPiece result.1 (λ p. p) Self.BlockRuns S.Source cutter.old.runs cutter.new.runs
             source.old.device source.new.device cutter.old.limit cutter.new.limit cutter.old.made cutter.new.made
             cutter.old.start cutter.new.start cutter.new.stage }
         // it is refused where one of the devices has failed
-        ensures fails { OnlyDevicesFail result.1 S.tells (S.read_faults source.old.device + O.write_faults image)
+        ensures fails { OnlyDevicesFail result.1 S.models (S.read_faults source.old.device + O.write_faults image)
             (S.read_faults source.new.device + O.write_faults result.0) };
 }
 

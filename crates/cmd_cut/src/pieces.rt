@@ -6,15 +6,15 @@ ghost use Rattle.cmd_cut.specs.Cutting.{AddsNone, AddsPiece, CutsPiece, OnlyLeav
 ghost use Rattle.cmd_cut.specs.Cutting.{NumbersOfPiece, cut_into};
 ghost use Rattle.cmd_cut.specs.Sparsing.{IsOutsideSparse, GivesUp, ReadyOutput};
 
-use crate::late_writes::stopped;
 use crate::next_piece::{LaysPieces, write_next};
-use sys_disk::{Disk, ImageTo, Lasting, Reasons, ended};
+use crate::stopped_command::stopped;
 use abt_io::{Meter, Window};
 use abt_pieces::Piece;
-use sys_refusals::{HostFault, HostRefusal, Place, Sides};
-use sys_report::{Carried, Progress};
 use abt_runs::BlockRuns;
 use cmd_common_sparse::{PiecesOf, SparseCommandFault, SparseRefusal};
+use sys_disk::{Disk, ImageTo, Lasting, Reasons, ended};
+use sys_refusals::{FileArg, HostFault, HostRefusal, Sides};
+use sys_report::{Carried, Progress};
 
 /// Writes the next piece to a file, which is created or emptied, and brings that to its end. What it is, and whether it
 /// is where standard output goes. A pipe or a device has the image read so many times.
@@ -22,26 +22,26 @@ pub(crate) fn put_piece<'a, D: Disk, B: BlockRuns + LaysPieces + Drop>(
     disk: &mut D,
     pieces: &mut PiecesOf<B>,
     source: &mut Carried<'_, D::At>,
-    place: Place<'a>,
+    place: FileArg<'a>,
     sides: Sides<'a>,
     passes: u64,
     w: &mut Window,
     m: &mut Meter,
 ) -> Result<(Piece, bool), SparseRefusal<'a>>
-    requires one { IsTrue D.tells → (D.held disk.old).output ≡ None }
+    requires one { IsTrue D.models → (D.held disk.old).output ≡ None }
     requires ready { ReadyPiece B.BlockRuns D.At.Source pieces.old.cutter.runs source.old.device
         pieces.old.cutter.limit pieces.old.cutter.made pieces.old.cutter.start pieces.old.cutter.stage }
     // its file is a new one, and holds it
-    ensures adds { IsTrue D.tells → OnOk result (AddsPiece (cut_into pieces.old.cutter.limit
+    ensures adds { IsTrue D.models → OnOk result (AddsPiece (cut_into pieces.old.cutter.limit
         (B.size pieces.old.cutter.runs) (B.list pieces.old.cutter.runs (D.At.content source.old.device)))
         pieces.old.cutter.made (path_out place.entry) (D.held disk.old) (D.held disk.new) (D.world disk.old)
         (D.world disk.new)) }
-    ensures keeps { IsTrue D.tells → OnErr result (AddsNone (D.held disk.old) (D.held disk.new) (D.world disk.old)
+    ensures keeps { IsTrue D.models → OnErr result (AddsNone (D.held disk.old) (D.held disk.new) (D.world disk.old)
         (D.world disk.new)) }
     // whatever comes, no other file was changed, and none is open
-    ensures left { IsTrue D.tells → OnlyLeaves (λ path. path ≡ path_out place.entry) (D.held disk.old)
+    ensures left { IsTrue D.models → OnlyLeaves (λ path. path ≡ path_out place.entry) (D.held disk.old)
         (D.held disk.new) (D.world disk.old) (D.world disk.new) }
-    ensures told { IsTrue D.tells → IfOk result (λ end. NumbersOfPiece pieces.old.cutter.limit
+    ensures told { IsTrue D.models → IfOk result (λ end. NumbersOfPiece pieces.old.cutter.limit
         (B.size pieces.old.cutter.runs) (B.list pieces.old.cutter.runs (D.At.content source.old.device))
         pieces.old.cutter.made end.0) }
     ensures cuts { CutsPiece result (λ end. end.0) B.BlockRuns D.At.Source pieces.old.cutter.runs
@@ -49,10 +49,10 @@ pub(crate) fn put_piece<'a, D: Disk, B: BlockRuns + LaysPieces + Drop>(
         pieces.old.cutter.made pieces.new.cutter.made pieces.old.cutter.start pieces.new.cutter.start
         pieces.new.cutter.stage }
     // it is refused where something has failed
-    ensures outside { IsTrue D.tells → IfErr result (λ refusal. IsOutsideSparse refusal.fault) }
-    ensures clean { IsTrue D.tells → OnOk result ((D.held disk.new).failed + D.At.read_faults source.new.device
+    ensures outside { IsTrue D.models → IfErr result (λ refusal. IsOutsideSparse refusal.fault) }
+    ensures clean { IsTrue D.models → OnOk result ((D.held disk.new).failed + D.At.read_faults source.new.device
         ≡ (D.held disk.old).failed + D.At.read_faults source.old.device) }
-    ensures cause { IsTrue D.tells → OnErr result ((D.held disk.old).failed + D.At.read_faults source.old.device
+    ensures cause { IsTrue D.models → OnErr result ((D.held disk.old).failed + D.At.read_faults source.old.device
         < (D.held disk.new).failed + D.At.read_faults source.new.device) }
 {
     let image = disk.image(place, true)?;
@@ -88,19 +88,19 @@ fn put_in_file<'a, D: Disk, B: BlockRuns + LaysPieces + Drop>(
     pieces: &mut PiecesOf<B>,
     source: &mut Carried<'_, D::At>,
     image: D::Image,
-    place: Place<'a>,
+    place: FileArg<'a>,
     sides: Sides<'a>,
     w: &mut Window,
     m: &mut Meter,
 ) -> Result<(Piece, bool), SparseRefusal<'a>>
-    requires output { ReadyOutput D.tells (D.Image.Output.written image) (D.Image.Output.write_faults image) }
+    requires output { ReadyOutput D.models (D.Image.Output.written image) (D.Image.Output.write_faults image) }
     requires ready { ReadyPiece B.BlockRuns D.At.Source pieces.old.cutter.runs source.old.device
         pieces.old.cutter.limit pieces.old.cutter.made pieces.old.cutter.start pieces.old.cutter.stage }
-    ensures puts { IsTrue D.tells → PutsPiece result (λ refusal. refusal.fault) (cut_into pieces.old.cutter.limit
+    ensures puts { IsTrue D.models → PutsPiece result (λ refusal. refusal.fault) (cut_into pieces.old.cutter.limit
         (B.size pieces.old.cutter.runs) (B.list pieces.old.cutter.runs (D.At.content source.old.device)))
         pieces.old.cutter.made (D.At.read_faults source.old.device) (D.At.read_faults source.new.device)
         (D.held disk.old) (D.held disk.new) (D.world disk.old) (D.world disk.new) }
-    ensures told { IsTrue D.tells → IfOk result (λ end. NumbersOfPiece pieces.old.cutter.limit
+    ensures told { IsTrue D.models → IfOk result (λ end. NumbersOfPiece pieces.old.cutter.limit
         (B.size pieces.old.cutter.runs) (B.list pieces.old.cutter.runs (D.At.content source.old.device))
         pieces.old.cutter.made end.0) }
     ensures cuts { CutsPiece result (λ end. end.0) B.BlockRuns D.At.Source pieces.old.cutter.runs
@@ -125,19 +125,19 @@ fn put_in_stream<'a, D: Disk, B: BlockRuns + LaysPieces + Drop>(
     pieces: &mut PiecesOf<B>,
     source: &mut Carried<'_, D::At>,
     onto: D::Onto,
-    place: Place<'a>,
+    place: FileArg<'a>,
     sides: Sides<'a>,
     w: &mut Window,
     m: &mut Meter,
 ) -> Result<(Piece, bool), SparseRefusal<'a>>
-    requires output { ReadyOutput D.tells (D.Onto.written onto) (D.Onto.write_faults onto) }
+    requires output { ReadyOutput D.models (D.Onto.written onto) (D.Onto.write_faults onto) }
     requires ready { ReadyPiece B.BlockRuns D.At.Source pieces.old.cutter.runs source.old.device
         pieces.old.cutter.limit pieces.old.cutter.made pieces.old.cutter.start pieces.old.cutter.stage }
-    ensures puts { IsTrue D.tells → PutsPiece result (λ refusal. refusal.fault) (cut_into pieces.old.cutter.limit
+    ensures puts { IsTrue D.models → PutsPiece result (λ refusal. refusal.fault) (cut_into pieces.old.cutter.limit
         (B.size pieces.old.cutter.runs) (B.list pieces.old.cutter.runs (D.At.content source.old.device)))
         pieces.old.cutter.made (D.At.read_faults source.old.device) (D.At.read_faults source.new.device)
         (D.held disk.old) (D.held disk.new) (D.world disk.old) (D.world disk.new) }
-    ensures told { IsTrue D.tells → IfOk result (λ end. NumbersOfPiece pieces.old.cutter.limit
+    ensures told { IsTrue D.models → IfOk result (λ end. NumbersOfPiece pieces.old.cutter.limit
         (B.size pieces.old.cutter.runs) (B.list pieces.old.cutter.runs (D.At.content source.old.device))
         pieces.old.cutter.made end.0) }
     ensures cuts { CutsPiece result (λ end. end.0) B.BlockRuns D.At.Source pieces.old.cutter.runs
@@ -151,8 +151,8 @@ fn put_in_stream<'a, D: Disk, B: BlockRuns + LaysPieces + Drop>(
 }
 
 // Lets an image go whose magic could not be laid.
-fn unended<'a, D: Disk>(disk: &mut D, image: D::Image, place: Place<'a>) -> SparseRefusal<'a>
-    ensures closed { IsTrue D.tells → GivesUp (D.Image.Output.write_faults image) (D.held disk.old) (D.held disk.new)
+fn unended<'a, D: Disk>(disk: &mut D, image: D::Image, place: FileArg<'a>) -> SparseRefusal<'a>
+    ensures closed { IsTrue D.models → GivesUp (D.Image.Output.write_faults image) (D.held disk.old) (D.held disk.new)
         (D.world disk.old) (D.world disk.new) }
     ensures outside { IsOutsideSparse result.fault }
 {

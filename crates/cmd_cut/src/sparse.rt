@@ -7,13 +7,13 @@ ghost use Rattle.sys_refusals.specs.Paths.{path_of, path_out};
 ghost use Rattle.cmd_common_sparse.specs.Lines.{line_text};
 ghost use Rattle.cmd_cut.specs.Sparsing.{LeavesImage, RefusesRaw, SparsifiesFile};
 
-use crate::writing::write_whole;
-use sys_disk::Disk;
+use crate::write_image::write_whole;
 use abt_io::{Meter, Source, Window};
-use sys_refusals::{HostRefusal, Place, Sides};
-use sys_report::Report;
 use abt_sparsify::Written;
 use cmd_common_sparse::{Line, SparseCommandFault, SparseRefusal, blocks_of};
+use sys_disk::Disk;
+use sys_refusals::{FileArg, HostRefusal, Sides};
+use sys_report::Report;
 
 /// Writes the sparse image of a raw one, and prints what it has.
 ///
@@ -22,23 +22,23 @@ use cmd_common_sparse::{Line, SparseCommandFault, SparseRefusal, blocks_of};
 pub fn sparse_file<'a, D: Disk>(
     disk: &mut D,
     report: &mut Report,
-    input: Place<'a>,
-    output: Place<'a>,
+    input: FileArg<'a>,
+    output: FileArg<'a>,
     block: u32,
     w: &mut Window,
     m: &mut Meter,
 ) -> Result<(), SparseRefusal<'a>>
-    requires first { IsTrue D.tells → IsReading (D.held disk.old) }
+    requires first { IsTrue D.models → IsReading (D.held disk.old) }
     // OUT is another file than IN, and holds the sparse image of what IN holds; what was printed tells of it
-    ensures done { IsTrue D.tells → OnOk result (SparsifiesFile (path_of input.entry) (path_out output.entry) block
+    ensures done { IsTrue D.models → OnOk result (SparsifiesFile (path_of input.entry) (path_out output.entry) block
         (D.world disk.old) (D.world disk.new) (ShowsBeside (D.on_output (path_out output.entry)) report.old report.new)) }
     // whatever the outcome, OUT alone may hold anything else, IN holds what it held, and a file has no part of an image;
     // where all is done OUT was synced, where that is wanted, and nothing has failed
-    ensures left { IsTrue D.tells → LeavesImage result (path_of input.entry) (path_out output.entry) block
+    ensures left { IsTrue D.models → LeavesImage result (path_of input.entry) (path_out output.entry) block
         (D.is_over (path_out output.entry)) (D.held disk.old) (D.held disk.new) (D.world disk.old) (D.world disk.new) }
     // it is refused for a block size that IN hasn't, before anything is touched, or for a fault of files or devices that
     // came, or where all is done and can't be told
-    ensures refused { IsTrue D.tells → IfErr result (λ refusal. RefusesRaw (path_of input.entry) block
+    ensures refused { IsTrue D.models → IfErr result (λ refusal. RefusesRaw (path_of input.entry) block
         (D.world disk.old) (D.world disk.new) (D.held disk.old) (D.held disk.new)
         (SparsifiesFile (path_of input.entry) (path_out output.entry) block (D.world disk.old) (D.world disk.new)
         (Unprinted report.old report.new)) refusal.fault) }

@@ -12,7 +12,7 @@ use Rattle.abt_sparse.specs.declared.fault.SparseFault.TheVariants as of_sparse
 use Rattle.abt_chunks.specs.Cause.{Clean}
 use Rattle.abt_chunks.specs.Expanding.{ExpandingRises, UnlessExpandingDevice}
 use Rattle.abt_chunks.specs.Whole.{Expansion, Refusal}
-use Rattle.sys_disk.specs.World.{World, Held, Spares, OpensFile, Creates, Ends, SparesRest, HasFailed, HasNotFailed}
+use Rattle.sys_disk.specs.World.{World, OpenFiles, Spares, OpensFile, Creates, Ends, SparesRest, HasFailed, HasNotFailed}
 use Rattle.sys_disk.specs.World.{OnlyAt, failing, ended, unended}
 use Rattle.sys_disk.proofs.Worlds.{apart, kept_behind, only_behind, spares_trans}
 use Rattle.cmd_common_sparse.specs.declared.lines.Line.TheVariants as lines
@@ -24,17 +24,17 @@ use Rattle.cmd_expand.specs.Expanding.{FromHost, OfDevice}
 
 -- ---- what was read is let go before the output is at its end
 
-pub rest_behind : (n : ℕ) (h h' : Held) (a b c : World) → h' ≡ failing n h → b ≡ a → SparesRest h'.output b c
+pub rest_behind : (n : ℕ) (h h' : OpenFiles) (a b c : World) → h' ≡ failing n h → b ≡ a → SparesRest h'.output b c
     → SparesRest h.output a c
 rest_behind n h h' a b c gone same rest =
     subst (λ w. SparesRest h.output w c) same (subst (λ k. SparesRest k.output b c) gone rest)
 
-pub ends_behind : (bytes : List ℕ) (n : ℕ) (h h' : Held) (a b c : World) → h' ≡ failing n h → b ≡ a
+pub ends_behind : (bytes : List ℕ) (n : ℕ) (h h' : OpenFiles) (a b c : World) → h' ≡ failing n h → b ≡ a
     → Ends h'.output bytes b c → Ends h.output bytes a c
 ends_behind bytes n h h' a b c gone same ends =
     subst (λ w. Ends h.output bytes w c) same (subst (λ k. Ends k.output bytes b c) gone ends)
 
-pub synced_once : (input path bytes : List ℕ) (h h1 h2 h3 h4 : Held) (w a b : World) (r n : ℕ)
+pub synced_once : (input path bytes : List ℕ) (h h1 h2 h3 h4 : OpenFiles) (w a b : World) (r n : ℕ)
     → OpensFile w input bytes h h1 → Creates path h1 h2 a b → h3 ≡ failing r h2 → h4 ≡ ended true n h3
     → h4.syncs ≡ h.syncs + (if h.is_synced then 1 else 0)
 synced_once input path bytes h h1 h2 h3 h4 w a b r n opened made gone closed =
@@ -43,7 +43,7 @@ synced_once input path bytes h h1 h2 h3 h4 w a b r n opened made gone closed =
     ∙ ap (λ k. k.syncs + (if k.is_synced then 1 else 0)) opened.taken
 
 -- an image that was read whole, and whose expansion an output holds that was brought to its end
-pub expands : (input path bytes x y rest : List ℕ) (h h' h'' : Held) (a a' b c : World) (e : Expanded)
+pub expands : (input path bytes x y rest : List ℕ) (h h' h'' : OpenFiles) (a a' b c : World) (e : Expanded)
     (shows : List ℕ → Type 0) → OpensFile a input x h h' → a' ≡ a → Creates path h' h'' a' b
     → Ends h''.output bytes b c → y ≡ [] → Expansion e y bytes x rest
     → shows (line_text (lines.Expanded e.blocks e.bytes) ++ (10 ∷ [])) → ExpandsFile input path a c shows
@@ -68,7 +68,7 @@ expands input path bytes x y rest h h' h'' a a' b c e shows opened same made end
     }
 
 -- whatever the outcome
-pub leaves_expanded : {X F : Type 0} (r : Result X F) (input path bytes : List ℕ) (h h1 k : Held) (a a1 c : World)
+pub leaves_expanded : {X F : Type 0} (r : Result X F) (input path bytes : List ℕ) (h h1 k : OpenFiles) (a a1 c : World)
     → OpensFile a input bytes h h1 → a1 ≡ a → OnlyAt h1.read path a1 c → k.output ≡ None
     → OnOk r (HasNotFailed h k) → LeavesExpanded r input path h k a c
 leaves_expanded r input path bytes h h1 k a a1 c opened same only closed clean = record {
@@ -81,7 +81,7 @@ leaves_expanded r input path bytes h h1 k a a1 c opened same only closed clean =
 -- ---- what has failed
 
 -- an input and an output were opened; the input was let go, the output closed; so much has failed since
-pub failed_behind : (input path bytes : List ℕ) (h h1 h2 h3 h4 : Held) (w a b : World) (r n : ℕ) (done : Bool)
+pub failed_behind : (input path bytes : List ℕ) (h h1 h2 h3 h4 : OpenFiles) (w a b : World) (r n : ℕ) (done : Bool)
     → OpensFile w input bytes h h1 → Creates path h1 h2 a b → h3 ≡ failing r h2 → h4 ≡ ended done n h3
     → h4.failed ≡ h.failed + (r + n)
 failed_behind input path bytes h h1 h2 h3 h4 w a b r n done opened made gone closed =
@@ -98,7 +98,7 @@ of_image (of_sparse.Read d) risen failed P Q up go rose is = up rose
 of_image (of_sparse.Write d) risen failed P Q up go rose is = up rose
 of_image f risen failed P Q up go rose is = go is
 
-own : (untold : List ℕ → Type 0) (input path x old new : List ℕ) (h h1 k : Held) (a c : World) (f : SparseCommandFault)
+own : (untold : List ℕ → Type 0) (input path x old new : List ℕ) (h h1 k : OpenFiles) (a c : World) (f : SparseCommandFault)
     (r0 r w w' : ℕ)
     → OpensFile a input x h h1 → r0 ≡ 0 → w ≡ 0 → k.failed ≡ h.failed + (r + w')
     → ExpandingSays (Err f) x old new → Blames (Err f) r0 r w w' → RefusesFile f input path a c h k untold
@@ -122,21 +122,21 @@ own untold input path x old new h h1 k a c (faults.OtherCut f) r0 r w w' opened 
 own untold input path x old new h h1 k a c (faults.Host f) r0 r w w' opened first none count says blames = absurd says
 
 -- a fault of files, behind which something has failed
-pub of_failed : (untold : List ℕ → Type 0) (input path : List ℕ) (a c : World) (h k : Held) (r : SparseCommandFault)
+pub of_failed : (untold : List ℕ → Type 0) (input path : List ℕ) (a c : World) (h k : OpenFiles) (r : SparseCommandFault)
     → FromHost r → HasFailed h k
     → RefusesFile r input path a c h k untold
 of_failed untold input path a c h k r made failed =
     subst (λ f. RefusesFile f input path a c h k untold) (sym made.1) (inl failed)
 
 -- or all was done, but the line could not be printed
-pub of_unprinted : (untold : List ℕ → Type 0) (input path : List ℕ) (a c : World) (h k : Held)
+pub of_unprinted : (untold : List ℕ → Type 0) (input path : List ℕ) (a c : World) (h k : OpenFiles)
     (r : SparseCommandFault) → FromHost r
     → ExpandsFile input path a c untold → RefusesFile r input path a c h k untold
 of_unprinted untold input path a c h k r made done =
     subst (λ f. RefusesFile f input path a c h k untold) (sym made.1) (inr done)
 
 -- the call was refused, or the end of the output was
-pub refuses : (untold : List ℕ → Type 0) (input path x old new : List ℕ) (h h1 k : Held) (a c : World)
+pub refuses : (untold : List ℕ → Type 0) (input path x old new : List ℕ) (h h1 k : OpenFiles) (a c : World)
     (answer : Result Expanded SparseCommandFault) (told : SparseCommandFault)
     (r0 r w w' : ℕ) → OpensFile a input x h h1 → r0 ≡ 0 → w ≡ 0
     → k.failed ≡ h.failed + (r + (unended (is_ok answer) false + w')) → ExpandingSays answer x old new
@@ -150,19 +150,19 @@ refuses untold input path x old new h h1 k a c (Err f) told r0 r w w' opened fir
     (own untold input path x old new h h1 k a c f r0 r w w' opened first none so says blames)
 
 -- it was done, and then nothing has failed
-pub clean_behind : (answer : Result Expanded SparseCommandFault) (e : Expanded) (h k : Held) (r0 r w w' : ℕ)
+pub clean_behind : (answer : Result Expanded SparseCommandFault) (e : Expanded) (h k : OpenFiles) (r0 r w w' : ℕ)
     → answer ≡ Ok e → Blames answer r0 r w w' → r0 ≡ 0 → w ≡ 0
     → k.failed ≡ h.failed + (r + (unended (is_ok answer) true + w')) → HasNotFailed h k
 clean_behind (Ok x) e h k r0 r w w' is blames first none count = omega (arith, blames.0, blames.1, first, none, count)
 clean_behind (Err f) e h k r0 r w w' is blames first none count = absurd (false≢true (ap is_ok is))
 
 -- a call was refused
-pub failed_first : (h k : Held) → k ≡ failing 1 h → HasFailed h k
+pub failed_first : (h k : OpenFiles) → k ≡ failing 1 h → HasFailed h k
 failed_first h k refused =
     let up : k.failed ≡ h.failed + 1 = ap (λ q. q.failed) refused in
     omega (arith, up)
 
-pub failed_second : (input bytes : List ℕ) (w : World) (h h1 k : Held) → OpensFile w input bytes h h1 → k ≡ failing 1 h1
+pub failed_second : (input bytes : List ℕ) (w : World) (h h1 k : OpenFiles) → OpensFile w input bytes h h1 → k ≡ failing 1 h1
     → HasFailed h k
 failed_second input bytes w h h1 k opened refused =
     let first : h1.failed ≡ h.failed = ap (λ q. q.failed) opened.taken in

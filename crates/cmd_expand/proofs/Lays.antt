@@ -14,7 +14,7 @@ use Rattle.abt_flash_faults.specs.declared.fault.FlashFault.TheVariants as flash
 use Rattle.abt_flash.specs.declared.stage.Flashed.{Flashed}
 use Rattle.abt_flash_faults.specs.Fault.{FlashCause, FlashingRises}
 use Rattle.abt_flash.specs.Flashing.{Flashes, Holds}
-use Rattle.sys_disk.specs.World.{Held, failing}
+use Rattle.sys_disk.specs.World.{OpenFiles, failing}
 use Rattle.cmd_common_sparse.specs.declared.fault.SparseCommandFault.{SparseCommandFault}
 use Rattle.cmd_common_sparse.specs.declared.fault.SparseCommandFault.TheVariants as faults
 use Rattle.cmd_expand.specs.Overlaying.{IsImageOf}
@@ -87,20 +87,20 @@ raised (flashes.NoSuchPiece k) n n' m is = absurd is
 
 -- ---- what is let go
 
-pub let_go_fails : (h h' : Held) (r : ℕ) → h' ≡ failing r h → FailsAlone h h'
+pub let_go_fails : (h h' : OpenFiles) (r : ℕ) → h' ≡ failing r h → FailsAlone h h'
 let_go_fails h h' r gone =
     let up : h'.failed ≡ h.failed + r = ap (λ k. k.failed) gone in
     record { same = gone ∙ ap (λ n. record h { failed = n }) (sym up); grown = omega (arith, up) }
 
-pub fails_none : (h h' : Held) → h' ≡ h → FailsAlone h h'
+pub fails_none : (h h' : OpenFiles) → h' ≡ h → FailsAlone h h'
 fails_none h h' same =
     let even : h'.failed ≡ h.failed = ap (λ k. k.failed) same in
     record { same = same ∙ ap (λ n. record h { failed = n }) (sym even); grown = omega (arith, even) }
 
-abbrev pub failed_so : ℕ → Held → Held
+abbrev pub failed_so : ℕ → OpenFiles → OpenFiles
 failed_so n h = record h { failed = n }
 
-pub fails_then : (h h1 h2 : Held) → FailsAlone h h1 → FailsAlone h1 h2 → FailsAlone h h2
+pub fails_then : (h h1 h2 : OpenFiles) → FailsAlone h h1 → FailsAlone h1 h2 → FailsAlone h h2
 fails_then h h1 h2 first then_more = record {
   same = then_more.same ∙ ap (failed_so h2.failed) first.same;
   grown = omega (arith, first.grown, then_more.grown);
@@ -137,14 +137,14 @@ synced_if (Ok e) n n' is = is
 synced_if (Err f) n n' is = tt
 
 -- it was let go, and nothing has failed
-pub even_behind : (h h' : Held) (r r' p p' : ℕ) → h' ≡ failing r' h → r' ≡ r → p' ≡ p
+pub even_behind : (h h' : OpenFiles) (r r' p p' : ℕ) → h' ≡ failing r' h → r' ≡ r → p' ≡ p
     → h'.failed + p' ≡ h.failed + p + r
 even_behind h h' r r' p p' gone same even =
     let up : h'.failed ≡ h.failed + r' = ap (λ k. k.failed) gone in
     omega (arith, up, same, even)
 
 -- it was let go, and something had failed
-pub blamed_behind : (a : Result Flashed FlashFault) (f : FlashFault) (told : SparseCommandFault) (h h' : Held)
+pub blamed_behind : (a : Result Flashed FlashFault) (f : FlashFault) (told : SparseCommandFault) (h h' : OpenFiles)
     (r r' p p' : ℕ) → a ≡ Err f → told ≡ faults.Flash f → h' ≡ failing r' h
     → IfErr a (λ g. IsNotFlashed g (p + r) (p' + r')) → IsNotLaid told (h.failed + p + r) (h'.failed + p')
 blamed_behind a f told h h' r r' p p' is named gone why =

@@ -15,14 +15,14 @@ use Rattle.abt_sparse.specs.View.{view}
 use Rattle.abt_sparse.proofs.Exactly.{is_so}
 use Rattle.abt_runs.specs.declared.part.RunFault.{RunFault}
 use Rattle.abt_runs.specs.declared.part.RunFault.TheVariants as of_runs
-use Rattle.abt_runs.specs.declared.stage.Stage.TheVariants as stages
+use Rattle.abt_runs.specs.declared.stage.OpeningStage.TheVariants as stages
 use Rattle.abt_runs.specs.Part.{RunCaused}
 use Rattle.abt_runs.specs.Sparse.{SparseOpened, sparse_list}
 use Rattle.abt_runs.specs.Verdict.{CausedAt, Refuses}
-use Rattle.sys_disk.specs.World.{World, Held, OpensFile, HasFailed, failing, reading}
+use Rattle.sys_disk.specs.World.{World, OpenFiles, OpensFile, HasFailed, failing, reading}
 use Rattle.cmd_common_sparse.specs.declared.fault.SparseCommandFault.{SparseCommandFault}
 use Rattle.cmd_common_sparse.specs.declared.fault.SparseCommandFault.TheVariants as faults
-use Rattle.cmd_expand.specs.declared.opening.Shape.{Shape}
+use Rattle.cmd_expand.specs.declared.open_images.Shape.{Shape}
 use Rattle.cmd_expand.specs.Expanding.{FromHost}
 use Rattle.cmd_expand.specs.declared.cut_of.CutPiece.{CutPiece}
 use Rattle.cmd_expand.specs.CutOf.{IsOtherCut, NextPiece, Said, TellsPiece, TellsPieces, is_of_other_cut}
@@ -61,7 +61,7 @@ not_read of_runs.SourceChanged x r r' Same bytes refuses cause = absurd refuses
 not_read (of_runs.BadBlock n) x r r' Same bytes refuses cause = absurd cause
 
 -- it was opened, and let go where its shape was not found
-pub not_opened : (f : SparseCommandFault) (path x : List ℕ) (a : World) (h h1 h2 : Held) (r r' : ℕ)
+pub not_opened : (f : SparseCommandFault) (path x : List ℕ) (a : World) (h h1 h2 : OpenFiles) (r r' : ℕ)
     → OpensFile a path x h h1 → r ≡ 0 → h2 ≡ failing r' h1 → IsNotRead f x r r' → IsNotOpened f path a h h2
 not_opened (faults.Run (of_runs.Sparse f)) path x a h h1 h2 r r' opened none gone is = record {
   file = opened.file;
@@ -85,7 +85,7 @@ not_opened (faults.OtherCut n) path x a h h1 h2 r r' opened none gone is = absur
 not_opened (faults.Host f) path x a h h1 h2 r r' opened none gone is = absurd is
 
 -- the blocks that the file at its path gives are those of its bytes
-file_gives : (path x : List ℕ) (a : World) (h h' : Held) (n : ℕ) → OpensFile a path x h h' → GivesBlock x n
+file_gives : (path x : List ℕ) (a : World) (h h' : OpenFiles) (n : ℕ) → OpensFile a path x h h' → GivesBlock x n
     → FileGives a path n
 file_gives path x a h h' n opened is = record {
   file = opened.file;
@@ -93,13 +93,13 @@ file_gives path x a h h' n opened is = record {
   gives = subst (λ z. GivesBlock z n) opened.held is;
 }
 
-gives_file : (path x : List ℕ) (a : World) (h h' : Held) (n : ℕ) → OpensFile a path x h h' → FileGives a path n
+gives_file : (path x : List ℕ) (a : World) (h h' : OpenFiles) (n : ℕ) → OpensFile a path x h h' → FileGives a path n
     → GivesBlock x n
 gives_file path x a h h' n opened is =
     let same : is.file ≡ opened.file = ap (λ o. unwrap_or o 0) (sym is.there ∙ opened.there) in
     subst (λ z. GivesBlock z n) (ap a.holds same ∙ sym opened.held) is.gives
 
-pub tells_file : (o : Option CutPiece) (path word x : List ℕ) (a : World) (h h' : Held) → OpensFile a path x h h'
+pub tells_file : (o : Option CutPiece) (path word x : List ℕ) (a : World) (h h' : OpenFiles) → OpensFile a path x h h'
     → word ≡ path → TellsPiece o word (GivesBlock x) → TellsPiece o path (FileGives a path)
 tells_file o path word x a h h' opened same is =
     piece_alike o path (GivesBlock x) (FileGives a path) (λ n. file_gives path x a h h' n opened)
@@ -114,20 +114,20 @@ tells_bytes o path x h long image bytes opened is =
     (λ n. said_gives x (view h) opened.chunks opened.rest n spelled) (λ n. gives_said x n) is
 
 -- walking it was refused
-pub not_walked : (e : RunFault) (x : List ℕ) (tells : Bool) (r0 r r' : ℕ) → tells ≡ true → r ≡ r0
-    → RunCaused e tells r r' → IsNotRead (faults.Run e) x r0 r'
-not_walked (of_runs.Sparse f) x tells r0 r r' t same cause = absurd cause
-not_walked (of_runs.Read d) x tells r0 r r' t same cause = let up = cause.0 in omega (arith, same, up)
-not_walked of_runs.TooLarge x tells r0 r r' t same cause = absurd cause
-not_walked of_runs.SourceChanged x tells r0 r r' t same cause = absurd (false≢true (sym cause ∙ t))
-not_walked (of_runs.BadBlock n) x tells r0 r r' t same cause = absurd cause
+pub not_walked : (e : RunFault) (x : List ℕ) (models : Bool) (r0 r r' : ℕ) → models ≡ true → r ≡ r0
+    → RunCaused e models r r' → IsNotRead (faults.Run e) x r0 r'
+not_walked (of_runs.Sparse f) x models r0 r r' t same cause = absurd cause
+not_walked (of_runs.Read d) x models r0 r r' t same cause = let up = cause.0 in omega (arith, same, up)
+not_walked of_runs.TooLarge x models r0 r r' t same cause = absurd cause
+not_walked of_runs.SourceChanged x models r0 r r' t same cause = absurd (false≢true (sym cause ∙ t))
+not_walked (of_runs.BadBlock n) x models r0 r r' t same cause = absurd cause
 
-pub told_so : (f g : SparseCommandFault) (path : List ℕ) (a : World) (h k : Held) → g ≡ f → IsNotOpened f path a h k
+pub told_so : (f g : SparseCommandFault) (path : List ℕ) (a : World) (h k : OpenFiles) → g ≡ f → IsNotOpened f path a h k
     → IsNotOpened g path a h k
 told_so f g path a h k same is = subst (λ q. IsNotOpened q path a h k) (sym same) is
 
 -- it could not be opened
-pub refused_once : (f : SparseCommandFault) (path : List ℕ) (a : World) (h h' : Held) → FromHost f → h' ≡ failing 1 h
+pub refused_once : (f : SparseCommandFault) (path : List ℕ) (a : World) (h h' : OpenFiles) → FromHost f → h' ≡ failing 1 h
     → IsNotOpened f path a h h'
 refused_once f path a h h' host refused =
     let up : h'.failed ≡ h.failed + 1 = ap (λ k. k.failed) refused in
@@ -138,7 +138,7 @@ refused_once f path a h h' host refused =
 same_blocks : (n m : ℕ) → n ≡ m → (m == n) ≡ true
 same_blocks n m same = eq-eqb m n (sym same)
 
-pub other_shape : (shape : Option Shape) (own : Shape) (path x : List ℕ) (a : World) (h h' : Held)
+pub other_shape : (shape : Option Shape) (own : Shape) (path x : List ℕ) (a : World) (h h' : OpenFiles)
     → OpensFile a path x h h' → IsImageOf own.blocks own.block x → is_same_shape shape own ≡ false
     → IsOtherShape shape path a
 other_shape None own path x a h h' opened image differs = absurd (false≢true (sym differs))
@@ -155,7 +155,7 @@ other_shape (Some s) own path x a h h' opened image differs = (
 )
 
 pub next_other : (told : SparseCommandFault) (shape : Option Shape) (pieces : List (Option CutPiece)) (own : Shape)
-    (number : ℕ) (path x : List ℕ) (a : World) (h h' k : Held) → told ≡ faults.OtherBlocks number
+    (number : ℕ) (path x : List ℕ) (a : World) (h h' k : OpenFiles) → told ≡ faults.OtherBlocks number
     → OpensFile a path x h h' → IsImageOf own.blocks own.block x → is_same_shape shape own ≡ false
     → IsNotNext told shape pieces number path a h k
 next_other told shape pieces own number path x a h h' k is opened image differs =
@@ -163,19 +163,19 @@ next_other told shape pieces own number path x a h h' k is opened image differs 
     (refl, other_shape shape own path x a h h' opened image differs)
 
 pub next_cut : (told : SparseCommandFault) (shape : Option Shape) (pieces : List (Option CutPiece))
-    (own : Option CutPiece) (number : ℕ) (path : List ℕ) (a : World) (h k : Held) → told ≡ faults.OtherCut number
+    (own : Option CutPiece) (number : ℕ) (path : List ℕ) (a : World) (h k : OpenFiles) → told ≡ faults.OtherCut number
     → TellsPiece own path (FileGives a path) → list_any (is_of_other_cut own) pieces ≡ true
     → IsNotNext told shape pieces number path a h k
-next_cut told shape pieces own number path a h k is tells turned =
+next_cut told shape pieces own number path a h k is models turned =
     subst (λ f. IsNotNext f shape pieces number path a h k) (sym is)
-    (refl, record { own = own; tells = tells; turned = turned })
+    (refl, record { own = own; models = models; turned = turned })
 
 -- ---- all of them
 
-abbrev pub reading_these : Held → List ℕ → Held
+abbrev pub reading_these : OpenFiles → List ℕ → OpenFiles
 reading_these h files = record h { read = files }
 
-pub opened_more : (a : World) (paths xs ys : List (List ℕ)) (path : List ℕ) (h h1 h2 : Held)
+pub opened_more : (a : World) (paths xs ys : List (List ℕ)) (path : List ℕ) (h h1 h2 : OpenFiles)
     → AreOpened a paths xs h h1 → OpensNext a path xs ys h1 h2 → AreOpened a (paths ++ (path ∷ [])) ys h h2
 opened_more a paths xs ys path h h1 h2 all next = record {
   files = all.files ++ (next.opened.file ∷ []);
@@ -187,7 +187,7 @@ opened_more a paths xs ys path h h1 h2 all next = record {
       ∙ ap (reading_these h) (append_assoc h.read all.files (next.opened.file ∷ []));
 }
 
-pub opened_none : (a : World) (xs : List (List ℕ)) (h h' : Held) → xs ≡ [] → h' ≡ h → AreOpened a [] xs h h'
+pub opened_none : (a : World) (xs : List (List ℕ)) (h h' : OpenFiles) → xs ≡ [] → h' ≡ h → AreOpened a [] xs h h'
 opened_none a xs h h' none same = record {
   files = [];
   there = refl;
@@ -204,7 +204,7 @@ abbrev pub block_of : Option Shape → ℕ
 block_of None = 0
 block_of (Some s) = s.block
 
-pub are_images : (shape : Option Shape) (a : World) (paths xs : List (List ℕ)) (h h' : Held) → AreOpened a paths xs h h'
+pub are_images : (shape : Option Shape) (a : World) (paths xs : List (List ℕ)) (h h' : OpenFiles) → AreOpened a paths xs h h'
     → IsShapeOf shape xs → AreImages (blocks_of shape) (block_of shape) paths a
 are_images None a paths xs h h' all is = record {
   files = all.files;
@@ -217,13 +217,13 @@ are_images (Some s) a paths xs h h' all is = record {
   images = subst (λ l. AllByRecursion (IsImageOf s.blocks s.block) l) all.bytes is.1;
 }
 
-still : (a : World) (paths xs : List (List ℕ)) (h h1 h2 : Held) → AreOpened a paths xs h h1 → HasFailed h1 h2
+still : (a : World) (paths xs : List (List ℕ)) (h h1 h2 : OpenFiles) → AreOpened a paths xs h h1 → HasFailed h1 h2
     → HasFailed h h2
 still a paths xs h h1 h2 all failed =
     let same : h1.failed ≡ h.failed = ap (λ k. k.failed) all.taken in
     omega (arith, same, failed)
 
-stands : (shape : Option Shape) (a : World) (inputs before behind xs : List (List ℕ)) (path : List ℕ) (h h' : Held)
+stands : (shape : Option Shape) (a : World) (inputs before behind xs : List (List ℕ)) (path : List ℕ) (h h' : OpenFiles)
     → AreOpened a before xs h h' → IsShapeOf shape xs → inputs ≡ before ++ (path ∷ behind)
     → StandsBehind (blocks_of shape) (block_of shape) (length before) path inputs a
 stands shape a inputs before behind xs path h h' all is among = record {
@@ -234,7 +234,7 @@ stands shape a inputs before behind xs path h h' all is among = record {
   images = are_images shape a before xs h h' all is;
 }
 
-some_before : (s : Shape) (a : World) (paths xs : List (List ℕ)) (h h' : Held) → AreOpened a paths xs h h'
+some_before : (s : Shape) (a : World) (paths xs : List (List ℕ)) (h h' : OpenFiles) → AreOpened a paths xs h h'
     → IsShapeOf (Some s) xs → 0 < length paths
 some_before s a paths xs h h' all is =
     let many : length all.files ≡ length paths = as_many a paths all.files all.there in
@@ -242,7 +242,7 @@ some_before s a paths xs h h' all is =
     omega (arith, many, long, is.0)
 
 other_blocks : (shape : Option Shape) (a : World) (inputs before behind xs : List (List ℕ)) (path : List ℕ) (number : ℕ)
-    (h h' : Held) → AreOpened a before xs h h' → IsShapeOf shape xs → inputs ≡ before ++ (path ∷ behind)
+    (h h' : OpenFiles) → AreOpened a before xs h h' → IsShapeOf shape xs → inputs ≡ before ++ (path ∷ behind)
     → number ≡ min (length before + 1) 4294967295 → IsOtherShape shape path a → HasOtherBlocks inputs a number
 other_blocks None a inputs before behind xs path number h h' all is among counted other = absurd other
 other_blocks (Some s) a inputs before behind xs path number h h' all is among counted other = record {
@@ -260,12 +260,12 @@ other_blocks (Some s) a inputs before behind xs path number h h' all is among co
 }
 
 other_cut : (shape : Option Shape) (pieces : List (Option CutPiece)) (a : World)
-    (inputs before behind xs : List (List ℕ)) (path : List ℕ) (number : ℕ) (h h' : Held) → AreOpened a before xs h h'
+    (inputs before behind xs : List (List ℕ)) (path : List ℕ) (number : ℕ) (h h' : OpenFiles) → AreOpened a before xs h h'
     → IsShapeOf shape xs → TellsPieces a pieces before → inputs ≡ before ++ (path ∷ behind)
     → number ≡ min (length before + 1) 4294967295 → IsOtherCut pieces path a → HasOtherCut inputs a number
 unfolding stands
 other_cut shape pieces a inputs before behind xs path number h h' all is told among counted cut =
-    let other = among_turned a cut.own path pieces before cut.tells told cut.turned in
+    let other = among_turned a cut.own path pieces before cut.models told cut.turned in
     record {
       blocks = blocks_of shape;
       size = block_of shape;
@@ -280,7 +280,7 @@ other_cut shape pieces a inputs before behind xs path number h h' all is told am
 
 -- why not all of them are opened: the images before this one are
 pub not_all : (f : SparseCommandFault) (shape : Option Shape) (pieces : List (Option CutPiece)) (a : World)
-    (inputs before behind xs : List (List ℕ)) (path : List ℕ) (number : ℕ) (h h1 h2 : Held)
+    (inputs before behind xs : List (List ℕ)) (path : List ℕ) (number : ℕ) (h h1 h2 : OpenFiles)
     → AreOpened a before xs h h1 → IsShapeOf shape xs → TellsPieces a pieces before
     → inputs ≡ before ++ (path ∷ behind) → number ≡ min (length before + 1) 4294967295
     → IsNotNext f shape pieces number path a h1 h2 → IsNotAllOpened f inputs a h h2
@@ -329,7 +329,7 @@ not_all (faults.Verify f) shape pieces a inputs before behind xs path number h h
 -- ---- one turn
 
 pub step_opened : {X : Type 0} (f : X → List ℕ) (xs : List X) (i : ℕ) (d : X) (a a1 : World) (cs ys : List (List ℕ))
-    (path : List ℕ) (h h1 h2 : Held) → i < length xs → a1 ≡ a → path ≡ f (get_or xs i d)
+    (path : List ℕ) (h h1 h2 : OpenFiles) → i < length xs → a1 ≡ a → path ≡ f (get_or xs i d)
     → AreOpened a (map f (take i xs)) cs h h1 → OpensNext a1 path cs ys h1 h2
     → AreOpened a (map f (take (i + 1) xs)) ys h h2
 step_opened f xs i d a a1 cs ys path h h1 h2 below same is all next =
@@ -345,7 +345,7 @@ step_pieces f xs i d a a1 pieces pieces' path below same is all next =
     subst (λ l. TellsPieces a pieces' l) (ap (λ p. map f (take i xs) ++ (p ∷ [])) is ∙ paths_more f xs i d below)
     (subst (λ l. TellsPieces a l (map f (take i xs) ++ (path ∷ []))) (sym next.more)
     (told_more a pieces (map f (take i xs)) own path all
-    (subst (λ w. TellsPiece own path (FileGives w path)) same next.tells)))
+    (subst (λ w. TellsPiece own path (FileGives w path)) same next.models)))
 
 pub step_turn : {X : Type 0} (f : X → List ℕ) (xs : List X) (i : ℕ) (d : X) (a a1 : World)
     (pieces pieces' : List (Option CutPiece)) (path : List ℕ) → i < length xs → a1 ≡ a → path ≡ f (get_or xs i d)
@@ -355,11 +355,11 @@ step_turn f xs i d a a1 pieces pieces' path below same is all next turn =
     subst (λ l. AreInTurn l a) (ap (λ p. map f (take i xs) ++ (p ∷ [])) is ∙ paths_more f xs i d below)
     (turn_more a (map f (take i xs)) path turn
     (λ other among. among_apart a next.own path pieces (map f (take i xs)) other
-    (subst (λ w. TellsPiece next.own path (FileGives w path)) same next.tells) all next.apart among))
+    (subst (λ w. TellsPiece next.own path (FileGives w path)) same next.models) all next.apart among))
 
 pub step_refused : {X : Type 0} (f : X → List ℕ) (xs : List X) (i : ℕ) (d : X) (fault : SparseCommandFault)
     (shape : Option Shape) (pieces : List (Option CutPiece)) (a a1 : World) (cs : List (List ℕ)) (path : List ℕ)
-    (number count : ℕ) (h h1 h2 : Held)
+    (number count : ℕ) (h h1 h2 : OpenFiles)
     → i < length xs → a1 ≡ a → path ≡ f (get_or xs i d) → AreOpened a (map f (take i xs)) cs h h1 → IsShapeOf shape cs
     → TellsPieces a pieces (map f (take i xs)) → count ≡ min i 4294967295 → number ≡ min (count + 1) 4294967295
     → IsNotNext fault shape pieces number path a1 h1 h2 → IsNotAllOpened fault (map f xs) a h h2
@@ -377,6 +377,6 @@ pub all_in_turn : {X : Type 0} (f : X → List ℕ) (xs : List X) (i : ℕ) (a :
     → AreInTurn (map f (take i xs)) a → AreInTurn (map f xs) a
 all_in_turn f xs i a over turn = subst (λ l. AreInTurn (map f l) a) (take_all i xs over) turn
 
-pub all_opened : {X : Type 0} (f : X → List ℕ) (xs : List X) (i : ℕ) (a : World) (cs : List (List ℕ)) (h h' : Held)
+pub all_opened : {X : Type 0} (f : X → List ℕ) (xs : List X) (i : ℕ) (a : World) (cs : List (List ℕ)) (h h' : OpenFiles)
     → length xs ≤ i → AreOpened a (map f (take i xs)) cs h h' → AreOpened a (map f xs) cs h h'
 all_opened f xs i a cs h h' over all = subst (λ l. AreOpened a (map f l) cs h h') (take_all i xs over) all

@@ -11,14 +11,14 @@ use Rattle.abt_chunks.specs.declared.progress.Expanded.{Expanded}
 use Rattle.abt_runs.specs.declared.part.RunFault.TheVariants as of_runs
 use Rattle.abt_flash_faults.specs.declared.fault.FlashFault.TheVariants as flashes
 use Rattle.sys_disk.specs.InPlace.{IsAsLong, MakesZeros, closed_part, is_settled, is_settled_in}
-use Rattle.sys_disk.specs.World.{World, Held, Spares, Ends, OnlyAt, in_output, KeepsFile, HasFailed, HasNotFailed}
+use Rattle.sys_disk.specs.World.{World, OpenFiles, Spares, Ends, OnlyAt, in_output, KeepsFile, HasFailed, HasNotFailed}
 use Rattle.sys_disk.specs.World.{failing}
 use Rattle.sys_disk.proofs.Worlds.{spares_trans}
 use Rattle.cmd_common_sparse.specs.declared.fault.SparseCommandFault.{SparseCommandFault}
 use Rattle.cmd_common_sparse.specs.declared.fault.SparseCommandFault.TheVariants as faults
 use Rattle.cmd_common_sparse.specs.declared.lines.Line.TheVariants as lines
 use Rattle.cmd_common_sparse.specs.Lines.{line_text}
-use Rattle.cmd_expand.specs.declared.opening.Shape.{Shape}
+use Rattle.cmd_expand.specs.declared.open_images.Shape.{Shape}
 use Rattle.cmd_expand.specs.Expanding.{FromHost}
 use Rattle.cmd_expand.specs.Overlaying.{AreInTurn, IsImageOf, LeavesOverlaid, OverlaysFiles, RefusesOverlay}
 use Rattle.cmd_expand.specs.Overlaying.{once_if_any}
@@ -29,35 +29,35 @@ use Rattle.cmd_expand.proofs.Lists.{as_many, each_read, fewer_read, keeps_read, 
 
 -- all was opened, zeros were made, images were laid, and what was written is closed; so much has failed since
 pub failed_in_all : (a a1 b : World) (inputs xs : List (List ℕ)) (output : List ℕ) (n m u : ℕ) (past : Past)
-    (h h1 h2 h3 h4 : Held) → AreOpened a inputs xs h h1 → MakesZeros n output h1 h2 a1 b
+    (h h1 h2 h3 h4 : OpenFiles) → AreOpened a inputs xs h h1 → MakesZeros n output h1 h2 a1 b
     → h4 ≡ failing u (closed_part past m h3) → (h2.failed ≡ h.failed) × (h4.failed ≡ h3.failed + m + u)
 failed_in_all a a1 b inputs xs output n m u past h h1 h2 h3 h4 all made closed =
     (ap (λ k. k.failed) made.begins ∙ ap (λ k. k.failed) all.taken, ap (λ k. k.failed) closed)
 
-pub failed_zeros : (a : World) (inputs xs : List (List ℕ)) (h h1 k : Held) → AreOpened a inputs xs h h1
+pub failed_zeros : (a : World) (inputs xs : List (List ℕ)) (h h1 k : OpenFiles) → AreOpened a inputs xs h h1
     → k ≡ failing 1 h1 → HasFailed h k
 failed_zeros a inputs xs h h1 k all refused =
     let first : h1.failed ≡ h.failed = ap (λ q. q.failed) all.taken in
     let up : k.failed ≡ h1.failed + 1 = ap (λ q. q.failed) refused in
     omega (arith, first, up)
 
-pub failed_laying : (h h2 h3 h4 : Held) (p p' u : ℕ) → (h2.failed ≡ h.failed) × (h4.failed ≡ h3.failed + p' + u)
+pub failed_laying : (h h2 h3 h4 : OpenFiles) (p p' u : ℕ) → (h2.failed ≡ h.failed) × (h4.failed ≡ h3.failed + p' + u)
     → p ≡ 0 → h2.failed + p < h3.failed + p' → HasFailed h h4
 failed_laying h h2 h3 h4 p p' u counts none rose = omega (arith, counts.0, counts.1, none, rose)
 
 -- closing was refused
-pub failed_closing : (h h2 h3 h4 : Held) (p p' u : ℕ) → (h2.failed ≡ h.failed) × (h4.failed ≡ h3.failed + p' + u)
+pub failed_closing : (h h2 h3 h4 : OpenFiles) (p p' u : ℕ) → (h2.failed ≡ h.failed) × (h4.failed ≡ h3.failed + p' + u)
     → p ≡ 0 → h3.failed + p' ≡ h2.failed + p → u ≡ 1 → HasFailed h h4
 failed_closing h h2 h3 h4 p p' u counts none same one = omega (arith, counts.0, counts.1, none, same, one)
 
 -- nothing has failed
-pub clean_closing : (h h2 h3 h4 : Held) (p p' u : ℕ) → (h2.failed ≡ h.failed) × (h4.failed ≡ h3.failed + p' + u)
+pub clean_closing : (h h2 h3 h4 : OpenFiles) (p p' u : ℕ) → (h2.failed ≡ h.failed) × (h4.failed ≡ h3.failed + p' + u)
     → p ≡ 0 → h3.failed + p' ≡ h2.failed + p → u ≡ 0 → HasNotFailed h h4
 clean_closing h h2 h3 h4 p p' u counts none same zero = omega (arith, counts.0, counts.1, none, same, zero)
 
 -- ---- what the output holds
 
-spared : (a a1 b b' c : World) (n : ℕ) (output y : List ℕ) (h1 h2 h3 : Held) (made : MakesZeros n output h1 h2 a1 b)
+spared : (a a1 b b' c : World) (n : ℕ) (output y : List ℕ) (h1 h2 h3 : OpenFiles) (made : MakesZeros n output h1 h2 a1 b)
     → a1 ≡ a → b' ≡ b → FailsAlone h2 h3 → Ends h3.part y b' c → (c.holds made.file ≡ y) × Spares made.file a c
 spared a a1 b b' c n output y h1 h2 h3 made same same' alone ends =
     let part : h3.part ≡ Some made.file = ap (λ k. k.part) alone.same ∙ ap (λ k. k.part) made.begins in
@@ -70,7 +70,7 @@ pub zeros_long : (z : List ℕ) (size n m : ℕ) → size ≡ length z → z ≡
 zeros_long z size n m is zeros same = is ∙ ap length zeros ∙ length-replicate n 0 ∙ same
 
 -- where it stands
-pub lands : (a a1 b b' c : World) (n : ℕ) (output y : List ℕ) (h1 h2 h3 : Held) → MakesZeros n output h1 h2 a1 b
+pub lands : (a a1 b b' c : World) (n : ℕ) (output y : List ℕ) (h1 h2 h3 : OpenFiles) → MakesZeros n output h1 h2 a1 b
     → a1 ≡ a → b' ≡ b → FailsAlone h2 h3 → Ends h3.part y b' c → c.at ≡ b'.at → OnlyAt h1.read output a c
 lands a a1 b b' c n output y h1 h2 h3 made same same' alone ends paths =
     in_output made.file (ap (λ g. g output) paths ∙ ap (λ w. w.at output) same' ∙ made.there) made.free
@@ -85,12 +85,12 @@ pub record Sized (e : Expanded) (inputs xs : List (List ℕ)) : Type 0 where
   pub counted : e.blocks ≡ number
   pub long : e.bytes ≡ number * size
 
-as_long_as : (a : World) (inputs xs : List (List ℕ)) (h h1 : Held) → AreOpened a inputs xs h h1
+as_long_as : (a : World) (inputs xs : List (List ℕ)) (h h1 : OpenFiles) → AreOpened a inputs xs h h1
     → length xs ≡ length inputs
 as_long_as a inputs xs h h1 all =
     ap length all.bytes ∙ length-map all.files a.holds ∙ as_many a inputs all.files all.there
 
-pub sized : (shape : Option Shape) (e : Expanded) (a : World) (inputs xs : List (List ℕ)) (h h1 : Held)
+pub sized : (shape : Option Shape) (e : Expanded) (a : World) (inputs xs : List (List ℕ)) (h h1 : OpenFiles)
     → e ≡ whole_of_shape shape → AreOpened a inputs xs h h1 → IsShapeOf shape xs → Sized e inputs xs
 sized None e a inputs xs h h1 whole all is = record {
   number = 0;
@@ -113,7 +113,7 @@ sized (Some s) e a inputs xs h h1 whole all is = record {
 }
 
 pub overlays : (shape : Option Shape) (e : Expanded) (a a1 b b' c : World) (inputs xs : List (List ℕ))
-    (output y z : List ℕ) (h h1 h2 h3 : Held) (shows : List ℕ → Type 0) → e ≡ whole_of_shape shape
+    (output y z : List ℕ) (h h1 h2 h3 : OpenFiles) (shows : List ℕ → Type 0) → e ≡ whole_of_shape shape
     → AreOpened a inputs xs h h1 → IsShapeOf shape xs → AreInTurn inputs a
     → MakesZeros e.bytes output h1 h2 a1 b → a1 ≡ a → z ≡ replicate e.bytes 0
     → y ≡ flashed_in_turn z xs → b' ≡ b → FailsAlone h2 h3 → Ends h3.part y b' c → c.at ≡ b'.at
@@ -146,14 +146,14 @@ overlays shape e a a1 b b' c inputs xs output y z h h1 h2 h3 shows whole all is 
 
 -- ---- what others hold
 
-others_read : (a a1 c : World) (inputs xs : List (List ℕ)) (output : List ℕ) (h h1 : Held)
+others_read : (a a1 c : World) (inputs xs : List (List ℕ)) (output : List ℕ) (h h1 : OpenFiles)
     → AreOpened a inputs xs h h1
     → a1 ≡ a → OnlyAt h1.read output a1 c → OnlyAt h.read output a c
 others_read a a1 c inputs xs output h h1 all same only =
     fewer_read h.read all.files output a c (subst (λ k. OnlyAt k.read output a c) all.taken
     (subst (λ w. OnlyAt h1.read output w c) same only))
 
-ins_kept : (a a1 c : World) (inputs xs : List (List ℕ)) (output : List ℕ) (h h1 : Held) → AreOpened a inputs xs h h1
+ins_kept : (a a1 c : World) (inputs xs : List (List ℕ)) (output : List ℕ) (h h1 : OpenFiles) → AreOpened a inputs xs h h1
     → a1 ≡ a → OnlyAt h1.read output a1 c → AllByRecursion (λ path. KeepsFile path a c) inputs
 ins_kept a a1 c inputs xs output h h1 all same only =
     keeps_read h1.read output inputs all.files a c all.there
@@ -161,7 +161,7 @@ ins_kept a a1 c inputs xs output h h1 all same only =
     (subst (λ w. OnlyAt h1.read output w c) same only)
 
 pub leaves_overlaid : {X F : Type 0} (r : Result X F) (a a1 c : World) (inputs xs : List (List ℕ)) (output : List ℕ)
-    (h h1 k : Held) → AreOpened a inputs xs h h1 → a1 ≡ a → OnlyAt h1.read output a1 c → k.part ≡ None
+    (h h1 k : OpenFiles) → AreOpened a inputs xs h h1 → a1 ≡ a → OnlyAt h1.read output a1 c → k.part ≡ None
     → OnOk r (HasNotFailed h k) → LeavesOverlaid r inputs output h k a c
 leaves_overlaid r a a1 c inputs xs output h h1 k all same only closed clean = record {
   others = others_read a a1 c inputs xs output h h1 all same only;
@@ -171,7 +171,7 @@ leaves_overlaid r a a1 c inputs xs output h h1 k all same only closed clean = re
 }
 
 -- it is closed as long as it was made
-pub as_long : (a1 b b' : World) (n : ℕ) (output y z : List ℕ) (h1 h2 h3 : Held) → MakesZeros n output h1 h2 a1 b
+pub as_long : (a1 b b' : World) (n : ℕ) (output y z : List ℕ) (h1 h2 h3 : OpenFiles) → MakesZeros n output h1 h2 a1 b
     → b' ≡ b → FailsAlone h2 h3 → length y ≡ length z → z ≡ replicate n 0 → IsAsLong h3.part y b'
 as_long a1 b b' n output y z h1 h2 h3 made same alone long zeros =
     subst (λ p. IsAsLong p y b') (sym (ap (λ k. k.part) alone.same ∙ ap (λ k. k.part) made.begins))
@@ -186,7 +186,7 @@ once (x ∷ xs) =
     ap (λ b. if b then 1 else 0) (lt-ltb 0 (suc (length xs)) more)
 
 pub synced : (a a1 b : World) (inputs xs : List (List ℕ)) (output : List ℕ) (n m k u : ℕ) (past past' : Past)
-    (h h1 h2 h3 h4 : Held) → AreOpened a inputs xs h h1 → MakesZeros n output h1 h2 a1 b → FailsAlone h2 h3
+    (h h1 h2 h3 h4 : OpenFiles) → AreOpened a inputs xs h h1 → MakesZeros n output h1 h2 a1 b → FailsAlone h2 h3
     → h4 ≡ failing u (closed_part past' m h3) → past ≡ no_past → past'.pending ≡ [] → past'.synced ≡ past.synced + k
     → length xs ≡ k → h4.syncs ≡ h.syncs + once_if_any inputs
 synced a a1 b inputs xs output n m k u past past' h h1 h2 h3 h4 all made alone closed fresh empty counted items =
@@ -204,7 +204,7 @@ synced a a1 b inputs xs output n m k u past past' h h1 h2 h3 h4 all made alone c
 -- ---- why it is refused
 
 pub from_opening : (untold : List ℕ → Type 0) (f : SparseCommandFault) (inputs : List (List ℕ)) (output : List ℕ)
-    (a c : World) (h k : Held)
+    (a c : World) (h k : OpenFiles)
     → IsNotAllOpened f inputs a h k → RefusesOverlay f inputs output a c h k untold
 from_opening untold (faults.Run (of_runs.Sparse f)) inputs output a c h k why = why
 from_opening untold (faults.Run (of_runs.Read d)) inputs output a c h k why = why
@@ -221,7 +221,7 @@ from_opening untold (faults.Flash f) inputs output a c h k why = absurd why
 from_opening untold (faults.Verify f) inputs output a c h k why = absurd why
 
 pub from_laying : (untold : List ℕ → Type 0) (f : SparseCommandFault) (inputs : List (List ℕ)) (output : List ℕ)
-    (a c : World) (h k : Held)
+    (a c : World) (h k : OpenFiles)
     (n n' : ℕ) → (n < n' → HasFailed h k) → IsNotLaid f n n' → RefusesOverlay f inputs output a c h k untold
 from_laying untold (faults.Flash (flashes.Read d)) inputs output a c h k n n' up why = up why
 from_laying untold (faults.Flash (flashes.Write d)) inputs output a c h k n n' up why = up why
@@ -244,7 +244,7 @@ from_laying untold (faults.Host f) inputs output a c h k n n' up why = absurd wh
 
 -- a fault of files, behind which something has failed, or all is done
 pub from_files : (untold : List ℕ → Type 0) (f : SparseCommandFault) (inputs : List (List ℕ)) (output : List ℕ)
-    (a c : World) (h k : Held)
+    (a c : World) (h k : OpenFiles)
     → FromHost f → HasFailed h k ⊎ OverlaysFiles inputs output a c untold
     → RefusesOverlay f inputs output a c h k untold
 from_files untold f inputs output a c h k host (inl failed) =

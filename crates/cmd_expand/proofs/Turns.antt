@@ -107,31 +107,31 @@ in_front x xs = Contains-append_left (x ∷ []) xs x (Contains-push [] x)
 pub among_turned : (w : World) (own : Option CutPiece) (path : List ℕ) (pieces : List (Option CutPiece))
     (paths : List (List ℕ)) → Tells w own path → TellsPieces w pieces paths
     → list_any (is_of_other_cut own) pieces ≡ true → (other : List ℕ) × Contains paths other × OneIsTurned w path other
-among_turned w own path [] paths tells all is = absurd (false≢true is)
-among_turned w own path (o ∷ os) [] tells all is = absurd all
-among_turned w own path (o ∷ os) (p ∷ ps) tells all is =
+among_turned w own path [] paths models all is = absurd (false≢true is)
+among_turned w own path (o ∷ os) [] models all is = absurd all
+among_turned w own path (o ∷ os) (p ∷ ps) models all is =
     elim (or_cases (is_of_other_cut own o) (list_any (is_of_other_cut own) os) is) [
-      | inl here ↦ (p, in_front p ps, turned w own o path p tells all.0 here)
+      | inl here ↦ (p, in_front p ps, turned w own o path p models all.0 here)
       | inr there ↦
-          let rest = among_turned w own path os ps tells all.1 there in
+          let rest = among_turned w own path os ps models all.1 there in
           (rest.0, Contains-append_right (p ∷ []) ps rest.0 rest.1, rest.2)
     ]
 
 pub among_apart : (w : World) (own : Option CutPiece) (path : List ℕ) (pieces : List (Option CutPiece))
     (paths : List (List ℕ)) (other : List ℕ) → Tells w own path → TellsPieces w pieces paths
     → list_any (is_of_other_cut own) pieces ≡ false → Contains paths other → ¬ OneIsTurned w path other
-among_apart w own path [] [] other tells all is among out = let low = among.1 in omega (arith, low)
-among_apart w own path [] (p ∷ ps) other tells all is among out = all
-among_apart w own path (o ∷ os) [] other tells all is among out = all
-among_apart w own path (o ∷ os) (p ∷ ps) other tells all is among out =
+among_apart w own path [] [] other models all is among out = let low = among.1 in omega (arith, low)
+among_apart w own path [] (p ∷ ps) other models all is among out = all
+among_apart w own path (o ∷ os) [] other models all is among out = all
+among_apart w own path (o ∷ os) (p ∷ ps) other models all is among out =
     let none = or_parts (is_of_other_cut own o) (list_any (is_of_other_cut own) os) is in
     elim (Contains-append_cases (p ∷ []) ps other among) [
       | inl here ↦ elim (Contains-push_cases [] p other here) [
         | inl never ↦ (let low = never.1 in omega (arith, low))
         | inr same ↦
-            not_turned w own o path p tells all.0 none.0 (subst (λ q. OneIsTurned w path q) (sym same) out)
+            not_turned w own o path p models all.0 none.0 (subst (λ q. OneIsTurned w path q) (sym same) out)
       ]
-      | inr there ↦ among_apart w own path os ps other tells all.1 none.1 there out
+      | inr there ↦ among_apart w own path os ps other models all.1 none.1 there out
     ]
 
 -- ---- one image more

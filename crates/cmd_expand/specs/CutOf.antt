@@ -74,12 +74,12 @@ span_with found kind first past =
 -- the image at this path is this piece, and of no other cut than those before it
 pub record NextPiece (world : World) (path : List ℕ) (pieces pieces' : List (Option CutPiece)) : Type 0 where
   pub own : Option CutPiece
-  pub tells : TellsPiece own path (FileGives world path)
+  pub models : TellsPiece own path (FileGives world path)
   pub more : pieces' ≡ pieces ++ (own ∷ [])
   pub apart : list_any (is_of_other_cut own) pieces ≡ false
 
 -- the image at this path is of another cut than one of those before it
 pub record IsOtherCut (pieces : List (Option CutPiece)) (path : List ℕ) (world : World) : Type 0 where
   pub own : Option CutPiece
-  pub tells : TellsPiece own path (FileGives world path)
+  pub models : TellsPiece own path (FileGives world path)
   pub turned : list_any (is_of_other_cut own) pieces ≡ true

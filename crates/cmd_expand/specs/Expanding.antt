@@ -9,7 +9,7 @@ use Rattle.abt_sparse.specs.Fails.{Fails, Spells}
 use Rattle.abt_chunks.specs.declared.progress.Expanded.{Expanded}
 use Rattle.abt_chunks.specs.Expanding.{UnlessExpandingDevice}
 use Rattle.abt_chunks.specs.Whole.{Expansion, Refusal}
-use Rattle.sys_disk.specs.World.{World, Held, KeepsFile, OnlyAt, Spares, HasFailed, HasNotFailed}
+use Rattle.sys_disk.specs.World.{World, OpenFiles, KeepsFile, OnlyAt, Spares, HasFailed, HasNotFailed}
 use Rattle.sys_refusals.specs.declared.refusal.HostFault.{HostFault}
 use Rattle.cmd_common_sparse.specs.declared.fault.SparseCommandFault.{SparseCommandFault}
 use Rattle.cmd_common_sparse.specs.declared.fault.SparseCommandFault.TheVariants as faults
@@ -69,7 +69,7 @@ pub record ExpandsFile (input output : List ℕ) (old new : World) (shows : List
 
 -- What is left of files, whatever the outcome: OUT alone may hold anything else, IN holds what it held, and no output
 -- is open. It is done only where nothing has failed.
-pub record LeavesExpanded {X F : Type 0} (r : Result X F) (from onto : List ℕ) (held held' : Held) (old new : World)
+pub record LeavesExpanded {X F : Type 0} (r : Result X F) (from onto : List ℕ) (held held' : OpenFiles) (old new : World)
     : Type 0 where
   pub others : OnlyAt held.read onto old new
   pub input : KeepsFile from old new
@@ -78,7 +78,7 @@ pub record LeavesExpanded {X F : Type 0} (r : Result X F) (from onto : List ℕ)
 
 -- why it is refused: for a fault of what IN's file holds; because a device or the system failed; or all was done, and
 -- its line is untold
-abbrev pub RefusesFile : SparseCommandFault → List ℕ → List ℕ → World → World → Held → Held → (List ℕ → Type 0)
+abbrev pub RefusesFile : SparseCommandFault → List ℕ → List ℕ → World → World → OpenFiles → OpenFiles → (List ℕ → Type 0)
     → Type 0
 RefusesFile (faults.Sparse f) input output old new held held' untold =
     OfDevice f (HasFailed held held') (HasFault input old f)

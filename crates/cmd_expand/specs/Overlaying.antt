@@ -9,7 +9,7 @@ use Rattle.abt_sparse.specs.Fails.{Spells}
 use Rattle.abt_sparse.specs.Pieces.{flashed_in_turn}
 use Rattle.abt_runs.specs.declared.part.RunFault.TheVariants as of_runs
 use Rattle.abt_flash_faults.specs.declared.fault.FlashFault.TheVariants as flashes
-use Rattle.sys_disk.specs.World.{World, Held, IsReading, KeepsFile, OnlyAt, Spares, HasFailed, HasNotFailed}
+use Rattle.sys_disk.specs.World.{World, OpenFiles, IsReading, KeepsFile, OnlyAt, Spares, HasFailed, HasNotFailed}
 use Rattle.sys_refusals.specs.declared.refusal.HostFault.TheVariants.{Memory}
 use Rattle.cmd_common_sparse.specs.declared.fault.SparseCommandFault.{SparseCommandFault}
 use Rattle.cmd_common_sparse.specs.declared.fault.SparseCommandFault.TheVariants as faults
@@ -105,13 +105,13 @@ pub record OverlaysFiles (inputs : List (List ℕ)) (output : List ℕ) (old new
   pub shown : shows (line_text (lines.Expanded blocks (blocks * size)) ++ (10 ∷ []))
 
 -- nothing was opened to be written, and no file is written in place
-pub record MayOverlay (held : Held) : Type 0 where
+pub record MayOverlay (held : OpenFiles) : Type 0 where
   pub first : IsReading held
   pub one : held.part ≡ None
 
 -- What is left of files, whatever the outcome: OUT alone may hold anything else, each IN holds what it held, and no
 -- file is open that is written in place. It is done only where nothing has failed.
-pub record LeavesOverlaid {X F : Type 0} (r : Result X F) (paths : List (List ℕ)) (onto : List ℕ) (held held' : Held)
+pub record LeavesOverlaid {X F : Type 0} (r : Result X F) (paths : List (List ℕ)) (onto : List ℕ) (held held' : OpenFiles)
     (old new : World) : Type 0 where
   pub others : OnlyAt held.read onto old new
   pub inputs : AllByRecursion (λ path. KeepsFile path old new) paths
@@ -170,7 +170,7 @@ pub record HasOtherCut (inputs : List (List ℕ)) (world : World) (image : ℕ) 
 
 -- why the command is refused: for what the INs' files hold; since a device or the system failed, or had no memory for
 -- the list of INs; or all was done, and its line is untold
-abbrev pub RefusesOverlay : SparseCommandFault → List (List ℕ) → List ℕ → World → World → Held → Held
+abbrev pub RefusesOverlay : SparseCommandFault → List (List ℕ) → List ℕ → World → World → OpenFiles → OpenFiles
     → (List ℕ → Type 0) → Type 0
 RefusesOverlay (faults.Run (of_runs.Sparse f)) inputs output old new held held' untold = HasFirstFault inputs old f
 RefusesOverlay (faults.Run (of_runs.Read d)) inputs output old new held held' untold = HasFailed held held'

@@ -8,10 +8,10 @@ use Rattle.sys_refusals.specs.declared.refusal.HostFault.TheVariants.{Memory}
 use Rattle.abt_runs.specs.declared.part.RunFault.TheVariants as of_runs
 use Rattle.abt_flash_faults.specs.declared.fault.FlashFault.{FlashFault}
 use Rattle.abt_flash_faults.specs.declared.fault.FlashFault.TheVariants as flashes
-use Rattle.sys_disk.specs.World.{World, Held, OpensFile, HasFailed}
+use Rattle.sys_disk.specs.World.{World, OpenFiles, OpensFile, HasFailed}
 use Rattle.cmd_common_sparse.specs.declared.fault.SparseCommandFault.{SparseCommandFault}
 use Rattle.cmd_common_sparse.specs.declared.fault.SparseCommandFault.TheVariants as faults
-use Rattle.cmd_expand.specs.declared.opening.Shape.{Shape}
+use Rattle.cmd_expand.specs.declared.open_images.Shape.{Shape}
 use Rattle.cmd_expand.specs.Expanding.{HasFault}
 use Rattle.cmd_expand.specs.declared.cut_of.CutPiece.{CutPiece}
 use Rattle.cmd_expand.specs.CutOf.{IsOtherCut}
@@ -20,11 +20,11 @@ use Rattle.cmd_expand.specs.Overlaying.{AreImages, HasFirstFault, HasOtherBlocks
 -- ---- opening
 
 -- these files more are read
-abbrev pub readings : List ℕ → Held → Held
+abbrev pub readings : List ℕ → OpenFiles → OpenFiles
 readings files h = record h { read = h.read ++ files }
 
 -- the files at these paths are read, and hold these bytes
-pub record AreOpened (world : World) (paths : List (List ℕ)) (contents : List (List ℕ)) (held held' : Held)
+pub record AreOpened (world : World) (paths : List (List ℕ)) (contents : List (List ℕ)) (held held' : OpenFiles)
     : Type 0 where
   pub files : List ℕ
   pub there : LeadTo world paths files
@@ -32,7 +32,7 @@ pub record AreOpened (world : World) (paths : List (List ℕ)) (contents : List 
   pub taken : held' ≡ readings files held
 
 -- one file more is read, and what it holds is the last
-pub record OpensNext (world : World) (path : List ℕ) (contents contents' : List (List ℕ)) (held held' : Held)
+pub record OpensNext (world : World) (path : List ℕ) (contents contents' : List (List ℕ)) (held held' : OpenFiles)
     : Type 0 where
   pub bytes : List ℕ
   pub opened : OpensFile world path bytes held held'
@@ -49,7 +49,7 @@ IsShapeOf None xs = xs ≡ []
 IsShapeOf (Some s) xs = (0 < length xs) × AllByRecursion (IsImageOf s.blocks s.block) xs
 
 -- why an image is not opened
-abbrev pub IsNotOpened : SparseCommandFault → List ℕ → World → Held → Held → Type 0
+abbrev pub IsNotOpened : SparseCommandFault → List ℕ → World → OpenFiles → OpenFiles → Type 0
 IsNotOpened (faults.Run (of_runs.Sparse f)) path world held held' = HasFault path world f
 IsNotOpened (faults.Run (of_runs.Read d)) path world held held' = HasFailed held held'
 IsNotOpened (faults.Host f) path world held held' = HasFailed held held'
@@ -73,7 +73,7 @@ IsOtherShape (Some s) path world =
     (n : ℕ) × (b : ℕ) × AreImages n b (path ∷ []) world × ¬ ((n ≡ s.blocks) × (b ≡ s.block))
 
 -- why the next image is not opened, which has this number
-abbrev pub IsNotNext : SparseCommandFault → Option Shape → List (Option CutPiece) → ℕ → List ℕ → World → Held → Held
+abbrev pub IsNotNext : SparseCommandFault → Option Shape → List (Option CutPiece) → ℕ → List ℕ → World → OpenFiles → OpenFiles
     → Type 0
 IsNotNext (faults.Run (of_runs.Sparse f)) shape pieces number path world held held' = HasFault path world f
 IsNotNext (faults.Run (of_runs.Read d)) shape pieces number path world held held' = HasFailed held held'
@@ -84,7 +84,7 @@ IsNotNext (faults.Host f) shape pieces number path world held held' = HasFailed 
 IsNotNext f shape pieces number path world held held' = ⊥
 
 -- why they are not all opened
-abbrev pub IsNotAllOpened : SparseCommandFault → List (List ℕ) → World → Held → Held → Type 0
+abbrev pub IsNotAllOpened : SparseCommandFault → List (List ℕ) → World → OpenFiles → OpenFiles → Type 0
 IsNotAllOpened (faults.Run (of_runs.Sparse f)) inputs world held held' = HasFirstFault inputs world f
 IsNotAllOpened (faults.Run (of_runs.Read d)) inputs world held held' = HasFailed held held'
 IsNotAllOpened (faults.OtherBlocks n) inputs world held held' = HasOtherBlocks inputs world n
@@ -93,7 +93,7 @@ IsNotAllOpened (faults.Host f) inputs world held held' = HasFailed held held' �
 IsNotAllOpened f inputs world held held' = ⊥
 
 -- no file has changed, and none more is written in place
-pub record OpensAlone (held held' : Held) (old new : World) : Type 0 where
+pub record OpensAlone (held held' : OpenFiles) (old new : World) : Type 0 where
   pub world : new ≡ old
   pub part : held'.part ≡ held.part
 
@@ -111,12 +111,12 @@ IsNotLaid (faults.Flash f) n n' = IsNotFlashed f n n'
 IsNotLaid f n n' = ⊥
 
 -- what has failed may be more, and nothing else has changed
-pub record FailsAlone (held held' : Held) : Type 0 where
+pub record FailsAlone (held held' : OpenFiles) : Type 0 where
   pub same : held' ≡ record held { failed = held'.failed }
   pub grown : held.failed ≤ held'.failed
 
 -- The file that is laid over is as long as it was, and of the disk nothing has changed but what has failed.
-pub record LaysAlone (tells : Bool) (long long' : ℕ) (before after : Held) (old new : World) : Type 0 where
+pub record LaysAlone (models : Bool) (long long' : ℕ) (before after : OpenFiles) (old new : World) : Type 0 where
   pub size : long' ≡ long
-  pub world : IsTrue tells → new ≡ old
-  pub held : IsTrue tells → FailsAlone before after
+  pub world : IsTrue models → new ≡ old
+  pub held : IsTrue models → FailsAlone before after

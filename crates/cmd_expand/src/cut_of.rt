@@ -60,9 +60,9 @@ pub(crate) fn piece_of<'a, R: BlockRuns, S: Source>(
     w: &mut Window,
     m: &mut Meter,
 ) -> Result<Option<CutPiece<'a>>, RunFault>
-    requires opened { IsTrue S.tells → R.opened image.now (S.content source.old) }
+    requires opened { IsTrue S.models → R.opened image.now (S.content source.old) }
     ensures walks { ReadsImage result S.Source source.old source.new }
-    ensures piece { IsTrue S.tells → IfOk result (λ piece. TellsPiece piece path.now
+    ensures piece { IsTrue S.models → IfOk result (λ piece. TellsPiece piece path.now
         (Said (R.list image.now (S.content source.old)))) }
 {
     let Some((front, number)) = piece_name(path) else {
@@ -106,9 +106,9 @@ fn span_of<R: BlockRuns, S: Source>(
     w: &mut Window,
     m: &mut Meter,
 ) -> Result<Option<Span>, RunFault>
-    requires opened { IsTrue S.tells → R.opened runs.now (S.content source.old) }
+    requires opened { IsTrue S.models → R.opened runs.now (S.content source.old) }
     ensures reads { ReadsImage result S.Source source.old source.new }
-    ensures span { IsTrue S.tells → IfOk result (λ span. IsSpanOf span
+    ensures span { IsTrue S.models → IfOk result (λ span. IsSpanOf span
         (Said (R.list runs.now (S.content source.old)))) }
 {
     let mut at = runs.start();

@@ -8,36 +8,36 @@ ghost use Rattle.cmd_common_sparse.specs.Lines.{line_text};
 ghost use Rattle.cmd_expand.specs.Expanding.{Blames, ExpandingSays, ExpandsFile, LeavesExpanded, RefusesFile};
 
 use abt_chunks::{Expanded, expand};
-use sys_disk::{Disk, Measured, Reasons, ended};
 use abt_io::{Input, Meter, Output, Window};
-use sys_refusals::{HostRefusal, Place, Sides};
-use sys_report::{Carried, Report};
 use cmd_common_sparse::{Line, SparseCommandFault, SparseRefusal};
+use sys_disk::{Disk, Measured, Reasons, ended};
+use sys_refusals::{FileArg, HostRefusal, Sides};
+use sys_report::{Carried, Report};
 
 /// Writes the raw image of a sparse one, and prints what it has. `-` is standard input, and standard output.
 #[inline(never)]
 pub fn expand_one<'a, D: Disk>(
     disk: &mut D,
     report: &mut Report,
-    input: Place<'a>,
-    output: Place<'a>,
+    input: FileArg<'a>,
+    output: FileArg<'a>,
     w: &mut Window,
     m: &mut Meter,
 ) -> Result<(), SparseRefusal<'a>>
-    requires first { IsTrue D.tells → IsReading (D.held disk.old) }
+    requires first { IsTrue D.models → IsReading (D.held disk.old) }
     // OUT holds the expansion of the image that IN holds, which is another file; what was printed tells of it
-    ensures done { IsTrue D.tells → OnOk result (ExpandsFile (path_in input.entry) (path_out output.entry)
+    ensures done { IsTrue D.models → OnOk result (ExpandsFile (path_in input.entry) (path_out output.entry)
         (D.world disk.old) (D.world disk.new) (ShowsBeside (D.on_output (path_out output.entry)) report.old
         report.new)) }
     // it was synced, where that is wanted
-    ensures synced { IsTrue D.tells → OnOk result ((D.held disk.new).syncs
+    ensures synced { IsTrue D.models → OnOk result ((D.held disk.new).syncs
         ≡ (D.held disk.old).syncs + (if (D.held disk.old).is_synced then 1 else 0)) }
     // whatever the outcome, OUT alone may hold anything else, IN holds what it held, and no output is left open; it is
     // done only where nothing failed
-    ensures leaves { IsTrue D.tells → LeavesExpanded result (path_in input.entry) (path_out output.entry)
+    ensures leaves { IsTrue D.models → LeavesExpanded result (path_in input.entry) (path_out output.entry)
         (D.held disk.old) (D.held disk.new) (D.world disk.old) (D.world disk.new) }
     // it is refused for a fault that IN has, or where a device or the system failed
-    ensures refused { IsTrue D.tells → IfErr result (λ refusal. RefusesFile refusal.fault (path_in input.entry)
+    ensures refused { IsTrue D.models → IfErr result (λ refusal. RefusesFile refusal.fault (path_in input.entry)
         (path_out output.entry) (D.world disk.old) (D.world disk.new) (D.held disk.old) (D.held disk.new)
         (Unprinted report.old report.new)) }
 {
@@ -83,7 +83,7 @@ fn expanded<I: Input, O: Output>(
     w: &mut Window,
     m: &mut Meter,
 ) -> Result<Expanded, SparseCommandFault>
-    ensures says { IsTrue I.tells → ExpandingSays result (I.remaining from.old.device) (O.written onto.old)
+    ensures says { IsTrue I.models → ExpandingSays result (I.remaining from.old.device) (O.written onto.old)
         (O.written onto.new) }
     ensures blames { Blames result (I.read_faults from.old.device) (I.read_faults from.new.device)
         (O.write_faults onto.old) (O.write_faults onto.new) }

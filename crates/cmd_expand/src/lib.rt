@@ -4,15 +4,15 @@
 //! | file | has |
 //! |---|---|
 //! | `expand.rt` | `expand` of one image |
-//! | `overlay.rt`, `opening.rt`, `laying.rt` | `expand` of several images, which are laid over one another |
+//! | `overlay.rt`, `open_images.rt`, `overlay_loop.rt` | `expand` of several images, which are laid over one another |
 //! | `cut_of.rt` | whether they are pieces of one cut, as far as can be told |
 #![tactic(auto)]
 
 mod cut_of;
 mod expand;
-mod laying;
-mod opening;
+mod open_images;
 mod overlay;
+mod overlay_loop;
 
 pub use expand::expand_one;
 pub use overlay::expand_several;

@@ -8,15 +8,15 @@ ghost use Rattle.cmd_expand.specs.Overlaying.{LeavesOverlaid, MayOverlay, Overla
 ghost use Rattle.cmd_expand.specs.Steps.{whole_of_shape};
 
 use crate::expand::printed;
-use crate::laying::lay_all;
-use crate::opening::{Opened, Shape, open_all};
+use crate::open_images::{OpenedImages, Shape, open_all};
+use crate::overlay_loop::lay_all;
 use abt_chunks::Expanded;
-use sys_disk::Disk;
 use abt_io::{Meter, Window};
-use sys_refusals::Place;
-use sys_report::Report;
 use cmd_common_sparse::SparseRefusal;
 use std::alloc::Global;
+use sys_disk::Disk;
+use sys_refusals::FileArg;
+use sys_report::Report;
 
 /// Lays images over one another in their order: a file of zeros, to which each is flashed in turn. Prints what it has.
 ///
@@ -27,25 +27,25 @@ pub fn expand_several<'a, D: Disk>(
     disk: &mut D,
     report: &mut Report,
     inputs: &[&'a str],
-    output: Place<'a>,
+    output: FileArg<'a>,
     alloc: Global,
     w: &mut Window,
     m: &mut Meter,
 ) -> Result<(), SparseRefusal<'a>>
-    requires ready { IsTrue D.tells → MayOverlay (D.held disk.old) }
+    requires ready { IsTrue D.models → MayOverlay (D.held disk.old) }
     // OUT holds the images that the INs hold, one laid over the other; what was printed tells of it
-    ensures done { IsTrue D.tells → OnOk result (OverlaysFiles (map (λ word. image_path word.now) inputs.now)
+    ensures done { IsTrue D.models → OnOk result (OverlaysFiles (map (λ word. image_path word.now) inputs.now)
         (path_of output.entry) (D.world disk.old) (D.world disk.new) (ShowsBeside (D.on_output (path_of output.entry))
         report.old report.new)) }
     // where there is an IN, OUT was synced behind its last byte
-    ensures synced { IsTrue D.tells → OnOk result ((D.held disk.new).syncs
+    ensures synced { IsTrue D.models → OnOk result ((D.held disk.new).syncs
         ≡ (D.held disk.old).syncs + once_if_any (map (λ word. image_path word.now) inputs.now)) }
     // whatever the outcome, OUT alone may hold anything else, each IN holds what it held, and no file is left open; it
     // is done only where nothing failed
-    ensures leaves { IsTrue D.tells → LeavesOverlaid result (map (λ word. image_path word.now) inputs.now)
+    ensures leaves { IsTrue D.models → LeavesOverlaid result (map (λ word. image_path word.now) inputs.now)
         (path_of output.entry) (D.held disk.old) (D.held disk.new) (D.world disk.old) (D.world disk.new) }
     // it is refused for what the INs hold, or where a device or the system failed
-    ensures refused { IsTrue D.tells → IfErr result (λ refusal. RefusesOverlay refusal.fault
+    ensures refused { IsTrue D.models → IfErr result (λ refusal. RefusesOverlay refusal.fault
         (map (λ word. image_path word.now) inputs.now) (path_of output.entry) (D.world disk.old) (D.world disk.new)
         (D.held disk.old) (D.held disk.new) (Unprinted report.old report.new)) }
 {
@@ -53,7 +53,7 @@ pub fn expand_several<'a, D: Disk>(
         Ok(all) => all,
         Err(refusal) => return Err(refusal),
     };
-    let Opened { kept, shape, .. } = all;
+    let OpenedImages { kept, shape, .. } = all;
     let Expanded { blocks, bytes } = whole_of(shape);
     let mut zeros = disk.zeros(output, bytes)?;
     let answer = lay_all(disk, &mut report.progress, kept, &mut zeros, output, w, m);

@@ -84,9 +84,9 @@ not_there_true (verifies.PartitionRead d) r r' t t' g g' x rest p found cause =
 not_there_true verifies.SourceChanged r r' t t' g g' x rest p found cause = absurd cause
 not_there_true (verifies.BadBlock n) r r' t t' g g' x rest p found cause = absurd cause
 
-pub not_there : (tells : Bool) (f : VerifyFault) (r r' t t' g g' : ℕ) (x rest p : List ℕ) → IsTrue tells
-    → Verifies tells (Err f) p x rest g g' → VerifyCause f r r' t t' → IsNotThere (r + t < r' + t') f x p
-not_there tells f r r' t t' g g' x rest p is found cause =
+pub not_there : (models : Bool) (f : VerifyFault) (r r' t t' g g' : ℕ) (x rest p : List ℕ) → IsTrue models
+    → Verifies models (Err f) p x rest g g' → VerifyCause f r r' t t' → IsNotThere (r + t < r' + t') f x p
+not_there models f r r' t t' g g' x rest p is found cause =
     not_there_true f r r' t t' g g' x rest p (subst (λ (b : Bool). Verifies b (Err f) p x rest g g') is found) cause
 
 raw_true : (f : VerifyFault) (b r r' t t' g g' : ℕ) (x p : List ℕ) → VerifiesRaw true (Err f) b p x g g'
@@ -101,10 +101,10 @@ raw_true (verifies.PartitionRead d) b r r' t t' g g' x p found sized cause =
 raw_true verifies.SourceChanged b r r' t t' g g' x p found sized cause = absurd (true≢false cause.0)
 raw_true (verifies.BadBlock n) b r r' t t' g g' x p found sized cause = sized
 
-pub not_there_raw : (source tells : Bool) (f : VerifyFault) (b r r' t t' g g' : ℕ) (x p : List ℕ) → IsTrue source
-    → IsTrue tells → VerifiesRaw tells (Err f) b p x g g' → JudgesBlockSize (Err f) b
+pub not_there_raw : (source models : Bool) (f : VerifyFault) (b r r' t t' g g' : ℕ) (x p : List ℕ) → IsTrue source
+    → IsTrue models → VerifiesRaw models (Err f) b p x g g' → JudgesBlockSize (Err f) b
     → RawCause {X = Verified} (Err f) source r r' t t' → IsNotThereRaw (r + t < r' + t') f b x p
-not_there_raw source tells f b r r' t t' g g' x p all is found sized cause =
+not_there_raw source models f b r r' t t' g g' x p all is found sized cause =
     raw_true f b r r' t t' g g' x p (subst (λ (z : Bool). VerifiesRaw z (Err f) b p x g g') is found) sized
     (subst (λ (z : Bool). RawCause {X = Verified} (Err f) z r r' t t') all cause)
 

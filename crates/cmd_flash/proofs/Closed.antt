@@ -4,7 +4,7 @@ use Rattle.std.proofs.Common.{arith}
 use Rattle.std.specs.Prelude.{Result, Ok, Err, IfOk, IfErr, OnOk, Bool, false, is_ok, min}
 use Rattle.abt_io.specs.declared.device.DeviceFault.{DeviceFault}
 use Rattle.sys_disk.specs.Spools.{closed_spool}
-use Rattle.sys_disk.specs.World.{Held, unless}
+use Rattle.sys_disk.specs.World.{OpenFiles, unless}
 use Rattle.abt_flash_faults.specs.declared.fault.Cause.TheVariants as causes
 use Rattle.abt_flash.specs.declared.answer.Delivered.{Delivered}
 use Rattle.abt_flash_faults.specs.declared.fault.Cause.{Cause}
@@ -96,17 +96,17 @@ pub sums_same : (s p w r c s' p' w' r' c' : ℕ) → (s + p + (w + c + r) ≡ 0 
 sums_same s p w r c s' p' w' r' c' rose none =
     let up : 0 < s' + p' + (w' + c' + r') = rose (omega (arith, none)) in omega (arith, up)
 
-pub held_rose : (h h' : Held) (u n s p : ℕ) → h' ≡ closed_spool (u + n) h → 0 < s + p + n
+pub held_rose : (h h' : OpenFiles) (u n s p : ℕ) → h' ≡ closed_spool (u + n) h → 0 < s + p + n
     → h.failed < h'.failed + (s + p)
 held_rose h h' u n s p closed more =
-    let one : h'.failed ≡ h.failed + (u + n) = ap (λ (q : Held). q.failed) closed in omega (arith, one, more)
+    let one : h'.failed ≡ h.failed + (u + n) = ap (λ (q : OpenFiles). q.failed) closed in omega (arith, one, more)
 
-pub held_late : (h h' : Held) (u n s p : ℕ) → h' ≡ closed_spool (u + n) h → u ≡ 1 → h.failed < h'.failed + (s + p)
+pub held_late : (h h' : OpenFiles) (u n s p : ℕ) → h' ≡ closed_spool (u + n) h → u ≡ 1 → h.failed < h'.failed + (s + p)
 held_late h h' u n s p closed one =
-    let more : h'.failed ≡ h.failed + (u + n) = ap (λ (q : Held). q.failed) closed in omega (arith, one, more)
+    let more : h'.failed ≡ h.failed + (u + n) = ap (λ (q : OpenFiles). q.failed) closed in omega (arith, one, more)
 
 -- the same of the disk, where what pieces went through is closed behind them
-pub told_held : (h h' : Held) (none s t u n : ℕ) (raw : Option ℕ) (r r' : Result Delivered FlashFault) (limit from : ℕ)
+pub told_held : (h h' : OpenFiles) (none s t u n : ℕ) (raw : Option ℕ) (r r' : Result Delivered FlashFault) (limit from : ℕ)
     (late : Option Cause) (x p p' : List ℕ) → 1 ≤ from → from < 2 ^ 32 → IfOk r (λ d. 0 < d.pieces)
     → h' ≡ closed_spool (u + n) h → ((c : Cause) → late ≡ Some c → u ≡ 1) → r' ≡ told r from late
     → DeliversPieces (none ≡ 0 → 0 < s + t + n) raw r limit (from - 1) x p p'

@@ -6,7 +6,7 @@ use Rattle.std.proofs.lemmas.List.Elements.{Contains-append_left, Contains-push}
 use Rattle.abt_io.specs.Moment.{Past}
 use Rattle.sys_disk.specs.InPlace.{ClosesPart, OpensPart, IsAsLong, in_place, is_settled}
 use Rattle.sys_disk.specs.Spools.{OpensSpool, closed_spool, through}
-use Rattle.sys_disk.specs.World.{World, Held, Spares, OpensFile, OnlyAt, untouched, in_output, Ends, SparesRest}
+use Rattle.sys_disk.specs.World.{World, OpenFiles, Spares, OpensFile, OnlyAt, untouched, in_output, Ends, SparesRest}
 use Rattle.sys_disk.specs.World.{KeepsFile, failing, reading}
 use Rattle.sys_disk.proofs.Closings.{apart_from}
 use Rattle.sys_disk.proofs.Worlds.{apart, spares_trans}
@@ -14,7 +14,7 @@ use Rattle.cmd_flash.specs.InPieces.{Across, SparesBoth}
 use Rattle.cmd_flash.specs.Through.{ClosesSpool}
 
 -- all three were closed
-pub record Crossed (input path spool x p p' : List ℕ) (old new : World) (h h3 h4 h' : Held) (faults : ℕ) (past : Past)
+pub record Crossed (input path spool x p p' : List ℕ) (old new : World) (h h3 h4 h' : OpenFiles) (faults : ℕ) (past : Past)
     : Type 1 where
   pub across : (P : List ℕ → List ℕ → List ℕ → Type 0) → P x p p' → Across input path spool old new P
   pub others : SparesBoth path spool old new
@@ -26,32 +26,32 @@ pub record Crossed (input path spool x p p' : List ℕ) (old new : World) (h h3 
   pub closed : h'.part ≡ None
 
 -- which files were read when the third was opened
-read_then : (h h' h'' : Held) (f g : ℕ) → h' ≡ reading f h → h'' ≡ in_place g h' → h''.read ≡ h.read ++ (f ∷ [])
-read_then h h' h'' f g r o = ap (λ (q : Held). q.read) o ∙ ap (λ (q : Held). q.read) r
+read_then : (h h' h'' : OpenFiles) (f g : ℕ) → h' ≡ reading f h → h'' ≡ in_place g h' → h''.read ≡ h.read ++ (f ∷ [])
+read_then h h' h'' f g r o = ap (λ (q : OpenFiles). q.read) o ∙ ap (λ (q : OpenFiles). q.read) r
 
 -- the file that is written in place is not the third
-apart_third : (h' h'' : Held) (f s : ℕ) → h'' ≡ in_place f h' → ¬ Contains h''.begun s → f ≢ s
+apart_third : (h' h'' : OpenFiles) (f s : ℕ) → h'' ≡ in_place f h' → ¬ Contains h''.begun s → f ≢ s
 apart_third h' h'' f s o fresh same =
-    fresh (subst (λ (q : Held). Contains q.begun s) (sym o) (subst (λ (z : ℕ). Contains (z ∷ h'.begun) s) (sym same)
+    fresh (subst (λ (q : OpenFiles). Contains q.begun s) (sym o) (subst (λ (z : ℕ). Contains (z ∷ h'.begun) s) (sym same)
     (Contains-append_left (s ∷ []) h'.begun s (Contains-push [] s))))
 
-part_then : (h' h'' h3 h4 h5 : Held) (f s m n : ℕ) → h'' ≡ in_place f h' → h3 ≡ through s h'' → h4 ≡ closed_spool m h3
+part_then : (h' h'' h3 h4 h5 : OpenFiles) (f s m n : ℕ) → h'' ≡ in_place f h' → h3 ≡ through s h'' → h4 ≡ closed_spool m h3
     → h5 ≡ failing n h4 → h5.part ≡ Some f
 part_then h' h'' h3 h4 h5 f s m n o t c l =
-    ap (λ (q : Held). q.part) l ∙ ap (λ (q : Held). q.part) c ∙ ap (λ (q : Held). q.part) t
-    ∙ ap (λ (q : Held). q.part) o
+    ap (λ (q : OpenFiles). q.part) l ∙ ap (λ (q : OpenFiles). q.part) c ∙ ap (λ (q : OpenFiles). q.part) t
+    ∙ ap (λ (q : OpenFiles). q.part) o
 
 -- only the third has changed when the partition is closed
-spared : (spool : List ℕ) (a a' a'' a3 a4 a5 : World) (h'' h3 : Held) → a' ≡ a → a'' ≡ a'
+spared : (spool : List ℕ) (a a' a'' a3 a4 a5 : World) (h'' h3 : OpenFiles) → a' ≡ a → a'' ≡ a'
     → (s : OpensSpool spool h'' h3 a'' a3)
     → SparesRest h3.spool a3 a4 → a5 ≡ a4 → Spares s.file a a5
 spared spool a a' a'' a3 a4 a5 h'' h3 same same' s rest last =
-    let closed : Spares s.file a3 a4 = subst (λ (q : Held). SparesRest q.spool a3 a4) s.begins rest in
+    let closed : Spares s.file a3 a4 = subst (λ (q : OpenFiles). SparesRest q.spool a3 a4) s.begins rest in
     subst (λ (w : World). Spares s.file w a5) (same' ∙ same)
     (subst (λ (w : World). Spares s.file a'' w) (sym last) (spares_trans s.file a'' a3 a4 s.spares closed))
 
 -- the partition is handed back as long as it was
-pub as_long_across : (input path spool x p p' : List ℕ) (a a' a'' a3 a4 a5 : World) (h h' h'' h3 h4 h5 : Held) (n : ℕ)
+pub as_long_across : (input path spool x p p' : List ℕ) (a a' a'' a3 a4 a5 : World) (h h' h'' h3 h4 h5 : OpenFiles) (n : ℕ)
     → OpensFile a input x h h' → a' ≡ a → OpensPart a' path p h' h'' → a'' ≡ a' → OpensSpool spool h'' h3 a'' a3
     → ClosesSpool h3 h4 → SparesRest h3.spool a3 a4 → h5 ≡ failing n h4 → a5 ≡ a4 → length p' ≡ length p
     → IsAsLong h5.part p' a5
@@ -63,18 +63,18 @@ as_long_across input path spool x p p' a a' a'' a3 a4 a5 h h' h'' h3 h4 h5 n r s
     (long ∙ ap length opened.held ∙ ap length (sym (one.files opened.file
     (apart_third h' h'' opened.file s.file opened.taken s.fresh))))
 
-failed_then : (h4 h5 h6 : Held) (n k : ℕ) (past : Past) (w d : Bool) → h5 ≡ failing n h4
+failed_then : (h4 h5 h6 : OpenFiles) (n k : ℕ) (past : Past) (w d : Bool) → h5 ≡ failing n h4
     → (c : ClosesPart w d past k h5 h6) → h6.failed ≡ h4.failed + (n + k + c.more)
 failed_then h4 h5 h6 n k past w d l c =
-    let one : h5.failed ≡ h4.failed + n = ap (λ (q : Held). q.failed) l in
-    let two : h6.failed ≡ h5.failed + k + c.more = ap (λ (q : Held). q.failed) c.closed in
+    let one : h5.failed ≡ h4.failed + n = ap (λ (q : OpenFiles). q.failed) l in
+    let two : h6.failed ≡ h5.failed + k + c.more = ap (λ (q : OpenFiles). q.failed) c.closed in
     omega (arith, one, two)
 
-grown : (h3 h4 : Held) → ClosesSpool h3 h4 → h3.failed ≤ h4.failed
-grown h3 h4 c = let one : h4.failed ≡ h3.failed + c.failures = ap (λ (q : Held). q.failed) c.closed in omega
+grown : (h3 h4 : OpenFiles) → ClosesSpool h3 h4 → h3.failed ≤ h4.failed
+grown h3 h4 c = let one : h4.failed ≡ h3.failed + c.failures = ap (λ (q : OpenFiles). q.failed) c.closed in omega
     (arith, one)
 
-pub crossed : (input path spool x p p' : List ℕ) (a a' a'' a3 a4 a5 c : World) (h h' h'' h3 h4 h5 h6 : Held) (n k : ℕ)
+pub crossed : (input path spool x p p' : List ℕ) (a a' a'' a3 a4 a5 c : World) (h h' h'' h3 h4 h5 h6 : OpenFiles) (n k : ℕ)
     (past : Past) (w d : Bool) → OpensFile a input x h h' → a' ≡ a → OpensPart a' path p h' h'' → a'' ≡ a'
     → OpensSpool spool h'' h3 a'' a3 → ClosesSpool h3 h4 → SparesRest h3.spool a3 a4 → h5 ≡ failing n h4 → a5 ≡ a4
     → Ends h5.part p' a5 c → c.at ≡ a5.at → (q : ClosesPart w d past k h5 h6)
@@ -93,7 +93,7 @@ crossed input path spool x p p' a a' a'' a3 a4 a5 c h h' h'' h3 h4 h5 h6 n k pas
     apart h.read h''.read r.file s.file (read_then h h' h'' r.file opened.file r.taken opened.taken) s.free in
     let at : c.at spool ≡ Some s.file =
     ap (λ (g : List ℕ → Option ℕ). g spool) paths ∙ ap (λ (w : World). w.at spool) last
-    ∙ (subst (λ (q : Held). SparesRest q.spool a3 a4) s.begins rest).paths spool s.file s.there in
+    ∙ (subst (λ (q : OpenFiles). SparesRest q.spool a3 a4) s.begins rest).paths spool s.file s.there in
     record {
       across = λ P so. record {
         from = r.file;
@@ -116,16 +116,16 @@ crossed input path spool x p p' a a' a'' a3 a4 a5 c h h' h'' h3 h4 h5 h6 n k pas
       kept = λ f there.
           let is : r.file ≡ f = ap (λ q. unwrap_or q 0) (sym r.there ∙ there) in
           after.1.files f (λ e. two (is ∙ e)) ∙ one.files f (λ e. three (is ∙ e));
-      began = ap (λ (q : Held). q.failed) s.begins ∙ ap (λ (q : Held). q.failed) opened.taken
-          ∙ ap (λ (q : Held). q.failed) r.taken;
+      began = ap (λ (q : OpenFiles). q.failed) s.begins ∙ ap (λ (q : OpenFiles). q.failed) opened.taken
+          ∙ ap (λ (q : OpenFiles). q.failed) r.taken;
       grew = grown h3 h4 cs;
       failed = failed_then h4 h5 h6 n k past w d l closed;
-      synced = λ settled. ap (λ (q : Held). q.syncs) closed.closed
+      synced = λ settled. ap (λ (q : OpenFiles). q.syncs) closed.closed
           ∙ ap (λ (t : Bool). h5.syncs + (if t then 1 else 0)) settled
-          ∙ ap (λ (q : Held). q.syncs + 1) l ∙ ap (λ (q : Held). q.syncs + 1) cs.closed
-          ∙ ap (λ (q : Held). q.syncs + 1) s.begins ∙ ap (λ (q : Held). q.syncs + 1) opened.taken
-          ∙ ap (λ (q : Held). q.syncs + 1) r.taken;
-      closed = ap (λ (q : Held). q.part) closed.closed;
+          ∙ ap (λ (q : OpenFiles). q.syncs + 1) l ∙ ap (λ (q : OpenFiles). q.syncs + 1) cs.closed
+          ∙ ap (λ (q : OpenFiles). q.syncs + 1) s.begins ∙ ap (λ (q : OpenFiles). q.syncs + 1) opened.taken
+          ∙ ap (λ (q : OpenFiles). q.syncs + 1) r.taken;
+      closed = ap (λ (q : OpenFiles). q.part) closed.closed;
     }
 
 -- ---- a third file that could not be opened
@@ -149,7 +149,7 @@ beside input path read read' f old new at e (in_output file here free spares) =
     λ g there. spares.files g (λ same. apart read read' f file e free
     (ap (λ (q : Option ℕ). unwrap_or q 0) (sym at ∙ there) ∙ same))
 
-pub only_kept : (input path spool x p : List ℕ) (a a' a'' c : World) (h h' h'' : Held) → OpensFile a input x h h'
+pub only_kept : (input path spool x p : List ℕ) (a a' a'' c : World) (h h' h'' : OpenFiles) → OpensFile a input x h h'
     → a' ≡ a
     → OpensPart a' path p h' h'' → a'' ≡ a' → OnlyAt h''.read spool a'' c → KeepsFile input a c
 only_kept input path spool x p a a' a'' c h h' h'' r same o same' only =
@@ -157,13 +157,13 @@ only_kept input path spool x p a a' a'' c h h' h'' r same o same' only =
     (subst (λ (w : World). OnlyAt h''.read spool w c) (same' ∙ same) only)
 
 -- the partition holds what it held, also where its path was the third
-pub part_kept : (path p : List ℕ) (a a' a'' : World) (now : ℕ → List ℕ) (h' h'' : Held) → a' ≡ a
+pub part_kept : (path p : List ℕ) (a a' a'' : World) (now : ℕ → List ℕ) (h' h'' : OpenFiles) → a' ≡ a
     → OpensPart a' path p h' h'' → a'' ≡ a' → ((f : ℕ) → Contains h''.begun f → now f ≡ a''.holds f)
     → (f : ℕ) → a.at path ≡ Some f → now f ≡ a.holds f
 part_kept path p a a' a'' now h' h'' same o same' keeps = λ g there.
     let here : a.at path ≡ Some o.file = subst (λ (w : World). w.at path ≡ Some o.file) same o.there in
     let is : o.file ≡ g = ap (λ (q : Option ℕ). unwrap_or q 0) (sym here ∙ there) in
     let among : Contains h''.begun g =
-    subst (λ (q : Held). Contains q.begun g) (sym o.taken) (subst (λ (z : ℕ). Contains (z ∷ h'.begun) g) (sym is)
+    subst (λ (q : OpenFiles). Contains q.begun g) (sym o.taken) (subst (λ (z : ℕ). Contains (z ∷ h'.begun) g) (sym is)
     (Contains-append_left (g ∷ []) h'.begun g (Contains-push [] g))) in
     keeps g among ∙ ap (λ (w : World). w.holds g) (same' ∙ same)

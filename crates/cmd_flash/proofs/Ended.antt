@@ -5,7 +5,7 @@ use Rattle.std.specs.Prelude.{None, Result, Ok, Err, IfOk, IfErr, IsOk, OnOk, tr
 use Rattle.std.proofs.lemmas.Bool.{lt-ltb}
 use Rattle.abt_io.specs.Moment.{Past, no_past}
 use Rattle.sys_disk.specs.InPlace.{is_settled, is_settled_in}
-use Rattle.sys_disk.specs.World.{World, Held, HasFailed, HasNotFailed, KeepsFile}
+use Rattle.sys_disk.specs.World.{World, OpenFiles, HasFailed, HasNotFailed, KeepsFile}
 use Rattle.abt_flash.specs.declared.answer.Delivered.{Delivered}
 use Rattle.abt_flash_faults.specs.declared.fault.FlashFault.{FlashFault}
 use Rattle.cmd_common_sparse.specs.declared.fault.SparseCommandFault.{SparseCommandFault}
@@ -39,7 +39,7 @@ fault_in d (Err f) = f
 pub refuses_pieces : (untold : List ℕ → Type 0) (r : Result Delivered FlashFault) (f : SparseCommandFault) (G : Type 0)
     (raw : Option ℕ) (limit
     before : ℕ)
-    (input path spool x p p' : List ℕ) (a c : World) (h h' : Held) → count_delivered r ≡ Err f
+    (input path spool x p p' : List ℕ) (a c : World) (h h' : OpenFiles) → count_delivered r ≡ Err f
     → h'.part ≡ None → (G → HasFailed h h')
     → ((P : List ℕ → List ℕ → List ℕ → Type 0) → P x p p' → Across input path spool a c P)
     → DeliversPieces G raw r limit before x p p' → RefusesPieces f raw limit before input path spool a c h h' untold
@@ -83,7 +83,7 @@ settled_pieces (Err fault) n past past' is fresh some synced none = absurd (subs
 pub refuses_uncuttable : (untold : List ℕ → Type 0) (f : SparseCommandFault) (raw : Option ℕ) (limit before : ℕ)
     (input path spool x : List ℕ) (a
     c : World)
-    (h h' : Held) → c ≡ a → ((P : List ℕ → Type 0) → P x → OfFile input a P) → IsUncuttable raw f limit x
+    (h h' : OpenFiles) → c ≡ a → ((P : List ℕ → Type 0) → P x → OfFile input a P) → IsUncuttable raw f limit x
     → RefusesPieces f raw limit before input path spool a c h h' untold
 refuses_uncuttable untold (faults.Run f) raw limit before input path spool x a c h h' same file is =
     (file (IsUncuttable raw (faults.Run f) limit) is, same)
@@ -101,20 +101,20 @@ refuses_uncuttable untold (faults.Host f) raw limit before input path spool x a 
 pub none_of : (r p w : ℕ) → r ≡ 0 → p ≡ 0 → w ≡ 0 → r + p + w ≡ 0
 none_of r p w one two three = omega (arith, one, two, three)
 
-has_failed_across : (h h3 h4 h' : Held) (n m : ℕ) → h3.failed ≡ h.failed → h'.failed ≡ h4.failed + (n + m)
+has_failed_across : (h h3 h4 h' : OpenFiles) (n m : ℕ) → h3.failed ≡ h.failed → h'.failed ≡ h4.failed + (n + m)
     → h3.failed < h4.failed + n → HasFailed h h'
 has_failed_across h h3 h4 h' n m began ended more = omega (arith, began, ended, more)
 
-unclosed_across : (h h3 h4 h' : Held) (n m : ℕ) → h3.failed ≡ h.failed → h3.failed ≤ h4.failed
+unclosed_across : (h h3 h4 h' : OpenFiles) (n m : ℕ) → h3.failed ≡ h.failed → h3.failed ≤ h4.failed
     → h'.failed ≡ h4.failed + (n + m) → 0 < m → HasFailed h h'
 unclosed_across h h3 h4 h' n m began grew ended more = omega (arith, began, grew, ended, more)
 
-none_failed_across : (h h3 h4 h' : Held) (n m : ℕ) → h3.failed ≡ h.failed → h'.failed ≡ h4.failed + (n + m)
+none_failed_across : (h h3 h4 h' : OpenFiles) (n m : ℕ) → h3.failed ≡ h.failed → h'.failed ≡ h4.failed + (n + m)
     → h4.failed + n ≡ h3.failed → m ≡ 0 → HasNotFailed h h'
 none_failed_across h h3 h4 h' n m began ended same clean = omega (arith, began, ended, same, clean)
 
 pub clean_across : (r : Result Delivered FlashFault) (n none s t m : ℕ) (input path spool x p p' : List ℕ) (a c : World)
-    (h h3 h4 h' : Held) (past : Past) → Crossed input path spool x p p' a c h h3 h4 h' (s + t + m) past
+    (h h3 h4 h' : OpenFiles) (past : Past) → Crossed input path spool x p p' a c h h3 h4 h' (s + t + m) past
     → count_delivered r ≡ Ok n
     → none ≡ 0 → OnOk r (none ≡ 0 → h4.failed + (s + t) ≡ h3.failed) → m ≡ 0 → HasNotFailed h h'
 clean_across r n none s t m input path spool x p p' a c h h3 h4 h' past all is clean same closed =
@@ -125,7 +125,7 @@ clean_across r n none s t m input path spool x p p' a c h h3 h4 h' past all is c
 refuses_ended : (untold : List ℕ → Type 0) (q : Result ℕ SparseCommandFault) (r : Result Delivered FlashFault)
     (e : SparseCommandFault)
     (G : Type 0)
-    (raw : Option ℕ) (limit before : ℕ) (input path spool x p p' : List ℕ) (a c : World) (h h' : Held)
+    (raw : Option ℕ) (limit before : ℕ) (input path spool x p p' : List ℕ) (a c : World) (h h' : OpenFiles)
     → q ≡ count_delivered r → IfErr q (λ f. e ≡ f) → (IsOk q → (host : HostFault) × (e ≡ faults.Host host))
     → (IsOk q → HasFailed h h') → h'.part ≡ None → (G → HasFailed h h')
     → ((P : List ℕ → List ℕ → List ℕ → Type 0) → P x p p' → Across input path spool a c P)
@@ -152,7 +152,7 @@ refuses_ended untold (Err f) r e G raw limit before input path spool x p p' a c 
 pub refuses_across : (untold : List ℕ → Type 0) (q : Result ℕ SparseCommandFault) (r : Result Delivered FlashFault)
     (e : SparseCommandFault)
     (none s t m : ℕ) (raw : Option ℕ)
-    (limit before before' : ℕ) (input path spool x p p' : List ℕ) (a c : World) (h h3 h4 h' : Held) (past : Past)
+    (limit before before' : ℕ) (input path spool x p p' : List ℕ) (a c : World) (h h3 h4 h' : OpenFiles) (past : Past)
     → Crossed input path spool x p p' a c h h3 h4 h' (s + t + m) past → q ≡ count_delivered r → IfErr q (λ f. e ≡ f)
     → (IsOk q → (host : HostFault) × (e ≡ faults.Host host)) → (IsOk q → 0 < m) → none ≡ 0
     → before' ≡ before → DeliversPieces (none ≡ 0 → h3.failed < h4.failed + (s + t)) raw r limit before' x p p'
@@ -171,7 +171,7 @@ refuses_across untold q r e none s t m raw limit before before' input path spool
     delivers)
 
 pub done_across : (r : Result Delivered FlashFault) (n : ℕ) (G : Type 0) (raw : Option ℕ) (limit before before' : ℕ)
-    (input path spool x p p' : List ℕ) (a c : World) (h h3 h4 h' : Held) (faults : ℕ) (past past' : Past)
+    (input path spool x p p' : List ℕ) (a c : World) (h h3 h4 h' : OpenFiles) (faults : ℕ) (past past' : Past)
     (shows : List ℕ → Type 0) → Crossed input path spool x p p' a c h h3 h4 h' faults past' → count_delivered r ≡ Ok n
     → past ≡ no_past → IfOk r (λ d. 0 < d.pieces) → IfOk r (λ d. past'.synced ≡ past.synced + d.pieces)
     → OnOk r (past'.pending ≡ []) → before' ≡ before → DeliversPieces G raw r limit before' x p p'
@@ -189,7 +189,7 @@ done_across r n G raw limit before before' input path spool x p p' a c h h3 h4 h
 -- one of the files was not opened, and the partition not written
 pub pieces_unopened : (untold : List ℕ → Type 0) (e : SparseCommandFault) (host : HostFault) (raw : Option ℕ)
     (limit before : ℕ)
-    (input path spool : List ℕ) (a c : World) (h h' : Held) → e ≡ faults.Host host → HasFailed h h' → KeepsFile path a c
+    (input path spool : List ℕ) (a c : World) (h h' : OpenFiles) → e ≡ faults.Host host → HasFailed h h' → KeepsFile path a c
     → RefusesPieces e raw limit before input path spool a c h h' untold
 pieces_unopened untold e host raw limit before input path spool a c h h' is failed kept =
     subst (λ (z : SparseCommandFault). RefusesPieces z raw limit before input path spool a c h h' untold) (sym is)
@@ -198,7 +198,7 @@ pieces_unopened untold e host raw limit before input path spool a c h h' is fail
 -- all was done, but the line
 pub pieces_untold : (untold : List ℕ → Type 0) (e : SparseCommandFault) (host : HostFault) (raw : Option ℕ)
     (limit before : ℕ)
-    (input path spool : List ℕ) (a c : World) (h h' : Held) → e ≡ faults.Host host → h'.part ≡ None
+    (input path spool : List ℕ) (a c : World) (h h' : OpenFiles) → e ≡ faults.Host host → h'.part ≡ None
     → FlashesPieces raw limit before input path spool a c h h' untold
     → RefusesPieces e raw limit before input path spool a c h h' untold
 pieces_untold untold e host raw limit before input path spool a c h h' is closed done =

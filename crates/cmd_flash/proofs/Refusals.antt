@@ -2,7 +2,7 @@
 use Rattle.std.proofs.Common.{◌≡◌, ◌<◌, ◌⊎◌, inl, inr, ℕ, List, refl, sym, subst}
 use Rattle.std.specs.Prelude.{None, Result, Ok, Err, OnOk, IfErr, IsErrAnd, IsOk}
 use Rattle.sys_refusals.specs.declared.refusal.HostFault.{HostFault}
-use Rattle.sys_disk.specs.World.{World, Held, HasFailed}
+use Rattle.sys_disk.specs.World.{World, OpenFiles, HasFailed}
 use Rattle.abt_flash_faults.specs.declared.fault.FlashFault.{FlashFault}
 use Rattle.abt_flash_faults.specs.declared.fault.FlashFault.TheVariants as flashes
 use Rattle.abt_runs.specs.declared.part.RunFault.{RunFault}
@@ -70,7 +70,7 @@ not_there_raw_for (verifies.BadBlock n) F G b x p go is = is
 -- ---- of a command
 
 flash_own : (untold : List ℕ → Type 0) (f : SparseCommandFault) (F : Type 0) (input path x p p' : List ℕ) (a c : World)
-    (h h' : Held)
+    (h h' : OpenFiles)
     → h'.part ≡ None → (F → HasFailed h h')
     → ((P : List ℕ → List ℕ → List ℕ → Type 0) → P x p p' → Between input path a c P)
     → Lays F (Err f) x p p' → RefusesFlash f input path a c h h' untold
@@ -88,7 +88,7 @@ flash_own untold (faults.Host f) F input path x p p' a c h h' closed go with_fil
 pub refuses_flash : (untold : List ℕ → Type 0) (answer : Result ℕ SparseCommandFault) (e : SparseCommandFault)
     (F : Type 0)
     (input path x p p' : List ℕ)
-    (a c : World) (h h' : Held) → IfErr answer (λ f. e ≡ f) →
+    (a c : World) (h h' : OpenFiles) → IfErr answer (λ f. e ≡ f) →
     (IsOk answer → (host : HostFault) × (e ≡ faults.Host host))
     → (IsOk answer → HasFailed h h') → h'.part ≡ None → (F → HasFailed h h')
     → ((P : List ℕ → List ℕ → List ℕ → Type 0) → P x p p' → Between input path a c P)
@@ -101,7 +101,7 @@ refuses_flash untold (Err f) e F input path x p p' a c h h' told host unclosed c
     (flash_own untold f F input path x p p' a c h h' closed go with_files lays)
 
 raw_own : (untold : List ℕ → Type 0) (f : SparseCommandFault) (F : Type 0) (b : ℕ) (input path x p p' : List ℕ)
-    (a c : World) (h h' : Held)
+    (a c : World) (h h' : OpenFiles)
     → h'.part ≡ None → (F → HasFailed h h')
     → ((P : List ℕ → List ℕ → List ℕ → Type 0) → P x p p' → Between input path a c P)
     → LaysRaw F (Err f) b x p p' → RefusesFlashRaw f b input path a c h h' untold
@@ -124,7 +124,7 @@ raw_own untold (faults.Host f) F b input path x p p' a c h h' closed go with_fil
 
 pub refuses_raw : (untold : List ℕ → Type 0) (answer : Result ℕ SparseCommandFault) (e : SparseCommandFault)
     (F : Type 0) (b : ℕ)
-    (input path x p p' : List ℕ) (a c : World) (h h' : Held) → IfErr answer (λ f. e ≡ f)
+    (input path x p p' : List ℕ) (a c : World) (h h' : OpenFiles) → IfErr answer (λ f. e ≡ f)
     → (IsOk answer → (host : HostFault) × (e ≡ faults.Host host)) → (IsOk answer → HasFailed h h') → h'.part ≡ None
     → (F → HasFailed h h') → ((P : List ℕ → List ℕ → List ℕ → Type 0) → P x p p' → Between input path a c P)
     → LaysRaw F answer b x p p' → RefusesFlashRaw e b input path a c h h' untold
@@ -137,7 +137,7 @@ refuses_raw untold (Err f) e F b input path x p p' a c h h' told host unclosed c
 
 pub refuses_verify_raw : (untold : List ℕ → Type 0) (f : SparseCommandFault) (F : Type 0) (b : ℕ)
     (input path x p : List ℕ) (a : World)
-    (h h' : Held)
+    (h h' : OpenFiles)
     → (F → HasFailed h h') → ((P : List ℕ → List ℕ → Type 0) → P x p → OfBoth input path a P)
     → FindsRaw F (Err f) b x p → RefusesVerifyRaw f b input path a h h' untold
 refuses_verify_raw untold (faults.Verify f) F b input path x p a h h' go with_files finds =
@@ -152,7 +152,7 @@ refuses_verify_raw untold (faults.Host f) F b input path x p a h h' go with_file
 
 pub verify_raw_refusal : (untold : List ℕ → Type 0) (e f : SparseCommandFault) (F : Type 0) (b : ℕ)
     (input path x p : List ℕ) (a : World)
-    (h h' : Held)
+    (h h' : OpenFiles)
     → e ≡ f → (F → HasFailed h h') → ((P : List ℕ → List ℕ → Type 0) → P x p → OfBoth input path a P)
     → FindsRaw F (Err f) b x p → RefusesVerifyRaw e b input path a h h' untold
 verify_raw_refusal untold e f F b input path x p a h h' is go with_files finds =
@@ -165,7 +165,7 @@ unlisted_for (of_sparse.Write d) F G W x go is = is
 unlisted_for f F G W x go is = is
 
 pub list_refusal : (e : SparseCommandFault) (f : SparseFault) (F W : Type 0) (input x : List ℕ) (a : World)
-    (h h' : Held)
+    (h h' : OpenFiles)
     → e ≡ faults.Sparse f → (F → HasFailed h h') → ((P : List ℕ → Type 0) → P x → OfFile input a P) → IsUnlisted F W f x
     → RefusesList e input a h h' W
 list_refusal e f F W input x a h h' is go with_file listed =
@@ -179,14 +179,14 @@ handed_on (Ok x) P Q go is = tt
 handed_on (Err r) P Q go is = go r is
 
 pub flash_untold : (untold : List ℕ → Type 0) (e : SparseCommandFault) (host : HostFault) (input path : List ℕ)
-    (a c : World) (h h' : Held)
+    (a c : World) (h h' : OpenFiles)
     → e ≡ faults.Host host → h'.part ≡ None → FlashesFile input path a c h.syncs h'.syncs untold
     → RefusesFlash e input path a c h h' untold
 flash_untold untold e host input path a c h h' is closed done =
     subst (λ (z : SparseCommandFault). RefusesFlash z input path a c h h' untold) (sym is) (inr (closed, done))
 
 pub raw_untold : (untold : List ℕ → Type 0) (e : SparseCommandFault) (host : HostFault) (b : ℕ) (input path : List ℕ)
-    (a c : World) (h h' : Held)
+    (a c : World) (h h' : OpenFiles)
     → e ≡ faults.Host host → h'.part ≡ None → FlashesRawFile b input path a c h.syncs h'.syncs untold
     → RefusesFlashRaw e b input path a c h h' untold
 raw_untold untold e host b input path a c h h' is closed done =

@@ -1,16 +1,16 @@
 -- What is so of the files that a command was given.
 use Rattle.std.specs.Prelude.{◌≡◌, ◌≢◌, ◌⊎◌, ℕ, Bool, false, List, [], length, slice_get, Some, None, Result, OnOk}
-use Rattle.sys_disk.specs.World.{World, Held, KeepsFile, Spares, HasFailed, HasNotFailed}
+use Rattle.sys_disk.specs.World.{World, OpenFiles, KeepsFile, Spares, HasFailed, HasNotFailed}
 
 -- nothing was opened to be written, no file is written in place, and pieces go through none
-pub record MayFlashPieces (held : Held) : Type 0 where
+pub record MayFlashPieces (held : OpenFiles) : Type 0 where
   pub first : held.begun ≡ []
   pub one : held.part ≡ None
   pub through : held.spool ≡ None
 
 -- What a command that writes leaves of files, whatever the outcome: `Spared` says what of all but those that it writes,
 -- and IN holds what it held. It is done only where nothing has failed, and PARTITION is closed.
-pub record LeavesOthers {X F : Type 0} (r : Result X F) (Spared : Type 0) (from : List ℕ) (held held' : Held)
+pub record LeavesOthers {X F : Type 0} (r : Result X F) (Spared : Type 0) (from : List ℕ) (held held' : OpenFiles)
     (old new : World) : Type 0 where
   pub others : Spared
   pub input : KeepsFile from old new
@@ -50,11 +50,11 @@ pub record HoldsBut (touched : ℕ → Bool) (p p' : List ℕ) : Type 0 where
   pub kept : (i : ℕ) → touched i ≡ false → slice_get p' i ≡ slice_get p i
 
 -- so much is so, and PARTITION is closed
-abbrev pub OnClosed : Held → Type 0 → Type 0
+abbrev pub OnClosed : OpenFiles → Type 0 → Type 0
 OnClosed held P = (held.part ≡ None) × P
 
 -- A call of the disk has failed before the work at PARTITION, which holds what it held; or behind it, and all of it is
 -- done.
-abbrev pub FailsAround : List ℕ → World → World → Held → Held → Type 0 → Type 0
+abbrev pub FailsAround : List ℕ → World → World → OpenFiles → OpenFiles → Type 0 → Type 0
 FailsAround partition old new held held' Done =
     HasFailed held held' × (KeepsFile partition old new ⊎ OnClosed held' Done)

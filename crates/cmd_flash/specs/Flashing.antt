@@ -12,7 +12,7 @@ use Rattle.abt_pieces.specs.Contents.{written_in}
 use Rattle.abt_flash.specs.Laying.{writes}
 use Rattle.abt_flash_faults.specs.declared.fault.FlashFault.{FlashFault}
 use Rattle.abt_flash_faults.specs.declared.fault.FlashFault.TheVariants as flashes
-use Rattle.sys_disk.specs.World.{World, Held, HasFailed}
+use Rattle.sys_disk.specs.World.{World, OpenFiles, HasFailed}
 use Rattle.cmd_common_sparse.specs.declared.fault.SparseCommandFault.{SparseCommandFault}
 use Rattle.cmd_common_sparse.specs.declared.fault.SparseCommandFault.TheVariants as faults
 use Rattle.cmd_common_sparse.specs.declared.lines.Line.TheVariants as lines
@@ -68,7 +68,7 @@ IsUnflashed failed f x p p' = ⊥
 pub record SyncsOnce {X F : Type 0} (r : Result X F) {C : Type 0} (s : sources.Ghosts C) (p : partitions.Ghosts C)
     (old new : C) : Type 0 where
   pub synced : OnOk r ((p.past new).synced ≡ (p.past old).synced + 1)
-  pub settled : IsTrue s.tells → OnOk r ((p.past new).pending ≡ [])
+  pub settled : IsTrue s.models → OnOk r ((p.past new).pending ≡ [])
   pub size : s.size new ≡ s.size old
 
 -- ---- of files
@@ -83,12 +83,12 @@ pub record FlashesFile (input partition : List ℕ) (old new : World) (syncs syn
   pub shown : shows (line_text (lines.Blocks blocks) ++ (10 ∷ []))
 
 -- all was done, and PARTITION closed, but its line is untold
-abbrev pub FlashesUntold : List ℕ → List ℕ → World → World → Held → Held → (List ℕ → Type 0) → Type 0
+abbrev pub FlashesUntold : List ℕ → List ℕ → World → World → OpenFiles → OpenFiles → (List ℕ → Type 0) → Type 0
 FlashesUntold input partition old new held held' untold =
     OnClosed held' (FlashesFile input partition old new held.syncs held'.syncs untold)
 
 -- why the command is refused: for what the files hold; or a file or a device has failed, or the report
-abbrev pub RefusesFlash : SparseCommandFault → List ℕ → List ℕ → World → World → Held → Held → (List ℕ → Type 0)
+abbrev pub RefusesFlash : SparseCommandFault → List ℕ → List ℕ → World → World → OpenFiles → OpenFiles → (List ℕ → Type 0)
     → Type 0
 RefusesFlash (faults.Flash f) input partition old new held held' untold =
     OnClosed held' (Between input partition old new (IsUnflashed (HasFailed held held') f))

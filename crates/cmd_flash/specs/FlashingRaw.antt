@@ -9,7 +9,7 @@ use Rattle.abt_runs.specs.declared.part.RunFault.TheVariants as of_runs
 use Rattle.abt_flash.specs.Raw.{IsFilled}
 use Rattle.abt_flash_faults.specs.declared.fault.FlashFault.{FlashFault}
 use Rattle.abt_flash_faults.specs.declared.fault.FlashFault.TheVariants as flashes
-use Rattle.sys_disk.specs.World.{World, Held, HasFailed}
+use Rattle.sys_disk.specs.World.{World, OpenFiles, HasFailed}
 use Rattle.cmd_common_sparse.specs.declared.fault.SparseCommandFault.{SparseCommandFault}
 use Rattle.cmd_common_sparse.specs.declared.fault.SparseCommandFault.TheVariants as faults
 use Rattle.cmd_common_sparse.specs.declared.lines.Line.TheVariants as lines
@@ -77,12 +77,12 @@ pub record FlashesRawFile (size : ℕ) (input partition : List ℕ) (old new : W
   pub shown : shows (line_text (lines.Blocks blocks) ++ (10 ∷ []))
 
 -- all was done, and PARTITION closed, but its line is untold
-abbrev pub FlashesRawUntold : ℕ → List ℕ → List ℕ → World → World → Held → Held → (List ℕ → Type 0) → Type 0
+abbrev pub FlashesRawUntold : ℕ → List ℕ → List ℕ → World → World → OpenFiles → OpenFiles → (List ℕ → Type 0) → Type 0
 FlashesRawUntold size input partition old new held held' untold =
     OnClosed held' (FlashesRawFile size input partition old new held.syncs held'.syncs untold)
 
 -- why the command is refused: for what the files hold; or a file or a device has failed, or the report
-abbrev pub RefusesFlashRaw : SparseCommandFault → ℕ → List ℕ → List ℕ → World → World → Held → Held
+abbrev pub RefusesFlashRaw : SparseCommandFault → ℕ → List ℕ → List ℕ → World → World → OpenFiles → OpenFiles
     → (List ℕ → Type 0) → Type 0
 RefusesFlashRaw (faults.Host f) size input partition old new held held' untold =
     FailsAround partition old new held held' (Between input partition old new (IsFlashedWholeRaw size))

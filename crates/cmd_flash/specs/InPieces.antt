@@ -12,7 +12,7 @@ use Rattle.abt_flash.specs.Delivering.{ImageBlocks, blocks_behind, blocks_in_fir
 use Rattle.abt_flash.specs.Devices.{Counts}
 use Rattle.abt_flash.specs.Raw.{IsAllowed, RawRefused, raw_image}
 use Rattle.abt_flash.specs.Sparse.{Fits, SparseRefused, sparse_image}
-use Rattle.sys_disk.specs.World.{World, Held, HasFailed}
+use Rattle.sys_disk.specs.World.{World, OpenFiles, HasFailed}
 use Rattle.cmd_common_sparse.specs.Blocks.{RefusedCut}
 use Rattle.cmd_common_sparse.specs.declared.fault.SparseCommandFault.{SparseCommandFault}
 use Rattle.cmd_common_sparse.specs.declared.fault.SparseCommandFault.TheVariants as faults
@@ -93,7 +93,7 @@ pub record SyncsPieces {F : Type 0} (r : Result Delivered F) {C : Type 0} (s : s
     (p : partitions.Ghosts C) (old new : C) : Type 0 where
   pub some : IfOk r (λ d. 0 < d.pieces)
   pub synced : IfOk r (λ d. (p.past new).synced ≡ (p.past old).synced + d.pieces)
-  pub settled : IsTrue s.tells → OnOk r ((p.past new).pending ≡ [])
+  pub settled : IsTrue s.models → OnOk r ((p.past new).pending ≡ [])
   pub size : s.size new ≡ s.size old
 
 -- ---- of files
@@ -123,14 +123,14 @@ pub record SparesBoth (partition spool : List ℕ) (old new : World) : Type 0 wh
 -- An image that fits was delivered behind its first pieces, and PARTITION was synced behind its last byte. The line
 -- that was printed has the number of the pieces that came.
 pub record FlashesPieces (raw : Option ℕ) (limit before : ℕ) (input partition spool : List ℕ) (old new : World)
-    (held held' : Held) (shows : List ℕ → Type 0) : Type 0 where
+    (held held' : OpenFiles) (shows : List ℕ → Type 0) : Type 0 where
   pub pieces : ℕ
   pub delivered : Across input partition spool old new (IsDelivered raw limit before pieces)
   pub synced : held'.syncs ≡ held.syncs + 1
   pub shown : shows (line_text (lines.Pieces pieces) ++ (10 ∷ []))
 
 -- all was done, and PARTITION closed, but its line is untold
-abbrev pub FlashesPiecesUntold : Option ℕ → ℕ → ℕ → List ℕ → List ℕ → List ℕ → World → World → Held → Held
+abbrev pub FlashesPiecesUntold : Option ℕ → ℕ → ℕ → List ℕ → List ℕ → List ℕ → World → World → OpenFiles → OpenFiles
     → (List ℕ → Type 0) → Type 0
 FlashesPiecesUntold raw limit before input partition spool old new held held' untold =
     OnClosed held' (FlashesPieces raw limit before input partition spool old new held held' untold)
@@ -140,8 +140,8 @@ abbrev pub IsUncuttable : Option ℕ → SparseCommandFault → ℕ → List ℕ
 IsUncuttable raw fault limit x = (size : ℕ) × (raw ≡ Some size) × RefusedCut fault size (length x) limit
 
 -- why the command is refused: for what the files hold; or a file or a device has failed, or the report
-abbrev pub RefusesPieces : SparseCommandFault → Option ℕ → ℕ → ℕ → List ℕ → List ℕ → List ℕ → World → World → Held
-    → Held → (List ℕ → Type 0) → Type 0
+abbrev pub RefusesPieces : SparseCommandFault → Option ℕ → ℕ → ℕ → List ℕ → List ℕ → List ℕ → World → World → OpenFiles
+    → OpenFiles → (List ℕ → Type 0) → Type 0
 RefusesPieces (faults.Flash f) raw limit before input partition spool old new held held' untold =
     OnClosed held' (Across input partition spool old new (IsUndelivered (HasFailed held held') raw f limit before))
 RefusesPieces (faults.Host f) raw limit before input partition spool old new held held' untold =

@@ -11,9 +11,9 @@ use Rattle.abt_io.specs.declared.copying.CopyFault.TheVariants as copies
 
 -- a device has failed; a source gives fewer bytes than it has said only where it doesn't tell them
 abbrev pub IsOfDevices : Bool → Type 0 → CopyFault → Type 0
-IsOfDevices tells failed (copies.Read d) = failed
-IsOfDevices tells failed (copies.Write d) = failed
-IsOfDevices tells failed copies.Changed = tells ≡ false
+IsOfDevices models failed (copies.Read d) = failed
+IsOfDevices models failed (copies.Write d) = failed
+IsOfDevices models failed copies.Changed = models ≡ false
 
 -- how many bytes behind those that were laid may be anything then: a window that was being written
 abbrev pub torn_by : CopyFault → ℕ
@@ -33,6 +33,6 @@ pub record OnlyLays {X : Type 0} (r : Result X CopyFault) {A C : Type 0} (s : so
     (p : partitions.Ghosts C) (source source' : A) (onto onto' : C) : Type 0 where
   pub synced : (p.past onto').synced ≡ (p.past onto).synced
   pub size : t.size onto' ≡ t.size onto
-  pub refused : IfErr r (IsOfDevices s.tells
+  pub refused : IfErr r (IsOfDevices s.models
       (s.read_faults source + p.put_faults onto < s.read_faults source' + p.put_faults onto'))
   pub clean : OnOk r (s.read_faults source' + p.put_faults onto' ≡ s.read_faults source + p.put_faults onto)

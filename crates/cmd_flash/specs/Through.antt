@@ -1,7 +1,7 @@
 -- What closing the file that pieces went through adds to what was delivered.
 use Rattle.std.specs.Prelude.{◌≡◌, ℕ, ◌+◌, ◌-◌, ◌^◌, min, Option, Some, None, Result, Ok, Err}
 use Rattle.sys_disk.specs.Spools.{closed_spool}
-use Rattle.sys_disk.specs.World.{Held}
+use Rattle.sys_disk.specs.World.{OpenFiles}
 use Rattle.abt_flash.specs.declared.answer.Delivered.{Delivered}
 use Rattle.abt_flash_faults.specs.declared.fault.Cause.{Cause}
 use Rattle.abt_flash_faults.specs.declared.fault.FlashFault.{FlashFault}
@@ -10,7 +10,7 @@ use Rattle.cmd_common_sparse.specs.declared.fault.SparseCommandFault.{SparseComm
 use Rattle.cmd_common_sparse.specs.declared.fault.SparseCommandFault.TheVariants as faults
 
 -- the file is closed, whatever has failed
-pub record ClosesSpool (held held' : Held) : Type 0 where
+pub record ClosesSpool (held held' : OpenFiles) : Type 0 where
   pub failures : ℕ
   pub closed : held' ≡ closed_spool failures held
 

@@ -10,7 +10,7 @@ use Rattle.abt_verify.specs.Standing.{FirstDiffers, Stands, held_in}
 use Rattle.abt_verify.specs.Verifying.{Different, RefusedVerify}
 use Rattle.abt_verify.specs.declared.fault.VerifyFault.{VerifyFault}
 use Rattle.abt_verify.specs.declared.fault.VerifyFault.TheVariants as verifies
-use Rattle.sys_disk.specs.World.{World, Held, HasFailed}
+use Rattle.sys_disk.specs.World.{World, OpenFiles, HasFailed}
 use Rattle.cmd_common_sparse.specs.declared.fault.SparseCommandFault.{SparseCommandFault}
 use Rattle.cmd_common_sparse.specs.declared.fault.SparseCommandFault.TheVariants as faults
 use Rattle.cmd_common_sparse.specs.declared.lines.Line.TheVariants as lines
@@ -80,14 +80,14 @@ pub record VerifiesRawFile (size : ℕ) (input partition : List ℕ) (world : Wo
 
 -- why the command is refused: for what both files hold; or a file or a device has failed, or all was compared, but its
 -- line is untold
-abbrev pub RefusesVerify : SparseCommandFault → List ℕ → List ℕ → World → Held → Held → (List ℕ → Type 0) → Type 0
+abbrev pub RefusesVerify : SparseCommandFault → List ℕ → List ℕ → World → OpenFiles → OpenFiles → (List ℕ → Type 0) → Type 0
 RefusesVerify (faults.Verify f) input partition world held held' untold =
     OfBoth input partition world (IsNotThere (HasFailed held held') f)
 RefusesVerify (faults.Host f) input partition world held held' untold =
     HasFailed held held' ⊎ VerifiesFile input partition world untold
 RefusesVerify f input partition world held held' untold = ⊥
 
-abbrev pub RefusesVerifyRaw : SparseCommandFault → ℕ → List ℕ → List ℕ → World → Held → Held → (List ℕ → Type 0)
+abbrev pub RefusesVerifyRaw : SparseCommandFault → ℕ → List ℕ → List ℕ → World → OpenFiles → OpenFiles → (List ℕ → Type 0)
     → Type 0
 RefusesVerifyRaw (faults.Verify f) size input partition world held held' untold =
     OfBoth input partition world (IsNotThereRaw (HasFailed held held') f size)

@@ -6,10 +6,10 @@ ghost use Rattle.cmd_flash.specs.Flashing.{SyncsOnce};
 ghost use Rattle.cmd_flash.specs.FlashingRaw.{LaysRaw};
 ghost use Rattle.cmd_flash.specs.Laying.{unlaid};
 
-use crate::laying::lay_filled;
+use crate::flash_source::lay_filled;
+use abt_flash_faults::FlashFault;
 use abt_io::{CopyFault, Meter, Partition, Source, Window};
 use abt_runs::{BlockRuns, RawRuns, RunFault};
-use abt_flash_faults::FlashFault;
 use cmd_common_sparse::SparseCommandFault;
 
 /// Flashes each block of a raw image once, from the first to the last, and then syncs. How many they were. Nothing is
@@ -25,7 +25,7 @@ pub(crate) fn flash_blocks<S: Source, P: Partition>(
     ensures filled { IfOk result (λ blocks. IsFilled blocks size (S.size source.old)) }
     ensures room { IfOk result (λ blocks. blocks * size ≤ P.size onto.old) }
     // what the partition holds, or why not
-    ensures lays { IsTrue S.tells → IsTrue P.tells → LaysRaw
+    ensures lays { IsTrue S.models → IsTrue P.models → LaysRaw
         (S.read_faults source.old + P.put_faults onto.old < S.read_faults source.new + P.put_faults onto.new) result
         size (S.content source.old) (P.content onto.old) (P.content onto.new) }
     ensures clean { OnOk result

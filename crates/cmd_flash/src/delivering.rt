@@ -4,9 +4,9 @@ ghost use Rattle.std.specs.Prelude.{◌≡◌, ◌≤◌, ◌<◌, ◌+◌, ◌-
 ghost use Rattle.cmd_flash.specs.InPieces.{DeliversPieces, SyncsPieces};
 
 use abt_flash::{Delivered, resume, resume_raw_at};
+use abt_flash_faults::FlashFault;
 use abt_io::{Meter, Overwrite, Partition, Source, Spool, Window};
 use sys_report::Carried;
-use abt_flash_faults::FlashFault;
 
 /// Flashes the pieces from this one on, of a raw image in one pass over it.
 pub(crate) fn delivered<S: Source, L: Spool + Overwrite, P: Partition>(
@@ -22,7 +22,7 @@ pub(crate) fn delivered<S: Source, L: Spool + Overwrite, P: Partition>(
     requires some { 1 ≤ from }
     requires capacity { limit ≤ L.size spool.old }
     // what the partition holds, or why not: a device's fault where one has failed of devices that had not yet
-    ensures delivers { IsTrue S.tells → IsTrue L.tells → IsTrue P.tells → (P.past onto.old).pending ≡ []
+    ensures delivers { IsTrue S.models → IsTrue L.models → IsTrue P.models → (P.past onto.old).pending ≡ []
         → DeliversPieces
         (S.read_faults source.old.device + P.put_faults onto.old + (L.write_faults spool.old + (L.read_faults spool.old
         + L.clear_faults spool.old)) ≡ 0 → 0 < S.read_faults source.new.device + P.put_faults onto.new

@@ -8,12 +8,12 @@ ghost use Rattle.sys_disk.specs.DiskCalls.{HasNoPart};
 ghost use Rattle.cmd_flash.specs.Files.{LeavesOthers};
 ghost use Rattle.cmd_flash.specs.Flashing.{FlashesFile, Lays, RefusesFlash, SyncsOnce};
 
-use sys_disk::{Disk, Measured, Reasons, closed};
 use abt_flash::flash;
 use abt_io::{Input, Meter, Partition, Window};
-use sys_refusals::{Place, Sides};
-use sys_report::{Carried, Report};
 use cmd_common_sparse::{Line, SparseCommandFault, SparseRefusal};
+use sys_disk::{Disk, Measured, Reasons, closed};
+use sys_refusals::{FileArg, Sides};
+use sys_report::{Carried, Report};
 
 /// Flashes an image to a partition, which must be there, and prints how many blocks it was. The image is read forward,
 /// so that it may be a pipe.
@@ -21,23 +21,23 @@ use cmd_common_sparse::{Line, SparseCommandFault, SparseRefusal};
 pub fn flash_file<'a, D: Disk>(
     disk: &mut D,
     report: &mut Report,
-    input: Place<'a>,
-    partition: Place<'a>,
+    input: FileArg<'a>,
+    partition: FileArg<'a>,
     w: &mut Window,
     m: &mut Meter,
 ) -> Result<(), SparseRefusal<'a>>
-    requires ready { IsTrue D.tells → HasNoPart (D.held disk.old) }
+    requires ready { IsTrue D.models → HasNoPart (D.held disk.old) }
     // PARTITION holds what flashing IN leaves of what it held, and is synced; what was printed tells of it
-    ensures done { IsTrue D.tells → OnOk result (FlashesFile (path_in input.entry) (path_of partition.entry)
+    ensures done { IsTrue D.models → OnOk result (FlashesFile (path_in input.entry) (path_of partition.entry)
         (D.world disk.old) (D.world disk.new) (D.held disk.old).syncs (D.held disk.new).syncs
         (ShowsBeside (D.on_output (path_of partition.entry)) report.old report.new)) }
     // whatever comes, PARTITION alone may hold anything else, and IN holds what it held; and where it is done nothing
     // has failed
-    ensures leaves { IsTrue D.tells → LeavesOthers result (SparesOthers (path_of partition.entry) (D.world disk.old)
+    ensures leaves { IsTrue D.models → LeavesOthers result (SparesOthers (path_of partition.entry) (D.world disk.old)
         (D.world disk.new)) (path_in input.entry) (D.held disk.old) (D.held disk.new) (D.world disk.old)
         (D.world disk.new) }
     // it is refused for the first fault that IN has, for want of room, or where a file, a device or the report failed
-    ensures refused { IsTrue D.tells → IfErr result (λ refusal. RefusesFlash refusal.fault (path_in input.entry)
+    ensures refused { IsTrue D.models → IfErr result (λ refusal. RefusesFlash refusal.fault (path_in input.entry)
         (path_of partition.entry) (D.world disk.old) (D.world disk.new) (D.held disk.old) (D.held disk.new)
         (Unprinted report.old report.new)) }
 {
@@ -70,7 +70,7 @@ fn flashed<I: Input, P: Partition>(
     w: &mut Window,
     m: &mut Meter,
 ) -> Result<u32, SparseCommandFault>
-    ensures lays { IsTrue I.tells → IsTrue P.tells → Lays
+    ensures lays { IsTrue I.models → IsTrue P.models → Lays
         (I.read_faults from.old.device + P.put_faults onto.old < I.read_faults from.new.device + P.put_faults onto.new)
         result (I.remaining from.old.device) (P.content onto.old) (P.content onto.new) }
     ensures clean { OnOk result (I.read_faults from.new.device + P.put_faults onto.new

@@ -9,11 +9,11 @@ ghost use Rattle.cmd_flash.specs.Files.{LeavesOthers};
 ghost use Rattle.cmd_flash.specs.FlashingRaw.{FlashesRawFile, RefusesFlashRaw};
 
 use crate::blocks::flash_blocks;
-use sys_disk::{Disk, closed};
 use abt_io::{Meter, Source, Window};
-use sys_refusals::{Place, Sides};
-use sys_report::{Carried, Report};
 use cmd_common_sparse::{Line, SparseCommandFault, SparseRefusal};
+use sys_disk::{Disk, closed};
+use sys_refusals::{FileArg, Sides};
+use sys_report::{Carried, Report};
 
 /// Flashes a raw image in blocks of so many bytes to a partition, which must be there, and prints how many they were. It
 /// is read once, at any place, so that standard input will do only where it is a file.
@@ -21,24 +21,24 @@ use cmd_common_sparse::{Line, SparseCommandFault, SparseRefusal};
 pub fn flash_raw_file<'a, D: Disk>(
     disk: &mut D,
     report: &mut Report,
-    input: Place<'a>,
-    partition: Place<'a>,
+    input: FileArg<'a>,
+    partition: FileArg<'a>,
     size: u32,
     w: &mut Window,
     m: &mut Meter,
 ) -> Result<(), SparseRefusal<'a>>
-    requires ready { IsTrue D.tells → HasNoPart (D.held disk.old) }
+    requires ready { IsTrue D.models → HasNoPart (D.held disk.old) }
     // PARTITION holds IN in whole blocks at its front, and is synced; what was printed tells of it
-    ensures done { IsTrue D.tells → OnOk result (FlashesRawFile size (path_of input.entry) (path_of partition.entry)
+    ensures done { IsTrue D.models → OnOk result (FlashesRawFile size (path_of input.entry) (path_of partition.entry)
         (D.world disk.old) (D.world disk.new) (D.held disk.old).syncs (D.held disk.new).syncs
         (ShowsBeside (D.on_output (path_of partition.entry)) report.old report.new)) }
     // whatever comes, PARTITION alone may hold anything else, and IN holds what it held; and where it is done nothing
     // has failed
-    ensures leaves { IsTrue D.tells → LeavesOthers result (SparesOthers (path_of partition.entry) (D.world disk.old)
+    ensures leaves { IsTrue D.models → LeavesOthers result (SparesOthers (path_of partition.entry) (D.world disk.old)
         (D.world disk.new)) (path_of input.entry) (D.held disk.old) (D.held disk.new) (D.world disk.old)
         (D.world disk.new) }
     // it is refused for its blocks, for want of room, or where a file, a device or the report failed
-    ensures refused { IsTrue D.tells → IfErr result (λ refusal. RefusesFlashRaw refusal.fault size (path_of input.entry)
+    ensures refused { IsTrue D.models → IfErr result (λ refusal. RefusesFlashRaw refusal.fault size (path_of input.entry)
         (path_of partition.entry) (D.world disk.old) (D.world disk.new) (D.held disk.old) (D.held disk.new)
         (Unprinted report.old report.new)) }
 {

@@ -6,7 +6,7 @@
 //! | file | has |
 //! |---|---|
 //! | `flash.rt`, `flash_raw.rt` | an image straight to a partition, sparse or raw |
-//! | `blocks.rt`, `laying.rt` | each block of a raw image to a partition; a source over its front |
+//! | `blocks.rt`, `flash_source.rt` | each block of a raw image to a partition; a source over its front |
 //! | `pieces.rt`, `through.rt` | an image in pieces, and the file that they go through, which is closed behind them |
 //! | `delivering.rt` | the pieces, by the engine |
 //! | `verify.rt` | whether an image stands on a partition |
@@ -17,7 +17,7 @@ mod blocks;
 mod delivering;
 mod flash;
 mod flash_raw;
-mod laying;
+mod flash_source;
 mod list;
 mod pieces;
 mod through;

@@ -6,31 +6,31 @@ ghost use Rattle.sys_disk.specs.DiskCalls.{LeavesAll};
 ghost use Rattle.cmd_flash.specs.Files.{OfFile};
 ghost use Rattle.cmd_flash.specs.Listing.{IsListed, IsUnlisted, RefusesList};
 
-use sys_disk::{Disk, Reasons};
 use abt_io::{Input, Meter, Output, Window};
-use sys_refusals::{Place, Sides};
-use sys_report::Report;
 use abt_sparse::SparseFault;
-use cmd_common_sparse::{SparseCommandFault, SparseRefusal};
 use cmd_common_listing::report_list;
+use cmd_common_sparse::{SparseCommandFault, SparseRefusal};
+use sys_disk::{Disk, Reasons};
+use sys_refusals::{FileArg, Sides};
+use sys_report::Report;
 
 /// Prints the header and each chunk of a sparse image. `-` is standard input.
 #[inline(never)]
 pub fn list_file<'a, D: Disk>(
     disk: &mut D,
     report: &mut Report,
-    input: Place<'a>,
+    input: FileArg<'a>,
     w: &mut Window,
     m: &mut Meter,
 ) -> Result<(), SparseRefusal<'a>>
-    requires first { IsTrue D.tells → (D.held disk.old).begun ≡ [] }
+    requires first { IsTrue D.models → (D.held disk.old).begun ≡ [] }
     // what was printed are the header and the chunks of the image that IN holds
-    ensures done { IsTrue D.tells → OnOk result (OfFile (path_in input.entry) (D.world disk.old) (λ x.
+    ensures done { IsTrue D.models → OnOk result (OfFile (path_in input.entry) (D.world disk.old) (λ x.
         IsListed x (λ text. report.new.out.log.state.bytes ≡ report.old.out.log.state.bytes ++ text))) }
     // every file stays as it is; and where it is done nothing has failed
-    ensures leaves { LeavesAll D.tells result (D.held disk.old) (D.held disk.new) (D.world disk.old) (D.world disk.new) }
+    ensures leaves { LeavesAll D.models result (D.held disk.old) (D.held disk.new) (D.world disk.old) (D.world disk.new) }
     // it is refused for the first fault that IN has, or where its file failed, or the report
-    ensures refused { IsTrue D.tells → IfErr result (λ refusal. RefusesList refusal.fault (path_in input.entry)
+    ensures refused { IsTrue D.models → IfErr result (λ refusal. RefusesList refusal.fault (path_in input.entry)
         (D.world disk.old) (D.held disk.old) (D.held disk.new)
         (report.old.out.faults.number < report.new.out.faults.number)) }
 {
@@ -58,9 +58,9 @@ fn listed<I: Input, O: Output>(
     w: &mut Window,
     m: &mut Meter,
 ) -> Result<(), SparseFault>
-    ensures listed { IsTrue I.tells → OnOk result (IsListed (I.remaining from.old) (λ text.
+    ensures listed { IsTrue I.models → OnOk result (IsListed (I.remaining from.old) (λ text.
         O.written out.new ≡ O.written out.old ++ text)) }
-    ensures refused { IsTrue I.tells → IfErr result (λ fault. IsUnlisted
+    ensures refused { IsTrue I.models → IfErr result (λ fault. IsUnlisted
         (I.read_faults from.old < I.read_faults from.new) (O.write_faults out.old < O.write_faults out.new) fault
         (I.remaining from.old)) }
     ensures clean { OnOk result (I.read_faults from.new ≡ I.read_faults from.old) }

@@ -8,13 +8,13 @@ ghost use Rattle.cmd_flash.specs.InPieces.{FlashesPieces, IsUncuttable, RefusesP
 ghost use Rattle.cmd_flash.specs.Through.{count_delivered};
 
 use crate::through::delivered_through;
-use sys_disk::{Disk, closed};
 use abt_flash::Delivered;
-use abt_io::{Meter, Source, Window};
-use sys_refusals::{Place, Sides};
-use sys_report::{Carried, Report};
 use abt_flash_faults::FlashFault;
+use abt_io::{Meter, Source, Window};
 use cmd_common_sparse::{Line, SparseCommandFault, SparseRefusal, raw_pieces};
+use sys_disk::{Disk, closed};
+use sys_refusals::{FileArg, Sides};
+use sys_report::{Carried, Report};
 
 /// Flashes an image in pieces of at most so many bytes, from this one on, to a partition, which must be there, and
 /// prints how many they were. The image is read at any place, so that standard input will do only where it is a file.
@@ -24,27 +24,27 @@ use cmd_common_sparse::{Line, SparseCommandFault, SparseRefusal, raw_pieces};
 pub fn flash_pieces_file<'a, D: Disk>(
     disk: &mut D,
     report: &mut Report,
-    input: Place<'a>,
-    partition: Place<'a>,
+    input: FileArg<'a>,
+    partition: FileArg<'a>,
     raw: Option<u32>,
     limit: u32,
-    spool: Place<'a>,
+    spool: FileArg<'a>,
     from: u32,
     w: &mut Window,
     m: &mut Meter,
 ) -> Result<(), SparseRefusal<'a>>
-    requires ready { IsTrue D.tells → MayFlashPieces (D.held disk.old) }
+    requires ready { IsTrue D.models → MayFlashPieces (D.held disk.old) }
     // PARTITION holds what it held under the blocks of the pieces, and is synced; what was printed tells of them
-    ensures done { IsTrue D.tells → OnOk result (FlashesPieces raw limit (max 1 from - 1) (path_of input.entry)
+    ensures done { IsTrue D.models → OnOk result (FlashesPieces raw limit (max 1 from - 1) (path_of input.entry)
         (path_of partition.entry) (path_of spool.entry) (D.world disk.old) (D.world disk.new) (D.held disk.old)
         (D.held disk.new) (ShowsBeside (D.on_output (path_of partition.entry)) report.old report.new)) }
     // whatever comes, PARTITION and SPOOL alone may hold anything else, and IN holds what it held; and where it is done
     // nothing has failed
-    ensures leaves { IsTrue D.tells → LeavesOthers result (SparesBoth (path_of partition.entry) (path_of spool.entry)
+    ensures leaves { IsTrue D.models → LeavesOthers result (SparesBoth (path_of partition.entry) (path_of spool.entry)
         (D.world disk.old) (D.world disk.new)) (path_of input.entry) (D.held disk.old) (D.held disk.new)
         (D.world disk.old) (D.world disk.new) }
     // it is refused for what IN is, for its limits, or where a file, a device or the report failed
-    ensures refused { IsTrue D.tells → IfErr result (λ refusal. RefusesPieces refusal.fault raw limit (max 1 from - 1)
+    ensures refused { IsTrue D.models → IfErr result (λ refusal. RefusesPieces refusal.fault raw limit (max 1 from - 1)
         (path_of input.entry) (path_of partition.entry) (path_of spool.entry) (D.world disk.old) (D.world disk.new)
         (D.held disk.old) (D.held disk.new) (Unprinted report.old report.new)) }
 {
@@ -89,7 +89,7 @@ pub fn flash_pieces_file<'a, D: Disk>(
 
 // Whether an image can be cut so, where that can be told before it is read: a raw one.
 fn cuttable<S: Source>(source: &S, raw: Option<u32>, limit: u32) -> Result<(), SparseCommandFault>
-    ensures { IsTrue S.tells → IfErr result (λ fault. IsUncuttable raw fault limit (S.content source.now)) }
+    ensures { IsTrue S.models → IfErr result (λ fault. IsUncuttable raw fault limit (S.content source.now)) }
 {
     let Some(size) = raw else {
         return Ok(());

@@ -8,12 +8,12 @@ ghost use Rattle.cmd_flash.specs.InPieces.{DeliversPieces, SyncsPieces};
 ghost use Rattle.cmd_flash.specs.Through.{ClosesSpool, told};
 
 use crate::delivering::delivered;
-use sys_disk::Disk;
 use abt_flash::Delivered;
-use abt_io::{DeviceFault, Meter, Window};
-use sys_refusals::{HostRefusal, Place};
-use sys_report::Carried;
 use abt_flash_faults::{Cause, FlashFault};
+use abt_io::{DeviceFault, Meter, Window};
+use sys_disk::Disk;
+use sys_refusals::{FileArg, HostRefusal};
+use sys_report::Carried;
 
 /// Flashes the pieces from this one on. All that they went through is in its file then.
 pub(crate) fn delivered_through<'a, D: Disk>(
@@ -23,28 +23,28 @@ pub(crate) fn delivered_through<'a, D: Disk>(
     limit: u32,
     from: u32,
     through: D::Through,
-    spool: Place<'a>,
-    onto: &mut D::Part,
+    spool: FileArg<'a>,
+    onto: &mut D::InPlace,
     w: &mut Window,
     m: &mut Meter,
 ) -> (Result<Delivered, FlashFault>, Option<i32>)
     requires some { 1 ≤ from }
     requires capacity { limit ≤ D.Through.Spool.size through }
     // what the partition holds, or why not: a device's fault where one has failed of devices that had not yet
-    ensures delivers { IsTrue D.tells → (D.Part.past onto.old).pending ≡ [] → DeliversPieces
-        (D.At.read_faults source.old.device + D.Part.put_faults onto.old + (D.Through.Output.write_faults through
+    ensures delivers { IsTrue D.models → (D.InPlace.past onto.old).pending ≡ [] → DeliversPieces
+        (D.At.read_faults source.old.device + D.InPlace.put_faults onto.old + (D.Through.Output.write_faults through
         + (D.Through.Input.read_faults through + D.Through.Spool.clear_faults through)) ≡ 0
         → (D.held disk.old).failed < (D.held disk.new).failed + (D.At.read_faults source.new.device
-        + D.Part.put_faults onto.new)) raw result.0 limit (from - 1) (D.At.content source.old.device)
-        (D.Part.content onto.old) (D.Part.content onto.new) }
-    ensures syncs { SyncsPieces result.0 D.Part.Source D.Part.Partition.own onto.old onto.new }
-    ensures clean { IsTrue D.tells → OnOk result.0 (D.At.read_faults source.old.device + D.Part.put_faults onto.old
+        + D.InPlace.put_faults onto.new)) raw result.0 limit (from - 1) (D.At.content source.old.device)
+        (D.InPlace.content onto.old) (D.InPlace.content onto.new) }
+    ensures syncs { SyncsPieces result.0 D.InPlace.Source D.InPlace.Partition.own onto.old onto.new }
+    ensures clean { IsTrue D.models → OnOk result.0 (D.At.read_faults source.old.device + D.InPlace.put_faults onto.old
         + (D.Through.Output.write_faults through + (D.Through.Input.read_faults through
         + D.Through.Spool.clear_faults through)) ≡ 0 → (D.held disk.new).failed + (D.At.read_faults source.new.device
-        + D.Part.put_faults onto.new) ≡ (D.held disk.old).failed) }
+        + D.InPlace.put_faults onto.new) ≡ (D.held disk.old).failed) }
     // and of the disk
-    ensures closed { IsTrue D.tells → ClosesSpool (D.held disk.old) (D.held disk.new) }
-    ensures rest { IsTrue D.tells → SparesRest (D.held disk.old).spool (D.world disk.old) (D.world disk.new) }
+    ensures closed { IsTrue D.models → ClosesSpool (D.held disk.old) (D.held disk.new) }
+    ensures rest { IsTrue D.models → SparesRest (D.held disk.old).spool (D.world disk.old) (D.world disk.new) }
 {
     let mut through = through;
     let answer = delivered(source, raw, limit, from, &mut through, onto, w, m);

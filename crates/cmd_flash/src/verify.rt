@@ -8,12 +8,12 @@ ghost use Rattle.sys_disk.specs.World.{unless};
 ghost use Rattle.cmd_flash.specs.Verifying.{Finds, FindsRaw, RefusesVerify, RefusesVerifyRaw, VerifiesFile};
 ghost use Rattle.cmd_flash.specs.Verifying.{VerifiesRawFile};
 
-use sys_disk::{Disk, Measured, Reasons};
 use abt_io::{Input, Meter, Source, Window};
-use sys_refusals::{HostRefusal, Place, Sides};
-use sys_report::{Carried, Report};
 use abt_verify::{verify, verify_raw};
 use cmd_common_sparse::{Line, SparseCommandFault, SparseRefusal};
+use sys_disk::{Disk, Measured, Reasons};
+use sys_refusals::{FileArg, HostRefusal, Sides};
+use sys_report::{Carried, Report};
 
 /// Compares a sparse image with what stands on a partition, and prints how many blocks of it were compared. The image is
 /// read forward, so that it may be a pipe.
@@ -21,19 +21,19 @@ use cmd_common_sparse::{Line, SparseCommandFault, SparseRefusal};
 pub fn verify_file<'a, D: Disk>(
     disk: &mut D,
     report: &mut Report,
-    input: Place<'a>,
-    partition: Place<'a>,
+    input: FileArg<'a>,
+    partition: FileArg<'a>,
     w: &mut Window,
     m: &mut Meter,
 ) -> Result<(), SparseRefusal<'a>>
-    requires first { IsTrue D.tells → (D.held disk.old).begun ≡ [] }
+    requires first { IsTrue D.models → (D.held disk.old).begun ≡ [] }
     // the image that IN holds stands on PARTITION, and what was printed tells of it
-    ensures done { IsTrue D.tells → OnOk result (VerifiesFile (path_in input.entry) (path_of partition.entry)
+    ensures done { IsTrue D.models → OnOk result (VerifiesFile (path_in input.entry) (path_of partition.entry)
         (D.world disk.old) (ShowsHere report.old report.new)) }
     // every file stays as it is; and where it is done nothing has failed
-    ensures leaves { LeavesAll D.tells result (D.held disk.old) (D.held disk.new) (D.world disk.old) (D.world disk.new) }
+    ensures leaves { LeavesAll D.models result (D.held disk.old) (D.held disk.new) (D.world disk.old) (D.world disk.new) }
     // it is refused for the first byte that differs or the first fault that IN has, or where a file or the report failed
-    ensures refused { IsTrue D.tells → IfErr result (λ refusal. RefusesVerify refusal.fault (path_in input.entry)
+    ensures refused { IsTrue D.models → IfErr result (λ refusal. RefusesVerify refusal.fault (path_in input.entry)
         (path_of partition.entry) (D.world disk.old) (D.held disk.old) (D.held disk.new)
         (Unprinted report.old report.new)) }
 {
@@ -68,20 +68,20 @@ pub fn verify_file<'a, D: Disk>(
 pub fn verify_raw_file<'a, D: Disk>(
     disk: &mut D,
     report: &mut Report,
-    input: Place<'a>,
-    partition: Place<'a>,
+    input: FileArg<'a>,
+    partition: FileArg<'a>,
     size: u32,
     w: &mut Window,
     m: &mut Meter,
 ) -> Result<(), SparseRefusal<'a>>
-    requires first { IsTrue D.tells → (D.held disk.old).begun ≡ [] }
+    requires first { IsTrue D.models → (D.held disk.old).begun ≡ [] }
     // each byte of IN stands on PARTITION, and what was printed tells of it
-    ensures done { IsTrue D.tells → OnOk result (VerifiesRawFile size (path_of input.entry) (path_of partition.entry)
+    ensures done { IsTrue D.models → OnOk result (VerifiesRawFile size (path_of input.entry) (path_of partition.entry)
         (D.world disk.old) (ShowsHere report.old report.new)) }
     // every file stays as it is; and where it is done nothing has failed
-    ensures leaves { LeavesAll D.tells result (D.held disk.old) (D.held disk.new) (D.world disk.old) (D.world disk.new) }
+    ensures leaves { LeavesAll D.models result (D.held disk.old) (D.held disk.new) (D.world disk.old) (D.world disk.new) }
     // it is refused for the first byte that differs, for the size of blocks, or where a file or the report failed
-    ensures refused { IsTrue D.tells → IfErr result (λ refusal. RefusesVerifyRaw refusal.fault size
+    ensures refused { IsTrue D.models → IfErr result (λ refusal. RefusesVerifyRaw refusal.fault size
         (path_of input.entry) (path_of partition.entry) (D.world disk.old) (D.held disk.old) (D.held disk.new)
         (Unprinted report.old report.new)) }
 {
@@ -114,7 +114,7 @@ fn unchanged_behind<'a, D: Disk>(
     disk: &mut D,
     answer: &Result<u64, SparseCommandFault>,
 ) -> Result<(), HostRefusal<'a>>
-    ensures { FailsOnly D.tells (unless (is_ok result)) (D.held disk.old) (D.held disk.new) (D.world disk.old)
+    ensures { FailsOnly D.models (unless (is_ok result)) (D.held disk.old) (D.held disk.new) (D.world disk.old)
         (D.world disk.new) }
 {
     match answer {
@@ -131,7 +131,7 @@ fn compared<I: Input, S: Source>(
     w: &mut Window,
     m: &mut Meter,
 ) -> Result<u64, SparseCommandFault>
-    ensures finds { IsTrue I.tells → IsTrue S.tells → Finds
+    ensures finds { IsTrue I.models → IsTrue S.models → Finds
         (I.read_faults from.old.device + S.read_faults against.old < I.read_faults from.new.device
         + S.read_faults against.new) result (I.remaining from.old.device) (S.content against.old) }
     ensures clean { OnOk result (I.read_faults from.new.device + S.read_faults against.new
@@ -150,7 +150,7 @@ fn compared_raw<S: Source, A: Source>(
     w: &mut Window,
     m: &mut Meter,
 ) -> Result<u64, SparseCommandFault>
-    ensures finds { IsTrue S.tells → IsTrue A.tells → FindsRaw
+    ensures finds { IsTrue S.models → IsTrue A.models → FindsRaw
         (S.read_faults source.old.device + A.read_faults against.old < S.read_faults source.new.device
         + A.read_faults against.new) result size (S.content source.old.device) (A.content against.old) }
     ensures clean { OnOk result (S.read_faults source.new.device + A.read_faults against.new

@@ -2,7 +2,7 @@
 use Rattle.std.proofs.Common.{◌≡◌, ◌<◌, ◌+◌, ◌⊎◌, inl, inr, ℕ, List, Some, Bool, true, false, IsTrue, ◌&&◌, Result}
 use Rattle.std.proofs.Common.{Ok, Err, refl, sym, ◌∙◌, ap, subst, arith}
 use Rattle.std.proofs.lemmas.Bool.{true≢false}
-use Rattle.sys_disk.specs.World.{World, Held, OpensFile, failing}
+use Rattle.sys_disk.specs.World.{World, OpenFiles, OpensFile, failing}
 use Rattle.abt_headers.proofs.Fields.{IsBytes}
 use Rattle.sys_report.specs.Shows.{CannotPrint}
 use Rattle.sys_report.specs.declared.report.Report.{Report}
@@ -176,7 +176,7 @@ refusal_more x o with_check P Q old new (faults.BadNumber word) more refuses = a
 refusal_more x o with_check P Q old new (faults.BadBoardId word) more refuses = absurd refuses
 refusal_more x o with_check P Q old new faults.CheckFailed more refuses = refuses
 
-pub refuses : (path x : List ℕ) (o : Notation) (with_check : Bool) (world : World) (h h' k : Held) (r r' : ℕ)
+pub refuses : (path x : List ℕ) (o : Notation) (with_check : Bool) (world : World) (h h' k : OpenFiles) (r r' : ℕ)
     (old new : Report) (fault : BootCommandFault) → OpensFile world path x h h' → r ≡ 0 → k ≡ failing r' h'
     → IsInfoRefusal x o with_check (r < r') old new fault
     → RefusesInfo path o with_check world (h.failed < k.failed) old new fault
@@ -195,13 +195,13 @@ refuses path x o with_check world h h' k r r' old new fault opens none let_go to
           )) told),
     )
 
-pub refuses_host : (other : Type 0) (h k : Held) (fault : BootCommandFault) (host : HostFault)
+pub refuses_host : (other : Type 0) (h k : OpenFiles) (fault : BootCommandFault) (host : HostFault)
     → fault ≡ faults.Host host → k ≡ failing 1 h → IsFailedHost (h.failed < k.failed) fault ⊎ other
 refuses_host other h k fault host same failed =
     let d : k.failed ≡ h.failed + 1 = ap (λ q. q.failed) failed in
     inl (host, same, omega (arith, d))
 
-pub tells_file : (path x : List ℕ) (o : Notation) (with_check : Bool) (world : World) (h h' : Held) (old new : Report)
+pub tells_file : (path x : List ℕ) (o : Notation) (with_check : Bool) (world : World) (h h' : OpenFiles) (old new : Report)
     → OpensFile world path x h h' → TellsImage o with_check x old new → TellsFile path o with_check world old new
 tells_file path x o with_check world h h' old new opens told = record {
   file = opens.file;
@@ -209,14 +209,14 @@ tells_file path x o with_check world h h' old new opens told = record {
   told = subst (λ z. TellsImage o with_check z old new) opens.held told;
 }
 
-pub none_failed : (path x : List ℕ) (world : World) (h h' k : Held) (r r' : ℕ) → OpensFile world path x h h' → r ≡ 0
+pub none_failed : (path x : List ℕ) (world : World) (h h' k : OpenFiles) (r r' : ℕ) → OpensFile world path x h h' → r ≡ 0
     → r' ≡ r → k ≡ failing r' h' → k.failed ≡ h.failed
 none_failed path x world h h' k r r' opens none same let_go =
     let e : h'.failed ≡ h.failed = ap (λ q. q.failed) opens.taken in
     let d : k.failed ≡ h'.failed + r' = ap (λ q. q.failed) let_go in
     omega (arith, e, d, none, same)
 
-pub begun_same : (path x : List ℕ) (world : World) (h h' k : Held) (r : ℕ) → OpensFile world path x h h'
+pub begun_same : (path x : List ℕ) (world : World) (h h' k : OpenFiles) (r : ℕ) → OpensFile world path x h h'
     → k ≡ failing r h' → k.begun ≡ h.begun
 begun_same path x world h h' k r opens let_go = ap (λ q. q.begun) let_go ∙ ap (λ q. q.begun) opens.taken
 

@@ -7,11 +7,11 @@ ghost use Rattle.sys_disk.specs.DiskCalls.{LeavesAll};
 ghost use Rattle.cmd_info.specs.Informing.{RefusesInfo, TellsFile, notation_of};
 
 use crate::telling::tell_image;
-use sys_disk::Disk;
 use abt_io::{Meter, Window};
-use sys_refusals::{Place, Refusal};
-use sys_report::Report;
 use cmd_common_boot::BootCommandFault;
+use sys_disk::Disk;
+use sys_refusals::{FileArg, Refusal};
+use sys_report::Report;
 
 /// How the command ended: the file that it is about is named at `'t`, and its words at `'a`.
 pub type InfoOutcome<'t, 'a> = Result<(), Refusal<'t, BootCommandFault<'a>>>;
@@ -21,22 +21,22 @@ pub type InfoOutcome<'t, 'a> = Result<(), Refusal<'t, BootCommandFault<'a>>>;
 pub fn info_file<'t, 'a, D: Disk>(
     disk: &mut D,
     report: &mut Report,
-    input: Place<'t>,
+    input: FileArg<'t>,
     with_check: bool,
     with_hex: bool,
     w: &mut Window,
     m: &mut Meter,
 ) -> InfoOutcome<'t, 'a>
-    requires first { IsTrue D.tells → IsReading (D.held disk.old) }
+    requires first { IsTrue D.models → IsReading (D.held disk.old) }
     // the text of the image that IN holds was printed; with the check, all its answers are yes
-    ensures done { IsTrue D.tells → OnOk result (TellsFile (path_of input.entry) (notation_of with_hex) with_check
+    ensures done { IsTrue D.models → OnOk result (TellsFile (path_of input.entry) (notation_of with_hex) with_check
         (D.world disk.old) report.old report.new) }
     // whatever the outcome, no file was changed, and none was opened to be written; after an Ok no call failed
-    ensures leaves { LeavesAll D.tells result (D.held disk.old) (D.held disk.new) (D.world disk.old)
+    ensures leaves { LeavesAll D.models result (D.held disk.old) (D.held disk.new) (D.world disk.old)
         (D.world disk.new) }
-    ensures begun { IsTrue D.tells → (D.held disk.new).begun ≡ (D.held disk.old).begun }
+    ensures begun { IsTrue D.models → (D.held disk.new).begun ≡ (D.held disk.old).begun }
     // it is refused for a fault that IN has, for an answer that is no, or since a call or standard output failed
-    ensures refused { IsTrue D.tells → IfErr result (λ refusal. RefusesInfo (path_of input.entry) (notation_of with_hex)
+    ensures refused { IsTrue D.models → IfErr result (λ refusal. RefusesInfo (path_of input.entry) (notation_of with_hex)
         with_check (D.world disk.old) (HasFailed (D.held disk.old) (D.held disk.new)) report.old report.new
         refusal.fault) }
 {

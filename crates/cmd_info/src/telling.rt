@@ -6,27 +6,27 @@ ghost use Rattle.cmd_info.specs.Informing as spec;
 
 use crate::info::InfoOutcome;
 use abt_io::{Meter, Source, Window};
-use sys_refusals::{HostRefusal, Place, Refusal, Sides};
-use sys_report::Report;
 use abt_sections::{SectionFault, Verdict};
-use cmd_common_findings::{Findings, find_reasons};
 use cmd_common_boot::BootCommandFault;
+use cmd_common_findings::{Findings, find_reasons};
 use cmd_common_texts::{InfoReport, Notation, report_info};
+use sys_refusals::{FileArg, HostRefusal, Refusal, Sides};
+use sys_report::Report;
 
 /// Prints what the header of an image says, and maybe why answers of the check are no.
 pub(crate) fn tell_image<'t, 'a, S: Source>(
     source: &mut S,
     report: &mut Report,
-    input: Place<'t>,
+    input: FileArg<'t>,
     with_check: bool,
     with_hex: bool,
     w: &mut Window,
     m: &mut Meter,
 ) -> InfoOutcome<'t, 'a>
-    ensures done { IsTrue S.tells → OnOk result (spec.TellsImage (spec.notation_of with_hex) with_check
+    ensures done { IsTrue S.models → OnOk result (spec.TellsImage (spec.notation_of with_hex) with_check
         (S.content source.old) report.old report.new) }
     ensures clean { OnOk result (S.read_faults source.new ≡ S.read_faults source.old) }
-    ensures refused { IsTrue S.tells → IfErr result (λ refusal. spec.IsInfoRefusal (S.content source.old)
+    ensures refused { IsTrue S.models → IfErr result (λ refusal. spec.IsInfoRefusal (S.content source.old)
         (spec.notation_of with_hex) with_check (S.read_faults source.old < S.read_faults source.new) report.old
         report.new refusal.fault) }
 {
@@ -48,7 +48,7 @@ fn tell_check<'t, 'a, S: Source>(
     told: &InfoReport,
     source: &mut S,
     report: &mut Report,
-    input: Place<'t>,
+    input: FileArg<'t>,
     w: &mut Window,
     m: &mut Meter,
 ) -> InfoOutcome<'t, 'a>
@@ -94,13 +94,13 @@ fn tell_reasons<'t>(findings: &Findings, report: &mut Report) -> Result<(), Host
 }
 
 fn refused<'t, 'a>(
-    input: Place<'t>,
+    input: FileArg<'t>,
     report: &Report,
     fault: SectionFault,
 ) -> Refusal<'t, BootCommandFault<'a>>
     ensures { result.fault ≡ BootCommandFault.Section fault }
 {
-    let printed = Place::new("report", "standard output");
+    let printed = FileArg::new("report", "standard output");
     let sides = Sides::none().reading(input, None);
     let sides = sides.writing(printed, report.out.writer.why);
     sides.refuse(BootCommandFault::Section(fault))

@@ -4,7 +4,7 @@ use Rattle.std.proofs.Common.{Bor, length, map, refl, sym, ap, ◌∙◌, subst,
 use Rattle.std.specs.Prelude.{Bool, Contains, IfErr, IsTrue, OnOk, Result, Ok, Err, if◌then◌else◌}
 use Rattle.std.proofs.lemmas.List.Elements.{Contains-append_left}
 use Rattle.sys_refusals.specs.Paths.{output_path}
-use Rattle.sys_disk.specs.World.{World, Held, HasFailed, OnlyAt, untouched, in_output, Spares}
+use Rattle.sys_disk.specs.World.{World, OpenFiles, HasFailed, OnlyAt, untouched, in_output, Spares}
 use Rattle.sys_disk.specs.World.{failing}
 use Rattle.sys_refusals.specs.declared.refusal.HostFault.{HostFault}
 use Rattle.abt_sections.specs.Fields.{BootFields, cmd_common_fields}
@@ -54,13 +54,13 @@ contains_none fs text none is = let e : Contains [] text = subst (λ l. Contains
 pub no_fragments : (fs : List FragmentText) → fs ≡ [] → (path : List ℕ) → IsFragmentInput fs path → ⊥
 no_fragments fs none path is = contains_none fs is.text none is.is_one
 
-pub opened_none : {X E : Type 0} (r : Result X E) (fs : List FragmentText) (w : World) (h h' : Held) → fs ≡ []
+pub opened_none : {X E : Type 0} (r : Result X E) (fs : List FragmentText) (w : World) (h h' : OpenFiles) → fs ≡ []
     → OnOk r (h' ≡ h) → OnOk r (OpensMore (IsFragmentInput fs) w h h')
 opened_none (Ok x) fs w h h' none same = opens_none (IsFragmentInput fs) w h h' same (no_fragments fs none)
 opened_none (Err e) fs w h h' none same = tt
 
 -- where no path is named, it is not for one that a call was refused
-pub none_stops : {X E : Type 0} (r : Result X E) (fault : E → HostFault) (B : List ℕ → Type 0) (h h' : Held)
+pub none_stops : {X E : Type 0} (r : Result X E) (fault : E → HostFault) (B : List ℕ → Type 0) (h h' : OpenFiles)
     → IfErr r (λ e. StopsOpening no_path h h' (fault e)) → IfErr r (λ e. StopsOpening B h h' (fault e))
 none_stops (Ok x) fault B h h' stops = tt
 none_stops (Err e) fault B h h' stops = stops_more no_path B h h' (fault e) stops (λ p is. absurd is)
@@ -93,7 +93,7 @@ each_path texts kind path (of_part is) = inr is
 each_path texts kind path (of_fragment is) = inl is
 
 -- the files of the fragments, and then those of the parts
-pub opens_given : (texts : PackTexts) (kind : ImageKind) (w w' : World) (h h' h'' h3 : Held) → w' ≡ w
+pub opens_given : (texts : PackTexts) (kind : ImageKind) (w w' : World) (h h' h'' h3 : OpenFiles) → w' ≡ w
     → OpensMore (IsFragmentInput texts.fragments.items) w h h'
     → OpensMore (IsPartInput texts.options.items (part_sections kind)) w' h' h'' → h3 ≡ failing 0 h''
     → OpensMore (IsGivenPath texts kind) w h h3
@@ -110,7 +110,7 @@ none_unread a b c d e f g h = omega (arith, e, f, g, h)
 outside_host : (fault : BootCommandFault) (f : HostFault) → fault ≡ faults.Host f → IsOutsideBoot fault
 outside_host fault f same = subst IsOutsideBoot (sym same) tt
 
-pub filling_stops : (command : PackCommand) (w : World) (x : List ℕ) (h : Header) (A : List ℕ → Type 0) (k k' : Held)
+pub filling_stops : (command : PackCommand) (w : World) (x : List ℕ) (h : Header) (A : List ℕ → Type 0) (k k' : OpenFiles)
     (f : HostFault) (fault : BootCommandFault)
     → ((path : List ℕ) → A path → IsGivenPath command.texts (kind_of h) path) → StopsOpening A k k' f
     → fault ≡ faults.Host f → StopsFillingAgain command w x h (HasFailed k k') fault
@@ -120,7 +120,7 @@ filling_stops command w x h A k k' f fault wider (no_text path is bad told) same
 filling_stops command w x h A k k' f fault wider (no_memory told) same =
     again.no_space (same ∙ ap (λ q. faults.Host q) told)
 
-pub parts_stop : (command : PackCommand) (w : World) (x : List ℕ) (h : Header) (kind : ImageKind) (k k' k'' : Held)
+pub parts_stop : (command : PackCommand) (w : World) (x : List ℕ) (h : Header) (kind : ImageKind) (k k' k'' : OpenFiles)
     (f : HostFault) (fault : BootCommandFault) → kind ≡ kind_of h
     → OpensMore (IsFragmentInput command.texts.fragments.items) w k k'
     → StopsOpening (IsPartInput command.texts.options.items (part_sections kind)) k' k'' f → fault ≡ faults.Host f
@@ -149,7 +149,7 @@ pub boards_set : (command : PackCommand) (words : List (Bor (List ℕ))) (said s
 boards_set command words said set all same are told = subst (AreSet (board_id_words command) said) (sym told)
     (subst (λ l. AreSet (map (λ word. word.now) l) said set) same are)
 
-pub behind_stops : (command : PackCommand) (w : World) (x : List ℕ) (h : Header) (kind : ImageKind) (k k' k'' k3 : Held)
+pub behind_stops : (command : PackCommand) (w : World) (x : List ℕ) (h : Header) (kind : ImageKind) (k k' k'' k3 : OpenFiles)
     (v : World) (f : HostFault) (fault : BootCommandFault)
     → OpensMore (IsFragmentInput command.texts.fragments.items) w k k'
     → OpensMore (IsPartInput command.texts.options.items (part_sections kind)) v k' k'' → k3 ≡ failing 1 k''
@@ -164,7 +164,7 @@ behind_stops command w x h kind k k' k'' k3 v f fault a b more same =
 -- ---- the image is written
 
 -- all is at hand: what packing is given, of which these are the bytes that are written and what packing refuses
-pub record Ready (command : PackCommand) (x : List ℕ) (h : Header) (w w' : World) (k k' : Held) (bytes : List ℕ)
+pub record Ready (command : PackCommand) (x : List ℕ) (h : Header) (w w' : World) (k k' : OpenFiles) (bytes : List ℕ)
     (refusal : Option SectionFault) : Type 0 where
   pub same : w' ≡ w
   pub opened : OpensMore (IsGivenPath command.texts (kind_of h)) w k k'
@@ -182,7 +182,7 @@ fields_again command h kind own given is same are =
     subst (λ q. AreGiven q (kind_of h) command.page command.texts.options.items given) same
     (subst (λ q. AreGiven own q command.page command.texts.options.items given) is are)
 
-pub ready : (command : PackCommand) (x : List ℕ) (h : Header) (w w' : World) (k k' : Held) (kind kind' : ImageKind)
+pub ready : (command : PackCommand) (x : List ℕ) (h : Header) (w w' : World) (k k' : OpenFiles) (kind kind' : ImageKind)
     (own given : BootFields) (p : Packing) (behind : List ℕ) → kind ≡ kind_of h → kind' ≡ kind → w' ≡ w
     → OpensMore (IsGivenPath command.texts kind) w k k' → own ≡ own_fields h
     → AreGiven own kind command.page command.texts.options.items given → AreAskedAgain command w x h given p
@@ -199,7 +199,7 @@ ready command x h w w' k k' kind kind' own given p behind is is' same opened own
   refuses = ap (λ q. refusal_from q p) (is' ∙ is);
 }
 
-module _ (command : PackCommand) (x : List ℕ) (h : Header) (w w' : World) (k k' : Held) (bytes : List ℕ)
+module _ (command : PackCommand) (x : List ℕ) (h : Header) (w w' : World) (k k' : OpenFiles) (bytes : List ℕ)
     (refusal : Option SectionFault) (r : Ready command x h w w' k k' bytes refusal) where
   all_read : k'.read ≡ k.read ++ r.opened.files
   all_read = ap (λ q. q.read) r.opened.taken
@@ -255,14 +255,14 @@ module _ (command : PackCommand) (x : List ℕ) (h : Header) (w w' : World) (k k
     ])
   ]
 
-  synced_again : (k'' : Held) → k''.syncs ≡ k'.syncs + (if k'.is_synced then 1 else 0)
+  synced_again : (k'' : OpenFiles) → k''.syncs ≡ k'.syncs + (if k'.is_synced then 1 else 0)
       → k''.syncs ≡ k.syncs + (if k.is_synced then 1 else 0)
-  synced_again k'' s = s ∙ ap (λ (q : Held). q.syncs + (if q.is_synced then 1 else 0)) r.opened.taken
+  synced_again k'' s = s ∙ ap (λ (q : OpenFiles). q.syncs + (if q.is_synced then 1 else 0)) r.opened.taken
 
   same_failed : k'.failed ≡ k.failed
   same_failed = ap (λ q. q.failed) r.opened.taken
 
-  pub left_again : {X F : Type 0} (q : Result X F) (w'' : World) (k'' : Held) (path : List ℕ) (over : List ℕ → Bool)
+  pub left_again : {X F : Type 0} (q : Result X F) (w'' : World) (k'' : OpenFiles) (path : List ℕ) (over : List ℕ → Bool)
       → path ≡ output_path command.output.now → LeavesOut q path (over path) (λ y. y ≡ bytes) k' k'' w' w''
       → LeavesOut q (output_path command.output.now) (over (output_path command.output.now))
       (IsPackedAgain command x h w) k k'' w w''
@@ -274,10 +274,10 @@ module _ (command : PackCommand) (x : List ℕ) (h : Header) (w w' : World) (k k
     synced = on_ok_by q (synced_again k'') left.synced;
   }
 
-  failed_again : (k'' : Held) → HasFailed k' k'' → HasFailed k k''
+  failed_again : (k'' : OpenFiles) → HasFailed k' k'' → HasFailed k k''
   failed_again k'' more = let e = same_failed in omega (arith, e, more)
 
-  pub writing_stops : (w'' : World) (k'' : Held) (path : List ℕ) (shows : List ℕ → Type 0) (fault : BootCommandFault)
+  pub writing_stops : (w'' : World) (k'' : OpenFiles) (path : List ℕ) (shows : List ℕ → Type 0) (fault : BootCommandFault)
       → path ≡ output_path command.output.now
       → StopsWriting refusal k' k'' w' w'' (LaysImage path k'.read bytes w' w'' shows) fault
       → RefusesAgain command x h w w'' (HasFailed k k'') (PacksAgain command x h k.read w w'' shows) fault
@@ -360,7 +360,7 @@ pub content_done : (command : PackCommand) (x y : List ℕ) (h : Header) (read :
 content_done command x y h read w w' shows same done = subst (λ z. PacksAgain command z h read w w' shows) same done
 
 pub content_left : {X F : Type 0} (r : Result X F) (command : PackCommand) (x y : List ℕ) (h : Header) (v : World)
-    (path : List ℕ) (over : Bool) (k k' : Held) (w w' : World) → x ≡ y
+    (path : List ℕ) (over : Bool) (k k' : OpenFiles) (w w' : World) → x ≡ y
     → LeavesOut r path over (IsPackedAgain command x h v) k k' w w'
     → LeavesOut r path over (IsPackedAgain command y h v) k k' w w'
 content_left r command x y h v path over k k' w w' same left =

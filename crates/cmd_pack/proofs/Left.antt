@@ -1,7 +1,7 @@
 -- What OUT is left as, told with another answer.
 use Rattle.std.proofs.Common.{ℕ, List, Bool}
 use Rattle.std.specs.Prelude.{OnOk, Result, Ok, Err}
-use Rattle.sys_disk.specs.World.{Held, World}
+use Rattle.sys_disk.specs.World.{OpenFiles, World}
 use Rattle.cmd_pack_outputs.specs.Writing.{LeavesOut}
 
 -- what is so where a call was answered so follows from this
@@ -10,7 +10,7 @@ on_ok_by (Ok x) to p = to p
 on_ok_by (Err e) to p = tt
 
 -- the same told with another answer
-pub left_told : {X Y F G : Type 0} {x : X} (y : Y) {output : List ℕ} {over : Bool} {W : List ℕ → Type 0} {h h' : Held}
+pub left_told : {X Y F G : Type 0} {x : X} (y : Y) {output : List ℕ} {over : Bool} {W : List ℕ → Type 0} {h h' : OpenFiles}
     {a b : World} → LeavesOut {F = F} (Ok x) output over W h h' a b → LeavesOut {F = G} (Ok y) output over W h h' a b
 left_told y left = record {
   others = left.others;
@@ -21,7 +21,7 @@ left_told y left = record {
 }
 
 pub left_refused : {X Y F G : Type 0} {e : F} (f : G) {output : List ℕ} {over : Bool} {W : List ℕ → Type 0}
-    {h h' : Held}
+    {h h' : OpenFiles}
     {a b : World} → LeavesOut {X = X} (Err e) output over W h h' a b → LeavesOut {X = Y} (Err f) output over W h h' a b
 left_refused f left =
     record { others = left.others; closed = left.closed; whole = left.whole; clean = tt; synced = tt }

@@ -5,7 +5,7 @@ use Rattle.std.proofs.lemmas.List.{append-nil}
 use Rattle.std.proofs.lemmas.List.Elements.{Contains-append_left}
 use Rattle.std.specs.Prelude.{Bool, Contains, IsTrue, Result, map, if◌then◌else◌}
 use Rattle.sys_refusals.specs.Paths.{output_path}
-use Rattle.sys_disk.specs.World.{World, Held, Spares, OnlyAt, in_output, untouched}
+use Rattle.sys_disk.specs.World.{World, OpenFiles, Spares, OnlyAt, in_output, untouched}
 use Rattle.sys_refusals.specs.declared.refusal.HostFault.{HostFault}
 use Rattle.sys_report.specs.Shows.{ShowsBeside}
 use Rattle.sys_report.specs.declared.report.Report.{Report}
@@ -39,7 +39,7 @@ use Rattle.cmd_pack.specs.Refusing as refusing
 use Rattle.cmd_pack_outputs.specs.Writing.{HoldsNoPartOf, LaysImage, LeavesOut, StopsWriting}
 use Rattle.cmd_common_boot.specs.Fault.{IsOutsideBoot}
 use Rattle.cmd_pack_outputs.specs.Writing as writing
-use Rattle.cmd_pack_outputs.specs.declared.contents.Contents.{Contents}
+use Rattle.cmd_pack_outputs.specs.declared.contents.ImageContents.{ImageContents}
 use Rattle.cmd_pack_inputs.proofs.Openings.{failed_still, opens_then, stops_then}
 use Rattle.cmd_pack.proofs.Left.{on_ok_by}
 
@@ -50,14 +50,14 @@ given_split : (texts : PackTexts) (kind : ImageKind) (p : List ℕ) → IsGivenP
 given_split texts kind p (of_part is) = inl is
 given_split texts kind p (of_fragment is) = inr is
 
-pub both_open : (texts : PackTexts) (kind : ImageKind) (w w' : World) (h h' h'' : Held) → w' ≡ w
+pub both_open : (texts : PackTexts) (kind : ImageKind) (w w' : World) (h h' h'' : OpenFiles) → w' ≡ w
     → OpensMore (IsPartInput texts.options.items (part_sections kind)) w h h'
     → OpensMore (IsFragmentInput texts.fragments.items) w' h' h'' → OpensMore (IsGivenPath texts kind) w h h''
 both_open texts kind w w' h h' h'' same parts fragments =
     opens_then (IsPartInput texts.options.items (part_sections kind)) (IsFragmentInput texts.fragments.items)
     (IsGivenPath texts kind) w w' h h' h'' same parts fragments (given_split texts kind)
 
-pub filling_stops : (A B : List ℕ → Type 0) (words : List (List ℕ)) (count : ℕ) (h h' : Held) (k : HostFault)
+pub filling_stops : (A B : List ℕ → Type 0) (words : List (List ℕ)) (count : ℕ) (h h' : OpenFiles) (k : HostFault)
     (f : BootCommandFault) → StopsOpening A h h' k → f ≡ faults.Host k → ((p : List ℕ) → A p → B p)
     → StopsFilling B words count h h' f
 filling_stops A B words count h h' k f (opening.failed more) told wider =
@@ -67,14 +67,14 @@ filling_stops A B words count h h' k f (opening.no_text path is bad why) told wi
 filling_stops A B words count h h' k f (opening.no_memory why) told wider =
     refusing.no_memory (told ∙ ap faults.Host why)
 
-pub board_stops : (A : List ℕ → Type 0) (words words' : List (List ℕ)) (m n : ℕ) (h h' : Held) (f : BootCommandFault)
+pub board_stops : (A : List ℕ → Type 0) (words words' : List (List ℕ)) (m n : ℕ) (h h' : OpenFiles) (f : BootCommandFault)
     → IsBadBoard words m f → words ≡ words' → m ≡ n → StopsFilling A words' n h h' f
 board_stops A words words' m n h h' f bad named same =
     refusing.wrong_board (subst (λ k. IsBadBoard words' k f) same (subst (λ ws. IsBadBoard ws m f) named bad))
 
 -- the files of fragments, behind those of parts
 pub fragments_stop : (texts : PackTexts) (kind : ImageKind) (words : List (List ℕ)) (count : ℕ) (w : World)
-    (h h' h'' : Held) (k : HostFault) (f : BootCommandFault)
+    (h h' h'' : OpenFiles) (k : HostFault) (f : BootCommandFault)
     → OpensMore (IsPartInput texts.options.items (part_sections kind)) w h h'
     → StopsOpening (IsFragmentInput texts.fragments.items) h' h'' k → f ≡ faults.Host k
     → StopsFilling (IsGivenPath texts kind) words count h h'' f
@@ -107,7 +107,7 @@ lays_beside on_output path path' read bytes a b old new same lays =
 -- ---- what is asked for
 
 pub asks : {P : Type 0} (content : P → List ℕ) (command : PackCommand) (w w' : World) (kind : ImageKind)
-    (given : BootFields) (c : Contents P) (parts sources : List P) (said specs : List FragmentSpec)
+    (given : BootFields) (c : ImageContents P) (parts sources : List P) (said specs : List FragmentSpec)
     (words : List (List ℕ)) → words ≡ board_id_words command → kind ≡ asked_kind command → w' ≡ w → c.parts.items ≡
     parts
     → c.sources.items ≡ sources → c.specs.items ≡ specs
@@ -130,7 +130,7 @@ asks content command w w' kind given c parts sources said specs words named is s
           ∙ ap (λ k. loaded_at k command.texts.options.items (map content c.parts.items) given) is;
     }
 
-pub unread : {P : Type 0} (F : P → ℕ) (c : Contents P) (parts sources : List P) (t : P) → c.parts.items ≡ parts
+pub unread : {P : Type 0} (F : P → ℕ) (c : ImageContents P) (parts sources : List P) (t : P) → c.parts.items ≡ parts
     → c.sources.items ≡ sources → c.trailing ≡ t → total F parts ≡ 0 → total F sources ≡ 0 → F c.nothing ≡ 0 → F t ≡ 0
     → faults_in F c ≡ 0
 unread F c parts sources t p s e none_p none_s none_n none_t =
@@ -143,7 +143,7 @@ unread F c parts sources t p s e none_p none_s none_n none_t =
 -- ---- what it leaves
 
 pub packed_by : {P : Type 0} (content : P → List ℕ) (command : PackCommand) (w : World) (given : BootFields)
-    (c : Contents P) (x : List ℕ) → IsTrue (is_version command.is_vendor command.version)
+    (c : ImageContents P) (x : List ℕ) → IsTrue (is_version command.is_vendor command.version)
     → AreGiven no_fields (asked_kind command) command.page command.texts.options.items given → c.kind ≡ asked_kind
     command
     → AreAskedFor command w given (packing_of content c) → content c.trailing ≡ [] → x ≡ packed_image content c
@@ -158,7 +158,7 @@ packed_by content command w given c x known are_given kind asked alone is = reco
       ∙ append-nil (image_from c.kind (packing_of content c)) ∙ ap (λ k. image_from k (packing_of content c)) kind;
 }
 
-pub packs : (command : PackCommand) (path bytes : List ℕ) (w w' v : World) (h h' : Held) (shows : List ℕ → Type 0)
+pub packs : (command : PackCommand) (path bytes : List ℕ) (w w' v : World) (h h' : OpenFiles) (shows : List ℕ → Type 0)
     → path ≡ output_path command.output.now → w' ≡ w → OpensMore (IsGivenPath command.texts (asked_kind command)) w h h'
     → IsPackedBy command w bytes → LaysImage path h'.read bytes w' v shows → PacksFile command w v shows
 packs command path bytes w w' v h h' shows named same opens packed l = record {
@@ -170,16 +170,16 @@ packs command path bytes w w' v h h' shows named same opens packed l = record {
   shown = subst (λ y. shows (image_line (counted_in_u64 (length y)) ++ (10 ∷ []))) (sym l.holds) l.shown;
 }
 
-only_before : (A : List ℕ → Type 0) (q path : List ℕ) (w w' v : World) (h h' : Held) → q ≡ path → w' ≡ w
+only_before : (A : List ℕ → Type 0) (q path : List ℕ) (w w' v : World) (h h' : OpenFiles) → q ≡ path → w' ≡ w
     → OpensMore A w h h' → OnlyAt h'.read q w' v → OnlyAt h.read path w v
 only_before A q path w w' v h h' named same opens (untouched is) = untouched (is ∙ same)
 only_before A q path w w' v h h' named same opens (in_output file at free spares) =
     in_output file (ap v.at (sym named) ∙ at)
-    (λ c. free (subst (λ (k : Held). Contains k.read file) (sym opens.taken)
+    (λ c. free (subst (λ (k : OpenFiles). Contains k.read file) (sym opens.taken)
     (Contains-append_left h.read opens.files file c)))
     (subst (λ u. Spares file u v) same spares)
 
-pub keeps_given : (command : PackCommand) (q : List ℕ) (w w' v : World) (h h' : Held) → w' ≡ w
+pub keeps_given : (command : PackCommand) (q : List ℕ) (w w' v : World) (h h' : OpenFiles) → w' ≡ w
     → OpensMore (IsGivenPath command.texts (asked_kind command)) w h h' → OnlyAt h'.read q w' v → KeepsGiven command w v
 keeps_given command q w w' v h h' same opens (untouched is) = λ path given f there. ap (λ u. u.holds f) (is ∙ same)
 keeps_given command q w w' v h h' same opens (in_output file at free spares) = λ path given f there.
@@ -192,13 +192,13 @@ whole_as W q path bytes w w' v named same to part = λ f at. elim (part f (ap v.
   | inr rest ↦ inr (elim rest [ inl none ↦ inl none | inr e ↦ inr (to (v.holds f) e) ])
 ]
 
-synced_behind : (A : List ℕ → Type 0) (w : World) (h h' h'' : Held) → OpensMore A w h h'
+synced_behind : (A : List ℕ → Type 0) (w : World) (h h' h'' : OpenFiles) → OpensMore A w h h'
     → h''.syncs ≡ h'.syncs + (if h'.is_synced then 1 else 0) → h''.syncs ≡ h.syncs + (if h.is_synced then 1 else 0)
 synced_behind A w h h' h'' opens synced = synced ∙ ap (λ k. k.syncs + (if k.is_synced then 1 else 0)) opens.taken
 
 -- the image was written behind the opening of its parts
 pub left_behind : {X F : Type 0} (r : Result X F) (A : List ℕ → Type 0) (q path : List ℕ) (over : List ℕ → Bool)
-    (W : List ℕ → Type 0) (bytes : List ℕ) (w w' v : World) (h h' h'' : Held) → q ≡ path → w' ≡ w → OpensMore A w h h'
+    (W : List ℕ → Type 0) (bytes : List ℕ) (w w' v : World) (h h' h'' : OpenFiles) → q ≡ path → w' ≡ w → OpensMore A w h h'
     → ((x : List ℕ) → x ≡ bytes → W x) → LeavesOut r q (over q) (λ x. x ≡ bytes) h' h'' w' v
     → LeavesOut r path (over path) W h h'' w v
 left_behind r A q path over W bytes w w' v h h' h'' named same opens to left = record {
@@ -212,11 +212,11 @@ left_behind r A q path over W bytes w w' v h h' h'' named same opens to left = r
 
 -- ---- of another name of the kind
 
-pub opens_kind : (texts : PackTexts) (k k' : ImageKind) (w : World) (h h' : Held) → k ≡ k'
+pub opens_kind : (texts : PackTexts) (k k' : ImageKind) (w : World) (h h' : OpenFiles) → k ≡ k'
     → OpensMore (IsGivenPath texts k) w h h' → OpensMore (IsGivenPath texts k') w h h'
 opens_kind texts k k' w h h' same opens = subst (λ q. OpensMore (IsGivenPath texts q) w h h') same opens
 
-pub stops_kind : (texts : PackTexts) (k k' : ImageKind) (words : List (List ℕ)) (count : ℕ) (h h' : Held)
+pub stops_kind : (texts : PackTexts) (k k' : ImageKind) (words : List (List ℕ)) (count : ℕ) (h h' : OpenFiles)
     (f : BootCommandFault) → k ≡ k' → StopsFilling (IsGivenPath texts k) words count h h' f
     → StopsFilling (IsGivenPath texts k') words count h h' f
 stops_kind texts k k' words count h h' f same stops =
@@ -228,13 +228,13 @@ given_kind k k' page options given same are = subst (λ q. AreGiven no_fields q 
 
 -- ---- why it is refused
 
-pub refuses_words : (command : PackCommand) (w : World) (h : Held) (Done : Type 0) (f g : BootCommandFault)
+pub refuses_words : (command : PackCommand) (w : World) (h : OpenFiles) (Done : Type 0) (f g : BootCommandFault)
     → IsWrong no_fields (asked_kind command) command.texts.options.items command.texts.fragments.items f → g ≡ f
     → RefusesPack command w w h h Done g
 refuses_words command w h Done f g wrong told =
     subst (RefusesPack command w w h h Done) (sym told) (refusing.wrong_words wrong refl refl)
 
-pub refuses_filling : (command : PackCommand) (w v : World) (h h' : Held) (Done : Type 0) (f : BootCommandFault) → v ≡ w
+pub refuses_filling : (command : PackCommand) (w v : World) (h h' : OpenFiles) (Done : Type 0) (f : BootCommandFault) → v ≡ w
     → StopsFilling (IsGivenPath command.texts (asked_kind command)) (board_id_words command)
     (length command.texts.fragments.items) h h' f → RefusesPack command w v h h' Done f
 refuses_filling command w v h h' Done f same (refusing.unopened outside more) = refusing.failed outside more
@@ -243,8 +243,8 @@ refuses_filling command w v h h' Done f same (refusing.no_text path is bad told)
 refuses_filling command w v h h' Done f same (refusing.no_memory told) = refusing.too_little told same
 refuses_filling command w v h h' Done f same (refusing.wrong_board bad) = refusing.bad_board bad same
 
-pub refuses_writing : {P : Type 0} (content : P → List ℕ) (command : PackCommand) (w w' v : World) (h h' h'' : Held)
-    (given : BootFields) (c : Contents P) (Laid Done : Type 0) (f : BootCommandFault) → w' ≡ w
+pub refuses_writing : {P : Type 0} (content : P → List ℕ) (command : PackCommand) (w w' v : World) (h h' h'' : OpenFiles)
+    (given : BootFields) (c : ImageContents P) (Laid Done : Type 0) (f : BootCommandFault) → w' ≡ w
     → OpensMore (IsGivenPath command.texts (asked_kind command)) w h h'
     → AreGiven no_fields (asked_kind command) command.page command.texts.options.items given → c.kind ≡ asked_kind
     command

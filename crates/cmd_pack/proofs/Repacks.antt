@@ -4,7 +4,7 @@ use Rattle.std.proofs.Common.{◌∙◌, subst, arith}
 use Rattle.std.specs.Prelude.{Contains, OnOk, Result, Ok, Err, if◌then◌else◌, unwrap_or}
 use Rattle.std.proofs.lemmas.List.Elements.{Contains-append_left, Contains-push}
 use Rattle.sys_refusals.specs.Paths.{output_path}
-use Rattle.sys_disk.specs.World.{World, Held, HasFailed, HasNotFailed, KeepsFile, OnlyAt, OpensFile, Spares, failing}
+use Rattle.sys_disk.specs.World.{World, OpenFiles, HasFailed, HasNotFailed, KeepsFile, OnlyAt, OpensFile, Spares, failing}
 use Rattle.sys_disk.specs.World.{untouched, in_output}
 use Rattle.std.proofs.Common.{append_assoc}
 use Rattle.abt_sections.specs.Header.{Header, image_header_at, view_of}
@@ -25,18 +25,18 @@ use Rattle.cmd_pack.proofs.Left.{on_ok_by}
 
 -- ---- what has failed
 
-pub nothing_more : (h h' : Held) (r r' : ℕ) → HasNotFailed h h' → r' ≡ r → NoMoreFailed h r h' r'
+pub nothing_more : (h h' : OpenFiles) (r r' : ℕ) → HasNotFailed h h' → r' ≡ r → NoMoreFailed h r h' r'
 nothing_more h h' r r' clean same = record { stays = omega (arith, clean, same) }
 
-pub calls_failed : (h h' : Held) (r r' : ℕ) → r' ≡ r → HasFailed h h' → SomeFailed h r h' r'
+pub calls_failed : (h h' : OpenFiles) (r r' : ℕ) → r' ≡ r → HasFailed h h' → SomeFailed h r h' r'
 calls_failed h h' r r' same more = record { rises = omega (arith, more, same) }
 
-pub reads_failed : (h : Held) (r r' : ℕ) → r < r' → SomeFailed h r h r'
+pub reads_failed : (h : OpenFiles) (r r' : ℕ) → r < r' → SomeFailed h r h r'
 reads_failed h r r' more = record { rises = omega (arith, more) }
 
 -- ---- what IN begins with
 
-pub begins : (input x : List ℕ) (w : World) (h h' : Held) (image : Image) → OpensFile w input x h h' → IsOpened x image
+pub begins : (input x : List ℕ) (w : World) (h h' : OpenFiles) (image : Image) → OpensFile w input x h h' → IsOpened x image
     → BeginsWith input w x (view_of image.header)
 begins input x w h h' image o opened = record {
   file = record { file = o.file; there = o.there; holds = sym o.held };
@@ -60,16 +60,16 @@ one_header input x y w h k a b =
 
 -- ---- from its opening to the end
 
-module _ (input : List ℕ) (command : PackCommand) (x : List ℕ) (image : Image) (w w1 w2 w3 : World) (h h1 : Held)
+module _ (input : List ℕ) (command : PackCommand) (x : List ℕ) (image : Image) (w w1 w2 w3 : World) (h h1 : OpenFiles)
     (o : OpensFile w input x h h1) (opened : IsOpened x image) (first : w1 ≡ w) (last : w3 ≡ w2) where
   begin : BeginsWith input w x (view_of image.header)
   begin = begins input x w h h1 image o opened
 
   listed : Contains h1.read o.file
-  listed = subst (λ (k : Held). Contains k.read o.file) (sym o.taken) (Contains-push h.read o.file)
+  listed = subst (λ (k : OpenFiles). Contains k.read o.file) (sym o.taken) (Contains-push h.read o.file)
 
   fewer : (file : ℕ) → ¬ Contains h1.read file → ¬ Contains h.read file
-  fewer file free is = free (subst (λ (k : Held). Contains k.read file) (sym o.taken)
+  fewer file free is = free (subst (λ (k : OpenFiles). Contains k.read file) (sym o.taken)
       (Contains-append_left h.read (o.file ∷ []) file is))
 
   -- IN's file is not the one that this path leads to
@@ -144,7 +144,7 @@ module _ (input : List ℕ) (command : PackCommand) (x : List ℕ) (image : Imag
             ]))
       ]
 
-  pub left_all : {X Y F : Type 0} (r : Result X F) (q : Result Y F) (over : Bool) (h2 h3 : Held) (n : ℕ)
+  pub left_all : {X Y F : Type 0} (r : Result X F) (q : Result Y F) (over : Bool) (h2 h3 : OpenFiles) (n : ℕ)
       → (OnOk q (h3.syncs ≡ h1.syncs + (if h1.is_synced then 1 else 0))
       → OnOk r (h3.syncs ≡ h1.syncs + (if h1.is_synced then 1 else 0)))
       → h3 ≡ failing n h2 → OnOk r (HasNotFailed h h3)
@@ -153,14 +153,14 @@ module _ (input : List ℕ) (command : PackCommand) (x : List ℕ) (image : Imag
       → LeavesOut r (output_path command.output.now) over (IsRepackedOf input command w) h h3 w w3
   left_all r q over h2 h3 n told let_go clean left = record {
     others = only_all left.others;
-    closed = ap (λ (k : Held). k.output) let_go ∙ left.closed;
+    closed = ap (λ (k : OpenFiles). k.output) let_go ∙ left.closed;
     whole = λ o. whole_all (left.whole o);
     clean = clean;
-    synced = on_ok_by r (λ e. e ∙ ap (λ (k : Held). k.syncs + (if k.is_synced then 1 else 0)) o.taken)
-        (told (on_ok_by q (λ e. ap (λ (k : Held). k.syncs) let_go ∙ e) left.synced));
+    synced = on_ok_by r (λ e. e ∙ ap (λ (k : OpenFiles). k.syncs + (if k.is_synced then 1 else 0)) o.taken)
+        (told (on_ok_by q (λ e. ap (λ (k : OpenFiles). k.syncs) let_go ∙ e) left.synced));
   }
 
-  pub refuses_all : (P Done Done' : Type 0) (fault : BootCommandFault) (h3 : Held)
+  pub refuses_all : (P Done Done' : Type 0) (fault : BootCommandFault) (h3 : OpenFiles)
       → RefusesAgain command x (view_of image.header) w1 w2 P Done fault → (P → HasFailed h h3) → (Done → Done')
       → RefusesRepack input command w w3 h h3 Done' fault
   refuses_all P Done Done' fault h3 why more done = not_again x (view_of image.header) begin
@@ -169,7 +169,7 @@ module _ (input : List ℕ) (command : PackCommand) (x : List ℕ) (image : Imag
       (again_more command x (view_of image.header) w1 w2 P (HasFailed h h3) Done Done' fault why more done)))
 
 -- all that has failed is counted where the image is let go
-pub failed_all : (path bytes : List ℕ) (w : World) (h h1 h2 h3 : Held) (r r' : ℕ) → OpensFile w path bytes h h1 → r ≡ 0
+pub failed_all : (path bytes : List ℕ) (w : World) (h h1 h2 h3 : OpenFiles) (r r' : ℕ) → OpensFile w path bytes h h1 → r ≡ 0
     → SomeFailed h1 r h2 r' → h3 ≡ failing r' h2 → HasFailed h h3
 failed_all path bytes w h h1 h2 h3 r r' o none more let_go =
     let e : h1.failed ≡ h.failed = ap (λ k. k.failed) o.taken in
@@ -177,7 +177,7 @@ failed_all path bytes w h h1 h2 h3 r r' o none more let_go =
     let m = more.rises in
     omega (arith, e, d, m, none)
 
-pub clean_all : (path bytes : List ℕ) (w : World) (h h1 h2 h3 : Held) (r r' : ℕ) → OpensFile w path bytes h h1 → r ≡ 0
+pub clean_all : (path bytes : List ℕ) (w : World) (h h1 h2 h3 : OpenFiles) (r r' : ℕ) → OpensFile w path bytes h h1 → r ≡ 0
     → NoMoreFailed h1 r h2 r' → h3 ≡ failing r' h2 → HasNotFailed h h3
 clean_all path bytes w h h1 h2 h3 r r' o none same let_go =
     let e : h1.failed ≡ h.failed = ap (λ k. k.failed) o.taken in

@@ -1,7 +1,7 @@
 -- Where the parts of a boot image are loaded, of which it may have no bytes.
 use Rattle.std.specs.Prelude.{ℕ, Bool, ◌&&◌, ◌==◌, nat_lt, List, [], length, slice_index_or, if◌then◌else◌}
 use Rattle.std.specs.Prelude.{◌≡◌, IsTrue, Result, IfOk, OnOk}
-use Rattle.sys_disk.specs.World.{World, Held}
+use Rattle.sys_disk.specs.World.{World, OpenFiles}
 use Rattle.abt_sections.specs.Fields.{BootFields}
 use Rattle.cmd_common_fields.specs.Loading.{is_sum}
 use Rattle.cmd_common_fields.specs.declared.fields.Address.TheVariants.{Ramdisk, Second}
@@ -11,7 +11,7 @@ use Rattle.cmd_common_boot.specs.Given.{words_for}
 use Rattle.cmd_common_boot.specs.declared.pack_texts.OptionText.{OptionText}
 use Rattle.cmd_pack_inputs.specs.Opening.{OnlyOpens, OpensMore}
 use Rattle.cmd_pack_outputs.specs.Contents.{faults_in}
-use Rattle.cmd_pack_outputs.specs.declared.contents.Contents.{Contents}
+use Rattle.cmd_pack_outputs.specs.declared.contents.ImageContents.{ImageContents}
 
 -- the ramdisk is the second part of a boot image, and the second stage the third of versions 0 to 2
 abbrev pub ramdisk_in : List (List ℕ) → List ℕ
@@ -41,10 +41,10 @@ loaded_at kind options parts s =
     loaded_where kind (is_sum (words_for options Ramdisk)) (is_sum (words_for options Second)) parts s
 
 -- all is open that an image of this kind is written from, and none of it has failed yet; no file has changed
-pub record FillsAll {P F : Type 0} (tells : Bool) (r : Result (Contents P) F) (its_kind : ImageKind)
-    (named : List ℕ → Type 0) (its_size its_faults : P → ℕ) (h h' : Held) (old new : World) : Type 0 where
+pub record FillsAll {P F : Type 0} (models : Bool) (r : Result (ImageContents P) F) (its_kind : ImageKind)
+    (named : List ℕ → Type 0) (its_size its_faults : P → ℕ) (h h' : OpenFiles) (old new : World) : Type 0 where
   pub kind : IfOk r (λ c. c.kind ≡ its_kind)
   pub nothing : IfOk r (λ c. its_size c.nothing ≡ 0)
-  pub unread : IsTrue tells → IfOk r (λ c. faults_in its_faults c ≡ 0)
-  pub opened : IsTrue tells → OnOk r (OpensMore named old h h')
-  pub keeps : IsTrue tells → OnlyOpens h h' old new
+  pub unread : IsTrue models → IfOk r (λ c. faults_in its_faults c ≡ 0)
+  pub opened : IsTrue models → OnOk r (OpensMore named old h h')
+  pub keeps : IsTrue models → OnlyOpens h h' old new

@@ -1,7 +1,7 @@
 -- Why the commands `pack` and `repack` are refused: each fault is so.
 use Rattle.std.specs.Prelude.{◌≡◌, ℕ, List, length, Some}
 use Rattle.std.specs.Str.{IsUtf8}
-use Rattle.sys_disk.specs.World.{World, Held, HasFailed}
+use Rattle.sys_disk.specs.World.{World, OpenFiles, HasFailed}
 use Rattle.sys_refusals.specs.declared.refusal.HostFault.{HostFault}
 use Rattle.sys_refusals.specs.declared.refusal.HostFault.TheVariants as hosts
 use Rattle.abt_sections.specs.Fields.{BootFields}
@@ -18,7 +18,7 @@ use Rattle.cmd_common_boot.specs.Fault.{IsOutsideBoot}
 use Rattle.cmd_pack_inputs.specs.BadBoards.{IsBadBoard}
 
 -- why an image is not filled: one of its files was not opened, or a board id is wrong
-pub data StopsFilling (named : List ℕ → Type 0) (words : List (List ℕ)) (count : ℕ) (held held' : Held)
+pub data StopsFilling (named : List ℕ → Type 0) (words : List (List ℕ)) (count : ℕ) (held held' : OpenFiles)
     (fault : BootCommandFault) : Type 0 where
   unopened : IsOutsideBoot fault → HasFailed held held' → StopsFilling named words count held held' fault
   no_text : (path : List ℕ) → named path → ¬ IsUtf8 path → fault ≡ faults.Host hosts.CannotOpen
@@ -35,7 +35,7 @@ pub record IsNotPacked (command : PackCommand) (world : World) (f : SectionFault
   pub refused : refusal_from (asked_kind command) packing ≡ Some f
 
 -- Why `pack` is refused, of these worlds before and behind it. Done says that all was done.
-pub data RefusesPack (command : PackCommand) (old new : World) (held held' : Held) (Done : Type 0)
+pub data RefusesPack (command : PackCommand) (old new : World) (held held' : OpenFiles) (Done : Type 0)
     (fault : BootCommandFault) : Type 0 where
   -- the words are wrong, before anything is opened
   wrong_words : IsWrong no_fields (asked_kind command) command.texts.options.items command.texts.fragments.items fault

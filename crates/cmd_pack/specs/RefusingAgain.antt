@@ -1,7 +1,7 @@
 -- Why the command `repack` is refused: each fault is so.
 use Rattle.std.specs.Prelude.{◌≡◌, ℕ, List, length, Some}
 use Rattle.std.specs.Str.{IsUtf8}
-use Rattle.sys_disk.specs.World.{World, Held, HasFailed}
+use Rattle.sys_disk.specs.World.{World, OpenFiles, HasFailed}
 use Rattle.sys_refusals.specs.declared.refusal.HostFault.{HostFault}
 use Rattle.sys_refusals.specs.declared.refusal.HostFault.TheVariants as hosts
 use Rattle.abt_sections.specs.Fields.{BootFields}
@@ -67,7 +67,7 @@ pub data RefusesAgain (command : PackCommand) (x : List ℕ) (h : Header) (old n
 
 -- Why `repack` is refused: IN could not be read or is no image, before anything is opened to be written; or what its
 -- file holds is not packed again.
-pub data RefusesRepack (input : List ℕ) (command : PackCommand) (old new : World) (held held' : Held) (Done : Type 0)
+pub data RefusesRepack (input : List ℕ) (command : PackCommand) (old new : World) (held held' : OpenFiles) (Done : Type 0)
     (fault : BootCommandFault) : Type 0 where
   no_image : RefusesImage input old (HasFailed held held') ⊥ fault → new ≡ old
       → RefusesRepack input command old new held held' Done fault

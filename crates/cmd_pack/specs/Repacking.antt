@@ -24,7 +24,7 @@ use Rattle.cmd_pack_inputs.specs.Own.{StandsIn, fragment_bytes, entries_to, kept
 use Rattle.cmd_pack.specs.Packing.{ArePacked, board_id_words}
 use Rattle.cmd_pack_inputs.specs.Parts.{AreFragmentsOf, IsGivenPath}
 use Rattle.cmd_pack_outputs.specs.Writing.{HoldsNoPartOf}
-use Rattle.cmd_pack_inputs.specs.declared.kept.Kept.{Kept}
+use Rattle.cmd_pack_inputs.specs.declared.kept.OwnData.{OwnData}
 use Rattle.cmd_pack_inputs.specs.declared.own.Own.{Own}
 
 -- the ramdisk fragments of the image x, in the order of its table
@@ -128,10 +128,10 @@ pub record KeepsRead (input : List ℕ) (command : PackCommand) (old new : World
 
 -- an image was opened that is packed again, whose kind is this: the fragments that are given are taken by that, and
 -- where none is given, all entries of the image's table are kept
-pub record IsAtHand {S : Type 0} (tells : Bool) (content : S → List ℕ) (own : Own S) (kept : Kept) (texts : PackTexts)
+pub record IsAtHand {S : Type 0} (models : Bool) (content : S → List ℕ) (own : Own S) (kept : OwnData) (texts : PackTexts)
     (its_kind : ImageKind) : Type 0 where
-  pub opened : IsTrue tells → IsOpened (content own.source) own.image
+  pub opened : IsTrue models → IsOpened (content own.source) own.image
   pub kind : its_kind ≡ kind_of (view_of own.image.header)
   pub taken : All (IsTaken its_kind) texts.fragments.items
-  pub entries : IsTrue tells → texts.fragments.items ≡ [] → kept.entries.items
+  pub entries : IsTrue models → texts.fragments.items ≡ [] → kept.entries.items
       ≡ entries_to (content own.source) (view_of own.image.header) (fragment_count (view_of own.image.header))

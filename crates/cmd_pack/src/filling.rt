@@ -6,13 +6,13 @@ ghost use Rattle.cmd_common_fields.specs.Kind.{version_of};
 ghost use Rattle.cmd_common_boot.specs.Parts.{row_count};
 ghost use Rattle.cmd_pack.specs.Filling.{address_where, loaded_at, loaded_where, second_in};
 
-use sys_disk::Lasting;
 use abt_io::Source;
 use abt_sections::BootSpec;
-use cmd_common_fields::ImageKind;
 use cmd_common_boot::{PackTexts, PartSource, counts_ramdisk, counts_second};
+use cmd_common_fields::ImageKind;
 use cmd_pack_inputs::Ramdisks;
-use cmd_pack_outputs::Contents;
+use cmd_pack_outputs::ImageContents;
+use sys_disk::Lasting;
 
 /// An image of this kind, with these fields and parts, and what stands behind it.
 pub(crate) fn filled<'f, 't, S: Source + Lasting + Drop>(
@@ -22,7 +22,7 @@ pub(crate) fn filled<'f, 't, S: Source + Lasting + Drop>(
     parts: Vec<PartSource<'t, S>>,
     ramdisks: Ramdisks<'t, S>,
     trailing: PartSource<'t, S>,
-) -> Contents<'f, PartSource<'t, S>>
+) -> ImageContents<'f, PartSource<'t, S>>
     requires versioned { fields.version ≡ version_of kind }
     requires counted { length parts.items ≡ row_count kind }
     ensures kind { result.kind ≡ kind }
@@ -32,14 +32,14 @@ pub(crate) fn filled<'f, 't, S: Source + Lasting + Drop>(
     ensures nothing { result.nothing.size ≡ 0 }
     ensures unread { ⟦<PartSource<'t, S> as Source>⟧.read_faults result.nothing ≡ 0 }
     ensures trailing { result.trailing ≡ trailing.entry }
-    ensures loaded { IsTrue S.tells → cmd_common_fields result.fields ≡ loaded_at kind texts.now.options.items
+    ensures loaded { IsTrue S.models → cmd_common_fields result.fields ≡ loaded_at kind texts.now.options.items
         (map ⟦<PartSource<'t, S> as Source>⟧.content parts.entry.items) (cmd_common_fields fields.entry) }
 {
     let of_ramdisk = counts_ramdisk(texts);
     let of_second = counts_second(texts);
     let fields = loaded(fields, kind, of_ramdisk, of_second, parts.as_slice());
     let Ramdisks { specs, sources } = ramdisks;
-    Contents {
+    ImageContents {
         kind,
         fields,
         parts,
@@ -59,7 +59,7 @@ fn loaded<'f, P: Source>(
     parts: &[P],
 ) -> BootSpec<'f>
     ensures version { result.version ≡ fields.entry.version }
-    ensures loaded { IsTrue P.tells → cmd_common_fields result ≡ loaded_where kind counts_ramdisk counts_second
+    ensures loaded { IsTrue P.models → cmd_common_fields result ≡ loaded_where kind counts_ramdisk counts_second
         (map P.content parts.now) (cmd_common_fields fields.entry) }
 {
     match kind {
@@ -85,7 +85,7 @@ fn address(given: u32, counts: bool, is_empty: bool) -> u32
 
 // Whether a boot image of this version has no second stage, or one without bytes.
 fn is_without_second<P: Source>(version: u32, parts: &[P]) -> bool
-    ensures { IsTrue P.tells → result ≡ (length (second_in version (map P.content parts.now)) == 0) }
+    ensures { IsTrue P.models → result ≡ (length (second_in version (map P.content parts.now)) == 0) }
 {
     if version < 3 {
         is_empty(parts, 2)
@@ -96,7 +96,7 @@ fn is_without_second<P: Source>(version: u32, parts: &[P]) -> bool
 
 // Whether there is no such part, or one without bytes.
 fn is_empty<P: Source>(parts: &[P], i: usize) -> bool
-    ensures { IsTrue P.tells → result ≡ (length (slice_index_or (map P.content parts.now) i []) == 0) }
+    ensures { IsTrue P.models → result ≡ (length (slice_index_or (map P.content parts.now) i []) == 0) }
 {
     match parts.get(i) {
         Some(part) => part.length() == 0,

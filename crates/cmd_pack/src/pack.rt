@@ -16,15 +16,15 @@ ghost use Rattle.cmd_pack.specs.Refusing.{RefusesPack, StopsFilling};
 ghost use Rattle.cmd_pack_outputs.specs.Writing.{LeavesOut};
 
 use crate::filling::filled;
-use sys_disk::Disk;
 use abt_io::{Meter, Source, Window};
+use abt_sections::BootSpec;
+use cmd_common_boot::{BootCommandFault, BootOutcome, PackCommand, PartSource, judge_words};
+use cmd_common_fields::ImageKind;
+use cmd_pack_inputs::{open_fragments, open_parts, output_at};
+use cmd_pack_outputs::{ImageContents, write_image};
+use sys_disk::Disk;
 use sys_refusals::Refusal;
 use sys_report::Report;
-use abt_sections::BootSpec;
-use cmd_common_fields::ImageKind;
-use cmd_common_boot::{BootCommandFault, BootOutcome, PackCommand, PartSource, judge_words};
-use cmd_pack_inputs::{open_fragments, open_parts, output_at};
-use cmd_pack_outputs::{Contents, write_image};
 
 /// Packs the image that the words ask for, and prints how many bytes it has.
 ///
@@ -36,20 +36,20 @@ pub fn pack_file<'t, 'a, D: Disk>(
     w: &mut Window,
     m: &mut Meter,
 ) -> BootOutcome<'t, 'a>
-    requires first { IsTrue D.tells → IsReading (D.held disk.old) }
+    requires first { IsTrue D.models → IsReading (D.held disk.old) }
     // OUT is another file than those that are given, and holds the image that the words ask for, of what these hold;
     // what was printed tells of it, on standard error where OUT is where standard output goes
-    ensures done { IsTrue D.tells → OnOk result (PacksFile command.now (D.world disk.old) (D.world disk.new)
+    ensures done { IsTrue D.models → OnOk result (PacksFile command.now (D.world disk.old) (D.world disk.new)
         (ShowsBeside (D.on_output (output_path command.now.output.now)) report.old report.new)) }
     // whatever the outcome, OUT alone may hold anything else, the given files hold what they held, and OUT's file has
     // no part of an image; and where it is done no call failed
-    ensures left { IsTrue D.tells → LeavesOut result (output_path command.now.output.now)
+    ensures left { IsTrue D.models → LeavesOut result (output_path command.now.output.now)
         (D.is_over (output_path command.now.output.now)) (IsPackedBy command.now (D.world disk.old))
         (D.held disk.old) (D.held disk.new) (D.world disk.old) (D.world disk.new) }
-    ensures inputs { IsTrue D.tells → KeepsGiven command.now (D.world disk.old) (D.world disk.new) }
+    ensures inputs { IsTrue D.models → KeepsGiven command.now (D.world disk.old) (D.world disk.new) }
     // each fault is so: of the words before anything is opened, of what is packed before OUT is; or a call has failed;
     // or all is done and the line was refused
-    ensures refused { IsTrue D.tells → IfErr result (λ refusal. RefusesPack command.now (D.world disk.old)
+    ensures refused { IsTrue D.models → IfErr result (λ refusal. RefusesPack command.now (D.world disk.old)
         (D.world disk.new) (D.held disk.old) (D.held disk.new) (PacksFile command.now (D.world disk.old)
         (D.world disk.new) (Unprinted report.old report.new)) refusal.fault) }
 {
@@ -74,18 +74,18 @@ fn contents_of<'t, 'a, D: Disk>(
     kind: ImageKind,
     fields: BootSpec<'t>,
     command: &'t PackCommand<'a>,
-) -> Result<Contents<'t, PartSource<'t, D::At>>, Refusal<'t, BootCommandFault<'a>>>
-    requires first { IsTrue D.tells → (D.held disk.old).begun ≡ [] }
+) -> Result<ImageContents<'t, PartSource<'t, D::At>>, Refusal<'t, BootCommandFault<'a>>>
+    requires first { IsTrue D.models → (D.held disk.old).begun ≡ [] }
     requires kind { kind ≡ asked_kind command.now }
     requires versioned { fields.version ≡ version_of kind }
     requires taken { All (IsTaken kind) command.now.texts.fragments.items }
-    ensures asked { IsTrue D.tells → IfOk result (λ contents. AreAskedFor command.now (D.world disk.old)
+    ensures asked { IsTrue D.models → IfOk result (λ contents. AreAskedFor command.now (D.world disk.old)
         (cmd_common_fields fields.entry) (packing_of ⟦<PartSource<'t, D::At> as Source>⟧.content contents)) }
     ensures alone { IfOk result (λ contents. ⟦<PartSource<'t, D::At> as Source>⟧.content contents.trailing ≡ []) }
-    ensures fills { FillsAll D.tells result kind (IsGivenPath command.now.texts kind)
+    ensures fills { FillsAll D.models result kind (IsGivenPath command.now.texts kind)
         ⟦<PartSource<'t, D::At> as Source>⟧.size ⟦<PartSource<'t, D::At> as Source>⟧.read_faults
         (D.held disk.old) (D.held disk.new) (D.world disk.old) (D.world disk.new) }
-    ensures refused { IsTrue D.tells → IfErr result (λ refusal. StopsFilling (IsGivenPath command.now.texts kind)
+    ensures refused { IsTrue D.models → IfErr result (λ refusal. StopsFilling (IsGivenPath command.now.texts kind)
         (board_id_words command.now) (length command.now.texts.fragments.items) (D.held disk.old) (D.held disk.new)
         refusal.fault) }
 {

@@ -24,20 +24,22 @@ ghost use Rattle.cmd_pack_outputs.specs.Writing.{LeavesOut};
 
 use crate::filling::filled;
 use crate::telling::tell_left_out;
-use sys_disk::Disk;
 use abt_io::{Meter, Source, Window};
-use sys_refusals::{HostRefusal, Place, Refusal, Sides};
-use sys_report::Report;
 use abt_sections::BootSpec;
+use cmd_common_boot::{
+    BootCommandFault, BootOutcome, PackCommand, PackTexts, PartSource, with_given,
+};
 use cmd_common_fields::ImageKind;
 use cmd_common_findings::LeftOut;
-use cmd_common_boot::{BootCommandFault, BootOutcome, PackCommand, PackTexts, PartSource, with_given};
 use cmd_pack_inputs::{
-    Kept, Own, Ramdisks, judged, open_fragments, open_own, open_parts, output_at, own_fields,
+    Own, OwnData, Ramdisks, judged, open_fragments, open_own, open_parts, output_at, own_fields,
     own_fragments, trailing_of,
 };
-use cmd_pack_outputs::{Contents, write_image};
+use cmd_pack_outputs::{ImageContents, write_image};
 use std::alloc::Global;
+use sys_disk::Disk;
+use sys_refusals::{FileArg, HostRefusal, Refusal, Sides};
+use sys_report::Report;
 
 /// Packs an image again, of which parts and fields may be given, and prints how many bytes it has.
 ///
@@ -46,26 +48,26 @@ use std::alloc::Global;
 pub fn repack_file<'t, 'a, D: Disk>(
     disk: &mut D,
     report: &mut Report,
-    input: Place<'t>,
+    input: FileArg<'t>,
     command: &'t PackCommand<'a>,
     w: &mut Window,
     m: &mut Meter,
 ) -> BootOutcome<'t, 'a>
-    requires first { IsTrue D.tells → IsReading (D.held disk.old) }
+    requires first { IsTrue D.models → IsReading (D.held disk.old) }
     // OUT is another file than IN and those that are given, and holds what IN's image is packed again to; what was
     // printed tells of it, on standard error where OUT is where standard output goes
-    ensures done { IsTrue D.tells → OnOk result (RepacksFile (path_of input.entry) command.now (D.world disk.old)
+    ensures done { IsTrue D.models → OnOk result (RepacksFile (path_of input.entry) command.now (D.world disk.old)
         (D.world disk.new) (ShowsFirst (D.on_output (output_path command.now.output.now)) report.old report.new)) }
     // whatever the outcome, OUT alone may hold anything else, IN and the given files hold what they held, and OUT's
     // file has no part of an image; and where it is done no call failed
-    ensures left { IsTrue D.tells → LeavesOut result (output_path command.now.output.now)
+    ensures left { IsTrue D.models → LeavesOut result (output_path command.now.output.now)
         (D.is_over (output_path command.now.output.now)) (IsRepackedOf (path_of input.entry) command.now
         (D.world disk.old)) (D.held disk.old) (D.held disk.new) (D.world disk.old) (D.world disk.new) }
-    ensures inputs { IsTrue D.tells → KeepsRead (path_of input.entry) command.now (D.world disk.old)
+    ensures inputs { IsTrue D.models → KeepsRead (path_of input.entry) command.now (D.world disk.old)
         (D.world disk.new) }
     // each fault is so: of IN's bytes, of the words or of what is packed before OUT is opened; or a call has failed; or
     // all is done and the line was refused
-    ensures refused { IsTrue D.tells → IfErr result (λ refusal. RefusesRepack (path_of input.entry) command.now
+    ensures refused { IsTrue D.models → IfErr result (λ refusal. RefusesRepack (path_of input.entry) command.now
         (D.world disk.old) (D.world disk.new) (D.held disk.old) (D.held disk.new) (RepacksFile (path_of input.entry)
         command.now (D.world disk.old) (D.world disk.new) (Unprinted report.old report.new)) refusal.fault) }
 {
@@ -93,20 +95,20 @@ fn pack_again<'t, 'a, D: Disk>(
     w: &mut Window,
     m: &mut Meter,
 ) -> Result<LeftOut, Refusal<'t, BootCommandFault<'a>>>
-    requires first { IsTrue D.tells → IsReading (D.held disk.old) }
-    requires opened { IsTrue D.At.tells → IsOpened (D.At.content own.old.source) own.old.image }
-    ensures done { IsTrue D.tells → OnOk result (PacksAgain command.now (D.At.content own.old.source)
+    requires first { IsTrue D.models → IsReading (D.held disk.old) }
+    requires opened { IsTrue D.At.models → IsOpened (D.At.content own.old.source) own.old.image }
+    ensures done { IsTrue D.models → OnOk result (PacksAgain command.now (D.At.content own.old.source)
         (view_of own.old.image.header) (D.held disk.old).read (D.world disk.old) (D.world disk.new)
         (ShowsBeside (D.on_output (output_path command.now.output.now)) report.old report.new)) }
-    ensures clean { IsTrue D.tells → OnOk result (NoMoreFailed (D.held disk.old) (D.At.read_faults own.old.source)
+    ensures clean { IsTrue D.models → OnOk result (NoMoreFailed (D.held disk.old) (D.At.read_faults own.old.source)
         (D.held disk.new) (D.At.read_faults own.new.source)) }
-    ensures left { IsTrue D.tells → LeavesOut result (output_path command.now.output.now)
+    ensures left { IsTrue D.models → LeavesOut result (output_path command.now.output.now)
         (D.is_over (output_path command.now.output.now)) (IsPackedAgain command.now (D.At.content own.old.source)
         (view_of own.old.image.header) (D.world disk.old))
         (D.held disk.old) (D.held disk.new) (D.world disk.old) (D.world disk.new) }
-    ensures given { IsTrue D.tells → KeepsGivenAgain command.now (view_of own.old.image.header) (D.world disk.old)
+    ensures given { IsTrue D.models → KeepsGivenAgain command.now (view_of own.old.image.header) (D.world disk.old)
         (D.world disk.new) }
-    ensures refused { IsTrue D.tells → IfErr result (λ refusal. RefusesAgain command.now (D.At.content own.old.source)
+    ensures refused { IsTrue D.models → IfErr result (λ refusal. RefusesAgain command.now (D.At.content own.old.source)
         (view_of own.old.image.header) (D.world disk.old) (D.world disk.new) (SomeFailed (D.held disk.old)
         (D.At.read_faults own.old.source) (D.held disk.new) (D.At.read_faults own.new.source)) (PacksAgain command.now
         (D.At.content own.old.source) (view_of own.old.image.header) (D.held disk.old).read (D.world disk.old)
@@ -125,7 +127,7 @@ fn pack_again<'t, 'a, D: Disk>(
 
 // A fault of the words, where the image is at hand.
 fn of_own<'t, 'a>(
-    input: Place<'t>,
+    input: FileArg<'t>,
     fault: BootCommandFault<'a>,
 ) -> Refusal<'t, BootCommandFault<'a>>
     ensures { result.fault ≡ fault.entry }
@@ -139,24 +141,24 @@ fn write_again<'t, 'a, D: Disk>(
     report: &mut Report,
     own: &Own<'t, D::At>,
     kind: ImageKind,
-    kept: &Kept,
+    kept: &OwnData,
     command: &'t PackCommand<'a>,
     w: &mut Window,
     m: &mut Meter,
 ) -> BootOutcome<'t, 'a>
-    requires first { IsTrue D.tells → IsReading (D.held disk.old) }
-    requires own { IsAtHand D.At.tells D.At.content own.now kept.now command.now.texts kind }
+    requires first { IsTrue D.models → IsReading (D.held disk.old) }
+    requires own { IsAtHand D.At.models D.At.content own.now kept.now command.now.texts kind }
     requires cmdline { kept.now.cmdline.items ≡ text_of (cmdline_of (view_of own.now.image.header)) }
-    ensures done { IsTrue D.tells → OnOk result (PacksAgain command.now (D.At.content own.now.source)
+    ensures done { IsTrue D.models → OnOk result (PacksAgain command.now (D.At.content own.now.source)
         (view_of own.now.image.header) (D.held disk.old).read (D.world disk.old) (D.world disk.new)
         (ShowsBeside (D.on_output (output_path command.now.output.now)) report.old report.new)) }
-    ensures left { IsTrue D.tells → LeavesOut result (output_path command.now.output.now)
+    ensures left { IsTrue D.models → LeavesOut result (output_path command.now.output.now)
         (D.is_over (output_path command.now.output.now)) (IsPackedAgain command.now (D.At.content own.now.source)
         (view_of own.now.image.header) (D.world disk.old))
         (D.held disk.old) (D.held disk.new) (D.world disk.old) (D.world disk.new) }
-    ensures given { IsTrue D.tells → KeepsGivenAgain command.now (view_of own.now.image.header) (D.world disk.old)
+    ensures given { IsTrue D.models → KeepsGivenAgain command.now (view_of own.now.image.header) (D.world disk.old)
         (D.world disk.new) }
-    ensures refused { IsTrue D.tells → IfErr result (λ refusal. RefusesAgain command.now (D.At.content own.now.source)
+    ensures refused { IsTrue D.models → IfErr result (λ refusal. RefusesAgain command.now (D.At.content own.now.source)
         (view_of own.now.image.header) (D.world disk.old) (D.world disk.new) (HasFailed (D.held disk.old)
         (D.held disk.new)) (PacksAgain command.now (D.At.content own.now.source) (view_of own.now.image.header)
         (D.held disk.old).read (D.world disk.old) (D.world disk.new) (Unprinted report.old report.new))
@@ -184,22 +186,22 @@ fn contents_of<'t, 'f, 'a, D: Disk>(
     own: &Own<'t, D::At>,
     fields: BootSpec<'f>,
     kind: ImageKind,
-    kept: &Kept,
+    kept: &OwnData,
     command: &'t PackCommand<'a>,
-) -> Result<Contents<'f, PartSource<'t, D::At>>, Refusal<'t, BootCommandFault<'a>>>
+) -> Result<ImageContents<'f, PartSource<'t, D::At>>, Refusal<'t, BootCommandFault<'a>>>
     requires versioned { fields.version ≡ version_of kind }
-    requires first { IsTrue D.tells → (D.held disk.old).begun ≡ [] }
-    requires own { IsAtHand D.At.tells D.At.content own.now kept.now command.now.texts kind }
-    ensures asked { IsTrue D.tells → IfOk result (λ contents. AreAskedAgain command.now (D.world disk.old)
+    requires first { IsTrue D.models → (D.held disk.old).begun ≡ [] }
+    requires own { IsAtHand D.At.models D.At.content own.now kept.now command.now.texts kind }
+    ensures asked { IsTrue D.models → IfOk result (λ contents. AreAskedAgain command.now (D.world disk.old)
         (D.At.content own.now.source) (view_of own.now.image.header) (cmd_common_fields fields.entry)
         (packing_of ⟦<PartSource<'t, D::At> as Source>⟧.content contents)) }
-    ensures behind { IsTrue D.tells → IfOk result (λ contents.
+    ensures behind { IsTrue D.models → IfOk result (λ contents.
         ⟦<PartSource<'t, D::At> as Source>⟧.content contents.trailing ≡ kept_behind command.now.keeps_trailing
         (D.At.content own.now.source) (view_of own.now.image.header)) }
-    ensures fills { FillsAll D.tells result kind (IsGivenPath command.now.texts kind)
+    ensures fills { FillsAll D.models result kind (IsGivenPath command.now.texts kind)
         ⟦<PartSource<'t, D::At> as Source>⟧.size ⟦<PartSource<'t, D::At> as Source>⟧.read_faults
         (D.held disk.old) (D.held disk.new) (D.world disk.old) (D.world disk.new) }
-    ensures refused { IsTrue D.tells → IfErr result (λ refusal. StopsFillingAgain command.now (D.world disk.old)
+    ensures refused { IsTrue D.models → IfErr result (λ refusal. StopsFillingAgain command.now (D.world disk.old)
         (D.At.content own.now.source) (view_of own.now.image.header) (HasFailed (D.held disk.old) (D.held disk.new))
         refusal.fault) }
 {
@@ -227,16 +229,16 @@ fn ramdisks_of<'t, D: Disk>(
     disk: &mut D,
     alloc: Global,
     own: &Own<'t, D::At>,
-    kept: &Kept,
+    kept: &OwnData,
     texts: &'t PackTexts<'_>,
 ) -> Result<Ramdisks<'t, D::At>, HostRefusal<'t>>
-    requires first { IsTrue D.tells → (D.held disk.old).begun ≡ [] }
-    requires own { IsAtHand D.At.tells D.At.content own.now kept.now texts.now
+    requires first { IsTrue D.models → (D.held disk.old).begun ≡ [] }
+    requires own { IsAtHand D.At.models D.At.content own.now kept.now texts.now
         (kind_of (view_of own.now.image.header)) }
-    ensures fragments { IsTrue D.tells → IfOk result (λ all. AreFragmentsAgain (D.world disk.old)
+    ensures fragments { IsTrue D.models → IfOk result (λ all. AreFragmentsAgain (D.world disk.old)
         texts.now.fragments.items (D.At.content own.now.source) (view_of own.now.image.header) all.specs.items
         (map ⟦<PartSource<'t, D::At> as Source>⟧.content all.sources.items)) }
-    ensures opens { OpensEach D.tells result (IsFragmentInput texts.now.fragments.items)
+    ensures opens { OpensEach D.models result (IsFragmentInput texts.now.fragments.items)
         (λ all. total ⟦<PartSource<'t, D::At> as Source>⟧.read_faults all.sources.items) 0
         (D.held disk.old) (D.held disk.new) (D.world disk.old) (D.world disk.new) }
 {

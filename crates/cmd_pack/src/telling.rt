@@ -2,10 +2,10 @@
 
 ghost use Rattle.cmd_pack.specs.Repacking.{HasNote};
 
-use sys_report::Report;
-use sys_text::Text;
 use cmd_common_findings::LeftOut;
 use std::fmt;
+use sys_report::Report;
+use sys_text::Text;
 
 /// Tells on standard error what was left out, if anything was.
 pub(crate) fn tell_left_out(report: &mut Report, left: LeftOut)

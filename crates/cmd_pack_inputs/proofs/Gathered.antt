@@ -12,7 +12,7 @@ use Rattle.std.specs.List.{All}
 use Rattle.std.specs.Prelude.{Contains, map}
 use Rattle.abt_headers.specs.declared.sections.Section.{Section}
 use Rattle.abt_sections.specs.declared.spec.FragmentSpec.{FragmentSpec}
-use Rattle.sys_disk.specs.World.{World, Held, OpensFile, failing, unless}
+use Rattle.sys_disk.specs.World.{World, OpenFiles, OpensFile, failing, unless}
 use Rattle.abt_sections.specs.Cause.{total}
 use Rattle.cmd_common_fields.specs.Board.{BoardFits, IsBoardWord}
 use Rattle.cmd_common_fields.specs.Options.{option_of}
@@ -99,7 +99,7 @@ path_split o ss s path is = elim (Contains-push_cases ss s is.section is.is_one)
 ]
 
 pub paths_so_far : (w w' : World) (o : List OptionText) (rows : List PartRow) (i : ℕ) (d : PartRow)
-    (h h' h'' : Held) → i < length rows → All (λ (r : PartRow). r.option.now ≡ option_of r.section) rows → w' ≡ w
+    (h h' h'' : OpenFiles) → i < length rows → All (λ (r : PartRow). r.option.now ≡ option_of r.section) rows → w' ≡ w
     → OpensMore (IsPartInput o (map (λ (r : PartRow). r.section) (take i rows))) w h h'
     → OpensMore (IsPathOf o (get_or rows i d).option.now) w' h' h''
     → OpensMore (IsPartInput o (map (λ (r : PartRow). r.section) (take (i + 1) rows))) w h h''
@@ -112,7 +112,7 @@ paths_so_far w w' o rows i d h h' h'' there named same before more =
     (λ p q. subst (λ n. IsPartInput o front p ⊎ IsPathOf o n p) (sym (named i d there))
     (path_split o front row.section p q)))
 
-pub paths_all : (w : World) (o : List OptionText) (rows : List PartRow) (i : ℕ) (ss : List Section) (h h' : Held)
+pub paths_all : (w : World) (o : List OptionText) (rows : List PartRow) (i : ℕ) (ss : List Section) (h h' : OpenFiles)
     → length rows ≤ i → map (λ (r : PartRow). r.section) rows ≡ ss
     → OpensMore (IsPartInput o (map (λ (r : PartRow). r.section) (take i rows))) w h h'
     → OpensMore (IsPartInput o ss) w h h'
@@ -139,7 +139,7 @@ row_path o rows i d ss path there named sections of_row =
 
 -- a row's file was not opened
 pub row_stops : (w : World) (o : List OptionText) (rows : List PartRow) (i : ℕ) (d : PartRow) (ss : List Section)
-    (h h' h'' : Held) (f : HostFault) → i < length rows → All (λ (r : PartRow). r.option.now ≡ option_of r.section) rows
+    (h h' h'' : OpenFiles) (f : HostFault) → i < length rows → All (λ (r : PartRow). r.option.now ≡ option_of r.section) rows
     → map (λ (r : PartRow). r.section) rows ≡ ss
     → OpensMore (IsPartInput o (map (λ (r : PartRow). r.section) (take i rows))) w h h'
     → StopsOpening (IsPathOf o (get_or rows i d).option.now) h' h'' f → StopsOpening (IsPartInput o ss) h h'' f
@@ -196,7 +196,7 @@ fragment_split ts t path is = elim (Contains-push_cases ts t is.text is.is_one) 
   | inr same ↦ inr (is.is_path ∙ ap (λ (x : FragmentText). x.path.items) (sym same))
 ]
 
-pub files_so_far : (w w' : World) (texts items : List FragmentText) (i : ℕ) (d : FragmentText) (h h' h'' : Held)
+pub files_so_far : (w w' : World) (texts items : List FragmentText) (i : ℕ) (d : FragmentText) (h h' h'' : OpenFiles)
     → items ≡ texts → i < length items → d ≡ get_or items i d → w' ≡ w
     → OpensMore (IsFragmentInput (take i texts)) w h h' → OpensMore (λ path. path ≡ d.path.items) w' h' h''
     → OpensMore (IsFragmentInput (take (i + 1) texts)) w h h''
@@ -211,13 +211,13 @@ files_so_far w w' texts items i d h h' h'' all there at same before more =
     (IsFragmentInput (take i texts ++ (text ∷ []))) w w' h h' h'' same before now
     (λ p q. fragment_split (take i texts) text p q))
 
-pub files_all : (w : World) (texts items : List FragmentText) (i : ℕ) (h h' : Held) → items ≡ texts
+pub files_all : (w : World) (texts items : List FragmentText) (i : ℕ) (h h' : OpenFiles) → items ≡ texts
     → length items ≤ i → OpensMore (IsFragmentInput (take i texts)) w h h' → OpensMore (IsFragmentInput texts) w h h'
 files_all w texts items i h h' all end opens =
     subst (λ l. OpensMore (IsFragmentInput l) w h h') (take_all i texts (subst (λ l. length l ≤ i) all end)) opens
 
 -- a fragment's file was not opened
-pub file_stops : (w : World) (texts items : List FragmentText) (i : ℕ) (d : FragmentText) (h h' h'' : Held)
+pub file_stops : (w : World) (texts items : List FragmentText) (i : ℕ) (d : FragmentText) (h h' h'' : OpenFiles)
     (f : HostFault) → items ≡ texts → i < length items → d ≡ get_or items i d
     → OpensMore (IsFragmentInput (take i texts)) w h h' → StopsOpening (λ path. path ≡ d.path.items) h' h'' f
     → StopsOpening (IsFragmentInput texts) h h'' f
@@ -234,7 +234,7 @@ file_stops w texts items i d h h' h'' f all there at before stops =
 -- ---- one fragment with its file
 
 pub fragment_added : {R E P : Type 0} (r : Result R E) (specs_of : R → List FragmentSpec) (sources_of : R → List P)
-    (content : P → List ℕ) (w : World) (text : FragmentText) (spec : FragmentSpec) (p : P) (path : List ℕ) (h h' : Held)
+    (content : P → List ℕ) (w : World) (text : FragmentText) (spec : FragmentSpec) (p : P) (path : List ℕ) (h h' : OpenFiles)
     (specs : List FragmentSpec) (sources : List P) → text.spec ≡ Some spec → path ≡ text.path.items
     → OpensFile w path (content p) h h' → IfOk r (λ x. specs_of x ≡ specs ++ (spec ∷ []))
     → IfOk r (λ x. sources_of x ≡ sources ++ (p ∷ []))
@@ -277,7 +277,7 @@ only_path options name path q option given is of =
     of.is_path ∙ ap (λ (o : OptionText). o.bytes.items) (ap (λ o. unwrap_or o option) (sym of.given ∙ given)) ∙ sym is
 
 pub option_opens : {X E : Type 0} (r : Result X E) (content : X → List ℕ) (options : List OptionText)
-    (name path : List ℕ) (option : OptionText) (w : World) (h h' : Held) → found options name ≡ Some option
+    (name path : List ℕ) (option : OptionText) (w : World) (h h' : OpenFiles) → found options name ≡ Some option
     → path ≡ option.bytes.items → IfOk r (λ p. OpensFile w path (content p) h h')
     → OnOk r (OpensMore (IsPathOf options name) w h h')
 option_opens (Ok p) content options name path option w h h' given is opened =
@@ -286,7 +286,7 @@ option_opens (Ok p) content options name path option w h h' given is opened =
 option_opens (Err e) content options name path option w h h' given is opened = tt
 
 pub option_stops : {X E : Type 0} (r : Result X E) (fault : E → HostFault) (options : List OptionText)
-    (name path : List ℕ) (option : OptionText) (h h' : Held) → found options name ≡ Some option
+    (name path : List ℕ) (option : OptionText) (h h' : OpenFiles) → found options name ≡ Some option
     → path ≡ option.bytes.items → IfErr r (λ e. StopsOpening (λ p. p ≡ path) h h' (fault e))
     → IfErr r (λ e. StopsOpening (IsPathOf options name) h h' (fault e))
 option_stops (Ok p) fault options name path option h h' given is stops = tt
@@ -294,7 +294,7 @@ option_stops (Err e) fault options name path option h h' given is stops =
     stops_more (λ p. p ≡ path) (IsPathOf options name) h h' (fault e) stops
     (λ p same. record { option = option; given = given; is_path = same ∙ is })
 
-pub own_opens : {X E : Type 0} (r : Result X E) (options : List OptionText) (name : List ℕ) (w : World) (h h' : Held)
+pub own_opens : {X E : Type 0} (r : Result X E) (options : List OptionText) (name : List ℕ) (w : World) (h h' : OpenFiles)
     → found options name ≡ None → h' ≡ failing (unless (is_ok r)) h → OnOk r (OpensMore (IsPathOf options name) w h h')
 own_opens (Ok p) options name w h h' none held =
     opens_none (IsPathOf options name) w h h' (held ∙ same_failing h)

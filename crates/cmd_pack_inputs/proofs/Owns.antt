@@ -12,7 +12,7 @@ use Rattle.std.proofs.lemmas.Option.{none-some}
 use Rattle.std.proofs.lemmas.List.Elements.{All-nil, All-push}
 use Rattle.abt_headers.specs.declared.boot.BootHeader.TheVariants.{V0, V1, V2, V3, V4}
 use Rattle.abt_headers.specs.declared.entry.RamdiskEntry.{RamdiskEntry}
-use Rattle.abt_headers.specs.declared.sections.Place.{Place}
+use Rattle.abt_headers.specs.declared.sections.SectionPlace.{SectionPlace}
 use Rattle.abt_headers.specs.declared.sections.Section.{Section}
 use Rattle.abt_headers.specs.declared.sections.Section.TheVariants.{VendorRamdisk}
 use Rattle.abt_headers.specs.declared.vendor.VendorFront.{VendorFront}
@@ -27,7 +27,7 @@ use Rattle.cmd_pack_inputs.specs.Own.{AllEndBehind, EndsBehind, entries_to}
 
 -- ---- where it stands
 
-found_is : (b : Bool) (q place : Place) (r : Option Place) (P : Place → Type 0) → cond b (Some q) r ≡ Some place → P q
+found_is : (b : Bool) (q place : SectionPlace) (r : Option SectionPlace) (P : SectionPlace → Type 0) → cond b (Some q) r ≡ Some place → P q
     → (r ≡ Some place → P place) → P place
 found_is true q place r P e here behind = subst P (ap (λ o. unwrap_or o q) e) here
 found_is false q place r P e here behind = behind e
@@ -41,13 +41,13 @@ both_false : (a b : Bool) → a && b ≡ false → a ≡ true → b ≡ false
 both_false true b e t = e
 both_false false b e t = absurd (false≢true t)
 
-ends_within : (n : ℕ) (q : Place) → ends_beyond q n ≡ false → 0 < q.size → q.at + q.size ≤ n
+ends_within : (n : ℕ) (q : SectionPlace) → ends_beyond q n ≡ false → 0 < q.size → q.at + q.size ≤ n
 ends_within n q inside some =
     ltb-false n (q.at + q.size)
     (both_false (nat_lt 0 q.size) (nat_lt n (q.at + q.size)) inside (lt-ltb 0 q.size some))
 
 -- a section that is found ends within the bytes, of which every section is there
-pub lies : (p : Place → Bool) (ps : List Place) (n : ℕ) (place : Place) → find p ps ≡ Some place → beyond ps n ≡ None
+pub lies : (p : SectionPlace → Bool) (ps : List SectionPlace) (n : ℕ) (place : SectionPlace) → find p ps ≡ Some place → beyond ps n ≡ None
     → 0 < place.size → place.at + place.size ≤ n
 unfolding beyond
 lies p [] n place e there = absurd (none-some place e)
@@ -60,14 +60,14 @@ lies p (q ∷ ps) n place e there =
 
 -- ---- the vendor ramdisk
 
-vendor_place : (f : VendorFront) (tail : Option Tail) (place : Place)
+vendor_place : (f : VendorFront) (tail : Option Tail) (place : SectionPlace)
     → Some place ≡ first_place_of (OfVendor (record { front = f; tail = tail })) VendorRamdisk
     → (place.at ≡ ramdisk_at (OfVendor (record { front = f; tail = tail })))
     × (place.size ≡ ramdisk_size (OfVendor (record { front = f; tail = tail })))
 vendor_place f None place e = (ap (λ o. (unwrap_or o place).at) e, ap (λ o. (unwrap_or o place).size) e)
 vendor_place f (Some t) place e = (ap (λ o. (unwrap_or o place).at) e, ap (λ o. (unwrap_or o place).size) e)
 
-pub ramdisk_place : (h : Header) (place : Place) → Some place ≡ first_place_of h VendorRamdisk
+pub ramdisk_place : (h : Header) (place : SectionPlace) → Some place ≡ first_place_of h VendorRamdisk
     → (place.at ≡ ramdisk_at h) × (place.size ≡ ramdisk_size h)
 ramdisk_place (OfBoot (V0 f)) place e = absurd (none-some place (sym e))
 ramdisk_place (OfBoot (V1 f d)) place e = absurd (none-some place (sym e))
@@ -117,7 +117,7 @@ pub map_more : {X : Type 0} (f : RamdiskEntry → X) (ys ys' : List X) (es : Lis
 map_more f ys ys' es i d there so_far more = more ∙ ap (λ l. l ++ (f (get_or es i d) ∷ [])) so_far
     ∙ sym (map-append f (take i es) (get_or es i d ∷ [])) ∙ sym (ap (map f) (take_more es i d there))
 
-pub lies_there : (x : List ℕ) (h : Header) (place : Place) → beyond (places_of h) (length x) ≡ None
+pub lies_there : (x : List ℕ) (h : Header) (place : SectionPlace) → beyond (places_of h) (length x) ≡ None
     → Some place ≡ first_place_of h VendorRamdisk → place.size ≡ ramdisk_size h
     → 0 < ramdisk_size h → place.at + ramdisk_size h ≤ length x
 lies_there x h place there found size some =

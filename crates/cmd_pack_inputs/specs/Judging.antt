@@ -21,7 +21,7 @@ pub data IsUnread (Failed : Type 0) (fault : BootCommandFault) : Type 0 where
 pub record ReadsOpened {X : Type 0} (r : Result X BootCommandFault) {S : Type 0} (s : sources.Ghosts S) (old new : S)
     (image : Image) : Type 0 where
   pub only : OnlyReads r s old new
-  pub refused : IsTrue s.tells → IsOpened (s.content old) image
+  pub refused : IsTrue s.models → IsOpened (s.content old) image
       → IfErr r (IsUnread (s.read_faults old < s.read_faults new))
 
 -- why the words are not taken by an image of this kind, or it is not read again

@@ -2,30 +2,30 @@
 use Rattle.std.specs.Prelude.{◌≡◌, ℕ, List, ◌++◌, Some, Contains, Bool, IsTrue, Result, IfOk, IfErr, OnOk, is_ok}
 use Rattle.std.specs.Str.{IsUtf8}
 use Rattle.sys_disk.specs.DiskCalls.{FailsOnly}
-use Rattle.sys_disk.specs.World.{World, Held, HasFailed, OpensFile, unless}
+use Rattle.sys_disk.specs.World.{World, OpenFiles, HasFailed, OpensFile, unless}
 use Rattle.sys_refusals.specs.declared.refusal.HostFault.{HostFault}
 use Rattle.sys_refusals.specs.declared.refusal.HostFault.TheVariants as hosts
 use Rattle.sys_refusals.specs.declared.refusal.HostRefusal.{HostRefusal}
 use Rattle.cmd_pack_inputs.specs.Own.{no_path}
 
 -- these files more are read
-abbrev pub reading_all : List ℕ → Held → Held
+abbrev pub reading_all : List ℕ → OpenFiles → OpenFiles
 reading_all files h = record h { read = h.read ++ files }
 
 -- more files are read, and nothing else was opened: each file at one of the named paths is among those that are read
-pub record OpensMore (named : List ℕ → Type 0) (world : World) (old new : Held) : Type 0 where
+pub record OpensMore (named : List ℕ → Type 0) (world : World) (old new : OpenFiles) : Type 0 where
   pub files : List ℕ
   pub taken : new ≡ reading_all files old
   pub listed : (path : List ℕ) (file : ℕ) → named path → world.at path ≡ Some file → Contains new.read file
 
 -- files may have been opened to be read: no file has changed, and the output that is open is the same
-pub record OnlyOpens (held held' : Held) (old new : World) : Type 0 where
+pub record OnlyOpens (held held' : OpenFiles) (old new : World) : Type 0 where
   pub world : new ≡ old
   pub output : held'.output ≡ held.output
 
 -- why one of the files at these paths was not opened: a call of the disk failed; or a path is no UTF-8; or there was no
 -- memory
-pub data StopsOpening (named : List ℕ → Type 0) (old new : Held) (fault : HostFault) : Type 0 where
+pub data StopsOpening (named : List ℕ → Type 0) (old new : OpenFiles) (fault : HostFault) : Type 0 where
   failed : HasFailed old new → StopsOpening named old new fault
   no_text : (path : List ℕ) → named path → ¬ IsUtf8 path → fault ≡ hosts.CannotOpen → StopsOpening named old new fault
   no_memory : fault ≡ hosts.Memory → StopsOpening named old new fault
@@ -33,32 +33,32 @@ pub data StopsOpening (named : List ℕ → Type 0) (old new : Held) (fault : Ho
 -- ---- what a call that opens them does, whatever it answers, as far as the disk tells
 
 -- the file at this path is opened, and has not failed yet; nothing else is opened, and no file has changed
-pub record OpensOne {X F : Type 0} (tells : Bool) (r : Result X F) (path : List ℕ) (its_content : X → List ℕ)
-    (its_faults : X → ℕ) (h h' : Held) (old new : World) : Type 0 where
-  pub opened : IsTrue tells → IfOk r (λ x. OpensFile old path (its_content x) h h')
-  pub unread : IsTrue tells → IfOk r (λ x. its_faults x ≡ 0)
-  pub keeps : IsTrue tells → OnlyOpens h h' old new
+pub record OpensOne {X F : Type 0} (models : Bool) (r : Result X F) (path : List ℕ) (its_content : X → List ℕ)
+    (its_faults : X → ℕ) (h h' : OpenFiles) (old new : World) : Type 0 where
+  pub opened : IsTrue models → IfOk r (λ x. OpensFile old path (its_content x) h h')
+  pub unread : IsTrue models → IfOk r (λ x. its_faults x ≡ 0)
+  pub keeps : IsTrue models → OnlyOpens h h' old new
 
 -- files at these paths are opened, of which none has failed yet: so many faults are of what was open before; or one of
 -- them is not opened; no file has changed
-pub record OpensEach {X : Type 0} (tells : Bool) (r : Result X HostRefusal) (named : List ℕ → Type 0)
-    (its_faults : X → ℕ) (before : ℕ) (h h' : Held) (old new : World) : Type 0 where
-  pub unread : IsTrue tells → IfOk r (λ x. its_faults x ≡ before)
-  pub opened : IsTrue tells → OnOk r (OpensMore named old h h')
-  pub refused : IsTrue tells → IfErr r (λ refusal. StopsOpening named h h' refusal.fault)
-  pub keeps : IsTrue tells → OnlyOpens h h' old new
+pub record OpensEach {X : Type 0} (models : Bool) (r : Result X HostRefusal) (named : List ℕ → Type 0)
+    (its_faults : X → ℕ) (before : ℕ) (h h' : OpenFiles) (old new : World) : Type 0 where
+  pub unread : IsTrue models → IfOk r (λ x. its_faults x ≡ before)
+  pub opened : IsTrue models → OnOk r (OpensMore named old h h')
+  pub refused : IsTrue models → IfErr r (λ refusal. StopsOpening named h h' refusal.fault)
+  pub keeps : IsTrue models → OnlyOpens h h' old new
 
 -- a part of what is open already is opened, of which the bytes are such, and has not failed yet; or that is refused
-pub record OpensAgain {P F : Type 0} (tells : Bool) (r : Result P F) (Holds : List ℕ → Type 0)
-    (its_content : P → List ℕ) (its_faults : P → ℕ) (h h' : Held) (old new : World) : Type 0 where
-  pub part : IsTrue tells → IfOk r (λ p. Holds (its_content p))
-  pub unread : IsTrue tells → IfOk r (λ p. its_faults p ≡ 0)
-  pub fails : FailsOnly tells (unless (is_ok r)) h h' old new
+pub record OpensAgain {P F : Type 0} (models : Bool) (r : Result P F) (Holds : List ℕ → Type 0)
+    (its_content : P → List ℕ) (its_faults : P → ℕ) (h h' : OpenFiles) (old new : World) : Type 0 where
+  pub part : IsTrue models → IfOk r (λ p. Holds (its_content p))
+  pub unread : IsTrue models → IfOk r (λ p. its_faults p ≡ 0)
+  pub fails : FailsOnly models (unless (is_ok r)) h h' old new
 
 -- the same of several parts, which have no paths
-pub record OpensOwn {X : Type 0} (tells : Bool) (r : Result X HostRefusal) (its_faults : X → ℕ) (before : ℕ)
-    (h h' : Held) (old new : World) : Type 0 where
-  pub unread : IsTrue tells → IfOk r (λ x. its_faults x ≡ before)
-  pub held : IsTrue tells → OnOk r (h' ≡ h)
-  pub refused : IsTrue tells → IfErr r (λ refusal. StopsOpening no_path h h' refusal.fault)
-  pub keeps : IsTrue tells → OnlyOpens h h' old new
+pub record OpensOwn {X : Type 0} (models : Bool) (r : Result X HostRefusal) (its_faults : X → ℕ) (before : ℕ)
+    (h h' : OpenFiles) (old new : World) : Type 0 where
+  pub unread : IsTrue models → IfOk r (λ x. its_faults x ≡ before)
+  pub held : IsTrue models → OnOk r (h' ≡ h)
+  pub refused : IsTrue models → IfErr r (λ refusal. StopsOpening no_path h h' refusal.fault)
+  pub keeps : IsTrue models → OnlyOpens h h' old new

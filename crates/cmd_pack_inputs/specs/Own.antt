@@ -6,7 +6,7 @@ use Rattle.std.specs.Borrow.{Bor}
 use Rattle.std.specs.List.{All}
 use Rattle.abt_headers.specs.declared.entry.RamdiskEntry.{RamdiskEntry}
 use Rattle.abt_headers.specs.declared.sections.Section.{Section}
-use Rattle.abt_headers.specs.declared.sections.Place.{Place}
+use Rattle.abt_headers.specs.declared.sections.SectionPlace.{SectionPlace}
 use Rattle.abt_sections.specs.Fields.{BootFields}
 use Rattle.abt_sections.specs.Header.{Header, entry_of, page_of, ramdisk_at, view_of}
 use Rattle.abt_sections.specs.Layout.{part_of}
@@ -21,7 +21,7 @@ use Rattle.cmd_pack_inputs.specs.declared.own.Own.{Own}
 -- ---- parts
 
 -- the bytes at a place, or none
-abbrev pub bytes_at : List ℕ → Option Place → List ℕ
+abbrev pub bytes_at : List ℕ → Option SectionPlace → List ℕ
 bytes_at x None = []
 bytes_at x (Some place) = part_of x place
 

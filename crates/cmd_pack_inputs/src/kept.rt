@@ -12,20 +12,20 @@ ghost use Rattle.cmd_common_boot.specs.Carried.{IsTaken};
 ghost use Rattle.cmd_pack_inputs.specs.Own.{entries_to};
 ghost use Rattle.cmd_pack_inputs.specs.Judging.{IsUnread, ReadsOpened, StopsJudging};
 
-use crate::anew::anew_of;
 use crate::fields::own_cmdline;
+use crate::given_parts::anew_of;
 use abt_headers::{RamdiskEntry, Section};
 use abt_io::{Meter, Source, Window};
-use sys_refusals::HostFault;
 use abt_sections::{Image, fragment, fragments};
+use cmd_common_boot::{BootCommandFault, PackCommand, PackTexts};
 use cmd_common_fields::ImageKind;
 use cmd_common_findings::{LeftOut, count_left_out, in_no_fragment, place_of};
-use cmd_common_boot::{BootCommandFault, PackCommand, PackTexts};
 use std::alloc::{AllocError, Global};
+use sys_refusals::HostFault;
 
 /// What an image that is packed again has, beside its sections.
 #[derive(Drop)]
-pub struct Kept {
+pub struct OwnData {
     /// The entries of its table, where its fragments are kept.
     pub entries: Vec<RamdiskEntry>,
     pub cmdline: Vec<u8>,
@@ -40,15 +40,15 @@ pub fn judged<'a, S: Source>(
     command: &PackCommand<'a>,
     w: &mut Window,
     m: &mut Meter,
-) -> Result<Kept, BootCommandFault<'a>>
+) -> Result<OwnData, BootCommandFault<'a>>
     requires { kind ≡ kind_of (view_of image.now.header) }
     ensures reads { OnlyReads result S.Source source.old source.new }
     ensures taken { OnOk result (All (IsTaken kind) command.now.texts.fragments.items) }
     ensures cmdline { IfOk result (λ kept. kept.cmdline.items ≡ text_of (cmdline_of (view_of image.now.header))) }
-    ensures entries { IsTrue S.tells → IfOk result (λ kept. command.now.texts.fragments.items ≡ [] →
+    ensures entries { IsTrue S.models → IfOk result (λ kept. command.now.texts.fragments.items ≡ [] →
         kept.entries.items ≡ entries_to (S.content source.old) (view_of image.now.header)
         (fragment_count (view_of image.now.header))) }
-    ensures refused { IsTrue S.tells → IsOpened (S.content source.old) image.now → IfErr result
+    ensures refused { IsTrue S.models → IsOpened (S.content source.old) image.now → IfErr result
         (StopsJudging command.now kind (S.read_faults source.old < S.read_faults source.new)) }
 {
     let alloc = command.alloc;
@@ -66,7 +66,7 @@ pub fn judged<'a, S: Source>(
         Err(fault) => return Err(fault),
     };
     match own_cmdline(alloc, &image.header) {
-        Ok(cmdline) => Ok(Kept {
+        Ok(cmdline) => Ok(OwnData {
             entries,
             cmdline,
             left,
@@ -91,7 +91,7 @@ fn entries_kept<S: Source>(
     w: &mut Window,
     m: &mut Meter,
 ) -> Result<Vec<RamdiskEntry>, BootCommandFault<'static>>
-    ensures entries { IsTrue S.tells → IfOk result (λ entries. entries.items ≡ entries_to (S.content source.old)
+    ensures entries { IsTrue S.models → IfOk result (λ entries. entries.items ≡ entries_to (S.content source.old)
         (view_of image.now.header) (if keeps then fragment_count (view_of image.now.header) else 0)) }
     ensures reads { ReadsOpened result S.Source source.old source.new image.now }
 {
@@ -110,7 +110,7 @@ fn entries_of<S: Source>(
     w: &mut Window,
     m: &mut Meter,
 ) -> Result<Vec<RamdiskEntry>, BootCommandFault<'static>>
-    ensures entries { IsTrue S.tells → IfOk result (λ entries. entries.items ≡ entries_to (S.content source.old)
+    ensures entries { IsTrue S.models → IfOk result (λ entries. entries.items ≡ entries_to (S.content source.old)
         (view_of image.now.header) (fragment_count (view_of image.now.header))) }
     ensures reads { ReadsOpened result S.Source source.old source.new image.now }
 {
@@ -140,7 +140,7 @@ fn left_out<S: Source>(
     m: &mut Meter,
 ) -> Result<LeftOut, BootCommandFault<'static>>
     ensures reads { OnlyReads result S.Source source.old source.new }
-    ensures refused { IsTrue S.tells → IfErr result
+    ensures refused { IsTrue S.models → IfErr result
         (IsUnread (S.read_faults source.old < S.read_faults source.new)) }
 {
     let gaps = match gaps_kept(command.alloc, image, keeps, entries) {

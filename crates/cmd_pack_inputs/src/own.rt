@@ -9,35 +9,35 @@ ghost use Rattle.cmd_common_boot.specs.ImageFaults.{RefusesImage};
 ghost use Rattle.cmd_pack_inputs.specs.Opening.{OpensAgain, OpensOne};
 ghost use Rattle.cmd_pack_inputs.specs.Own.{IsOpenOwn, IsOwnPart, kept_behind};
 
-use sys_disk::{Disk, Lasting};
 use abt_headers::Section;
 use abt_io::{Meter, Source, Window};
-use sys_refusals::{HostRefusal, Place, Refusal, Sides};
 use abt_sections::{Image, open};
-use cmd_common_findings::{end_of, place_of};
 use cmd_common_boot::{BootCommandFault, PartSource};
+use cmd_common_findings::{end_of, place_of};
+use sys_disk::{Disk, Lasting};
+use sys_refusals::{FileArg, HostRefusal, Refusal, Sides};
 
 /// An image that is packed again.
 #[derive(Drop)]
 pub struct Own<'a, S: Source + Lasting + Drop> {
     pub image: Image,
     pub source: S,
-    pub place: Place<'a>,
+    pub place: FileArg<'a>,
 }
 
 /// Opens an image.
 pub fn open_own<'t, 'a, D: Disk>(
     disk: &mut D,
-    place: Place<'t>,
+    place: FileArg<'t>,
     w: &mut Window,
     m: &mut Meter,
 ) -> Result<Own<'t, D::At>, Refusal<'t, BootCommandFault<'a>>>
-    requires first { IsTrue D.tells → (D.held disk.old).begun ≡ [] }
-    ensures opens { OpensOne D.tells result (path_of place.entry) (λ own. D.At.content own.source)
+    requires first { IsTrue D.models → (D.held disk.old).begun ≡ [] }
+    ensures opens { OpensOne D.models result (path_of place.entry) (λ own. D.At.content own.source)
         (λ own. D.At.read_faults own.source) (D.held disk.old) (D.held disk.new) (D.world disk.old)
         (D.world disk.new) }
-    ensures image { IsTrue D.At.tells → IfOk result (λ own. IsOpened (D.At.content own.source) own.image) }
-    ensures refused { IsTrue D.tells → IfErr result (λ refusal. RefusesImage (path_of place.entry)
+    ensures image { IsTrue D.At.models → IfOk result (λ own. IsOpened (D.At.content own.source) own.image) }
+    ensures refused { IsTrue D.models → IfErr result (λ refusal. RefusesImage (path_of place.entry)
         (D.world disk.old) (HasFailed (D.held disk.old) (D.held disk.new)) ⊥ refusal.fault) }
 {
     let mut source = match disk.source(place) {
@@ -65,8 +65,8 @@ pub(crate) fn range_of<'t, D: Disk>(
     at: u64,
     size: u64,
 ) -> Result<PartSource<'t, D::At>, HostRefusal<'t>>
-    requires lies { IsTrue D.At.tells → 0 < size → at + size ≤ length (D.At.content own.now.source) }
-    ensures opens { OpensAgain D.tells result (λ x. x ≡ take size (drop at (D.At.content own.now.source)))
+    requires lies { IsTrue D.At.models → 0 < size → at + size ≤ length (D.At.content own.now.source) }
+    ensures opens { OpensAgain D.models result (λ x. x ≡ take size (drop at (D.At.content own.now.source)))
         ⟦<PartSource<'t, D::At> as Source>⟧.content
         ⟦<PartSource<'t, D::At> as Source>⟧.read_faults (D.held disk.old) (D.held disk.new)
         (D.world disk.old) (D.world disk.new) }
@@ -86,8 +86,8 @@ pub(crate) fn own_part<'t, D: Disk>(
     own: Option<&Own<'t, D::At>>,
     section: Section,
 ) -> Result<PartSource<'t, D::At>, HostRefusal<'t>>
-    requires { IsTrue D.At.tells → IsOpenOwn D.At.content own }
-    ensures opens { OpensAgain D.tells result (IsOwnPart D.At.content own.entry section)
+    requires { IsTrue D.At.models → IsOpenOwn D.At.content own }
+    ensures opens { OpensAgain D.models result (IsOwnPart D.At.content own.entry section)
         ⟦<PartSource<'t, D::At> as Source>⟧.content
         ⟦<PartSource<'t, D::At> as Source>⟧.read_faults (D.held disk.old) (D.held disk.new)
         (D.world disk.old) (D.world disk.new) }
@@ -107,8 +107,8 @@ pub fn trailing_of<'t, D: Disk>(
     own: &Own<'t, D::At>,
     is_kept: bool,
 ) -> Result<PartSource<'t, D::At>, HostRefusal<'t>>
-    requires { IsTrue D.At.tells → IsOpened (D.At.content own.now.source) own.now.image }
-    ensures opens { OpensAgain D.tells result (λ x. x ≡ kept_behind is_kept (D.At.content own.now.source)
+    requires { IsTrue D.At.models → IsOpened (D.At.content own.now.source) own.now.image }
+    ensures opens { OpensAgain D.models result (λ x. x ≡ kept_behind is_kept (D.At.content own.now.source)
         (view_of own.now.image.header))
         ⟦<PartSource<'t, D::At> as Source>⟧.content
         ⟦<PartSource<'t, D::At> as Source>⟧.read_faults (D.held disk.old) (D.held disk.new)

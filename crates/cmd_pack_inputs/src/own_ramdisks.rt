@@ -11,14 +11,14 @@ ghost use Rattle.cmd_pack_inputs.specs.Own.{said_of};
 
 use crate::own::{Own, range_of};
 use crate::ramdisks::Ramdisks;
-use sys_disk::Disk;
 use abt_headers::{RamdiskEntry, Section};
 use abt_io::Source;
-use sys_refusals::HostRefusal;
 use abt_sections::FragmentSpec;
-use cmd_common_findings::place_of;
 use cmd_common_boot::PartSource;
+use cmd_common_findings::place_of;
 use std::alloc::Global;
+use sys_disk::Disk;
+use sys_refusals::HostRefusal;
 
 /// Those of an image, of which these are the entries of its table.
 pub fn own_fragments<'a, D: Disk>(
@@ -27,14 +27,14 @@ pub fn own_fragments<'a, D: Disk>(
     own: &Own<'a, D::At>,
     entries: &[RamdiskEntry],
 ) -> Result<Ramdisks<'a, D::At>, HostRefusal<'a>>
-    requires opened { IsTrue D.At.tells → IsOpened (D.At.content own.now.source) own.now.image }
-    requires entries { IsTrue D.At.tells → entries.now ≡ entries_to (D.At.content own.now.source)
+    requires opened { IsTrue D.At.models → IsOpened (D.At.content own.now.source) own.now.image }
+    requires entries { IsTrue D.At.models → entries.now ≡ entries_to (D.At.content own.now.source)
         (view_of own.now.image.header) (fragment_count (view_of own.now.image.header)) }
-    ensures specs { IsTrue D.tells → IfOk result (λ all. all.specs.items ≡ map said_of entries.now) }
-    ensures bytes { IsTrue D.tells → IfOk result (λ all. map ⟦<PartSource<'a, D::At> as Source>⟧.content
+    ensures specs { IsTrue D.models → IfOk result (λ all. all.specs.items ≡ map said_of entries.now) }
+    ensures bytes { IsTrue D.models → IfOk result (λ all. map ⟦<PartSource<'a, D::At> as Source>⟧.content
         all.sources.items ≡ map
         (fragment_bytes (D.At.content own.now.source) (view_of own.now.image.header)) entries.now) }
-    ensures opens { OpensOwn D.tells result (λ all.
+    ensures opens { OpensOwn D.models result (λ all.
         total ⟦<PartSource<'a, D::At> as Source>⟧.read_faults all.sources.items) 0 (D.held disk.old)
         (D.held disk.new) (D.world disk.old) (D.world disk.new) }
 {
@@ -53,11 +53,11 @@ fn with_entries<'a, D: Disk>(
     entries: &[RamdiskEntry],
 ) -> Result<Ramdisks<'a, D::At>, HostRefusal<'a>>
     requires low { front < 2 ^ 63 }
-    requires there { IsTrue D.At.tells → AllEndBehind front (length (D.At.content own.now.source)) entries.now }
+    requires there { IsTrue D.At.models → AllEndBehind front (length (D.At.content own.now.source)) entries.now }
     ensures specs { IfOk result (λ all. all.specs.items ≡ map said_of entries.now) }
-    ensures bytes { IsTrue D.tells → IfOk result (λ all. map ⟦<PartSource<'a, D::At> as Source>⟧.content
+    ensures bytes { IsTrue D.models → IfOk result (λ all. map ⟦<PartSource<'a, D::At> as Source>⟧.content
         all.sources.items ≡ map (bytes_behind (D.At.content own.now.source) front) entries.now) }
-    ensures opens { OpensOwn D.tells result (λ all.
+    ensures opens { OpensOwn D.models result (λ all.
         total ⟦<PartSource<'a, D::At> as Source>⟧.read_faults all.sources.items) 0 (D.held disk.old)
         (D.held disk.new) (D.world disk.old) (D.world disk.new) }
 {
@@ -80,13 +80,13 @@ fn with_entry<'a, D: Disk>(
     entry: &RamdiskEntry,
 ) -> Result<Ramdisks<'a, D::At>, HostRefusal<'a>>
     requires low { front < 2 ^ 63 }
-    requires there { IsTrue D.At.tells → EndsBehind front (length (D.At.content own.now.source)) entry.now }
+    requires there { IsTrue D.At.models → EndsBehind front (length (D.At.content own.now.source)) entry.now }
     ensures specs { IfOk result (λ more. more.specs.items
         ≡ ramdisks.entry.specs.items ++ (said_of entry.now ∷ [])) }
-    ensures bytes { IsTrue D.tells → IfOk result (λ more. map ⟦<PartSource<'a, D::At> as Source>⟧.content
+    ensures bytes { IsTrue D.models → IfOk result (λ more. map ⟦<PartSource<'a, D::At> as Source>⟧.content
         more.sources.items ≡ map ⟦<PartSource<'a, D::At> as Source>⟧.content ramdisks.entry.sources.items
         ++ (bytes_behind (D.At.content own.now.source) front entry.now ∷ [])) }
-    ensures opens { OpensOwn D.tells result (λ more.
+    ensures opens { OpensOwn D.models result (λ more.
         total ⟦<PartSource<'a, D::At> as Source>⟧.read_faults more.sources.items)
         (total ⟦<PartSource<'a, D::At> as Source>⟧.read_faults ramdisks.entry.sources.items)
         (D.held disk.old) (D.held disk.new) (D.world disk.old) (D.world disk.new) }

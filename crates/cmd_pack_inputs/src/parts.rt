@@ -9,14 +9,14 @@ ghost use Rattle.cmd_pack_inputs.specs.Opening.{OpensEach, OpensOne, StopsOpenin
 ghost use Rattle.cmd_pack_inputs.specs.Own.{IsOpenOwn, IsOwnPart};
 ghost use Rattle.cmd_pack_inputs.specs.Parts.{ArePartsOf, IsPartBy, IsPartInput, IsPathOf};
 
+use crate::input_files::file_at;
 use crate::own::{Own, own_part};
-use crate::places::file_at;
-use sys_disk::Disk;
 use abt_io::Source;
-use sys_refusals::{HostFault, HostRefusal};
-use cmd_common_fields::ImageKind;
 use cmd_common_boot::{PackTexts, PartRow, PartSource, rows_of};
+use cmd_common_fields::ImageKind;
 use std::alloc::Global;
+use sys_disk::Disk;
+use sys_refusals::{HostFault, HostRefusal};
 
 /// Opens the parts of an image of this kind: each is the file that was given, or else the image's own, or empty.
 pub fn open_parts<'t, D: Disk>(
@@ -26,13 +26,13 @@ pub fn open_parts<'t, D: Disk>(
     texts: &'t PackTexts<'_>,
     own: Option<&Own<'t, D::At>>,
 ) -> Result<Vec<PartSource<'t, D::At>>, HostRefusal<'t>>
-    requires first { IsTrue D.tells → (D.held disk.old).begun ≡ [] }
-    requires own { IsTrue D.At.tells → IsOpenOwn D.At.content own }
+    requires first { IsTrue D.models → (D.held disk.old).begun ≡ [] }
+    requires own { IsTrue D.At.models → IsOpenOwn D.At.content own }
     ensures counted { IfOk result (λ parts. length parts.items ≡ row_count kind) }
-    ensures parts { IsTrue D.tells → IfOk result (λ parts. ArePartsOf (D.world disk.old) texts.now.options.items
+    ensures parts { IsTrue D.models → IfOk result (λ parts. ArePartsOf (D.world disk.old) texts.now.options.items
         (IsOwnPart D.At.content own.entry) (part_sections kind)
         (map ⟦<PartSource<'t, D::At> as Source>⟧.content parts.items)) }
-    ensures opens { OpensEach D.tells result (IsPartInput texts.now.options.items (part_sections kind))
+    ensures opens { OpensEach D.models result (IsPartInput texts.now.options.items (part_sections kind))
         (λ parts. total ⟦<PartSource<'t, D::At> as Source>⟧.read_faults parts.items) 0
         (D.held disk.old) (D.held disk.new) (D.world disk.old) (D.world disk.new) }
 {
@@ -58,12 +58,12 @@ fn open_part<'t, D: Disk>(
     texts: &'t PackTexts<'_>,
     own: Option<&Own<'t, D::At>>,
 ) -> Result<PartSource<'t, D::At>, HostRefusal<'t>>
-    requires first { IsTrue D.tells → (D.held disk.old).begun ≡ [] }
-    requires own { IsTrue D.At.tells → IsOpenOwn D.At.content own }
-    ensures part { IsTrue D.tells → IfOk result (λ part. IsPartBy (D.world disk.old)
+    requires first { IsTrue D.models → (D.held disk.old).begun ≡ [] }
+    requires own { IsTrue D.At.models → IsOpenOwn D.At.content own }
+    ensures part { IsTrue D.models → IfOk result (λ part. IsPartBy (D.world disk.old)
         (found texts.now.options.items row.option.now) (IsOwnPart D.At.content own.entry row.section)
         (⟦<PartSource<'t, D::At> as Source>⟧.content part)) }
-    ensures opens { OpensEach D.tells result (IsPathOf texts.now.options.items row.option.now)
+    ensures opens { OpensEach D.models result (IsPathOf texts.now.options.items row.option.now)
         (⟦<PartSource<'t, D::At> as Source>⟧.read_faults) 0 (D.held disk.old) (D.held disk.new)
         (D.world disk.old) (D.world disk.new) }
 {
@@ -80,11 +80,11 @@ pub(crate) fn open_file<'t, D: Disk>(
     word: &'t str,
     path: &'t [u8],
 ) -> Result<PartSource<'t, D::At>, HostRefusal<'t>>
-    requires first { IsTrue D.tells → (D.held disk.old).begun ≡ [] }
-    ensures opens { OpensOne D.tells result path.now ⟦<PartSource<'t, D::At> as Source>⟧.content
+    requires first { IsTrue D.models → (D.held disk.old).begun ≡ [] }
+    ensures opens { OpensOne D.models result path.now ⟦<PartSource<'t, D::At> as Source>⟧.content
         ⟦<PartSource<'t, D::At> as Source>⟧.read_faults (D.held disk.old) (D.held disk.new) (D.world disk.old)
         (D.world disk.new) }
-    ensures refused { IsTrue D.tells → IfErr result (λ refusal. StopsOpening (λ p. p ≡ path.now) (D.held disk.old)
+    ensures refused { IsTrue D.models → IfErr result (λ refusal. StopsOpening (λ p. p ≡ path.now) (D.held disk.old)
         (D.held disk.new) refusal.fault) }
 {
     match str::from_utf8(path) {

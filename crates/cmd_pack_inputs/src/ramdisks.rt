@@ -9,12 +9,12 @@ ghost use Rattle.cmd_pack_inputs.specs.Parts.{AddsFragment, AreFragmentsOf, IsFr
 ghost use Rattle.cmd_pack_inputs.specs.BadBoards.{IsBadBoard};
 
 use crate::parts::open_file;
-use sys_disk::{Disk, Lasting};
 use abt_io::Source;
-use sys_refusals::{HostFault, HostRefusal, Refusal};
 use abt_sections::FragmentSpec;
 use cmd_common_boot::{BootCommandFault, FragmentText, PackTexts, PartSource, set_board_ids};
 use std::alloc::Global;
+use sys_disk::{Disk, Lasting};
+use sys_refusals::{HostFault, HostRefusal, Refusal};
 
 /// The fragments of a vendor ramdisk, each with what it is read from.
 #[derive(Drop)]
@@ -85,11 +85,11 @@ pub fn open_fragments<'a, D: Disk>(
     alloc: Global,
     texts: &'a PackTexts<'_>,
 ) -> Result<Ramdisks<'a, D::At>, HostRefusal<'a>>
-    requires first { IsTrue D.tells → (D.held disk.old).begun ≡ [] }
+    requires first { IsTrue D.models → (D.held disk.old).begun ≡ [] }
     requires said { All (λ fragment. IsSome fragment.spec) texts.now.fragments.items }
-    ensures fragments { IsTrue D.tells → IfOk result (λ all. AreFragmentsOf (D.world disk.old) texts.now.fragments.items
+    ensures fragments { IsTrue D.models → IfOk result (λ all. AreFragmentsOf (D.world disk.old) texts.now.fragments.items
         all.specs.items (map ⟦<PartSource<'a, D::At> as Source>⟧.content all.sources.items)) }
-    ensures opens { OpensEach D.tells result (IsFragmentInput texts.now.fragments.items)
+    ensures opens { OpensEach D.models result (IsFragmentInput texts.now.fragments.items)
         (λ all. total ⟦<PartSource<'a, D::At> as Source>⟧.read_faults all.sources.items) 0
         (D.held disk.old) (D.held disk.new) (D.world disk.old) (D.world disk.new) }
 {
@@ -109,13 +109,13 @@ fn with_file<'a, D: Disk>(
     ramdisks: Ramdisks<'a, D::At>,
     fragment: &'a FragmentText<'_>,
 ) -> Result<Ramdisks<'a, D::At>, HostRefusal<'a>>
-    requires first { IsTrue D.tells → (D.held disk.old).begun ≡ [] }
+    requires first { IsTrue D.models → (D.held disk.old).begun ≡ [] }
     requires said { IsSome fragment.now.spec }
-    ensures added { IsTrue D.tells → IfOk result (λ more. AddsFragment (D.world disk.old) fragment.now
+    ensures added { IsTrue D.models → IfOk result (λ more. AddsFragment (D.world disk.old) fragment.now
         ramdisks.entry.specs.items more.specs.items
         (map ⟦<PartSource<'a, D::At> as Source>⟧.content ramdisks.entry.sources.items)
         (map ⟦<PartSource<'a, D::At> as Source>⟧.content more.sources.items)) }
-    ensures opens { OpensEach D.tells result (λ path. path ≡ fragment.now.path.items)
+    ensures opens { OpensEach D.models result (λ path. path ≡ fragment.now.path.items)
         (λ more. total ⟦<PartSource<'a, D::At> as Source>⟧.read_faults more.sources.items)
         (total ⟦<PartSource<'a, D::At> as Source>⟧.read_faults ramdisks.entry.sources.items)
         (D.held disk.old) (D.held disk.new) (D.world disk.old) (D.world disk.new) }

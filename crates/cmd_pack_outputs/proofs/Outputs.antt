@@ -8,14 +8,14 @@ use Rattle.std.specs.Prelude.{IsTrue}
 use Rattle.sys_disk.specs.Images.{OfImage}
 use Rattle.sys_disk.specs.declared.image_to.ImageTo.{ImageTo}
 use Rattle.sys_disk.specs.declared.image_to.ImageTo.TheVariants.{File, Stream}
-use Rattle.sys_disk.specs.World.{ClosesOutput, Creates, Ends, Held, Spares, SparesRest, World, failing}
+use Rattle.sys_disk.specs.World.{ClosesOutput, Creates, Ends, OpenFiles, Spares, SparesRest, World, failing}
 use Rattle.abt_sections.specs.declared.fault.SectionFault.{SectionFault}
 use Rattle.cmd_common_boot.specs.Refused.{IsJudged, IsOfMoving}
 use Rattle.cmd_common_boot.specs.declared.fault.BootCommandFault.{BootCommandFault}
 use Rattle.cmd_common_boot.specs.declared.fault.BootCommandFault.TheVariants as faults
 use Rattle.sys_refusals.specs.declared.refusal.HostFault.{HostFault}
 use Rattle.cmd_pack_outputs.specs.Contents.{faults_in}
-use Rattle.cmd_pack_outputs.specs.declared.contents.Contents.{Contents}
+use Rattle.cmd_pack_outputs.specs.declared.contents.ImageContents.{ImageContents}
 use Rattle.cmd_pack_outputs.specs.Lines.{counted_in_u64, image_line}
 use Rattle.cmd_pack_outputs.specs.Magic.{HoldsNone}
 use Rattle.cmd_pack_outputs.specs.Writing.{HoldsNoPartOf, IsAccepted, IsReady, LaysImage, LeavesNoneOrAll}
@@ -35,13 +35,13 @@ one o f g a b = ap (λ p. unwrap_or p 0) (sym a ∙ b)
 
 -- ---- all is at hand
 
-pub ready_image : {F S P : Type 0} {tells : Bool} {size : P → ℕ} (faults : P → ℕ) {c : Contents P} (image : ImageTo F S)
+pub ready_image : {F S P : Type 0} {models : Bool} {size : P → ℕ} (faults : P → ℕ) {c : ImageContents P} (image : ImageTo F S)
     (file_written : F → List ℕ) (file_faults : F → ℕ) (stream_written : S → List ℕ) (stream_faults : S → ℕ)
-    → IsAccepted size c → (IsTrue tells → faults_in faults c ≡ 0)
+    → IsAccepted size c → (IsTrue models → faults_in faults c ≡ 0)
     → OfImage (λ f. file_written f ≡ []) (λ s. stream_written s ≡ []) image
-    → (IsTrue tells → OfImage (λ f. file_faults f ≡ 0) (λ s. stream_faults s ≡ 0) image)
-    → OfImage (λ f. IsReady tells size faults c (file_written f) (file_faults f))
-    (λ s. IsReady tells size faults c (stream_written s) (stream_faults s)) image
+    → (IsTrue models → OfImage (λ f. file_faults f ≡ 0) (λ s. stream_faults s ≡ 0) image)
+    → OfImage (λ f. IsReady models size faults c (file_written f) (file_faults f))
+    (λ s. IsReady models size faults c (stream_written s) (stream_faults s)) image
 ready_image faults (File f) a b d e sources unread empty clean =
     record { sources = sources; unread = unread; empty = empty; clean = clean }
 ready_image faults (Stream s) a b d e sources unread empty clean =
@@ -55,25 +55,25 @@ part_emptied x y A (inl kept) = inl kept
 part_emptied x y A (inr none) = inr (inl (empty_none y none))
 
 -- it was begun, and could not be brought to its end
-pub part_left : (output bytes : List ℕ) (h h' : Held) (a b c : World) → Creates output h h' a b
+pub part_left : (output bytes : List ℕ) (h h' : OpenFiles) (a b c : World) → Creates output h h' a b
     → SparesRest h'.output b c → LeavesNoneOrAll h'.output bytes c → HoldsNoPartOf output (λ x. x ≡ bytes) a c
 part_left output bytes h h' a b c made rest left = λ file at.
-    let t : Spares made.file b c = subst (λ (k : Held). SparesRest k.output b c) made.begins rest in
+    let t : Spares made.file b c = subst (λ (k : OpenFiles). SparesRest k.output b c) made.begins rest in
     let is : made.file ≡ file = one (c.at output) made.file file (t.paths output made.file made.there) at in
     let it : LeavesNoneOrAll (Some made.file) bytes c
-    = subst (λ (k : Held). LeavesNoneOrAll k.output bytes c) made.begins left in
+    = subst (λ (k : OpenFiles). LeavesNoneOrAll k.output bytes c) made.begins left in
     inr (subst (λ f. LeavesNoneOrAll (Some f) bytes c) is it)
 
 -- it was brought to its end
-pub part_whole : (output bytes : List ℕ) (h h' : Held) (a b c : World) → Creates output h h' a b
+pub part_whole : (output bytes : List ℕ) (h h' : OpenFiles) (a b c : World) → Creates output h h' a b
     → Ends h'.output bytes b c → HoldsNoPartOf output (λ x. x ≡ bytes) a c
 part_whole output bytes h h' a b c made ends = λ file at.
-    let it : Ends (Some made.file) bytes b c = subst (λ (k : Held). Ends k.output bytes b c) made.begins ends in
+    let it : Ends (Some made.file) bytes b c = subst (λ (k : OpenFiles). Ends k.output bytes b c) made.begins ends in
     let is : made.file ≡ file = one (c.at output) made.file file (it.1.paths output made.file made.there) at in
     inr (inr (ap (λ f. c.holds f) (sym is) ∙ it.0))
 
 -- whatever was told of it then
-pub left_done : {X F : Type 0} (r : Result X F) (output bytes : List ℕ) (over : Bool) (h h' h'' : Held) (a b c : World)
+pub left_done : {X F : Type 0} (r : Result X F) (output bytes : List ℕ) (over : Bool) (h h' h'' : OpenFiles) (a b c : World)
     → Creates output h h' a b → SparesRest h'.output b c → Ends h'.output bytes b c
     → ClosesOutput true h' h'' → LeavesOut r output over (λ x. x ≡ bytes) h h'' a c
 left_done r output bytes over h h' h'' a b c made rest ends closes = record {
@@ -91,11 +91,11 @@ spares_then f a b c s t = record {
 }
 
 -- and all is done
-pub lays : (output bytes : List ℕ) (n : ℕ) (h h' : Held) (a b c : World) (shows : List ℕ → Type 0)
+pub lays : (output bytes : List ℕ) (n : ℕ) (h h' : OpenFiles) (a b c : World) (shows : List ℕ → Type 0)
     → Creates output h h' a b → Ends h'.output bytes b c → n ≡ counted_in_u64 (length bytes)
     → shows (image_line n ++ (10 ∷ [])) → LaysImage output h.read bytes a c shows
 lays output bytes n h h' a b c shows made ends counts shown =
-    let it : Ends (Some made.file) bytes b c = subst (λ (k : Held). Ends k.output bytes b c) made.begins ends in
+    let it : Ends (Some made.file) bytes b c = subst (λ (k : OpenFiles). Ends k.output bytes b c) made.begins ends in
     record {
       onto = made.file;
       here = it.1.paths output made.file made.there;
@@ -111,7 +111,7 @@ beside_as b b' a c line same beside = subst (λ is. ShowsBeside is a c line) sam
 
 -- ---- why it is refused
 
-pub judged_stops : (o : Option SectionFault) (h h' : Held) (a b : World) (Done : Type 0) (f g : BootCommandFault)
+pub judged_stops : (o : Option SectionFault) (h h' : OpenFiles) (a b : World) (Done : Type 0) (f g : BootCommandFault)
     → IsJudged o f → g ≡ f → h' ≡ h → b ≡ a → StopsWriting o h h' a b Done g
 judged_stops o h h' a b Done (faults.Host f) g judged told held same =
     no_memory (told ∙ ap faults.Host judged) held same
@@ -151,11 +151,11 @@ counts_end (Err f) b (Ok end) to k told done is = absurd (false≢true (ap is_ok
 counts_end a b (Err x) to k told done is = tt
 
 pub ends_end : {F G R : Type 0} (a : Result ℕ F) (b : Result ℕ G) (r : Result (ℕ × Bool) R) (to : F → G)
-    (x w bytes : List ℕ) (n : ℕ) (h h' : Held) (u v c : World) → MatchResult a (λ n. b ≡ Ok n) (λ f. b ≡ Err (to f))
+    (x w bytes : List ℕ) (n : ℕ) (h h' : OpenFiles) (u v c : World) → MatchResult a (λ n. b ≡ Ok n) (λ f. b ≡ Err (to f))
     → IfOk r (λ end. b ≡ Ok end.0) → w ≡ [] → h' ≡ failing n h → v ≡ u → OnOk a (x ≡ w ++ bytes)
     → OnOk r (Ends h'.output x v c) → OnOk r (Ends h.output bytes u c)
 ends_end (Ok m) b (Ok end) to x w bytes n h h' u v c told done none held same is ends =
-    let o : h'.output ≡ h.output = ap (λ (k : Held). k.output) held in
+    let o : h'.output ≡ h.output = ap (λ (k : OpenFiles). k.output) held in
     let y : x ≡ bytes = is ∙ ap (λ l. l ++ bytes) none in
     subst (λ o. Ends o bytes u c) o (subst (λ l. Ends h'.output l u c) y (subst (λ k. Ends h'.output x k c) same ends))
 ends_end (Err f) b (Ok end) to x w bytes n h h' u v c told done none held same is ends =
@@ -177,19 +177,19 @@ outside_end {Y} {R} (Err f) b (Err x) fault told moving is host =
 
 -- ---- behind what was read is let go
 
-pub ends_behind : (x bytes : List ℕ) (n : ℕ) (h h' : Held) (u v c : World) → h' ≡ failing n h → v ≡ u → x ≡ bytes
+pub ends_behind : (x bytes : List ℕ) (n : ℕ) (h h' : OpenFiles) (u v c : World) → h' ≡ failing n h → v ≡ u → x ≡ bytes
     → Ends h'.output x v c → Ends h.output bytes u c
 ends_behind x bytes n h h' u v c held same is ends =
-    let o : h'.output ≡ h.output = ap (λ (k : Held). k.output) held in
+    let o : h'.output ≡ h.output = ap (λ (k : OpenFiles). k.output) held in
     subst (λ o. Ends o bytes u c) o (subst (λ l. Ends h'.output l u c) is (subst (λ k. Ends h'.output x k c) same ends))
 
-pub part_behind : (bytes : List ℕ) (n : ℕ) (h h' : Held) (c : World) → h' ≡ failing n h → LeavesNoneOrAll h'.output
+pub part_behind : (bytes : List ℕ) (n : ℕ) (h h' : OpenFiles) (c : World) → h' ≡ failing n h → LeavesNoneOrAll h'.output
     bytes c
     → LeavesNoneOrAll h.output bytes c
 part_behind bytes n h h' c held left =
-    let o : h'.output ≡ h.output = ap (λ (k : Held). k.output) held in subst (λ o. LeavesNoneOrAll o bytes c) o left
+    let o : h'.output ≡ h.output = ap (λ (k : OpenFiles). k.output) held in subst (λ o. LeavesNoneOrAll o bytes c) o left
 
-pub rest_behind : (n : ℕ) (h h' : Held) (u v c : World) → h' ≡ failing n h → v ≡ u → SparesRest h'.output v c
+pub rest_behind : (n : ℕ) (h h' : OpenFiles) (u v c : World) → h' ≡ failing n h → v ≡ u → SparesRest h'.output v c
     → SparesRest h.output u c
 rest_behind n h h' u v c held same rest = subst (λ w. SparesRest h.output w c) same
-    (subst (λ o. SparesRest o v c) (ap (λ (k : Held). k.output) held) rest)
+    (subst (λ o. SparesRest o v c) (ap (λ (k : OpenFiles). k.output) held) rest)

@@ -6,7 +6,7 @@ use Rattle.abt_sections.specs.declared.spec.BootSpec.{BootSpec}
 use Rattle.abt_sections.specs.declared.spec.FragmentSpec.{FragmentSpec}
 use Rattle.cmd_common_fields.specs.declared.image_kind.ImageKind.{ImageKind}
 use Rattle.cmd_common_boot.specs.Refused.{packed, refusal_of}
-use Rattle.cmd_pack_outputs.specs.declared.contents.Contents.{Contents}
+use Rattle.cmd_pack_outputs.specs.declared.contents.ImageContents.{ImageContents}
 
 -- the fields and the parts of an image, and its ramdisk fragments
 pub record Packing : Type 0 where
@@ -24,7 +24,7 @@ refusal_from kind p = refusal_of kind p.fields (map length p.parts) (map length 
 
 -- ---- of sources, each with what it contains
 
-abbrev pub packing_of : {P : Type 0} → (P → List ℕ) → Contents P → Packing
+abbrev pub packing_of : {P : Type 0} → (P → List ℕ) → ImageContents P → Packing
 packing_of content c = record {
   fields = c.fields;
   parts = map content c.parts.items;
@@ -33,13 +33,13 @@ packing_of content c = record {
 }
 
 -- the image, and what stands behind it
-abbrev pub packed_image : {P : Type 0} → (P → List ℕ) → Contents P → List ℕ
+abbrev pub packed_image : {P : Type 0} → (P → List ℕ) → ImageContents P → List ℕ
 packed_image content c = image_from c.kind (packing_of content c) ++ content c.trailing
 
 -- what packing refuses, by the sizes of the sources
-abbrev pub refusal_in : {P : Type 0} → (P → ℕ) → Contents P → Option SectionFault
+abbrev pub refusal_in : {P : Type 0} → (P → ℕ) → ImageContents P → Option SectionFault
 refusal_in size c = refusal_of c.kind c.fields (map size c.parts.items) (map size c.sources.items)
 
 -- how often a read of them has failed
-abbrev pub faults_in : {P : Type 0} → (P → ℕ) → Contents P → ℕ
+abbrev pub faults_in : {P : Type 0} → (P → ℕ) → ImageContents P → ℕ
 faults_in faults c = total faults c.parts.items + total faults c.sources.items + faults c.nothing + faults c.trailing

@@ -2,50 +2,50 @@
 use Rattle.std.specs.Prelude.{◌≡◌, ◌<◌, ◌⊎◌, ℕ, Bool, List, [], ◌∷◌, ◌++◌, length, Option, Some, None, IsTrue}
 use Rattle.std.specs.Prelude.{Contains, Result, IfErr, IfOk, OnErr, OnOk, ◌+◌, if◌then◌else◌, is_ok}
 use Rattle.abt_sections.specs.declared.fault.SectionFault.{SectionFault}
-use Rattle.sys_disk.specs.World.{ClosesOutput, Ends, HasFailed, HasNotFailed, Held, OnlyAt, Spares, SparesRest, World}
+use Rattle.sys_disk.specs.World.{ClosesOutput, Ends, HasFailed, HasNotFailed, OpenFiles, OnlyAt, Spares, SparesRest, World}
 use Rattle.sys_refusals.specs.declared.refusal.HostFault.{HostFault}
 use Rattle.sys_refusals.specs.declared.refusal.HostFault.TheVariants as hosts
 use Rattle.cmd_common_boot.specs.Parts.{IsBoot}
 use Rattle.cmd_common_boot.specs.Refused.{IsOfMoving}
 use Rattle.cmd_common_boot.specs.declared.fault.BootCommandFault.{BootCommandFault}
 use Rattle.cmd_common_boot.specs.declared.fault.BootCommandFault.TheVariants as faults
-use Rattle.cmd_pack_outputs.specs.declared.laying.LayFault.{LayFault}
-use Rattle.cmd_pack_outputs.specs.declared.laying.LayFault.TheVariants as laying
+use Rattle.cmd_pack_outputs.specs.declared.write_over.LayFault.{LayFault}
+use Rattle.cmd_pack_outputs.specs.declared.write_over.LayFault.TheVariants as laying
 use Rattle.cmd_pack_outputs.specs.Contents.{faults_in, refusal_in}
-use Rattle.cmd_pack_outputs.specs.declared.contents.Contents.{Contents}
+use Rattle.cmd_pack_outputs.specs.declared.contents.ImageContents.{ImageContents}
 use Rattle.cmd_pack_outputs.specs.Lines.{image_line, counted_in_u64}
 use Rattle.cmd_pack_outputs.specs.Magic.{HoldsNone}
 use Rattle.cmd_common_boot.specs.Fault.{IsOutsideBoot}
 
 -- packing refuses none of these sources, and nothing stands for nothing
-pub record IsAccepted {P : Type 0} (size : P → ℕ) (c : Contents P) : Type 0 where
+pub record IsAccepted {P : Type 0} (size : P → ℕ) (c : ImageContents P) : Type 0 where
   pub accepted : refusal_in size c ≡ None
   pub nothing : size c.nothing ≡ 0
 
 -- packing refuses none of these, of a boot image with nothing behind it
-pub record IsAcceptedAlone {P : Type 0} (size : P → ℕ) (c : Contents P) : Type 0 where
+pub record IsAcceptedAlone {P : Type 0} (size : P → ℕ) (c : ImageContents P) : Type 0 where
   pub boot : IsBoot c.kind
   pub alone : size c.trailing ≡ 0
   pub accepted : refusal_in size c ≡ None
 
 -- an image can be written from these sources, none of which has failed yet, to an output that was not written yet
-pub record IsReady {P : Type 0} (tells : Bool) (size faults : P → ℕ) (c : Contents P) (its_written : List ℕ)
+pub record IsReady {P : Type 0} (models : Bool) (size faults : P → ℕ) (c : ImageContents P) (its_written : List ℕ)
     (its_faults : ℕ) : Type 0 where
   pub sources : IsAccepted size c
-  pub unread : IsTrue tells → faults_in faults c ≡ 0
+  pub unread : IsTrue models → faults_in faults c ≡ 0
   pub empty : its_written ≡ []
-  pub clean : IsTrue tells → its_faults ≡ 0
+  pub clean : IsTrue models → its_faults ≡ 0
 
 -- An output that held x holds y, and the sources and it have failed so often, before and now: behind x came all of
 -- these bytes, and the answer is their number, where nothing has failed; where it is refused something has, by such a
 -- fault.
-pub record PacksBytes {F : Type 0} (r : Result ℕ F) (Moves : F → Type 0) (tells : Bool) (bytes x y : List ℕ)
+pub record PacksBytes {F : Type 0} (r : Result ℕ F) (Moves : F → Type 0) (models : Bool) (bytes x y : List ℕ)
     (failed failed' : ℕ) : Type 0 where
-  pub written : IsTrue tells → OnOk r (y ≡ x ++ bytes)
-  pub number : IsTrue tells → IfOk r (λ n. n ≡ counted_in_u64 (length bytes))
+  pub written : IsTrue models → OnOk r (y ≡ x ++ bytes)
+  pub number : IsTrue models → IfOk r (λ n. n ≡ counted_in_u64 (length bytes))
   pub moving : IfErr r Moves
   pub clean : OnOk r (failed' ≡ failed)
-  pub cause : IsTrue tells → OnErr r (failed < failed')
+  pub cause : IsTrue models → OnErr r (failed < failed')
 
 -- the output that was open holds no image, or all of these bytes
 abbrev pub LeavesNoneOrAll : Option ℕ → List ℕ → World → Type 0
@@ -58,15 +58,15 @@ IsOfLaying (laying.Packing f) = IsOfMoving f
 IsOfLaying laying.Magic = Unit {0}
 
 -- The same of a file that held nothing: where it is refused it holds no image.
-pub record LaysBytes (r : Result ℕ LayFault) (tells : Bool) (bytes y : List ℕ) (failed failed' : ℕ) : Type 0 where
-  pub packs : PacksBytes r IsOfLaying tells bytes [] y failed failed'
+pub record LaysBytes (r : Result ℕ LayFault) (models : Bool) (bytes y : List ℕ) (failed failed' : ℕ) : Type 0 where
+  pub packs : PacksBytes r IsOfLaying models bytes [] y failed failed'
   pub broken : OnErr r (HoldsNone y)
 
 -- The output that is open is written to its end and closed: where the answer is Ok it holds these bytes, of which the
 -- answer has the number, and tells whether the output is where standard output goes; no other file has changed; and
 -- where it is refused a device or a file was at fault, and a file that is written over holds no image, or all of them.
 pub record WritesBytes {F : Type 0} (r : Result (ℕ × Bool) F) (fault : F → BootCommandFault) (is_over : Bool)
-    (is_on_output : Bool) (bytes : List ℕ) (held held' : Held) (old new : World) : Type 0 where
+    (is_on_output : Bool) (bytes : List ℕ) (held held' : OpenFiles) (old new : World) : Type 0 where
   pub ended : OnOk r (Ends held.output bytes old new)
   pub number : IfOk r (λ end. end.0 ≡ counted_in_u64 (length bytes))
   pub stream : IfOk r (λ end. end.1 ≡ is_on_output)
@@ -94,7 +94,7 @@ HoldsNoPartOf output Whole old new = (file : ℕ) → new.at output ≡ Some fil
 -- OUT's file, where it can be written over, has no part of an image; after an Ok no call has failed, and it was synced,
 -- where that is wanted.
 pub record LeavesOut {X F : Type 0} (r : Result X F) (output : List ℕ) (is_over : Bool) (Whole : List ℕ → Type 0)
-    (held held' : Held) (old new : World) : Type 0 where
+    (held held' : OpenFiles) (old new : World) : Type 0 where
   pub others : OnlyAt held.read output old new
   pub closed : held'.output ≡ None
   pub whole : IsTrue is_over → HoldsNoPartOf output Whole old new
@@ -103,7 +103,7 @@ pub record LeavesOut {X F : Type 0} (r : Result X F) (output : List ℕ) (is_ove
 
 -- why an image is not written: packing refuses it, or there was no memory to ask, both before anything is touched; or a
 -- call of the disk or a device failed; or all was done, and the line could not be printed
-pub data StopsWriting (refusal : Option SectionFault) (held held' : Held) (old new : World) (Done : Type 0)
+pub data StopsWriting (refusal : Option SectionFault) (held held' : OpenFiles) (old new : World) (Done : Type 0)
     (fault : BootCommandFault) : Type 0 where
   refused : (f : SectionFault) → fault ≡ faults.Section f → refusal ≡ Some f → held' ≡ held → new ≡ old
       → StopsWriting refusal held held' old new Done fault

@@ -9,7 +9,7 @@ use cmd_common_fields::ImageKind;
 
 /// The fields of an image, and what its parts are read from.
 #[derive(Drop)]
-pub struct Contents<'f, P: Drop> {
+pub struct ImageContents<'f, P: Drop> {
     pub kind: ImageKind,
     pub fields: BootSpec<'f>,
     pub parts: Vec<P>,

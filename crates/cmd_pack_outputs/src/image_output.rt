@@ -12,17 +12,17 @@ ghost use Rattle.cmd_pack_outputs.specs.Writing.{IsOfLaying, IsReady, LaysImage,
 ghost use Rattle.cmd_common_boot.specs.Fault.{IsOutsideBoot};
 ghost use Rattle.cmd_pack_outputs.specs.Writing.{StopsWriting, WritesBytes};
 
-use crate::contents::Contents;
-use crate::laying::{LayFault, lay_image};
+use crate::contents::ImageContents;
 use crate::letting_go::{bytes_of, let_go, sides_of};
 use crate::lines::ImageLine;
 use crate::packing::{pack_contents, refusal_of};
-use sys_disk::{Disk, ImageTo, Lasting, Reasons, ended};
+use crate::write_over::{LayFault, lay_image};
 use abt_io::{Meter, Source, Window};
-use sys_refusals::{HostFault, HostRefusal, Place, Refusal, Sides};
-use sys_report::{Carried, Progress, Report};
 use cmd_common_boot::{BootCommandFault, BootOutcome, PartSource};
 use std::alloc::Global;
+use sys_disk::{Disk, ImageTo, Lasting, Reasons, ended};
+use sys_refusals::{FileArg, HostFault, HostRefusal, Refusal, Sides};
+use sys_report::{Carried, Progress, Report};
 
 /// Writes an image to a file, which is created or emptied, and prints how many bytes it has. `-` is standard output.
 ///
@@ -31,26 +31,26 @@ pub fn write_image<'f, 't, 'a, D: Disk>(
     disk: &mut D,
     report: &mut Report,
     alloc: Global,
-    contents: Contents<'f, PartSource<'t, D::At>>,
-    output: Place<'t>,
+    contents: ImageContents<'f, PartSource<'t, D::At>>,
+    output: FileArg<'t>,
     w: &mut Window,
     m: &mut Meter,
 ) -> BootOutcome<'t, 'a>
-    requires one { IsTrue D.tells → (D.held disk.old).output ≡ None }
+    requires one { IsTrue D.models → (D.held disk.old).output ≡ None }
     requires nothing { ⟦<PartSource<'t, D::At> as Source>⟧.size contents.nothing ≡ 0 }
-    requires unread { IsTrue D.tells → faults_in ⟦<PartSource<'t, D::At> as Source>⟧.read_faults contents ≡ 0 }
+    requires unread { IsTrue D.models → faults_in ⟦<PartSource<'t, D::At> as Source>⟧.read_faults contents ≡ 0 }
     // OUT is none of the files that are read, and holds the image; what was printed tells how many bytes it has, on
     // standard error where OUT is where standard output goes
-    ensures done { IsTrue D.tells → OnOk result (LaysImage (path_out output.entry) (D.held disk.old).read
+    ensures done { IsTrue D.models → OnOk result (LaysImage (path_out output.entry) (D.held disk.old).read
         (packed_image ⟦<PartSource<'t, D::At> as Source>⟧.content contents.entry) (D.world disk.old) (D.world disk.new)
         (ShowsBeside (D.on_output (path_out output.entry)) report.old report.new)) }
     // whatever the outcome, OUT alone may hold anything else, and its file has no part of an image; where it is done no
     // call failed
-    ensures left { IsTrue D.tells → LeavesOut result (path_out output.entry) (D.is_over (path_out output.entry))
+    ensures left { IsTrue D.models → LeavesOut result (path_out output.entry) (D.is_over (path_out output.entry))
         (λ x. x ≡ packed_image ⟦<PartSource<'t, D::At> as Source>⟧.content contents.entry) (D.held disk.old)
         (D.held disk.new) (D.world disk.old) (D.world disk.new) }
     // it is refused for what packing refuses, for a fault that came, or where all is done and the line was refused
-    ensures refused { IsTrue D.tells → IfErr result (λ refusal. StopsWriting
+    ensures refused { IsTrue D.models → IfErr result (λ refusal. StopsWriting
         (refusal_from contents.entry.kind (packing_of ⟦<PartSource<'t, D::At> as Source>⟧.content contents.entry))
         (D.held disk.old) (D.held disk.new)
         (D.world disk.old) (D.world disk.new) (LaysImage (path_out output.entry) (D.held disk.old).read
@@ -89,12 +89,12 @@ fn printed<'a>(bytes: u64, is_on_output: bool, report: &mut Report) -> Result<()
 // What packing refuses of an image.
 fn judged<'t, 'a, S: Source + Lasting + Drop>(
     alloc: Global,
-    contents: &Contents<'_, PartSource<'t, S>>,
+    contents: &ImageContents<'_, PartSource<'t, S>>,
     w: &mut Window,
     m: &mut Meter,
 ) -> Result<(), BootCommandFault<'a>>
     ensures accepted { OnOk result (refusal_in ⟦<PartSource<'t, S> as Source>⟧.size contents.now ≡ None) }
-    ensures refused { IsTrue S.tells → IfErr result (IsJudged (refusal_from contents.now.kind
+    ensures refused { IsTrue S.models → IfErr result (IsJudged (refusal_from contents.now.kind
         (packing_of ⟦<PartSource<'t, S> as Source>⟧.content contents.now))) }
 {
     match refusal_of(alloc, contents, w, m) {
@@ -108,18 +108,18 @@ fn judged<'t, 'a, S: Source + Lasting + Drop>(
 fn write_to<'f, 't, 'a, D: Disk>(
     disk: &mut D,
     image: ImageTo<D::Image, D::Onto>,
-    output: Place<'t>,
+    output: FileArg<'t>,
     progress: &mut Progress,
-    contents: Contents<'f, PartSource<'t, D::At>>,
+    contents: ImageContents<'f, PartSource<'t, D::At>>,
     w: &mut Window,
     m: &mut Meter,
 ) -> Result<(u64, bool), Refusal<'t, BootCommandFault<'a>>>
-    requires ready { OfImage (λ file. IsReady D.tells ⟦<PartSource<'t, D::At> as Source>⟧.size
+    requires ready { OfImage (λ file. IsReady D.models ⟦<PartSource<'t, D::At> as Source>⟧.size
         ⟦<PartSource<'t, D::At> as Source>⟧.read_faults contents (D.Image.Output.written file)
-        (D.Image.Output.write_faults file)) (λ onto. IsReady D.tells ⟦<PartSource<'t, D::At> as Source>⟧.size
+        (D.Image.Output.write_faults file)) (λ onto. IsReady D.models ⟦<PartSource<'t, D::At> as Source>⟧.size
         ⟦<PartSource<'t, D::At> as Source>⟧.read_faults contents (D.Onto.written onto) (D.Onto.write_faults onto))
         image }
-    ensures writes { IsTrue D.tells → WritesBytes result (λ refusal. refusal.fault) (is_file image)
+    ensures writes { IsTrue D.models → WritesBytes result (λ refusal. refusal.fault) (is_file image)
         (D.on_output (path_out output.entry)) (packed_image ⟦<PartSource<'t, D::At> as Source>⟧.content contents.entry)
         (D.held disk.old) (D.held disk.new) (D.world disk.old) (D.world disk.new) }
 {
@@ -133,15 +133,15 @@ fn write_to<'f, 't, 'a, D: Disk>(
 fn write_through<'f, 't, 'a, D: Disk>(
     disk: &mut D,
     onto: D::Onto,
-    output: Place<'t>,
+    output: FileArg<'t>,
     progress: &mut Progress,
-    contents: Contents<'f, PartSource<'t, D::At>>,
+    contents: ImageContents<'f, PartSource<'t, D::At>>,
     w: &mut Window,
     m: &mut Meter,
 ) -> Result<(u64, bool), Refusal<'t, BootCommandFault<'a>>>
-    requires ready { IsReady D.tells ⟦<PartSource<'t, D::At> as Source>⟧.size
+    requires ready { IsReady D.models ⟦<PartSource<'t, D::At> as Source>⟧.size
         ⟦<PartSource<'t, D::At> as Source>⟧.read_faults contents (D.Onto.written onto) (D.Onto.write_faults onto) }
-    ensures writes { IsTrue D.tells → WritesBytes result (λ refusal. refusal.fault) false
+    ensures writes { IsTrue D.models → WritesBytes result (λ refusal. refusal.fault) false
         (D.on_output (path_out output.entry)) (packed_image ⟦<PartSource<'t, D::At> as Source>⟧.content contents.entry)
         (D.held disk.old) (D.held disk.new) (D.world disk.old) (D.world disk.new) }
 {
@@ -167,16 +167,16 @@ fn write_through<'f, 't, 'a, D: Disk>(
 fn write_over<'f, 't, 'a, D: Disk>(
     disk: &mut D,
     file: D::Image,
-    output: Place<'t>,
+    output: FileArg<'t>,
     progress: &mut Progress,
-    contents: Contents<'f, PartSource<'t, D::At>>,
+    contents: ImageContents<'f, PartSource<'t, D::At>>,
     w: &mut Window,
     m: &mut Meter,
 ) -> Result<(u64, bool), Refusal<'t, BootCommandFault<'a>>>
-    requires ready { IsReady D.tells ⟦<PartSource<'t, D::At> as Source>⟧.size
+    requires ready { IsReady D.models ⟦<PartSource<'t, D::At> as Source>⟧.size
         ⟦<PartSource<'t, D::At> as Source>⟧.read_faults contents (D.Image.Output.written file)
         (D.Image.Output.write_faults file) }
-    ensures writes { IsTrue D.tells → WritesBytes result (λ refusal. refusal.fault) true
+    ensures writes { IsTrue D.models → WritesBytes result (λ refusal. refusal.fault) true
         (D.on_output (path_out output.entry)) (packed_image ⟦<PartSource<'t, D::At> as Source>⟧.content contents.entry)
         (D.held disk.old) (D.held disk.new) (D.world disk.old) (D.world disk.new) }
 {
@@ -198,10 +198,10 @@ fn stopped<'t, 'a, D: Disk>(
     disk: &mut D,
     fault: LayFault,
     file: D::Image,
-    output: Place<'t>,
+    output: FileArg<'t>,
     sides: Sides<'t>,
 ) -> Refusal<'t, BootCommandFault<'a>>
-    ensures gone { LetsImageGo D.tells (D.Image.Output.written file) (D.Image.Output.write_faults file)
+    ensures gone { LetsImageGo D.models (D.Image.Output.written file) (D.Image.Output.write_faults file)
         (D.held disk.old) (D.held disk.new) (D.world disk.old) (D.world disk.new) }
     ensures outside { IsOfLaying fault → IsOutsideBoot result.fault }
 {

@@ -4,15 +4,15 @@ ghost use Rattle.sys_disk.specs.DiskCalls.{FailsOnly};
 ghost use Rattle.abt_sections.specs.Cause.{total};
 ghost use Rattle.cmd_pack_outputs.specs.Contents.{faults_in};
 
-use crate::contents::Contents;
-use sys_disk::{Disk, Lasting};
+use crate::contents::ImageContents;
 use abt_io::Source;
-use sys_refusals::{Place, Sides};
 use cmd_common_boot::PartSource;
+use sys_disk::{Disk, Lasting};
+use sys_refusals::{FileArg, Sides};
 
 /// How many bytes are read.
 pub(crate) fn bytes_of<S: Source + Lasting + Drop>(
-    contents: &Contents<'_, PartSource<'_, S>>,
+    contents: &ImageContents<'_, PartSource<'_, S>>,
 ) -> u64 {
     let parts = sum_of(contents.parts.as_slice());
     let ramdisks = sum_of(contents.sources.as_slice());
@@ -31,7 +31,7 @@ fn sum_of<S: Source + Lasting + Drop>(parts: &[PartSource<'_, S>]) -> u64 {
 
 /// The file that a fault of reading is about.
 pub(crate) fn sides_of<'t, S: Source + Lasting + Drop>(
-    contents: &Contents<'_, PartSource<'t, S>>,
+    contents: &ImageContents<'_, PartSource<'t, S>>,
 ) -> Sides<'t> {
     let place = place_at_fault(contents.parts.as_slice())
         .or(place_at_fault(contents.sources.as_slice()))
@@ -45,7 +45,7 @@ pub(crate) fn sides_of<'t, S: Source + Lasting + Drop>(
 // The file of the first part whose reading failed.
 fn place_at_fault<'t, S: Source + Lasting + Drop>(
     parts: &[PartSource<'t, S>],
-) -> Option<Place<'t>> {
+) -> Option<FileArg<'t>> {
     for part in parts {
         if part.is_at_fault() && part.place.is_some() {
             return part.place;
@@ -55,11 +55,11 @@ fn place_at_fault<'t, S: Source + Lasting + Drop>(
 }
 
 /// Lets the files go that an image was written from.
-pub(crate) fn let_go<'t, D: Disk>(disk: &mut D, contents: Contents<'_, PartSource<'t, D::At>>)
-    ensures fails { FailsOnly D.tells (faults_in ⟦<PartSource<'t, D::At> as Source>⟧.read_faults contents.entry)
+pub(crate) fn let_go<'t, D: Disk>(disk: &mut D, contents: ImageContents<'_, PartSource<'t, D::At>>)
+    ensures fails { FailsOnly D.models (faults_in ⟦<PartSource<'t, D::At> as Source>⟧.read_faults contents.entry)
         (D.held disk.old) (D.held disk.new) (D.world disk.old) (D.world disk.new) }
 {
-    let Contents {
+    let ImageContents {
         parts,
         sources,
         nothing,
@@ -73,7 +73,7 @@ pub(crate) fn let_go<'t, D: Disk>(disk: &mut D, contents: Contents<'_, PartSourc
 }
 
 fn let_go_parts<'t, D: Disk>(disk: &mut D, parts: Vec<PartSource<'t, D::At>>)
-    ensures fails { FailsOnly D.tells (total ⟦<PartSource<'t, D::At> as Source>⟧.read_faults parts.entry.items)
+    ensures fails { FailsOnly D.models (total ⟦<PartSource<'t, D::At> as Source>⟧.read_faults parts.entry.items)
         (D.held disk.old) (D.held disk.new) (D.world disk.old) (D.world disk.new) }
 {
     let mut parts = parts;
@@ -83,7 +83,7 @@ fn let_go_parts<'t, D: Disk>(disk: &mut D, parts: Vec<PartSource<'t, D::At>>)
 }
 
 fn let_go_part<'t, D: Disk>(disk: &mut D, part: PartSource<'t, D::At>)
-    ensures fails { FailsOnly D.tells (⟦<PartSource<'t, D::At> as Source>⟧.read_faults part.entry)
+    ensures fails { FailsOnly D.models (⟦<PartSource<'t, D::At> as Source>⟧.read_faults part.entry)
         (D.held disk.old) (D.held disk.new) (D.world disk.old) (D.world disk.new) }
 {
     let PartSource { file, .. } = part;

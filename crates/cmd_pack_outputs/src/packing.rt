@@ -7,15 +7,15 @@ ghost use Rattle.cmd_common_boot.specs.Refused.{IsOfMoving};
 ghost use Rattle.cmd_pack_outputs.specs.Contents.{faults_in, image_from, packed_image, packing_of, refusal_from, refusal_in};
 ghost use Rattle.cmd_pack_outputs.specs.Writing.{IsAccepted, IsAcceptedAlone, PacksBytes};
 
-use crate::contents::Contents;
+use crate::contents::ImageContents;
 use abt_io::{CopyFault, Meter, Output, Overwrite, Source, Window, copy_range};
 use abt_sections::{SectionFault, pack_boot_once};
-use cmd_common_fields::ImageKind;
 use cmd_common_boot::{judge, pack_image};
+use cmd_common_fields::ImageKind;
 use std::alloc::{AllocError, Global};
 
 /// Whether it is a boot image with nothing behind it: its parts are read once, where it is written over.
-pub(crate) fn is_read_once<P: Source + Drop>(contents: &Contents<'_, P>) -> bool
+pub(crate) fn is_read_once<P: Source + Drop>(contents: &ImageContents<'_, P>) -> bool
     ensures boot { IsTrue result → IsBoot contents.now.kind }
     ensures alone { IsTrue result → P.size contents.now.trailing ≡ 0 }
 {
@@ -28,12 +28,12 @@ pub(crate) fn is_read_once<P: Source + Drop>(contents: &Contents<'_, P>) -> bool
 /// What packing refuses, if anything.
 pub(crate) fn refusal_of<P: Source + Drop>(
     alloc: Global,
-    contents: &Contents<'_, P>,
+    contents: &ImageContents<'_, P>,
     w: &mut Window,
     m: &mut Meter,
 ) -> Result<Option<SectionFault>, AllocError>
     ensures by_sizes { IfOk result (λ refusal. refusal ≡ refusal_in P.size contents.now) }
-    ensures by_bytes { IsTrue P.tells → IfOk result (λ refusal. refusal
+    ensures by_bytes { IsTrue P.models → IfOk result (λ refusal. refusal
         ≡ refusal_from contents.now.kind (packing_of P.content contents.now)) }
 {
     let fields = &contents.fields;
@@ -48,13 +48,13 @@ pub(crate) fn refusal_of<P: Source + Drop>(
 
 /// Packs a boot image whose parts are read once, and answers how many bytes it has.
 pub(crate) fn pack_once<P: Source + Drop, O: Overwrite>(
-    contents: &mut Contents<'_, P>,
+    contents: &mut ImageContents<'_, P>,
     output: &mut O,
     w: &mut Window,
     m: &mut Meter,
 ) -> Result<u64, SectionFault>
     requires sources { IsAcceptedAlone P.size contents.old }
-    ensures packs { PacksBytes result IsOfMoving P.tells (packed_image P.content contents.old) (O.written output.old)
+    ensures packs { PacksBytes result IsOfMoving P.models (packed_image P.content contents.old) (O.written output.old)
         (O.written output.new) (faults_in P.read_faults contents.old + O.write_faults output.old)
         (faults_in P.read_faults contents.new + O.write_faults output.new) }
     ensures broken { OnErr result (IsBrokenOff (O.written output.old) (O.written output.new)) }
@@ -68,13 +68,13 @@ pub(crate) fn pack_once<P: Source + Drop, O: Overwrite>(
 
 /// Writes the image and what stands behind it, and answers how many bytes these are.
 pub(crate) fn pack_contents<P: Source + Drop, O: Output>(
-    contents: &mut Contents<'_, P>,
+    contents: &mut ImageContents<'_, P>,
     output: &mut O,
     w: &mut Window,
     m: &mut Meter,
 ) -> Result<u64, SectionFault>
     requires sources { IsAccepted P.size contents.old }
-    ensures packs { PacksBytes result IsOfMoving P.tells (packed_image P.content contents.old) (O.written output.old)
+    ensures packs { PacksBytes result IsOfMoving P.models (packed_image P.content contents.old) (O.written output.old)
         (O.written output.new) (faults_in P.read_faults contents.old + O.write_faults output.old)
         (faults_in P.read_faults contents.new + O.write_faults output.new) }
 {
@@ -90,21 +90,21 @@ pub(crate) fn pack_contents<P: Source + Drop, O: Output>(
 
 // The image alone.
 fn pack_parts<P: Source + Drop, O: Output>(
-    contents: &mut Contents<'_, P>,
+    contents: &mut ImageContents<'_, P>,
     output: &mut O,
     w: &mut Window,
     m: &mut Meter,
 ) -> Result<u64, SectionFault>
     requires sources { IsAccepted P.size contents.old }
     ensures trailing { contents.new.trailing ≡ contents.old.trailing }
-    ensures written { IsTrue P.tells → OnOk result (O.written output.new ≡ O.written output.old
+    ensures written { IsTrue P.models → OnOk result (O.written output.new ≡ O.written output.old
         ++ image_from contents.old.kind (packing_of P.content contents.old)) }
-    ensures counted { IsTrue P.tells → IfOk result (λ bytes. bytes
+    ensures counted { IsTrue P.models → IfOk result (λ bytes. bytes
         ≡ length (image_from contents.old.kind (packing_of P.content contents.old))) }
     ensures moving { IfErr result IsOfMoving }
     ensures clean { OnOk result (faults_in P.read_faults contents.new + O.write_faults output.new
         ≡ faults_in P.read_faults contents.old + O.write_faults output.old) }
-    ensures cause { IsTrue P.tells → OnErr result (faults_in P.read_faults contents.old + O.write_faults output.old
+    ensures cause { IsTrue P.models → OnErr result (faults_in P.read_faults contents.old + O.write_faults output.old
         < faults_in P.read_faults contents.new + O.write_faults output.new) }
 {
     let parts = contents.parts.as_mut_slice();
@@ -123,13 +123,13 @@ fn copy_behind<P: Source, O: Output>(
     w: &mut Window,
     m: &mut Meter,
 ) -> Result<u64, SectionFault>
-    ensures written { IsTrue P.tells → OnOk result (O.written output.new ≡ O.written output.old
+    ensures written { IsTrue P.models → OnOk result (O.written output.new ≡ O.written output.old
         ++ P.content trailing.old) }
-    ensures counted { IsTrue P.tells → IfOk result (λ bytes. bytes ≡ length (P.content trailing.old)) }
+    ensures counted { IsTrue P.models → IfOk result (λ bytes. bytes ≡ length (P.content trailing.old)) }
     ensures moving { IfErr result IsOfMoving }
     ensures clean { OnOk result (P.read_faults trailing.new + O.write_faults output.new
         ≡ P.read_faults trailing.old + O.write_faults output.old) }
-    ensures cause { IsTrue P.tells → OnErr result (P.read_faults trailing.old + O.write_faults output.old
+    ensures cause { IsTrue P.models → OnErr result (P.read_faults trailing.old + O.write_faults output.old
         < P.read_faults trailing.new + O.write_faults output.new) }
 {
     let behind = trailing.length();

@@ -8,7 +8,7 @@ use Rattle.words_orders.specs.declared.order.SparseTask.TheVariants as tasks
 use Rattle.words_orders.specs.declared.order.Pieces.{Pieces}
 use Rattle.sys_report.specs.declared.report.Report.{Report}
 use Rattle.sys_report.specs.Shows.{CannotPrint, ShowsBeside, ShowsHere, Unprinted}
-use Rattle.sys_disk.specs.World.{World, Held, OnlyAt, KeepsFile, HasNotFailed}
+use Rattle.sys_disk.specs.World.{World, OpenFiles, OnlyAt, KeepsFile, HasNotFailed}
 use Rattle.sys_disk.specs.InPlace.{SparesOthers}
 use Rattle.cmd_common_sparse.specs.ImagePath.{image_path}
 use Rattle.cmd_common_sparse.specs.PieceNames.{Naming, naming}
@@ -28,10 +28,10 @@ use Rattle.cmd_flash.specs.Verifying.{RefusesVerify, RefusesVerifyRaw, VerifiesF
 -- a moment of a run: what files hold, what was opened, and what was printed
 pub record State : Type 0 where
   pub world : World
-  pub held : Held
+  pub held : OpenFiles
   pub report : Report
 
-abbrev pub state : World → Held → Report → State
+abbrev pub state : World → OpenFiles → Report → State
 state world held report = record { world = world; held = held; report = report }
 
 -- from one moment to the other so many outputs were synced

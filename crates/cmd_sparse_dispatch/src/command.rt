@@ -8,12 +8,12 @@ ghost use Rattle.cmd_sparse_dispatch.specs.Commands.{SparesFiles, state};
 use crate::commands::{
     cut_image, expand_files, flash_pieces, flash_straight, list_image, sparsify, verify_image,
 };
-use sys_disk::Disk;
 use abt_io::{Meter, Window};
-use sys_report::Report;
-use words_orders::SparseTask;
 use cmd_common_sparse::{PieceNaming, SparseRefusal};
 use std::alloc::Global;
+use sys_disk::Disk;
+use sys_report::Report;
+use words_orders::SparseTask;
 
 /// Does what the words ask for.
 pub fn sparse_command<'a, D: Disk>(
@@ -24,22 +24,22 @@ pub fn sparse_command<'a, D: Disk>(
     w: &mut Window,
     m: &mut Meter,
 ) -> Result<(), SparseRefusal<'a>>
-    requires first { IsTrue D.tells → IsReading (D.held disk.old) }
-    requires one { IsTrue D.tells → (D.held disk.old).part ≡ None }
-    requires through { IsTrue D.tells → (D.held disk.old).spool ≡ None }
+    requires first { IsTrue D.models → IsReading (D.held disk.old) }
+    requires one { IsTrue D.models → (D.held disk.old).part ≡ None }
+    requires through { IsTrue D.models → (D.held disk.old).spool ≡ None }
     // the task is done, by its own command, at the files that its words name
-    ensures done { IsTrue D.tells → OnOk result (DoesTask D.on_output task.entry (state (D.world disk.old) (D.held disk.old)
+    ensures done { IsTrue D.models → OnOk result (DoesTask D.on_output task.entry (state (D.world disk.old) (D.held disk.old)
         report.old) (state (D.world disk.new) (D.held disk.new) report.new)) }
     // whatever the outcome, what it reads holds what it held, and none has changed but what it is to write; it is done
     // only where nothing failed
-    ensures leaves { IsTrue D.tells → LeavesSpared result (SparesFiles task.entry)
+    ensures leaves { IsTrue D.models → LeavesSpared result (SparesFiles task.entry)
         (state (D.world disk.old) (D.held disk.old) report.old)
         (state (D.world disk.new) (D.held disk.new) report.new) }
-    ensures whole { IsTrue D.tells → LeavesNoPartOfSparse D.is_over task.entry
+    ensures whole { IsTrue D.models → LeavesNoPartOfSparse D.is_over task.entry
         (state (D.world disk.old) (D.held disk.old) report.old)
         (state (D.world disk.new) (D.held disk.new) report.new) }
     // it is refused for what its command is refused for
-    ensures refused { IsTrue D.tells → IfErr result (λ refusal. RefusesTask refusal.fault task.entry
+    ensures refused { IsTrue D.models → IfErr result (λ refusal. RefusesTask refusal.fault task.entry
         (state (D.world disk.old) (D.held disk.old) report.old)
         (state (D.world disk.new) (D.held disk.new) report.new)) }
 {

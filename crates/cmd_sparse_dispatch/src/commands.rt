@@ -15,18 +15,18 @@ ghost use Rattle.cmd_sparse_dispatch.specs.Commands.{RefusesSparse, RefusesVerif
 ghost use Rattle.cmd_sparse_dispatch.specs.Commands.{LeavesSpared, SparesCut, SparesExpanded, SparesFlashed};
 ghost use Rattle.cmd_sparse_dispatch.specs.Commands.{SparesSparsified, SparesWorld};
 
-use crate::places::place;
-use sys_disk::Disk;
+use crate::task_files::place;
 use abt_io::{Meter, Window};
-use sys_report::Report;
-use words_orders::Pieces;
+use cmd_common_sparse::{PieceNaming, SparseRefusal, image_place};
+use cmd_cut::{Cutting, cut_file, sparse_file};
+use cmd_expand::{expand_one, expand_several};
 use cmd_flash::{
     flash_file, flash_pieces_file, flash_raw_file, list_file, verify_file, verify_raw_file,
 };
-use cmd_cut::{Cutting, cut_file, sparse_file};
-use cmd_expand::{expand_one, expand_several};
-use cmd_common_sparse::{PieceNaming, SparseRefusal, image_place};
 use std::alloc::Global;
+use sys_disk::Disk;
+use sys_report::Report;
+use words_orders::Pieces;
 
 /// Writes the raw image of a sparse one, or of several laid over one another, and prints what it has.
 ///
@@ -41,14 +41,14 @@ pub(crate) fn expand_files<'a, D: Disk>(
     w: &mut Window,
     m: &mut Meter,
 ) -> Result<(), SparseRefusal<'a>>
-    requires ready { IsTrue D.tells → MayOverlay (D.held disk.old) }
-    ensures done { IsTrue D.tells → OnOk result (ExpandsImages D.on_output (map (λ word. word.now) inputs.now) output.now
+    requires ready { IsTrue D.models → MayOverlay (D.held disk.old) }
+    ensures done { IsTrue D.models → OnOk result (ExpandsImages D.on_output (map (λ word. word.now) inputs.now) output.now
         (state (D.world disk.old) (D.held disk.old) report.old)
         (state (D.world disk.new) (D.held disk.new) report.new)) }
-    ensures leaves { IsTrue D.tells → LeavesSpared result (SparesExpanded (map (λ word. word.now) inputs.now) output.now)
+    ensures leaves { IsTrue D.models → LeavesSpared result (SparesExpanded (map (λ word. word.now) inputs.now) output.now)
         (state (D.world disk.old) (D.held disk.old) report.old)
         (state (D.world disk.new) (D.held disk.new) report.new) }
-    ensures refused { IsTrue D.tells → IfErr result (λ refusal. RefusesExpand refusal.fault
+    ensures refused { IsTrue D.models → IfErr result (λ refusal. RefusesExpand refusal.fault
         (map (λ word. word.now) inputs.now) output.now
         (state (D.world disk.old) (D.held disk.old) report.old)
         (state (D.world disk.new) (D.held disk.new) report.new)) }
@@ -71,16 +71,16 @@ pub(crate) fn sparsify<'a, D: Disk>(
     w: &mut Window,
     m: &mut Meter,
 ) -> Result<(), SparseRefusal<'a>>
-    requires first { IsTrue D.tells → IsReading (D.held disk.old) }
-    ensures done { IsTrue D.tells → OnOk result (Sparsifies D.on_output input.now output.now block
+    requires first { IsTrue D.models → IsReading (D.held disk.old) }
+    ensures done { IsTrue D.models → OnOk result (Sparsifies D.on_output input.now output.now block
         (state (D.world disk.old) (D.held disk.old) report.old)
         (state (D.world disk.new) (D.held disk.new) report.new)) }
-    ensures leaves { IsTrue D.tells → LeavesSpared result (SparesSparsified input.now output.now)
+    ensures leaves { IsTrue D.models → LeavesSpared result (SparesSparsified input.now output.now)
         (state (D.world disk.old) (D.held disk.old) report.old)
         (state (D.world disk.new) (D.held disk.new) report.new) }
-    ensures whole { IsTrue D.tells → IsTrue (D.is_over (output_path output.now)) →
+    ensures whole { IsTrue D.models → IsTrue (D.is_over (output_path output.now)) →
         HoldsNoPartOfSparse input.now (output_path output.now) block (D.world disk.old) (D.world disk.new) }
-    ensures refused { IsTrue D.tells → IfErr result (λ refusal. RefusesSparse refusal.fault input.now output.now block
+    ensures refused { IsTrue D.models → IfErr result (λ refusal. RefusesSparse refusal.fault input.now output.now block
         (state (D.world disk.old) (D.held disk.old) report.old)
         (state (D.world disk.new) (D.held disk.new) report.new)) }
 {
@@ -108,14 +108,14 @@ pub(crate) fn cut_image<'a, D: Disk>(
     w: &mut Window,
     m: &mut Meter,
 ) -> Result<(), SparseRefusal<'a>>
-    requires first { IsTrue D.tells → IsReading (D.held disk.old) }
-    ensures done { IsTrue D.tells → OnOk result (Cuts input.now limit (naming_of names.entry) raw
+    requires first { IsTrue D.models → IsReading (D.held disk.old) }
+    ensures done { IsTrue D.models → OnOk result (Cuts input.now limit (naming_of names.entry) raw
         (state (D.world disk.old) (D.held disk.old) report.old)
         (state (D.world disk.new) (D.held disk.new) report.new)) }
-    ensures leaves { IsTrue D.tells → LeavesSpared result (SparesCut input.now names.entry.prefix.now)
+    ensures leaves { IsTrue D.models → LeavesSpared result (SparesCut input.now names.entry.prefix.now)
         (state (D.world disk.old) (D.held disk.old) report.old)
         (state (D.world disk.new) (D.held disk.new) report.new) }
-    ensures refused { IsTrue D.tells → IfErr result (λ refusal. RefusesCutting refusal.fault input.now limit
+    ensures refused { IsTrue D.models → IfErr result (λ refusal. RefusesCutting refusal.fault input.now limit
         (naming_of names.entry) raw
         (state (D.world disk.old) (D.held disk.old) report.old)
         (state (D.world disk.new) (D.held disk.new) report.new)) }
@@ -138,14 +138,14 @@ pub(crate) fn list_image<'a, D: Disk>(
     w: &mut Window,
     m: &mut Meter,
 ) -> Result<(), SparseRefusal<'a>>
-    requires first { IsTrue D.tells → (D.held disk.old).begun ≡ [] }
-    ensures done { IsTrue D.tells → OnOk result (ListsImage input.now
+    requires first { IsTrue D.models → (D.held disk.old).begun ≡ [] }
+    ensures done { IsTrue D.models → OnOk result (ListsImage input.now
         (state (D.world disk.old) (D.held disk.old) report.old)
         (state (D.world disk.new) (D.held disk.new) report.new)) }
-    ensures leaves { IsTrue D.tells → LeavesSpared result SparesWorld
+    ensures leaves { IsTrue D.models → LeavesSpared result SparesWorld
         (state (D.world disk.old) (D.held disk.old) report.old)
         (state (D.world disk.new) (D.held disk.new) report.new) }
-    ensures refused { IsTrue D.tells → IfErr result (λ refusal. RefusesListing refusal.fault input.now
+    ensures refused { IsTrue D.models → IfErr result (λ refusal. RefusesListing refusal.fault input.now
         (state (D.world disk.old) (D.held disk.old) report.old)
         (state (D.world disk.new) (D.held disk.new) report.new)) }
 {
@@ -163,14 +163,14 @@ pub(crate) fn flash_straight<'a, D: Disk>(
     w: &mut Window,
     m: &mut Meter,
 ) -> Result<(), SparseRefusal<'a>>
-    requires ready { IsTrue D.tells → HasNoPart (D.held disk.old) }
-    ensures done { IsTrue D.tells → OnOk result (FlashesImage D.on_output input.now partition.now raw None
+    requires ready { IsTrue D.models → HasNoPart (D.held disk.old) }
+    ensures done { IsTrue D.models → OnOk result (FlashesImage D.on_output input.now partition.now raw None
         (state (D.world disk.old) (D.held disk.old) report.old)
         (state (D.world disk.new) (D.held disk.new) report.new)) }
-    ensures leaves { IsTrue D.tells → LeavesSpared result (SparesFlashed input.now partition.now None)
+    ensures leaves { IsTrue D.models → LeavesSpared result (SparesFlashed input.now partition.now None)
         (state (D.world disk.old) (D.held disk.old) report.old)
         (state (D.world disk.new) (D.held disk.new) report.new) }
-    ensures refused { IsTrue D.tells → IfErr result (λ refusal. RefusesFlashing refusal.fault input.now
+    ensures refused { IsTrue D.models → IfErr result (λ refusal. RefusesFlashing refusal.fault input.now
         partition.now raw None
         (state (D.world disk.old) (D.held disk.old) report.old)
         (state (D.world disk.new) (D.held disk.new) report.new)) }
@@ -194,14 +194,14 @@ pub(crate) fn flash_pieces<'a, D: Disk>(
     w: &mut Window,
     m: &mut Meter,
 ) -> Result<(), SparseRefusal<'a>>
-    requires ready { IsTrue D.tells → MayFlashPieces (D.held disk.old) }
-    ensures done { IsTrue D.tells → OnOk result (FlashesImage D.on_output input.now partition.now raw (Some pieces.entry)
+    requires ready { IsTrue D.models → MayFlashPieces (D.held disk.old) }
+    ensures done { IsTrue D.models → OnOk result (FlashesImage D.on_output input.now partition.now raw (Some pieces.entry)
         (state (D.world disk.old) (D.held disk.old) report.old)
         (state (D.world disk.new) (D.held disk.new) report.new)) }
-    ensures leaves { IsTrue D.tells → LeavesSpared result (SparesFlashed input.now partition.now (Some pieces.entry))
+    ensures leaves { IsTrue D.models → LeavesSpared result (SparesFlashed input.now partition.now (Some pieces.entry))
         (state (D.world disk.old) (D.held disk.old) report.old)
         (state (D.world disk.new) (D.held disk.new) report.new) }
-    ensures refused { IsTrue D.tells → IfErr result (λ refusal. RefusesFlashing refusal.fault input.now
+    ensures refused { IsTrue D.models → IfErr result (λ refusal. RefusesFlashing refusal.fault input.now
         partition.now raw (Some pieces.entry)
         (state (D.world disk.old) (D.held disk.old) report.old)
         (state (D.world disk.new) (D.held disk.new) report.new)) }
@@ -226,14 +226,14 @@ pub(crate) fn verify_image<'a, D: Disk>(
     w: &mut Window,
     m: &mut Meter,
 ) -> Result<(), SparseRefusal<'a>>
-    requires first { IsTrue D.tells → (D.held disk.old).begun ≡ [] }
-    ensures done { IsTrue D.tells → OnOk result (VerifiesImage input.now partition.now raw
+    requires first { IsTrue D.models → (D.held disk.old).begun ≡ [] }
+    ensures done { IsTrue D.models → OnOk result (VerifiesImage input.now partition.now raw
         (state (D.world disk.old) (D.held disk.old) report.old)
         (state (D.world disk.new) (D.held disk.new) report.new)) }
-    ensures leaves { IsTrue D.tells → LeavesSpared result SparesWorld
+    ensures leaves { IsTrue D.models → LeavesSpared result SparesWorld
         (state (D.world disk.old) (D.held disk.old) report.old)
         (state (D.world disk.new) (D.held disk.new) report.new) }
-    ensures refused { IsTrue D.tells → IfErr result (λ refusal. RefusesVerifying refusal.fault input.now
+    ensures refused { IsTrue D.models → IfErr result (λ refusal. RefusesVerifying refusal.fault input.now
         partition.now raw
         (state (D.world disk.old) (D.held disk.old) report.old)
         (state (D.world disk.new) (D.held disk.new) report.new)) }

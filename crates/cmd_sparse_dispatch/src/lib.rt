@@ -6,11 +6,11 @@
 //! |---|---|
 //! | `command.rt` | which command it is |
 //! | `commands.rt` | each command: one call of its body |
-//! | `places.rt` | the files that the words name |
+//! | `task_files.rt` | the files that the words name |
 #![tactic(auto)]
 
 mod command;
 mod commands;
-mod places;
+mod task_files;
 
 pub use command::sparse_command;

@@ -1,5 +1,5 @@
 pub mod Counts
 pub mod Loops
 pub mod Shown
-pub mod Steps
+pub mod UnpackSteps
 pub mod Wholes

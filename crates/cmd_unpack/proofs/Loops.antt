@@ -2,11 +2,11 @@
 use Rattle.std.proofs.Common.{◌≡◌, ℕ, ◌+◌, ◌<◌, ◌≤◌, Bool, IsTrue, List, [], ◌++◌, length, sym, ◌∙◌, ap, subst}
 use Rattle.std.proofs.Common.{arith, below_more}
 use Rattle.std.specs.Prelude.{slice_index_or}
-use Rattle.abt_headers.specs.declared.sections.Place.{Place}
-use Rattle.sys_disk.specs.World.{World, Held, Creates, Ends, ended, failing}
+use Rattle.abt_headers.specs.declared.sections.SectionPlace.{SectionPlace}
+use Rattle.sys_disk.specs.World.{World, OpenFiles, Creates, Ends, ended, failing}
 use Rattle.abt_sections.specs.Header.{Header, places_of, fragment_count, fragment_of}
 use Rattle.abt_sections.specs.Layout.{part_of}
-use Rattle.cmd_common_boot.specs.declared.part_names.Part.TheVariants as parts
+use Rattle.cmd_common_boot.specs.declared.part_names.ImagePart.TheVariants as parts
 use Rattle.sys_disk.specs.Among.{GoesAmong, IsMade, KeepsMade}
 use Rattle.cmd_unpack.specs.Unpacking.{FragmentsDone, SectionsDone, path_of_part, section_part}
 use Rattle.cmd_unpack.specs.Unpacking.{PartsBegun, up_to_section, up_to_fragment, up_to_words}
@@ -15,16 +15,16 @@ use Rattle.cmd_unpack.specs.Unpacking.{PartsLeft, in_fragments, in_sections, in_
 use Rattle.std.proofs.lemmas.List.{get_or_default}
 use Rattle.sys_disk.proofs.Amongs.{goes_more, made_later, made_written}
 
-pub goes_section : (folder : List ℕ) (s f : ℕ) (with_words : Bool) (header : Header) (h h' : Held) (a b : World)
+pub goes_section : (folder : List ℕ) (s f : ℕ) (with_words : Bool) (header : Header) (h h' : OpenFiles) (a b : World)
     → GoesAmong (IsSectionPath folder header s) h h' a b → GoesAmong (IsFirstPath folder header s f with_words) h h' a b
 goes_section folder s f with_words header h h' a b goes = goes_more _ _ h h' a b (λ p named. of_section named) goes
 
-pub goes_fragment : (folder : List ℕ) (s f : ℕ) (with_words : Bool) (header : Header) (h h' : Held) (a b : World)
+pub goes_fragment : (folder : List ℕ) (s f : ℕ) (with_words : Bool) (header : Header) (h h' : OpenFiles) (a b : World)
     → GoesAmong (IsFragmentPath folder header f) h h' a b
     → GoesAmong (IsFirstPath folder header s f with_words) h h' a b
 goes_fragment folder s f with_words header h h' a b goes = goes_more _ _ h h' a b (λ p named. of_fragment named) goes
 
-pub goes_words : (folder : List ℕ) (s f : ℕ) (with_words : Bool) (header : Header) (h h' : Held) (a b : World)
+pub goes_words : (folder : List ℕ) (s f : ℕ) (with_words : Bool) (header : Header) (h h' : OpenFiles) (a b : World)
     → IsTrue with_words → GoesAmong (λ path. path ≡ path_of_part folder parts.Words) h h' a b
     → GoesAmong (IsFirstPath folder header s f with_words) h h' a b
 goes_words folder s f with_words header h h' a b wanted goes =
@@ -72,27 +72,27 @@ fragment_any p named = record {
   is_path = named.is_path;
 }
 
-pub sections_later : (folder : List ℕ) (header : Header) (x : List ℕ) (n : ℕ) (h h' : Held) (a b : World)
+pub sections_later : (folder : List ℕ) (header : Header) (x : List ℕ) (n : ℕ) (h h' : OpenFiles) (a b : World)
     → KeepsMade h h' a b → SectionsDone folder header x n h a → SectionsDone folder header x n h' b
 sections_later folder header x n h h' a b kept done =
     λ k below p found. made_later h h' a b _ _ kept (done k below p found)
 
-pub sections_more : (folder : List ℕ) (header : Header) (x y : List ℕ) (n : ℕ) (h h' : Held) (a b : World) → y ≡ x
+pub sections_more : (folder : List ℕ) (header : Header) (x y : List ℕ) (n : ℕ) (h h' : OpenFiles) (a b : World) → y ≡ x
     → KeepsMade h h' a b → SectionsDone folder header x n h a
-    → ((p : Place) → p ≡ slice_index_or (places_of header) n p
+    → ((p : SectionPlace) → p ≡ slice_index_or (places_of header) n p
     → IsMade h' b (path_of_part folder (section_part p)) (part_of y p))
     → SectionsDone folder header x (n + 1) h' b
 sections_more folder header x y n h h' a b same kept done next =
-    below_more (λ k. (p : Place) → p ≡ slice_index_or (places_of header) k p
+    below_more (λ k. (p : SectionPlace) → p ≡ slice_index_or (places_of header) k p
     → IsMade h' b (path_of_part folder (section_part p)) (part_of x p)) n
     (sections_later folder header x n h h' a b kept done)
     (λ p found. subst (λ z. IsMade h' b (path_of_part folder (section_part p)) (part_of z p)) same (next p found))
 
-pub fragments_later : (folder : List ℕ) (header : Header) (x : List ℕ) (n : ℕ) (h h' : Held) (a b : World)
+pub fragments_later : (folder : List ℕ) (header : Header) (x : List ℕ) (n : ℕ) (h h' : OpenFiles) (a b : World)
     → KeepsMade h h' a b → FragmentsDone folder header x n h a → FragmentsDone folder header x n h' b
 fragments_later folder header x n h h' a b kept done = λ k below. made_later h h' a b _ _ kept (done k below)
 
-pub fragments_more : (folder : List ℕ) (header : Header) (x y : List ℕ) (n : ℕ) (h h' : Held) (a b : World) → y ≡ x
+pub fragments_more : (folder : List ℕ) (header : Header) (x y : List ℕ) (n : ℕ) (h h' : OpenFiles) (a b : World) → y ≡ x
     → KeepsMade h h' a b → FragmentsDone folder header x n h a
     → IsMade h' b (path_of_part folder (parts.Fragment n)) (fragment_of y header n)
     → FragmentsDone folder header x (n + 1) h' b
@@ -101,16 +101,16 @@ fragments_more folder header x y n h h' a b same kept done next =
     (fragments_later folder header x n h h' a b kept done)
     (subst (λ z. IsMade h' b (path_of_part folder (parts.Fragment n)) (fragment_of z header n)) same next)
 
-pub no_sections : (folder : List ℕ) (header : Header) (x : List ℕ) (h : Held) (w : World) → SectionsDone folder header x
+pub no_sections : (folder : List ℕ) (header : Header) (x : List ℕ) (h : OpenFiles) (w : World) → SectionsDone folder header x
     0 h w
 no_sections folder header x h w = λ k below. absurd (omega (arith, below))
 
-pub no_fragments : (folder : List ℕ) (header : Header) (x : List ℕ) (h : Held) (w : World)
+pub no_fragments : (folder : List ℕ) (header : Header) (x : List ℕ) (h : OpenFiles) (w : World)
     → FragmentsDone folder header x 0 h w
 no_fragments folder header x h w = λ k below. absurd (omega (arith, below))
 
 -- what stands does so where only a count has risen
-done_failing : (path bytes : List ℕ) (h : Held) (n : ℕ) (w : World) → IsMade h w path bytes → IsMade (failing n h) w
+done_failing : (path bytes : List ℕ) (h : OpenFiles) (n : ℕ) (w : World) → IsMade h w path bytes → IsMade (failing n h) w
     path bytes
 done_failing path bytes h n w done = record {
   file = done.file;
@@ -119,7 +119,7 @@ done_failing path bytes h n w done = record {
   listed = done.listed;
 }
 
-pub begun_failing : (folder : List ℕ) (with_words : Bool) (header : Header) (x : List ℕ) (h : Held) (n : ℕ) (w : World)
+pub begun_failing : (folder : List ℕ) (with_words : Bool) (header : Header) (x : List ℕ) (h : OpenFiles) (n : ℕ) (w : World)
     → PartsBegun folder with_words header x h w → PartsBegun folder with_words header x (failing n h) w
 begun_failing folder with_words header x h n w (up_to_section i below sections) =
     up_to_section i below (λ k under p found. done_failing _ _ h n w (sections k under p found))
@@ -130,7 +130,7 @@ begun_failing folder with_words header x h n w (up_to_words wanted sections frag
     up_to_words wanted (λ k under p found. done_failing _ _ h n w (sections k under p found))
     (λ k under. done_failing _ _ h n w (fragments k under)) (done_failing _ _ h n w words)
 
-pub begun_later : (folder : List ℕ) (with_words : Bool) (header : Header) (x : List ℕ) (h k : Held) (n : ℕ)
+pub begun_later : (folder : List ℕ) (with_words : Bool) (header : Header) (x : List ℕ) (h k : OpenFiles) (n : ℕ)
     (c d : World)
     → k ≡ failing n h → d ≡ c → PartsBegun folder with_words header x h c → PartsBegun folder with_words header x k d
 begun_later folder with_words header x h k n c d let_go same begun =
@@ -139,13 +139,13 @@ begun_later folder with_words header x h k n c d let_go same begun =
     (begun_failing folder with_words header x h n c begun))
 
 -- and so do those before a refusal
-done_let_go : (path bytes : List ℕ) (h k : Held) (n : ℕ) (c d : World) → k ≡ failing n h → d ≡ c → IsMade h c path bytes
+done_let_go : (path bytes : List ℕ) (h k : OpenFiles) (n : ℕ) (c d : World) → k ≡ failing n h → d ≡ c → IsMade h c path bytes
     → IsMade k d path bytes
 done_let_go path bytes h k n c d let_go same done =
     subst (λ w. IsMade k w path bytes) (sym same)
     (subst (λ q. IsMade q c path bytes) (sym let_go) (done_failing path bytes h n c done))
 
-pub left_later : (folder : List ℕ) (header : Header) (x : List ℕ) (h k : Held) (n : ℕ) (c d : World)
+pub left_later : (folder : List ℕ) (header : Header) (x : List ℕ) (h k : OpenFiles) (n : ℕ) (c d : World)
     (Only Later : (List ℕ → Type 0) → Type 0) → ((P : List ℕ → Type 0) → Only P → Later P) → k ≡ failing n h → d ≡ c
     → PartsLeft folder header x h c Only → PartsLeft folder header x k d Later
 left_later folder header x h k n c d Only Later more let_go same (in_sections i sections only) =
@@ -160,11 +160,11 @@ left_later folder header x h k n c d Only Later more let_go same (in_words secti
 -- ---- one section
 
 -- a section does not depend on what is taken where there is none
-pub same_section : (header : Header) (i : ℕ) (p q : Place) → i < length (places_of header)
+pub same_section : (header : Header) (i : ℕ) (p q : SectionPlace) → i < length (places_of header)
     → p ≡ slice_index_or (places_of header) i p → q ≡ slice_index_or (places_of header) i q → p ≡ q
 same_section header i p q there found found' = found ∙ get_or_default (places_of header) i p q there ∙ sym found'
 
-pub section_named : (folder : List ℕ) (header : Header) (i : ℕ) (q : Place) (path : List ℕ)
+pub section_named : (folder : List ℕ) (header : Header) (i : ℕ) (q : SectionPlace) (path : List ℕ)
     → i < length (places_of header) → q ≡ slice_index_or (places_of header) i q
     → path ≡ path_of_part folder (section_part q) → IsSectionPath folder header (i + 1) path
 section_named folder header i q path there found is_path = record {
@@ -182,7 +182,7 @@ fragment_named folder header i path there is_path =
     record { index = i; below = omega arith; there = there; is_path = is_path }
 
 -- an output that was created empty, written, and brought to its end
-pub part_done : (path path' before after bytes : List ℕ) (b : Bool) (n : ℕ) (h h' h'' : Held) (u v w : World) → path
+pub part_done : (path path' before after bytes : List ℕ) (b : Bool) (n : ℕ) (h h' h'' : OpenFiles) (u v w : World) → path
     ≡ path'
     → before ≡ [] → after ≡ before ++ bytes → Creates path h h' u v → h'' ≡ ended b n h' → Ends h'.output after v w
     → IsMade h'' w path' bytes
@@ -191,7 +191,7 @@ part_done path path' before after bytes b n h h' h'' u v w is_path empty written
     subst (λ q. IsMade h'' w q bytes) is_path
     (subst (λ x. IsMade h'' w path x) (written ∙ ap (λ x. x ++ bytes) empty) done)
 
-pub same_path : (folder : List ℕ) (header : Header) (i : ℕ) (q p : Place) → i < length (places_of header)
+pub same_path : (folder : List ℕ) (header : Header) (i : ℕ) (q p : SectionPlace) → i < length (places_of header)
     → q ≡ slice_index_or (places_of header) i q → p ≡ slice_index_or (places_of header) i p
     → path_of_part folder (section_part q) ≡ path_of_part folder (section_part p)
 same_path folder header i q p there found found' =

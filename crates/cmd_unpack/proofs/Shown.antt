@@ -6,14 +6,14 @@ use Rattle.std.specs.Prelude.{IsOk, IfOk, slice_index_or}
 use Rattle.std.proofs.Math.Seq.{take-suc}
 use Rattle.std.proofs.lemmas.Bool.{false≢true, true≢false}
 use Rattle.std.proofs.lemmas.List.{get_or_default, map-append}
-use Rattle.abt_headers.specs.declared.sections.Place.{Place}
+use Rattle.abt_headers.specs.declared.sections.SectionPlace.{SectionPlace}
 use Rattle.abt_headers.specs.declared.sections.Section.TheVariants as kinds
 use Rattle.sys_report.specs.Shows.{CannotPrint, GoesOut, IsSilent, Shows, refusals}
 use Rattle.sys_report.specs.declared.report.Report.{Report}
 use Rattle.abt_sections.specs.Header.{Header, places_of, fragment_count, entry_of}
 use Rattle.abt_sections.specs.declared.fault.SectionFault.{SectionFault}
-use Rattle.cmd_common_boot.specs.declared.part_names.Part.{Part}
-use Rattle.cmd_common_boot.specs.declared.part_names.Part.TheVariants as parts
+use Rattle.cmd_common_boot.specs.declared.part_names.ImagePart.{ImagePart}
+use Rattle.cmd_common_boot.specs.declared.part_names.ImagePart.TheVariants as parts
 use Rattle.cmd_unpack.specs.Lines.{ShowsEach, told_fragments, told_part, told_parts, told_section}
 use Rattle.cmd_unpack.specs.Lines.{told_words}
 use Rattle.cmd_unpack.specs.Unpacking.{section_part}
@@ -59,28 +59,28 @@ one_more lines line a b c each shows = each_then lines (line ∷ []) a b c each 
 
 -- ---- of a part
 
-pub shown_part : (answer : Result ℕ SectionFault) (a b : Report) (part : Part) (m : ℕ) → IsOk answer
+pub shown_part : (answer : Result ℕ SectionFault) (a b : Report) (part : ImagePart) (m : ℕ) → IsOk answer
     → IfOk answer (λ n. Shows a b (told_part part n)) → IfOk answer (λ n. n ≡ m) → Shows a b (told_part part m)
 shown_part (Ok n) a b part m done shows same = subst (λ k. Shows a b (told_part part k)) same shows
 shown_part (Err e) a b part m done shows same = absurd (false≢true done)
 
 -- with the number that was told
-pub shown_some : (answer : Result ℕ SectionFault) (a b : Report) (part : Part) → IsOk answer
+pub shown_some : (answer : Result ℕ SectionFault) (a b : Report) (part : ImagePart) → IsOk answer
     → IfOk answer (λ n. Shows a b (told_part part n)) → (n : ℕ) × Shows a b (told_part part n)
 shown_some (Ok n) a b part done shows = (n, shows)
 shown_some (Err e) a b part done shows = absurd (false≢true done)
 
-some_place : Place
+some_place : SectionPlace
 some_place = record { kind = kinds.Kernel; at = 0; size = 0 }
 
 -- one section more
 pub section_shown : (h : Header) (i : ℕ) (a b c : Report) → i < length (places_of h)
     → ShowsEach (map told_section (take i (places_of h))) a b
-    → ((p : Place) → p ≡ slice_index_or (places_of h) i p → Shows b c (told_section p))
+    → ((p : SectionPlace) → p ≡ slice_index_or (places_of h) i p → Shows b c (told_section p))
     → ShowsEach (map told_section (take (i + 1) (places_of h))) a c
 section_shown h i a b c there each shows =
     let places = places_of h in
-    let p : Place = get_or places i some_place in
+    let p : SectionPlace = get_or places i some_place in
     let found : p ≡ slice_index_or places i p = get_or_default places i some_place p there in
     let next : suc i ≡ i + 1 = omega arith in
     let more : map told_section (take i places) ++ (told_section p ∷ []) ≡ map told_section (take (i + 1) places) =

@@ -1,12 +1,12 @@
 -- What a whole run leaves, behind the image that it opened.
 use Rattle.std.proofs.Common.{◌≡◌, ℕ, ◌+◌, Bool, IsTrue, List, [], length, refl, sym, ◌∙◌, ap, subst, arith}
 use Rattle.std.specs.Prelude.{unwrap_or}
-use Rattle.sys_disk.specs.World.{World, Held, OpensFile, KeepsFile, failing}
+use Rattle.sys_disk.specs.World.{World, OpenFiles, OpensFile, KeepsFile, failing}
 use Rattle.abt_sections.specs.Header.{Header, view_of, places_of, fragment_count, fragment_of}
 use Rattle.abt_sections.specs.declared.image.Image.{Image}
 use Rattle.abt_sections.specs.Layout.{part_of}
 use Rattle.abt_sections.specs.Open.{HasImage, IsOpened}
-use Rattle.cmd_common_boot.specs.declared.part_names.Part.TheVariants as parts
+use Rattle.cmd_common_boot.specs.declared.part_names.ImagePart.TheVariants as parts
 use Rattle.cmd_common_texts.specs.Words.{image_words, words_text}
 use Rattle.sys_disk.specs.Among.{GoesAmong, OnlyAmong, FileHolds}
 use Rattle.cmd_unpack.specs.Unpacking.{FragmentsDone, SectionsDone, WordsDone, path_of_part, section_part}
@@ -17,7 +17,7 @@ use Rattle.cmd_unpack.specs.Lines.{told_parts}
 use Rattle.sys_disk.proofs.Amongs.{among_behind, goes_more, goes_none, goes_then, kept_beside, stands}
 use Rattle.cmd_unpack.proofs.Loops.{left_later}
 
-pub unpacks : (path folder x : List ℕ) (with_words : Bool) (header : Header) (h h' h'' : Held) (a c : World)
+pub unpacks : (path folder x : List ℕ) (with_words : Bool) (header : Header) (h h' h'' : OpenFiles) (a c : World)
     (shows : List (List ℕ) → Type 0) → OpensFile a path x h h' → HasImage x header
     → SectionsDone folder header x (length (places_of header)) h'' c
     → FragmentsDone folder header x (fragment_count header) h'' c
@@ -39,7 +39,7 @@ unpacks path folder x with_words header h h' h'' a c shows opens image sections 
   shown = (shown.0, subst (λ z. shows (told_parts z header with_words shown.0)) opens.held shown.1);
 }
 
-pub syncs_parts : (path x : List ℕ) (with_words : Bool) (header : Header) (h h' h'' : Held) (a : World)
+pub syncs_parts : (path x : List ℕ) (with_words : Bool) (header : Header) (h h' h'' : OpenFiles) (a : World)
     → OpensFile a path x h h' → HasImage x header → SyncsMore (part_total with_words header) h h''
     → SyncsParts path with_words a h h''
 syncs_parts path x with_words header h h' h'' a opens image syncs = record {
@@ -50,7 +50,7 @@ syncs_parts path x with_words header h h' h'' a opens image syncs = record {
   syncs = syncs;
 }
 
-pub parts_stand : (path folder x : List ℕ) (with_words : Bool) (header : Header) (h h' h'' : Held) (a c : World)
+pub parts_stand : (path folder x : List ℕ) (with_words : Bool) (header : Header) (h h' h'' : OpenFiles) (a c : World)
     → OpensFile a path x h h' → HasImage x header → PartsBegun folder with_words header x h'' c
     → PartsStand path folder with_words a h'' c
 parts_stand path folder x with_words header h h' h'' a c opens image begun = record {
@@ -61,7 +61,7 @@ parts_stand path folder x with_words header h h' h'' a c opens image begun = rec
   begun = subst (λ z. PartsBegun folder with_words header z h'' c) opens.held begun;
 }
 
-goes_part : (path folder x : List ℕ) (with_words : Bool) (header : Header) (h h' h'' : Held) (a b c : World)
+goes_part : (path folder x : List ℕ) (with_words : Bool) (header : Header) (h h' h'' : OpenFiles) (a b c : World)
     → OpensFile a path x h h' → HasImage x header → GoesAmong (IsPartPath folder with_words header) h' h'' b c
     → GoesAmong (IsPartOf path folder with_words a) h' h'' b c
 goes_part path folder x with_words header h h' h'' a b c opens image goes =
@@ -73,7 +73,7 @@ goes_part path folder x with_words header h h' h'' a b c opens image goes =
       is_part = named;
     }) goes
 
-pub only_parts : (path folder x : List ℕ) (with_words : Bool) (header : Header) (h h' h'' : Held) (a b c : World)
+pub only_parts : (path folder x : List ℕ) (with_words : Bool) (header : Header) (h h' h'' : OpenFiles) (a b c : World)
     → h.begun ≡ [] → OpensFile a path x h h' → b ≡ a → HasImage x header
     → GoesAmong (IsPartPath folder with_words header) h' h'' b c
     → OnlyAmong (IsPartOf path folder with_words a) h.read h''.begun a c
@@ -81,12 +81,12 @@ only_parts path folder x with_words header h h' h'' a b c none opens same image 
     among_behind _ path x h h' h'' a b c none opens same
     (goes_part path folder x with_words header h h' h'' a b c opens image goes)
 
-pub only_opened : (P : List ℕ → Type 0) (path x : List ℕ) (h h' h'' : Held) (a b : World) (n : ℕ) → h.begun ≡ []
+pub only_opened : (P : List ℕ → Type 0) (path x : List ℕ) (h h' h'' : OpenFiles) (a b : World) (n : ℕ) → h.begun ≡ []
     → OpensFile a path x h h' → b ≡ a → h'' ≡ failing n h' → OnlyAmong P h.read h''.begun a b
 only_opened P path x h h' h'' a b n none opens same let_go =
     among_behind P path x h h' h'' a b b none opens same (goes_none P h' h'' b b n let_go refl)
 
-pub keeps_opened : (P : List ℕ → Type 0) (path bytes : List ℕ) (h h' h'' : Held) (a b c : World)
+pub keeps_opened : (P : List ℕ → Type 0) (path bytes : List ℕ) (h h' h'' : OpenFiles) (a b c : World)
     → OpensFile a path bytes h h' → b ≡ a → GoesAmong P h' h'' b c → KeepsFile path a c
 keeps_opened P path bytes h h' h'' a b c opens same goes = λ f there.
     let same_file : opens.file ≡ f = ap (λ o. unwrap_or o 0) (sym opens.there ∙ there) in
@@ -99,19 +99,19 @@ pub has_as : (x y : List ℕ) (image : Image) → y ≡ x → IsOpened x image �
 has_as x y image same opened = subst (λ z. HasImage z (view_of image.header)) (sym same) opened.has
 
 -- two counts of what failed are one
-pub twice : (h h' h'' : Held) (m n : ℕ) → h' ≡ failing m h → h'' ≡ failing n h' → h'' ≡ failing (m + n) h
+pub twice : (h h' h'' : OpenFiles) (m n : ℕ) → h' ≡ failing m h → h'' ≡ failing n h' → h'' ≡ failing (m + n) h
 twice h h' h'' m n first next =
     let sum : h.failed + m + n ≡ h.failed + (m + n) = omega arith in
     next ∙ ap (λ k. failing n k) first ∙ ap (λ f. record h { failed = f }) sum
 
 -- whatever was done behind a file that was opened, before it was let go
-within : (P : List ℕ → Type 0) (h' g h'' k : Held) (b c d : World) (m n : ℕ) → g ≡ failing m h' → GoesAmong P g h'' b c
+within : (P : List ℕ → Type 0) (h' g h'' k : OpenFiles) (b c d : World) (m n : ℕ) → g ≡ failing m h' → GoesAmong P g h'' b c
     → k ≡ failing n h'' → d ≡ c → GoesAmong P h' k b d
 within P h' g h'' k b c d m n taken goes let_go same =
     goes_then P h' h'' k b c d (goes_then P h' g h'' b b c (goes_none P h' g b b m taken refl) goes)
     (goes_none P h'' k c d n let_go same)
 
-pub only_let_go : (path folder x : List ℕ) (with_words : Bool) (header : Header) (h h' g h'' k : Held) (a b c d : World)
+pub only_let_go : (path folder x : List ℕ) (with_words : Bool) (header : Header) (h h' g h'' k : OpenFiles) (a b c d : World)
     (m n : ℕ) → h.begun ≡ [] → OpensFile a path x h h' → b ≡ a → HasImage x header → g ≡ failing m h'
     → GoesAmong (IsPartPath folder with_words header) g h'' b c → k ≡ failing n h'' → d ≡ c
     → OnlyAmong (IsPartOf path folder with_words a) h.read k.begun a d
@@ -119,13 +119,13 @@ only_let_go path folder x with_words header h h' g h'' k a b c d m n none opens 
     only_parts path folder x with_words header h h' k a b d none opens same image
     (within _ h' g h'' k b c d m n taken goes let_go still)
 
-pub keeps_let_go : (P : List ℕ → Type 0) (path x : List ℕ) (h h' g h'' k : Held) (a b c d : World) (m n : ℕ)
+pub keeps_let_go : (P : List ℕ → Type 0) (path x : List ℕ) (h h' g h'' k : OpenFiles) (a b c d : World) (m n : ℕ)
     → OpensFile a path x h h' → b ≡ a → g ≡ failing m h' → GoesAmong P g h'' b c → k ≡ failing n h'' → d ≡ c
     → KeepsFile path a d
 keeps_let_go P path x h h' g h'' k a b c d m n opens same taken goes let_go still =
     keeps_opened P path x h h' k a b d opens same (within P h' g h'' k b c d m n taken goes let_go still)
 
-pub leaves_parts : (path folder x : List ℕ) (header : Header) (h h' g h'' k : Held) (a b c d : World) (m n : ℕ)
+pub leaves_parts : (path folder x : List ℕ) (header : Header) (h h' g h'' k : OpenFiles) (a b c d : World) (m n : ℕ)
     → h.begun ≡ [] → OpensFile a path x h h' → b ≡ a → HasImage x header → g ≡ failing m h'
     → PartsLeft folder header x h'' c (λ named. GoesAmong named g h'' b c) → k ≡ failing n h'' → d ≡ c
     → LeavesParts path folder h k a d

@@ -11,8 +11,8 @@ use Rattle.cmd_common_boot.specs.ImageFaults.{IsFaultOf}
 -- the image still stands, a refusal is the fault of its bytes or of a device that failed.
 pub record CopiesPart {X : Type 0} (r : Result X SectionFault) {A : Type 0} (s : sources.Ghosts A) (old new : A)
     {B : Type 0} (o : outputs.Ghosts B) (onto now : B) (image : Image) (bytes : List ℕ) : Type 0 where
-  pub written : IsTrue s.tells → OnOk r (o.written now ≡ o.written onto ++ bytes)
-  pub content : IsTrue s.tells → OnOk r (s.content new ≡ s.content old)
+  pub written : IsTrue s.models → OnOk r (o.written now ≡ o.written onto ++ bytes)
+  pub content : IsTrue s.models → OnOk r (s.content new ≡ s.content old)
   pub clean : OnOk r (s.read_faults new + o.write_faults now ≡ s.read_faults old + o.write_faults onto)
-  pub refused : IsTrue s.tells → IsOpened (s.content old) image → IfErr r (IsFaultOf (s.content old)
+  pub refused : IsTrue s.models → IsOpened (s.content old) image → IfErr r (IsFaultOf (s.content old)
       (s.read_faults old + o.write_faults onto < s.read_faults new + o.write_faults now))

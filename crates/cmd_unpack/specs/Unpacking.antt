@@ -2,42 +2,42 @@
 use Rattle.std.specs.Prelude.{◌≡◌, ◌<◌, ℕ, ◌+◌, Bool, true, false, IsTrue, if◌then◌else◌, List, Option, Some, None}
 use Rattle.std.specs.Prelude.{length, codes}
 use Rattle.std.specs.Prelude.{slice_index_or}
-use Rattle.abt_headers.specs.declared.sections.Place.{Place}
+use Rattle.abt_headers.specs.declared.sections.SectionPlace.{SectionPlace}
 use Rattle.abt_headers.specs.Places.{section_name}
 use Rattle.abt_sections.specs.Header.{Header, places_of, fragment_count, fragment_of}
 use Rattle.abt_sections.specs.Layout.{part_of}
 use Rattle.abt_sections.specs.Open.{HasImage}
 use Rattle.sys_refusals.specs.Paths.{in_folder, numbered}
-use Rattle.sys_disk.specs.World.{World, Held}
-use Rattle.cmd_common_boot.specs.declared.part_names.Part.{Part}
-use Rattle.cmd_common_boot.specs.declared.part_names.Part.TheVariants as parts
+use Rattle.sys_disk.specs.World.{World, OpenFiles}
+use Rattle.cmd_common_boot.specs.declared.part_names.ImagePart.{ImagePart}
+use Rattle.cmd_common_boot.specs.declared.part_names.ImagePart.TheVariants as parts
 use Rattle.cmd_common_texts.specs.Words.{words_text, image_words}
 use Rattle.sys_disk.specs.Among.{FileHolds, IsMade, OnlyAmong}
 use Rattle.cmd_unpack.specs.Lines.{told_parts}
 
 -- the name of a part's file, and the number that stands behind it
-abbrev pub part_name : Part → List ℕ
+abbrev pub part_name : ImagePart → List ℕ
 part_name (parts.Section kind) = section_name kind
 part_name (parts.Fragment index) = codes "fragment"
 part_name parts.Words = codes "pack.words"
 
-abbrev pub part_number : Part → Option ℕ
+abbrev pub part_number : ImagePart → Option ℕ
 part_number (parts.Section kind) = None
 part_number (parts.Fragment index) = Some index
 part_number parts.Words = None
 
 -- the path of its file: `DIR/kernel`, `DIR/fragment.0`, `DIR/pack.words`
-abbrev pub path_of_part : List ℕ → Part → List ℕ
+abbrev pub path_of_part : List ℕ → ImagePart → List ℕ
 path_of_part folder part = in_folder (Some folder) (numbered (part_name part) (part_number part))
 
 -- the section at a place
-abbrev pub section_part : Place → Part
+abbrev pub section_part : SectionPlace → ImagePart
 section_part p = parts.Section p.kind
 
 -- the path of one of the first m sections
 pub record IsSectionPath (folder : List ℕ) (h : Header) (m : ℕ) (path : List ℕ) : Type 0 where
   pub index : ℕ
-  pub place : Place
+  pub place : SectionPlace
   pub below : index < m
   pub there : index < length (places_of h)
   pub found : place ≡ slice_index_or (places_of h) index place
@@ -71,32 +71,32 @@ pub record IsPartOf (input folder : List ℕ) (with_words : Bool) (world : World
 -- ---- on the way
 
 -- section i of an image x is in its file
-abbrev pub SectionDone : List ℕ → Header → List ℕ → ℕ → Held → World → Type 0
+abbrev pub SectionDone : List ℕ → Header → List ℕ → ℕ → OpenFiles → World → Type 0
 SectionDone folder h x i held world =
-    (p : Place) → p ≡ slice_index_or (places_of h) i p
+    (p : SectionPlace) → p ≡ slice_index_or (places_of h) i p
     → IsMade held world (path_of_part folder (section_part p)) (part_of x p)
 
 -- the first n sections are
-abbrev pub SectionsDone : List ℕ → Header → List ℕ → ℕ → Held → World → Type 0
+abbrev pub SectionsDone : List ℕ → Header → List ℕ → ℕ → OpenFiles → World → Type 0
 SectionsDone folder h x n held world = (k : ℕ) → k < n → SectionDone folder h x k held world
 
 -- and the first n fragments
-abbrev pub FragmentsDone : List ℕ → Header → List ℕ → ℕ → Held → World → Type 0
+abbrev pub FragmentsDone : List ℕ → Header → List ℕ → ℕ → OpenFiles → World → Type 0
 FragmentsDone folder h x n held world =
     (k : ℕ) → k < n → IsMade held world (path_of_part folder (parts.Fragment k)) (fragment_of x h k)
 
 -- and the words
-abbrev pub WordsDone : List ℕ → Header → List ℕ → Held → World → Type 0
+abbrev pub WordsDone : List ℕ → Header → List ℕ → OpenFiles → World → Type 0
 WordsDone folder h x held world =
     IsMade held world (path_of_part folder parts.Words) (words_text (image_words folder x h))
 
 -- so many outputs more were synced, where outputs are
-pub record SyncsMore (n : ℕ) (old new : Held) : Type 0 where
+pub record SyncsMore (n : ℕ) (old new : OpenFiles) : Type 0 where
   pub wanted : new.is_synced ≡ old.is_synced
   pub added : new.syncs ≡ old.syncs + (if old.is_synced then n else 0)
 
 -- the first parts of an image x are in their files: one at least
-pub data PartsBegun (folder : List ℕ) (with_words : Bool) (h : Header) (x : List ℕ) (held : Held) (world : World)
+pub data PartsBegun (folder : List ℕ) (with_words : Bool) (h : Header) (x : List ℕ) (held : OpenFiles) (world : World)
     : Type 0 where
   up_to_section : (i : ℕ) → i < length (places_of h) → SectionsDone folder h x (i + 1) held world
       → PartsBegun folder with_words h x held world
@@ -108,7 +108,7 @@ pub data PartsBegun (folder : List ℕ) (with_words : Bool) (h : Header) (x : Li
 
 -- Where not all parts are written: those before the one at fault are in their files, and `Only` holds of the names of
 -- these files and of the next one.
-pub data PartsLeft (folder : List ℕ) (h : Header) (x : List ℕ) (held : Held) (world : World)
+pub data PartsLeft (folder : List ℕ) (h : Header) (x : List ℕ) (held : OpenFiles) (world : World)
     (Only : (List ℕ → Type 0) → Type 0) : Type 0 where
   in_sections : (i : ℕ) → SectionsDone folder h x i held world → Only (IsFirstPath folder h (i + 1) 0 false)
       → PartsLeft folder h x held world Only
@@ -131,7 +131,7 @@ pub record Unpacks (input folder : List ℕ) (with_words : Bool) (old new : Worl
   pub there : old.at input ≡ Some from
   pub header : Header
   pub image : HasImage (old.holds from) header
-  pub sections : (i : ℕ) (p : Place) → i < length (places_of header) → p ≡ slice_index_or (places_of header) i p
+  pub sections : (i : ℕ) (p : SectionPlace) → i < length (places_of header) → p ≡ slice_index_or (places_of header) i p
       → FileHolds new (path_of_part folder (section_part p)) (part_of (old.holds from) p)
   pub fragments : (i : ℕ) → i < fragment_count header
       → FileHolds new (path_of_part folder (parts.Fragment i)) (fragment_of (old.holds from) header i)
@@ -144,7 +144,7 @@ abbrev pub part_total : Bool → Header → ℕ
 part_total with_words h = length (places_of h) + fragment_count h + (if with_words then 1 else 0)
 
 -- each part of the image that the file at a path holds was synced, where outputs are
-pub record SyncsParts (input : List ℕ) (with_words : Bool) (world : World) (old new : Held) : Type 0 where
+pub record SyncsParts (input : List ℕ) (with_words : Bool) (world : World) (old new : OpenFiles) : Type 0 where
   pub from : ℕ
   pub there : world.at input ≡ Some from
   pub header : Header
@@ -152,7 +152,7 @@ pub record SyncsParts (input : List ℕ) (with_words : Bool) (world : World) (ol
   pub syncs : SyncsMore (part_total with_words header) old new
 
 -- the first parts of it are in their files, where a line could not be printed
-pub record PartsStand (input folder : List ℕ) (with_words : Bool) (old : World) (held : Held) (new : World)
+pub record PartsStand (input folder : List ℕ) (with_words : Bool) (old : World) (held : OpenFiles) (new : World)
     : Type 0 where
   pub from : ℕ
   pub there : old.at input ≡ Some from
@@ -162,7 +162,7 @@ pub record PartsStand (input folder : List ℕ) (with_words : Bool) (old : World
 
 -- Nothing was changed; or the file at a path held an image, whose first parts are in their files, and no files but
 -- theirs and the next one's were created or changed.
-pub data LeavesParts (input folder : List ℕ) (held held' : Held) (old new : World) : Type 0 where
+pub data LeavesParts (input folder : List ℕ) (held held' : OpenFiles) (old new : World) : Type 0 where
   no_part : new ≡ old → LeavesParts input folder held held' old new
   first_parts : (from : ℕ) → old.at input ≡ Some from → (header : Header) → HasImage (old.holds from) header
       → PartsLeft folder header (old.holds from) held' new (λ named. OnlyAmong named held.read held'.begun old new)

@@ -1,7 +1,7 @@
 -- What writing parts of an image leaves of its source and of the disk.
 use Rattle.std.specs.Prelude.{◌≡◌, ℕ, Bool, IsTrue, List, Result, OnOk}
 use Rattle.abt_io.specs.declared.device.Source as sources
-use Rattle.sys_disk.specs.World.{World, Held, Ends, SparesRest}
+use Rattle.sys_disk.specs.World.{World, OpenFiles, Ends, SparesRest}
 use Rattle.sys_disk.specs.Among.{GoesAmong, KeepsMade}
 use Rattle.cmd_common_boot.specs.ImageFaults.{NoMoreFailed}
 use Rattle.cmd_unpack.specs.Unpacking.{SyncsMore}
@@ -9,7 +9,7 @@ use Rattle.cmd_unpack.specs.Unpacking.{SyncsMore}
 -- Files of these names were written, and no others were changed; what was begun before is kept. After an Ok the source
 -- holds what it held, so many outputs more were synced, and no call failed.
 pub record WritesParts {X E : Type 0} (r : Result X E) (n : ℕ) (Named : List ℕ → Type 0) {A : Type 0}
-    (s : sources.Ghosts A) (source source' : A) (held held' : Held) (old new : World) : Type 0 where
+    (s : sources.Ghosts A) (source source' : A) (held held' : OpenFiles) (old new : World) : Type 0 where
   pub content : OnOk r (s.content source' ≡ s.content source)
   pub keeps : KeepsMade held held' old new
   pub only : GoesAmong Named held held' old new
@@ -17,7 +17,7 @@ pub record WritesParts {X E : Type 0} (r : Result X E) (n : ℕ) (Named : List �
   pub clean : OnOk r (NoMoreFailed held (s.read_faults source) held' (s.read_faults source'))
 
 -- After an Ok the output that was open holds these bytes; all other files are as they were, whatever is answered.
-pub record EndsPart {X E : Type 0} (tells : Bool) (r : Result X E) (bytes : List ℕ) (held : Held) (old new : World)
+pub record EndsPart {X E : Type 0} (models : Bool) (r : Result X E) (bytes : List ℕ) (held : OpenFiles) (old new : World)
     : Type 0 where
-  pub ended : IsTrue tells → OnOk r (Ends held.output bytes old new)
-  pub rest : IsTrue tells → SparesRest held.output old new
+  pub ended : IsTrue models → OnOk r (Ends held.output bytes old new)
+  pub rest : IsTrue models → SparesRest held.output old new

@@ -1,16 +1,16 @@
 //! The bytes of a part, from the image to an output.
 
 ghost use Rattle.std.specs.Prelude.{◌≡◌, ◌<◌, IsTrue, IfOk, length, slice_index_or};
-ghost use Rattle.abt_headers.specs.declared.sections.Place.{Place};
+ghost use Rattle.abt_headers.specs.declared.sections.SectionPlace.{SectionPlace};
 ghost use Rattle.abt_sections.specs.Header.{entry_of, fragment_count, fragment_of, places_of, view_of};
 ghost use Rattle.abt_sections.specs.Layout.{part_of};
 ghost use Rattle.cmd_unpack.specs.Copying.{CopiesPart};
 ghost use Rattle.cmd_common_texts.specs.Words.{image_words, words_text};
 
 use abt_io::{Meter, Output, Source, Window};
-use sys_report::{Carried, Progress};
 use abt_sections::{Image, SectionFault, fragment, section, unpack, unpack_fragment};
 use cmd_common_texts::write_words;
+use sys_report::{Carried, Progress};
 
 /// Writes section `i`, and answers the output with how many bytes it has.
 pub fn copy_section<S: Source, O: Output>(
@@ -23,10 +23,10 @@ pub fn copy_section<S: Source, O: Output>(
     m: &mut Meter,
 ) -> (O, Result<u64, SectionFault>)
     requires { i < length (places_of (view_of image.now.header)) }
-    ensures copies { (p : Place) → p ≡ slice_index_or (places_of (view_of image.now.header)) i p →
+    ensures copies { (p : SectionPlace) → p ≡ slice_index_or (places_of (view_of image.now.header)) i p →
         CopiesPart result.1 S.Source source.old source.new O.Output onto result.0 image.now
         (part_of (S.content source.old) p) }
-    ensures count { (p : Place) → p ≡ slice_index_or (places_of (view_of image.now.header)) i p →
+    ensures count { (p : SectionPlace) → p ≡ slice_index_or (places_of (view_of image.now.header)) i p →
         IfOk result.1 (λ bytes. bytes ≡ p.size) }
 {
     let mut carried = Carried {
@@ -54,7 +54,7 @@ pub fn copy_fragment<S: Source, O: Output>(
     requires { index < fragment_count (view_of image.now.header) }
     ensures copies { CopiesPart result.1 S.Source source.old source.new O.Output onto result.0 image.now
         (fragment_of (S.content source.old) (view_of image.now.header) index) }
-    ensures count { IsTrue S.tells → IfOk result.1 (λ bytes. bytes
+    ensures count { IsTrue S.models → IfOk result.1 (λ bytes. bytes
         ≡ (entry_of (S.content source.old) (view_of image.now.header) index).ramdisk_size) }
 {
     let entry = match fragment(image, index, source, w, m) {

@@ -7,7 +7,7 @@
 //! |---|---|
 //! | `unpack.rt` | the command `unpack` |
 //! | `parts.rt` | all parts, one after another |
-//! | `writing.rt` | one part, to a file of its own |
+//! | `write_part.rt` | one part, to a file of its own |
 //! | `copying.rt` | the bytes of a part, from the image to an output |
 //! | `names.rt`, `lines.rt` | the file of a part, and what is printed of it |
 #![tactic(auto)]
@@ -17,7 +17,7 @@ mod lines;
 mod names;
 mod parts;
 mod unpack;
-mod writing;
+mod write_part;
 
 pub use copying::{copy_fragment, copy_section};
 pub use lines::PartLine;

@@ -3,13 +3,13 @@
 ghost use Rattle.std.specs.Prelude.{Some};
 ghost use Rattle.cmd_unpack.specs.Lines.{part_line};
 
-use cmd_common_boot::Part;
+use cmd_common_boot::ImagePart;
 use std::fmt;
 
 /// The line of a part that was written.
 #[derive(Drop)]
 pub struct PartLine {
-    pub part: Part,
+    pub part: ImagePart,
     /// How many bytes it has.
     pub bytes: u64,
 }
@@ -20,9 +20,9 @@ impl fmt::Display for PartLine {
     fn fmt<W: fmt::Write>(&self, f: &mut fmt::Formatter<W>) -> fmt::Result {
         let bytes = self.bytes;
         match self.part {
-            Part::Section(kind) => write!(f, "{kind} {bytes}"),
-            Part::Fragment(index) => write!(f, "fragment {index} {bytes}"),
-            Part::Words => write!(f, "pack.words {bytes}"),
+            ImagePart::Section(kind) => write!(f, "{kind} {bytes}"),
+            ImagePart::Fragment(index) => write!(f, "fragment {index} {bytes}"),
+            ImagePart::Words => write!(f, "pack.words {bytes}"),
         }
     }
 }

@@ -11,44 +11,44 @@ ghost use Rattle.cmd_unpack.specs.Unpacking.{FragmentsDone, IsFragmentPath, IsPa
 ghost use Rattle.cmd_unpack.specs.Unpacking.{PartsLeft, SectionsDone, WordsDone, part_total};
 ghost use Rattle.cmd_unpack.specs.Writing.{WritesParts};
 
-use crate::writing::{write_fragment, write_pack_words, write_section};
-use sys_disk::Disk;
+use crate::write_part::{write_fragment, write_pack_words, write_section};
 use abt_io::{Meter, Window};
-use sys_refusals::Place;
-use sys_report::Report;
 use abt_sections::{Image, fragments, sections};
 use cmd_common_boot::BootOutcome;
+use sys_disk::Disk;
+use sys_refusals::FileArg;
+use sys_report::Report;
 
 /// Writes each section, each fragment, and maybe the words.
 pub(crate) fn write_parts<'t, 'a, D: Disk>(
     disk: &mut D,
     image: &Image,
     source: &mut D::At,
-    input: Place<'t>,
+    input: FileArg<'t>,
     folder: &'t str,
     with_words: bool,
     report: &mut Report,
     w: &mut Window,
     m: &mut Meter,
 ) -> BootOutcome<'t, 'a>
-    requires one { IsTrue D.tells → (D.held disk.old).output ≡ None }
-    ensures writes { IsTrue D.tells → WritesParts result (part_total with_words (view_of image.now.header))
+    requires one { IsTrue D.models → (D.held disk.old).output ≡ None }
+    ensures writes { IsTrue D.models → WritesParts result (part_total with_words (view_of image.now.header))
         (IsPartPath folder.now with_words (view_of image.now.header)) D.At.Source source.old source.new
         (D.held disk.old) (D.held disk.new) (D.world disk.old) (D.world disk.new) }
-    ensures sections { IsTrue D.tells → OnOk result (SectionsDone folder.now (view_of image.now.header)
+    ensures sections { IsTrue D.models → OnOk result (SectionsDone folder.now (view_of image.now.header)
         (D.At.content source.old) (length (places_of (view_of image.now.header))) (D.held disk.new) (D.world
         disk.new)) }
-    ensures fragments { IsTrue D.tells → OnOk result (FragmentsDone folder.now (view_of image.now.header)
+    ensures fragments { IsTrue D.models → OnOk result (FragmentsDone folder.now (view_of image.now.header)
         (D.At.content source.old) (fragment_count (view_of image.now.header)) (D.held disk.new) (D.world
         disk.new)) }
-    ensures words { IsTrue D.tells → IsTrue with_words → OnOk result (WordsDone folder.now (view_of image.now.header)
+    ensures words { IsTrue D.models → IsTrue with_words → OnOk result (WordsDone folder.now (view_of image.now.header)
         (D.At.content source.old) (D.held disk.new) (D.world disk.new)) }
-    ensures stands { IsTrue D.tells → OnErr result (PartsLeft folder.now (view_of image.now.header)
+    ensures stands { IsTrue D.models → OnErr result (PartsLeft folder.now (view_of image.now.header)
         (D.At.content source.old) (D.held disk.new) (D.world disk.new) (λ named. GoesAmong named (D.held disk.old)
         (D.held disk.new) (D.world disk.old) (D.world disk.new))) }
-    ensures shown { IsTrue D.tells → OnOk result ((bytes : ℕ) × ShowsEach (told_parts (D.At.content source.old)
+    ensures shown { IsTrue D.models → OnOk result ((bytes : ℕ) × ShowsEach (told_parts (D.At.content source.old)
         (view_of image.now.header) with_words bytes) report.old report.new) }
-    ensures refused { IsTrue D.tells → IsOpened (D.At.content source.old) image.now → IfErr result (λ refusal.
+    ensures refused { IsTrue D.models → IsOpened (D.At.content source.old) image.now → IfErr result (λ refusal.
         IsRefusedOver (D.At.content source.old) (SomeFailed (D.held disk.old) (D.At.read_faults source.old)
         (D.held disk.new) (D.At.read_faults source.new)) (PartsBegun folder.now with_words (view_of
         image.now.header) (D.At.content source.old) (D.held disk.new) (D.world disk.new)
@@ -75,27 +75,27 @@ fn write_sections<'t, 'a, D: Disk>(
     disk: &mut D,
     image: &Image,
     source: &mut D::At,
-    input: Place<'t>,
+    input: FileArg<'t>,
     folder: &'t str,
     report: &mut Report,
     w: &mut Window,
     m: &mut Meter,
 ) -> BootOutcome<'t, 'a>
-    requires one { IsTrue D.tells → (D.held disk.old).output ≡ None }
-    ensures writes { IsTrue D.tells → WritesParts result (length (places_of (view_of image.now.header)))
+    requires one { IsTrue D.models → (D.held disk.old).output ≡ None }
+    ensures writes { IsTrue D.models → WritesParts result (length (places_of (view_of image.now.header)))
         (IsSectionPath folder.now (view_of image.now.header) (length (places_of (view_of image.now.header))))
         D.At.Source source.old source.new (D.held disk.old) (D.held disk.new) (D.world disk.old) (D.world disk.new) }
-    ensures done { IsTrue D.tells → OnOk result (SectionsDone folder.now (view_of image.now.header)
+    ensures done { IsTrue D.models → OnOk result (SectionsDone folder.now (view_of image.now.header)
         (D.At.content source.old) (length (places_of (view_of image.now.header))) (D.held disk.new) (D.world
         disk.new)) }
-    ensures stands { IsTrue D.tells → OnErr result ((i : ℕ) × SectionsDone folder.now (view_of image.now.header)
+    ensures stands { IsTrue D.models → OnErr result ((i : ℕ) × SectionsDone folder.now (view_of image.now.header)
         (D.At.content source.old) i (D.held disk.new) (D.world disk.new) × GoesAmong (IsSectionPath folder.now
         (view_of image.now.header) (i + 1)) (D.held disk.old) (D.held disk.new) (D.world disk.old)
         (D.world disk.new)) }
     ensures shown { OnOk result (ShowsEach (map told_section (places_of (view_of image.now.header))) report.old
         report.new) }
     ensures rises { OnOk result (refusals report.old ≤ refusals report.new) }
-    ensures refused { IsTrue D.tells → IsOpened (D.At.content source.old) image.now → IfErr result (λ refusal.
+    ensures refused { IsTrue D.models → IsOpened (D.At.content source.old) image.now → IfErr result (λ refusal.
         IsRefusedOver (D.At.content source.old) (SomeFailed (D.held disk.old) (D.At.read_faults source.old)
         (D.held disk.new) (D.At.read_faults source.new)) ((i : ℕ) × (i < length (places_of (view_of
         image.now.header)))
@@ -115,27 +115,27 @@ fn write_fragments<'t, 'a, D: Disk>(
     disk: &mut D,
     image: &Image,
     source: &mut D::At,
-    input: Place<'t>,
+    input: FileArg<'t>,
     folder: &'t str,
     report: &mut Report,
     w: &mut Window,
     m: &mut Meter,
 ) -> BootOutcome<'t, 'a>
-    requires one { IsTrue D.tells → (D.held disk.old).output ≡ None }
-    ensures writes { IsTrue D.tells → WritesParts result (fragment_count (view_of image.now.header))
+    requires one { IsTrue D.models → (D.held disk.old).output ≡ None }
+    ensures writes { IsTrue D.models → WritesParts result (fragment_count (view_of image.now.header))
         (IsFragmentPath folder.now (view_of image.now.header) (fragment_count (view_of image.now.header)))
         D.At.Source source.old source.new (D.held disk.old) (D.held disk.new) (D.world disk.old) (D.world disk.new) }
-    ensures done { IsTrue D.tells → OnOk result (FragmentsDone folder.now (view_of image.now.header)
+    ensures done { IsTrue D.models → OnOk result (FragmentsDone folder.now (view_of image.now.header)
         (D.At.content source.old) (fragment_count (view_of image.now.header)) (D.held disk.new) (D.world
         disk.new)) }
-    ensures stands { IsTrue D.tells → OnErr result ((i : ℕ) × FragmentsDone folder.now (view_of image.now.header)
+    ensures stands { IsTrue D.models → OnErr result ((i : ℕ) × FragmentsDone folder.now (view_of image.now.header)
         (D.At.content source.old) i (D.held disk.new) (D.world disk.new) × GoesAmong (IsFragmentPath folder.now
         (view_of image.now.header) (i + 1)) (D.held disk.old) (D.held disk.new) (D.world disk.old)
         (D.world disk.new)) }
-    ensures shown { IsTrue D.tells → OnOk result (ShowsEach (told_fragments (D.At.content source.old)
+    ensures shown { IsTrue D.models → OnOk result (ShowsEach (told_fragments (D.At.content source.old)
         (view_of image.now.header) (fragment_count (view_of image.now.header))) report.old report.new) }
-    ensures rises { IsTrue D.tells → OnOk result (refusals report.old ≤ refusals report.new) }
-    ensures refused { IsTrue D.tells → IsOpened (D.At.content source.old) image.now → IfErr result (λ refusal.
+    ensures rises { IsTrue D.models → OnOk result (refusals report.old ≤ refusals report.new) }
+    ensures refused { IsTrue D.models → IsOpened (D.At.content source.old) image.now → IfErr result (λ refusal.
         IsRefusedOver (D.At.content source.old) (SomeFailed (D.held disk.old) (D.At.read_faults source.old)
         (D.held disk.new) (D.At.read_faults source.new)) ((i : ℕ) × (i < fragment_count (view_of
         image.now.header))

@@ -12,12 +12,12 @@ ghost use Rattle.cmd_unpack.specs.Unpacking.{IsPartOf, LeavesParts, PartsStand, 
 
 use crate::names::place_of;
 use crate::parts::write_parts;
-use sys_disk::Disk;
 use abt_io::{Meter, Window};
-use sys_refusals::{HostRefusal, Place, Refusal, Sides};
-use sys_report::Report;
 use abt_sections::{Image, SectionFault, open};
 use cmd_common_boot::{BootCommandFault, BootOutcome, part_count, part_of};
+use sys_disk::Disk;
+use sys_refusals::{FileArg, HostRefusal, Refusal, Sides};
+use sys_report::Report;
 
 /// Writes each section and then each ramdisk fragment of an image to a file of a folder, and the words that pack it
 /// again.
@@ -27,30 +27,30 @@ use cmd_common_boot::{BootCommandFault, BootOutcome, part_count, part_of};
 pub fn unpack_file<'t, 'a, D: Disk>(
     disk: &mut D,
     report: &mut Report,
-    input: Place<'t>,
+    input: FileArg<'t>,
     folder: &'t str,
     with_words: bool,
     w: &mut Window,
     m: &mut Meter,
 ) -> BootOutcome<'t, 'a>
-    requires first { IsTrue D.tells → IsReading (D.held disk.old) }
+    requires first { IsTrue D.models → IsReading (D.held disk.old) }
     // each part of the image that IN holds stands in the folder under its name; a line was printed of each
-    ensures done { IsTrue D.tells → OnOk result (Unpacks (path_of input.entry) folder.now with_words (D.world disk.old)
+    ensures done { IsTrue D.models → OnOk result (Unpacks (path_of input.entry) folder.now with_words (D.world disk.old)
         (D.world disk.new) (λ lines. ShowsEach lines report.old report.new)) }
     // each was synced, where that is wanted
-    ensures synced { IsTrue D.tells → OnOk result (SyncsParts (path_of input.entry) with_words (D.world disk.old)
+    ensures synced { IsTrue D.models → OnOk result (SyncsParts (path_of input.entry) with_words (D.world disk.old)
         (D.held disk.old) (D.held disk.new)) }
     // whatever the outcome, only such files were created or changed, and IN holds what it held; no call failed where all
     // was done
-    ensures only { IsTrue D.tells → OnlyAmong (IsPartOf (path_of input.entry) folder.now with_words (D.world disk.old))
+    ensures only { IsTrue D.models → OnlyAmong (IsPartOf (path_of input.entry) folder.now with_words (D.world disk.old))
         (D.held disk.old).read (D.held disk.new).begun (D.world disk.old) (D.world disk.new) }
-    ensures keeps { KeepsInput D.tells result (path_of input.entry) (D.held disk.old) (D.held disk.new)
+    ensures keeps { KeepsInput D.models result (path_of input.entry) (D.held disk.old) (D.held disk.new)
         (D.world disk.old) (D.world disk.new) }
     // where it is refused, the parts before the one at fault stand, and no file but theirs and its own was changed
-    ensures stands { IsTrue D.tells → OnErr result (LeavesParts (path_of input.entry) folder.now (D.held disk.old)
+    ensures stands { IsTrue D.models → OnErr result (LeavesParts (path_of input.entry) folder.now (D.held disk.old)
         (D.held disk.new) (D.world disk.old) (D.world disk.new)) }
     // it is refused for a fault that IN has, or since a call failed; or a part is written, whose line could not be printed
-    ensures refused { IsTrue D.tells → IfErr result (λ refusal. RefusesImage (path_of input.entry) (D.world disk.old)
+    ensures refused { IsTrue D.models → IfErr result (λ refusal. RefusesImage (path_of input.entry) (D.world disk.old)
         (HasFailed (D.held disk.old) (D.held disk.new)) (PartsStand (path_of input.entry) folder.now with_words
         (D.world disk.old) (D.held disk.new) (D.world disk.new) × CannotPrint report.old report.new) refusal.fault) }
 {
@@ -95,7 +95,7 @@ pub fn unpack_file<'t, 'a, D: Disk>(
 }
 
 // The refusal of an image that is none.
-fn not_opened<'t, 'a>(input: Place<'t>, fault: SectionFault) -> Refusal<'t, BootCommandFault<'a>>
+fn not_opened<'t, 'a>(input: FileArg<'t>, fault: SectionFault) -> Refusal<'t, BootCommandFault<'a>>
     ensures { result.fault ≡ BootCommandFault.Section fault }
 {
     let sides = Sides::none().reading(input, None);
@@ -109,7 +109,7 @@ fn refuse_taken<'t, D: Disk>(
     folder: &'t str,
     with_words: bool,
 ) -> Result<(), HostRefusal<'t>>
-    ensures { FailsOnly D.tells (unless (is_ok result)) (D.held disk.old) (D.held disk.new) (D.world disk.old)
+    ensures { FailsOnly D.models (unless (is_ok result)) (D.held disk.old) (D.held disk.new) (D.world disk.old)
         (D.world disk.new) }
 {
     for i in 0..part_count(image, with_words) {

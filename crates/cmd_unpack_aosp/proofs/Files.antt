@@ -4,8 +4,8 @@ use Rattle.std.proofs.Common.{sym, ap, ◌∙◌, subst}
 use Rattle.std.proofs.Common.{arith, rules, nat_lt, below_more, inl, inr, Err}
 use Rattle.std.specs.Prelude.{◌⊎◌, get_or, slice_index_or, true, false, if◌then◌else◌}
 use Rattle.std.proofs.lemmas.List.{get_or_default}
-use Rattle.abt_headers.specs.declared.sections.Place.{Place}
-use Rattle.sys_disk.specs.World.{World, Held, OpensFile, failing}
+use Rattle.abt_headers.specs.declared.sections.SectionPlace.{SectionPlace}
+use Rattle.sys_disk.specs.World.{World, OpenFiles, OpensFile, failing}
 use Rattle.sys_disk.specs.Among.{GoesAmong, IsMade, KeepsMade, FileHolds, OnlyAmong}
 use Rattle.sys_disk.proofs.Amongs.{among_behind, goes_more, goes_none, goes_then, made_later, stands}
 use Rattle.abt_sections.specs.Header.{Header, places_of, fragment_count, fragment_of}
@@ -16,7 +16,7 @@ use Rattle.cmd_common_boot.proofs.Causes.{host_image, refused_more, refuses_file
 use Rattle.cmd_common_boot.specs.declared.fault.BootCommandFault.{BootCommandFault}
 use Rattle.abt_io.specs.declared.device.Source as sources
 use Rattle.cmd_unpack.specs.Writing.{WritesParts}
-use Rattle.cmd_unpack.proofs.Steps.{parts_none}
+use Rattle.cmd_unpack.proofs.UnpackSteps.{parts_none}
 use Rattle.cmd_common_texts.specs.Words.{has_table}
 use Rattle.cmd_unpack_aosp_texts.specs.Files.{name_of_fragment, name_of_section}
 use Rattle.cmd_unpack_aosp.specs.AospFiles.{FileDone, FilesDone, IsFileOf, IsFilePath, RefusesName, RefusesPart}
@@ -32,11 +32,11 @@ lies_below i n below = search (rules, arith)
 lies_behind : (k n : ℕ) → nat_lt (n + k) n ≡ false
 lies_behind k n = search (rules, arith)
 
-same_place : (h : Header) (i : ℕ) (p : Place) → i < length (places_of h) → p ≡ slice_index_or (places_of h) i p
+same_place : (h : Header) (i : ℕ) (p : SectionPlace) → i < length (places_of h) → p ≡ slice_index_or (places_of h) i p
     → place_at h i ≡ p
 same_place h i p there found = get_or_default (places_of h) i no_place p there ∙ sym found
 
-pub section_name_at : (h : Header) (i : ℕ) (p : Place) → i < length (places_of h)
+pub section_name_at : (h : Header) (i : ℕ) (p : SectionPlace) → i < length (places_of h)
     → p ≡ slice_index_or (places_of h) i p
     → name_at h i ≡ name_of_section (has_table h) p
 section_name_at h i p there found =
@@ -44,7 +44,7 @@ section_name_at h i p there found =
     else Some (name_of_fragment (i - length (places_of h)))) (lies_below i (length (places_of h)) there)
     ∙ ap (name_of_section (has_table h)) (same_place h i p there found)
 
-pub section_bytes_at : (x : List ℕ) (h : Header) (i : ℕ) (p : Place) → i < length (places_of h)
+pub section_bytes_at : (x : List ℕ) (h : Header) (i : ℕ) (p : SectionPlace) → i < length (places_of h)
     → p ≡ slice_index_or (places_of h) i p → part_of x p ≡ part_bytes_at x h i
 section_bytes_at x h i p there found =
     ap (part_of x) (sym (same_place h i p there found))
@@ -95,7 +95,7 @@ file_named folder h i name path there found is_path = record {
   is_path = is_path;
 }
 
-pub file_done : (folder : List ℕ) (h : Header) (x : List ℕ) (i : ℕ) (held : Held) (world : World) (name bytes :
+pub file_done : (folder : List ℕ) (h : Header) (x : List ℕ) (i : ℕ) (held : OpenFiles) (world : World) (name bytes :
     List ℕ)
     → name_at h i ≡ Some name → bytes ≡ part_bytes_at x h i → IsMade held world (path_in_folder folder name) bytes
     → FileDone folder h x i held world
@@ -103,7 +103,7 @@ file_done folder h x i held world name bytes found same made =
     subst (λ o. IfSome o (λ n. IsMade held world (path_in_folder folder n) (part_bytes_at x h i))) (sym found)
     (subst (λ b. IsMade held world (path_in_folder folder name) b) same made)
 
-pub no_file : (folder : List ℕ) (h : Header) (x : List ℕ) (i : ℕ) (held : Held) (world : World) → name_at h i ≡ None
+pub no_file : (folder : List ℕ) (h : Header) (x : List ℕ) (i : ℕ) (held : OpenFiles) (world : World) → name_at h i ≡ None
     → FileDone folder h x i held world
 no_file folder h x i held world none =
     subst (λ o. IfSome o (λ n. IsMade held world (path_in_folder folder n) (part_bytes_at x h i))) (sym none) tt
@@ -132,16 +132,16 @@ path_any p named = record {
   is_path = named.is_path;
 }
 
-done_later : (folder : List ℕ) (h : Header) (x : List ℕ) (i : ℕ) (k k' : Held) (a b : World) (o : Option (List ℕ))
+done_later : (folder : List ℕ) (h : Header) (x : List ℕ) (i : ℕ) (k k' : OpenFiles) (a b : World) (o : Option (List ℕ))
     → KeepsMade k k' a b → IfSome o (λ n. IsMade k a (path_in_folder folder n) (part_bytes_at x h i))
     → IfSome o (λ n. IsMade k' b (path_in_folder folder n) (part_bytes_at x h i))
 done_later folder h x i k k' a b None kept done = tt
 done_later folder h x i k k' a b (Some n) kept done = made_later k k' a b _ _ kept done
 
-pub no_files : (folder : List ℕ) (h : Header) (x : List ℕ) (k : Held) (w : World) → FilesDone folder h x 0 k w
+pub no_files : (folder : List ℕ) (h : Header) (x : List ℕ) (k : OpenFiles) (w : World) → FilesDone folder h x 0 k w
 no_files folder h x k w = λ j below. absurd (omega (arith, below))
 
-pub files_more : (folder : List ℕ) (h : Header) (x y : List ℕ) (n : ℕ) (k k' : Held) (a b : World) → y ≡ x
+pub files_more : (folder : List ℕ) (h : Header) (x y : List ℕ) (n : ℕ) (k k' : OpenFiles) (a b : World) → y ≡ x
     → KeepsMade k k' a b → FilesDone folder h x n k a → FileDone folder h y n k' b → FilesDone folder h x (n + 1) k' b
 files_more folder h x y n k k' a b same kept done next =
     below_more (λ j. FileDone folder h x j k' b) n
@@ -157,13 +157,13 @@ part_more x y P Q fault same (inr unnamed) more = inr unnamed
 
 -- ---- all of it
 
-all_stand : (folder : List ℕ) (h : Header) (x : List ℕ) (i : ℕ) (k : Held) (w : World) (o : Option (List ℕ))
+all_stand : (folder : List ℕ) (h : Header) (x : List ℕ) (i : ℕ) (k : OpenFiles) (w : World) (o : Option (List ℕ))
     → IfSome o (λ n. IsMade k w (path_in_folder folder n) (part_bytes_at x h i))
     → IfSome o (λ n. FileHolds w (path_in_folder folder n) (part_bytes_at x h i))
 all_stand folder h x i k w None done = tt
 all_stand folder h x i k w (Some n) done = stands k w _ _ done
 
-pub unpacks_all : (path folder x : List ℕ) (header : Header) (h h' h'' : Held) (a c : World) → OpensFile a path x h h'
+pub unpacks_all : (path folder x : List ℕ) (header : Header) (h h' h'' : OpenFiles) (a c : World) → OpensFile a path x h h'
     → HasImage x header → FilesDone folder header x (file_count header) h'' c → UnpacksAsAosp path folder a c
 unpacks_all path folder x header h h' h'' a c opens image done = record {
   from = opens.file;
@@ -175,7 +175,7 @@ unpacks_all path folder x header h h' h'' a c opens image done = record {
       (all_stand folder header x i h'' c (name_at header i) (done i below));
 }
 
-pub file_of_image : (path folder x : List ℕ) (header : Header) (h h' : Held) (a : World) → OpensFile a path x h h'
+pub file_of_image : (path folder x : List ℕ) (header : Header) (h h' : OpenFiles) (a : World) → OpensFile a path x h h'
     → HasImage x header → (p : List ℕ) → IsFilePath folder header (file_count header) p → IsFileOf path folder a p
 file_of_image path folder x header h h' a opens image p named = record {
   from = opens.file;
@@ -186,7 +186,7 @@ file_of_image path folder x header h h' a opens image p named = record {
 }
 
 -- whatever was done behind a file that was opened, before it was let go
-pub only_files : (path folder x : List ℕ) (header : Header) (h h' g h'' k : Held) (a b c d : World) (m n : ℕ)
+pub only_files : (path folder x : List ℕ) (header : Header) (h h' g h'' k : OpenFiles) (a b c d : World) (m n : ℕ)
     → h.begun ≡ [] → OpensFile a path x h h' → b ≡ a → HasImage x header → g ≡ failing m h'
     → GoesAmong (IsFilePath folder header (file_count header)) g h'' b c → k ≡ failing n h'' → d ≡ c
     → OnlyAmong (IsFileOf path folder a) h.read k.begun a d
@@ -198,14 +198,14 @@ only_files path folder x header h h' g h'' k a b c d m n none opens same image t
     (goes_none P h'' k c d n let_go still)))
 
 -- a refusal, of the file that the image was opened from
-pub unpack_refused : (path x : List ℕ) (h h' : Held) (a : World) (P Q : Type 0) (fault : BootCommandFault)
+pub unpack_refused : (path x : List ℕ) (h h' : OpenFiles) (a : World) (P Q : Type 0) (fault : BootCommandFault)
     → OpensFile a path x h h' → RefusesPart x P fault → (P → Q) → RefusesUnpack path a Q fault
 unpack_refused path x h h' a P Q fault opens (inl refused) more =
     inl (refuses_file path x h h' a P ⊥ Q ⊥ fault opens refused more (λ none. absurd none))
 unpack_refused path x h h' a P Q fault opens (inr unnamed) more = inr unnamed
 
 -- and one before any part was read
-pub taken_refused : (path x : List ℕ) (h h' h'' k : Held) (a : World) (n : ℕ) (fault : BootCommandFault)
+pub taken_refused : (path x : List ℕ) (h h' h'' k : OpenFiles) (a : World) (n : ℕ) (fault : BootCommandFault)
     → OpensFile a path x h h' → k ≡ failing n h'' → RefusesName (h'.failed < h''.failed) fault
     → RefusesUnpack path a (h.failed < k.failed) fault
 taken_refused path x h h' h'' k a n fault opens let_go (inl call) =
@@ -216,7 +216,7 @@ taken_refused path x h h' h'' k a n fault opens let_go (inl call) =
 taken_refused path x h h' h'' k a n fault opens let_go (inr unnamed) = inr unnamed
 
 -- nothing was begun
-pub nothing_begun : {X E A : Type 0} {e : E} {s : sources.Ghosts A} {a : A} {P : List ℕ → Type 0} {h : Held} {u : World}
+pub nothing_begun : {X E A : Type 0} {e : E} {s : sources.Ghosts A} {a : A} {P : List ℕ → Type 0} {h : OpenFiles} {u : World}
     → h.output ≡ None → WritesParts {X = X} (Err e) 0 P s a a h h u u
 nothing_begun {s = s} {a = a} {P = P} {h = h} {u = u} closed =
     let none = parts_none {s = s} {a = a} {h = h} {u = u} {P = P} closed in record {

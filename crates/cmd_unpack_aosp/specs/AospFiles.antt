@@ -2,7 +2,7 @@
 use Rattle.std.specs.Prelude.{◌≡◌, ◌<◌, ◌⊎◌, ℕ, ◌+◌, ◌-◌, List, Option, Some, None, IfSome, if◌then◌else◌}
 use Rattle.std.specs.Prelude.{length, nat_lt}
 use Rattle.std.specs.Prelude.{get_or}
-use Rattle.abt_headers.specs.declared.sections.Place.{Place}
+use Rattle.abt_headers.specs.declared.sections.SectionPlace.{SectionPlace}
 use Rattle.abt_headers.specs.declared.sections.Section.TheVariants as sections
 use Rattle.abt_sections.specs.declared.fault.SectionFault.TheVariants as section_faults
 use Rattle.abt_sections.specs.Header.{Header, places_of, fragment_count, fragment_of}
@@ -10,7 +10,7 @@ use Rattle.abt_sections.specs.Layout.{part_of}
 use Rattle.abt_sections.specs.Open.{HasImage}
 use Rattle.sys_refusals.specs.Paths.{in_folder}
 use Rattle.sys_refusals.specs.declared.refusal.HostFault.{HostFault}
-use Rattle.sys_disk.specs.World.{World, Held}
+use Rattle.sys_disk.specs.World.{World, OpenFiles}
 use Rattle.sys_disk.specs.Among.{FileHolds, IsMade}
 use Rattle.cmd_common_boot.specs.ImageFaults.{IsRefusedOver, RefusesImage}
 use Rattle.cmd_common_boot.specs.declared.fault.BootCommandFault.{BootCommandFault}
@@ -23,11 +23,11 @@ use Rattle.cmd_unpack_aosp_texts.specs.Files.{name_of_fragment, name_of_section}
 abbrev pub file_count : Header → ℕ
 file_count h = length (places_of h) + fragment_count h
 
-abbrev pub no_place : Place
+abbrev pub no_place : SectionPlace
 no_place = record { kind = sections.Kernel; at = 0; size = 0 }
 
 -- section i
-abbrev pub place_at : Header → ℕ → Place
+abbrev pub place_at : Header → ℕ → SectionPlace
 place_at h i = get_or (places_of h) i no_place
 
 -- the name of the file of part i, where it has one
@@ -64,12 +64,12 @@ pub record IsFileOf (input folder : List ℕ) (world : World) (path : List ℕ) 
 -- ---- on the way
 
 -- part i of an image x is in its file, where it has one
-abbrev pub FileDone : List ℕ → Header → List ℕ → ℕ → Held → World → Type 0
+abbrev pub FileDone : List ℕ → Header → List ℕ → ℕ → OpenFiles → World → Type 0
 FileDone folder h x i held world =
     IfSome (name_at h i) (λ name. IsMade held world (path_in_folder folder name) (part_bytes_at x h i))
 
 -- the first n parts are
-abbrev pub FilesDone : List ℕ → Header → List ℕ → ℕ → Held → World → Type 0
+abbrev pub FilesDone : List ℕ → Header → List ℕ → ℕ → OpenFiles → World → Type 0
 FilesDone folder h x n held world = (k : ℕ) → k < n → FileDone folder h x k held world
 
 -- ---- refusals

@@ -5,12 +5,12 @@
 //! | file | has |
 //! |---|---|
 //! | `unpack.rt` | the parts of an image, each to the file that unpack_bootimg gives it |
-//! | `writing.rt` | one part, to a file of its own |
+//! | `write_part.rt` | one part, to a file of its own |
 //! | `names.rt` | the file of a part |
 #![tactic(auto)]
 
 mod names;
 mod unpack;
-mod writing;
+mod write_part;
 
 pub use unpack::unpack_as_aosp;

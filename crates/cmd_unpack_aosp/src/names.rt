@@ -5,15 +5,15 @@ ghost use Rattle.sys_refusals.specs.Paths.{in_folder, path_of};
 ghost use Rattle.abt_sections.specs.Header.{view_of};
 ghost use Rattle.cmd_unpack_aosp.specs.AospFiles.{file_count};
 
-use sys_refusals::Place;
 use abt_sections::{Image, SectionFault, fragments, section, sections};
 use cmd_unpack_aosp_texts::{fragment_file, has_table, section_file};
+use sys_refusals::FileArg;
 
 /// A file in a folder.
-pub(crate) fn place_in<'a>(folder: &'a str, name: &'a str) -> Place<'a>
+pub(crate) fn place_in<'a>(folder: &'a str, name: &'a str) -> FileArg<'a>
     ensures { path_of result ≡ in_folder (Some folder.now) name.now }
 {
-    Place {
+    FileArg {
         role: "PART",
         folder: Some(folder),
         name,

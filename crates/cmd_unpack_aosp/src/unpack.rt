@@ -13,13 +13,13 @@ ghost use Rattle.cmd_unpack_aosp.specs.AospFiles.{FilesDone, IsFileOf, IsFilePat
 ghost use Rattle.cmd_unpack_aosp.specs.AospFiles.{RefusesUnpack, UnpacksAsAosp, file_count};
 
 use crate::names::{name_at, place_in};
-use crate::writing::write_file;
-use sys_disk::Disk;
+use crate::write_part::write_file;
 use abt_io::{Meter, Window};
-use sys_refusals::{Place, Refusal, Sides};
-use sys_report::{Progress, Report};
 use abt_sections::{Image, SectionFault, open};
 use cmd_common_boot::{BootCommandFault, BootOutcome, part_count};
+use sys_disk::Disk;
+use sys_refusals::{FileArg, Refusal, Sides};
+use sys_report::{Progress, Report};
 
 /// Writes the parts of an image to files of a folder, each under the name that unpack_bootimg gives it. It prints
 /// nothing.
@@ -28,23 +28,23 @@ use cmd_common_boot::{BootCommandFault, BootOutcome, part_count};
 pub fn unpack_as_aosp<'t, 'a, D: Disk>(
     disk: &mut D,
     report: &mut Report,
-    input: Place<'t>,
+    input: FileArg<'t>,
     folder: &'t str,
     w: &mut Window,
     m: &mut Meter,
 ) -> BootOutcome<'t, 'a>
-    requires first { IsTrue D.tells → IsReading (D.held disk.old) }
+    requires first { IsTrue D.models → IsReading (D.held disk.old) }
     // each part of the image that IN holds stands in the folder, in the file that the tool gives it
-    ensures done { IsTrue D.tells → OnOk result (UnpacksAsAosp (path_of input.entry) folder.now (D.world disk.old)
+    ensures done { IsTrue D.models → OnOk result (UnpacksAsAosp (path_of input.entry) folder.now (D.world disk.old)
         (D.world disk.new)) }
     // whatever the outcome, only such files were created or changed, and IN holds what it held; no call failed where all
     // was done
-    ensures only { IsTrue D.tells → OnlyAmong (IsFileOf (path_of input.entry) folder.now (D.world disk.old))
+    ensures only { IsTrue D.models → OnlyAmong (IsFileOf (path_of input.entry) folder.now (D.world disk.old))
         (D.held disk.old).read (D.held disk.new).begun (D.world disk.old) (D.world disk.new) }
-    ensures keeps { KeepsInput D.tells result (path_of input.entry) (D.held disk.old) (D.held disk.new)
+    ensures keeps { KeepsInput D.models result (path_of input.entry) (D.held disk.old) (D.held disk.new)
         (D.world disk.old) (D.world disk.new) }
     // it is refused for a fault that IN has, or since a call failed, or for a fragment without a name
-    ensures refused { IsTrue D.tells → IfErr result (λ refusal. RefusesUnpack (path_of input.entry) (D.world disk.old)
+    ensures refused { IsTrue D.models → IfErr result (λ refusal. RefusesUnpack (path_of input.entry) (D.world disk.old)
         (HasFailed (D.held disk.old) (D.held disk.new)) refusal.fault) }
 {
     let mut device = match disk.source(input) {
@@ -79,7 +79,7 @@ pub fn unpack_as_aosp<'t, 'a, D: Disk>(
 }
 
 // The refusal of what the image has.
-fn refused_in<'t, 'a>(input: Place<'t>, fault: SectionFault) -> Refusal<'t, BootCommandFault<'a>>
+fn refused_in<'t, 'a>(input: FileArg<'t>, fault: SectionFault) -> Refusal<'t, BootCommandFault<'a>>
     ensures { result.fault ≡ BootCommandFault.Section fault }
 {
     let sides = Sides::none().reading(input, None);
@@ -90,13 +90,13 @@ fn refused_in<'t, 'a>(input: Place<'t>, fault: SectionFault) -> Refusal<'t, Boot
 fn refuse_taken<'t, 'a, D: Disk>(
     disk: &mut D,
     image: &Image,
-    input: Place<'t>,
+    input: FileArg<'t>,
     folder: &'t str,
 ) -> BootOutcome<'t, 'a>
-    ensures held { IsTrue D.tells → (n : ℕ) × (D.held disk.new ≡ failing n (D.held disk.old)) }
-    ensures clean { IsTrue D.tells → OnOk result (D.held disk.new ≡ failing 0 (D.held disk.old)) }
-    ensures world { IsTrue D.tells → D.world disk.new ≡ D.world disk.old }
-    ensures refused { IsTrue D.tells → IfErr result (λ refusal. RefusesName (HasFailed (D.held disk.old)
+    ensures held { IsTrue D.models → (n : ℕ) × (D.held disk.new ≡ failing n (D.held disk.old)) }
+    ensures clean { IsTrue D.models → OnOk result (D.held disk.new ≡ failing 0 (D.held disk.old)) }
+    ensures world { IsTrue D.models → D.world disk.new ≡ D.world disk.old }
+    ensures refused { IsTrue D.models → IfErr result (λ refusal. RefusesName (HasFailed (D.held disk.old)
         (D.held disk.new)) refusal.fault) }
 {
     for i in 0..part_count(image, false) {
@@ -112,14 +112,14 @@ fn refuse_part<'t, 'a, D: Disk>(
     disk: &mut D,
     image: &Image,
     i: u64,
-    input: Place<'t>,
+    input: FileArg<'t>,
     folder: &'t str,
 ) -> BootOutcome<'t, 'a>
     requires there { i < file_count (view_of image.now.header) }
-    ensures held { IsTrue D.tells → (n : ℕ) × (D.held disk.new ≡ failing n (D.held disk.old)) }
-    ensures clean { IsTrue D.tells → OnOk result (D.held disk.new ≡ failing 0 (D.held disk.old)) }
-    ensures world { IsTrue D.tells → D.world disk.new ≡ D.world disk.old }
-    ensures refused { IsTrue D.tells → IfErr result (λ refusal. RefusesName (HasFailed (D.held disk.old)
+    ensures held { IsTrue D.models → (n : ℕ) × (D.held disk.new ≡ failing n (D.held disk.old)) }
+    ensures clean { IsTrue D.models → OnOk result (D.held disk.new ≡ failing 0 (D.held disk.old)) }
+    ensures world { IsTrue D.models → D.world disk.new ≡ D.world disk.old }
+    ensures refused { IsTrue D.models → IfErr result (λ refusal. RefusesName (HasFailed (D.held disk.old)
         (D.held disk.new)) refusal.fault) }
 {
     let name = match name_at(image, i) {
@@ -138,19 +138,19 @@ fn write_files<'t, 'a, D: Disk>(
     disk: &mut D,
     image: &Image,
     source: &mut D::At,
-    input: Place<'t>,
+    input: FileArg<'t>,
     folder: &'t str,
     progress: &mut Progress,
     w: &mut Window,
     m: &mut Meter,
 ) -> BootOutcome<'t, 'a>
-    requires one { IsTrue D.tells → (D.held disk.old).output ≡ None }
-    ensures writes { IsTrue D.tells → (n : ℕ) × WritesParts result n (IsFilePath folder.now (view_of image.now.header)
+    requires one { IsTrue D.models → (D.held disk.old).output ≡ None }
+    ensures writes { IsTrue D.models → (n : ℕ) × WritesParts result n (IsFilePath folder.now (view_of image.now.header)
         (file_count (view_of image.now.header))) D.At.Source source.old source.new (D.held disk.old)
         (D.held disk.new) (D.world disk.old) (D.world disk.new) }
-    ensures done { IsTrue D.tells → OnOk result (FilesDone folder.now (view_of image.now.header)
+    ensures done { IsTrue D.models → OnOk result (FilesDone folder.now (view_of image.now.header)
         (D.At.content source.old) (file_count (view_of image.now.header)) (D.held disk.new) (D.world disk.new)) }
-    ensures refused { IsTrue D.tells → IsOpened (D.At.content source.old) image.now → IfErr result (λ refusal.
+    ensures refused { IsTrue D.models → IsOpened (D.At.content source.old) image.now → IfErr result (λ refusal.
         RefusesPart (D.At.content source.old) (SomeFailed (D.held disk.old) (D.At.read_faults source.old)
         (D.held disk.new) (D.At.read_faults source.new)) refusal.fault) }
 {

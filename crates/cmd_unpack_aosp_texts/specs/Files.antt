@@ -2,7 +2,7 @@
 use Rattle.std.specs.Prelude.{ℕ, ◌==◌, Bool, true, false, if◌then◌else◌, List, ◌++◌, Option, Some, None, codes}
 use Rattle.std.specs.Prelude.{decimal}
 use Rattle.std.specs.Prelude.{nat_lt}
-use Rattle.abt_headers.specs.declared.sections.Place.{Place}
+use Rattle.abt_headers.specs.declared.sections.SectionPlace.{SectionPlace}
 use Rattle.abt_headers.specs.declared.sections.Section.{Section}
 use Rattle.abt_headers.specs.declared.sections.Section.TheVariants.{Kernel, Ramdisk, Second, RecoveryDtbo, Dtb}
 use Rattle.abt_headers.specs.declared.sections.Section.TheVariants.{Signature, VendorRamdisk, Table, Bootconfig}
@@ -24,7 +24,7 @@ file_of false VendorRamdisk size = Some (codes "vendor_ramdisk")
 file_of table Table size = None
 file_of table Bootconfig size = Some (codes "bootconfig")
 
-abbrev pub name_of_section : Bool → Place → Option (List ℕ)
+abbrev pub name_of_section : Bool → SectionPlace → Option (List ℕ)
 name_of_section table p = file_of table p.kind p.size
 
 -- what a fragment's file has before its number, so that this has two digits at least

@@ -5,7 +5,7 @@ ghost use Rattle.abt_sections.specs.Header.{view_of};
 ghost use Rattle.cmd_common_texts.specs.Words.{has_table};
 ghost use Rattle.cmd_unpack_aosp_texts.specs.Files.{fragment_front, name_of_fragment, name_of_section, unless_empty};
 
-use abt_headers::{Place, Section, VendorHeader};
+use abt_headers::{Section, SectionPlace, VendorHeader};
 use abt_sections::ImageHeader;
 
 /// Whether the version has a table of ramdisk fragments.
@@ -21,7 +21,7 @@ pub fn has_table(header: &ImageHeader) -> bool
 
 /// The file of a section, where there is one. An empty section has one where the tool writes it all the same. A vendor
 /// ramdisk with a table has the files of its fragments instead.
-pub fn section_file(table: bool, place: Place) -> Option<&'static str>
+pub fn section_file(table: bool, place: SectionPlace) -> Option<&'static str>
     ensures { option_map (λ name. name.now) result ≡ name_of_section table place }
 {
     match place.kind {

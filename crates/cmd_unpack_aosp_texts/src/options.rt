@@ -12,8 +12,8 @@ use crate::rows::{is_no_level, is_no_version, put_high, put_level, put_low, put_
 use crate::shell::Word;
 use abt_headers::OsVersion;
 use abt_io::Output;
-use sys_text::Text;
 use cmd_common_fields::front_text;
+use sys_text::Text;
 
 /// What stands between words.
 #[derive(Clone, Copy)]

@@ -9,9 +9,9 @@ ghost use Rattle.cmd_unpack_aosp_texts.specs.Info as spec;
 
 use abt_headers::{OsParts, OsVersion};
 use abt_io::Output;
-use sys_text::Text;
 use cmd_common_fields::front_text;
 use cmd_common_texts::{Notation, put_number, put_two_digits};
+use sys_text::Text;
 
 /// Adds `0x` and the eight hexadecimal digits of a number.
 pub(crate) fn put_low<O: Output>(number: u32, text: &mut Text<'_, O>)

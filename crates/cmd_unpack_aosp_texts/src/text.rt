@@ -38,10 +38,10 @@ pub fn write_aosp_text<S: Source, O: Output>(
 ) -> Result<(), SectionFault>
     ensures leaves { info.WritesImage result S.Source source.old source.new O.Output out.old out.new }
     // exactly the text of the image's header and of its fragments was written
-    ensures written { IsTrue S.tells → OnOk result (O.written out.new ≡ O.written out.old ++ spec.aosp_text which
+    ensures written { IsTrue S.models → OnOk result (O.written out.new ≡ O.written out.old ++ spec.aosp_text which
         folder.now (S.content source.old) (view_of image.now.header)) }
     // it is refused since a device failed
-    ensures refused { IsTrue S.tells → IsOpened (S.content source.old) image.now →
+    ensures refused { IsTrue S.models → IsOpened (S.content source.old) image.now →
         IfErr result (λ f. info.PrintCause f (S.read_faults source.old) (S.read_faults source.new)) }
 {
     let mut text = Text::new(out);
@@ -63,7 +63,7 @@ fn image_text<S: Source, O: Output>(
     m: &mut Meter,
 ) -> Result<(), SectionFault>
     ensures leaves { info.PrintsImage result S.Source source.old source.new O.Output text.old text.new image.now }
-    ensures lines { IsTrue S.tells → OnOk result (Prints O.written O.write_faults text.old text.new
+    ensures lines { IsTrue S.models → OnOk result (Prints O.written O.write_faults text.old text.new
         (spec.aosp_text which folder.now (S.content source.old) (view_of image.now.header))) }
 {
     put_front(&image.header, which, folder, text);
@@ -113,7 +113,7 @@ fn put_fragments<S: Source, O: Output>(
     m: &mut Meter,
 ) -> Result<(), SectionFault>
     ensures leaves { info.PrintsImage result S.Source source.old source.new O.Output text.old text.new image.now }
-    ensures lines { IsTrue S.tells → OnOk result (Prints O.written O.write_faults text.old text.new
+    ensures lines { IsTrue S.models → OnOk result (Prints O.written O.write_faults text.old text.new
         (spec.fragment_texts which folder.now (S.content source.old) (view_of image.now.header)
         (fragment_count (view_of image.now.header)))) }
 {

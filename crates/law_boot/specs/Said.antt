@@ -7,7 +7,7 @@ use Rattle.abt_headers.specs.declared.boot.ShortFront.{ShortFront}
 use Rattle.abt_headers.specs.declared.boot.BootHeader.{BootHeader}
 use Rattle.abt_headers.specs.declared.boot.BootHeader.TheVariants.{V0, V1, V2, V3, V4}
 use Rattle.abt_headers.specs.declared.os.OsParts.{OsParts}
-use Rattle.abt_headers.specs.declared.sections.Place.{Place}
+use Rattle.abt_headers.specs.declared.sections.SectionPlace.{SectionPlace}
 use Rattle.abt_headers.specs.declared.sections.Section.{Section}
 use Rattle.abt_headers.specs.Os.{IsOsVersion, os_raw}
 use Rattle.abt_headers.specs.Page.{page_bytes}
@@ -132,7 +132,7 @@ abbrev pub SaysFile : List (List ℕ) → List ℕ → Option (List ℕ) → Sec
 SaysFile words folder None section = Unit {0}
 SaysFile words folder (Some name) section = SaysText words name (folder ++ (codes "/" ++ section_name section))
 
-abbrev pub SaysFiles : List (List ℕ) → List ℕ → Bool → List Place → Type 0
+abbrev pub SaysFiles : List (List ℕ) → List ℕ → Bool → List SectionPlace → Type 0
 SaysFiles words folder table [] = Unit {0}
 SaysFiles words folder table (p ∷ ps) =
     SaysFile words folder (section_option table p.kind) p.kind × SaysFiles words folder table ps

@@ -5,7 +5,7 @@ use Rattle.std.specs.List.{AllByRecursion, AllZip}
 use Rattle.std.specs.Prelude.{is_some}
 use Rattle.abt_headers.specs.declared.boot.BootHeader.{BootHeader}
 use Rattle.abt_headers.specs.declared.boot.BootHeader.TheVariants.{V0, V1, V2, V3, V4}
-use Rattle.abt_headers.specs.declared.sections.Place.{Place}
+use Rattle.abt_headers.specs.declared.sections.SectionPlace.{SectionPlace}
 use Rattle.abt_headers.specs.declared.sections.Section.TheVariants.{Dtb}
 use Rattle.abt_headers.specs.declared.vendor.VendorFront.{VendorFront}
 use Rattle.abt_headers.specs.Vendor.{Tail, Vendor}
@@ -32,7 +32,7 @@ use Rattle.cmd_common_boot.specs.Refused as rules
 use Rattle.cmd_common_boot.specs.declared.pack_command.PackCommand.{PackCommand}
 use Rattle.cmd_common_boot.specs.Boards.{AreSet}
 use Rattle.cmd_common_boot.specs.declared.pack_texts.OptionText.{OptionText}
-use Rattle.cmd_common_boot.specs.declared.part_names.Part.TheVariants as files
+use Rattle.cmd_common_boot.specs.declared.part_names.ImagePart.TheVariants as files
 use Rattle.law_boot.specs.Said.{IsHeld, SaysFiles, boot_fields_of, is_said, value_of, values_of, vendor_fields_of}
 use Rattle.law_boot.specs.Said.{without_board}
 use Rattle.law_boot.specs.WayBack.{PacksFromParts, PacksBoot, PacksVendor, SaysImage, boot_parts_of, ramdisks_of}
@@ -93,7 +93,7 @@ module _ (folder x : List ℕ) (h : Header) (command : PackCommand) (world : Wor
               (found options (codes "tags-offset")) (found options (codes "dtb-offset")) kernel ramdisk second tags dtb;
         }
 
-    parts_ready : (table : Bool) (places : List Place) (parts : List (List ℕ)) → AllByRecursion (IsListed table) places
+    parts_ready : (table : Bool) (places : List SectionPlace) (parts : List (List ℕ)) → AllByRecursion (IsListed table) places
         → SaysFiles (image_words folder x h) folder table places
         → AllByRecursion (λ p. FileHolds world (path_of_part folder (section_part p)) (part_of x p)) places
         → ArePartsOf world command.texts.options.items nothing (map (λ p. p.kind) places) parts
@@ -212,7 +212,7 @@ module _ (folder x : List ℕ) (f : VendorFront) (t : Tail) (command : PackComma
       let items = command.texts.fragments.items in
       let asked = vendor_asked folder x four command world r bytes p in
       let ps = places_of h in
-      let none : Place = record { kind = Dtb; at = 0; size = 0 } in
+      let none : SectionPlace = record { kind = Dtb; at = 0; size = 0 } in
       let s = r.sections in
       let said = r.says.files in
       let parts : p.packing.parts ≡ vendor_part x four 1 ∷ vendor_part x four 3 ∷ [] =

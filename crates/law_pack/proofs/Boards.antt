@@ -11,7 +11,7 @@ use Rattle.abt_sections.specs.declared.spec.FragmentSpec.{FragmentSpec}
 use Rattle.cmd_common_fields.specs.declared.board_word.BoardWord.{BoardWord}
 use Rattle.cmd_common_boot.specs.Boards.{AreSet, with_board, with_fragment}
 use Rattle.law_boot.specs.Said.{AreBoards, board_id_of, number_after, without_board}
-use Rattle.law_pack.proofs.Cuts.{board_once}
+use Rattle.law_pack.proofs.PackedCuts.{board_once}
 
 -- ---- what the words set
 

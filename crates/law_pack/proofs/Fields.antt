@@ -13,7 +13,7 @@ use Rattle.cmd_common_boot.specs.declared.pack_texts.OptionText.{OptionText}
 use Rattle.law_boot.specs.Said.{SaysBoot, SaysOs, SaysOsWord, SaysVendor, value_of}
 use Rattle.cmd_pack.specs.Filling.{address_where, loaded_at, ramdisk_in, second_in}
 use Rattle.law_pack.specs.Said.{GivesText}
-use Rattle.law_pack.proofs.Cuts.{os_once}
+use Rattle.law_pack.proofs.PackedCuts.{os_once}
 use Rattle.law_pack.proofs.Options.{Gives, Orders, address_or_0, no_sum, one_given, said_address, said_number}
 use Rattle.law_pack.proofs.Options.{said_or_none, said_text, unsaid_number}
 

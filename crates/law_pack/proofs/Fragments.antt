@@ -9,7 +9,7 @@ use Rattle.sys_disk.specs.World.{World}
 use Rattle.sys_disk.specs.Among.{FileHolds}
 use Rattle.cmd_unpack.specs.Unpacking.{path_of_part}
 use Rattle.cmd_common_boot.specs.declared.pack_texts.FragmentText.{FragmentText}
-use Rattle.cmd_common_boot.specs.declared.part_names.Part.TheVariants as files
+use Rattle.cmd_common_boot.specs.declared.part_names.ImagePart.TheVariants as files
 use Rattle.law_boot.specs.Said.{SaysEach, without_board}
 use Rattle.law_boot.specs.WayBack.{ramdisks_of, spec_of, specs_of}
 use Rattle.cmd_pack_inputs.specs.Parts.{AreFragmentsOf}

@@ -1,6 +1,6 @@
 pub mod Again
 pub mod Boards
-pub mod Cuts
+pub mod PackedCuts
 pub mod Fields
 pub mod Fragments
 pub mod Lines

@@ -13,7 +13,7 @@ use Rattle.std.specs.Str.Lines.{lines, lines_of_parts, strip_carriage_return}
 use Rattle.hex.specs.Hex.{encode_with, lower_digits}
 use Rattle.abt_io.specs.Bytes.{AreBytes}
 use Rattle.abt_headers.specs.declared.os.OsParts.{OsParts}
-use Rattle.abt_headers.specs.declared.sections.Place.{Place}
+use Rattle.abt_headers.specs.declared.sections.SectionPlace.{SectionPlace}
 use Rattle.abt_headers.specs.declared.sections.Section.{Section}
 use Rattle.abt_headers.specs.declared.sections.Section.TheVariants.{Kernel, Ramdisk, Second, RecoveryDtbo, Dtb}
 use Rattle.abt_headers.specs.declared.sections.Section.TheVariants.{Signature, VendorRamdisk, Table, Bootconfig}
@@ -215,7 +215,7 @@ module _ (folder : List ℕ) (bytes : AreBytes folder) where
   section_lines table Bootconfig =
       (part_line (option_of Bootconfig) folder (section_name Bootconfig) bytes refl refl, tt)
 
-  all_sections : (table : Bool) (places : List Place) → AreLines (flat_map (section_words folder table) places)
+  all_sections : (table : Bool) (places : List SectionPlace) → AreLines (flat_map (section_words folder table) places)
   all_sections table [] = tt
   all_sections table (p ∷ places) =
       subst AreLines (sym (flat_map-cons (section_words folder table) p places))

@@ -3,7 +3,7 @@ use Rattle.std.proofs.Common.{◌≡◌, ℕ, ◌<◌, Bool, true, List, [], ◌
 use Rattle.std.proofs.Common.{codes, refl, sym, ap, subst, ◌∙◌, zero, suc, arith}
 use Rattle.std.specs.List.{AllByRecursion}
 use Rattle.abt_headers.specs.Places.{section_name}
-use Rattle.abt_headers.specs.declared.sections.Place.{Place}
+use Rattle.abt_headers.specs.declared.sections.SectionPlace.{SectionPlace}
 use Rattle.abt_headers.specs.declared.sections.Section.{Section}
 use Rattle.abt_headers.specs.declared.sections.Section.TheVariants.{Kernel, Ramdisk, Second, RecoveryDtbo, Dtb}
 use Rattle.abt_headers.specs.declared.sections.Section.TheVariants.{Signature, VendorRamdisk, Table, Bootconfig}
@@ -14,7 +14,7 @@ use Rattle.cmd_unpack.specs.Unpacking.{path_of_part, section_part}
 use Rattle.cmd_common_fields.specs.Options.{option_of}
 use Rattle.cmd_common_boot.specs.Given.{found}
 use Rattle.cmd_common_boot.specs.declared.pack_texts.OptionText.{OptionText}
-use Rattle.cmd_common_boot.specs.declared.part_names.Part.TheVariants as files
+use Rattle.cmd_common_boot.specs.declared.part_names.ImagePart.TheVariants as files
 use Rattle.law_boot.specs.Said.{SaysFile, SaysFiles, SaysText, value_of}
 use Rattle.cmd_common_texts.specs.Words.{section_option}
 use Rattle.cmd_pack.specs.Packing.{nothing}
@@ -27,8 +27,8 @@ pub same_bytes : (world : World) (path a b : List ℕ) → FileHolds world path 
 same_bytes world path a b f g = sym f.holds ∙ ap world.holds (same_number f.file g.file (sym f.there ∙ g.there))
     ∙ g.holds
 
-pub each_place : (P : Place → Type 0) (ps : List Place)
-    → ((i : ℕ) (p : Place) → i < length ps → p ≡ slice_index_or ps i p → P p) → AllByRecursion P ps
+pub each_place : (P : SectionPlace → Type 0) (ps : List SectionPlace)
+    → ((i : ℕ) (p : SectionPlace) → i < length ps → p ≡ slice_index_or ps i p → P p) → AllByRecursion P ps
 each_place P [] h = tt
 each_place P (p ∷ ps) h = (h 0 p (omega arith) refl, each_place P ps (λ i q l e. h (suc i) q (omega (arith, l)) e))
 
@@ -38,7 +38,7 @@ HasOption Table = ⊥
 HasOption section = Unit {0}
 
 -- and that the words give by it
-abbrev pub IsListed : Bool → Place → Type 0
+abbrev pub IsListed : Bool → SectionPlace → Type 0
 IsListed table p = HasOption p.kind × (section_option table p.kind ≡ Some (option_of p.kind))
 
 module _ (words : List (List ℕ)) (options : List OptionText) (orders : Orders words options) where
@@ -68,7 +68,7 @@ module _ (words : List (List ℕ)) (options : List OptionText) (orders : Orders 
         same_bytes world (path_of_part folder (files.Section section)) part own
         (subst (λ (p : List ℕ). FileHolds world p part) path file) holds
 
-    pub parts_are : (table : Bool) (places : List Place) (parts : List (List ℕ))
+    pub parts_are : (table : Bool) (places : List SectionPlace) (parts : List (List ℕ))
         → AllByRecursion (IsListed table) places → SaysFiles words folder table places
         → AllByRecursion (λ p. FileHolds world (path_of_part folder (section_part p)) (part_of x p)) places
         → ArePartsOf world options nothing (map (λ p. p.kind) places) parts → parts ≡ map (part_of x) places

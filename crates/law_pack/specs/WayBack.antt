@@ -7,7 +7,7 @@ use Rattle.sys_disk.specs.World.{World}
 use Rattle.words_values.specs.WordFile.{words_of}
 use Rattle.sys_disk.specs.Among.{FileHolds}
 use Rattle.cmd_unpack.specs.Unpacking.{Unpacks, path_of_part}
-use Rattle.cmd_common_boot.specs.declared.part_names.Part.TheVariants as parts
+use Rattle.cmd_common_boot.specs.declared.part_names.ImagePart.TheVariants as parts
 use Rattle.cmd_common_boot.specs.declared.pack_command.PackCommand.{PackCommand}
 use Rattle.cmd_pack.specs.Packing.{PacksFile}
 use Rattle.law_pack.specs.Said.{SaysCommand}

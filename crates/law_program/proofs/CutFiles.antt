@@ -5,14 +5,14 @@ use Rattle.std.proofs.lemmas.List.{drop_all, drop_more}
 use Rattle.abt_sparse.specs.Block.{Block, expansion}
 use Rattle.abt_sparse.specs.Chunk.{classed}
 use Rattle.abt_sparse.specs.Pieces.{flashed, pieces}
-use Rattle.sys_disk.specs.World.{World, Held}
+use Rattle.sys_disk.specs.World.{World, OpenFiles}
 use Rattle.cmd_common_sparse.specs.PieceNames.{Naming}
 use Rattle.cmd_cut.specs.Cutting.{IsPiecePath, PiecesStand}
 use Rattle.sys_disk.specs.Among.{IsAmong}
 use Rattle.cmd_expand.specs.Overlaying.{LeadTo}
 use Rattle.law_program.specs.InTurn.{CutsInTurn, CutThenExpanded, CutThenFlashed, HoldPieces, IsCuttable, IsNoPiece}
 use Rattle.law_program.specs.InTurn.{piece_paths}
-use Rattle.law_program.proofs.Cuts.{expanded_together, flashed_in_turn_are}
+use Rattle.law_program.proofs.ProgramCuts.{expanded_together, flashed_in_turn_are}
 
 -- the files of the pieces behind j others
 record Files (names : Naming) (ps : List (List ℕ)) (j k : ℕ) (w : World) : Type 0 where
@@ -20,7 +20,7 @@ record Files (names : Naming) (ps : List (List ℕ)) (j k : ℕ) (w : World) : T
   lead : LeadTo w (piece_paths names (j + 1) k) files
   hold : map w.holds files ≡ drop j ps
 
-files_of : (names : Naming) (ps : List (List ℕ)) (n j k : ℕ) (held : Held) (w : World) → n ≡ length ps → j + k ≡ n
+files_of : (names : Naming) (ps : List (List ℕ)) (n j k : ℕ) (held : OpenFiles) (w : World) → n ≡ length ps → j + k ≡ n
     → PiecesStand names ps n held w → Files names ps j k w
 files_of names ps n j zero held w all e stand =
     record { files = []; lead = refl; hold = sym (drop_all j ps (omega (arith, all, e))) }
@@ -37,7 +37,7 @@ files_of names ps n j (suc k) held w all e stand =
           ∙ ap (λ l. get_or ps j [] ∷ l) rest.hold ∙ sym more;
     }
 
-abbrev cuttable : (limit : ℕ) (input : List ℕ) (names : Naming) (held held' : Held) (a b : World)
+abbrev cuttable : (limit : ℕ) (input : List ℕ) (names : Naming) (held held' : OpenFiles) (a b : World)
     (cut : CutsInTurn limit input names held held' a b)
     → IsCuttable limit (a.holds cut.done.from)
 cuttable limit input names held held' a b cut =
@@ -51,7 +51,7 @@ cuttable limit input names held held' a b cut =
       low = cut.low;
     }
 
-held_pieces : (limit : ℕ) (input : List ℕ) (names : Naming) (held held' : Held) (a b : World)
+held_pieces : (limit : ℕ) (input : List ℕ) (names : Naming) (held held' : OpenFiles) (a b : World)
     (cut : CutsInTurn limit input names held held' a b)
     → HoldPieces limit (a.holds cut.done.from) (cuttable limit input names held held' a b cut)
     (piece_paths names 1 cut.done.count) b

@@ -1,3 +1,3 @@
 pub mod Chains
 pub mod CutFiles
-pub mod Cuts
+pub mod ProgramCuts

@@ -4,7 +4,7 @@ use Rattle.abt_sparse.specs.Block.{Block, expansion}
 use Rattle.abt_sparse.specs.Chunk.{Header, Chunk, classed}
 use Rattle.abt_sparse.specs.Fails.{Spells}
 use Rattle.abt_sparse.specs.Pieces.{flashed, pieces}
-use Rattle.sys_disk.specs.World.{World, Held}
+use Rattle.sys_disk.specs.World.{World, OpenFiles}
 use Rattle.cmd_common_sparse.specs.PieceNames.{Naming}
 use Rattle.cmd_cut.specs.Cutting.{CutsFile, IsPiecePath, path_in_turn, piece_path}
 use Rattle.sys_disk.specs.Among.{OnlyAmong}
@@ -57,7 +57,7 @@ piece_paths names first zero = []
 piece_paths names first (suc n) = path_in_turn names first ∷ piece_paths names (first + 1) n
 
 -- `cut` of a sparse image was done, and only files under its names were changed
-pub record CutsInTurn (limit : ℕ) (input : List ℕ) (names : Naming) (held held' : Held) (old new : World)
+pub record CutsInTurn (limit : ℕ) (input : List ℕ) (names : Naming) (held held' : OpenFiles) (old new : World)
     : Type 0 where
   pub done : CutsFile None limit input names held held' old new (λ size blocks. Unit {0})
   pub only : OnlyAmong (IsPiecePath names.prefix) held.read held'.begun old new
@@ -70,14 +70,14 @@ IsNoPiece prefix world file = (n : ℕ) → ¬ (world.at (piece_path prefix n) �
 -- An image is cut, and each piece is flashed to a partition, which is no piece, by a command of its own: it holds then
 -- what flashing the image leaves of what it held before.
 abbrev pub CutThenFlashed : Type 0
-CutThenFlashed = (limit : ℕ) (input partition : List ℕ) (names : Naming) (held held' : Held) (a b c : World) (onto : ℕ)
+CutThenFlashed = (limit : ℕ) (input partition : List ℕ) (names : Naming) (held held' : OpenFiles) (a b c : World) (onto : ℕ)
     (cut : CutsInTurn limit input names held held' a b) → a.at partition ≡ Some onto → IsNoPiece names.prefix b onto
     → FlashesEach partition (piece_paths names 1 cut.done.count) b c
     → c.holds onto ≡ flashed (a.holds onto) (a.holds cut.done.from)
 
 -- An image is cut, and its pieces are expanded together: OUT holds the expansion of the image.
 abbrev pub CutThenExpanded : Type 0
-CutThenExpanded = (limit : ℕ) (input output : List ℕ) (names : Naming) (held held' : Held) (a b c : World)
+CutThenExpanded = (limit : ℕ) (input output : List ℕ) (names : Naming) (held held' : OpenFiles) (a b c : World)
     (cut : CutsInTurn limit input names held held' a b)
     (out : OverlaysFiles (piece_paths names 1 cut.done.count) output b c (λ line. Unit {0}))
     → c.holds out.onto ≡ expansion cut.done.size cut.done.blocks

@@ -69,7 +69,7 @@ fn fragments_fit(fragments: &[FragmentSpec], m: &mut Meter)
 /// opened and is canonical.
 pub fn boot_input<S: Source>(spec: &BootSpec, parts: &[S])
     requires { length parts.now ≡ length (boot_names spec.now.version) }
-    ensures { IsTrue S.tells → pack_boot_refusal (cmd_common_fields spec.now) (map S.size parts.now) ≡ None →
+    ensures { IsTrue S.models → pack_boot_refusal (cmd_common_fields spec.now) (map S.size parts.now) ≡ None →
         IsBootInput (cmd_common_fields spec.now) (map S.content parts.now) }
 {
     boot_numbers(spec);
@@ -87,7 +87,7 @@ pub fn vendor_input<S: Source>(
     requires three { spec.now.version ≡ 3 → (length fragments.now ≡ 0) × (length ramdisks.now ≡ 1) ×
         (S.size bootconfig.now ≡ 0) }
     requires four { spec.now.version ≡ 4 → length fragments.now ≡ length ramdisks.now }
-    ensures { IsTrue S.tells → pack_vendor_refusal (vendor_fields spec.now)
+    ensures { IsTrue S.models → pack_vendor_refusal (vendor_fields spec.now)
         (vendor_sizes_for (total S.size ramdisks.now) (S.size dtb.now) (length fragments.now) (S.size bootconfig.now))
         ≡ None → IsVendorInput (vendor_fields spec.now) (vendor_parts fragments.now (map S.content ramdisks.now)
         (S.content dtb.now) (S.content bootconfig.now)) }

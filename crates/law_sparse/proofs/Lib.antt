@@ -1,5 +1,5 @@
 pub mod CutShortLaws
-pub mod Cuts
+pub mod SparseCuts
 pub mod Extra
 pub mod RawLaws
 pub mod Rows

@@ -10,18 +10,18 @@ ghost use Rattle.cmd_flash.specs.Files.{LeavesOthers};
 ghost use Rattle.cmd_flash.specs.Flashing.{FlashesFile, RefusesFlash};
 
 use abt_io::{Meter, Window};
-use sys_refusals::Place;
-use sys_report::Report;
+use cmd_common_sparse::SparseRefusal;
 use cmd_flash::flash_file;
 use mem_disk::MemoryDisk;
-use cmd_common_sparse::SparseRefusal;
+use sys_refusals::FileArg;
+use sys_report::Report;
 
 /// `flash` at a disk in memory.
 pub fn flash_in_memory<'a>(
     disk: &mut MemoryDisk,
     report: &mut Report,
-    input: Place<'a>,
-    partition: Place<'a>,
+    input: FileArg<'a>,
+    partition: FileArg<'a>,
     w: &mut Window,
     m: &mut Meter,
 ) -> Result<(), SparseRefusal<'a>>

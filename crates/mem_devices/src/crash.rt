@@ -63,7 +63,7 @@ impl<'a> CrashPartition<'a> {
 }
 
 impl<'a> Source for CrashPartition<'a> {
-    ghost tells = { true };
+    ghost models = { true };
 
     ghost content = { λ s. s.now.cells.bytes.now };
 

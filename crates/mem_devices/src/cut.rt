@@ -38,7 +38,7 @@ impl<D> Cut<D> {
 }
 
 impl<D: Input> Input for Cut<D> {
-    ghost tells = { D.tells };
+    ghost models = { D.models };
 
     ghost remaining = { λ c. D.remaining c.device };
 
@@ -55,7 +55,7 @@ impl<D: Input> Input for Cut<D> {
     fn read(&mut self, out: &mut [u8]) -> Result<usize, DeviceFault>
         requires { length out.old ≤ 65536 }
         ensures passed { PassesOnce ⟦<Cut<D> as Input>⟧ result self.old self.new (length out.new) }
-        ensures bytes { IsTrue D.tells → take (count_of result) out.new
+        ensures bytes { IsTrue D.models → take (count_of result) out.new
             ≡ take (count_of result) (D.remaining self.old.device) }
         ensures most { MovesAtMost (count_of result) self.old.most self.new.most }
     {
@@ -65,7 +65,7 @@ impl<D: Input> Input for Cut<D> {
 }
 
 impl<D: Source> Source for Cut<D> {
-    ghost tells = { D.tells };
+    ghost models = { D.models };
 
     ghost content = { λ c. D.content c.device };
 
@@ -152,7 +152,7 @@ impl<D: Partition> Partition for Cut<D> {
     fn write_at(&mut self, at: u64, bytes: &[u8]) -> Result<usize, DeviceFault>
         requires window { length bytes.now ≤ 65536 }
         requires fits { at + length bytes.now ≤ D.size self.old.device }
-        ensures laid { let p = ⟦<Cut<D> as Partition>⟧ in HasLaid p.tells p.content p.past result self.old self.new at bytes.now }
+        ensures laid { let p = ⟦<Cut<D> as Partition>⟧ in HasLaid p.models p.content p.past result self.old self.new at bytes.now }
         ensures put { let p = ⟦<Cut<D> as Partition>⟧ in HasPut p.size p.reads p.given p.read_faults p.puts p.taken
             p.syncs p.put_faults result self.old self.new (length bytes.now) }
         ensures most { MovesAtMost (count_of result) self.old.most self.new.most }

@@ -69,7 +69,7 @@ impl<D> Faulty<D> {
 }
 
 impl<D: Input> Input for Faulty<D> {
-    ghost tells = { D.tells };
+    ghost models = { D.models };
 
     ghost remaining = { λ c. D.remaining c.device };
 
@@ -86,7 +86,7 @@ impl<D: Input> Input for Faulty<D> {
     fn read(&mut self, out: &mut [u8]) -> Result<usize, DeviceFault>
         requires { length out.old ≤ 65536 }
         ensures passed { PassesOnce ⟦<Faulty<D> as Input>⟧ result self.old self.new (length out.new) }
-        ensures bytes { IsTrue D.tells → take (count_of result) out.new
+        ensures bytes { IsTrue D.models → take (count_of result) out.new
             ≡ take (count_of result) (D.remaining self.old.device) }
         ensures once { FailsOnce result self.old.at self.new.at self.old.seen self.new.seen self.old.reads.number
             self.new.reads.number }
@@ -147,7 +147,7 @@ impl<D: Overwrite> Overwrite for Faulty<D> {
 }
 
 impl<D: Source> Source for Faulty<D> {
-    ghost tells = { D.tells };
+    ghost models = { D.models };
 
     ghost content = { λ c. D.content c.device };
 
@@ -199,7 +199,7 @@ impl<D: Partition> Partition for Faulty<D> {
     fn write_at(&mut self, at: u64, bytes: &[u8]) -> Result<usize, DeviceFault>
         requires window { length bytes.now ≤ 65536 }
         requires fits { at + length bytes.now ≤ D.size self.old.device }
-        ensures laid { let p = ⟦<Faulty<D> as Partition>⟧ in HasLaid p.tells p.content p.past result self.old self.new at bytes.now }
+        ensures laid { let p = ⟦<Faulty<D> as Partition>⟧ in HasLaid p.models p.content p.past result self.old self.new at bytes.now }
         ensures put { let p = ⟦<Faulty<D> as Partition>⟧ in HasPut p.size p.reads p.given p.read_faults p.puts p.taken
             p.syncs p.put_faults result self.old self.new (length bytes.now) }
         ensures once { FailsOnce result self.old.at self.new.at self.old.seen self.new.seen self.old.writes.number
@@ -213,7 +213,7 @@ impl<D: Partition> Partition for Faulty<D> {
     }
 
     fn sync(&mut self) -> Result<(), DeviceFault>
-        ensures settled { let p = ⟦<Faulty<D> as Partition>⟧ in HasSettled p.tells p.content p.past result self.old self.new }
+        ensures settled { let p = ⟦<Faulty<D> as Partition>⟧ in HasSettled p.models p.content p.past result self.old self.new }
         ensures synced { let p = ⟦<Faulty<D> as Partition>⟧ in HasSynced p.size p.reads p.given p.read_faults p.puts p.taken
             p.syncs p.put_faults result self.old self.new }
         ensures once { FailsOnce result self.old.at self.new.at self.old.seen self.new.seen self.old.others.number

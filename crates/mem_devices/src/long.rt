@@ -25,7 +25,7 @@ impl<S> Long<S> {
 }
 
 impl<S: Source> Source for Long<S> {
-    ghost tells = { false };
+    ghost models = { false };
 
     ghost content = { λ _. [] };
 

@@ -40,7 +40,7 @@ impl<'a> SlicePartition<'a> {
 }
 
 impl<'a> Source for SlicePartition<'a> {
-    ghost tells = { true };
+    ghost models = { true };
 
     ghost content = { λ s. s.cells.bytes.now };
 
@@ -93,7 +93,7 @@ impl<'a> Partition for SlicePartition<'a> {
     fn write_at(&mut self, at: u64, bytes: &[u8]) -> Result<usize, DeviceFault>
         requires window { length bytes.now ≤ 65536 }
         requires fits { at + length bytes.now ≤ length self.old.cells.bytes.now }
-        ensures laid { let p = ⟦<SlicePartition<'a> as Partition>⟧ in HasLaid p.tells p.content p.past result
+        ensures laid { let p = ⟦<SlicePartition<'a> as Partition>⟧ in HasLaid p.models p.content p.past result
             self.old self.new at bytes.now }
         ensures put { let p = ⟦<SlicePartition<'a> as Partition>⟧ in HasPut p.size p.reads p.given
             p.read_faults p.puts p.taken p.syncs p.put_faults result self.old self.new (length bytes.now) }
@@ -112,7 +112,7 @@ impl<'a> Partition for SlicePartition<'a> {
     }
 
     fn sync(&mut self) -> Result<(), DeviceFault>
-        ensures settled { let p = ⟦<SlicePartition<'a> as Partition>⟧ in HasSettled p.tells p.content p.past
+        ensures settled { let p = ⟦<SlicePartition<'a> as Partition>⟧ in HasSettled p.models p.content p.past
             result self.old self.new }
         ensures synced { let p = ⟦<SlicePartition<'a> as Partition>⟧ in HasSynced p.size p.reads p.given
             p.read_faults p.puts p.taken p.syncs p.put_faults result self.old self.new }

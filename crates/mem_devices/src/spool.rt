@@ -56,7 +56,7 @@ impl<'a> SliceSpool<'a> {
 }
 
 impl<'a> Input for SliceSpool<'a> {
-    ghost tells = { true };
+    ghost models = { true };
 
     ghost remaining = { λ s. drop s.seen (take s.used s.cells.bytes.now) };
 

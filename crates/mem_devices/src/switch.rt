@@ -63,7 +63,7 @@ impl<'a> SwitchSource<'a> {
 }
 
 impl<'a> Source for SwitchSource<'a> {
-    ghost tells = { false };
+    ghost models = { false };
 
     ghost content = { λ _. [] };
 

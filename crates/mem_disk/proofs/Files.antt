@@ -13,7 +13,7 @@ use Rattle.mem_disk.specs.Memory.{CountsFailed}
 use Rattle.sys_disk.specs.DiskCalls.{CreatesOutput}
 use Rattle.sys_disk.specs.Images.{HoldsSame}
 use Rattle.sys_disk.specs.World.{World, Spares, Ends, SparesRest, OnlyAt, untouched, in_output, KeepsBegun}
-use Rattle.sys_disk.specs.World.{Held, failing}
+use Rattle.sys_disk.specs.World.{OpenFiles, failing}
 use Rattle.mem_disk.specs.declared.disk.MemoryDisk.{MemoryDisk}
 use Rattle.mem_disk.specs.declared.disk.MemoryFile.{MemoryFile}
 use Rattle.mem_disk.specs.declared.disk.MemoryPath.{MemoryPath}
@@ -185,7 +185,7 @@ refuses_at path path' old old' new held same e refused = record {
   kept = refused.kept ∙ sym held;
   only = subst (λ p. OnlyAt old'.read.items p (world_of old') (world_of new)) e
       (subst (λ w. OnlyAt old'.read.items path w (world_of new)) (sym same)
-      (subst (λ (h : Held). OnlyAt h.read path (world_of old) (world_of new)) (sym held) refused.only));
+      (subst (λ (h : OpenFiles). OnlyAt h.read path (world_of old) (world_of new)) (sym held) refused.only));
   same = λ f. refused.same f ∙ ap (λ w. w.holds f) (sym same);
 }
 

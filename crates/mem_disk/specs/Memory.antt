@@ -2,7 +2,7 @@
 use Rattle.std.specs.Prelude.{◌≡◌, ℕ, ◌<◌, ◌≤◌, ◌-◌, List, [], ◌∷◌, Option, Some, None, Contains, cond}
 use Rattle.std.specs.Prelude.{bytes_eq, string_bytes, map, get_or, Result, IfOk, OnOk, OnErr, length, take, drop}
 use Rattle.sys_disk.specs.Images.{HoldsSame}
-use Rattle.sys_disk.specs.World.{World, Held, Spares, OpensFile, Creates, OnlyAt, failing}
+use Rattle.sys_disk.specs.World.{World, OpenFiles, Spares, OpensFile, Creates, OnlyAt, failing}
 use Rattle.mem_disk.specs.declared.disk.MemoryDisk.{MemoryDisk}
 use Rattle.mem_disk.specs.declared.disk.MemoryFile.{MemoryFile}
 use Rattle.mem_disk.specs.declared.disk.MemoryPath.{MemoryPath}
@@ -24,7 +24,7 @@ world_of_files paths files = record { at = leads paths; holds = λ f. get_or (co
 abbrev pub world_of : MemoryDisk → World
 world_of d = world_of_files d.paths.items d.files.items
 
-abbrev pub held_of : MemoryDisk → Held
+abbrev pub held_of : MemoryDisk → OpenFiles
 held_of d = record {
   read = d.read.items;
   begun = d.begun.items;
@@ -37,12 +37,12 @@ held_of d = record {
 }
 
 -- this file more is written, as an output or in any other way
-abbrev pub with_file_begun : ℕ → Held → Held
+abbrev pub with_file_begun : ℕ → OpenFiles → OpenFiles
 with_file_begun file h = record h { begun = file ∷ h.begun }
 
 -- the file at this path was created or emptied, and holds these bytes: none that is read or was begun, and all others
 -- are as before
-pub record Starts (file : ℕ) (path bytes : List ℕ) (held held' : Held) (old new : World) : Type 0 where
+pub record Starts (file : ℕ) (path bytes : List ℕ) (held held' : OpenFiles) (old new : World) : Type 0 where
   pub begins : held' ≡ with_file_begun file held
   pub there : new.at path ≡ Some file
   pub free : ¬ Contains held.read file

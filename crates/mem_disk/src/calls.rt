@@ -8,9 +8,9 @@ use crate::image::torn;
 use crate::{
     MemoryDisk, MemoryImage, MemoryInput, MemoryOutput, MemoryPartition, MemorySource, MemorySpool,
 };
-use sys_disk::{Disk, ImageTo};
-use sys_refusals::{HostFault, HostRefusal, Place};
 use std::alloc::AllocError;
+use sys_disk::{Disk, ImageTo};
+use sys_refusals::{FileArg, HostFault, HostRefusal};
 
 impl Disk for MemoryDisk {
     type From = MemoryInput;
@@ -19,13 +19,13 @@ impl Disk for MemoryDisk {
 
     type At = MemorySource;
 
-    type Part = MemoryPartition;
+    type InPlace = MemoryPartition;
 
     type Image = MemoryImage;
 
     type Through = MemorySpool;
 
-    ghost tells = { true };
+    ghost models = { true };
 
     ghost world = { world_of };
 
@@ -43,21 +43,21 @@ impl Disk for MemoryDisk {
 
     ghost through_told = { λ t. t };
 
-    fn input<'a>(&mut self, place: Place<'a>) -> Result<MemoryInput, HostRefusal<'a>> {
+    fn input<'a>(&mut self, place: FileArg<'a>) -> Result<MemoryInput, HostRefusal<'a>> {
         match self.input_at(place) {
             Ok(from) => Ok(from),
             Err(refusal) => Err(self.refused(refusal)),
         }
     }
 
-    fn source<'a>(&mut self, place: Place<'a>) -> Result<MemorySource, HostRefusal<'a>> {
+    fn source<'a>(&mut self, place: FileArg<'a>) -> Result<MemorySource, HostRefusal<'a>> {
         match self.source_at(place) {
             Ok(at) => Ok(at),
             Err(refusal) => Err(self.refused(refusal)),
         }
     }
 
-    fn ahead<'a>(&mut self, place: Place<'a>) -> Result<MemorySource, HostRefusal<'a>> {
+    fn ahead<'a>(&mut self, place: FileArg<'a>) -> Result<MemorySource, HostRefusal<'a>> {
         match self.source_at(place) {
             Ok(at) => Ok(at),
             Err(refusal) => Err(self.refused(refusal)),
@@ -67,7 +67,7 @@ impl Disk for MemoryDisk {
     fn again<'a>(
         &mut self,
         at: &MemorySource,
-        place: Place<'a>,
+        place: FileArg<'a>,
     ) -> Result<MemorySource, HostRefusal<'a>> {
         match self.again_at(at, place) {
             Ok(again) => Ok(again),
@@ -75,7 +75,7 @@ impl Disk for MemoryDisk {
         }
     }
 
-    fn text<'a>(&mut self, place: Place<'a>) -> Result<String, HostRefusal<'a>> {
+    fn text<'a>(&mut self, place: FileArg<'a>) -> Result<String, HostRefusal<'a>> {
         match self.text_at(place) {
             Ok(text) => Ok(text),
             Err(refusal) => Err(self.refused(refusal)),
@@ -90,7 +90,7 @@ impl Disk for MemoryDisk {
         self.add_failures(&at.failed);
     }
 
-    fn partition<'a>(&mut self, place: Place<'a>) -> Result<MemoryPartition, HostRefusal<'a>> {
+    fn partition<'a>(&mut self, place: FileArg<'a>) -> Result<MemoryPartition, HostRefusal<'a>> {
         match self.partition_at(place) {
             Ok(part) => Ok(part),
             Err(refusal) => Err(self.refused(refusal)),
@@ -116,7 +116,7 @@ impl Disk for MemoryDisk {
     fn close<'a>(
         &mut self,
         part: MemoryPartition,
-        place: Place<'a>,
+        place: FileArg<'a>,
     ) -> Result<bool, HostRefusal<'a>> {
         self.put_back(part);
         if self.faults.calls.is_over() {
@@ -128,7 +128,7 @@ impl Disk for MemoryDisk {
 
     fn zeros<'a>(
         &mut self,
-        place: Place<'a>,
+        place: FileArg<'a>,
         bytes: u64,
     ) -> Result<MemoryPartition, HostRefusal<'a>> {
         match self.zeros_at(place, bytes) {
@@ -139,7 +139,7 @@ impl Disk for MemoryDisk {
 
     fn spool<'a>(
         &mut self,
-        place: Place<'a>,
+        place: FileArg<'a>,
         limit: u32,
         _keeping: bool,
         _from: &MemorySource,
@@ -153,7 +153,7 @@ impl Disk for MemoryDisk {
     fn close_spool<'a>(
         &mut self,
         through: MemorySpool,
-        place: Place<'a>,
+        place: FileArg<'a>,
     ) -> Result<bool, HostRefusal<'a>> {
         self.add_failures(&through.write_failures);
         self.add_failures(&through.read_failures);
@@ -166,32 +166,32 @@ impl Disk for MemoryDisk {
         Ok(false)
     }
 
-    fn is_there<'a>(&self, place: Place<'a>) -> Result<bool, HostRefusal<'a>> {
+    fn is_there<'a>(&self, place: FileArg<'a>) -> Result<bool, HostRefusal<'a>> {
         match place.path(self.alloc) {
             Ok(path) => Ok(self.file_at(path.as_str()).is_some()),
             Err(_) => Err(HostRefusal::memory()),
         }
     }
 
-    fn left_over(&self, place: Place<'_>, behind: u32) -> Result<Option<u32>, AllocError> {
+    fn left_over(&self, place: FileArg<'_>, behind: u32) -> Result<Option<u32>, AllocError> {
         self.next_left(place, behind)
     }
 
-    fn refuse_taken<'a>(&mut self, place: Place<'a>) -> Result<(), HostRefusal<'a>> {
+    fn refuse_taken<'a>(&mut self, place: FileArg<'a>) -> Result<(), HostRefusal<'a>> {
         match self.refuse_taken_at(place) {
             Ok(()) => Ok(()),
             Err(refusal) => Err(self.refused(refusal)),
         }
     }
 
-    fn plain<'a>(&mut self, place: Place<'a>) -> Result<MemoryOutput, HostRefusal<'a>> {
+    fn plain<'a>(&mut self, place: FileArg<'a>) -> Result<MemoryOutput, HostRefusal<'a>> {
         match self.plain_at(place) {
             Ok(onto) => Ok(onto),
             Err(refusal) => Err(self.refused(refusal)),
         }
     }
 
-    fn raw<'a>(&mut self, place: Place<'a>) -> Result<MemoryOutput, HostRefusal<'a>> {
+    fn raw<'a>(&mut self, place: FileArg<'a>) -> Result<MemoryOutput, HostRefusal<'a>> {
         match self.raw_at(place) {
             Ok(onto) => Ok(onto),
             Err(refusal) => Err(self.refused(refusal)),
@@ -201,7 +201,7 @@ impl Disk for MemoryDisk {
     fn finish<'a>(
         &mut self,
         onto: MemoryOutput,
-        place: Place<'a>,
+        place: FileArg<'a>,
     ) -> Result<bool, HostRefusal<'a>> {
         self.add_failures(&onto.failed);
         let is_there = self.put(onto.bytes);
@@ -222,7 +222,7 @@ impl Disk for MemoryDisk {
 
     fn image<'a>(
         &mut self,
-        place: Place<'a>,
+        place: FileArg<'a>,
         _is_gathered: bool,
     ) -> Result<ImageTo<MemoryImage, MemoryOutput>, HostRefusal<'a>> {
         match self.image_at(place) {
@@ -234,7 +234,7 @@ impl Disk for MemoryDisk {
     fn finish_image<'a>(
         &mut self,
         image: MemoryImage,
-        place: Place<'a>,
+        place: FileArg<'a>,
     ) -> Result<bool, HostRefusal<'a>> {
         self.add_failures(&image.failed);
         let is_over = self.faults.calls.is_over();

@@ -9,11 +9,11 @@ ghost use Rattle.mem_disk.specs.Memory.{world_of, held_of, OpensOutput, IsUnused
 
 use crate::{MemoryDisk, MemoryImage, MemoryOutput};
 use sys_disk::ImageTo;
-use sys_refusals::{HostFault, HostRefusal, Place};
+use sys_refusals::{FileArg, HostFault, HostRefusal};
 
 impl MemoryDisk {
     // Refuses a path that leads to a file that is read, or that was begun.
-    pub(crate) fn refuse_taken_at<'a>(&self, place: Place<'a>) -> Result<(), HostRefusal<'a>>
+    pub(crate) fn refuse_taken_at<'a>(&self, place: FileArg<'a>) -> Result<(), HostRefusal<'a>>
         ensures { OnOk result (IsFree (path_of place.entry) (held_of self.now) (world_of self.now)) }
     {
         let Ok(path) = place.path(self.alloc) else {
@@ -26,7 +26,7 @@ impl MemoryDisk {
     }
 
     // Refuses a file that is read, or that was begun.
-    fn refuse_file<'a>(&self, file: u64, place: Place<'a>) -> Result<(), HostRefusal<'a>>
+    fn refuse_file<'a>(&self, file: u64, place: FileArg<'a>) -> Result<(), HostRefusal<'a>>
         ensures read { OnOk result (¬ Contains self.now.read.items file) }
         ensures begun { OnOk result (¬ Contains self.now.begun.items file) }
     {
@@ -37,7 +37,10 @@ impl MemoryDisk {
     }
 
     // Creates or empties a file.
-    pub(crate) fn plain_at<'a>(&mut self, place: Place<'a>) -> Result<MemoryOutput, HostRefusal<'a>>
+    pub(crate) fn plain_at<'a>(
+        &mut self,
+        place: FileArg<'a>,
+    ) -> Result<MemoryOutput, HostRefusal<'a>>
         requires { self.old.output ≡ None }
         ensures { CreatesMemory result (path_of place.entry) self.old self.new }
     {
@@ -54,7 +57,7 @@ impl MemoryDisk {
     }
 
     // Creates or empties the file of a raw image.
-    pub(crate) fn raw_at<'a>(&mut self, place: Place<'a>) -> Result<MemoryOutput, HostRefusal<'a>>
+    pub(crate) fn raw_at<'a>(&mut self, place: FileArg<'a>) -> Result<MemoryOutput, HostRefusal<'a>>
         requires { self.old.output ≡ None }
         ensures { CreatesMemory result (path_out place.entry) self.old self.new }
     {
@@ -73,7 +76,7 @@ impl MemoryDisk {
     // Creates or empties the file of an image that has a magic.
     pub(crate) fn image_at<'a>(
         &mut self,
-        place: Place<'a>,
+        place: FileArg<'a>,
     ) -> Result<ImageTo<MemoryImage, MemoryOutput>, HostRefusal<'a>>
         requires { self.old.output ≡ None }
         ensures unused { IfOk result (OfImage (λ file. IsUnused [] file.bytes.items file.failed)

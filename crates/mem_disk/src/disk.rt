@@ -5,8 +5,8 @@ ghost use Rattle.mem_disk.specs.Memory.{contents, leads, CountsFailed};
 
 use crate::{Failures, Faults};
 use abt_io::Tally;
-use sys_refusals::HostRefusal;
 use std::alloc::{AllocError, Global};
+use sys_refusals::HostRefusal;
 
 /// A file of such a disk.
 #[derive(Drop)]

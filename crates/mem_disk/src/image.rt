@@ -5,8 +5,8 @@ ghost use Rattle.sys_disk.specs.Images.{HasNoFront};
 ghost use Rattle.mem_disk.specs.Memory.{IsUnused};
 
 use crate::{Countdown, Failures};
-use sys_disk::{Late, Reasons};
 use abt_io::{DeviceFault, Output, Overwrite, Tally, put_part};
+use sys_disk::{Late, Reasons};
 
 /// Bytes that were written, and that can be written over. A write fails where there is no memory for it.
 #[derive(Drop)]

@@ -6,8 +6,8 @@ ghost use Rattle.abt_io.specs.BytesLaws.{bytes_of_drop};
 ghost use Rattle.mem_disk.specs.Memory.{CopiesFrom, IsUnused};
 
 use crate::{Countdown, Failures};
-use sys_disk::{Measured, Reasons};
 use abt_io::{DeviceFault, Input, Tally, are_bytes};
+use sys_disk::{Measured, Reasons};
 
 /// Bytes that are read forward.
 #[derive(Drop)]
@@ -40,7 +40,7 @@ impl MemoryInput {
 }
 
 impl Input for MemoryInput {
-    ghost tells = { true };
+    ghost models = { true };
 
     ghost remaining = { λ s. drop s.position s.bytes.items };
 

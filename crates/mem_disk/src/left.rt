@@ -5,16 +5,20 @@ ghost use Rattle.sys_disk.specs.LeftOver.{IsNextLeft, path_with};
 ghost use Rattle.mem_disk.specs.Memory.{leads, world_of};
 
 use crate::{MemoryDisk, MemoryPath};
-use sys_refusals::Place;
-use sys_numbered_names::{lesser, number_behind};
 use std::alloc::AllocError;
+use sys_numbered_names::{lesser, number_behind};
+use sys_refusals::FileArg;
 
 impl MemoryDisk {
     // The least number above this one at which a file is.
-    pub(crate) fn next_left(&self, place: Place<'_>, behind: u32) -> Result<Option<u32>, AllocError>
+    pub(crate) fn next_left(
+        &self,
+        place: FileArg<'_>,
+        behind: u32,
+    ) -> Result<Option<u32>, AllocError>
         ensures { IfOk result (IsNextLeft (λ n. (world_of self.now).at (path_with place.entry n)) behind) }
     {
-        let unnumbered = Place {
+        let unnumbered = FileArg {
             number: None,
             ..place
         };

@@ -5,10 +5,10 @@
 //! |---|---|
 //! | `disk.rt` | its files, the paths that lead to them, and what was opened |
 //! | `calls.rt` | its calls: each counts whether it was refused, and what failed that is given back |
-//! | `opening.rt` | how it opens what is read |
+//! | `open_to_read.rt` | how it opens what is read |
 //! | `beginning.rt` | how a file is created or emptied, and closed |
 //! | `creating.rt` | how it creates an output, and which path it refuses before that |
-//! | `places.rt` | how it opens what is written in place, and closes it |
+//! | `open_in_place.rt` | how it opens what is written in place, and closes it |
 //! | `passing.rt` | how it opens the file that pieces go through, and closes it |
 //! | `input.rt`, `source.rt` | what it opens to be read: forward, and at any place |
 //! | `output.rt`, `image.rt` | what it opens to be written: from its front on, and over |
@@ -26,11 +26,11 @@ mod failures;
 mod image;
 mod input;
 mod left;
-mod opening;
+mod open_in_place;
+mod open_to_read;
 mod output;
 mod partition;
 mod passing;
-mod places;
 mod source;
 mod spool;
 

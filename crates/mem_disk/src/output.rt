@@ -4,8 +4,8 @@ ghost use Rattle.std.specs.Prelude.{false};
 ghost use Rattle.mem_disk.specs.Memory.{IsUnused};
 
 use crate::{Countdown, Failures};
-use sys_disk::Reasons;
 use abt_io::{DeviceFault, Output, Tally};
+use sys_disk::Reasons;
 
 /// Bytes that were written. A write fails where there is no memory for it.
 #[derive(Drop)]

@@ -61,7 +61,7 @@ impl MemoryPartition {
 }
 
 impl Source for MemoryPartition {
-    ghost tells = { true };
+    ghost models = { true };
 
     ghost content = { λ s. s.bytes.items };
 

@@ -8,13 +8,13 @@ ghost use Rattle.sys_disk.specs.World.{Ends, SparesRest};
 ghost use Rattle.mem_disk.specs.Memory.{world_of, held_of, RefusesAt};
 
 use crate::{MemoryDisk, MemoryFile, MemorySpool};
-use sys_refusals::{HostFault, HostRefusal, Place};
+use sys_refusals::{FileArg, HostFault, HostRefusal};
 
 impl MemoryDisk {
     // Creates or empties a file that pieces go through.
     pub(crate) fn spool_at<'a>(
         &mut self,
-        place: Place<'a>,
+        place: FileArg<'a>,
         limit: u32,
     ) -> Result<MemorySpool, HostRefusal<'a>>
         ensures capacity { IfOk result (λ through. through.limit ≡ limit) }

@@ -5,8 +5,8 @@ ghost use Rattle.abt_io.specs.Bytes.{AreBytes};
 ghost use Rattle.mem_disk.specs.Memory.{CopiesFrom, IsUnused};
 
 use crate::{Countdown, Failures};
-use sys_disk::Lasting;
 use abt_io::{DeviceFault, Source, Tally, are_bytes};
+use sys_disk::Lasting;
 
 /// Bytes that are read at any place.
 #[derive(Drop)]
@@ -36,7 +36,7 @@ impl MemorySource {
 }
 
 impl Source for MemorySource {
-    ghost tells = { true };
+    ghost models = { true };
 
     ghost content = { λ s. s.bytes.items };
 

@@ -76,7 +76,7 @@ impl MemorySpool {
 }
 
 impl Input for MemorySpool {
-    ghost tells = { true };
+    ghost models = { true };
 
     ghost remaining = { λ s. drop s.seen s.bytes.items };
 

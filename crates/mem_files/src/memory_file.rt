@@ -48,7 +48,7 @@ impl MemoryFile {
 }
 
 impl SystemFile for MemoryFile {
-    ghost tells = { true };
+    ghost models = { true };
 
     ghost stands = { λ f. f.bytes.items };
 

@@ -29,7 +29,7 @@ impl<D> Counting<D> {
 }
 
 impl<D: Source> Source for Counting<D> {
-    ghost tells = { D.tells };
+    ghost models = { D.models };
 
     ghost content = { λ c. D.content c.device };
 
@@ -59,7 +59,7 @@ impl<D: Source> Source for Counting<D> {
 }
 
 impl<D: Input> Input for Counting<D> {
-    ghost tells = { D.tells };
+    ghost models = { D.models };
 
     ghost remaining = { λ c. D.remaining c.device };
 

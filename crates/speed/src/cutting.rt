@@ -7,7 +7,6 @@ use crate::digest::Digest;
 use crate::images::{Maker, WORD};
 use crate::jobs::Size;
 use crate::random::Random;
-use sys_readers::ToWrite;
 use abt_io::{Meter, Source, Window};
 use abt_pieces::{Piece, PieceFault};
 use abt_runs::SparseRuns;
@@ -16,6 +15,7 @@ use cmd_common_sparse::PiecesOf;
 use std::alloc::Global;
 use std::fs::File;
 use sys_devices::FileSource;
+use sys_readers::ToWrite;
 
 fn next_piece<S: Source>(
     pieces: &mut PiecesOf<SparseRuns>,
@@ -24,7 +24,7 @@ fn next_piece<S: Source>(
     w: &mut Window,
     m: &mut Meter,
 ) -> Result<Option<Piece>, PieceFault>
-    requires { S.tells ≡ false }
+    requires { S.models ≡ false }
 {
     pieces.cutter.next_piece(source, output, w, m)
 }
@@ -37,7 +37,7 @@ fn cut<S: Source>(
     w: &mut Window,
     m: &mut Meter,
 ) -> Result<()>
-    requires { S.tells ≡ false }
+    requires { S.models ≡ false }
 {
     let runs = SparseRuns::open(source, w, m)?;
     let Ok(mut pieces) = PiecesOf::open(runs, limit) else {

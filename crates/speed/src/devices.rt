@@ -43,7 +43,7 @@ impl<'a> Memory<'a> {
 }
 
 impl Source for Memory<'_> {
-    ghost tells = { false };
+    ghost models = { false };
 
     ghost content = { λ _. [] };
 
@@ -72,7 +72,7 @@ impl Source for Memory<'_> {
 }
 
 impl Input for Memory<'_> {
-    ghost tells = { false };
+    ghost models = { false };
 
     ghost remaining = { λ _. [] };
 
@@ -147,7 +147,7 @@ impl Board {
 }
 
 impl Source for Board {
-    ghost tells = { false };
+    ghost models = { false };
 
     ghost content = { λ _. [] };
 

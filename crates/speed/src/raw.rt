@@ -10,8 +10,8 @@ use abt_pieces::{Piece, PieceFault};
 use abt_placed::{next_piece_at, sparsify_at};
 use abt_runs::RawRuns;
 use anyhow::{Result, bail};
-use mem_devices::SliceSpool;
 use cmd_common_sparse::PiecesOf;
+use mem_devices::SliceSpool;
 use std::alloc::Global;
 
 // How many bytes a piece has at most.

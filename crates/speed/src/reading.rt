@@ -5,11 +5,11 @@ use crate::digest::Digest;
 use crate::images::{BLOCK, Maker, WORD};
 use crate::jobs::Size;
 use abt_chunks::{Chunks, Part, Pull, Puller, expand};
-use sys_readers::ToWrite;
 use abt_io::{Meter, Window};
 use abt_sparse::SparseFault;
 use anyhow::Result;
 use std::alloc::Global;
+use sys_readers::ToWrite;
 
 fn expanded(image: &[u8], w: &mut Window, m: &mut Meter) -> Result<Digest, SparseFault> {
     let mut input = Memory::new(image);

@@ -1,11 +1,11 @@
 -- What was read ahead of a file.
 use Rattle.std.specs.Prelude.{ℕ, List, Option, IfSome, take}
 use Rattle.sys_devices.specs.Places.{FoundAt}
-use Rattle.sys_devices.specs.declared.held.Held.{Held}
+use Rattle.sys_devices.specs.declared.held.CachedBytes.{CachedBytes}
 use Rattle.sys_devices.specs.declared.ahead.Ahead.{Ahead}
 
 -- what is held is a part of the file
-abbrev pub HoldsPart : List ℕ → Held → Type 0
+abbrev pub HoldsPart : List ℕ → CachedBytes → Type 0
 HoldsPart content h = FoundAt content h.at (take h.count h.bytes.items)
 
 -- the same of both parts

@@ -6,7 +6,7 @@ ghost use Rattle.sys_devices.specs.Ahead.{HoldsPart, HoldsBoth, HoldsAny};
 ghost use Rattle.sys_devices.specs.Places.{FoundAt};
 ghost use Rattle.sys_file.specs.File.{file_bytes, are_bytes_of, ReadsAt};
 
-use crate::held::Held;
+use crate::held::CachedBytes;
 use crate::kept::Kept;
 use crate::{AheadFile, FileSource};
 use abt_io::{DeviceFault, Source, Tally};
@@ -28,8 +28,8 @@ const MOST: usize = 256;
 /// the part before the last one is kept.
 #[derive(Drop)]
 pub(crate) struct Ahead {
-    one: Held,
-    other: Held,
+    one: CachedBytes,
+    other: CachedBytes,
     /// Which of them was read last.
     is_other_last: bool,
 }
@@ -39,7 +39,7 @@ impl Ahead {
     pub(crate) fn new(alloc: Global) -> Option<Ahead>
         ensures { (c : List ℕ) → HoldsAny c result }
     {
-        match (Held::new(alloc, ROOM), Held::new(alloc, ROOM)) {
+        match (CachedBytes::new(alloc, ROOM), CachedBytes::new(alloc, ROOM)) {
             (Ok(one), Ok(other)) => Some(Ahead {
                 one,
                 other,
@@ -60,9 +60,9 @@ impl Ahead {
     /// Gives the bytes at a place, where all that are asked for are held or can be read ahead. Where not, a read of just
     /// these bytes is to be made: it alone tells a fault, and where the file ends.
     pub(crate) fn give<F: SystemFile>(&mut self, file: &F, at: u64, out: &mut [u8]) -> bool
-        requires { IsTrue F.tells → HoldsBoth (F.stands file.now) self.old }
-        ensures holds { IsTrue F.tells → HoldsBoth (F.stands file.now) self.new }
-        ensures given { IsTrue F.tells → IsTrue result → FoundAt (F.stands file.now) at out.new }
+        requires { IsTrue F.models → HoldsBoth (F.stands file.now) self.old }
+        ensures holds { IsTrue F.models → HoldsBoth (F.stands file.now) self.new }
+        ensures given { IsTrue F.models → IsTrue result → FoundAt (F.stands file.now) at out.new }
     {
         if out.is_empty() || out.len() > MOST {
             return false;
@@ -80,7 +80,7 @@ impl Ahead {
 
     /// Reads the bytes at a place ahead, over the part that was read first.
     fn fill<F: SystemFile>(&mut self, file: &F, at: u64)
-        ensures { IsTrue F.tells → HoldsBoth (F.stands file.now) self.old → HoldsBoth (F.stands file.now) self.new }
+        ensures { IsTrue F.models → HoldsBoth (F.stands file.now) self.old → HoldsBoth (F.stands file.now) self.new }
     {
         let is_next = if self.is_other_last {
             self.other.leads_to(at)
@@ -110,8 +110,8 @@ pub struct AheadSource<F: SystemFile + Drop> {
     reads: Tally,
     given: Tally,
     faults: Tally,
-    ghost held: { IsTrue F.tells → HoldsAny (file_bytes F.stands from.value.source.file) ahead } by { Prim.hlevel props },
-    ghost keeps: { IsTrue F.tells → HoldsPart (file_bytes F.stands from.value.source.file) kept.held },
+    ghost held: { IsTrue F.models → HoldsAny (file_bytes F.stands from.value.source.file) ahead } by { Prim.hlevel props },
+    ghost keeps: { IsTrue F.models → HoldsPart (file_bytes F.stands from.value.source.file) kept.held },
 }
 
 impl<F: SystemFile + Drop> AheadSource<F> {
@@ -169,14 +169,14 @@ impl<F: SystemFile + Drop> AheadSource<F> {
     /// How long the file is now, if it is not as it was when it was opened, or has fewer bytes than were given of it from
     /// memory since the piece began.
     pub fn shorter(&self) -> Option<u64>
-        ensures { IsTrue F.tells → IfSome result (λ n. n ≡ length (file_bytes F.stands self.now.from.value.source.file)) }
+        ensures { IsTrue F.models → IfSome result (λ n. n ≡ length (file_bytes F.stands self.now.from.value.source.file)) }
     {
         self.file().shorter()
     }
 }
 
 impl<F: SystemFile + Drop> Source for AheadSource<F> {
-    ghost tells = { F.tells };
+    ghost models = { F.models };
 
     ghost content = { λ s. file_bytes F.stands s.from.value.source.file };
 
@@ -227,12 +227,12 @@ fn read_of<F: SystemFile + Drop>(
     at: u64,
     out: &mut [u8],
 ) -> io::Result<usize>
-    requires holds { IsTrue F.tells → HoldsAny (file_bytes F.stands from.now.source.file) ahead.old }
-    requires keeps { IsTrue F.tells → HoldsPart (file_bytes F.stands from.now.source.file) kept.old.held }
-    ensures holds { IsTrue F.tells → HoldsAny (file_bytes F.stands from.now.source.file) ahead.new }
-    ensures keeps { IsTrue F.tells → HoldsPart (file_bytes F.stands from.now.source.file) kept.new.held }
-    ensures reads { ReadsAt F.tells (file_bytes F.stands from.now.source.file) result at out.new }
-    ensures told { IsTrue F.tells → length (file_bytes F.stands from.now.source.file) < 2 ^ 64 }
+    requires holds { IsTrue F.models → HoldsAny (file_bytes F.stands from.now.source.file) ahead.old }
+    requires keeps { IsTrue F.models → HoldsPart (file_bytes F.stands from.now.source.file) kept.old.held }
+    ensures holds { IsTrue F.models → HoldsAny (file_bytes F.stands from.now.source.file) ahead.new }
+    ensures keeps { IsTrue F.models → HoldsPart (file_bytes F.stands from.now.source.file) kept.new.held }
+    ensures reads { ReadsAt F.models (file_bytes F.stands from.now.source.file) result at out.new }
+    ensures told { IsTrue F.models → length (file_bytes F.stands from.now.source.file) < 2 ^ 64 }
 {
     let _size = from.source.size;
     let Some(file) = &from.source.file else {
@@ -261,9 +261,9 @@ fn given_of<F: SystemFile + Drop>(
     at: u64,
     out: &mut [u8],
 ) -> bool
-    requires { IsTrue F.tells → HoldsAny (F.stands file.now) ahead.old }
-    ensures holds { IsTrue F.tells → HoldsAny (F.stands file.now) ahead.new }
-    ensures given { IsTrue F.tells → IsTrue result → FoundAt (F.stands file.now) at out.new }
+    requires { IsTrue F.models → HoldsAny (F.stands file.now) ahead.old }
+    ensures holds { IsTrue F.models → HoldsAny (F.stands file.now) ahead.new }
+    ensures given { IsTrue F.models → IsTrue result → FoundAt (F.stands file.now) at out.new }
 {
     if out.is_empty() || out.len() > MOST {
         return false;
@@ -291,9 +291,9 @@ pub(crate) fn read_ahead<F: SystemFile>(
     at: u64,
     out: &mut [u8],
 ) -> io::Result<usize>
-    requires { IsTrue F.tells → HoldsAny (F.stands file.now) ahead.old }
-    ensures holds { IsTrue F.tells → HoldsAny (F.stands file.now) ahead.new }
-    ensures reads { ReadsAt F.tells (F.stands file.now) result at out.new }
+    requires { IsTrue F.models → HoldsAny (F.stands file.now) ahead.old }
+    ensures holds { IsTrue F.models → HoldsAny (F.stands file.now) ahead.new }
+    ensures reads { ReadsAt F.models (F.stands file.now) result at out.new }
 {
     if let Some(ahead) = ahead
         && ahead.give(file, at, out)

@@ -42,7 +42,7 @@ impl<F: SystemFile + Drop> AheadFile<F> {
 
     /// How long the file is now, if that is less than what was given of it from memory since the piece began.
     pub fn shorter(&self) -> Option<u64>
-        ensures { IsTrue F.tells → IfSome result (λ n. n ≡ length (file_bytes F.stands self.now.source.file)) }
+        ensures { IsTrue F.models → IfSome result (λ n. n ≡ length (file_bytes F.stands self.now.source.file)) }
     {
         let reached = self.reached.get();
         if reached == 0 {
@@ -81,7 +81,7 @@ impl<F: SystemFile + Drop> AheadFile<F> {
 
 // As the file is now, if it is a regular file.
 fn stamp_of<F: SystemFile + Drop>(source: &FileSource<F>) -> Option<Stamp>
-    ensures { IsTrue F.tells → IfSome result (λ s. s.length ≡ length (file_bytes F.stands source.now.file)) }
+    ensures { IsTrue F.models → IfSome result (λ s. s.length ≡ length (file_bytes F.stands source.now.file)) }
 {
     match &source.file {
         Some(file) => file.stamp(),

@@ -40,16 +40,16 @@ pub(crate) struct Behind<F: SystemFile + Drop> {
     /// Why the last call of the system failed, where one did.
     pub(crate) why: Option<i32>,
     ghost place: { length sent.state.bytes + length held.items ≡ used },
-    ghost stands: { IsTrue F.tells → is_lost ≡ false → Begins sent.state.bytes (F.stands file) },
-    ghost ends: { IsTrue F.tells → length (F.stands file) ≤ max stale (length sent.state.bytes) },
-    ghost emptied: { IsTrue F.tells → IsTrue is_empty → length (F.stands file) ≡ 0 },
+    ghost stands: { IsTrue F.models → is_lost ≡ false → Begins sent.state.bytes (F.stands file) },
+    ghost ends: { IsTrue F.models → length (F.stands file) ≤ max stale (length sent.state.bytes) },
+    ghost emptied: { IsTrue F.models → IsTrue is_empty → length (F.stands file) ≡ 0 },
     ghost gone: { IsTrue is_empty → IsTrue is_lost },
 }
 
 impl<F: SystemFile + Drop> Behind<F> {
     /// Nothing is held yet, and the file has so many bytes, which are of before.
     pub(crate) fn new(alloc: Global, file: F, stale: u64) -> Behind<F>
-        requires { IsTrue F.tells → length (F.stands file) ≤ stale }
+        requires { IsTrue F.models → length (F.stands file) ≤ stale }
         ensures held { result.held.items ≡ [] }
         ensures sent { result.sent.state.bytes ≡ [] }
         ensures stale { result.stale ≡ stale }
@@ -109,7 +109,7 @@ impl<F: SystemFile + Drop> Behind<F> {
         ensures flushes { Flushes result self.old.held.items self.new.held.items self.old.sent.state.bytes
             self.new.sent.state.bytes self.old.is_lost self.new.is_lost self.old.used self.new.used }
         ensures cut { OnOk result (self.new.stale ≡ 0) }
-        ensures exact { OnOk result (IsTrue F.tells → F.stands self.new.file ≡ self.new.sent.state.bytes) }
+        ensures exact { OnOk result (IsTrue F.models → F.stands self.new.file ≡ self.new.sent.state.bytes) }
     {
         let flushed = self.flush();
         match self.cut_off() {
@@ -280,8 +280,8 @@ impl<F: SystemFile + Drop> Behind<F> {
         requires told { IsTrue self.old.is_lost → IsTrue self.old.is_told }
         ensures clears { Clears result self.old.held.items self.new.held.items self.old.sent.state.bytes
             self.new.sent.state.bytes self.new.is_lost }
-        ensures blank { OnOk result (IsTrue F.tells → LeavesNoMagic (F.stands self.new.file)) }
-        ensures empty { is_keeping ≡ false → OnOk result (IsTrue F.tells → length (F.stands self.new.file) ≡ 0) }
+        ensures blank { OnOk result (IsTrue F.models → LeavesNoMagic (F.stands self.new.file)) }
+        ensures empty { is_keeping ≡ false → OnOk result (IsTrue F.models → length (F.stands self.new.file) ≡ 0) }
         ensures used { OnErr result (self.new.used ≡ self.old.used) }
         ensures none { OnOk result (self.new.used ≡ 0) }
     {
@@ -308,8 +308,8 @@ impl<F: SystemFile + Drop> Behind<F> {
     // the rest to be written over. Where that cannot be done it is emptied, if that can be.
     fn blank(&mut self) -> bool
         requires { IsTrue self.old.is_lost }
-        ensures blank { IsTrue result → IsTrue F.tells → LeavesNoMagic (F.stands self.new.file) }
-        ensures stale { IsTrue result → IsTrue F.tells → length (F.stands self.new.file) ≤ self.new.stale }
+        ensures blank { IsTrue result → IsTrue F.models → LeavesNoMagic (F.stands self.new.file) }
+        ensures stale { IsTrue result → IsTrue F.models → length (F.stands self.new.file) ≤ self.new.stale }
         ensures grows { (self.old.used ≤ self.new.stale) × (self.old.stale ≤ self.new.stale) }
         ensures rest { LeavesTaken self.old.held.items self.new.held.items self.old.sent.state self.new.sent.state
             self.old.is_lost self.new.is_lost self.old.used self.new.used }
@@ -335,7 +335,7 @@ impl<F: SystemFile + Drop> Behind<F> {
     // Cuts the file off at its front.
     fn empty(&mut self) -> bool
         requires { IsTrue self.old.is_lost }
-        ensures empty { IsTrue result → IsTrue F.tells → length (F.stands self.new.file) ≡ 0 }
+        ensures empty { IsTrue result → IsTrue F.models → length (F.stands self.new.file) ≡ 0 }
         ensures stale { IsTrue result → self.new.stale ≡ 0 }
         ensures rest { LeavesTaken self.old.held.items self.new.held.items self.old.sent.state self.new.sent.state
             self.old.is_lost self.new.is_lost self.old.used self.new.used }

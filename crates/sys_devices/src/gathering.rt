@@ -48,7 +48,7 @@ pub struct GatheringSpool<F: SystemFile + Drop> {
     ghost fits: { cleared + behind.used < 2 ^ 64 },
     ghost whole: { behind.sent.state.bytes ++ behind.held.items ≡ since_cut log.state },
     ghost told: { AreBytes log.state.bytes },
-    ghost holds: { IsTrue F.tells → HoldsAny behind.sent.state.bytes ahead } by { Prim.hlevel props },
+    ghost holds: { IsTrue F.models → HoldsAny behind.sent.state.bytes ahead } by { Prim.hlevel props },
 }
 
 impl<F: SystemFile + Drop> GatheringSpool<F> {
@@ -61,7 +61,7 @@ impl<F: SystemFile + Drop> GatheringSpool<F> {
         from: Option<Rc<AheadFile<F>>>,
         stands: u64,
     ) -> GatheringSpool<F>
-        requires { IsTrue F.tells → length (F.stands file) ≤ stands }
+        requires { IsTrue F.models → length (F.stands file) ≤ stands }
         ensures { StartsSpool result.log.state result.capacity capacity result.behind.is_lost result.behind.stale stands }
     {
         are_bytes(&[]);
@@ -88,7 +88,7 @@ impl<F: SystemFile + Drop> GatheringSpool<F> {
         from: Option<Rc<AheadFile<F>>>,
         stands: u64,
     ) -> GatheringSpool<F>
-        requires { IsTrue F.tells → length (F.stands file) ≤ stands }
+        requires { IsTrue F.models → length (F.stands file) ≤ stands }
         ensures { StartsSpool result.log.state result.capacity capacity result.behind.is_lost result.behind.stale stands }
     {
         let mut spool = GatheringSpool::new(alloc, file, capacity, from, stands);
@@ -112,7 +112,7 @@ impl<F: SystemFile + Drop> GatheringSpool<F> {
     /// could not be written, now or by an earlier call, so that a read which failed for that reason is told from one which
     /// did not.
     pub fn settle(&mut self) -> Result<(), DeviceFault>
-        ensures exact { OnOk result (IsTrue F.tells → F.stands self.new.behind.file ≡ since_cut self.new.log.state) }
+        ensures exact { OnOk result (IsTrue F.models → F.stands self.new.behind.file ≡ since_cut self.new.log.state) }
         ensures all { OnOk result (self.new.behind.sent.state.bytes ≡ since_cut self.new.log.state) }
         ensures none { OnOk result (self.new.behind.held.items ≡ []) }
         ensures cut { OnOk result (self.new.behind.stale ≡ 0) }
@@ -130,7 +130,7 @@ impl<F: SystemFile + Drop> GatheringSpool<F> {
 }
 
 impl<F: SystemFile + Drop> Input for GatheringSpool<F> {
-    ghost tells = { F.tells };
+    ghost models = { F.models };
 
     ghost remaining = { λ s. drop s.seen (since_cut s.log.state) };
 
@@ -346,12 +346,12 @@ fn read_behind<F: SystemFile + Drop>(
     seen: u64,
     out: &mut [u8],
 ) -> Result<usize, DeviceFault>
-    requires { IsTrue F.tells → HoldsAny behind.old.sent.state.bytes ahead.old }
-    ensures holds { IsTrue F.tells → HoldsAny behind.new.sent.state.bytes ahead.new }
+    requires { IsTrue F.models → HoldsAny behind.old.sent.state.bytes ahead.old }
+    ensures holds { IsTrue F.models → HoldsAny behind.new.sent.state.bytes ahead.new }
     ensures whole { behind.new.sent.state.bytes ++ behind.new.held.items
         ≡ behind.old.sent.state.bytes ++ behind.old.held.items }
     ensures used { behind.new.used ≡ behind.old.used }
-    ensures reads { ReadsAt F.tells (behind.old.sent.state.bytes ++ behind.old.held.items) result seen out.new }
+    ensures reads { ReadsAt F.models (behind.old.sent.state.bytes ++ behind.old.held.items) result seen out.new }
     ensures all { OnOk result (behind.new.held.items ≡ []) }
     ensures still { IsTrue behind.old.is_lost → IsErr result }
 {

@@ -11,18 +11,18 @@ use sys_file::{SystemFile, read_at};
 
 /// Bytes of a file, and where they stand there. Those behind the first `count` are nothing.
 #[derive(Drop)]
-pub(crate) struct Held {
+pub(crate) struct CachedBytes {
     bytes: Vec<u8>,
     at: u64,
     count: usize,
 }
 
-impl Held {
+impl CachedBytes {
     /// Nothing is held, and it has no memory for that.
-    pub(crate) fn empty(alloc: Global) -> Held
+    pub(crate) fn empty(alloc: Global) -> CachedBytes
         ensures { (c : List ℕ) → HoldsPart c result }
     {
-        Held {
+        CachedBytes {
             bytes: Vec::new(alloc),
             at: 0,
             count: 0,
@@ -30,12 +30,12 @@ impl Held {
     }
 
     /// Nothing is held, and it has memory for so many bytes.
-    pub(crate) fn new(alloc: Global, room: usize) -> Result<Held, AllocError>
+    pub(crate) fn new(alloc: Global, room: usize) -> Result<CachedBytes, AllocError>
         ensures { IfOk result (λ h. (c : List ℕ) → HoldsPart c h) }
     {
         let mut bytes = Vec::with_capacity(alloc, room)?;
         bytes.resize(room, 0)?;
-        Ok(Held {
+        Ok(CachedBytes {
             bytes,
             at: 0,
             count: 0,
@@ -107,7 +107,7 @@ impl Held {
 
     /// Reads the bytes at a place, at most so many. Nothing is held where that fails.
     pub(crate) fn fill<F: SystemFile>(&mut self, file: &F, at: u64, most: usize)
-        ensures { IsTrue F.tells → HoldsPart (F.stands file.now) self.new }
+        ensures { IsTrue F.models → HoldsPart (F.stands file.now) self.new }
     {
         let n = read_past(file, at, 0, most, self.bytes.as_mut_slice()).unwrap_or(0);
         self.at = at;
@@ -117,7 +117,7 @@ impl Held {
     /// Reads the bytes at a place, at most so many: behind those that are held where they lead to it, and in their
     /// place where not. At most so many of them stay, the last ones.
     pub(crate) fn go_on<F: SystemFile>(&mut self, file: &F, at: u64, most: usize) -> io::Result<()>
-        ensures { IsTrue F.tells → HoldsPart (F.stands file.now) self.old → HoldsPart (F.stands file.now) self.new }
+        ensures { IsTrue F.models → HoldsPart (F.stands file.now) self.old → HoldsPart (F.stands file.now) self.new }
     {
         self.stay(at, most);
         let last = self.count;
@@ -179,7 +179,7 @@ fn read_past<F: SystemFile>(
     ensures first { take first into.new ≡ take first into.old }
     ensures long { length into.new ≡ length into.old }
     ensures within { first + count_of result ≤ length into.new }
-    ensures read { IsTrue F.tells → FoundAt (F.stands file.now) at (take (count_of result) (drop first into.new)) }
+    ensures read { IsTrue F.models → FoundAt (F.stands file.now) at (take (count_of result) (drop first into.new)) }
 {
     let end = into.len().min(first.saturating_add(most));
     read_at(file, at, &mut into[first..end])

@@ -5,7 +5,7 @@ ghost use Rattle.abt_io.specs.Count.{count_of};
 ghost use Rattle.sys_devices.specs.Ahead.{HoldsPart};
 ghost use Rattle.sys_devices.specs.Places.{FoundAt};
 
-use crate::held::Held;
+use crate::held::CachedBytes;
 use std::alloc::Global;
 use std::io;
 use sys_file::SystemFile;
@@ -25,7 +25,7 @@ const TIMES: u32 = 8;
 pub(crate) struct Kept {
     // Bytes of the file, the last ones that were given among them: as many as a window has, and as many behind them. Where
     // there is no memory for them, each read is made as it is asked for.
-    held: Held,
+    held: CachedBytes,
     // How many times more the file is read to be kept.
     left: u32,
     // Where the last read began, and where it ended.
@@ -39,7 +39,7 @@ impl Kept {
         ensures { (c : List ℕ) → HoldsPart c result.held }
     {
         Kept {
-            held: Held::empty(alloc),
+            held: CachedBytes::empty(alloc),
             left: 0,
             from: 0,
             past: 0,
@@ -55,11 +55,11 @@ impl Kept {
         at: u64,
         out: &mut [u8],
     ) -> io::Result<usize>
-        requires holds { IsTrue F.tells → HoldsPart (F.stands file.now) self.old.held }
-        requires told { IsTrue F.tells → length (F.stands file.now) < 2 ^ 64 }
-        ensures holds { IsTrue F.tells → HoldsPart (F.stands file.now) self.new.held }
+        requires holds { IsTrue F.models → HoldsPart (F.stands file.now) self.old.held }
+        requires told { IsTrue F.models → length (F.stands file.now) < 2 ^ 64 }
+        ensures holds { IsTrue F.models → HoldsPart (F.stands file.now) self.new.held }
         ensures within { count_of result ≤ length out.new }
-        ensures given { IsTrue F.tells → FoundAt (F.stands file.now) at (take (count_of result) out.new) }
+        ensures given { IsTrue F.models → FoundAt (F.stands file.now) at (take (count_of result) out.new) }
     {
         if out.len() <= FEW {
             return Ok(0);
@@ -82,7 +82,7 @@ impl Kept {
         if at == 0 || (at >= self.from && at < self.past) {
             self.left = TIMES;
             if self.held.is_empty()
-                && let Ok(held) = Held::new(alloc, 2 * ROOM)
+                && let Ok(held) = CachedBytes::new(alloc, 2 * ROOM)
             {
                 self.held = held;
             }

@@ -22,14 +22,14 @@ pub struct FilePartition<F: SystemFile + Drop> {
     pub put_faults: Tally,
     /// Why its last call failed, where one did.
     why: Option<i32>,
-    pub ghost sized: { IsTrue F.tells → size ≡ length (F.stands file) },
-    pub ghost counted: { IsTrue F.tells → (F.past file).synced ≡ synced.number },
+    pub ghost sized: { IsTrue F.models → size ≡ length (F.stands file) },
+    pub ghost counted: { IsTrue F.models → (F.past file).synced ≡ synced.number },
 }
 
 impl<F: SystemFile + Drop> FilePartition<F> {
     /// Takes the file's length, once. Nothing of it is pending. A refusal drops the file.
     pub fn new(file: F) -> Result<FilePartition<F>, DeviceFault>
-        requires { IsTrue F.tells → F.past file ≡ no_past }
+        requires { IsTrue F.models → F.past file ≡ no_past }
         ensures begins { IfOk result (λ s. (s.puts.number ≡ 0) × (s.taken.number ≡ 0) × (s.synced.number ≡ 0)) }
         ensures file { IfOk result (λ s. s.file ≡ file) }
     {
@@ -60,7 +60,7 @@ impl<F: SystemFile + Drop> FilePartition<F> {
 }
 
 impl<F: SystemFile + Drop> Source for FilePartition<F> {
-    ghost tells = { F.tells };
+    ghost models = { F.models };
 
     ghost content = { λ s. F.stands s.file };
 

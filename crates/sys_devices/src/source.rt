@@ -15,7 +15,7 @@ pub struct FileSource<F: SystemFile + Drop> {
     pub reads: Tally,
     pub given: Tally,
     pub faults: Tally,
-    pub ghost sized: { IsTrue F.tells → size ≡ length (file_bytes F.stands file) },
+    pub ghost sized: { IsTrue F.models → size ≡ length (file_bytes F.stands file) },
 }
 
 impl<F: SystemFile + Drop> FileSource<F> {
@@ -53,7 +53,7 @@ impl<F: SystemFile + Drop> FileSource<F> {
 }
 
 impl<F: SystemFile + Drop> Source for FileSource<F> {
-    ghost tells = { F.tells };
+    ghost models = { F.models };
 
     ghost content = { λ s. file_bytes F.stands s.file };
 
@@ -95,9 +95,9 @@ fn read_of<F: SystemFile>(
     at: u64,
     out: &mut [u8],
 ) -> io::Result<usize>
-    requires { IsTrue F.tells → _size ≡ length (file_bytes F.stands file.now) }
-    ensures reads { ReadsAt F.tells (file_bytes F.stands file.now) result at out.new }
-    ensures told { IsTrue F.tells → length (file_bytes F.stands file.now) < 2 ^ 64 }
+    requires { IsTrue F.models → _size ≡ length (file_bytes F.stands file.now) }
+    ensures reads { ReadsAt F.models (file_bytes F.stands file.now) result at out.new }
+    ensures told { IsTrue F.models → length (file_bytes F.stands file.now) < 2 ^ 64 }
 {
     match file {
         Some(file) => read_at(file, at, out),

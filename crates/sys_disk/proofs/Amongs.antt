@@ -4,14 +4,14 @@ use Rattle.std.specs.Prelude.{Contains}
 use Rattle.std.proofs.lemmas.Bool.{cases_eq}
 use Rattle.std.proofs.lemmas.List.Elements.{Contains-append_left, Contains-append_right, Contains-append_cases}
 use Rattle.std.proofs.lemmas.List.Elements.{Contains-push, Contains-push_cases}
-use Rattle.sys_disk.specs.World.{World, Held, OpensFile, Creates, OnlyAt, untouched, in_output, Spares, Ends}
+use Rattle.sys_disk.specs.World.{World, OpenFiles, OpensFile, Creates, OnlyAt, untouched, in_output, Spares, Ends}
 use Rattle.sys_disk.specs.World.{KeepsBegun, SparesRest, ended, failing}
 use Rattle.sys_disk.proofs.Worlds.{spares_trans}
 use Rattle.sys_disk.specs.Among.{FileHolds, IsAmong, OnlyAmong, GoesAmong, KeepsMade, IsMade}
 
 -- ---- that nothing else was changed
 
-pub goes_none : (P : List ℕ → Type 0) (h h' : Held) (a b : World) (n : ℕ) → h' ≡ failing n h → b ≡ a
+pub goes_none : (P : List ℕ → Type 0) (h h' : OpenFiles) (a b : World) (n : ℕ) → h' ≡ failing n h → b ≡ a
     → GoesAmong P h h' a b
 goes_none P h h' a b n same_held same = record {
   read = ap (λ k. k.read) same_held;
@@ -21,7 +21,7 @@ goes_none P h h' a b n same_held same = record {
 }
 
 -- nothing at all
-pub goes_still : (P : List ℕ → Type 0) (h : Held) (a : World) → GoesAmong P h h a a
+pub goes_still : (P : List ℕ → Type 0) (h : OpenFiles) (a : World) → GoesAmong P h h a a
 goes_still P h a = record {
   read = refl;
   leads = λ p f there. there;
@@ -42,14 +42,14 @@ among_read : (P : List ℕ → Type 0) (read read' : List ℕ) (w : World) (f : 
     → IsAmong P read w f
 among_read P read read' w f same there = subst (λ r. IsAmong P r w f) same there
 
-files_then : (P : List ℕ → Type 0) (h h' h'' : Held) (a b c : World) (f : ℕ) → GoesAmong P h h' a b
+files_then : (P : List ℕ → Type 0) (h h' h'' : OpenFiles) (a b c : World) (f : ℕ) → GoesAmong P h h' a b
     → GoesAmong P h' h'' b c → (b.holds f ≡ a.holds f) ⊎ IsAmong P h.read b f
     → (c.holds f ≡ b.holds f) ⊎ IsAmong P h'.read c f → (c.holds f ≡ a.holds f) ⊎ IsAmong P h.read c f
 files_then P h h' h'' a b c f first next before (inr now) = inr (among_read P h.read h'.read c f first.read now)
 files_then P h h' h'' a b c f first next (inl same) (inl still) = inl (still ∙ same)
 files_then P h h' h'' a b c f first next (inr before) (inl still) = inr (among_later P h.read b c f next.leads before)
 
-opened_then : (P : List ℕ → Type 0) (h h' h'' : Held) (a b c : World) (f : ℕ) → GoesAmong P h h' a b
+opened_then : (P : List ℕ → Type 0) (h h' h'' : OpenFiles) (a b c : World) (f : ℕ) → GoesAmong P h h' a b
     → GoesAmong P h' h'' b c → Contains h'.begun f ⊎ IsAmong P h'.read c f → Contains h.begun f ⊎ IsAmong P h.read c f
 opened_then P h h' h'' a b c f first next (inr now) = inr (among_read P h.read h'.read c f first.read now)
 opened_then P h h' h'' a b c f first next (inl listed) = elim (first.opened f listed) [
@@ -57,7 +57,7 @@ opened_then P h h' h'' a b c f first next (inl listed) = elim (first.opened f li
   | inr there ↦ inr (among_later P h.read b c f next.leads there)
 ]
 
-pub goes_then : (P : List ℕ → Type 0) (h h' h'' : Held) (a b c : World) → GoesAmong P h h' a b
+pub goes_then : (P : List ℕ → Type 0) (h h' h'' : OpenFiles) (a b c : World) → GoesAmong P h h' a b
     → GoesAmong P h' h'' b c → GoesAmong P h h'' a c
 goes_then P h h' h'' a b c first next = record {
   read = next.read ∙ first.read;
@@ -85,7 +85,7 @@ file_or P read path file old new f named there free spares (inl same) =
     inr (one_among P read path file new f named there free same)
 
 -- of an opening that was refused
-pub goes_refused : (P : List ℕ → Type 0) (path : List ℕ) (h h' : Held) (a b : World) (n : ℕ) → P path
+pub goes_refused : (P : List ℕ → Type 0) (path : List ℕ) (h h' : OpenFiles) (a b : World) (n : ℕ) → P path
     → h' ≡ failing n h → OnlyAt h.read path a b → GoesAmong P h h' a b
 goes_refused P path h h' a b n named same_held (untouched same) = goes_none P h h' a b n same_held same
 goes_refused P path h h' a b n named same_held (in_output file there free spares) = record {
@@ -96,10 +96,10 @@ goes_refused P path h h' a b n named same_held (in_output file there free spares
 }
 
 -- the output that was created is the one that is open
-open_is : (path : List ℕ) (h h' : Held) (a b : World) (made : Creates path h h' a b) → h'.output ≡ Some made.file
+open_is : (path : List ℕ) (h h' : OpenFiles) (a b : World) (made : Creates path h h' a b) → h'.output ≡ Some made.file
 open_is path h h' a b made = ap (λ k. k.output) made.begins
 
-spared : (path : List ℕ) (h h' : Held) (a b c : World) (made : Creates path h h' a b) → SparesRest h'.output b c
+spared : (path : List ℕ) (h h' : OpenFiles) (a b c : World) (made : Creates path h h' a b) → SparesRest h'.output b c
     → Spares made.file b c
 spared path h h' a b c made rest = subst (λ o. SparesRest o b c) (open_is path h h' a b made) rest
 
@@ -112,12 +112,12 @@ first_or file f files listed = elim (Contains-append_cases (file ∷ []) files f
   | inr rest ↦ inl rest
 ]
 
-begun_now : (path : List ℕ) (h h' h'' : Held) (b : Bool) (n : ℕ) (old new : World) (made : Creates path h h' old new)
+begun_now : (path : List ℕ) (h h' h'' : OpenFiles) (b : Bool) (n : ℕ) (old new : World) (made : Creates path h h' old new)
     → h'' ≡ ended b n h' → h''.begun ≡ made.file ∷ h.begun
 begun_now path h h' h'' b n old new made closed = ap (λ k. k.begun) closed ∙ ap (λ k. k.begun) made.begins
 
 -- an output that was created, and then brought to its end or let go
-pub goes_written : (P : List ℕ → Type 0) (path : List ℕ) (b : Bool) (n : ℕ) (h h' h'' : Held) (u v w : World) → P path
+pub goes_written : (P : List ℕ → Type 0) (path : List ℕ) (b : Bool) (n : ℕ) (h h' h'' : OpenFiles) (u v w : World) → P path
     → Creates path h h' u v → h'' ≡ ended b n h' → SparesRest h'.output v w → GoesAmong P h h'' u w
 goes_written P path b n h h' h'' u v w named made closed rest =
     let after = spared path h h' u v w made rest in
@@ -134,7 +134,7 @@ goes_written P path b n h h' h'' u v w named made closed rest =
           ];
     }
 
-pub keeps_written : (path : List ℕ) (b : Bool) (n : ℕ) (h h' h'' : Held) (u v w : World) → Creates path h h' u v
+pub keeps_written : (path : List ℕ) (b : Bool) (n : ℕ) (h h' h'' : OpenFiles) (u v w : World) → Creates path h h' u v
     → h'' ≡ ended b n h' → SparesRest h'.output v w → KeepsMade h h'' u w
 keeps_written path b n h h' h'' u v w made closed rest =
     let after = spared path h h' u v w made rest in
@@ -147,7 +147,7 @@ keeps_written path b n h h' h'' u v w made closed rest =
           (Contains-append_right (made.file ∷ []) h.begun f listed);
     }
 
-pub made_written : (path bytes : List ℕ) (b : Bool) (n : ℕ) (h h' h'' : Held) (u v w : World) → Creates path h h' u v
+pub made_written : (path bytes : List ℕ) (b : Bool) (n : ℕ) (h h' h'' : OpenFiles) (u v w : World) → Creates path h h' u v
     → h'' ≡ ended b n h' → Ends h'.output bytes v w → IsMade h'' w path bytes
 made_written path bytes b n h h' h'' u v w made closed ends =
     let now : (w.holds made.file ≡ bytes) × Spares made.file v w =
@@ -162,7 +162,7 @@ made_written path bytes b n h h' h'' u v w made closed ends =
 
 -- ---- what is done stays done
 
-pub keeps_none : (h h' : Held) (a b : World) (n : ℕ) → h.output ≡ None → h' ≡ failing n h → b ≡ a → KeepsMade h h' a b
+pub keeps_none : (h h' : OpenFiles) (a b : World) (n : ℕ) → h.output ≡ None → h' ≡ failing n h → b ≡ a → KeepsMade h h' a b
 keeps_none h h' a b n closed same_held same = record {
   closed = ap (λ k. k.output) same_held ∙ closed;
   leads = λ p f there. subst (λ w. w.at p ≡ Some f) (sym same) there;
@@ -176,7 +176,7 @@ leads_kept read path a b (untouched same) p f there = subst (λ w. w.at p ≡ So
 leads_kept read path a b (in_output file at free spares) p f there = spares.paths p f there
 
 -- where an opening was refused
-pub keeps_refused : (path : List ℕ) (h h' : Held) (a b : World) (n : ℕ) → h.output ≡ None → h' ≡ failing n h
+pub keeps_refused : (path : List ℕ) (h h' : OpenFiles) (a b : World) (n : ℕ) → h.output ≡ None → h' ≡ failing n h
     → OnlyAt h.read path a b → KeepsBegun h.begun a b → KeepsMade h h' a b
 keeps_refused path h h' a b n closed same_held only begun = record {
   closed = ap (λ k. k.output) same_held ∙ closed;
@@ -185,7 +185,7 @@ keeps_refused path h h' a b n closed same_held only begun = record {
   listed = λ f listed. subst (λ k. Contains k.begun f) (sym same_held) listed;
 }
 
-pub keeps_then : (h h' h'' : Held) (a b c : World) → KeepsMade h h' a b → KeepsMade h' h'' b c → KeepsMade h h'' a c
+pub keeps_then : (h h' h'' : OpenFiles) (a b c : World) → KeepsMade h h' a b → KeepsMade h' h'' b c → KeepsMade h h'' a c
 keeps_then h h' h'' a b c first next = record {
   closed = next.closed;
   leads = λ p f there. next.leads p f (first.leads p f there);
@@ -193,7 +193,7 @@ keeps_then h h' h'' a b c first next = record {
   listed = λ f listed. next.listed f (first.listed f listed);
 }
 
-pub made_later : (h h' : Held) (a b : World) (path bytes : List ℕ) → KeepsMade h h' a b → IsMade h a path bytes
+pub made_later : (h h' : OpenFiles) (a b : World) (path bytes : List ℕ) → KeepsMade h h' a b → IsMade h a path bytes
     → IsMade h' b path bytes
 made_later h h' a b path bytes kept done = record {
   file = done.file;
@@ -202,7 +202,7 @@ made_later h h' a b path bytes kept done = record {
   listed = kept.listed done.file done.listed;
 }
 
-pub stands : (h : Held) (world : World) (path bytes : List ℕ) → IsMade h world path bytes → FileHolds world path bytes
+pub stands : (h : OpenFiles) (world : World) (path bytes : List ℕ) → IsMade h world path bytes → FileHolds world path bytes
 stands h world path bytes done = record {
   file = done.file;
   there = done.there;
@@ -219,7 +219,7 @@ none_listed f begun none listed =
     ]
 
 -- behind a file that was opened to be read
-pub among_behind : (P : List ℕ → Type 0) (path bytes : List ℕ) (h h' h'' : Held) (a b c : World) → h.begun ≡ []
+pub among_behind : (P : List ℕ → Type 0) (path bytes : List ℕ) (h h' h'' : OpenFiles) (a b c : World) → h.begun ≡ []
     → OpensFile a path bytes h h' → b ≡ a → GoesAmong P h' h'' b c → OnlyAmong P h.read h''.begun a c
 among_behind P path bytes h h' h'' a b c none opens same goes = record {
   leads = λ p f there. goes.leads p f (subst (λ w. w.at p ≡ Some f) (sym same) there);
@@ -242,7 +242,7 @@ among_behind P path bytes h h' h'' a b c none opens same goes = record {
           (Contains-append_left h.read (opens.file ∷ []) f listed));
     }
 
-pub among_none : (P : List ℕ → Type 0) (h h' : Held) (a b : World) (n : ℕ) → h.begun ≡ [] → h' ≡ failing n h → b ≡ a
+pub among_none : (P : List ℕ → Type 0) (h h' : OpenFiles) (a b : World) (n : ℕ) → h.begun ≡ [] → h' ≡ failing n h → b ≡ a
     → OnlyAmong P h.read h'.begun a b
 among_none P h h' a b n none same_held same = record {
   leads = λ p f there. subst (λ w. w.at p ≡ Some f) (sym same) there;
@@ -251,7 +251,7 @@ among_none P h h' a b n none same_held same = record {
 }
 
 -- the file that was opened holds what it held
-pub kept_beside : (P : List ℕ → Type 0) (path bytes : List ℕ) (h h' h'' : Held) (a b c : World)
+pub kept_beside : (P : List ℕ → Type 0) (path bytes : List ℕ) (h h' h'' : OpenFiles) (a b c : World)
     (opens : OpensFile a path bytes h h') → b ≡ a → GoesAmong P h' h'' b c → c.holds opens.file ≡ a.holds opens.file
 kept_beside P path bytes h h' h'' a b c opens same goes = elim (goes.files opens.file) [
   | inl still ↦ still ∙ ap (λ w. w.holds opens.file) same
@@ -270,7 +270,7 @@ more_named P Q read w f wider there = record {
   free = there.free;
 }
 
-pub goes_more : (P Q : List ℕ → Type 0) (h h' : Held) (a b : World) → ((p : List ℕ) → P p → Q p)
+pub goes_more : (P Q : List ℕ → Type 0) (h h' : OpenFiles) (a b : World) → ((p : List ℕ) → P p → Q p)
     → GoesAmong P h h' a b → GoesAmong Q h h' a b
 goes_more P Q h h' a b wider goes = record {
   read = goes.read;

@@ -2,7 +2,7 @@
 use Rattle.std.proofs.Common.{◌≡◌, ◌≢◌, ℕ, ◌+◌, List, [], ◌∷◌, ◌++◌, Option, Some, None, sym, ◌∙◌, ap, subst}
 use Rattle.std.specs.Prelude.{Contains, unwrap_or, true, if◌then◌else◌}
 use Rattle.std.proofs.lemmas.List.Elements.{Contains-append_left, Contains-push}
-use Rattle.sys_disk.specs.World.{World, Held, Spares, OpensFile, Creates, OnlyAt, untouched, in_output, Ends, SparesRest, KeepsFile, ended}
+use Rattle.sys_disk.specs.World.{World, OpenFiles, Spares, OpensFile, Creates, OnlyAt, untouched, in_output, Ends, SparesRest, KeepsFile, ended}
 
 pub spares_trans : (f : ℕ) (a b c : World) → Spares f a b → Spares f b c → Spares f a c
 spares_trans f a b c s t = record {
@@ -29,28 +29,28 @@ keeps_beside input path read read' f old new at e (in_output file here free spar
     λ g h. spares.files g (λ same. apart read read' f file e free (ap (λ o. unwrap_or o 0) (sym at ∙ h) ∙ same))
 
 -- an output that was created, and then brought to its end or let go
-pub only_written : (path : List ℕ) (h h' : Held) (a b c : World) → Creates path h h' a b → SparesRest h'.output b c
+pub only_written : (path : List ℕ) (h h' : OpenFiles) (a b c : World) → Creates path h h' a b → SparesRest h'.output b c
     → OnlyAt h.read path a c
 only_written path h h' a b c made rest =
     let after : Spares made.file b c = subst (λ k. SparesRest k.output b c) made.begins rest in
     in_output made.file (after.paths path made.file made.there) made.free (spares_trans made.file a b c made.spares after)
 
 -- behind an input that was opened, the output alone was touched
-pub only_behind : (path input bytes : List ℕ) (h h' : Held) (a b c : World) → OpensFile a input bytes h h' → b ≡ a
+pub only_behind : (path input bytes : List ℕ) (h h' : OpenFiles) (a b c : World) → OpensFile a input bytes h h' → b ≡ a
     → OnlyAt h'.read path b c → OnlyAt h.read path a c
 only_behind path input bytes h h' a b c opened same only =
     fewer h.read h'.read opened.file path a c (ap (λ k. k.read) opened.taken)
     (subst (λ w. OnlyAt h'.read path w c) same only)
 
 -- and the input holds what it held
-pub kept_behind : (path input bytes : List ℕ) (h h' : Held) (a b c : World) → OpensFile a input bytes h h' → b ≡ a
+pub kept_behind : (path input bytes : List ℕ) (h h' : OpenFiles) (a b c : World) → OpensFile a input bytes h h' → b ≡ a
     → OnlyAt h'.read path b c → KeepsFile input a c
 kept_behind path input bytes h h' a b c opened same only =
     keeps_beside input path h.read h'.read opened.file a c opened.there (ap (λ k. k.read) opened.taken)
     (subst (λ w. OnlyAt h'.read path w c) same only)
 
 -- an input and an output were opened, and the output brought to its end: it was synced if outputs are
-pub synced_behind : (path input bytes : List ℕ) (h h' h'' new : Held) (w a b : World) → OpensFile w input bytes h h'
+pub synced_behind : (path input bytes : List ℕ) (h h' h'' new : OpenFiles) (w a b : World) → OpensFile w input bytes h h'
     → Creates path h' h'' a b → (n : ℕ) → new ≡ ended true n h'' → new.syncs ≡ h.syncs + (if h.is_synced then 1 else 0)
 synced_behind path input bytes h h' h'' new w a b opened made n done =
     ap (λ k. k.syncs) done ∙ ap (λ k. k.syncs + (if k.is_synced then 1 else 0)) made.begins

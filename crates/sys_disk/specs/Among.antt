@@ -1,6 +1,6 @@
 -- Files that stand under given names, and that nothing else was changed.
 use Rattle.std.specs.Prelude.{◌≡◌, ◌⊎◌, ℕ, List, [], ◌∷◌, Option, Some, None, Contains}
-use Rattle.sys_disk.specs.World.{World, Held, KeepsBegun}
+use Rattle.sys_disk.specs.World.{World, OpenFiles, KeepsBegun}
 
 -- a file stands at this path, and holds these bytes
 pub record FileHolds (world : World) (path bytes : List ℕ) : Type 0 where
@@ -25,21 +25,21 @@ pub record OnlyAmong (named : List ℕ → Type 0) (read begun : List ℕ) (old 
 -- ---- for outputs that are written one after another
 
 -- the same, from one moment of a run to another
-pub record GoesAmong (named : List ℕ → Type 0) (held held' : Held) (old new : World) : Type 0 where
+pub record GoesAmong (named : List ℕ → Type 0) (held held' : OpenFiles) (old new : World) : Type 0 where
   pub read : held'.read ≡ held.read
   pub leads : (p : List ℕ) (f : ℕ) → old.at p ≡ Some f → new.at p ≡ Some f
   pub files : (f : ℕ) → (new.holds f ≡ old.holds f) ⊎ IsAmong named held.read new f
   pub opened : (f : ℕ) → Contains held'.begun f → Contains held.begun f ⊎ IsAmong named held.read new f
 
 -- no output is open, and each file that was begun before holds what it held
-pub record KeepsMade (held held' : Held) (old new : World) : Type 0 where
+pub record KeepsMade (held held' : OpenFiles) (old new : World) : Type 0 where
   pub closed : held'.output ≡ None
   pub leads : (p : List ℕ) (f : ℕ) → old.at p ≡ Some f → new.at p ≡ Some f
   pub holds : KeepsBegun held.begun old new
   pub listed : (f : ℕ) → Contains held.begun f → Contains held'.begun f
 
 -- the file at this path was begun, and holds these bytes
-pub record IsMade (held : Held) (world : World) (path bytes : List ℕ) : Type 0 where
+pub record IsMade (held : OpenFiles) (world : World) (path bytes : List ℕ) : Type 0 where
   pub file : ℕ
   pub there : world.at path ≡ Some file
   pub holds : world.holds file ≡ bytes

@@ -6,108 +6,108 @@ use Rattle.abt_io.specs.Moment.{Past, no_past}
 use Rattle.sys_disk.specs.Images.{Leaves}
 use Rattle.sys_disk.specs.InPlace.{OpensPart, MakesZeros}
 use Rattle.sys_disk.specs.Spools.{OpensSpool}
-use Rattle.sys_disk.specs.World.{World, Held, OpensFile, Creates, OnlyAt, KeepsBegun, KeepsFile, IsFree, Ends}
+use Rattle.sys_disk.specs.World.{World, OpenFiles, OpensFile, Creates, OnlyAt, KeepsBegun, KeepsFile, IsFree, Ends}
 use Rattle.sys_disk.specs.World.{SparesRest, HasNotFailed, failing, unless}
 use Rattle.sys_disk.specs.World as worlds
 
 -- a file is opened to be read, or the call is refused; no file has changed
-pub record OpensToRead {A F : Type 0} (tells : Bool) (r : Result A F) (path : List ℕ) (its_content : A → List ℕ)
-    (its_faults : A → ℕ) (h h' : Held) (before after : World) : Type 0 where
-  pub opened : IsTrue tells → IfOk r (λ a. OpensFile before path (its_content a) h h')
-  pub clean : IsTrue tells → IfOk r (λ a. its_faults a ≡ 0)
-  pub kept : IsTrue tells → OnErr r (h' ≡ failing 1 h)
-  pub world : IsTrue tells → after ≡ before
+pub record OpensToRead {A F : Type 0} (models : Bool) (r : Result A F) (path : List ℕ) (its_content : A → List ℕ)
+    (its_faults : A → ℕ) (h h' : OpenFiles) (before after : World) : Type 0 where
+  pub opened : IsTrue models → IfOk r (λ a. OpensFile before path (its_content a) h h')
+  pub clean : IsTrue models → IfOk r (λ a. its_faults a ≡ 0)
+  pub kept : IsTrue models → OnErr r (h' ≡ failing 1 h)
+  pub world : IsTrue models → after ≡ before
 
 -- n calls more have failed, and no file has changed
-pub record FailsOnly (tells : Bool) (n : ℕ) (h h' : Held) (before after : World) : Type 0 where
-  pub held : IsTrue tells → h' ≡ failing n h
-  pub world : IsTrue tells → after ≡ before
+pub record FailsOnly (models : Bool) (n : ℕ) (h h' : OpenFiles) (before after : World) : Type 0 where
+  pub held : IsTrue models → h' ≡ failing n h
+  pub world : IsTrue models → after ≡ before
 
 -- no file that is read or was begun is at this path, or the call is refused
-pub record RefusesTaken {A F : Type 0} (tells : Bool) (r : Result A F) (path : List ℕ) (h h' : Held)
+pub record RefusesTaken {A F : Type 0} (models : Bool) (r : Result A F) (path : List ℕ) (h h' : OpenFiles)
     (before after : World) : Type 0 where
-  pub free : IsTrue tells → OnOk r (IsFree path h before)
-  pub held : IsTrue tells → h' ≡ failing (unless (is_ok r)) h
-  pub world : IsTrue tells → after ≡ before
+  pub free : IsTrue models → OnOk r (IsFree path h before)
+  pub held : IsTrue models → h' ≡ failing (unless (is_ok r)) h
+  pub world : IsTrue models → after ≡ before
 
 -- a file is opened to be written in place, or the call is refused; no file has changed
-pub record OpensInPlace {A F : Type 0} (tells : Bool) (r : Result A F) (path : List ℕ) (its_content : A → List ℕ)
-    (its_past : A → Past) (its_faults : A → ℕ) (h h' : Held) (before after : World) : Type 0 where
-  pub opened : IsTrue tells → IfOk r (λ a. OpensPart before path (its_content a) h h')
-  pub past : IsTrue tells → IfOk r (λ a. its_past a ≡ no_past)
-  pub clean : IsTrue tells → IfOk r (λ a. its_faults a ≡ 0)
-  pub kept : IsTrue tells → OnErr r (h' ≡ failing 1 h)
-  pub world : IsTrue tells → after ≡ before
+pub record OpensInPlace {A F : Type 0} (models : Bool) (r : Result A F) (path : List ℕ) (its_content : A → List ℕ)
+    (its_past : A → Past) (its_faults : A → ℕ) (h h' : OpenFiles) (before after : World) : Type 0 where
+  pub opened : IsTrue models → IfOk r (λ a. OpensPart before path (its_content a) h h')
+  pub past : IsTrue models → IfOk r (λ a. its_past a ≡ no_past)
+  pub clean : IsTrue models → IfOk r (λ a. its_faults a ≡ 0)
+  pub kept : IsTrue models → OnErr r (h' ≡ failing 1 h)
+  pub world : IsTrue models → after ≡ before
 
 -- a file of so many zeros is made, to be written in place, or the call is refused: then only the file at this path may
 -- hold anything else
-pub record MakesPart {A F : Type 0} (tells : Bool) (r : Result A F) (n : ℕ) (path : List ℕ) (its_content : A → List ℕ)
-    (its_past : A → Past) (its_faults : A → ℕ) (h h' : Held) (before after : World) : Type 0 where
-  pub made : IsTrue tells → OnOk r (MakesZeros n path h h' before after)
-  pub zeros : IsTrue tells → IfOk r (λ a. its_content a ≡ replicate n 0)
-  pub past : IsTrue tells → IfOk r (λ a. its_past a ≡ no_past)
-  pub clean : IsTrue tells → IfOk r (λ a. its_faults a ≡ 0)
-  pub kept : IsTrue tells → OnErr r (h' ≡ failing 1 h)
-  pub only : IsTrue tells → OnErr r (OnlyAt h.read path before after)
-  pub begun : IsTrue tells → OnErr r (KeepsBegun h.begun before after)
+pub record MakesPart {A F : Type 0} (models : Bool) (r : Result A F) (n : ℕ) (path : List ℕ) (its_content : A → List ℕ)
+    (its_past : A → Past) (its_faults : A → ℕ) (h h' : OpenFiles) (before after : World) : Type 0 where
+  pub made : IsTrue models → OnOk r (MakesZeros n path h h' before after)
+  pub zeros : IsTrue models → IfOk r (λ a. its_content a ≡ replicate n 0)
+  pub past : IsTrue models → IfOk r (λ a. its_past a ≡ no_past)
+  pub clean : IsTrue models → IfOk r (λ a. its_faults a ≡ 0)
+  pub kept : IsTrue models → OnErr r (h' ≡ failing 1 h)
+  pub only : IsTrue models → OnErr r (OnlyAt h.read path before after)
+  pub begun : IsTrue models → OnErr r (KeepsBegun h.begun before after)
 
 -- pieces of so many bytes go through the file at this path, or the call is refused in the same way
-pub record OpensThrough {A F : Type 0} (tells : Bool) (r : Result A F) (n : ℕ) (path : List ℕ) (its_size : A → ℕ)
-    (its_written its_cuts : A → List ℕ) (its_faults : A → ℕ) (h h' : Held) (before after : World) : Type 0 where
+pub record OpensThrough {A F : Type 0} (models : Bool) (r : Result A F) (n : ℕ) (path : List ℕ) (its_size : A → ℕ)
+    (its_written its_cuts : A → List ℕ) (its_faults : A → ℕ) (h h' : OpenFiles) (before after : World) : Type 0 where
   pub capacity : IfOk r (λ a. its_size a ≡ n)
-  pub empty : IsTrue tells → IfOk r (λ a. its_written a ≡ [])
-  pub uncut : IsTrue tells → IfOk r (λ a. its_cuts a ≡ [])
-  pub clean : IsTrue tells → IfOk r (λ a. its_faults a ≡ 0)
-  pub opened : IsTrue tells → OnOk r (OpensSpool path h h' before after)
-  pub kept : IsTrue tells → OnErr r (h' ≡ failing 1 h)
-  pub only : IsTrue tells → OnErr r (OnlyAt h.read path before after)
-  pub begun : IsTrue tells → OnErr r (KeepsBegun h.begun before after)
+  pub empty : IsTrue models → IfOk r (λ a. its_written a ≡ [])
+  pub uncut : IsTrue models → IfOk r (λ a. its_cuts a ≡ [])
+  pub clean : IsTrue models → IfOk r (λ a. its_faults a ≡ 0)
+  pub opened : IsTrue models → OnOk r (OpensSpool path h h' before after)
+  pub kept : IsTrue models → OnErr r (h' ≡ failing 1 h)
+  pub only : IsTrue models → OnErr r (OnlyAt h.read path before after)
+  pub begun : IsTrue models → OnErr r (KeepsBegun h.begun before after)
 
 -- the file at this path is the output that is open, or the call is refused in the same way
-pub record CreatesOutput {A F : Type 0} (tells : Bool) (r : Result A F) (path : List ℕ) (its_written : A → List ℕ)
-    (its_faults : A → ℕ) (h h' : Held) (before after : World) : Type 0 where
+pub record CreatesOutput {A F : Type 0} (models : Bool) (r : Result A F) (path : List ℕ) (its_written : A → List ℕ)
+    (its_faults : A → ℕ) (h h' : OpenFiles) (before after : World) : Type 0 where
   pub empty : IfOk r (λ a. its_written a ≡ [])
-  pub clean : IsTrue tells → IfOk r (λ a. its_faults a ≡ 0)
-  pub created : IsTrue tells → OnOk r (Creates path h h' before after)
-  pub kept : IsTrue tells → OnErr r (h' ≡ failing 1 h)
-  pub only : IsTrue tells → OnErr r (OnlyAt h.read path before after)
-  pub begun : IsTrue tells → OnErr r (KeepsBegun h.begun before after)
+  pub clean : IsTrue models → IfOk r (λ a. its_faults a ≡ 0)
+  pub created : IsTrue models → OnOk r (Creates path h h' before after)
+  pub kept : IsTrue models → OnErr r (h' ≡ failing 1 h)
+  pub only : IsTrue models → OnErr r (OnlyAt h.read path before after)
+  pub begun : IsTrue models → OnErr r (KeepsBegun h.begun before after)
 
 -- the output that is open is brought to its end, and holds these bytes, or the call is refused; it is answered whether
 -- that is where standard output goes
-pub record FinishesOutput {F : Type 0} (tells : Bool) (r : Result Bool F) (is_on_output : Bool) (bytes : List ℕ)
-    (failures : ℕ) (h h' : Held) (before after : World) : Type 0 where
-  pub ended : IsTrue tells → OnOk r (Ends h.output bytes before after)
-  pub closed : IsTrue tells → h' ≡ worlds.ended (is_ok r) (unless (is_ok r) + failures) h
-  pub rest : IsTrue tells → SparesRest h.output before after
-  pub stream : IsTrue tells → IfOk r (λ is. is ≡ is_on_output)
+pub record FinishesOutput {F : Type 0} (models : Bool) (r : Result Bool F) (is_on_output : Bool) (bytes : List ℕ)
+    (failures : ℕ) (h h' : OpenFiles) (before after : World) : Type 0 where
+  pub ended : IsTrue models → OnOk r (Ends h.output bytes before after)
+  pub closed : IsTrue models → h' ≡ worlds.ended (is_ok r) (unless (is_ok r) + failures) h
+  pub rest : IsTrue models → SparesRest h.output before after
+  pub stream : IsTrue models → IfOk r (λ is. is ≡ is_on_output)
 
 -- the output that is open is let go
-pub record LetsGo (tells : Bool) (failures : ℕ) (h h' : Held) (before after : World) : Type 0 where
-  pub closed : IsTrue tells → h' ≡ worlds.ended false failures h
-  pub rest : IsTrue tells → SparesRest h.output before after
+pub record LetsGo (models : Bool) (failures : ℕ) (h h' : OpenFiles) (before after : World) : Type 0 where
+  pub closed : IsTrue models → h' ≡ worlds.ended false failures h
+  pub rest : IsTrue models → SparesRest h.output before after
 
 -- and it holds these bytes, or its front isn't there
-pub record LetsImageGo (tells : Bool) (bytes : List ℕ) (failures : ℕ) (h h' : Held) (before after : World) : Type 0
+pub record LetsImageGo (models : Bool) (bytes : List ℕ) (failures : ℕ) (h h' : OpenFiles) (before after : World) : Type 0
   where
-    pub left : IsTrue tells → Leaves h.output bytes after
-    pub closed : IsTrue tells → h' ≡ worlds.ended false failures h
-    pub rest : IsTrue tells → SparesRest h.output before after
+    pub left : IsTrue models → Leaves h.output bytes after
+    pub closed : IsTrue models → h' ≡ worlds.ended false failures h
+    pub rest : IsTrue models → SparesRest h.output before after
 
 -- ---- for runs of calls
 
 -- no file has changed, and after an Ok nothing has failed
-pub record LeavesAll {A F : Type 0} (tells : Bool) (r : Result A F) (h h' : Held) (before after : World) : Type 0 where
-  pub world : IsTrue tells → after ≡ before
-  pub clean : IsTrue tells → OnOk r (HasNotFailed h h')
+pub record LeavesAll {A F : Type 0} (models : Bool) (r : Result A F) (h h' : OpenFiles) (before after : World) : Type 0 where
+  pub world : IsTrue models → after ≡ before
+  pub clean : IsTrue models → OnOk r (HasNotFailed h h')
 
 -- the file at this path holds what it held, and after an Ok nothing has failed
-pub record KeepsInput {A F : Type 0} (tells : Bool) (r : Result A F) (path : List ℕ) (h h' : Held)
+pub record KeepsInput {A F : Type 0} (models : Bool) (r : Result A F) (path : List ℕ) (h h' : OpenFiles)
     (before after : World) : Type 0 where
-  pub input : IsTrue tells → KeepsFile path before after
-  pub clean : IsTrue tells → OnOk r (HasNotFailed h h')
+  pub input : IsTrue models → KeepsFile path before after
+  pub clean : IsTrue models → OnOk r (HasNotFailed h h')
 
 -- nothing was opened to be written yet, and no file is written in place
-pub record HasNoPart (h : Held) : Type 0 where
+pub record HasNoPart (h : OpenFiles) : Type 0 where
   pub begun : h.begun ≡ []
   pub part : h.part ≡ None

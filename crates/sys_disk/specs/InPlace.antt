@@ -2,14 +2,14 @@
 use Rattle.std.specs.Prelude.{◌≡◌, ℕ, ◌+◌, List, [], ◌∷◌, length, Option, Some, None, Bool, false, Contains, nat_lt}
 use Rattle.std.specs.Prelude.{◌<◌, IsTrue, if◌then◌else◌, replicate}
 use Rattle.abt_io.specs.Moment.{Past}
-use Rattle.sys_disk.specs.World.{World, Held, Spares, failing}
+use Rattle.sys_disk.specs.World.{World, OpenFiles, Spares, failing}
 
 -- this file more is written, in place
-abbrev pub in_place : ℕ → Held → Held
+abbrev pub in_place : ℕ → OpenFiles → OpenFiles
 in_place file h = record h { begun = file ∷ h.begun; part = Some file }
 
 -- the file at this path is written in place from now on: none that is read or was begun, and these are its bytes
-pub record OpensPart (world : World) (path bytes : List ℕ) (old new : Held) : Type 0 where
+pub record OpensPart (world : World) (path bytes : List ℕ) (old new : OpenFiles) : Type 0 where
   pub file : ℕ
   pub there : world.at path ≡ Some file
   pub free : ¬ Contains old.read file
@@ -26,7 +26,7 @@ abbrev pub is_settled : Past → Bool
 is_settled past = is_settled_in past.pending past.synced
 
 -- it is closed, and has failed so often; one sync more, where it was synced behind its last byte
-abbrev pub closed_part : Past → ℕ → Held → Held
+abbrev pub closed_part : Past → ℕ → OpenFiles → OpenFiles
 closed_part past failures h = record h {
   part = None;
   syncs = h.syncs + (if is_settled past then 1 else 0);
@@ -35,7 +35,7 @@ closed_part past failures h = record h {
 
 -- The file that was written in place is closed, and the call that wrote it was answered so. It is done only where
 -- nothing failed at the end, and where the call had done its work it is refused only where something has.
-pub record ClosesPart (is_written is_done : Bool) (past : Past) (failures : ℕ) (old new : Held) : Type 0 where
+pub record ClosesPart (is_written is_done : Bool) (past : Past) (failures : ℕ) (old new : OpenFiles) : Type 0 where
   pub more : ℕ
   pub closed : new ≡ failing more (closed_part past failures old)
   pub clean : IsTrue is_done → more ≡ 0
@@ -43,7 +43,7 @@ pub record ClosesPart (is_written is_done : Bool) (past : Past) (failures : ℕ)
 
 -- the file at this path was created or emptied, and is so many zeros, to be written in place: none that is read or was
 -- begun, and all others are as before
-pub record MakesZeros (n : ℕ) (path : List ℕ) (held held' : Held) (old new : World) : Type 0 where
+pub record MakesZeros (n : ℕ) (path : List ℕ) (held held' : OpenFiles) (old new : World) : Type 0 where
   pub file : ℕ
   pub begins : held' ≡ in_place file held
   pub there : new.at path ≡ Some file

@@ -1,10 +1,10 @@
 -- What is left of numbered files, behind those that were written.
 use Rattle.std.specs.Prelude.{◌≡◌, ◌≢◌, ℕ, ◌<◌, ◌^◌, List, Option, Some, None}
-use Rattle.sys_refusals.specs.declared.place.Place.{Place}
+use Rattle.sys_refusals.specs.declared.place.FileArg.{FileArg}
 use Rattle.sys_refusals.specs.Paths.{path_of}
 
 -- the path of a place with this number behind it
-abbrev pub path_with : Place → ℕ → List ℕ
+abbrev pub path_with : FileArg → ℕ → List ℕ
 path_with p n = path_of (record p { number = Some n })
 
 -- the least number above this one, of 32 bits, at which a file is

@@ -1,19 +1,19 @@
 -- The file that pieces go through: it is created or emptied, written, read again and cleared, and closed.
 use Rattle.std.specs.Prelude.{◌≡◌, ℕ, ◌+◌, List, ◌∷◌, length, drop, Some, None, Contains}
 use Rattle.abt_io.specs.Frame.{last_cut}
-use Rattle.sys_disk.specs.World.{World, Held, Spares}
+use Rattle.sys_disk.specs.World.{World, OpenFiles, Spares}
 
 -- pieces go through this file from now on
-abbrev pub through : ℕ → Held → Held
+abbrev pub through : ℕ → OpenFiles → OpenFiles
 through file h = record h { begun = file ∷ h.begun; spool = Some file }
 
 -- it is closed, and has failed so often
-abbrev pub closed_spool : ℕ → Held → Held
+abbrev pub closed_spool : ℕ → OpenFiles → OpenFiles
 closed_spool failures h = record h { spool = None; failed = h.failed + failures }
 
 -- the file at this path was created or emptied, and pieces go through it: none that is read or was begun, and all
 -- others are as before
-pub record OpensSpool (path : List ℕ) (held held' : Held) (old new : World) : Type 0 where
+pub record OpensSpool (path : List ℕ) (held held' : OpenFiles) (old new : World) : Type 0 where
   pub file : ℕ
   pub begins : held' ≡ through file held
   pub there : new.at path ≡ Some file

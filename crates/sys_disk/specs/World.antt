@@ -10,7 +10,7 @@ pub record World : Type 0 where
 -- What was opened: the files that are read; those that were created or opened to be written, the newest first; the
 -- output that is open, the file that is written in place, and the one that pieces go through; whether outputs are
 -- synced at their end, and how often one was; how often a call was refused, or a device failed that was given back.
-pub record Held : Type 0 where
+pub record OpenFiles : Type 0 where
   pub read : List ℕ
   pub begun : List ℕ
   pub output : Option ℕ
@@ -21,7 +21,7 @@ pub record Held : Type 0 where
   pub failed : ℕ
 
 -- nothing was opened to be written yet
-pub record IsReading (h : Held) : Type 0 where
+pub record IsReading (h : OpenFiles) : Type 0 where
   pub begun : h.begun ≡ []
   pub output : h.output ≡ None
 
@@ -31,27 +31,27 @@ unless true = 0
 unless false = 1
 
 -- a call was refused, or a device failed, so many times more
-abbrev pub failing : ℕ → Held → Held
+abbrev pub failing : ℕ → OpenFiles → OpenFiles
 failing n h = record h { failed = h.failed + n }
 
 -- in this run a call was refused, or a device failed
-abbrev pub HasFailed : Held → Held → Type 0
+abbrev pub HasFailed : OpenFiles → OpenFiles → Type 0
 HasFailed old new = old.failed < new.failed
 
 -- none was, and none did
-abbrev pub HasNotFailed : Held → Held → Type 0
+abbrev pub HasNotFailed : OpenFiles → OpenFiles → Type 0
 HasNotFailed old new = new.failed ≡ old.failed
 
 -- this file more is read
-abbrev pub reading : ℕ → Held → Held
+abbrev pub reading : ℕ → OpenFiles → OpenFiles
 reading file h = record h { read = h.read ++ (file ∷ []) }
 
 -- this file more is written, and is the output that is open
-abbrev pub creating : ℕ → Held → Held
+abbrev pub creating : ℕ → OpenFiles → OpenFiles
 creating file h = record h { begun = file ∷ h.begun; output = Some file }
 
 -- the output that was open is closed, and synced where it was brought to its end and outputs are; so much has failed
-abbrev pub ended : Bool → ℕ → Held → Held
+abbrev pub ended : Bool → ℕ → OpenFiles → OpenFiles
 ended is_done failures h = record h {
   output = None;
   syncs = h.syncs + (if is_done && h.is_synced then 1 else 0);
@@ -59,7 +59,7 @@ ended is_done failures h = record h {
 }
 
 -- the output that was open is closed: it was brought to its end exactly where nothing has failed
-pub record ClosesOutput (is_done : Bool) (old new : Held) : Type 0 where
+pub record ClosesOutput (is_done : Bool) (old new : OpenFiles) : Type 0 where
   pub failures : ℕ
   pub closed : new ≡ ended is_done failures old
   pub clean : IsTrue is_done → failures ≡ 0
@@ -76,14 +76,14 @@ pub record Spares (file : ℕ) (old new : World) : Type 0 where
   pub files : (f : ℕ) → f ≢ file → new.holds f ≡ old.holds f
 
 -- the file at this path is one of those that are read now, and these are its bytes
-pub record OpensFile (world : World) (path bytes : List ℕ) (old new : Held) : Type 0 where
+pub record OpensFile (world : World) (path bytes : List ℕ) (old new : OpenFiles) : Type 0 where
   pub file : ℕ
   pub there : world.at path ≡ Some file
   pub held : bytes ≡ world.holds file
   pub taken : new ≡ reading file old
 
 -- the file at this path is begun: none that is read or was begun, and all others are as before
-pub record Creates (path : List ℕ) (held held' : Held) (old new : World) : Type 0 where
+pub record Creates (path : List ℕ) (held held' : OpenFiles) (old new : World) : Type 0 where
   pub file : ℕ
   pub begins : held' ≡ creating file held
   pub there : new.at path ≡ Some file
@@ -98,7 +98,7 @@ pub data OnlyAt (read path : List ℕ) (old new : World) : Type 0 where
       → OnlyAt read path old new
 
 -- no file that is read or was begun is at this path
-abbrev pub IsFree : List ℕ → Held → World → Type 0
+abbrev pub IsFree : List ℕ → OpenFiles → World → Type 0
 IsFree path held world =
     (file : ℕ) → world.at path ≡ Some file → (¬ Contains held.read file) × (¬ Contains held.begun file)
 

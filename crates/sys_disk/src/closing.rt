@@ -7,28 +7,28 @@ ghost use Rattle.sys_refusals.specs.Paths.{path_of};
 ghost use Rattle.sys_refusals.specs.declared.refusal.HostFault.{HostFault};
 
 use crate::Disk;
-use sys_refusals::{HostFault, Place, Refusal, Sides, Told};
+use sys_refusals::{FileArg, HostFault, Refusal, Sides, Told};
 
 /// What a call answered that wrote a file in place, which is closed, and whether that is where standard output goes. Where
 /// the call was refused, its fault is told.
 pub fn closed<'a, D: Disk, T: Drop, F: Told + From<HostFault> + Drop>(
     disk: &mut D,
     answer: Result<T, F>,
-    part: D::Part,
-    place: Place<'a>,
+    part: D::InPlace,
+    place: FileArg<'a>,
     sides: Sides<'a>,
 ) -> Result<(T, bool), Refusal<'a, F>>
-    requires long { IsTrue D.tells → IsAsLong (D.held disk.old).part (D.Part.content part) (D.world disk.old) }
+    requires long { IsTrue D.models → IsAsLong (D.held disk.old).part (D.InPlace.content part) (D.world disk.old) }
     ensures done { IfOk result (λ end. answer ≡ Ok end.0) }
     ensures told { IfErr answer (λ fault. IfErr result (λ refusal. refusal.fault ≡ fault)) }
     ensures host { IsOk answer → IfErr result (λ refusal. (fault : HostFault) × F.from_gives fault refusal.fault) }
-    ensures ended { IsTrue D.tells → Ends (D.held disk.old).part (D.Part.content part) (D.world disk.old)
+    ensures ended { IsTrue D.models → Ends (D.held disk.old).part (D.InPlace.content part) (D.world disk.old)
         (D.world disk.new) }
-    ensures paths { IsTrue D.tells → (D.world disk.new).at ≡ (D.world disk.old).at }
-    ensures closed { IsTrue D.tells → ClosesPart (is_ok answer) (is_ok result) (D.Part.past part)
-        (D.Part.put_faults part) (D.held disk.old) (D.held disk.new) }
-    ensures rest { IsTrue D.tells → SparesRest (D.held disk.old).part (D.world disk.old) (D.world disk.new) }
-    ensures stream { IsTrue D.tells → IfOk result (λ end. end.1 ≡ D.on_output (path_of place.entry)) }
+    ensures paths { IsTrue D.models → (D.world disk.new).at ≡ (D.world disk.old).at }
+    ensures closed { IsTrue D.models → ClosesPart (is_ok answer) (is_ok result) (D.InPlace.past part)
+        (D.InPlace.put_faults part) (D.held disk.old) (D.held disk.new) }
+    ensures rest { IsTrue D.models → SparesRest (D.held disk.old).part (D.world disk.old) (D.world disk.new) }
+    ensures stream { IsTrue D.models → IfOk result (λ end. end.1 ≡ D.on_output (path_of place.entry)) }
 {
     let end = disk.close(part, place);
     match answer {

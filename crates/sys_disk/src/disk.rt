@@ -9,13 +9,13 @@ ghost use Rattle.sys_disk.specs.Images.{is_file, OfImage, Leaves, EmptiesAt};
 ghost use Rattle.sys_disk.specs.InPlace.{IsAsLong, closed_part};
 ghost use Rattle.sys_disk.specs.LeftOver.{IsNextLeft, path_with};
 ghost use Rattle.sys_disk.specs.Spools.{closed_spool, behind_clear};
-ghost use Rattle.sys_disk.specs.World.{World, Held, OpensFile, Creates, OnlyAt, Ends, SparesRest, ended};
+ghost use Rattle.sys_disk.specs.World.{World, OpenFiles, OpensFile, Creates, OnlyAt, Ends, SparesRest, ended};
 ghost use Rattle.sys_disk.specs.World.{KeepsBegun, failing, unless};
 
 use crate::{ImageTo, Lasting, Late};
 use abt_io::{Input, Output, Overwrite, Partition, Source, Spool};
-use sys_refusals::{HostFault, HostRefusal, Place};
 use std::alloc::AllocError;
+use sys_refusals::{FileArg, HostFault, HostRefusal};
 
 /// A device that knows why its last call failed.
 pub trait Reasons {
@@ -45,7 +45,7 @@ pub trait Disk {
     type At: Source + Lasting + Drop;
 
     /// What is written in place.
-    type Part: Partition + Drop;
+    type InPlace: Partition + Drop;
 
     /// A regular file that an image goes to, which is written over.
     type Image: Late + Reasons + Drop;
@@ -54,13 +54,13 @@ pub trait Disk {
     type Through: Spool + Overwrite + Drop;
 
     /// It tells what its files hold.
-    ghost tells: { Bool };
+    ghost models: { Bool };
 
     /// Its files.
     ghost world: { Self → World };
 
     /// What was opened.
-    ghost held: { Self → Held };
+    ghost held: { Self → OpenFiles };
 
     /// Which paths lead to regular files, where an image can be written over.
     ghost is_over: { List ℕ → Bool };
@@ -69,57 +69,57 @@ pub trait Disk {
     ghost on_output: { List ℕ → Bool };
 
     /// Opens what is read forward. `-` is standard input.
-    fn input<'a>(&mut self, place: Place<'a>) -> Result<Self::From, HostRefusal<'a>>
-        requires first { IsTrue tells → (held self.old).begun ≡ [] }
-        ensures { OpensToRead tells result (path_in place.entry) Self.From.remaining Self.From.read_faults
+    fn input<'a>(&mut self, place: FileArg<'a>) -> Result<Self::From, HostRefusal<'a>>
+        requires first { IsTrue models → (held self.old).begun ≡ [] }
+        ensures { OpensToRead models result (path_in place.entry) Self.From.remaining Self.From.read_faults
             (held self.old) (held self.new) (world self.old) (world self.new) };
 
     /// Opens what is read at any place. `-` is a file of that name.
-    fn source<'a>(&mut self, place: Place<'a>) -> Result<Self::At, HostRefusal<'a>>
-        requires first { IsTrue tells → (held self.old).begun ≡ [] }
-        ensures { OpensToRead tells result (path_of place.entry) Self.At.content Self.At.read_faults
+    fn source<'a>(&mut self, place: FileArg<'a>) -> Result<Self::At, HostRefusal<'a>>
+        requires first { IsTrue models → (held self.old).begun ≡ [] }
+        ensures { OpensToRead models result (path_of place.entry) Self.At.content Self.At.read_faults
             (held self.old) (held self.new) (world self.old) (world self.new) };
 
     /// Opens the same, of which small reads may be answered from what was read before: so it is to be asked whether the
     /// file has become shorter.
-    fn ahead<'a>(&mut self, place: Place<'a>) -> Result<Self::At, HostRefusal<'a>>
-        requires first { IsTrue tells → (held self.old).begun ≡ [] }
-        ensures { OpensToRead tells result (path_of place.entry) Self.At.content Self.At.read_faults
+    fn ahead<'a>(&mut self, place: FileArg<'a>) -> Result<Self::At, HostRefusal<'a>>
+        requires first { IsTrue models → (held self.old).begun ≡ [] }
+        ensures { OpensToRead models result (path_of place.entry) Self.At.content Self.At.read_faults
             (held self.old) (held self.new) (world self.old) (world self.new) };
 
     /// What is open, to be read a second time beside the first.
-    fn again<'a>(&mut self, at: &Self::At, place: Place<'a>) -> Result<Self::At, HostRefusal<'a>>
-        ensures content { IsTrue Self.At.tells → IfOk result (λ again. Self.At.content again ≡ Self.At.content at.now) }
-        ensures clean { IsTrue tells → IfOk result (λ again. Self.At.read_faults again ≡ 0) }
-        ensures held { IsTrue tells → held self.new ≡ failing (unless (is_ok result)) (held self.old) }
-        ensures world { IsTrue tells → world self.new ≡ world self.old };
+    fn again<'a>(&mut self, at: &Self::At, place: FileArg<'a>) -> Result<Self::At, HostRefusal<'a>>
+        ensures content { IsTrue Self.At.models → IfOk result (λ again. Self.At.content again ≡ Self.At.content at.now) }
+        ensures clean { IsTrue models → IfOk result (λ again. Self.At.read_faults again ≡ 0) }
+        ensures held { IsTrue models → held self.new ≡ failing (unless (is_ok result)) (held self.old) }
+        ensures world { IsTrue models → world self.new ≡ world self.old };
 
     /// The text of a file, which is UTF-8 and at most 1 MiB. `-` is standard input.
-    fn text<'a>(&mut self, place: Place<'a>) -> Result<String, HostRefusal<'a>>
-        requires first { IsTrue tells → (held self.old).begun ≡ [] }
-        ensures opened { IsTrue tells → IfOk result (λ text. OpensFile (world self.old) (path_in place.entry)
+    fn text<'a>(&mut self, place: FileArg<'a>) -> Result<String, HostRefusal<'a>>
+        requires first { IsTrue models → (held self.old).begun ≡ [] }
+        ensures opened { IsTrue models → IfOk result (λ text. OpensFile (world self.old) (path_in place.entry)
             (string_bytes text) (held self.old) (held self.new)) }
-        ensures kept { IsTrue tells → OnErr result (held self.new ≡ failing 1 (held self.old)) }
-        ensures world { IsTrue tells → world self.new ≡ world self.old };
+        ensures kept { IsTrue models → OnErr result (held self.new ≡ failing 1 (held self.old)) }
+        ensures world { IsTrue models → world self.new ≡ world self.old };
 
     /// Lets go what was read forward.
     fn let_go(&mut self, from: Self::From)
-        ensures { FailsOnly tells (Self.From.read_faults from) (held self.old) (held self.new) (world self.old)
+        ensures { FailsOnly models (Self.From.read_faults from) (held self.old) (held self.new) (world self.old)
             (world self.new) };
 
     /// Lets go what was read at any place.
     fn let_go_source(&mut self, at: Self::At)
-        ensures { FailsOnly tells (Self.At.read_faults at) (held self.old) (held self.new) (world self.old)
+        ensures { FailsOnly models (Self.At.read_faults at) (held self.old) (held self.new) (world self.old)
             (world self.new) };
 
     /// Opens a file that is there, to be written in place.
-    fn partition<'a>(&mut self, place: Place<'a>) -> Result<Self::Part, HostRefusal<'a>>
-        requires one { IsTrue tells → (held self.old).part ≡ None }
-        ensures { OpensInPlace tells result (path_of place.entry) Self.Part.content Self.Part.past
-            Self.Part.put_faults (held self.old) (held self.new) (world self.old) (world self.new) };
+    fn partition<'a>(&mut self, place: FileArg<'a>) -> Result<Self::InPlace, HostRefusal<'a>>
+        requires one { IsTrue models → (held self.old).part ≡ None }
+        ensures { OpensInPlace models result (path_of place.entry) Self.InPlace.content Self.InPlace.past
+            Self.InPlace.put_faults (held self.old) (held self.new) (world self.old) (world self.new) };
 
     /// The number of the system's error, where the last call of what is written in place failed.
-    fn why_of_part(&self, part: &Self::Part) -> Option<i32>;
+    fn why_of_part(&self, part: &Self::InPlace) -> Option<i32>;
 
     /// The same of what pieces go through.
     fn why_of_spool(&self, through: &Self::Through) -> Option<i32>;
@@ -128,40 +128,48 @@ pub trait Disk {
     /// length, or another time of modification. To be asked where the work ends that writes nothing: what closes an output
     /// or brings it to its end asks it too.
     fn unchanged<'a>(&mut self) -> Result<(), HostRefusal<'a>>
-        ensures { FailsOnly tells (unless (is_ok result)) (held self.old) (held self.new) (world self.old)
+        ensures { FailsOnly models (unless (is_ok result)) (held self.old) (held self.new) (world self.old)
             (world self.new) };
 
     /// Closes the file that is open in place. It holds what the partition holds, which is as long as it was. Answers
     /// whether it is where standard output goes. Refused where the system refuses to close it, or where what was read for
     /// it has changed.
-    fn close<'a>(&mut self, part: Self::Part, place: Place<'a>) -> Result<bool, HostRefusal<'a>>
-        requires long { IsTrue tells → IsAsLong (held self.old).part (Self.Part.content part) (world self.old) }
-        ensures ended { IsTrue tells → Ends (held self.old).part (Self.Part.content part) (world self.old)
+    fn close<'a>(
+        &mut self,
+        part: Self::InPlace,
+        place: FileArg<'a>,
+    ) -> Result<bool, HostRefusal<'a>>
+        requires long { IsTrue models → IsAsLong (held self.old).part (Self.InPlace.content part) (world self.old) }
+        ensures ended { IsTrue models → Ends (held self.old).part (Self.InPlace.content part) (world self.old)
             (world self.new) }
-        ensures paths { IsTrue tells → (world self.new).at ≡ (world self.old).at }
-        ensures closed { IsTrue tells → held self.new ≡ failing (unless (is_ok result)) (closed_part
-            (Self.Part.past part) (Self.Part.put_faults part) (held self.old)) }
-        ensures rest { IsTrue tells → SparesRest (held self.old).part (world self.old) (world self.new) }
-        ensures stream { IsTrue tells → IfOk result (λ is. is ≡ on_output (path_of place.entry)) };
+        ensures paths { IsTrue models → (world self.new).at ≡ (world self.old).at }
+        ensures closed { IsTrue models → held self.new ≡ failing (unless (is_ok result)) (closed_part
+            (Self.InPlace.past part) (Self.InPlace.put_faults part) (held self.old)) }
+        ensures rest { IsTrue models → SparesRest (held self.old).part (world self.old) (world self.new) }
+        ensures stream { IsTrue models → IfOk result (λ is. is ≡ on_output (path_of place.entry)) };
 
     /// Creates or empties a regular file, and makes it so many zeros, to be written in place. Nothing else will do.
-    fn zeros<'a>(&mut self, place: Place<'a>, bytes: u64) -> Result<Self::Part, HostRefusal<'a>>
-        requires one { IsTrue tells → (held self.old).part ≡ None }
-        ensures { MakesPart tells result bytes (path_of place.entry) Self.Part.content Self.Part.past
-            Self.Part.put_faults (held self.old) (held self.new) (world self.old) (world self.new) };
+    fn zeros<'a>(
+        &mut self,
+        place: FileArg<'a>,
+        bytes: u64,
+    ) -> Result<Self::InPlace, HostRefusal<'a>>
+        requires one { IsTrue models → (held self.old).part ≡ None }
+        ensures { MakesPart models result bytes (path_of place.entry) Self.InPlace.content Self.InPlace.past
+            Self.InPlace.put_faults (held self.old) (held self.new) (world self.old) (world self.new) };
 
     /// Creates or empties the file that pieces of so many bytes go through, which is read again. All that goes through it
     /// comes from a source: it is not given back where that has become shorter. Where the file is `keeping` its pages, it
     /// begins with four zeros and may have anything behind them, until the first byte is read.
     fn spool<'a>(
         &mut self,
-        place: Place<'a>,
+        place: FileArg<'a>,
         limit: u32,
         keeping: bool,
         from: &Self::At,
     ) -> Result<Self::Through, HostRefusal<'a>>
-        requires one { IsTrue tells → (held self.old).spool ≡ None }
-        ensures { OpensThrough tells result limit (path_of place.entry) Self.Through.Spool.size
+        requires one { IsTrue models → (held self.old).spool ≡ None }
+        ensures { OpensThrough models result limit (path_of place.entry) Self.Through.Spool.size
             Self.Through.Output.written Self.Through.Spool.cuts (λ through. Self.Through.Output.write_faults through
             + (Self.Through.Input.read_faults through + Self.Through.Spool.clear_faults through))
             (held self.old) (held self.new) (world self.old) (world self.new) };
@@ -171,77 +179,77 @@ pub trait Disk {
     fn close_spool<'a>(
         &mut self,
         through: Self::Through,
-        place: Place<'a>,
+        place: FileArg<'a>,
     ) -> Result<bool, HostRefusal<'a>>
-        ensures long { IsTrue tells → IfOk result (λ is_changed. is_changed ≡ false) }
-        ensures ended { IsTrue tells → OnOk result (Ends (held self.old).spool (behind_clear
+        ensures long { IsTrue models → IfOk result (λ is_changed. is_changed ≡ false) }
+        ensures ended { IsTrue models → OnOk result (Ends (held self.old).spool (behind_clear
             (Self.Through.Spool.cuts through) (Self.Through.Output.written through)) (world self.old)
             (world self.new)) }
-        ensures closed { IsTrue tells → held self.new ≡ closed_spool (unless (is_ok result)
+        ensures closed { IsTrue models → held self.new ≡ closed_spool (unless (is_ok result)
             + (Self.Through.Output.write_faults through + (Self.Through.Input.read_faults through
             + Self.Through.Spool.clear_faults through))) (held self.old) }
-        ensures rest { IsTrue tells → SparesRest (held self.old).spool (world self.old) (world self.new) };
+        ensures rest { IsTrue models → SparesRest (held self.old).spool (world self.old) (world self.new) };
 
     /// Whether a file is there.
-    fn is_there<'a>(&self, place: Place<'a>) -> Result<bool, HostRefusal<'a>>
-        ensures there { IsTrue tells → IfOk result (λ is. is ≡ is_some ((world self.now).at (path_of place.entry))) }
+    fn is_there<'a>(&self, place: FileArg<'a>) -> Result<bool, HostRefusal<'a>>
+        ensures there { IsTrue models → IfOk result (λ is. is ≡ is_some ((world self.now).at (path_of place.entry))) }
         ensures memory { IfErr result (λ refusal. refusal.fault ≡ HostFault.Memory) };
 
     /// The least number above this one at which a file is, with that number behind the name that this place has. A system
     /// that does not show what a folder holds may answer as if only the next number were there.
-    fn left_over(&self, place: Place<'_>, behind: u32) -> Result<Option<u32>, AllocError>
-        ensures { IsTrue tells → IfOk result (IsNextLeft (λ n. (world self.now).at (path_with place.entry n))
+    fn left_over(&self, place: FileArg<'_>, behind: u32) -> Result<Option<u32>, AllocError>
+        ensures { IsTrue models → IfOk result (IsNextLeft (λ n. (world self.now).at (path_with place.entry n))
             behind) };
 
     /// Refuses a path that is going to be written where it leads to a file that is read, or that was begun.
-    fn refuse_taken<'a>(&mut self, place: Place<'a>) -> Result<(), HostRefusal<'a>>
-        ensures { RefusesTaken tells result (path_of place.entry) (held self.old) (held self.new) (world self.old)
+    fn refuse_taken<'a>(&mut self, place: FileArg<'a>) -> Result<(), HostRefusal<'a>>
+        ensures { RefusesTaken models result (path_of place.entry) (held self.old) (held self.new) (world self.old)
             (world self.new) };
 
     /// Creates or empties a file. `-` is a file of that name.
-    fn plain<'a>(&mut self, place: Place<'a>) -> Result<Self::Onto, HostRefusal<'a>>
-        requires one { IsTrue tells → (held self.old).output ≡ None }
-        ensures { CreatesOutput tells result (path_of place.entry) Self.Onto.written Self.Onto.write_faults
+    fn plain<'a>(&mut self, place: FileArg<'a>) -> Result<Self::Onto, HostRefusal<'a>>
+        requires one { IsTrue models → (held self.old).output ≡ None }
+        ensures { CreatesOutput models result (path_of place.entry) Self.Onto.written Self.Onto.write_faults
             (held self.old) (held self.new) (world self.old) (world self.new) };
 
     /// Creates or empties the file of a raw image. `-` is standard output.
-    fn raw<'a>(&mut self, place: Place<'a>) -> Result<Self::Onto, HostRefusal<'a>>
-        requires one { IsTrue tells → (held self.old).output ≡ None }
-        ensures { CreatesOutput tells result (path_out place.entry) Self.Onto.written Self.Onto.write_faults
+    fn raw<'a>(&mut self, place: FileArg<'a>) -> Result<Self::Onto, HostRefusal<'a>>
+        requires one { IsTrue models → (held self.old).output ≡ None }
+        ensures { CreatesOutput models result (path_out place.entry) Self.Onto.written Self.Onto.write_faults
             (held self.old) (held self.new) (world self.old) (world self.new) };
 
     /// Creates or empties the file of an image that has a magic. `-` is standard output. Where it is gathered, a file may
     /// hold much of what it took until its end, so that is for who waits for nobody meanwhile.
     fn image<'a>(
         &mut self,
-        place: Place<'a>,
+        place: FileArg<'a>,
         is_gathered: bool,
     ) -> Result<ImageTo<Self::Image, Self::Onto>, HostRefusal<'a>>
-        requires one { IsTrue tells → (held self.old).output ≡ None }
+        requires one { IsTrue models → (held self.old).output ≡ None }
         ensures empty { IfOk result (OfImage (λ file. Self.Image.Output.written file ≡ [])
             (λ onto. Self.Onto.written onto ≡ [])) }
-        ensures clean { IsTrue tells → IfOk result (OfImage (λ file. Self.Image.Output.write_faults file ≡ 0)
+        ensures clean { IsTrue models → IfOk result (OfImage (λ file. Self.Image.Output.write_faults file ≡ 0)
             (λ onto. Self.Onto.write_faults onto ≡ 0)) }
-        ensures kind { IsTrue tells → IfOk result (λ image. is_file image ≡ is_over (path_out place.entry)) }
-        ensures created { IsTrue tells → OnOk result (Creates (path_out place.entry) (held self.old) (held self.new)
+        ensures kind { IsTrue models → IfOk result (λ image. is_file image ≡ is_over (path_out place.entry)) }
+        ensures created { IsTrue models → OnOk result (Creates (path_out place.entry) (held self.old) (held self.new)
             (world self.old) (world self.new)) }
-        ensures kept { IsTrue tells → OnErr result (held self.new ≡ failing 1 (held self.old)) }
-        ensures only { IsTrue tells → OnErr result (OnlyAt (held self.old).read (path_out place.entry)
+        ensures kept { IsTrue models → OnErr result (held self.new ≡ failing 1 (held self.old)) }
+        ensures only { IsTrue models → OnErr result (OnlyAt (held self.old).read (path_out place.entry)
             (world self.old) (world self.new)) }
-        ensures begun { IsTrue tells → OnErr result (KeepsBegun (held self.old).begun (world self.old)
+        ensures begun { IsTrue models → OnErr result (KeepsBegun (held self.old).begun (world self.old)
             (world self.new)) }
-        ensures empties { IsTrue tells → OnErr result (EmptiesAt (path_out place.entry) (world self.old)
+        ensures empties { IsTrue models → OnErr result (EmptiesAt (path_out place.entry) (world self.old)
             (world self.new)) };
 
     /// Brings the output that is open to its end: all that it took is in its file, and synced where that is wanted.
     /// Answers whether it is where standard output goes.
-    fn finish<'a>(&mut self, onto: Self::Onto, place: Place<'a>) -> Result<bool, HostRefusal<'a>>
-        ensures { FinishesOutput tells result (on_output (path_out place.entry)) (Self.Onto.written onto)
+    fn finish<'a>(&mut self, onto: Self::Onto, place: FileArg<'a>) -> Result<bool, HostRefusal<'a>>
+        ensures { FinishesOutput models result (on_output (path_out place.entry)) (Self.Onto.written onto)
             (Self.Onto.write_faults onto) (held self.old) (held self.new) (world self.old) (world self.new) };
 
     /// Lets the output go that is open, where the work before failed.
     fn give_up(&mut self, onto: Self::Onto)
-        ensures { LetsGo tells (Self.Onto.write_faults onto) (held self.old) (held self.new) (world self.old)
+        ensures { LetsGo models (Self.Onto.write_faults onto) (held self.old) (held self.new) (world self.old)
             (world self.new) };
 
     /// Brings the image that is open to its end, as `finish` does. Where that cannot be done, its file holds all the
@@ -249,31 +257,31 @@ pub trait Disk {
     fn finish_image<'a>(
         &mut self,
         image: Self::Image,
-        place: Place<'a>,
+        place: FileArg<'a>,
     ) -> Result<bool, HostRefusal<'a>>
-        ensures ended { IsTrue tells → OnOk result (Ends (held self.old).output (Self.Image.Output.written image)
+        ensures ended { IsTrue models → OnOk result (Ends (held self.old).output (Self.Image.Output.written image)
             (world self.old) (world self.new)) }
-        ensures left { IsTrue tells → OnErr result (Leaves (held self.old).output (Self.Image.Output.written image)
+        ensures left { IsTrue models → OnErr result (Leaves (held self.old).output (Self.Image.Output.written image)
             (world self.new)) }
-        ensures closed { IsTrue tells → held self.new ≡ ended (is_ok result)
+        ensures closed { IsTrue models → held self.new ≡ ended (is_ok result)
             (unless (is_ok result) + Self.Image.Output.write_faults image) (held self.old) }
-        ensures rest { IsTrue tells → SparesRest (held self.old).output (world self.old) (world self.new) }
-        ensures stream { IsTrue tells → IfOk result (λ is. is ≡ on_output (path_out place.entry)) };
+        ensures rest { IsTrue models → SparesRest (held self.old).output (world self.old) (world self.new) }
+        ensures stream { IsTrue models → IfOk result (λ is. is ≡ on_output (path_out place.entry)) };
 
     /// Lets the image go that is open, where the work before failed. Its file holds what was written, or nothing at its
     /// front.
     fn give_up_image(&mut self, image: Self::Image)
-        ensures { LetsImageGo tells (Self.Image.Output.written image) (Self.Image.Output.write_faults image)
+        ensures { LetsImageGo models (Self.Image.Output.written image) (Self.Image.Output.write_faults image)
             (held self.old) (held self.new) (world self.old) (world self.new) };
 
     /// What it opens to be read tells its bytes.
-    ghost told: { IsTrue tells → IsTrue Self.From.tells };
+    ghost told: { IsTrue models → IsTrue Self.From.models };
 
-    ghost source_told: { IsTrue tells → IsTrue Self.At.tells };
+    ghost source_told: { IsTrue models → IsTrue Self.At.models };
 
     /// What it opens to be written in place does.
-    ghost part_told: { IsTrue tells → IsTrue Self.Part.tells };
+    ghost part_told: { IsTrue models → IsTrue Self.InPlace.models };
 
     /// And what pieces go through.
-    ghost through_told: { IsTrue tells → IsTrue Self.Through.Input.tells };
+    ghost through_told: { IsTrue models → IsTrue Self.Through.Input.models };
 }

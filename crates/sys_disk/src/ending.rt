@@ -6,7 +6,7 @@ ghost use Rattle.sys_refusals.specs.Paths.{path_out};
 ghost use Rattle.sys_refusals.specs.declared.refusal.HostFault.{HostFault};
 
 use crate::{Disk, Reasons};
-use sys_refusals::{HostFault, Place, Refusal, Sides, Told};
+use sys_refusals::{FileArg, HostFault, Refusal, Sides, Told};
 
 /// What a call answered that wrote an output, and whether the output is where standard output goes. Where the call was
 /// refused, the output is sent what it took, and the fault of the call is told.
@@ -14,16 +14,16 @@ pub fn ended<'a, D: Disk, T: Drop, F: Told + From<HostFault> + Drop>(
     disk: &mut D,
     answer: Result<T, F>,
     onto: D::Onto,
-    output: Place<'a>,
+    output: FileArg<'a>,
     sides: Sides<'a>,
 ) -> Result<(T, bool), Refusal<'a, F>>
     ensures done { IfOk result (λ end. answer ≡ Ok end.0) }
-    ensures ended { IsTrue D.tells → OnOk result (Ends (D.held disk.old).output (D.Onto.written onto)
+    ensures ended { IsTrue D.models → OnOk result (Ends (D.held disk.old).output (D.Onto.written onto)
         (D.world disk.old) (D.world disk.new)) }
-    ensures closed { IsTrue D.tells → D.held disk.new ≡ ended (is_ok result)
+    ensures closed { IsTrue D.models → D.held disk.new ≡ ended (is_ok result)
         (unended (is_ok answer) (is_ok result) + D.Onto.write_faults onto) (D.held disk.old) }
-    ensures rest { IsTrue D.tells → SparesRest (D.held disk.old).output (D.world disk.old) (D.world disk.new) }
-    ensures stream { IsTrue D.tells → IfOk result (λ end. end.1 ≡ D.on_output (path_out output.entry)) }
+    ensures rest { IsTrue D.models → SparesRest (D.held disk.old).output (D.world disk.old) (D.world disk.new) }
+    ensures stream { IsTrue D.models → IfOk result (λ end. end.1 ≡ D.on_output (path_out output.entry)) }
     ensures told { IfErr answer (λ fault. IfErr result (λ refusal. refusal.fault ≡ fault)) }
     ensures host { IsOk answer → IfErr result (λ refusal. (fault : HostFault) × F.from_gives fault refusal.fault) }
 {

@@ -10,20 +10,20 @@ use abt_io::Source;
 pub trait Lasting: Source {
     /// A piece begins: what is held is read again before it is given.
     fn forget(&mut self)
-        ensures { HoldsStill Self.tells Self.content Self.size Self.read_faults self.old self.new };
+        ensures { HoldsStill Self.models Self.content Self.size Self.read_faults self.old self.new };
 
     /// The memory is let go that it reads into, until it is read again.
     fn rest(&mut self)
-        ensures { HoldsStill Self.tells Self.content Self.size Self.read_faults self.old self.new };
+        ensures { HoldsStill Self.models Self.content Self.size Self.read_faults self.old self.new };
 
     /// How long its file is now, if that is less than what was given of it from memory since the piece began.
     fn shorter(&self) -> Option<u64>
-        ensures { IsTrue Self.tells → result ≡ None };
+        ensures { IsTrue Self.models → result ≡ None };
 
     /// How long its file is now.
     fn length_now(&mut self) -> u64
-        ensures told { IsTrue Self.tells → result ≡ Self.size self.old }
-        ensures content { IsTrue Self.tells → Self.content self.new ≡ Self.content self.old }
+        ensures told { IsTrue Self.models → result ≡ Self.size self.old }
+        ensures content { IsTrue Self.models → Self.content self.new ≡ Self.content self.old }
         ensures size { Self.size self.new ≡ Self.size self.old }
         ensures reads { Self.reads self.new ≡ Self.reads self.old }
         ensures given { Self.given self.new ≡ Self.given self.old }

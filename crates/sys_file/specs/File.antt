@@ -13,19 +13,19 @@ abbrev pub Begins : List ℕ → List ℕ → Type 0
 Begins front all = take (length front) all ≡ front
 
 -- A read gives a front of what stands at a place. It gives none only for an empty ask, or at the end.
-pub record ReadsAt {E : Type 0} (tells : Bool) (content : List ℕ) (r : Result ℕ E) (at : ℕ) (out : List ℕ)
+pub record ReadsAt {E : Type 0} (models : Bool) (content : List ℕ) (r : Result ℕ E) (at : ℕ) (out : List ℕ)
     : Type 0 where
   pub within : count_of r ≤ length out
-  pub present : IsTrue tells → count_of r ≤ length content - at
-  pub bytes : IsTrue tells → take (count_of r) out ≡ take (count_of r) (drop at content)
-  pub ended : IsTrue tells → IfOk r (λ n. n ≡ 0 → 0 < length out → length content ≤ at)
+  pub present : IsTrue models → count_of r ≤ length content - at
+  pub bytes : IsTrue models → take (count_of r) out ≡ take (count_of r) (drop at content)
+  pub ended : IsTrue models → IfOk r (λ n. n ≡ 0 → 0 < length out → length content ≤ at)
 
 -- A read at a file's place gives what a read at a place does, and goes on behind that.
-pub record ReadsAtPlace {E : Type 0} (tells : Bool) (old new : List ℕ) (place place' : ℕ) (r : Result ℕ E)
+pub record ReadsAtPlace {E : Type 0} (models : Bool) (old new : List ℕ) (place place' : ℕ) (r : Result ℕ E)
     (out : List ℕ) : Type 0 where
-  pub reads : ReadsAt tells old r place out
-  pub same : IsTrue tells → new ≡ old
-  pub moves : IsTrue tells → place' ≡ place + count_of r
+  pub reads : ReadsAt models old r place out
+  pub same : IsTrue models → new ≡ old
+  pub moves : IsTrue models → place' ≡ place + count_of r
 
 -- A file goes to a place, or stays at its own.
 pub record GoesTo {X E : Type 0} (old new : List ℕ) (place place' : ℕ) (r : Result X E) (at : ℕ) : Type 0 where
@@ -41,11 +41,11 @@ pub record MarredIn (old new : List ℕ) (at n : ℕ) : Type 0 where
   pub long : length new ≤ max (length old) (at + n)
 
 -- A write lays a front of these bytes at a place.
-pub record WritesAt {E : Type 0} (tells : Bool) (old new : List ℕ) (r : Result ℕ E) (at : ℕ) (bytes : List ℕ)
+pub record WritesAt {E : Type 0} (models : Bool) (old new : List ℕ) (r : Result ℕ E) (at : ℕ) (bytes : List ℕ)
     : Type 0 where
   pub within : count_of r ≤ length bytes
-  pub written : IsTrue tells → IfOk r (λ n. new ≡ put_at old at (take n bytes))
-  pub marred : IsTrue tells → OnErr r (MarredIn old new at (length bytes))
+  pub written : IsTrue models → IfOk r (λ n. new ≡ put_at old at (take n bytes))
+  pub marred : IsTrue models → OnErr r (MarredIn old new at (length bytes))
 
 -- What is written from a place on, or was tried: what stands before it stays, and the file is no longer than this.
 pub record ChangesFrom (old new : List ℕ) (at end : ℕ) : Type 0 where
@@ -53,26 +53,26 @@ pub record ChangesFrom (old new : List ℕ) (at end : ℕ) : Type 0 where
   pub long : length new ≤ max (length old) end
 
 -- All of these bytes are written at a place.
-pub record WritesAll {X E : Type 0} (tells : Bool) (old new : List ℕ) (r : Result X E) (at : ℕ) (bytes : List ℕ)
+pub record WritesAll {X E : Type 0} (models : Bool) (old new : List ℕ) (r : Result X E) (at : ℕ) (bytes : List ℕ)
     : Type 0 where
-  pub written : IsTrue tells → OnOk r (new ≡ put_at old at bytes)
-  pub changes : IsTrue tells → ChangesFrom old new at (at + length bytes)
+  pub written : IsTrue models → OnOk r (new ≡ put_at old at bytes)
+  pub changes : IsTrue models → ChangesFrom old new at (at + length bytes)
 
 -- A file becomes as long as was asked: it is cut off, or has zeros behind. Where that failed its front stands still.
-pub record SetsLength {X E : Type 0} (tells : Bool) (old new : List ℕ) (r : Result X E) (n : ℕ) : Type 0 where
-  pub set : IsTrue tells → OnOk r (new ≡ take n old ++ replicate (n - length old) 0)
-  pub front : IsTrue tells → Begins (take n old) new
-  pub long : IsTrue tells → length new ≤ max n (length old)
+pub record SetsLength {X E : Type 0} (models : Bool) (old new : List ℕ) (r : Result X E) (n : ℕ) : Type 0 where
+  pub set : IsTrue models → OnOk r (new ≡ take n old ++ replicate (n - length old) 0)
+  pub front : IsTrue models → Begins (take n old) new
+  pub long : IsTrue models → length new ≤ max n (length old)
 
 -- So many of these bytes were written at a place, and a write of the rest was tried.
-pub record WritesFrom {X E : Type 0} (tells : Bool) (old new : List ℕ) (done : ℕ) (r : Result X E) (at : ℕ)
+pub record WritesFrom {X E : Type 0} (models : Bool) (old new : List ℕ) (done : ℕ) (r : Result X E) (at : ℕ)
     (bytes : List ℕ) : Type 0 where
   pub within : done ≤ length bytes
   pub all : OnOk r (done ≡ length bytes)
-  pub written : IsTrue tells → OnOk r (new ≡ put_at old at bytes)
-  pub changes : IsTrue tells → ChangesFrom old new at (at + length bytes)
-  pub reaches : IsTrue tells → at + done ≤ length new
-  pub least : IsTrue tells → length old ≤ length new
+  pub written : IsTrue models → OnOk r (new ≡ put_at old at bytes)
+  pub changes : IsTrue models → ChangesFrom old new at (at + length bytes)
+  pub reaches : IsTrue models → at + done ≤ length new
+  pub least : IsTrue models → length old ≤ length new
 
 -- what a file holds, and nothing where there is none
 abbrev pub file_bytes : {F : Type 0} → (F → List ℕ) → Option F → List ℕ
@@ -84,7 +84,7 @@ no_bytes zero = omega arith
 no_bytes (suc i) = omega arith
 
 -- and each of it is a byte
-pub are_bytes_of : {F : Type 0} {tells : Bool} (held : F → List ℕ) (each : (f : F) → IsTrue tells → AreBytes (held f))
-    (file : Option F) → IsTrue tells → AreBytes (file_bytes held file)
+pub are_bytes_of : {F : Type 0} {models : Bool} (held : F → List ℕ) (each : (f : F) → IsTrue models → AreBytes (held f))
+    (file : Option F) → IsTrue models → AreBytes (file_bytes held file)
 are_bytes_of held each None t = no_bytes
 are_bytes_of held each (Some f) t = each f t

@@ -19,6 +19,6 @@ pub record StatsFile (is_file : Bool) (content : List ℕ) (stat : Stat) : Type 
   pub long : IsTrue is_file → stat.length ≡ length content
 
 -- it was just opened: it is at its front, and nothing was written to it
-pub record IsJustOpened {F : Type 0} (tells : Bool) (place : F → ℕ) (past : F → Past) (f : F) : Type 0 where
-  pub front : IsTrue tells → place f ≡ 0
-  pub unwritten : IsTrue tells → past f ≡ no_past
+pub record IsJustOpened {F : Type 0} (models : Bool) (place : F → ℕ) (past : F → Past) (f : F) : Type 0 where
+  pub front : IsTrue models → place f ≡ 0
+  pub unwritten : IsTrue models → past f ≡ no_past

@@ -11,7 +11,7 @@ use std::io::{Read, Seek, SeekFrom, Write};
 use std::os::unix::fs::{FileExt, MetadataExt};
 
 impl SystemFile for File {
-    ghost tells = { false };
+    ghost models = { false };
 
     ghost stands = { λ _. [] };
 

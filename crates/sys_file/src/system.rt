@@ -43,17 +43,17 @@ pub trait System {
 
     /// What is open.
     fn stat(&self, file: &Self::File) -> io::Result<Stat>
-        ensures { IsTrue Self.File.tells → IfOk result (StatsFile (is_file file.now) (Self.File.stands file.now)) };
+        ensures { IsTrue Self.File.models → IfOk result (StatsFile (is_file file.now) (Self.File.stands file.now)) };
 
     /// Opens a file.
     fn open(&mut self, path: &str, how: Opening) -> io::Result<Self::File>
-        ensures fresh { IfOk result (IsJustOpened Self.File.tells Self.File.place Self.File.past) }
-        ensures blank { IsTrue Self.File.tells → IsTrue (creates how) → IfOk result (λ f. is_file f ≡ false
+        ensures fresh { IfOk result (IsJustOpened Self.File.models Self.File.place Self.File.past) }
+        ensures blank { IsTrue Self.File.models → IsTrue (creates how) → IfOk result (λ f. is_file f ≡ false
             → Self.File.stands f ≡ []) };
 
     /// Opens the same once more.
     fn again(&self, file: &Self::File) -> io::Result<Self::File>
-        ensures { IsTrue Self.File.tells → IfOk result (λ f. Self.File.stands f ≡ Self.File.stands file.now) };
+        ensures { IsTrue Self.File.models → IfOk result (λ f. Self.File.stands f ≡ Self.File.stands file.now) };
 
     /// The number that it is open under.
     fn descriptor(&self, file: &Self::File) -> i32;
@@ -64,8 +64,8 @@ pub trait System {
     /// Standard output, which holds what this run sends there. To sync it is to sync this file, which is the same, if one is
     /// given.
     fn output(&self, synced: Option<Self::File>) -> Self::File
-        ensures fresh { IsJustOpened Self.File.tells Self.File.place Self.File.past result }
-        ensures empty { IsTrue Self.File.tells → Self.File.stands result ≡ [] };
+        ensures fresh { IsJustOpened Self.File.models Self.File.place Self.File.past result }
+        ensures empty { IsTrue Self.File.models → Self.File.stands result ≡ [] };
 
     /// All bytes of a file that is small, as those are that the system tells of itself in.
     fn contents(&self, path: &str) -> io::Result<Vec<u8>>;

@@ -25,7 +25,7 @@ pub struct Stamp {
 /// byte and no other one, and may leave the file as long as it was before a change of its length.
 pub trait SystemFile {
     /// It tells what it holds.
-    ghost tells: { Bool };
+    ghost models: { Bool };
 
     /// What it holds now, where it tells.
     ghost stands: { Self → List ℕ };
@@ -38,56 +38,56 @@ pub trait SystemFile {
 
     /// Its length in bytes. To ask it may take its place elsewhere.
     fn length(&self) -> io::Result<u64>
-        ensures { IsTrue tells → IfOk result (λ n. n ≡ length (stands self.now)) };
+        ensures { IsTrue models → IfOk result (λ n. n ≡ length (stands self.now)) };
 
     /// Its stamp, where it is a regular file.
     fn stamp(&self) -> Option<Stamp>
-        ensures { IsTrue tells → IfSome result (λ s. s.length ≡ length (stands self.now)) };
+        ensures { IsTrue models → IfSome result (λ s. s.length ≡ length (stands self.now)) };
 
     /// One read of the bytes from a place on.
     fn read_at(&self, at: u64, out: &mut [u8]) -> io::Result<usize>
-        ensures { ReadsAt tells (stands self.now) result at out.new };
+        ensures { ReadsAt models (stands self.now) result at out.new };
 
     /// One write of a prefix of these bytes at a place. Where a signal interrupted it, it did nothing.
     fn write_at(&mut self, at: u64, bytes: &[u8]) -> io::Result<usize>
-        requires { IsTrue tells → at ≤ length (Self.stands self.old) }
-        ensures writes { WritesAt tells (Self.stands self.old) (Self.stands self.new) result at bytes.now }
-        ensures again { IsTrue tells → IfErr result (λ e. error_kind e ≡ ErrorKind.Interrupted
+        requires { IsTrue models → at ≤ length (Self.stands self.old) }
+        ensures writes { WritesAt models (Self.stands self.old) (Self.stands self.new) result at bytes.now }
+        ensures again { IsTrue models → IfErr result (λ e. error_kind e ≡ ErrorKind.Interrupted
             → Self.stands self.new ≡ Self.stands self.old) }
-        ensures idle { IsTrue tells → IfErr result (λ e. error_kind e ≡ ErrorKind.Interrupted
+        ensures idle { IsTrue models → IfErr result (λ e. error_kind e ≡ ErrorKind.Interrupted
             → Self.past self.new ≡ Self.past self.old) }
-        ensures lays { IsTrue tells → at + length bytes.now ≤ length (Self.stands self.old) → LaysWithin
+        ensures lays { IsTrue models → at + length bytes.now ≤ length (Self.stands self.old) → LaysWithin
             (Self.stands self.old) (Self.stands self.new) (Self.past self.old) (Self.past self.new) result at
             (length bytes.now) }
-        ensures stays { IsTrue tells → Self.place self.new ≡ Self.place self.old };
+        ensures stays { IsTrue models → Self.place self.new ≡ Self.place self.old };
 
     /// One read of the bytes at its place, which goes on behind them.
     fn read(&mut self, out: &mut [u8]) -> io::Result<usize>
-        ensures { ReadsAtPlace tells (stands self.old) (stands self.new) (place self.old) (place self.new) result out.new };
+        ensures { ReadsAtPlace models (stands self.old) (stands self.new) (place self.old) (place self.new) result out.new };
 
     /// One write of a prefix of these bytes at its place, which goes on behind them. Where a signal interrupted it, it did
     /// nothing.
     fn write(&mut self, bytes: &[u8]) -> io::Result<usize>
-        requires { IsTrue tells → place self.old ≤ length (Self.stands self.old) }
-        ensures writes { WritesAt tells (Self.stands self.old) (Self.stands self.new) result (place self.old) bytes.now }
-        ensures again { IsTrue tells → IfErr result (λ e. error_kind e ≡ ErrorKind.Interrupted
+        requires { IsTrue models → place self.old ≤ length (Self.stands self.old) }
+        ensures writes { WritesAt models (Self.stands self.old) (Self.stands self.new) result (place self.old) bytes.now }
+        ensures again { IsTrue models → IfErr result (λ e. error_kind e ≡ ErrorKind.Interrupted
             → Self.stands self.new ≡ Self.stands self.old) }
-        ensures moves { IsTrue tells → place self.new ≡ place self.old + count_of result };
+        ensures moves { IsTrue models → place self.new ≡ place self.old + count_of result };
 
     /// Goes to a place, where it has places.
     fn go_to(&mut self, at: u64) -> io::Result<()>
-        ensures { IsTrue tells → GoesTo (stands self.old) (stands self.new) (place self.old) (place self.new) result at };
+        ensures { IsTrue models → GoesTo (stands self.old) (stands self.new) (place self.old) (place self.new) result at };
 
     /// Cuts it off, or appends zeros.
     fn set_len(&mut self, n: u64) -> io::Result<()>
-        ensures sets { SetsLength tells (Self.stands self.old) (Self.stands self.new) result n }
-        ensures stays { IsTrue tells → Self.place self.new ≡ Self.place self.old }
-        ensures past { IsTrue tells → Self.past self.new ≡ Self.past self.old };
+        ensures sets { SetsLength models (Self.stands self.old) (Self.stands self.new) result n }
+        ensures stays { IsTrue models → Self.place self.new ≡ Self.place self.old }
+        ensures past { IsTrue models → Self.past self.new ≡ Self.past self.old };
 
     /// Makes all that was written durable.
     fn sync(&mut self) -> io::Result<()>
-        ensures { IsTrue tells → SettlesFile (stands self.old) (stands self.new) (past self.old) (past self.new) result };
+        ensures { IsTrue models → SettlesFile (stands self.old) (stands self.new) (past self.old) (past self.new) result };
 
     /// What it tells are bytes.
-    ghost are_bytes: { (s : Self) → IsTrue tells → AreBytes (stands s) };
+    ghost are_bytes: { (s : Self) → IsTrue models → AreBytes (stands s) };
 }

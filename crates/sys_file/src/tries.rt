@@ -11,7 +11,7 @@ use std::io::ErrorKind;
 
 /// One read.
 pub fn read_at<F: SystemFile>(file: &F, at: u64, out: &mut [u8]) -> io::Result<usize>
-    ensures { ReadsAt F.tells (F.stands file.now) result at out.new }
+    ensures { ReadsAt F.models (F.stands file.now) result at out.new }
 {
     for _ in 0..u64::MAX {
         match file.read_at(at, out) {
@@ -28,12 +28,12 @@ pub fn read_at<F: SystemFile>(file: &F, at: u64, out: &mut [u8]) -> io::Result<u
 
 /// One write. It takes some of what there is.
 pub fn write_at<F: SystemFile>(file: &mut F, at: u64, bytes: &[u8]) -> io::Result<usize>
-    requires { IsTrue F.tells → at ≤ length (F.stands file.old) }
-    ensures writes { WritesAt F.tells (F.stands file.old) (F.stands file.new) result at bytes.now }
+    requires { IsTrue F.models → at ≤ length (F.stands file.old) }
+    ensures writes { WritesAt F.models (F.stands file.old) (F.stands file.new) result at bytes.now }
     ensures progress { IfOk result (λ n. 0 < length bytes.now → 0 < n) }
-    ensures lays { IsTrue F.tells → at + length bytes.now ≤ length (F.stands file.old) → LaysWithin (F.stands file.old)
+    ensures lays { IsTrue F.models → at + length bytes.now ≤ length (F.stands file.old) → LaysWithin (F.stands file.old)
         (F.stands file.new) (F.past file.old) (F.past file.new) result at (length bytes.now) }
-    ensures stays { IsTrue F.tells → F.place file.new ≡ F.place file.old }
+    ensures stays { IsTrue F.models → F.place file.new ≡ F.place file.old }
 {
     for _ in 0..u64::MAX {
         match file.write_at(at, bytes) {
@@ -51,7 +51,7 @@ pub fn write_at<F: SystemFile>(file: &mut F, at: u64, bytes: &[u8]) -> io::Resul
 
 /// One read at the file's place.
 pub fn read<F: SystemFile>(file: &mut F, out: &mut [u8]) -> io::Result<usize>
-    ensures { ReadsAtPlace F.tells (F.stands file.old) (F.stands file.new) (F.place file.old) (F.place file.new) result
+    ensures { ReadsAtPlace F.models (F.stands file.old) (F.stands file.new) (F.place file.old) (F.place file.new) result
         out.new }
 {
     for _ in 0..u64::MAX {
@@ -69,10 +69,10 @@ pub fn read<F: SystemFile>(file: &mut F, out: &mut [u8]) -> io::Result<usize>
 
 /// One write at the file's place. It takes some of what there is.
 pub fn write<F: SystemFile>(file: &mut F, bytes: &[u8]) -> io::Result<usize>
-    requires { IsTrue F.tells → F.place file.old ≤ length (F.stands file.old) }
-    ensures writes { WritesAt F.tells (F.stands file.old) (F.stands file.new) result (F.place file.old) bytes.now }
+    requires { IsTrue F.models → F.place file.old ≤ length (F.stands file.old) }
+    ensures writes { WritesAt F.models (F.stands file.old) (F.stands file.new) result (F.place file.old) bytes.now }
     ensures progress { IfOk result (λ n. 0 < length bytes.now → 0 < n) }
-    ensures moves { IsTrue F.tells → F.place file.new ≡ F.place file.old + count_of result }
+    ensures moves { IsTrue F.models → F.place file.new ≡ F.place file.old + count_of result }
 {
     for _ in 0..u64::MAX {
         match file.write(bytes) {
@@ -90,9 +90,9 @@ pub fn write<F: SystemFile>(file: &mut F, bytes: &[u8]) -> io::Result<usize>
 
 /// Writes these bytes at a place, and answers how many were written, and whether all.
 pub fn write_front<F: SystemFile>(file: &mut F, at: u64, bytes: &[u8]) -> (usize, io::Result<()>)
-    requires stands { IsTrue F.tells → at ≤ length (F.stands file.old) }
+    requires stands { IsTrue F.models → at ≤ length (F.stands file.old) }
     requires fits { at + length bytes.now < 2 ^ 64 }
-    ensures { WritesFrom F.tells (F.stands file.old) (F.stands file.new) result.0 result.1 at bytes.now }
+    ensures { WritesFrom F.models (F.stands file.old) (F.stands file.new) result.0 result.1 at bytes.now }
 {
     let mut done = 0;
     while done < bytes.len() {
@@ -106,9 +106,9 @@ pub fn write_front<F: SystemFile>(file: &mut F, at: u64, bytes: &[u8]) -> (usize
 
 /// Writes all of these bytes at a place.
 pub fn write_all<F: SystemFile>(file: &mut F, at: u64, bytes: &[u8]) -> io::Result<()>
-    requires stands { IsTrue F.tells → at ≤ length (F.stands file.old) }
+    requires stands { IsTrue F.models → at ≤ length (F.stands file.old) }
     requires fits { at + length bytes.now < 2 ^ 64 }
-    ensures { WritesAll F.tells (F.stands file.old) (F.stands file.new) result at bytes.now }
+    ensures { WritesAll F.models (F.stands file.old) (F.stands file.new) result at bytes.now }
 {
     let (_, result) = write_front(file, at, bytes);
     result

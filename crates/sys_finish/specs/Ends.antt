@@ -5,8 +5,8 @@ use Rattle.sys_finish.specs.declared.target.Ended.{Ended}
 
 -- It took all that was given. Where its file tells, the file holds just that; and where it was to be synced, nothing of
 -- it is pending.
-pub record EndsWith {F : Type 0} (tells : Bool) (stands : F → List ℕ) (past : F → Past) (is_synced : Bool)
+pub record EndsWith {F : Type 0} (models : Bool) (stands : F → List ℕ) (past : F → Past) (is_synced : Bool)
     (given : List ℕ) (ended : Ended F) : Type 0 where
   pub took : ended.sent.state.bytes ≡ given
-  pub exact : IsTrue tells → stands ended.file ≡ given
-  pub settled : IsTrue tells → IsTrue is_synced → (past ended.file).pending ≡ []
+  pub exact : IsTrue models → stands ended.file ≡ given
+  pub settled : IsTrue models → IsTrue is_synced → (past ended.file).pending ≡ []

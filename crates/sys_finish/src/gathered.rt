@@ -68,7 +68,7 @@ impl<F: SystemFile + Drop> Gathered<F> {
     /// that, where there is one. Why that could not be done, by the number of the system's error; then it is sent as far as
     /// that goes.
     pub(crate) fn finish(self, is_synced: bool) -> Result<Ended<F>, Option<i32>>
-        ensures { IfOk result (EndsWith F.tells F.stands F.past is_synced (given_by_writer self.writer)) }
+        ensures { IfOk result (EndsWith F.models F.stands F.past is_synced (given_by_writer self.writer)) }
     {
         match self.writer.into_inner() {
             Ok(sink) => sink.end(is_synced),

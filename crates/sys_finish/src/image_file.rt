@@ -6,10 +6,10 @@ ghost use Rattle.sys_finish.specs.Ends.{EndsWith};
 ghost use Rattle.sys_finish.specs.Given.{given_by_writer};
 
 use crate::output_file::{Finished, OutputFile};
-use sys_disk::{Late, Reasons};
 use abt_io::{DeviceFault, Output, Overwrite};
-use sys_refusals::{HostRefusal, Place};
+use sys_disk::{Late, Reasons};
 use sys_file::SystemFile;
+use sys_refusals::{FileArg, HostRefusal};
 
 /// A regular file that is written from its front on, and over what was written.
 #[derive(Drop)]
@@ -34,8 +34,8 @@ impl<F: SystemFile + Drop> ImageFile<F> {
     }
 
     /// Brings it to its end.
-    pub fn finish<'a>(self, place: Place<'a>) -> Result<Finished<F>, HostRefusal<'a>>
-        ensures { IfOk result (λ finished. EndsWith F.tells F.stands F.past self.output.is_synced
+    pub fn finish<'a>(self, place: FileArg<'a>) -> Result<Finished<F>, HostRefusal<'a>>
+        ensures { IfOk result (λ finished. EndsWith F.models F.stands F.past self.output.is_synced
             (given_by_writer self.output.to.writer) finished.ended) }
     {
         self.output.finish(place)

@@ -9,12 +9,12 @@ use crate::gathered::Gathered;
 use crate::image_file::ImageFile;
 use crate::sink::Sink;
 use crate::target::Ended;
-use sys_disk::Reasons;
 use abt_io::{DeviceFault, Output};
-use sys_refusals::{HostFault, HostRefusal, Place};
 use std::alloc::Global;
 use std::io::BufWriter;
+use sys_disk::Reasons;
 use sys_file::SystemFile;
+use sys_refusals::{FileArg, HostFault, HostRefusal};
 
 // How many bytes are taken together at most: a page, since no hole is smaller.
 const PAGE: usize = 4096;
@@ -48,7 +48,7 @@ impl<F: SystemFile + Drop> OutputFile<F> {
     /// An output that takes small writes together, and is synced at its end where that is wanted.
     pub fn new<'a>(
         alloc: Global,
-        place: Place<'a>,
+        place: FileArg<'a>,
         sink: Sink<F>,
         is_synced: bool,
         is_data_on_output: bool,
@@ -83,8 +83,8 @@ impl<F: SystemFile + Drop> OutputFile<F> {
     }
 
     /// Brings it to its end: what it holds is sent, and it is synced, where that is wanted.
-    pub fn finish<'a>(self, place: Place<'a>) -> Result<Finished<F>, HostRefusal<'a>>
-        ensures { IfOk result (λ finished. EndsWith F.tells F.stands F.past self.is_synced
+    pub fn finish<'a>(self, place: FileArg<'a>) -> Result<Finished<F>, HostRefusal<'a>>
+        ensures { IfOk result (λ finished. EndsWith F.models F.stands F.past self.is_synced
             (given_by_writer self.to.writer) finished.ended) }
     {
         let is_data_on_output = self.is_data_on_output;

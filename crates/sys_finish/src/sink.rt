@@ -29,8 +29,8 @@ pub struct Sink<F: SystemFile + Drop> {
 impl<F: SystemFile + Drop> Sink<F> {
     /// A file, a pipe or a device, which is given all bytes.
     pub fn stream(file: F) -> Sink<F>
-        requires empty { IsTrue F.tells → F.stands file ≡ [] }
-        requires front { IsTrue F.tells → F.place file ≡ 0 }
+        requires empty { IsTrue F.models → F.stands file ≡ [] }
+        requires front { IsTrue F.models → F.place file ≡ 0 }
         ensures { result.log.state ≡ nothing_logged }
     {
         Sink::of(Target::Stream(StreamFile::new(file)))
@@ -38,7 +38,7 @@ impl<F: SystemFile + Drop> Sink<F> {
 
     /// A regular file that is empty, in which zeros may be holes.
     pub fn holes(file: F) -> Sink<F>
-        requires { IsTrue F.tells → F.stands file ≡ [] }
+        requires { IsTrue F.models → F.stands file ≡ [] }
         ensures { result.log.state ≡ nothing_logged }
     {
         Sink::of(Target::Holes(HoleFile::new(file)))
@@ -47,7 +47,7 @@ impl<F: SystemFile + Drop> Sink<F> {
     /// A regular file that is empty. It holds up to 64 KiB of what it was given last, and lays headers there in memory;
     /// where there is no memory for that, each write goes to the file at once.
     pub fn gathered(alloc: Global, file: F) -> Sink<F>
-        requires { IsTrue F.tells → F.stands file ≡ [] }
+        requires { IsTrue F.models → F.stands file ≡ [] }
         ensures { result.log.state ≡ nothing_logged }
     {
         Sink::of(Target::Held(HeldFile::new(file, Room::new(alloc))))
@@ -113,7 +113,7 @@ impl<F: SystemFile + Drop> Sink<F> {
     /// Has all written that it holds, and synced, where that is wanted. It answers all that it was given, and its file. Why
     /// that could not be done, by the number of the system's error: then its file is closed. Standard output stays open.
     pub(crate) fn end(self, is_synced: bool) -> Result<Ended<F>, Option<i32>>
-        ensures { IfOk result (EndsWith F.tells F.stands F.past is_synced self.log.state.bytes) }
+        ensures { IfOk result (EndsWith F.models F.stands F.past is_synced self.log.state.bytes) }
     {
         match self.target.end(self.log, is_synced) {
             Ok(ended) => Ok(ended),

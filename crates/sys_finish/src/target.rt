@@ -93,7 +93,7 @@ impl<F: SystemFile + Drop> Target<F> {
     /// log, and its file.
     pub(crate) fn end(self, given: Log, is_synced: bool) -> io::Result<Ended<F>>
         requires { Follows self given.state.bytes }
-        ensures { IfOk result (EndsWith F.tells F.stands F.past is_synced given.state.bytes) }
+        ensures { IfOk result (EndsWith F.models F.stands F.past is_synced given.state.bytes) }
     {
         match self {
             Target::Stream(stream) => match stream.end() {
@@ -114,8 +114,8 @@ impl<F: SystemFile + Drop> Target<F> {
 
 // The end of a file that holds what was given.
 fn end_file<F: SystemFile + Drop>(file: F, given: Log, is_synced: bool) -> io::Result<Ended<F>>
-    requires { IsTrue F.tells → F.stands file ≡ given.state.bytes }
-    ensures { IfOk result (EndsWith F.tells F.stands F.past is_synced given.state.bytes) }
+    requires { IsTrue F.models → F.stands file ≡ given.state.bytes }
+    ensures { IfOk result (EndsWith F.models F.stands F.past is_synced given.state.bytes) }
 {
     let mut file = file;
     if is_synced && let Err(error) = file.sync() {

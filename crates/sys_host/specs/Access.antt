@@ -2,8 +2,8 @@
 use Rattle.std.specs.Prelude.{Bool, true, false}
 use Rattle.sys_file.specs.declared.system.Opening.{Opening}
 use Rattle.sys_file.specs.declared.system.Opening.TheVariants as openings
-use Rattle.sys_host.specs.declared.opening.Access.{Access}
-use Rattle.sys_host.specs.declared.opening.Access.TheVariants as ways
+use Rattle.sys_host.specs.declared.open_file.Access.{Access}
+use Rattle.sys_host.specs.declared.open_file.Access.TheVariants as ways
 
 -- it is written
 abbrev pub may_write : Access → Bool

@@ -6,7 +6,7 @@ use Rattle.sys_finish.specs.declared.output_file.ImageOutput.{ImageOutput}
 use Rattle.sys_finish.specs.declared.output_file.OutputFile.{OutputFile}
 use Rattle.sys_host.specs.Streams.{Mixed}
 use Rattle.sys_host.specs.Taken.{Forbidden, Adds, WritesOne}
-use Rattle.sys_host.specs.declared.opening.Opened.{Opened}
+use Rattle.sys_host.specs.declared.open_file.OpenedFile.{OpenedFile}
 use Rattle.sys_host.specs.declared.streams.Streams.{Streams}
 use Rattle.sys_host.specs.declared.taken.Taken.{Taken}
 
@@ -29,7 +29,7 @@ pub record BeginsKeptSpool {X F : Type 0} (n : ℕ) (r : Result (X × ℕ) F) (s
   pub writes : OnOk r (WritesOne streams taken taken')
 
 -- what is opened is none of the files of this run, and is one of them from then on; and nothing is told among its data
-pub record Admits {E F : Type 0} (r : Result (Opened F) E) (streams : Streams) (taken taken' : Taken) : Type 0 where
+pub record Admits {E F : Type 0} (r : Result (OpenedFile F) E) (streams : Streams) (taken taken' : Taken) : Type 0 where
   pub free : IfOk r (λ opened. ¬ Forbidden taken opened.found.identity)
   pub apart : IfOk r (λ opened. ¬ Mixed streams opened.found.identity)
   pub added : IfOk r (λ opened. Adds taken taken' opened.found.identity)

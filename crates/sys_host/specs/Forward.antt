@@ -19,16 +19,16 @@ fixed_size Told = None
 fixed_size (Fixed bytes) = Some bytes
 
 -- it goes on behind so many bytes of a file: no more than were asked, and none beyond the end
-pub record GoesPast (tells : Bool) (passed most : ℕ) (old new : List ℕ) (place place' : ℕ) : Type 0 where
+pub record GoesPast (models : Bool) (passed most : ℕ) (old new : List ℕ) (place place' : ℕ) : Type 0 where
   pub within : passed ≤ most
-  pub present : IsTrue tells → passed ≤ length old - place
-  pub same : IsTrue tells → new ≡ old
-  pub rest : IsTrue tells → drop place' new ≡ drop passed (drop place old)
+  pub present : IsTrue models → passed ≤ length old - place
+  pub same : IsTrue models → new ≡ old
+  pub rest : IsTrue models → drop place' new ≡ drop passed (drop place old)
 
 -- the same of a reader: bytes that it holds, and where it holds none those of its file
-pub record ReaderGoesPast (tells : Bool) (passed most : ℕ) (held held' : List ℕ) (room room' : ℕ) (old new : List ℕ)
+pub record ReaderGoesPast (models : Bool) (passed most : ℕ) (held held' : List ℕ) (room room' : ℕ) (old new : List ℕ)
     (place place' : ℕ) : Type 0 where
   pub bound : passed ≤ most
-  pub there : IsTrue tells → passed ≤ length (held ++ drop place old)
-  pub left : IsTrue tells → held' ++ drop place' new ≡ drop passed (held ++ drop place old)
+  pub there : IsTrue models → passed ≤ length (held ++ drop place old)
+  pub left : IsTrue models → held' ++ drop place' new ≡ drop passed (held ++ drop place old)
   pub same_room : room' ≡ room

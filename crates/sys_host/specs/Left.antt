@@ -5,4 +5,4 @@ use Rattle.sys_host.specs.declared.origin.Origin.{Origin}
 
 -- what a file still has to give behind its place, where it tells
 abbrev pub left_of : {F : Type 0} {g : _} → Bool → (F → List ℕ) → (F → ℕ) → Origin F g → Option (List ℕ)
-left_of tells stands place origin = known tells (drop (place origin.file) (stands origin.file))
+left_of models stands place origin = known models (drop (place origin.file) (stands origin.file))

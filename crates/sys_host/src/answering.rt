@@ -4,14 +4,14 @@ ghost use Rattle.std.specs.Prelude.{◌≡◌, IfErr, OnOk, if◌then◌else◌}
 ghost use Rattle.sys_host.specs.Answering.{PrintsNothing};
 
 use crate::origin::Origin;
-use sys_refusals::{Magic, Place, Refusal, Told};
-use sys_report::Report;
-use sys_text::Text;
-use sys_std::OsSystem;
 use std::alloc::{AllocError, Global};
 use std::io;
 use std::io::Read;
 use sys_file::{Kind, Opening, System};
+use sys_refusals::{FileArg, Magic, Refusal, Told};
+use sys_report::Report;
+use sys_std::OsSystem;
+use sys_text::Text;
 
 /// Done.
 pub const DONE: u8 = 0;
@@ -130,7 +130,7 @@ fn is_of_room(number: Option<i32>) -> bool {
 fn with_unfinished(
     alloc: Global,
     line: &str,
-    output: Option<Place<'_>>,
+    output: Option<FileArg<'_>>,
 ) -> Result<String, AllocError> {
     match output {
         Some(place) => {

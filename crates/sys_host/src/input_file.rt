@@ -7,14 +7,14 @@ ghost use Rattle.sys_host.specs.Forward.{bytes_of_known, ReaderGoesPast};
 ghost use Rattle.sys_host.specs.Left.{left_of};
 ghost use Rattle.sys_host.specs.Opens.{WasOpened};
 
-use crate::opening::{Opened, not_opened};
+use crate::open_file::{OpenedFile, not_opened};
 use crate::origin::Origin;
-use sys_disk::{Measured, Reasons};
 use abt_io::{DeviceFault, Input, Tally};
-use sys_refusals::{HostRefusal, Place};
 use std::alloc::Global;
 use std::io::{BufRead, BufReader, Read};
+use sys_disk::{Measured, Reasons};
 use sys_file::SystemFile;
+use sys_refusals::{FileArg, HostRefusal};
 
 /// A file or standard input. It is read through a buffer, so that headers of chunks, which are small, come many at a time. A
 /// read that asks for as much as the buffer holds, as those of raw data do, goes around it once it is empty. Bytes that nobody
@@ -27,8 +27,8 @@ pub struct InputFile<F: SystemFile + Drop> {
     calls: Tally,
     count: Tally,
     faults: Tally,
-    ghost told: { IsTrue F.tells → IsTrue (is_some (reader_remaining (left_of F.tells F.stands F.place) reader)) },
-    ghost bytes: { IsTrue F.tells → AreBytes (bytes_of_known (reader_remaining (left_of F.tells F.stands F.place) reader)) },
+    ghost told: { IsTrue F.models → IsTrue (is_some (reader_remaining (left_of F.models F.stands F.place) reader)) },
+    ghost bytes: { IsTrue F.models → AreBytes (bytes_of_known (reader_remaining (left_of F.models F.stands F.place) reader)) },
 }
 
 impl<F: SystemFile + Drop> InputFile<F> {
@@ -38,10 +38,10 @@ impl<F: SystemFile + Drop> InputFile<F> {
 
     pub(crate) fn of_file<'a>(
         alloc: Global,
-        opened: Opened<F>,
-        place: Place<'a>,
+        opened: OpenedFile<F>,
+        place: FileArg<'a>,
     ) -> Result<InputFile<F>, HostRefusal<'a>>
-        requires { WasOpened F.tells F.stands F.place F.past false opened }
+        requires { WasOpened F.models F.stands F.place F.past false opened }
     {
         let length = if opened.found.is_file() {
             Some(opened.found.length)
@@ -88,9 +88,9 @@ impl<F: SystemFile + Drop> InputFile<F> {
 }
 
 impl<F: SystemFile + Drop> Input for InputFile<F> {
-    ghost tells = { F.tells };
+    ghost models = { F.models };
 
-    ghost remaining = { λ s. bytes_of_known (reader_remaining (left_of F.tells F.stands F.place) s.reader) };
+    ghost remaining = { λ s. bytes_of_known (reader_remaining (left_of F.models F.stands F.place) s.reader) };
 
     ghost reads = { λ s. s.calls.number };
 
@@ -166,7 +166,7 @@ fn take_held<F: SystemFile + Drop>(reader: &mut BufReader<Origin<F>>, out: &mut 
 
 // GoesPast over bytes that the buffer holds, or where it holds none over those that come next: at most so many.
 fn passed<F: SystemFile + Drop>(reader: &mut BufReader<Origin<F>>, most: usize) -> usize
-    ensures { ReaderGoesPast F.tells result most (reader_buffer reader.old) (reader_buffer reader.new)
+    ensures { ReaderGoesPast F.models result most (reader_buffer reader.old) (reader_buffer reader.new)
         (reader_capacity reader.old) (reader_capacity reader.new) (F.stands (reader_inner reader.old).file)
         (F.stands (reader_inner reader.new).file) (F.place (reader_inner reader.old).file)
         (F.place (reader_inner reader.new).file) }

@@ -7,25 +7,25 @@
 //! | file | has |
 //! |---|---|
 //! | `taken.rt`, `streams.rt` | the files that no output may be; where reports go |
-//! | `opening.rt` | one file that is opened: how, and what it has to be |
-//! | `reading.rt`, `writing.rt` | all that is read, and then all that is written |
+//! | `open_file.rt` | one file that is opened: how, and what it has to be |
+//! | `reading.rt`, `open_outputs.rt` | all that is read, and then all that is written |
 //! | `input_file.rt`, `origin.rt` | what is read forward: a file or standard input; a file is passed over by its place |
 //! | `answering.rt` | the exit status, and what standard error tells |
 #![tactic(auto)]
 
 mod answering;
 mod input_file;
-mod opening;
+mod open_file;
+mod open_outputs;
 mod origin;
 mod reading;
 mod streams;
 mod taken;
-mod writing;
 
 pub use answering::{DONE, REFUSED, Telling, USAGE, answer};
 pub use input_file::InputFile;
-pub use opening::not_opened;
+pub use open_file::not_opened;
+pub use open_outputs::Writing;
 pub use reading::Reading;
 pub use streams::Streams;
 pub use taken::Taken;
-pub use writing::Writing;

@@ -5,7 +5,7 @@ ghost use Rattle.std.specs.Prelude.{◌≡◌, ◌≤◌, ◌-◌, ◌^◌, fals
 ghost use Rattle.sys_host.specs.Forward.{known, fixed_size, GoesPast};
 ghost use Rattle.sys_host.specs.Opens.{WasOpened};
 
-use crate::opening::Opened;
+use crate::open_file::OpenedFile;
 use std::io;
 use std::io::Read;
 use sys_file::{SystemFile, read};
@@ -32,8 +32,8 @@ pub struct Origin<F: SystemFile + Drop> {
     pub(crate) file: F,
     placed: Option<Placed>,
     pub(crate) why: Option<i32>,
-    ghost at: { IsTrue F.tells → IfSome placed (λ p. p.at ≡ min (F.place file) (2 ^ 64 - 1)) } by { Prim.hlevel props },
-    ghost sized: { IsTrue F.tells → IfSome (option_and_then (λ p. fixed_size p.size) placed)
+    ghost at: { IsTrue F.models → IfSome placed (λ p. p.at ≡ min (F.place file) (2 ^ 64 - 1)) } by { Prim.hlevel props },
+    ghost sized: { IsTrue F.models → IfSome (option_and_then (λ p. fixed_size p.size) placed)
         (λ n. n ≡ length (F.stands file)) } by { Prim.hlevel props },
 }
 
@@ -50,12 +50,12 @@ impl<F: SystemFile + Drop> Origin<F> {
     }
 
     /// A file that was just opened. A regular file and a block device have a place, which is at their front.
-    pub(crate) fn of_opened(opened: Opened<F>) -> io::Result<Origin<F>>
-        requires { WasOpened F.tells F.stands F.place F.past false opened }
-        ensures { IsTrue F.tells → IfOk result (λ origin. (F.stands origin.file ≡ F.stands opened.file)
+    pub(crate) fn of_opened(opened: OpenedFile<F>) -> io::Result<Origin<F>>
+        requires { WasOpened F.models F.stands F.place F.past false opened }
+        ensures { IsTrue F.models → IfOk result (λ origin. (F.stands origin.file ≡ F.stands opened.file)
             × (F.place origin.file ≡ 0)) }
     {
-        let Opened { file, found, .. } = opened;
+        let OpenedFile { file, found, .. } = opened;
         let mut file = file;
         let size = if found.is_file() {
             Size::Told
@@ -76,7 +76,7 @@ impl<F: SystemFile + Drop> Origin<F> {
     /// Goes on behind at most so many bytes, none of them beyond the end. It answers how many: none where only a read
     /// can tell.
     pub(crate) fn pass(&mut self, most: usize) -> usize
-        ensures { GoesPast F.tells result most (F.stands self.old.file) (F.stands self.new.file) (F.place self.old.file)
+        ensures { GoesPast F.models result most (F.stands self.old.file) (F.stands self.new.file) (F.place self.old.file)
             (F.place self.new.file) }
     {
         let Some(placed) = self.placed else {
@@ -102,8 +102,8 @@ impl<F: SystemFile + Drop> Origin<F> {
 }
 
 fn size_of<F: SystemFile>(file: &F, size: Size) -> u64
-    requires { IsTrue F.tells → IfSome (fixed_size size) (λ n. n ≡ length (F.stands file.now)) }
-    ensures { IsTrue F.tells → result ≤ length (F.stands file.now) }
+    requires { IsTrue F.models → IfSome (fixed_size size) (λ n. n ≡ length (F.stands file.now)) }
+    ensures { IsTrue F.models → result ≤ length (F.stands file.now) }
 {
     match size {
         Size::Fixed(bytes) => bytes,
@@ -115,7 +115,7 @@ fn size_of<F: SystemFile>(file: &F, size: Size) -> u64
 }
 
 impl<F: SystemFile + Drop> Read for Origin<F> {
-    ghost remaining = { λ o. known F.tells (drop (F.place o.file) (F.stands o.file)) };
+    ghost remaining = { λ o. known F.models (drop (F.place o.file) (F.stands o.file)) };
 
     fn read(&mut self, bytes: &mut [u8]) -> io::Result<usize> {
         match read(&mut self.file, bytes) {

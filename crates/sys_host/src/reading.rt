@@ -8,20 +8,20 @@ ghost use Rattle.sys_host.specs.Streams.{Reported};
 ghost use Rattle.sys_host.specs.Taken.{Adds, ReadsOne};
 
 use crate::input_file::InputFile;
-use crate::opening::{Access, Opened, not_opened, open_file};
+use crate::open_file::{Access, OpenedFile, not_opened, open_file};
+use crate::open_outputs::Writing;
 use crate::streams::Streams;
 use crate::taken::Taken;
-use crate::writing::Writing;
-use sys_refusals::{HostFault, HostRefusal, Place};
-use sys_identity::{
-    Found, INPUT, Identity, ReadFiles, StandardSource, found_of, identity_of_stream, is_shown,
-    standard_source,
-};
 use std::alloc::Global;
 use std::io;
 use std::io::Read;
 use sys_devices::FileSource;
 use sys_file::{System, SystemFile};
+use sys_identity::{
+    Found, INPUT, Identity, ReadFiles, StandardSource, found_of, identity_of_stream, is_shown,
+    standard_source,
+};
+use sys_refusals::{FileArg, HostFault, HostRefusal};
 
 // How many bytes a file of words has at most.
 const TEXT: u64 = 1 << 20;
@@ -97,7 +97,7 @@ impl<S: System + Drop> Reading<S> {
     }
 
     /// WasOpened what is read forward: `-` is standard input, which is no file of ours.
-    pub fn input<'a>(&mut self, place: Place<'a>) -> Result<InputFile<S::File>, HostRefusal<'a>>
+    pub fn input<'a>(&mut self, place: FileArg<'a>) -> Result<InputFile<S::File>, HostRefusal<'a>>
         ensures reads { OnOk result (ReadsOne self.old.streams self.old.taken self.new.taken) }
     {
         if place.is_standard() {
@@ -109,7 +109,7 @@ impl<S: System + Drop> Reading<S> {
         }
     }
 
-    fn standard<'a>(&mut self, place: Place<'a>) -> Result<InputFile<S::File>, HostRefusal<'a>>
+    fn standard<'a>(&mut self, place: FileArg<'a>) -> Result<InputFile<S::File>, HostRefusal<'a>>
         ensures reads { OnOk result (ReadsOne self.old.streams self.old.taken self.new.taken) }
     {
         let identity = identity_of_stream(&self.system, INPUT);
@@ -122,10 +122,10 @@ impl<S: System + Drop> Reading<S> {
     }
 
     /// WasOpened what is read at any place. What is neither a file nor a block device has no length, and is refused.
-    pub fn source<'a>(&mut self, place: Place<'a>) -> Result<FileSource<S::File>, HostRefusal<'a>>
+    pub fn source<'a>(&mut self, place: FileArg<'a>) -> Result<FileSource<S::File>, HostRefusal<'a>>
         ensures reads { OnOk result (ReadsOne self.old.streams self.old.taken self.new.taken) }
     {
-        let Opened { file, .. } = self.opened(place, Access::AnyPlace)?;
+        let OpenedFile { file, .. } = self.opened(place, Access::AnyPlace)?;
         source_of(file, place)
     }
 
@@ -133,7 +133,7 @@ impl<S: System + Drop> Reading<S> {
     /// length and is refused.
     pub fn standard_source<'a>(
         &mut self,
-        place: Place<'a>,
+        place: FileArg<'a>,
     ) -> Result<StandardSource<S::File>, HostRefusal<'a>>
         ensures reads { OnOk result (ReadsOne self.old.streams self.old.taken self.new.taken) }
     {
@@ -153,9 +153,9 @@ impl<S: System + Drop> Reading<S> {
     pub fn again<'a>(
         &mut self,
         source: &FileSource<S::File>,
-        place: Place<'a>,
+        place: FileArg<'a>,
     ) -> Result<FileSource<S::File>, HostRefusal<'a>>
-        ensures { IsTrue S.File.tells → IfOk result (λ again. file_bytes S.File.stands again.file
+        ensures { IsTrue S.File.models → IfOk result (λ again. file_bytes S.File.stands again.file
             ≡ file_bytes S.File.stands source.now.file) }
     {
         let Some(file) = &source.file else {
@@ -173,7 +173,7 @@ impl<S: System + Drop> Reading<S> {
     }
 
     /// The text of a file, which is UTF-8 and at most 1 MiB.
-    pub fn text<'a>(&mut self, place: Place<'a>) -> Result<String, HostRefusal<'a>>
+    pub fn text<'a>(&mut self, place: FileArg<'a>) -> Result<String, HostRefusal<'a>>
         ensures reads { OnOk result (ReadsOne self.old.streams self.old.taken self.new.taken) }
         ensures length { IfOk result (λ text. length (string_bytes text) ≤ 2 ^ 20) }
     {
@@ -195,13 +195,13 @@ impl<S: System + Drop> Reading<S> {
     // WasOpened a file that is read.
     fn opened<'a>(
         &mut self,
-        place: Place<'a>,
+        place: FileArg<'a>,
         access: Access,
-    ) -> Result<Opened<S::File>, HostRefusal<'a>>
+    ) -> Result<OpenedFile<S::File>, HostRefusal<'a>>
         requires { may_write access ≡ false }
         ensures spared { IfOk result (λ opened. ¬ Reported self.old.streams opened.found.identity) }
         ensures taken { IfOk result (λ opened. Adds self.old.taken self.new.taken opened.found.identity) }
-        ensures opens { IfOk result (WasOpened S.File.tells S.File.stands S.File.place S.File.past (may_create access)) }
+        ensures opens { IfOk result (WasOpened S.File.models S.File.stands S.File.place S.File.past (may_create access)) }
     {
         let opened = match open_file(&mut self.system, place, access) {
             Ok(opened) => opened,
@@ -218,7 +218,7 @@ impl<S: System + Drop> Reading<S> {
         &mut self,
         descriptor: i32,
         found: Found,
-        place: Place<'a>,
+        place: FileArg<'a>,
     ) -> Result<(), HostRefusal<'a>>
         ensures taken { self.new.taken ≡ self.old.taken }
         ensures streams { self.new.streams ≡ self.old.streams }
@@ -230,7 +230,7 @@ impl<S: System + Drop> Reading<S> {
     }
 
     // No report may land in this file, and no output may be it.
-    fn take<'a>(&mut self, identity: Identity, place: Place<'a>) -> Result<(), HostRefusal<'a>>
+    fn take<'a>(&mut self, identity: Identity, place: FileArg<'a>) -> Result<(), HostRefusal<'a>>
         ensures spared { OnOk result (¬ Reported self.old.streams identity) }
         ensures taken { OnOk result (Adds self.old.taken self.new.taken identity) }
         ensures refused { IfErr result (λ refusal. refusal.fault ≡ HostFault.SameFile
@@ -258,7 +258,7 @@ fn if_too_many(refusal: HostRefusal<'_>) -> HostRefusal<'_>
 
 fn source_of<'a, F: SystemFile + Drop>(
     file: F,
-    place: Place<'a>,
+    place: FileArg<'a>,
 ) -> Result<FileSource<F>, HostRefusal<'a>>
     ensures { IfOk result (λ source. file_bytes F.stands source.file ≡ F.stands file) }
 {

@@ -3,9 +3,9 @@
 ghost use Rattle.std.specs.Prelude.{◌≡◌, ◌↔◌, IsTrue, OnOk, IfErr};
 ghost use Rattle.sys_host.specs.Streams.{Reported, Mixed};
 
-use sys_refusals::{HostFault, HostRefusal, Place};
-use sys_identity::{ERRORS, Identity, OUTPUT, identity_of_stream};
 use sys_file::System;
+use sys_identity::{ERRORS, Identity, OUTPUT, identity_of_stream};
+use sys_refusals::{FileArg, HostFault, HostRefusal};
 
 /// What standard output and standard error are.
 #[derive(Clone, Copy, Drop)]
@@ -23,7 +23,7 @@ impl Streams {
     }
 
     /// Refuses to read a file with data in which a report would land. Of what would land there itself nothing is told.
-    pub fn spare<'a>(&self, identity: Identity, place: Place<'a>) -> Result<(), HostRefusal<'a>>
+    pub fn spare<'a>(&self, identity: Identity, place: FileArg<'a>) -> Result<(), HostRefusal<'a>>
         ensures spared { OnOk result (¬ Reported self.now identity) }
         ensures reported { IfErr result (λ _. Reported self.now identity) }
         ensures fault { IfErr result (λ refusal. refusal.fault ≡ HostFault.SameFile) }

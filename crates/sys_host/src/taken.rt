@@ -5,10 +5,10 @@ ghost use Rattle.sys_devices.specs.Writes.{LeavesNoMagic};
 ghost use Rattle.sys_file.specs.declared.stat.Kind.{Kind};
 ghost use Rattle.sys_host.specs.Taken.{Forbidden, Adds};
 
-use sys_identity::{Found, Identity};
 use std::alloc::{AllocError, Global};
 use std::io;
 use sys_file::{SystemFile, write_all};
+use sys_identity::{Found, Identity};
 
 /// What is read, and what is being written: no further output may be one of them.
 #[derive(Drop)]
@@ -46,11 +46,11 @@ impl Taken {
     /// Empties a file that is one of these; a pipe and a device have nothing to empty.
     pub(crate) fn empty<F: SystemFile>(&self, file: &mut F, found: Found) -> io::Result<()>
         requires taken { Contains self.now.files.items found.identity }
-        requires long { IsTrue F.tells → found.kind ≡ Kind.File → found.length ≡ length (F.stands file.old) }
-        requires blank { IsTrue F.tells → ¬ (found.kind ≡ Kind.File) → F.stands file.old ≡ [] }
-        ensures empty { OnOk result (IsTrue F.tells → F.stands file.new ≡ []) }
-        ensures place { IsTrue F.tells → F.place file.new ≡ F.place file.old }
-        ensures past { IsTrue F.tells → F.past file.new ≡ F.past file.old }
+        requires long { IsTrue F.models → found.kind ≡ Kind.File → found.length ≡ length (F.stands file.old) }
+        requires blank { IsTrue F.models → ¬ (found.kind ≡ Kind.File) → F.stands file.old ≡ [] }
+        ensures empty { OnOk result (IsTrue F.models → F.stands file.new ≡ []) }
+        ensures place { IsTrue F.models → F.place file.new ≡ F.place file.old }
+        ensures past { IsTrue F.models → F.past file.new ≡ F.past file.old }
     {
         if found.is_file() && found.length > 0 {
             file.set_len(0)
@@ -68,11 +68,11 @@ impl Taken {
         most: u64,
     ) -> io::Result<u64>
         requires taken { Contains self.now.files.items found.identity }
-        requires long { IsTrue F.tells → found.kind ≡ Kind.File → found.length ≡ length (F.stands file.old) }
-        requires blank { IsTrue F.tells → ¬ (found.kind ≡ Kind.File) → F.stands file.old ≡ [] }
+        requires long { IsTrue F.models → found.kind ≡ Kind.File → found.length ≡ length (F.stands file.old) }
+        requires blank { IsTrue F.models → ¬ (found.kind ≡ Kind.File) → F.stands file.old ≡ [] }
         ensures most { IfOk result (λ stands. stands ≤ most) }
-        ensures long { IsTrue F.tells → IfOk result (λ stands. length (F.stands file.new) ≤ stands) }
-        ensures no_magic { IsTrue F.tells → OnOk result (LeavesNoMagic (F.stands file.new)) }
+        ensures long { IsTrue F.models → IfOk result (λ stands. length (F.stands file.new) ≤ stands) }
+        ensures no_magic { IsTrue F.models → OnOk result (LeavesNoMagic (F.stands file.new)) }
     {
         if !found.is_file() || found.length < 4 || found.length > most {
             self.empty(file, found)?;

@@ -4,15 +4,15 @@ ghost use Rattle.std.specs.Prelude.{[], None, false};
 ghost use Rattle.std.proofs.lemmas.Bool.{false≢true};
 
 use crate::source::HostSource;
-use sys_disk::{Disk, ImageTo};
-use sys_host::{InputFile, Reading, Writing, not_opened};
 use abt_io::Overwrite;
-use sys_finish::{ImageFile, ImageOutput, OutputFile};
-use sys_refusals::{HostFault, HostRefusal, Place};
-use sys_identity::{INPUT, is_standard_input, standard_source_again};
 use std::alloc::AllocError;
 use sys_devices::{FilePartition, GatheringSpool};
+use sys_disk::{Disk, ImageTo};
 use sys_file::{System, SystemFile};
+use sys_finish::{ImageFile, ImageOutput, OutputFile};
+use sys_host::{InputFile, Reading, Writing, not_opened};
+use sys_identity::{INPUT, is_standard_input, standard_source_again};
+use sys_refusals::{FileArg, HostFault, HostRefusal};
 
 // How long the magic of an image is at most.
 const MAGIC: usize = 8;
@@ -58,7 +58,7 @@ impl<S: System + Drop> Host<S> {
     }
 
     // Reads standard input at any place.
-    fn standard<'a>(&mut self, place: Place<'a>) -> Result<HostSource<S::File>, HostRefusal<'a>> {
+    fn standard<'a>(&mut self, place: FileArg<'a>) -> Result<HostSource<S::File>, HostRefusal<'a>> {
         match self.writing.reading.standard_source(place) {
             Ok(source) => Ok(HostSource::Standard(source)),
             Err(refusal) => Err(refusal),
@@ -73,13 +73,13 @@ impl<S: System + Drop> Disk for Host<S> {
 
     type At = HostSource<S::File>;
 
-    type Part = FilePartition<S::File>;
+    type InPlace = FilePartition<S::File>;
 
     type Image = ImageFile<S::File>;
 
     type Through = GatheringSpool<S::File>;
 
-    ghost tells = { false };
+    ghost models = { false };
 
     ghost world = { λ _. record { at = λ _. None; holds = λ _. [] } };
 
@@ -106,11 +106,11 @@ impl<S: System + Drop> Disk for Host<S> {
 
     ghost through_told = { λ t. absurd (false≢true t) };
 
-    fn input<'a>(&mut self, place: Place<'a>) -> Result<InputFile<S::File>, HostRefusal<'a>> {
+    fn input<'a>(&mut self, place: FileArg<'a>) -> Result<InputFile<S::File>, HostRefusal<'a>> {
         self.writing.reading.input(place)
     }
 
-    fn source<'a>(&mut self, place: Place<'a>) -> Result<HostSource<S::File>, HostRefusal<'a>> {
+    fn source<'a>(&mut self, place: FileArg<'a>) -> Result<HostSource<S::File>, HostRefusal<'a>> {
         if is_standard_input(&place) {
             return self.standard(place);
         }
@@ -120,7 +120,7 @@ impl<S: System + Drop> Disk for Host<S> {
         }
     }
 
-    fn ahead<'a>(&mut self, place: Place<'a>) -> Result<HostSource<S::File>, HostRefusal<'a>> {
+    fn ahead<'a>(&mut self, place: FileArg<'a>) -> Result<HostSource<S::File>, HostRefusal<'a>> {
         if is_standard_input(&place) {
             return self.standard(place);
         }
@@ -134,7 +134,7 @@ impl<S: System + Drop> Disk for Host<S> {
     fn again<'a>(
         &mut self,
         at: &HostSource<S::File>,
-        place: Place<'a>,
+        place: FileArg<'a>,
     ) -> Result<HostSource<S::File>, HostRefusal<'a>> {
         let source = match at {
             HostSource::Plain(source) => source,
@@ -152,7 +152,7 @@ impl<S: System + Drop> Disk for Host<S> {
         }
     }
 
-    fn text<'a>(&mut self, place: Place<'a>) -> Result<String, HostRefusal<'a>> {
+    fn text<'a>(&mut self, place: FileArg<'a>) -> Result<String, HostRefusal<'a>> {
         self.writing.reading.text(place)
     }
 
@@ -176,7 +176,7 @@ impl<S: System + Drop> Disk for Host<S> {
 
     fn partition<'a>(
         &mut self,
-        place: Place<'a>,
+        place: FileArg<'a>,
     ) -> Result<FilePartition<S::File>, HostRefusal<'a>> {
         self.writing.partition(place)
     }
@@ -192,7 +192,7 @@ impl<S: System + Drop> Disk for Host<S> {
     fn close<'a>(
         &mut self,
         part: FilePartition<S::File>,
-        place: Place<'a>,
+        place: FileArg<'a>,
     ) -> Result<bool, HostRefusal<'a>> {
         let looked = self.unchanged_at_end();
         self.writing.close(part, place)?;
@@ -204,7 +204,7 @@ impl<S: System + Drop> Disk for Host<S> {
 
     fn zeros<'a>(
         &mut self,
-        place: Place<'a>,
+        place: FileArg<'a>,
         bytes: u64,
     ) -> Result<FilePartition<S::File>, HostRefusal<'a>> {
         self.writing.zeros(place, bytes)
@@ -212,7 +212,7 @@ impl<S: System + Drop> Disk for Host<S> {
 
     fn spool<'a>(
         &mut self,
-        place: Place<'a>,
+        place: FileArg<'a>,
         limit: u32,
         keeping: bool,
         from: &HostSource<S::File>,
@@ -233,7 +233,7 @@ impl<S: System + Drop> Disk for Host<S> {
     fn close_spool<'a>(
         &mut self,
         through: GatheringSpool<S::File>,
-        place: Place<'a>,
+        place: FileArg<'a>,
     ) -> Result<bool, HostRefusal<'a>> {
         let mut through = through;
         match through.settle() {
@@ -245,30 +245,30 @@ impl<S: System + Drop> Disk for Host<S> {
         }
     }
 
-    fn is_there<'a>(&self, place: Place<'a>) -> Result<bool, HostRefusal<'a>> {
+    fn is_there<'a>(&self, place: FileArg<'a>) -> Result<bool, HostRefusal<'a>> {
         self.writing.is_there(place)
     }
 
-    fn left_over(&self, place: Place<'_>, behind: u32) -> Result<Option<u32>, AllocError> {
+    fn left_over(&self, place: FileArg<'_>, behind: u32) -> Result<Option<u32>, AllocError> {
         self.writing.left_over(place, behind)
     }
 
-    fn refuse_taken<'a>(&mut self, place: Place<'a>) -> Result<(), HostRefusal<'a>> {
+    fn refuse_taken<'a>(&mut self, place: FileArg<'a>) -> Result<(), HostRefusal<'a>> {
         self.writing.refuse_taken(place)
     }
 
-    fn plain<'a>(&mut self, place: Place<'a>) -> Result<OutputFile<S::File>, HostRefusal<'a>> {
+    fn plain<'a>(&mut self, place: FileArg<'a>) -> Result<OutputFile<S::File>, HostRefusal<'a>> {
         self.writing.plain(place)
     }
 
-    fn raw<'a>(&mut self, place: Place<'a>) -> Result<OutputFile<S::File>, HostRefusal<'a>> {
+    fn raw<'a>(&mut self, place: FileArg<'a>) -> Result<OutputFile<S::File>, HostRefusal<'a>> {
         self.writing.raw(place)
     }
 
     fn finish<'a>(
         &mut self,
         onto: OutputFile<S::File>,
-        place: Place<'a>,
+        place: FileArg<'a>,
     ) -> Result<bool, HostRefusal<'a>> {
         if let Err(refusal) = self.writing.reading.unchanged() {
             onto.give_up();
@@ -285,7 +285,7 @@ impl<S: System + Drop> Disk for Host<S> {
 
     fn image<'a>(
         &mut self,
-        place: Place<'a>,
+        place: FileArg<'a>,
         is_gathered: bool,
     ) -> Result<ImageTo<ImageFile<S::File>, OutputFile<S::File>>, HostRefusal<'a>> {
         match self.writing.image(place, is_gathered) {
@@ -298,7 +298,7 @@ impl<S: System + Drop> Disk for Host<S> {
     fn finish_image<'a>(
         &mut self,
         image: ImageFile<S::File>,
-        place: Place<'a>,
+        place: FileArg<'a>,
     ) -> Result<bool, HostRefusal<'a>> {
         if let Err(refusal) = self.writing.reading.unchanged() {
             blank_front(image);

@@ -4,13 +4,13 @@ ghost use Rattle.std.specs.Prelude.{[], false};
 ghost use Rattle.std.proofs.lemmas.Bool.{false≢true};
 ghost use Rattle.sys_host_disk.specs.Sources.{number_of_source};
 
-use sys_disk::Lasting;
 use abt_io::{DeviceFault, Source};
-use sys_identity::StandardSource;
 use std::alloc::{AllocError, Global};
 use std::rc::Rc;
 use sys_devices::{AheadFile, AheadSource, FileSource};
+use sys_disk::Lasting;
 use sys_file::SystemFile;
+use sys_identity::StandardSource;
 
 /// A file or a block device.
 #[derive(Drop)]
@@ -64,7 +64,7 @@ impl<F: SystemFile + Drop> HostSource<F> {
 }
 
 impl<F: SystemFile + Drop> Source for HostSource<F> {
-    ghost tells = { false };
+    ghost models = { false };
 
     ghost content = { λ _. [] };
 

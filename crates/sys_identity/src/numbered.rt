@@ -1,9 +1,9 @@
 //! What a folder has of numbered files: `PREFIX.1` and so on.
 
-use sys_numbered_names::{lesser, number_behind};
 use std::alloc::AllocError;
 use std::io;
 use sys_file::System;
+use sys_numbered_names::{lesser, number_behind};
 
 /// The least number above this one at which a file is, behind the path of its prefix and a point. Where the system
 /// does not show what the folder holds, only the next number is looked at.

@@ -2,9 +2,9 @@
 
 use crate::descriptors::INPUT;
 use crate::identity::{Found, Identity, found_at, found_of};
-use sys_refusals::Place;
 use std::alloc::{AllocError, Global};
 use sys_file::System;
+use sys_refusals::FileArg;
 
 // No file is open under this descriptor.
 const CLOSED: i32 = -1;
@@ -14,7 +14,7 @@ const CLOSED: i32 = -1;
 struct ReadFile {
     descriptor: i32,
     /// The word that named it, and its path.
-    place: Place<'static>,
+    place: FileArg<'static>,
     /// Whether that path leads to it: standard input has none.
     has_path: bool,
     /// What it was when it was opened.
@@ -77,7 +77,7 @@ pub struct ReadFiles {
     alloc: Global,
     files: Vec<ReadFile>,
     // One that had changed when it was let go.
-    changed: Option<Place<'static>>,
+    changed: Option<FileArg<'static>>,
 }
 
 impl ReadFiles {
@@ -94,7 +94,7 @@ impl ReadFiles {
     pub fn add(
         &mut self,
         descriptor: i32,
-        place: Place<'_>,
+        place: FileArg<'_>,
         found: Found,
     ) -> Result<(), AllocError> {
         self.forget(descriptor);
@@ -156,7 +156,7 @@ impl ReadFiles {
     }
 
     /// One that has changed since it was opened: it was so when it was let go, or is open and is so now.
-    pub fn changed<S: System>(&self, system: &S) -> Option<Place<'static>> {
+    pub fn changed<S: System>(&self, system: &S) -> Option<FileArg<'static>> {
         if self.changed.is_some() {
             return self.changed;
         }
@@ -181,10 +181,10 @@ impl ReadFiles {
 }
 
 // A place that lasts as long as the program does, as what is told of a file at the end of the work.
-fn kept_place(alloc: Global, place: Place<'_>) -> Result<Place<'static>, AllocError> {
+fn kept_place(alloc: Global, place: FileArg<'_>) -> Result<FileArg<'static>, AllocError> {
     let role = String::from_str(alloc, place.role)?;
     let path = place.path(alloc)?;
-    Ok(Place {
+    Ok(FileArg {
         role: kept(role),
         folder: None,
         name: kept(path),

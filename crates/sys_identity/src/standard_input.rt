@@ -8,10 +8,10 @@ ghost use Rattle.sys_identity.specs.Behind.{long_behind};
 use crate::descriptors::{INPUT, open_again, place_of_input};
 use crate::identity::Found;
 use abt_io::{DeviceFault, Source};
-use sys_refusals::Place;
 use std::io;
 use sys_devices::FileSource;
 use sys_file::{Opening, System, SystemFile};
+use sys_refusals::FileArg;
 
 /// Standard input, of which the byte at its place is the first.
 #[derive(Drop)]
@@ -63,7 +63,7 @@ impl<F: SystemFile + Drop> StandardSource<F> {
 }
 
 /// Whether this is standard input, which is read at any place.
-pub fn is_standard_input(place: &Place<'_>) -> bool {
+pub fn is_standard_input(place: &FileArg<'_>) -> bool {
     let is_path = match place.folder {
         Some(folder) => folder == "/dev" && place.name == "stdin",
         None => place.name == "/dev/stdin",
@@ -72,7 +72,7 @@ pub fn is_standard_input(place: &Place<'_>) -> bool {
 }
 
 impl<F: SystemFile + Drop> Source for StandardSource<F> {
-    ghost tells = { F.tells };
+    ghost models = { F.models };
 
     ghost content = { λ s. drop s.base (file_bytes F.stands s.source.file) };
 

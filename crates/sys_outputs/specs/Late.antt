@@ -8,14 +8,14 @@ abbrev pub whole : List ℕ → ℕ → List ℕ → List ℕ
 whole stands sent held = take sent stands ++ held
 
 -- so many bytes stand in the file, and what is held fits behind them
-pub record HasRoomBehind (tells : Bool) (sent done : ℕ) (stands held : List ℕ) : Type 0 where
-  pub stands_there : IsTrue tells → sent + done ≤ length stands
+pub record HasRoomBehind (models : Bool) (sent done : ℕ) (stands held : List ℕ) : Type 0 where
+  pub stands_there : IsTrue models → sent + done ≤ length stands
   pub fits : sent + length held < 2 ^ 64
 
 -- the file and what is held are as long as before, and what was sent before stands
-pub record TakesBack (tells : Bool) (sent : ℕ) (stands stands' held held' : List ℕ) : Type 0 where
-  pub file : IsTrue tells → length stands' ≡ length stands
-  pub front : IsTrue tells → Begins (take sent stands) stands'
+pub record TakesBack (models : Bool) (sent : ℕ) (stands stands' held held' : List ℕ) : Type 0 where
+  pub file : IsTrue models → length stands' ≡ length stands
+  pub front : IsTrue models → Begins (take sent stands) stands'
   pub held_length : length held' ≡ length held
 
 -- as many bytes are held, behind as many that were sent, and it was given the same ones

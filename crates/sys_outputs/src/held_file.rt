@@ -42,8 +42,8 @@ pub(crate) struct Laid {
 impl Laid {
     // Takes it back where fewer bytes were written than it was laid behind, in the file too.
     fn take_back<F: SystemFile>(&self, file: &mut F, sent: u64, done: usize, held: &mut Vec<u8>)
-        requires { HasRoomBehind F.tells sent done (F.stands file.old) held.old.items }
-        ensures { TakesBack F.tells sent (F.stands file.old) (F.stands file.new) held.old.items held.new.items }
+        requires { HasRoomBehind F.models sent done (F.stands file.old) held.old.items }
+        ensures { TakesBack F.models sent (F.stands file.old) (F.stands file.new) held.old.items held.new.items }
     {
         let from = self.from;
         if done >= self.behind || from > held.len() || held.len() - from < HEADER {
@@ -70,16 +70,16 @@ pub struct HeldFile<F: SystemFile + Drop> {
     is_failed: bool,
     /// All that it was given.
     pub given: Log,
-    ghost sends: { IsTrue F.tells → sent ≤ length (F.stands file) },
-    ghost stand: { IsTrue F.tells → is_failed ≡ false → length (F.stands file) ≤ sent + length held.items },
+    ghost sends: { IsTrue F.models → sent ≤ length (F.stands file) },
+    ghost stand: { IsTrue F.models → is_failed ≡ false → length (F.stands file) ≤ sent + length held.items },
     ghost fits: { sent + length held.items < 2 ^ 64 },
-    ghost faithful: { IsTrue F.tells → is_failed ≡ false → whole (F.stands file) sent held.items ≡ given.state.bytes },
+    ghost faithful: { IsTrue F.models → is_failed ≡ false → whole (F.stands file) sent held.items ≡ given.state.bytes },
 }
 
 impl<F: SystemFile + Drop> HeldFile<F> {
     /// Nothing is held yet, and nothing stands in the file.
     pub fn new(file: F, room: Room) -> HeldFile<F>
-        requires { IsTrue F.tells → F.stands file ≡ [] }
+        requires { IsTrue F.models → F.stands file ≡ [] }
         ensures { result.given.state ≡ nothing_logged }
     {
         let Room { held, laid } = room;
@@ -204,7 +204,7 @@ impl<F: SystemFile + Drop> HeldFile<F> {
     pub fn settle(&mut self) -> io::Result<()>
         ensures none { OnOk result (self.new.held.items ≡ []) }
         ensures reach { OnOk result (self.new.sent ≡ self.old.sent + length self.old.held.items) }
-        ensures all { OnOk result (IsTrue F.tells → self.new.is_failed ≡ false
+        ensures all { OnOk result (IsTrue F.models → self.new.is_failed ≡ false
             → F.stands self.new.file ≡ self.new.given.state.bytes) }
         ensures held { OnErr result (length self.new.held.items ≡ length self.old.held.items) }
         ensures sent { OnErr result (self.new.sent ≡ self.old.sent) }
@@ -231,7 +231,7 @@ impl<F: SystemFile + Drop> HeldFile<F> {
 
     // Takes the headers back that were laid behind more than was written.
     fn take_back(&mut self, done: usize)
-        requires { IsTrue F.tells → self.old.sent + done ≤ length (F.stands self.old.file) }
+        requires { IsTrue F.models → self.old.sent + done ≤ length (F.stands self.old.file) }
         ensures { HoldsAsMuch self.old.held.items self.new.held.items self.old.sent self.new.sent self.old.given.state
             self.new.given.state }
     {
@@ -251,7 +251,7 @@ impl<F: SystemFile + Drop> HeldFile<F> {
 
     /// The file, where it took all that was given. Where it did not, what it holds is sent once more, as far as that goes.
     pub fn end(self) -> io::Result<F>
-        ensures { IsTrue F.tells → IfOk result (λ file. F.stands file ≡ self.given.state.bytes) }
+        ensures { IsTrue F.models → IfOk result (λ file. F.stands file ≡ self.given.state.bytes) }
     {
         let mut held = self;
         if let Err(error) = held.settle() {
@@ -273,8 +273,8 @@ fn take_all_back<F: SystemFile>(
     done: usize,
     held: &mut Vec<u8>,
 )
-    requires { HasRoomBehind F.tells sent done (F.stands file.old) held.old.items }
-    ensures { TakesBack F.tells sent (F.stands file.old) (F.stands file.new) held.old.items held.new.items }
+    requires { HasRoomBehind F.models sent done (F.stands file.old) held.old.items }
+    ensures { TakesBack F.models sent (F.stands file.old) (F.stands file.new) held.old.items held.new.items }
 {
     for one in laid.iter().rev() {
         one.take_back(file, sent, done, held);

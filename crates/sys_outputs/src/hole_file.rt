@@ -31,15 +31,15 @@ pub struct HoleFile<F: SystemFile + Drop> {
     /// All that it was given.
     pub given: Log,
     ghost place: { length given.state.bytes ≡ used },
-    ghost reaches: { IsTrue F.tells → used ≤ length (F.stands file) },
-    ghost stands: { IsTrue F.tells → is_failed ≡ false → Begins given.state.bytes (F.stands file) },
-    ghost ends: { IsTrue F.tells → length (F.stands file) ≤ max stale used },
+    ghost reaches: { IsTrue F.models → used ≤ length (F.stands file) },
+    ghost stands: { IsTrue F.models → is_failed ≡ false → Begins given.state.bytes (F.stands file) },
+    ghost ends: { IsTrue F.models → length (F.stands file) ≤ max stale used },
 }
 
 impl<F: SystemFile + Drop> HoleFile<F> {
     /// Nothing stands in the file.
     pub fn new(file: F) -> HoleFile<F>
-        requires { IsTrue F.tells → F.stands file ≡ [] }
+        requires { IsTrue F.models → F.stands file ≡ [] }
         ensures { result.given.state ≡ nothing_logged }
     {
         HoleFile {
@@ -148,7 +148,7 @@ impl<F: SystemFile + Drop> HoleFile<F> {
 
     /// The file, which holds all that was given and nothing behind it.
     pub fn end(self) -> io::Result<F>
-        ensures { IsTrue F.tells → IfOk result (λ file. F.stands file ≡ self.given.state.bytes) }
+        ensures { IsTrue F.models → IfOk result (λ file. F.stands file ≡ self.given.state.bytes) }
     {
         let mut ended = self;
         if ended.is_failed {

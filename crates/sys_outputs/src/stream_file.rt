@@ -23,16 +23,16 @@ pub struct StreamFile<F: SystemFile + Drop> {
     /// All that it was given.
     pub given: Log,
     ghost long: { length given.state.bytes ≡ used },
-    ghost place: { IsTrue F.tells → F.place file ≡ used },
-    ghost reaches: { IsTrue F.tells → used ≤ length (F.stands file) },
-    ghost stands: { IsTrue F.tells → is_failed ≡ false → F.stands file ≡ given.state.bytes },
+    ghost place: { IsTrue F.models → F.place file ≡ used },
+    ghost reaches: { IsTrue F.models → used ≤ length (F.stands file) },
+    ghost stands: { IsTrue F.models → is_failed ≡ false → F.stands file ≡ given.state.bytes },
 }
 
 impl<F: SystemFile + Drop> StreamFile<F> {
     /// Nothing was written yet, from its place on.
     pub fn new(file: F) -> StreamFile<F>
-        requires empty { IsTrue F.tells → F.stands file ≡ [] }
-        requires front { IsTrue F.tells → F.place file ≡ 0 }
+        requires empty { IsTrue F.models → F.stands file ≡ [] }
+        requires front { IsTrue F.models → F.place file ≡ 0 }
         ensures { result.given.state ≡ nothing_logged }
     {
         StreamFile {
@@ -85,7 +85,7 @@ impl<F: SystemFile + Drop> StreamFile<F> {
 
     /// The file, which holds all that was given.
     pub fn end(self) -> io::Result<F>
-        ensures { IsTrue F.tells → IfOk result (λ file. F.stands file ≡ self.given.state.bytes) }
+        ensures { IsTrue F.models → IfOk result (λ file. F.stands file ≡ self.given.state.bytes) }
     {
         if self.is_failed {
             return Err(io::Error::from(ErrorKind::WriteZero));

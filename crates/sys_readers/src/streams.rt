@@ -84,7 +84,7 @@ impl<R> FromRead<R> {
 }
 
 impl<R: Read> Input for FromRead<R> {
-    ghost tells = { false };
+    ghost models = { false };
 
     ghost remaining = { λ _. [] };
 

@@ -14,6 +14,6 @@ mod place;
 mod refusal;
 mod told;
 
-pub use place::Place;
+pub use place::FileArg;
 pub use refusal::{About, HostFault, HostRefusal, Refusal, Sides};
 pub use told::{Magic, Side, Told};

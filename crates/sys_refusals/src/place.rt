@@ -3,13 +3,13 @@
 ghost use Rattle.std.specs.Prelude.{◌≡◌, IfOk, string_bytes};
 ghost use Rattle.sys_refusals.specs.Paths.{is_standard, path_in, path_of, path_out};
 
-use sys_text::ShownPath;
 use std::alloc::{AllocError, Global};
 use std::fmt;
+use sys_text::ShownPath;
 
 /// The word that gave a file, and its path: a word, or one of the files that a command makes names for, as `PREFIX.1`.
 #[derive(Clone, Copy, Drop)]
-pub struct Place<'a> {
+pub struct FileArg<'a> {
     /// The word of the usage line, as `IN`.
     pub role: &'a str,
     /// The folder, where that is a word by itself.
@@ -19,10 +19,10 @@ pub struct Place<'a> {
     pub number: Option<u32>,
 }
 
-impl<'a> Place<'a> {
+impl<'a> FileArg<'a> {
     /// A path that is a word.
-    pub fn new(role: &'a str, path: &'a str) -> Place<'a> {
-        Place {
+    pub fn new(role: &'a str, path: &'a str) -> FileArg<'a> {
+        FileArg {
             role,
             folder: None,
             name: path,
@@ -31,8 +31,8 @@ impl<'a> Place<'a> {
     }
 
     /// A name in a folder.
-    pub fn within(role: &'a str, folder: &'a str, name: &'a str) -> Place<'a> {
-        Place {
+    pub fn within(role: &'a str, folder: &'a str, name: &'a str) -> FileArg<'a> {
+        FileArg {
             role,
             folder: Some(folder),
             name,
@@ -41,8 +41,8 @@ impl<'a> Place<'a> {
     }
 
     /// The same with a number behind its name.
-    pub fn numbered(self, number: u32) -> Place<'a> {
-        Place {
+    pub fn numbered(self, number: u32) -> FileArg<'a> {
+        FileArg {
             number: Some(number),
             ..self
         }
@@ -92,7 +92,7 @@ impl<'a> Place<'a> {
 }
 
 /// The path, as a terminal can show it.
-impl fmt::Display for Place<'_> {
+impl fmt::Display for FileArg<'_> {
     fn fmt<W: fmt::Write>(&self, f: &mut fmt::Formatter<W>) -> fmt::Result {
         if let Some(folder) = self.folder {
             let folder = ShownPath(folder);

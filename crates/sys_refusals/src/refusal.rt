@@ -2,18 +2,18 @@
 
 ghost use Rattle.std.specs.Prelude.{◌≡◌};
 
-use crate::place::Place;
+use crate::place::FileArg;
 use crate::told::{Side, Told};
 
 /// What a refusal is about.
 #[derive(Clone, Copy, Drop)]
 pub struct About<'a> {
     /// The file.
-    pub place: Option<Place<'a>>,
+    pub place: Option<FileArg<'a>>,
     /// Why the system call failed, by its number.
     pub why: Option<i32>,
     /// The output that was begun and isn't whole.
-    pub unfinished: Option<Place<'a>>,
+    pub unfinished: Option<FileArg<'a>>,
     /// Whether nothing is told, since what would be told would land in this file.
     pub is_untold: bool,
     /// What can be done, where the fault alone does not say it.
@@ -104,7 +104,7 @@ impl<'a> HostRefusal<'a> {
     }
 
     /// A file, with the number of the system's error.
-    pub fn at(fault: HostFault, place: Place<'a>, why: Option<i32>) -> HostRefusal<'a>
+    pub fn at(fault: HostFault, place: FileArg<'a>, why: Option<i32>) -> HostRefusal<'a>
         ensures { result.fault ≡ fault }
     {
         let about = About {
@@ -116,7 +116,7 @@ impl<'a> HostRefusal<'a> {
     }
 
     /// The same, where this output was begun.
-    pub fn begun(self, output: Place<'a>) -> HostRefusal<'a>
+    pub fn begun(self, output: FileArg<'a>) -> HostRefusal<'a>
         ensures { result.fault ≡ self.entry.fault }
     {
         let about = About {
@@ -168,7 +168,7 @@ impl<'a, F: From<HostFault>> From<HostRefusal<'a>> for Refusal<'a, F> {
 /// A file that is worked on, and why its last call failed.
 #[derive(Clone, Copy, Drop)]
 struct At<'a> {
-    place: Option<Place<'a>>,
+    place: Option<FileArg<'a>>,
     why: Option<i32>,
 }
 
@@ -179,7 +179,7 @@ pub struct Sides<'a> {
     output: At<'a>,
     spool: At<'a>,
     // The output that was begun and isn't whole.
-    unfinished: Option<Place<'a>>,
+    unfinished: Option<FileArg<'a>>,
 }
 
 impl<'a> Sides<'a> {
@@ -198,7 +198,7 @@ impl<'a> Sides<'a> {
     }
 
     /// This one is read.
-    pub fn reading(self, place: Place<'a>, why: Option<i32>) -> Sides<'a> {
+    pub fn reading(self, place: FileArg<'a>, why: Option<i32>) -> Sides<'a> {
         let place = Some(place);
         Sides {
             input: At { place, why },
@@ -207,7 +207,7 @@ impl<'a> Sides<'a> {
     }
 
     /// This one is written in place.
-    pub fn writing(self, place: Place<'a>, why: Option<i32>) -> Sides<'a> {
+    pub fn writing(self, place: FileArg<'a>, why: Option<i32>) -> Sides<'a> {
         let place = Some(place);
         Sides {
             output: At { place, why },
@@ -224,7 +224,7 @@ impl<'a> Sides<'a> {
     }
 
     /// Pieces go through this one.
-    pub fn through(self, place: Place<'a>, why: Option<i32>) -> Sides<'a> {
+    pub fn through(self, place: FileArg<'a>, why: Option<i32>) -> Sides<'a> {
         let place = Some(place);
         Sides {
             spool: At { place, why },
@@ -233,7 +233,7 @@ impl<'a> Sides<'a> {
     }
 
     /// This one is written, and isn't whole.
-    pub fn begun(self, place: Place<'a>, why: Option<i32>) -> Sides<'a> {
+    pub fn begun(self, place: FileArg<'a>, why: Option<i32>) -> Sides<'a> {
         let place = Some(place);
         Sides {
             output: At { place, why },

@@ -4,7 +4,7 @@ ghost use Rattle.std.specs.Prelude.{◌≡◌, Bool, List, ℕ};
 ghost use Rattle.sys_refusals.specs.Host.{is_not_text};
 ghost use Rattle.sys_text.specs.Printed.{Prints};
 
-use crate::place::Place;
+use crate::place::FileArg;
 use crate::refusal::HostFault;
 use abt_io::Output;
 use sys_text::Text;
@@ -56,7 +56,7 @@ pub trait Told {
     fn mending_piece(&self) -> Option<u32>;
 
     /// Adds what the first line says of it, behind `abootimg: `.
-    fn put<O: Output>(&self, place: Option<Place<'_>>, text: &mut Text<'_, O>)
+    fn put<O: Output>(&self, place: Option<FileArg<'_>>, text: &mut Text<'_, O>)
         ensures { (told : List ℕ) × Prints O.written O.write_faults text.old text.new told };
 }
 
@@ -113,7 +113,7 @@ impl HostFault {
     }
 
     /// Adds what the first line says of it.
-    pub fn put<O: Output>(self, place: Option<Place<'_>>, text: &mut Text<'_, O>)
+    pub fn put<O: Output>(self, place: Option<FileArg<'_>>, text: &mut Text<'_, O>)
         ensures { (told : List ℕ) × Prints O.written O.write_faults text.old text.new told }
     {
         text.word(self.wrong());

@@ -12,7 +12,7 @@ pub struct Carried<'a, D> {
 }
 
 impl<D: Input> Input for Carried<'_, D> {
-    ghost tells = { D.tells };
+    ghost models = { D.models };
 
     ghost remaining = { λ c. D.remaining c.device };
 
@@ -48,7 +48,7 @@ impl<D: Input> Input for Carried<'_, D> {
 }
 
 impl<D: Source> Source for Carried<'_, D> {
-    ghost tells = { D.tells };
+    ghost models = { D.models };
 
     ghost content = { λ c. D.content c.device };
 

@@ -5,10 +5,10 @@
 ghost use Rattle.std.specs.Prelude.{◌≡◌, ◌+◌, ◌*◌, ◌-◌, ◌^◌, IsTrue, false, true, max, min, Some, option_map, unwrap_or};
 ghost use Rattle.sys_report.specs.Moved.{Expects};
 
-use sys_readers::ToWrite;
 use abt_io::{Meter, write_out};
-use sys_text::{ProgressLine, Text};
 use std::time::{Duration, Instant};
+use sys_readers::ToWrite;
+use sys_text::{ProgressLine, Text};
 
 // The line comes after so many milliseconds, and anew after so many.
 const FIRST: u64 = 1000;

@@ -6,14 +6,14 @@ ghost use Rattle.sys_report.specs.Shows.{CannotPrint, IsNoted, ShowsBeside, Show
 
 use crate::progress::Progress;
 use crate::standard_output::StandardOutput;
-use sys_readers::ToWrite;
 use abt_io::{DeviceFault, Meter, Tally, write_out};
-use sys_refusals::{HostFault, HostRefusal, Place};
-use sys_text::print_line;
 use arrayvec::ArrayString;
 use std::fmt;
 use std::fmt::Write;
 use std::rt::Stderr;
+use sys_readers::ToWrite;
+use sys_refusals::{FileArg, HostFault, HostRefusal};
+use sys_text::print_line;
 
 // How many bytes a line has at most. Those of numbers and names have a fifth of it.
 const LINE: usize = 512;
@@ -68,7 +68,7 @@ impl Report {
         match self.print(line) {
             Ok(()) => Ok(()),
             Err(_) => {
-                let place = Place::new("report", "standard output");
+                let place = FileArg::new("report", "standard output");
                 Err(HostRefusal::at(HostFault::Write, place, self.out.writer.why))
             }
         }

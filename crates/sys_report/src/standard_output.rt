@@ -12,18 +12,18 @@ use std::rt::Stdout;
 
 // Where the bytes go.
 #[derive(Drop)]
-enum Place {
+enum PrintedTo {
     Standard(Stdout),
     File(File),
 }
 
-impl Place {
+impl PrintedTo {
     fn write(&mut self, bytes: &[u8]) -> io::Result<usize>
         ensures { WritesAtMost result bytes.now }
     {
         match self {
-            Place::Standard(stdout) => stdout.write(bytes),
-            Place::File(file) => file.write(bytes),
+            PrintedTo::Standard(stdout) => stdout.write(bytes),
+            PrintedTo::File(file) => file.write(bytes),
         }
     }
 }
@@ -31,7 +31,7 @@ impl Place {
 /// Standard output. It keeps all that it was given, and why it failed.
 #[derive(Drop)]
 pub struct StandardOutput {
-    place: Place,
+    place: PrintedTo,
     /// The number of the system's error where its last call failed.
     pub why: Option<i32>,
     pub log: Log,
@@ -41,17 +41,17 @@ impl StandardOutput {
     pub fn new(stdout: Stdout) -> StandardOutput
         ensures { result.log.state ≡ nothing_logged }
     {
-        StandardOutput::to(Place::Standard(stdout))
+        StandardOutput::to(PrintedTo::Standard(stdout))
     }
 
     /// A file that is given in its place what is printed.
     pub fn in_file(file: File) -> StandardOutput
         ensures { result.log.state ≡ nothing_logged }
     {
-        StandardOutput::to(Place::File(file))
+        StandardOutput::to(PrintedTo::File(file))
     }
 
-    fn to(place: Place) -> StandardOutput
+    fn to(place: PrintedTo) -> StandardOutput
         ensures { result.log.state ≡ nothing_logged }
     {
         StandardOutput {
@@ -64,8 +64,8 @@ impl StandardOutput {
     /// Whether it is a terminal.
     pub(crate) fn is_terminal(&self) -> bool {
         match &self.place {
-            Place::Standard(stdout) => stdout.is_terminal(),
-            Place::File(_) => false,
+            PrintedTo::Standard(stdout) => stdout.is_terminal(),
+            PrintedTo::File(_) => false,
         }
     }
 }

@@ -37,7 +37,7 @@ impl OsFile {
 }
 
 impl SystemFile for OsFile {
-    ghost tells = { false };
+    ghost models = { false };
 
     ghost stands = { λ _. [] };
 

@@ -65,9 +65,9 @@ impl System for OsSystem {
     }
 
     fn output(&self, synced: Option<OsFile>) -> OsFile
-        ensures fresh { IsJustOpened ⟦<OsFile as SystemFile>⟧.tells ⟦<OsFile as SystemFile>⟧.place
+        ensures fresh { IsJustOpened ⟦<OsFile as SystemFile>⟧.models ⟦<OsFile as SystemFile>⟧.place
             ⟦<OsFile as SystemFile>⟧.past result }
-        ensures empty { IsTrue ⟦<OsFile as SystemFile>⟧.tells → ⟦<OsFile as SystemFile>⟧.stands result ≡ [] }
+        ensures empty { IsTrue ⟦<OsFile as SystemFile>⟧.models → ⟦<OsFile as SystemFile>⟧.stands result ≡ [] }
     {
         match synced {
             Some(OsFile::File(file)) => OsFile::Output(self.rt.stdout(), Some(file)),

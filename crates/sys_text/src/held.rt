@@ -10,17 +10,17 @@ pub const ROOM: usize = 8192;
 
 /// Bytes that wait to be written.
 #[derive(Drop)]
-pub struct Held {
+pub struct TextBuffer {
     pub bytes: [u8; ROOM],
     pub used: usize,
     ghost fits: { used ≤ 8192 },
 }
 
-impl Held {
-    pub fn new() -> Held
+impl TextBuffer {
+    pub fn new() -> TextBuffer
         ensures { text_in result.bytes result.used ≡ [] }
     {
-        Held {
+        TextBuffer {
             bytes: [0; ROOM],
             used: 0,
         }
@@ -62,7 +62,7 @@ impl Held {
 }
 
 /// Keeps what has room.
-impl fmt::Write for Held {
+impl fmt::Write for TextBuffer {
     fn write_str(&mut self, s: &str) -> fmt::Result {
         self.put(s.as_bytes());
         Ok(())

@@ -6,7 +6,7 @@ ghost use Rattle.std.specs.Fmt.{with_newline};
 ghost use Rattle.sys_text.specs.Printed.{Prints};
 ghost use Rattle.sys_text.specs.Shown.{text_in};
 
-use crate::held::{Held, ROOM};
+use crate::held::{ROOM, TextBuffer};
 use abt_io::{DeviceFault, Meter, Output, write_out};
 use std::fmt;
 use std::fmt::Write;
@@ -21,7 +21,7 @@ const ENOUGH: usize = ROOM / 2;
 #[derive(Drop)]
 pub struct Text<'a, O> {
     pub output: &'a mut O,
-    pub held: Held,
+    pub held: TextBuffer,
     pub fault: Option<DeviceFault>,
     // Once so much is held, the end of a line sends it.
     enough: usize,
@@ -37,7 +37,7 @@ impl<'a, O: Output> Text<'a, O> {
     {
         Text {
             output,
-            held: Held::new(),
+            held: TextBuffer::new(),
             fault: None,
             enough: ENOUGH,
         }
@@ -156,7 +156,7 @@ impl<'a, O: Output> Text<'a, O> {
     pub fn short<D: fmt::Display + Drop>(&mut self, shown: D)
         ensures { (told : List ℕ) × Prints O.written O.write_faults self.old self.new told }
     {
-        let mut held = Held::new();
+        let mut held = TextBuffer::new();
         let _ = held.write(shown);
         self.put(held.all());
     }

@@ -43,7 +43,7 @@ impl ShortFile {
 }
 
 impl SystemFile for ShortFile {
-    ghost tells = { false };
+    ghost models = { false };
 
     ghost stands = { λ _. [] };
 

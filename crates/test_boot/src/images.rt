@@ -4,8 +4,8 @@ use crate::samples::{CANONICAL, boot, found, front, pack, pack_five};
 use abt_headers::{HeaderFault, Section};
 use abt_io::{Meter, SliceOutput, SliceSource, Window};
 use abt_sections::{BootSpec, Packed, SectionFault, Verdict, image_id};
-use mem_devices::Long;
 use law_sections::boot_input;
+use mem_devices::Long;
 
 /// Packs the kernel byte `K` alone.
 fn packed(spec: &BootSpec, room: &mut [u8]) -> Result<Packed, SectionFault> {

@@ -4,10 +4,10 @@
 use crate::samples::front;
 use crate::vectors;
 use abt_headers::{
-    BootFront, BootHeader, DtbFields, DtboFields, HeaderFault, OsParts, OsVersion, PageSize, Place,
-    RamdiskEntry, Section, Sections, ShortFront, VendorFront, VendorHeader, VendorTail, boot_again,
-    boot_long, entry_again, entry_long, front_decides, pages, vendor_again, vendor_front_decides,
-    vendor_long,
+    BootFront, BootHeader, DtbFields, DtboFields, HeaderFault, OsParts, OsVersion, PageSize,
+    RamdiskEntry, Section, SectionPlace, Sections, ShortFront, VendorFront, VendorHeader,
+    VendorTail, boot_again, boot_long, entry_again, entry_long, front_decides, pages, vendor_again,
+    vendor_front_decides, vendor_long,
 };
 
 /// Lays a run of bytes from a place on, as much of it as there is room for.
@@ -266,7 +266,7 @@ fn stand_at(sections: &Sections, places: &[(Section, u64, u32)]) -> bool {
     for (i, (kind, at, size)) in places.iter().enumerate() {
         if i >= sections.count()
             || sections.place(i)
-                != (Place {
+                != (SectionPlace {
                     kind: *kind,
                     at: *at,
                     size: *size,

@@ -5,13 +5,13 @@ ghost use Rattle.sys_disk.specs.World.{IsReading};
 
 use crate::orders::{kernel_alone, nothing_given};
 use abt_io::{Meter, Window};
-use sys_refusals::Place;
-use sys_report::Report;
-use cmd_unpack::unpack_file;
 use cmd_info::info_file;
-use mem_disk::MemoryDisk;
 use cmd_pack::{pack_file, repack_file};
+use cmd_unpack::unpack_file;
+use mem_disk::MemoryDisk;
 use std::alloc::AllocError;
+use sys_refusals::FileArg;
+use sys_report::Report;
 
 /// The commands.
 #[derive(Clone, Copy, Drop)]
@@ -40,7 +40,7 @@ pub(crate) fn is_done(
     let w = &mut *w;
     let mut m = Meter::new();
     let m = &mut m;
-    let input = Place::new("IN", "in");
+    let input = FileArg::new("IN", "in");
     let report = &mut report;
     Ok(match command {
         Command::Unpack => unpack_file(disk, report, input, "parts", false, w, m).is_ok(),

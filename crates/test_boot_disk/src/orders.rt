@@ -1,12 +1,12 @@
 //! What `pack` and `repack` are told.
 
-use words_values::{Place, Row, Value};
 use cmd_common_boot::{OptionText, PackCommand, PackTexts};
 use std::alloc::{AllocError, Global};
+use words_values::{Row, Value, WordPlace};
 
 static KERNEL: Row = Row {
     name: "kernel",
-    place: Place::Option,
+    place: WordPlace::Option,
     value: Value::File,
     value_name: "FILE",
     is_required: false,

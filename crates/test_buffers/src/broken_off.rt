@@ -60,7 +60,7 @@ impl Broken {
 }
 
 impl SystemFile for Broken {
-    ghost tells = { false };
+    ghost models = { false };
 
     ghost stands = { λ _. [] };
 

@@ -61,7 +61,7 @@ impl FileSpool {
 }
 
 impl Input for FileSpool {
-    ghost tells = { false };
+    ghost models = { false };
 
     ghost remaining = { λ _. [] };
 

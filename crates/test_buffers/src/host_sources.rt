@@ -1,17 +1,17 @@
 //! What the program's disk opens to be read at any place, plainly and ahead, and a spool of what it gives.
 
 use crate::made::bytes;
+use abt_io::{DeviceFault, Input, Output, Source, Spool};
+use std::fs;
 use sys_disk::{Disk, Lasting};
 use sys_host::Reading;
-use abt_io::{DeviceFault, Input, Output, Source, Spool};
-use sys_refusals::Place;
 use sys_host_disk::{Host, HostSource};
+use sys_refusals::FileArg;
 use sys_std::{OsFile, OsSystem};
-use std::fs;
 
 // A file of this name that is read ahead, or is not.
 fn source(host: &mut Host<OsSystem>, name: &str, is_ahead: bool) -> Option<HostSource<OsFile>> {
-    let place = Place::new("IN", name);
+    let place = FileArg::new("IN", name);
     if is_ahead {
         host.ahead(place).ok()
     } else {
@@ -25,7 +25,7 @@ fn a_file_that_grew_is_asked_for_its_length(rt: HostRuntime) {
         let mut host = Host::new(Reading::new(OsSystem { rt }));
         fs::write(&rt, "grown.tmp", "abc").expect(&rt, "is written");
         let mut one = source(&mut host, "grown.tmp", is_ahead).expect(&rt, "opens");
-        let mut other = host.again(&one, Place::new("IN", "grown.tmp"));
+        let mut other = host.again(&one, FileArg::new("IN", "grown.tmp"));
         fs::write(&rt, "grown.tmp", "abcdef").expect(&rt, "is written");
         assert!(rt; one.length() == 3);
         assert!(rt; one.length_now() == 6);
@@ -51,7 +51,7 @@ fn a_spool_of_what_was_read_ahead_is_told_of_its_file(rt: HostRuntime) {
         let mut host = Host::new(Reading::new(OsSystem { rt }));
         fs::write(&rt, "long.tmp", bytes(rt.alloc(), 900).as_slice()).expect(&rt, "is written");
         let mut from = source(&mut host, "long.tmp", is_ahead).expect(&rt, "opens");
-        let through = host.spool(Place::new("SPOOL", "of_long.tmp"), 4096, is_ahead, &from);
+        let through = host.spool(FileArg::new("SPOOL", "of_long.tmp"), 4096, is_ahead, &from);
         let mut through = through.ok().expect(&rt, "opens");
         let mut out = [0; 12];
         assert!(rt; through.clear() == Ok(()));
@@ -66,7 +66,7 @@ fn a_spool_of_what_was_read_ahead_is_told_of_its_file(rt: HostRuntime) {
                 Ok(12)
             }
         );
-        let closed = host.close_spool(through, Place::new("SPOOL", "of_long.tmp"));
+        let closed = host.close_spool(through, FileArg::new("SPOOL", "of_long.tmp"));
         let is_changed = closed.ok().expect(&rt, "closes");
         assert!(rt; is_changed || !is_ahead);
     }

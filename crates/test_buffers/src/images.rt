@@ -2,10 +2,10 @@
 
 use crate::made::{Random, bytes, part};
 use crate::spools::same;
-use sys_host::{Reading, Writing};
 use abt_io::{DeviceFault, Output, Overwrite, WINDOW};
 use sys_finish::{ImageFile, ImageOutput};
-use sys_refusals::Place;
+use sys_host::{Reading, Writing};
+use sys_refusals::FileArg;
 use sys_std::{OsFile, OsSystem};
 
 // How many bytes a call writes: of a fragmented image, of one with headers alone, and of one in long runs.
@@ -90,8 +90,8 @@ fn a_gathered_image_has_the_bytes_of_one_that_is_not(rt: HostRuntime) {
     for image in 0..36u64 {
         let mut random = Random::new(image);
         let mut writing = writing(rt);
-        let alone = Place::new("OUT", "alone.tmp");
-        let together = Place::new("OUT", "together.tmp");
+        let alone = FileArg::new("OUT", "alone.tmp");
+        let together = FileArg::new("OUT", "together.tmp");
         let one = writing.image(alone, false).ok();
         let other = writing.image(together, true).ok();
         let mut one = file(one.expect(&rt, "opens")).expect(&rt, "is a file");

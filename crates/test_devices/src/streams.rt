@@ -1,10 +1,10 @@
 //! Readers and writers that are interrupted or fail.
 
 use crate::calls::{filled, put};
-use sys_readers::*;
 use abt_io::*;
 use std::io;
 use std::io::{Read, Write};
+use sys_readers::*;
 
 /// Every second call is answered by an error of this kind, the first one too, and a write takes at most
 /// `most` bytes.

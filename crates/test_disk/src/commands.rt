@@ -6,17 +6,17 @@ ghost use Rattle.sys_disk.specs.World.{IsReading};
 
 use crate::made::{Listed, disk};
 use abt_io::{Meter, Window};
-use sys_refusals::Place;
-use sys_report::Report;
+use cmd_common_sparse::PieceNaming;
+use cmd_cut::{Cutting, cut_file, sparse_file};
+use cmd_expand::{expand_one, expand_several};
 use cmd_flash::{
     flash_file, flash_pieces_file, flash_raw_file, list_file, verify_file, verify_raw_file,
 };
-use cmd_cut::{Cutting, cut_file, sparse_file};
 use mem_disk::{Faults, MemoryDisk};
-use cmd_expand::{expand_one, expand_several};
-use cmd_common_sparse::PieceNaming;
-use std::alloc::{AllocError, Global};
 use mem_test_data::vectors::GAP_BETWEEN;
+use std::alloc::{AllocError, Global};
+use sys_refusals::FileArg;
+use sys_report::Report;
 
 /// The commands. A raw image has blocks of 4 bytes, and `sparse` makes such ones. A piece has at most 68 bytes, which is one block.
 #[derive(Clone, Copy, Drop)]
@@ -66,8 +66,8 @@ fn is_written(
     requires first { IsReading (held_of disk.old) }
     requires one { (held_of disk.old).part ≡ None }
 {
-    let input = Place::new("IN", "in");
-    let place = Place::new("OUT", output);
+    let input = FileArg::new("IN", "in");
+    let place = FileArg::new("OUT", output);
     let cutting = Cutting {
         input,
         limit: LIMIT,
@@ -107,9 +107,9 @@ fn is_done(
     requires one { (held_of disk.old).part ≡ None }
     requires through { (held_of disk.old).spool ≡ None }
 {
-    let input = Place::new("IN", "in");
-    let part = Place::new("PARTITION", output);
-    let spool = Place::new("SPOOL", "spool");
+    let input = FileArg::new("IN", "in");
+    let part = FileArg::new("PARTITION", output);
+    let spool = FileArg::new("SPOOL", "spool");
     match command {
         Command::Flash => flash_file(disk, report, input, part, w, m).is_ok(),
         Command::FlashRaw => flash_raw_file(disk, report, input, part, 4, w, m).is_ok(),

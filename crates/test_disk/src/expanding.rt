@@ -2,13 +2,13 @@
 
 use crate::made::{Listed, disk, holds};
 use abt_io::{Meter, Window};
-use sys_refusals::{HostFault, Place};
-use sys_report::Report;
 use abt_sparse::SparseFault;
-use mem_disk::{Countdown, Faults, MemoryDisk};
-use cmd_expand::{expand_one, expand_several};
 use cmd_common_sparse::SparseCommandFault;
+use cmd_expand::{expand_one, expand_several};
+use mem_disk::{Countdown, Faults, MemoryDisk};
 use mem_test_data::vectors::{FIRST_OF_THREE, SECOND_OF_THREE, THREE_KINDS};
+use sys_refusals::{FileArg, HostFault};
+use sys_report::Report;
 
 const RAW: &[u8] = b"ABCD\x04\x03\x02\x01\0\0\0\0";
 
@@ -24,8 +24,8 @@ fn expanded(
 ) -> Option<(Result<(), SparseCommandFault>, MemoryDisk)> {
     let mut disk = disk(rt.alloc(), paths, &[image, b"kept"], true, faults)?;
     let mut report = Report::new(rt);
-    let input = Place::new("IN", "in.simg");
-    let output = Place::new("OUT", output);
+    let input = FileArg::new("IN", "in.simg");
+    let output = FileArg::new("OUT", output);
     let mut w = Window::new();
     let mut m = Meter::new();
     let answer = expand_one(&mut disk, &mut report, input, output, &mut w, &mut m);
@@ -173,7 +173,7 @@ fn laid(
     let files: [&[u8]; 3] = [&SECOND_OF_THREE, &FIRST_OF_THREE, b"kept"];
     let mut disk = disk(rt.alloc(), &paths, &files, true, Faults::none())?;
     let mut report = Report::new(rt);
-    let output = Place::new("OUT", "raw");
+    let output = FileArg::new("OUT", "raw");
     let mut w = Window::new();
     let mut m = Meter::new();
     let answer = expand_several(

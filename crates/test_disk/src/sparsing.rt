@@ -7,11 +7,11 @@ ghost use Rattle.sys_disk.specs.World.{IsReading};
 use crate::made;
 use crate::made::{Listed, holds};
 use abt_io::{Meter, Window};
-use sys_refusals::Place;
-use sys_report::Report;
 use cmd_cut::sparse_file;
 use mem_disk::{Countdown, Faults, MemoryDisk};
 use std::alloc::Global;
+use sys_refusals::FileArg;
+use sys_report::Report;
 
 // Three blocks of 8 bytes: two of words that are equal, and one of others.
 const RAW: [u8; 24] = [
@@ -50,8 +50,8 @@ fn run(rt: HostRuntime, disk: &mut MemoryDisk, output: &str, block: u32) -> bool
     };
     let w = &mut *window;
     let mut m = Meter::new();
-    let input = Place::new("IN", "in");
-    let output = Place::new("OUT", output);
+    let input = FileArg::new("IN", "in");
+    let output = FileArg::new("OUT", output);
     sparse_file(disk, &mut report, input, output, block, w, &mut m).is_ok()
 }
 

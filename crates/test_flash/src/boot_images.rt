@@ -1,12 +1,12 @@
 //! A boot image that goes the whole way round: packed, sparsed, delivered, opened and unpacked.
 
 use abt_flash::{Delivered, deliver};
+use abt_flash_faults::FlashFault;
+use abt_flash_faults::FlashFault::LimitTooSmall;
 use abt_headers::OsVersion;
 use abt_io::{Meter, SliceOutput, SliceSource, Window};
 use abt_sections::{BootSpec, open, pack_boot, sections, unpack};
 use abt_sparsify::sparsify;
-use abt_flash_faults::FlashFault;
-use abt_flash_faults::FlashFault::LimitTooSmall;
 use mem_devices::{SlicePartition, SliceSpool};
 
 /// Packs the image of version 0 with the one kernel byte `K`: how many bytes it has.

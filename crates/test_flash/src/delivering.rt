@@ -1,11 +1,13 @@
 //! Images that go through a spool in pieces.
 
 use abt_flash::{Delivered, deliver, deliver_runs, resume};
+use abt_flash_faults::FlashFault::{
+    LimitTooSmall, NoSuchPiece, PartitionTooSmall, Sparse, Stopped,
+};
+use abt_flash_faults::{Cause, FlashFault};
 use abt_io::{DeviceFault, Meter, SliceSource, Window};
 use abt_runs::SparseRuns;
 use abt_sparse::SparseFault::{TooManyBlocks, Truncated};
-use abt_flash_faults::FlashFault::{LimitTooSmall, NoSuchPiece, PartitionTooSmall, Sparse, Stopped};
-use abt_flash_faults::{Cause, FlashFault};
 use mem_devices::{Marred, SlicePartition, SliceSpool};
 use mem_test_data::counting::Counting;
 use mem_test_data::standing::holds;

@@ -1,9 +1,9 @@
 //! One failing call of each device at each place: what is answered, and what stands.
 
 use abt_flash::{Delivered, deliver};
-use abt_io::{DeviceFault, Meter, SliceSource, Window};
 use abt_flash_faults::FlashFault::{Read, Stopped};
 use abt_flash_faults::{Cause, FlashFault};
+use abt_io::{DeviceFault, Meter, SliceSource, Window};
 use mem_devices::{Faulty, SlicePartition, SliceSpool};
 use mem_test_data::vectors::NO_GAP;
 

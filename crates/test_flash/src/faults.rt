@@ -1,12 +1,12 @@
 //! The numbers and texts of the faults.
 
-use abt_io::DeviceFault::Failed;
-use abt_sparse::SparseFault;
 use abt_flash_faults::FlashFault::{
     BadBlock, LimitTooSmall, NoSuchPiece, PartitionTooSmall, Read, SourceChanged, Sparse, Stopped,
     Sync, TooLarge, Write,
 };
 use abt_flash_faults::{Cause, FlashFault};
+use abt_io::DeviceFault::Failed;
+use abt_sparse::SparseFault;
 use std::test::Fail;
 
 #[rattlefmt::skip]

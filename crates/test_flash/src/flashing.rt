@@ -1,11 +1,11 @@
 //! Images that are flashed as they are read.
 
-use abt_chunks::Progress;
+use abt_chunks::MachineProgress;
 use abt_flash::{Flashed, Flasher, flash};
-use abt_io::{DeviceFault, Forward, Meter, SliceSource, Window};
-use abt_sparse::SparseFault::{Magic, TooFewBlocks, TooManyBlocks, Truncated};
 use abt_flash_faults::FlashFault;
 use abt_flash_faults::FlashFault::{PartitionTooSmall, Read, Sparse};
+use abt_io::{DeviceFault, Forward, Meter, SliceSource, Window};
+use abt_sparse::SparseFault::{Magic, TooFewBlocks, TooManyBlocks, Truncated};
 use mem_devices::{Cut, Faulty, SlicePartition};
 use mem_test_data::standing::holds;
 use mem_test_data::vectors::{
@@ -117,9 +117,9 @@ fn a_machine_that_is_over_answers_again(rt: HostRuntime) {
     let mut w = Window::new();
     let mut m = Meter::new();
     let mut machine = Flasher::open();
-    let mut last = Ok(Progress::More);
+    let mut last = Ok(MachineProgress::More);
     for _ in 0..20 {
-        if last == Ok(Progress::More) {
+        if last == Ok(MachineProgress::More) {
             last = machine.step(&mut input, &mut partition, &mut w, &mut m);
         }
     }

@@ -1,11 +1,11 @@
 //! Raw images, delivered and resumed without a sparse image between, forward and in one pass.
 
 use abt_flash::{Delivered, deliver_raw, deliver_raw_at, resume_raw, resume_raw_at};
-use abt_io::{DeviceFault, Meter, SliceSource, Window};
 use abt_flash_faults::FlashFault::{
     BadBlock, LimitTooSmall, NoSuchPiece, PartitionTooSmall, SourceChanged, Stopped, TooLarge,
 };
 use abt_flash_faults::{Cause, FlashFault};
+use abt_io::{DeviceFault, Meter, SliceSource, Window};
 use mem_devices::{Faulty, Long, SlicePartition, SliceSpool};
 use mem_test_data::counting::Counting;
 use mem_test_data::standing::holds;

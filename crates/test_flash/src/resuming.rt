@@ -3,8 +3,8 @@
 use abt_flash::{
     Delivered, deliver, deliver_raw, deliver_raw_at, resume, resume_raw, resume_raw_at,
 };
-use abt_io::{Meter, SliceSource, Window};
 use abt_flash_faults::FlashFault;
+use abt_io::{Meter, SliceSource, Window};
 use mem_devices::{CrashPartition, Faulty, Pick, SliceSpool};
 use mem_test_data::vectors::{MIXED, NO_GAP};
 

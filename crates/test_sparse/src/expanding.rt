@@ -1,6 +1,6 @@
 //! Expanding.
 
-use abt_chunks::{Expanded, Expander, Progress, expand};
+use abt_chunks::{Expanded, Expander, MachineProgress, expand};
 use abt_io::{DeviceFault, Forward, Meter, SliceOutput, SliceSource, Window};
 use abt_sparse::SparseFault;
 use abt_sparse::SparseFault::{Read, Truncated, Write};
@@ -150,9 +150,9 @@ fn a_machine_that_is_over_answers_the_same_again(rt: HostRuntime) {
     let mut w = Window::new();
     let mut m = Meter::new();
     let mut machine = Expander::open();
-    let mut last = Ok(Progress::More);
+    let mut last = Ok(MachineProgress::More);
     for _ in 0..20 {
-        if last == Ok(Progress::More) {
+        if last == Ok(MachineProgress::More) {
             last = machine.step(&mut input, &mut output, &mut w, &mut m);
         }
     }

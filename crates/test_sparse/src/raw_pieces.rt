@@ -6,9 +6,9 @@ use abt_pieces::{Cutter, Piece, PieceFault, PieceProgress};
 use abt_placed::next_piece_at;
 use abt_runs::RawRuns;
 use mem_devices::{Cut, Faulty, Long};
-use std::test::Fail;
 use mem_test_data::counting::Counting;
 use mem_test_data::vectors::{MIXED, MIXED_FIRST, MIXED_SECOND};
+use std::test::Fail;
 
 const FIRST: Piece = Piece {
     first: 0,

@@ -9,7 +9,9 @@ use abt_pieces::PieceFault::{BadBlock, SourceChanged, TooLarge};
 use abt_placed::sparsify_at;
 use abt_sparsify::{Written, sparsify};
 use mem_devices::{Cut, Faulty, Long};
-use mem_test_data::vectors::{EMPTY, LETTERS, LETTERS_IMAGE, MIXED, MIXED_IMAGE, WORDS, WORDS_IMAGE};
+use mem_test_data::vectors::{
+    EMPTY, LETTERS, LETTERS_IMAGE, MIXED, MIXED_IMAGE, WORDS, WORDS_IMAGE,
+};
 
 /// How an image is written.
 #[derive(Clone, Copy, Drop)]

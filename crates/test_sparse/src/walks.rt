@@ -1,11 +1,13 @@
 //! Rows whose values come from outside: words of blocks, walks over images, refusals, and sources that fail.
 
 use abt_io::{DeviceFault, Meter, SliceSource, Window};
-use abt_runs::{BlockRuns, Opening, Progress, RawRuns, RunFault, RunKind, SparseRuns, equal_word};
+use abt_runs::{
+    BlockRuns, Opening, OpeningProgress, RawRuns, RunFault, RunKind, SparseRuns, equal_word,
+};
 use abt_sparse::SparseFault;
 use mem_devices::{Cut, Faulty, Long};
-use std::test::Fail;
 use mem_test_data::vectors::{GAPS, MIXED, THREE_KINDS};
+use std::test::Fail;
 
 #[test]
 fn one_byte_that_differs_leaves_no_equal_word(rt: HostRuntime) {
@@ -104,7 +106,9 @@ fn each_step_of_an_opening_that_fails_is_answered_again(rt: HostRuntime) {
         let mut m = Meter::new();
         let mut opening = Opening::begin();
         for _ in 1..n {
-            assert!(rt; opening.opening_step(&mut source, &mut w, &mut m) == Ok(Progress::More));
+            assert!(rt;
+                opening.opening_step(&mut source, &mut w, &mut m) == Ok(OpeningProgress::More)
+            );
         }
         let fault = Err(RunFault::Read(DeviceFault::Failed));
         assert!(rt; opening.opening_step(&mut source, &mut w, &mut m) == fault);

@@ -29,7 +29,7 @@ impl FaultyFile {
 }
 
 impl SystemFile for FaultyFile {
-    ghost tells = { false };
+    ghost models = { false };
 
     ghost stands = { λ _. [] };
 

@@ -75,7 +75,7 @@ fn gathering<F: SystemFile + Drop>(
     stands: usize,
     is_keeping: bool,
 ) -> GatheringSpool<F>
-    requires { IsTrue F.tells → length (F.stands file) ≤ stands }
+    requires { IsTrue F.models → length (F.stands file) ≤ stands }
 {
     if is_keeping {
         GatheringSpool::keeping(alloc, file, 40_000, None, stands as u64)

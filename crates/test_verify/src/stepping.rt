@@ -1,6 +1,6 @@
 //! The machines step by step, and the laws.
 
-use abt_chunks::Progress;
+use abt_chunks::MachineProgress;
 use abt_io::{Forward, Meter, SliceSource, Window};
 use abt_verify::{
     RawVerifier, Verifier, VerifyFault, unwritten_partition_stays, verifying_is_right,
@@ -15,9 +15,9 @@ fn a_machine_that_is_over_answers_again_and_reads_nothing(rt: HostRuntime) {
     let mut w = Window::new();
     let mut m = Meter::new();
     let mut machine = Verifier::open();
-    let mut last = Ok(Progress::More);
+    let mut last = Ok(MachineProgress::More);
     for _ in 0..4 {
-        if last == Ok(Progress::More) {
+        if last == Ok(MachineProgress::More) {
             last = machine.step(&mut input, &mut partition, &mut w, &mut m);
         }
     }
@@ -35,10 +35,10 @@ fn a_raw_machine_that_is_done_answers_done_again(rt: HostRuntime) {
     let mut m = Meter::new();
     let mut machine = RawVerifier::open(&source);
     let first = machine.step(&mut source, &mut partition, &mut w, &mut m);
-    assert!(rt; first == Ok(Progress::More));
+    assert!(rt; first == Ok(MachineProgress::More));
     for _ in 0..2 {
         let done = machine.step(&mut source, &mut partition, &mut w, &mut m);
-        assert!(rt; done == Ok(Progress::Done));
+        assert!(rt; done == Ok(MachineProgress::Done));
     }
 }
 

@@ -2,5 +2,5 @@ pub mod Among
 pub mod Filling
 pub mod Lists
 pub mod Split
-pub mod Steps
+pub mod ReadSteps
 pub mod Told

@@ -3,14 +3,14 @@ use Rattle.std.specs.Prelude.{◌≡◌, ◌⊎◌, ℕ, List, [], ◌∷◌, �
 use Rattle.std.specs.Prelude.{map}
 use Rattle.std.specs.Prelude.{bytes_eq, if◌then◌else◌, Contains, option_map}
 use Rattle.std.specs.List.{filter}
-use Rattle.words_values.specs.declared.rows.Place.{Place}
-use Rattle.words_values.specs.declared.rows.Place.TheVariants as places
+use Rattle.words_values.specs.declared.rows.WordPlace.{WordPlace}
+use Rattle.words_values.specs.declared.rows.WordPlace.TheVariants as places
 use Rattle.words_orders.specs.declared.answers.Answer.{Answer}
 
 -- ---- words by their place
 
 -- whether a row is a word by its place
-abbrev pub is_word : Place → Bool
+abbrev pub is_word : WordPlace → Bool
 is_word places.Word = true
 is_word places.Words = true
 is_word places.LastWords = true
@@ -44,7 +44,7 @@ pub data SaysValue (front name value : List ℕ) : List (List ℕ) → Type 0 wh
       → SaysValue front name value (word ∷ words)
 
 -- an option's value is said, or is the one that it has where none is; a flag that was given is said
-abbrev pub IsSaidBy : List (List ℕ) → Place → List ℕ → Option (List ℕ) → List ℕ → Type 0
+abbrev pub IsSaidBy : List (List ℕ) → WordPlace → List ℕ → Option (List ℕ) → List ℕ → Type 0
 IsSaidBy words places.Word name default word = Unit {0}
 IsSaidBy words places.Words name default word = Unit {0}
 IsSaidBy words places.LastWords name default word = Unit {0}

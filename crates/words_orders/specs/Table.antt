@@ -2,8 +2,8 @@
 use Rattle.std.specs.Prelude.{ℕ, List, [], ◌∷◌, ◌++◌, Bool, true, false, Option, Some, None, Contains, codes}
 use Rattle.std.specs.Prelude.{option_map}
 use Rattle.std.specs.List.{All}
-use Rattle.words_values.specs.declared.rows.Place.{Place}
-use Rattle.words_values.specs.declared.rows.Place.TheVariants as places
+use Rattle.words_values.specs.declared.rows.WordPlace.{WordPlace}
+use Rattle.words_values.specs.declared.rows.WordPlace.TheVariants as places
 use Rattle.words_values.specs.declared.rows.Row.{Row}
 use Rattle.words_values.specs.declared.rows.Value.{Value}
 use Rattle.words_values.specs.declared.rows.Value.TheVariants as values
@@ -20,7 +20,7 @@ use Rattle.words_orders.specs.declared.rows.Work.TheVariants as works
 -- what a row says of the words that answer it; of a choice of names it is not said which these are
 pub record Shape : Type 0 where
   pub name : List ℕ
-  pub place : Place
+  pub place : WordPlace
   pub value : Option Value
   pub default : Option (List ℕ)
   -- it must be answered; what must be answered beside it, and what must not
@@ -45,7 +45,7 @@ shape_of row = record {
 
 -- ---- kinds of rows
 
-abbrev pub row : Place → Value → List ℕ → Shape
+abbrev pub row : WordPlace → Value → List ℕ → Shape
 row place value name = record {
   name = name;
   place = place;

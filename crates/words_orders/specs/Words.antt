@@ -3,8 +3,8 @@ use Rattle.std.specs.Prelude.{◌≡◌, ◌≢◌, ◌≤◌, ◌-◌, ◌==◌
 use Rattle.std.specs.Prelude.{Option, Some, None, IsTrue, Contains, codes, map, take, drop, length, bytes_eq}
 use Rattle.std.specs.Prelude.{if◌then◌else◌, option_map, is_some}
 use Rattle.std.specs.List.{filter, All, AllZip}
-use Rattle.words_values.specs.declared.rows.Place.{Place}
-use Rattle.words_values.specs.declared.rows.Place.TheVariants as places
+use Rattle.words_values.specs.declared.rows.WordPlace.{WordPlace}
+use Rattle.words_values.specs.declared.rows.WordPlace.TheVariants as places
 use Rattle.words_orders.specs.declared.saying.Said.{Said}
 use Rattle.words_orders.specs.Spelled.{is_word}
 use Rattle.words_orders.specs.Table.{Shape, shape_of}
@@ -25,12 +25,12 @@ of_row row word = record { row = Some row; word = word }
 abbrev pub saying_of : Said → Saying
 saying_of said = record { row = option_map (λ row. shape_of row.now) said.row; word = said.word.now }
 
-abbrev pub is_option : Place → Bool
+abbrev pub is_option : WordPlace → Bool
 is_option places.Option = true
 is_option places.Options = true
 is_option place = false
 
-abbrev pub is_flag : Place → Bool
+abbrev pub is_flag : WordPlace → Bool
 is_flag places.Flag = true
 is_flag (places.ShortFlag letter) = true
 is_flag place = false
@@ -102,7 +102,7 @@ abbrev pub words_by_place : List Saying → List (List ℕ)
 words_by_place said = map (λ s. s.word) (filter (λ s. not (is_some s.row)) said)
 
 -- an option or a flag is said once, unless its row is one that may be said again
-abbrev pub is_again : Place → Bool
+abbrev pub is_again : WordPlace → Bool
 is_again places.Options = true
 is_again place = false
 
@@ -117,7 +117,7 @@ pub record AreRead (table : List Shape) (words : List (List ℕ)) (said : List S
 -- ---- the words that answer a row
 
 -- how many of so many words by their place go to a row: one, all but the last, or all
-abbrev pub words_due : Place → ℕ → ℕ
+abbrev pub words_due : WordPlace → ℕ → ℕ
 words_due places.Word many = if many == 0 then 0 else 1
 words_due places.Words many = many - 1
 words_due places.LastWords many = many
@@ -128,7 +128,7 @@ abbrev pub option_list : Option (List ℕ) → List (List ℕ)
 option_list None = []
 option_list (Some word) = word ∷ []
 
-abbrev pub default_words : Place → Option (List ℕ) → List (List ℕ)
+abbrev pub default_words : WordPlace → Option (List ℕ) → List (List ℕ)
 default_words places.Flag default = codes "false" ∷ []
 default_words (places.ShortFlag letter) default = codes "false" ∷ []
 default_words place default = option_list default

@@ -15,9 +15,9 @@ use crate::fault::WordsFault;
 use crate::order::Given;
 use crate::saying::{Said, push_said};
 use crate::spelling::is_placed;
-use words_values::{Place, Row, Value, number_in, number_word};
 use clap::ArgMatches;
 use std::alloc::{AllocError, Global};
+use words_values::{Row, Value, WordPlace, number_in, number_word};
 
 /// A word that was given, or that a row has where none is.
 #[derive(Clone, Copy)]
@@ -328,7 +328,7 @@ fn words_for<'a>(
 }
 
 // Those that go to a row.
-fn next_words<'b, 'a>(place: Place, placed: &'b [&'a str]) -> &'b [&'a str]
+fn next_words<'b, 'a>(place: WordPlace, placed: &'b [&'a str]) -> &'b [&'a str]
     ensures { map (λ s. s.now) result.now ≡ take (words_due place (length (map (λ s. s.now) placed.entry.now)))
         (map (λ s. s.now) placed.entry.now) }
 {
@@ -336,7 +336,7 @@ fn next_words<'b, 'a>(place: Place, placed: &'b [&'a str]) -> &'b [&'a str]
 }
 
 // Those that are left behind it.
-fn later_words<'b, 'a>(place: Place, placed: &'b [&'a str]) -> &'b [&'a str]
+fn later_words<'b, 'a>(place: WordPlace, placed: &'b [&'a str]) -> &'b [&'a str]
     ensures { map (λ s. s.now) result.now ≡ drop (words_due place (length (map (λ s. s.now) placed.entry.now)))
         (map (λ s. s.now) placed.entry.now) }
 {
@@ -344,26 +344,30 @@ fn later_words<'b, 'a>(place: Place, placed: &'b [&'a str]) -> &'b [&'a str]
 }
 
 // How many of so many words by their place go to a row.
-fn count_of(place: Place, many: usize) -> usize
+fn count_of(place: WordPlace, many: usize) -> usize
     ensures count { result ≡ words_due place many }
     ensures most { result ≤ many }
 {
     match place {
-        Place::Word => if many == 0 { 0 } else { 1 },
-        Place::Words => many.saturating_sub(1),
-        Place::LastWords => many,
-        Place::Option | Place::Options | Place::Letter | Place::Flag | Place::ShortFlag(_) => 0,
+        WordPlace::Word => if many == 0 { 0 } else { 1 },
+        WordPlace::Words => many.saturating_sub(1),
+        WordPlace::LastWords => many,
+        WordPlace::Option
+        | WordPlace::Options
+        | WordPlace::Letter
+        | WordPlace::Flag
+        | WordPlace::ShortFlag(_) => 0,
     }
 }
 
 // What an option or a flag has where nothing is said of it.
-fn default_word(place: Place, default: Option<&'static str>) -> Option<&'static str>
+fn default_word(place: WordPlace, default: Option<&'static str>) -> Option<&'static str>
     ensures { option_list (option_map (λ s. s.now) result) ≡ default_words place (option_map (λ s. s.now) default.entry) }
 {
     match place {
-        Place::Flag | Place::ShortFlag(_) => Some("false"),
-        Place::Word | Place::Words | Place::LastWords => default,
-        Place::Option | Place::Options | Place::Letter => default,
+        WordPlace::Flag | WordPlace::ShortFlag(_) => Some("false"),
+        WordPlace::Word | WordPlace::Words | WordPlace::LastWords => default,
+        WordPlace::Option | WordPlace::Options | WordPlace::Letter => default,
     }
 }
 

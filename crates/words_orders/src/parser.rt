@@ -2,10 +2,10 @@
 
 use crate::rows::CommandRow;
 use crate::table::{ABOUT, AFTER_HELP, PROGRAM, VERSION, commands, telling};
-use words_values::{Place, Row, Value};
 use clap::builder::ValueParser;
 use clap::{Arg, ArgAction, Command};
 use std::alloc::{AllocError, Global};
+use words_values::{Row, Value, WordPlace};
 
 /// The parser of all commands.
 pub(crate) fn program<'a>(alloc: Global) -> Result<Command<'a>, AllocError> {
@@ -61,8 +61,8 @@ fn argument<'a>(alloc: Global, row: &'static Row) -> Result<Arg<'a>, AllocError>
 fn placed<'a>(arg: Arg<'a>, row: &'static Row) -> Arg<'a> {
     let arg = named(arg, row).action(action_of(row.place));
     match row.place {
-        Place::Words => arg.num_args(1..),
-        Place::LastWords => arg.num_args(0..),
+        WordPlace::Words => arg.num_args(1..),
+        WordPlace::LastWords => arg.num_args(0..),
         _ => arg,
     }
 }
@@ -70,10 +70,10 @@ fn placed<'a>(arg: Arg<'a>, row: &'static Row) -> Arg<'a> {
 // The argument with the name that it is given by, where it is an option or a flag.
 fn named<'a>(arg: Arg<'a>, row: &'static Row) -> Arg<'a> {
     match row.place {
-        Place::Option | Place::Options => arg.long(row.name).value_name(row.value_name),
-        Place::Flag => arg.long(row.name),
-        Place::ShortFlag(letter) => arg.short(letter).long(row.name),
-        Place::Letter => match row.name.chars().next() {
+        WordPlace::Option | WordPlace::Options => arg.long(row.name).value_name(row.value_name),
+        WordPlace::Flag => arg.long(row.name),
+        WordPlace::ShortFlag(letter) => arg.short(letter).long(row.name),
+        WordPlace::Letter => match row.name.chars().next() {
             Some(letter) => arg.short(letter).value_name(row.value_name),
             None => arg,
         },
@@ -81,11 +81,12 @@ fn named<'a>(arg: Arg<'a>, row: &'static Row) -> Arg<'a> {
     }
 }
 
-fn action_of(place: Place) -> ArgAction {
+fn action_of(place: WordPlace) -> ArgAction {
     match place {
-        Place::Word | Place::Words | Place::Option | Place::Letter => ArgAction::Set,
-        Place::LastWords | Place::Options => ArgAction::Append,
-        Place::Flag | Place::ShortFlag(_) => ArgAction::SetTrue,
+        WordPlace::Word | WordPlace::Words | WordPlace::Option | WordPlace::Letter =>
+            ArgAction::Set,
+        WordPlace::LastWords | WordPlace::Options => ArgAction::Append,
+        WordPlace::Flag | WordPlace::ShortFlag(_) => ArgAction::SetTrue,
     }
 }
 

@@ -16,10 +16,10 @@ use crate::parser::program;
 use crate::rows::{CommandRow, Work};
 use crate::saying::{Said, is_said, placed_words, read};
 use crate::table::{commands, front_rows, options};
-use words_values::Row;
 use clap::error::ErrorKind;
 use std::alloc::{AllocError, Global};
 use std::convert::AsStr;
+use words_values::Row;
 
 /// Reads the words, of which the first is the program's name. Clap tells what is wrong with them; what they ask for is
 /// read here, and nothing rests on how clap read them.

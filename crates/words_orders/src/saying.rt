@@ -3,15 +3,15 @@
 ghost use Rattle.std.specs.Prelude.{◌≡◌, ◌≢◌, ◌≤◌, ◌++◌, ◌∷◌, [], List, IfOk, IfSome, IsTrue, OnOk, Contains, codes, map, length};
 ghost use Rattle.std.specs.Prelude.{ℕ, None, option_map};
 ghost use Rattle.std.specs.List.{All, AllZip};
-ghost use Rattle.words_values.specs.declared.rows.Place.TheVariants as places;
+ghost use Rattle.words_values.specs.declared.rows.WordPlace.TheVariants as places;
 ghost use Rattle.words_orders.specs.Table.{Shape, shape_of};
 ghost use Rattle.words_orders.specs.Words.{AddsSaid, IsLetter, IsOnce, IsNoOption, AreRead, WordsSay, Saying};
 ghost use Rattle.words_orders.specs.Words.{by_place, is_again, is_flag, is_of_name, is_option, says_name, said_words, saying_of};
 ghost use Rattle.words_orders.specs.Words.{words_by_place, written};
 
-use words_values::{Place, Row};
 use std::alloc::{AllocError, Global};
 use std::convert::AsStr;
+use words_values::{Row, WordPlace};
 
 /// What a word says, alone or with the value behind it.
 #[derive(Clone, Copy)]
@@ -206,23 +206,23 @@ fn push_found<'a, S: AsStr>(
     Ok(Some(behind))
 }
 
-fn is_option(place: Place) -> bool
+fn is_option(place: WordPlace) -> bool
     ensures { result ≡ is_option place }
 {
     match place {
-        Place::Option | Place::Options => true,
-        Place::Word | Place::Words | Place::LastWords | Place::Letter => false,
-        Place::Flag | Place::ShortFlag(_) => false,
+        WordPlace::Option | WordPlace::Options => true,
+        WordPlace::Word | WordPlace::Words | WordPlace::LastWords | WordPlace::Letter => false,
+        WordPlace::Flag | WordPlace::ShortFlag(_) => false,
     }
 }
 
-fn is_flag(place: Place) -> bool
+fn is_flag(place: WordPlace) -> bool
     ensures { result ≡ is_flag place }
 {
     match place {
-        Place::Flag | Place::ShortFlag(_) => true,
-        Place::Word | Place::Words | Place::LastWords | Place::Letter => false,
-        Place::Option | Place::Options => false,
+        WordPlace::Flag | WordPlace::ShortFlag(_) => true,
+        WordPlace::Word | WordPlace::Words | WordPlace::LastWords | WordPlace::Letter => false,
+        WordPlace::Option | WordPlace::Options => false,
     }
 }
 
@@ -269,13 +269,13 @@ fn flag_of(rows: &[&'static Row], letter: u8) -> Option<&'static Row>
     None
 }
 
-fn is_letter(place: Place, letter: u8) -> bool
+fn is_letter(place: WordPlace, letter: u8) -> bool
     ensures { IsTrue result → place ≡ places.ShortFlag letter }
 {
     match place {
-        Place::ShortFlag(own) => own as u32 == letter as u32,
-        Place::Word | Place::Words | Place::LastWords | Place::Letter => false,
-        Place::Option | Place::Options | Place::Flag => false,
+        WordPlace::ShortFlag(own) => own as u32 == letter as u32,
+        WordPlace::Word | WordPlace::Words | WordPlace::LastWords | WordPlace::Letter => false,
+        WordPlace::Option | WordPlace::Options | WordPlace::Flag => false,
     }
 }
 
@@ -293,13 +293,13 @@ fn are_once(rows: &[&'static Row], said: &[Said<'_>]) -> bool
     true
 }
 
-fn is_again(place: Place) -> bool
+fn is_again(place: WordPlace) -> bool
     ensures { result ≡ is_again place }
 {
     match place {
-        Place::Options => true,
-        Place::Word | Place::Words | Place::LastWords | Place::Letter => false,
-        Place::Option | Place::Flag | Place::ShortFlag(_) => false,
+        WordPlace::Options => true,
+        WordPlace::Word | WordPlace::Words | WordPlace::LastWords | WordPlace::Letter => false,
+        WordPlace::Option | WordPlace::Flag | WordPlace::ShortFlag(_) => false,
     }
 }
 

@@ -6,9 +6,9 @@ ghost use Rattle.words_orders.specs.Spelled.{IsSaid, SaysValue, is_word, left_of
 ghost use Rattle.words_orders.specs.Spelled.{struck};
 
 use crate::answers::Answer;
-use words_values::{Place, number_in};
 use std::alloc::{AllocError, Global};
 use std::convert::AsStr;
+use words_values::{WordPlace, number_in};
 
 /// The name of the command, and the words that answer rows by their place.
 pub fn placed_in<'a>(
@@ -29,12 +29,16 @@ pub fn placed_in<'a>(
     Ok(placed)
 }
 
-pub(crate) fn is_placed(place: Place) -> bool
+pub(crate) fn is_placed(place: WordPlace) -> bool
     ensures { result ≡ is_word place }
 {
     match place {
-        Place::Word | Place::Words | Place::LastWords => true,
-        Place::Option | Place::Options | Place::Letter | Place::Flag | Place::ShortFlag(_) => false,
+        WordPlace::Word | WordPlace::Words | WordPlace::LastWords => true,
+        WordPlace::Option
+        | WordPlace::Options
+        | WordPlace::Letter
+        | WordPlace::Flag
+        | WordPlace::ShortFlag(_) => false,
     }
 }
 
@@ -73,12 +77,12 @@ pub fn is_said<S: AsStr>(words: &[S], answer: &Answer<'_>) -> bool
 {
     let row = answer.row;
     match row.place {
-        Place::Word | Place::Words | Place::LastWords | Place::ShortFlag(_) => true,
-        Place::Option | Place::Options => {
+        WordPlace::Word | WordPlace::Words | WordPlace::LastWords | WordPlace::ShortFlag(_) => true,
+        WordPlace::Option | WordPlace::Options => {
             row.default == Some(answer.word) || says_value(words, "--", row.name, answer.word)
         }
-        Place::Letter => says_value(words, "-", row.name, answer.word),
-        Place::Flag => answer.word != "true" || says_flag(words, row.name),
+        WordPlace::Letter => says_value(words, "-", row.name, answer.word),
+        WordPlace::Flag => answer.word != "true" || says_flag(words, row.name),
     }
 }
 

@@ -8,8 +8,8 @@ ghost use Rattle.words_orders.specs.Table.{filling_rows_of, name_of, option_rows
 ghost use Rattle.words_orders.specs.Table.{rows_of, shared_rows_of, telling_rows};
 
 use crate::rows::{CommandRow, Work};
-use words_values::{Place, Row, Value};
 use std::alloc::{AllocError, Global};
+use words_values::{Row, Value, WordPlace};
 
 /// The program's name and version.
 pub(crate) const PROGRAM: &str = "abootimg";
@@ -30,7 +30,7 @@ pub(crate) const AFTER_HELP: &str =
 /// A word that must be given, the path of a file.
 pub const PATH: Row = Row {
     name: "",
-    place: Place::Word,
+    place: WordPlace::Word,
     value: Value::File,
     value_name: "",
     is_required: true,
@@ -44,7 +44,7 @@ pub const PATH: Row = Row {
 
 // A number of 32 bits behind `--NAME`.
 const NUMBER: Row = Row {
-    place: Place::Option,
+    place: WordPlace::Option,
     value: Value::Number,
     value_name: "N",
     is_required: false,
@@ -53,7 +53,7 @@ const NUMBER: Row = Row {
 
 /// `--NAME`.
 pub const FLAG: Row = Row {
-    place: Place::Flag,
+    place: WordPlace::Flag,
     value: Value::IsGiven,
     is_required: false,
     ..PATH
@@ -61,7 +61,7 @@ pub const FLAG: Row = Row {
 
 /// The path of a part of an image.
 pub const PART: Row = Row {
-    place: Place::Option,
+    place: WordPlace::Option,
     value_name: "FILE",
     is_required: false,
     ..PATH
@@ -69,7 +69,7 @@ pub const PART: Row = Row {
 
 /// A text behind `--NAME`.
 pub const TEXT: Row = Row {
-    place: Place::Option,
+    place: WordPlace::Option,
     value: Value::Text,
     value_name: "TEXT",
     is_required: false,
@@ -90,10 +90,10 @@ const PAGE: &str =
     "Bytes in a page, a power of two from 2048 to 131072; boot 3 and 4 always have 4096";
 
 #[rattlefmt::skip]
-const VERBOSE: Row = Row { name: "verbose", place: Place::ShortFlag('v'), help: "Tells of a refusal in a second line which file it is about, and why", ..FLAG };
+const VERBOSE: Row = Row { name: "verbose", place: WordPlace::ShortFlag('v'), help: "Tells of a refusal in a second line which file it is about, and why", ..FLAG };
 
 #[rattlefmt::skip]
-const QUIET: Row = Row { name: "quiet", place: Place::ShortFlag('q'), help: "Does not show on a terminal how far the work is", ..FLAG };
+const QUIET: Row = Row { name: "quiet", place: WordPlace::ShortFlag('q'), help: "Does not show on a terminal how far the work is", ..FLAG };
 
 #[rattlefmt::skip]
 const SYNC: Row = Row { name: "sync", help: "Syncs what it wrote, so that it stands after a loss of power", ..FLAG };
@@ -137,11 +137,11 @@ static OPTIONS: [Row; 22] = [
 // What pack and repack have behind these.
 #[rattlefmt::skip]
 static PACKING: [Row; 9] = [
-    Row { name: "board-id", place: Place::Options, value_name: "I:K=N", help: "Number K, from 0 to 15, of the board id of fragment I, counted from 0, is N (vendor 4)", ..TEXT },
-    Row { name: "fragment", place: Place::Options, value_name: "FRAGMENT", help: "A ramdisk, before those behind OUT (vendor 4)", ..TEXT },
+    Row { name: "board-id", place: WordPlace::Options, value_name: "I:K=N", help: "Number K, from 0 to 15, of the board id of fragment I, counted from 0, is N (vendor 4)", ..TEXT },
+    Row { name: "fragment", place: WordPlace::Options, value_name: "FRAGMENT", help: "A ramdisk, before those behind OUT (vendor 4)", ..TEXT },
     Row { name: "escaped", help: "In paths, texts and NAME \\x and two hexadecimal digits stand for a byte", ..FLAG },
     Row { name: "OUT", help: "The image, which is created or emptied", ..PATH },
-    Row { name: "FRAGMENT", place: Place::LastWords, value: Value::Text, is_required: false, help: "A ramdisk of a vendor 4 image: TYPE:NAME:FILE, TYPE one of none, platform, recovery, dlkm, or a number", ..PATH },
+    Row { name: "FRAGMENT", place: WordPlace::LastWords, value: Value::Text, is_required: false, help: "A ramdisk of a vendor 4 image: TYPE:NAME:FILE, TYPE one of none, platform, recovery, dlkm, or a number", ..PATH },
     SYNC,
     MOUNTED,
     VERBOSE,
@@ -185,7 +185,7 @@ pub fn options() -> &'static [Row]
 
 #[rattlefmt::skip]
 static EXPAND: [Row; 2] = [
-    Row { name: "IN", place: Place::Words, help: SPARSE_IN, ..PATH },
+    Row { name: "IN", place: WordPlace::Words, help: SPARSE_IN, ..PATH },
     Row { name: "OUT", help: "The raw image, which is created or emptied, or - for standard output", ..PATH },
 ];
 

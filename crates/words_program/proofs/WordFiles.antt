@@ -6,7 +6,7 @@ use Rattle.std.proofs.lemmas.List.{append-nil, map-append}
 use Rattle.std.proofs.lemmas.List.Elements.{filter-append}
 use Rattle.std.proofs.Math.Seq.{take-suc}
 use Rattle.words_values.specs.WordFile.{names_file}
-use Rattle.sys_disk.specs.World.{World, Held}
+use Rattle.sys_disk.specs.World.{World, OpenFiles}
 use Rattle.cmd_common_sparse.specs.ImagePath.{image_path}
 use Rattle.words_program.specs.WordFiles.{ReadsNext, ReadsWordFiles, paths_named}
 
@@ -15,10 +15,10 @@ use Rattle.words_program.specs.WordFiles.{ReadsNext, ReadsWordFiles, paths_named
 none_named : (word : List ℕ) → names_file word ≡ false → paths_named (word ∷ []) ≡ []
 none_named word not = rw not refl
 
-none_taken : (h : Held) → h ≡ record h { read = h.read ++ [] }
+none_taken : (h : OpenFiles) → h ≡ record h { read = h.read ++ [] }
 none_taken h = ap (λ (l : List ℕ). record h { read = l }) (sym (append-nil h.read))
 
-pub reads_none : (word : List ℕ) (texts : List (List ℕ)) (a : World) (h : Held) → names_file word ≡ false
+pub reads_none : (word : List ℕ) (texts : List (List ℕ)) (a : World) (h : OpenFiles) → names_file word ≡ false
     → ReadsNext word texts texts a h h
 reads_none word texts a h not = record {
   own = [];
@@ -40,7 +40,7 @@ named_more words word =
     ap (map path) (filter-append names_file words (word ∷ []))
     ∙ map-append path (filter names_file words) (filter names_file (word ∷ []))
 
-pub reads_more : (words : List (List ℕ)) (word : List ℕ) (texts texts' : List (List ℕ)) (a a1 : World) (h h1 h2 : Held)
+pub reads_more : (words : List (List ℕ)) (word : List ℕ) (texts texts' : List (List ℕ)) (a a1 : World) (h h1 h2 : OpenFiles)
     → ReadsWordFiles words texts a h h1 → a1 ≡ a → ReadsNext word texts texts' a1 h1 h2
     → ReadsWordFiles (words ++ (word ∷ [])) texts' a h h2
 reads_more words word texts texts' a a1 h h1 h2 all same next =
@@ -55,12 +55,12 @@ reads_more words word texts texts' a a1 h h1 h2 all same next =
       holds = more.behind ∙ ap (λ l. l ++ more.own) all.holds
           ∙ ap (λ l. map a.holds all.files ++ l) more.reads.holds
           ∙ sym (map-append a.holds all.files more.reads.files);
-      taken = more.reads.taken ∙ ap (λ (k : Held). record k { read = k.read ++ more.reads.files }) all.taken
+      taken = more.reads.taken ∙ ap (λ (k : OpenFiles). record k { read = k.read ++ more.reads.files }) all.taken
           ∙ ap (λ (l : List ℕ). record h { read = l }) (append_assoc h.read all.files more.reads.files);
     }
 
 -- none of them
-pub reads_nothing : (texts : List (List ℕ)) (a : World) (h : Held) → texts ≡ [] → ReadsWordFiles [] texts a h h
+pub reads_nothing : (texts : List (List ℕ)) (a : World) (h : OpenFiles) → texts ≡ [] → ReadsWordFiles [] texts a h h
 reads_nothing texts a h none = record {
   files = [];
   there = refl;
@@ -70,7 +70,7 @@ reads_nothing texts a h none = record {
 
 -- the word behind the first ones
 pub reads_turn : {X : Type 0} (f : X → List ℕ) (xs : List X) (i : ℕ) (d : X) (word : List ℕ)
-    (texts texts' : List (List ℕ)) (a a1 : World) (h h1 h2 : Held) → i < length xs → word ≡ f (get_or xs i d) → a1 ≡ a
+    (texts texts' : List (List ℕ)) (a a1 : World) (h h1 h2 : OpenFiles) → i < length xs → word ≡ f (get_or xs i d) → a1 ≡ a
     → ReadsWordFiles (map f (take i xs)) texts a h h1 → ReadsNext word texts texts' a1 h1 h2
     → ReadsWordFiles (map f (take (i + 1) xs)) texts' a h h2
 reads_turn f xs i d word texts texts' a a1 h h1 h2 below is same all next =
@@ -82,17 +82,17 @@ reads_turn f xs i d word texts texts' a a1 h h1 h2 below is same all next =
     (reads_more (map f (take i xs)) word texts texts' a a1 h h1 h2 all same next)
 
 -- all of them
-pub reads_all : {X : Type 0} (f : X → List ℕ) (xs : List X) (i : ℕ) (texts : List (List ℕ)) (a : World) (h h' : Held)
+pub reads_all : {X : Type 0} (f : X → List ℕ) (xs : List X) (i : ℕ) (texts : List (List ℕ)) (a : World) (h h' : OpenFiles)
     → ReadsWordFiles (map f (take i xs)) texts a h h' → take i xs ≡ xs → ReadsWordFiles (map f xs) texts a h h'
 reads_all f xs i texts a h h' all end = subst (λ l. ReadsWordFiles (map f l) texts a h h') end all
 
 -- nothing has been opened to be written, where nothing had
-pub still_reading : (words texts : List (List ℕ)) (a : World) (h h' : Held) → ReadsWordFiles words texts a h h'
+pub still_reading : (words texts : List (List ℕ)) (a : World) (h h' : OpenFiles) → ReadsWordFiles words texts a h h'
     → h.begun ≡ [] → h'.begun ≡ []
 still_reading words texts a h h' all none = ap (λ k. k.begun) all.taken ∙ none
 
 -- what fails behind them fails in all
-pub fails_behind : (words texts : List (List ℕ)) (a : World) (h h1 h2 : Held) (P : Type 0)
+pub fails_behind : (words texts : List (List ℕ)) (a : World) (h h1 h2 : OpenFiles) (P : Type 0)
     → ReadsWordFiles words texts a h h1 → (h1.failed < h2.failed) ⊎ P → (h.failed < h2.failed) ⊎ P
 fails_behind words texts a h h1 h2 P all (inl failed) =
     let same : h1.failed ≡ h.failed = ap (λ k. k.failed) all.taken in

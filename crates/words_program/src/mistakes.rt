@@ -4,14 +4,14 @@ ghost use Rattle.std.specs.Prelude.{◌≡◌, ◌≢◌, ◌≤◌};
 ghost use Rattle.words_program.specs.Mistake.{IsMistake};
 
 use crate::telling::{print, refused};
+use std::alloc::{AllocError, Global};
+use std::convert::AsStr;
+use std::fmt;
 use sys_host::{Telling, USAGE};
 use sys_refusals::HostRefusal;
 use sys_report::Report;
 use sys_text::{ShownPath, Text};
 use words_orders::{WordsFault, order_of};
-use std::alloc::{AllocError, Global};
-use std::convert::AsStr;
-use std::fmt;
 use words_tools::{Tool, orders_of};
 
 /// Tells of a mistake in the words, or prints a text that they ask for, as `--help` does, and answers the exit status.

@@ -3,12 +3,12 @@
 ghost use Rattle.std.specs.Prelude.{◌≡◌, ◌≤◌, ◌++◌, IfSome, if◌then◌else◌};
 ghost use Rattle.sys_refusals.specs.Host.{is_not_text};
 
+use cmd_common_sparse::SparseRefusal;
+use std::fmt;
 use sys_host::{DONE, Telling, answer};
 use sys_refusals::HostRefusal;
 use sys_report::Report;
 use sys_text::Text;
-use cmd_common_sparse::SparseRefusal;
-use std::fmt;
 
 /// Prints a text that is asked for, and answers the exit status.
 pub fn print<D: fmt::Display + Drop>(

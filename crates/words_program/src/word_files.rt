@@ -7,10 +7,10 @@ ghost use Rattle.sys_refusals.specs.declared.refusal.HostFault.TheVariants.{Memo
 ghost use Rattle.cmd_common_sparse.specs.ImagePath.{image_path};
 ghost use Rattle.words_program.specs.WordFiles.{ReadsNext, ReadsWordFiles};
 
-use sys_disk::Disk;
-use sys_refusals::{HostRefusal, Place};
-use words_values::file_of;
 use std::alloc::Global;
+use sys_disk::Disk;
+use sys_refusals::{FileArg, HostRefusal};
+use words_values::file_of;
 
 /// The texts of the files that these words name, in order. They are read, so no output may be one of them.
 pub fn read_word_files<'a, D: Disk>(
@@ -18,14 +18,14 @@ pub fn read_word_files<'a, D: Disk>(
     words: &'a [String],
     alloc: Global,
 ) -> Result<Vec<String>, HostRefusal<'a>>
-    requires first { IsTrue D.tells → (D.held disk.old).begun ≡ [] }
+    requires first { IsTrue D.models → (D.held disk.old).begun ≡ [] }
     // the texts are what the files hold, in order, and no other file was opened
-    ensures texts { IsTrue D.tells → IfOk result (λ texts. ReadsWordFiles (map string_bytes words.now)
+    ensures texts { IsTrue D.models → IfOk result (λ texts. ReadsWordFiles (map string_bytes words.now)
         (map string_bytes texts.items) (D.world disk.old) (D.held disk.old) (D.held disk.new)) }
     // every file stays as it is
-    ensures world { IsTrue D.tells → D.world disk.new ≡ D.world disk.old }
+    ensures world { IsTrue D.models → D.world disk.new ≡ D.world disk.old }
     // it is refused where a file could not be read, or for want of memory
-    ensures refused { IsTrue D.tells → IfErr result (λ refusal.
+    ensures refused { IsTrue D.models → IfErr result (λ refusal.
         HasFailed (D.held disk.old) (D.held disk.new) ⊎ (refusal.fault ≡ Memory)) }
 {
     let mut texts = Vec::new(alloc);
@@ -44,11 +44,11 @@ fn read_next<'a, D: Disk>(
     word: &'a str,
     texts: &mut Vec<String>,
 ) -> Result<(), HostRefusal<'a>>
-    requires first { IsTrue D.tells → (D.held disk.old).begun ≡ [] }
-    ensures texts { IsTrue D.tells → OnOk result (ReadsNext word.now (map string_bytes texts.old.items)
+    requires first { IsTrue D.models → (D.held disk.old).begun ≡ [] }
+    ensures texts { IsTrue D.models → OnOk result (ReadsNext word.now (map string_bytes texts.old.items)
         (map string_bytes texts.new.items) (D.world disk.old) (D.held disk.old) (D.held disk.new)) }
-    ensures world { IsTrue D.tells → D.world disk.new ≡ D.world disk.old }
-    ensures refused { IsTrue D.tells → IfErr result (λ refusal.
+    ensures world { IsTrue D.models → D.world disk.new ≡ D.world disk.old }
+    ensures refused { IsTrue D.models → IfErr result (λ refusal.
         HasFailed (D.held disk.old) (D.held disk.new) ⊎ (refusal.fault ≡ Memory)) }
 {
     let Some(path) = file_of(word) else {
@@ -65,10 +65,10 @@ fn read_next<'a, D: Disk>(
 }
 
 // The file behind an `@`: `@-` is standard input.
-fn word_file<'a>(path: &'a str) -> Place<'a>
+fn word_file<'a>(path: &'a str) -> FileArg<'a>
     ensures { path_in result ≡ image_path path.now }
 {
-    Place {
+    FileArg {
         role: "@FILE",
         folder: None,
         name: path,

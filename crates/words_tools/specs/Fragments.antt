@@ -7,7 +7,7 @@ use Rattle.std.specs.Prelude.{Contains, bytes_eq, if◌then◌else◌}
 use Rattle.std.specs.Str.{str_eq_ignore_ascii_case}
 use Rattle.words_values.specs.AospNumber.{python_number}
 use Rattle.words_values.specs.NumberWord.{IsDigits, IsRead}
-use Rattle.words_values.specs.declared.rows.Place.TheVariants as places
+use Rattle.words_values.specs.declared.rows.WordPlace.TheVariants as places
 use Rattle.words_values.specs.declared.rows.Row.{Row}
 use Rattle.words_values.specs.declared.rows.Value.TheVariants as values
 use Rattle.words_orders.specs.declared.answers.Answer.{Answer}

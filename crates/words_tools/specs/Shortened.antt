@@ -1,8 +1,8 @@
 -- Answers that stand among the words of a tool, where the name of an option may be written short.
 use Rattle.std.specs.Prelude.{◌≡◌, ◌⊎◌, ℕ, List, [], ◌∷◌, ◌++◌, Contains, codes}
 use Rattle.std.specs.List.{All}
-use Rattle.words_values.specs.declared.rows.Place.{Place}
-use Rattle.words_values.specs.declared.rows.Place.TheVariants as places
+use Rattle.words_values.specs.declared.rows.WordPlace.{WordPlace}
+use Rattle.words_values.specs.declared.rows.WordPlace.TheVariants as places
 use Rattle.words_values.specs.NumberWord.{IsRead}
 use Rattle.words_orders.specs.declared.answers.Answer.{Answer}
 use Rattle.words_orders.specs.Spelled.{IsSaid, SaysValue, left_of, placed_words}
@@ -24,7 +24,7 @@ pub record SaysShort (table : List Shape) (name value : List ℕ) (words : List 
   pub says : SaysValue (codes "--") short value words
 
 -- an option is said by a beginning of its name, or a letter in one word with its value
-abbrev pub IsSaidShort : List Shape → List (List ℕ) → Place → List ℕ → List ℕ → Type 0
+abbrev pub IsSaidShort : List Shape → List (List ℕ) → WordPlace → List ℕ → List ℕ → Type 0
 IsSaidShort table words places.Option name word = SaysShort table name word words
 IsSaidShort table words places.Letter name word = Contains words (codes "-" ++ (name ++ word))
 IsSaidShort table words place name word = ⊥

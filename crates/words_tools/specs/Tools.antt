@@ -1,7 +1,7 @@
 -- The words of AOSP's tools, and the orders that they ask for.
 use Rattle.std.specs.Prelude.{◌≡◌, ◌⊎◌, ℕ, List, [], ◌∷◌, ◌++◌, Option, Some, None, true, false, codes, get_or}
 use Rattle.std.specs.Prelude.{unwrap_or, bytes_eq, if◌then◌else◌, option_map}
-use Rattle.words_values.specs.declared.rows.Place.TheVariants as places
+use Rattle.words_values.specs.declared.rows.WordPlace.TheVariants as places
 use Rattle.words_values.specs.declared.rows.Value.TheVariants as values
 use Rattle.words_orders.specs.declared.answers.Answer.{Answer}
 use Rattle.words_tools.specs.declared.mkbootimg.Image.{Image}

@@ -6,10 +6,10 @@ ghost use Rattle.words_tools.specs.Fragments.{AreParted, AreParting, IsAnswerTo,
 
 use crate::shortening::is_short_of;
 use crate::table::fragment_rows;
-use words_values::{Row, number_in, number_word};
-use words_orders::{Answer, WordsFault};
 use std::alloc::{AllocError, Global};
 use std::convert::AsStr;
+use words_orders::{Answer, WordsFault};
+use words_values::{Row, number_in, number_word};
 
 // The option that ends a group.
 pub(crate) const FRAGMENT: &str = "vendor_ramdisk_fragment";

@@ -8,9 +8,9 @@ ghost use Rattle.words_tools.specs.Fragments.{fragment_said, fragments_said, gro
 ghost use Rattle.words_tools.specs.Fragments.{is_board, is_file_word, no_group, of_platform, platform_group, ramdisk_type};
 
 use crate::fragments::{FRAGMENT, cut};
-use words_values::{Value, number_in};
-use words_orders::Answer;
 use std::alloc::{AllocError, Global};
+use words_orders::Answer;
+use words_values::{Value, number_in};
 
 /// What was said of a fragment so far: its type, and its name.
 #[derive(Clone, Copy)]

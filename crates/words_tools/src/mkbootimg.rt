@@ -11,9 +11,9 @@ ghost use Rattle.words_orders.specs.Asked.{answer_named};
 ghost use Rattle.words_orders.specs.Table.{option_rows, shape_of};
 
 use crate::groups::{board_words, fragment_words, fragments_refusal};
-use words_values::{Row, Value};
-use words_orders::{Answer, Answers, BootTask, Given, PackOrder, Task, options};
 use std::alloc::{AllocError, Global};
+use words_orders::{Answer, Answers, BootTask, Given, PackOrder, Task, options};
+use words_values::{Row, Value};
 
 /// An image that is asked for.
 #[derive(Clone, Copy)]

@@ -10,10 +10,10 @@ use crate::shortening::are_spelled_in;
 use crate::texts::fragment_texts;
 use crate::tools::Tool;
 use crate::unpack_bootimg::{UnpackImage, unpacking};
-use words_orders::{Answer, Answers, Order, SparseTask, Task, WordsFault, expand};
 use clap::error::ErrorKind;
 use std::alloc::{AllocError, Global};
 use std::convert::AsStr;
+use words_orders::{Answer, Answers, Order, SparseTask, Task, WordsFault, expand};
 
 /// What the words of a tool ask for: orders that are done one after the other, or none.
 #[derive(Drop)]

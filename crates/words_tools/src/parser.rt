@@ -1,9 +1,9 @@
 //! The parser of a tool's words, which clap makes of its table.
 
 use crate::tools::Tool;
-use words_orders::with_rows;
 use clap::Command;
 use std::alloc::{AllocError, Global};
+use words_orders::with_rows;
 
 /// The parser of a tool's words.
 pub(crate) fn tool_program<'a>(alloc: Global, tool: Tool) -> Result<Command<'a>, AllocError> {

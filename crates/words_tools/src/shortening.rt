@@ -5,10 +5,10 @@ ghost use Rattle.std.specs.List.{All};
 ghost use Rattle.words_tools.specs.Shortened.{AreSpelledIn, IsOnly, IsSaidShort, IsShortOf, SaysShort, StandsAs};
 ghost use Rattle.words_orders.specs.Table.{shape_of};
 
-use words_values::{Place, Row};
-use words_orders::{Answer, are_in_turn, is_read, is_said, placed_in, says_value_at};
 use std::alloc::{AllocError, Global};
 use std::convert::AsStr;
+use words_orders::{Answer, are_in_turn, is_read, is_said, placed_in, says_value_at};
+use words_values::{Row, WordPlace};
 
 /// Whether the word that calls a tool and each of these answers stand among its words, and each number is the one that its
 /// word writes.
@@ -50,8 +50,8 @@ fn is_said_short<S: AsStr>(words: &[S], rows: &[Row], answer: &Answer<'_>) -> bo
         answer.now.row.now.name.now answer.now.word.now }
 {
     match answer.row.place {
-        Place::Option => says_short(words, rows, answer.row.name, answer.word),
-        Place::Letter => says_letter(words, answer.row.name, answer.word),
+        WordPlace::Option => says_short(words, rows, answer.row.name, answer.word),
+        WordPlace::Letter => says_letter(words, answer.row.name, answer.word),
         _ => false,
     }
 }

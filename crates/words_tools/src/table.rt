@@ -7,12 +7,12 @@ ghost use Rattle.words_tools.specs.Tools.{tool_rows};
 
 use crate::tools::Tool;
 use crate::unpack_bootimg::UNPACK_BOOTIMG;
-use words_values::{Place, Row, Value};
 use words_orders::{FLAG, PART, PATH, TEXT};
+use words_values::{Row, Value, WordPlace};
 
 #[rattlefmt::skip]
 static SIMG2IMG: [Row; 2] = [
-    Row { name: "IN", place: Place::Words, help: "A sparse image, a file or a pipe, or - for standard input; several are laid over one another", ..PATH },
+    Row { name: "IN", place: WordPlace::Words, help: "A sparse image, a file or a pipe, or - for standard input; several are laid over one another", ..PATH },
     Row { name: "OUT", help: "The raw image, which is created or emptied, or - for standard output", ..PATH },
 ];
 
@@ -21,7 +21,7 @@ static IMG2SIMG: [Row; 4] = [
     Row { name: "IN", help: "The raw image, a file or a block device, or - for standard input", ..PATH },
     Row { name: "OUT", help: "The sparse image, which is created or emptied, or - for standard output", ..PATH },
     Row { name: "BLOCK", value: Value::Count(1024), is_required: false, help: "Bytes of a block: a multiple of 4, from 1024 to 65536; 4096", ..PATH },
-    Row { name: "s", place: Place::ShortFlag('s'), value: Value::NotTaken, help: "it takes no holes for don't care: leave out -s", ..FLAG },
+    Row { name: "s", place: WordPlace::ShortFlag('s'), value: Value::NotTaken, help: "it takes no holes for don't care: leave out -s", ..FLAG },
 ];
 
 #[rattlefmt::skip]
@@ -33,7 +33,7 @@ static SIMG2SIMG: [Row; 3] = [
 
 // A number as Python reads it.
 const NUMBER: Row = Row {
-    place: Place::Option,
+    place: WordPlace::Option,
     value: Value::PythonNumber,
     value_name: "N",
     is_required: false,
@@ -42,7 +42,7 @@ const NUMBER: Row = Row {
 
 // An option that is refused.
 const REFUSED: Row = Row {
-    place: Place::Option,
+    place: WordPlace::Option,
     value: Value::NotTaken,
     value_name: "WORD",
     is_required: false,
@@ -75,7 +75,7 @@ static MKBOOTIMG: [Row; 29] = [
     Row { name: "id", value: Value::IsGiven, help: "Prints the id of the image; only where it has none", ..FLAG },
     Row { name: "header_version", default: Some("0"), help: "The header version, 0 to 4", ..NUMBER },
     Row { name: "output", excludes: Some("o"), help: "The boot image, which is created or emptied", ..PART },
-    Row { name: "o", place: Place::Letter, help: "The same as --output", ..PART },
+    Row { name: "o", place: WordPlace::Letter, help: "The same as --output", ..PART },
     Row { name: "vendor_boot", help: "The vendor boot image, which is created or emptied", ..PART },
     Row { name: "vendor_ramdisk", help: "The ramdisk of a vendor boot image", ..PART },
     Row { name: "vendor_bootconfig", help: "The bootconfig of a vendor boot image", ..PART },

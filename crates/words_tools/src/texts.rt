@@ -1,8 +1,8 @@
 //! The texts that the orders of mkbootimg need: the words of `pack` for ramdisk fragments. They are not trusted.
 
 use crate::groups::{Group, is_file_word};
-use words_orders::Answer;
 use std::alloc::{AllocError, Global};
+use words_orders::Answer;
 
 /// Those of the fragments, of which the file of `--vendor_ramdisk` is the first, and then those of their board ids.
 pub(crate) fn fragment_texts(

@@ -3,8 +3,8 @@
 ghost use Rattle.std.specs.Prelude.{◌≡◌};
 ghost use Rattle.words_tools.specs.UnpackBootimg.{AsksUnpack, text_asked};
 
-use words_values::{Place, Row, Value};
 use words_orders::{Answers, FLAG, PART};
+use words_values::{Row, Value, WordPlace};
 
 /// An image that is to be unpacked as unpack_bootimg does.
 #[derive(Clone, Copy, Drop)]
@@ -32,7 +32,7 @@ pub(crate) static UNPACK_BOOTIMG: [Row; 4] = [
     Row { name: "boot_img", is_required: true, help: "The boot image or vendor boot image", ..PART },
     Row { name: "out", value_name: "DIR", default: Some("out"), help: "The folder of its parts, which is made where it is not there", ..PART },
     Row { name: "format", value: Value::Name(&["info", "mkbootimg"]), value_name: "FORMAT", default: Some("info"), help: "What is printed: what the header says, or the words of mkbootimg that make the image again", ..PART },
-    Row { name: "null", place: Place::ShortFlag('0'), help: "Each word of mkbootimg ends in a zero byte, and none is quoted", ..FLAG },
+    Row { name: "null", place: WordPlace::ShortFlag('0'), help: "Each word of mkbootimg ends in a zero byte, and none is quoted", ..FLAG },
 ];
 
 /// The image that the answers name, its folder, and what is printed.

@@ -7,5 +7,5 @@ mod rows;
 mod word_files;
 
 pub use numbers::{number_in, number_word};
-pub use rows::{Place, Row, Value};
+pub use rows::{Row, Value, WordPlace};
 pub use word_files::{expanded, file_of};

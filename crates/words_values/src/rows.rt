@@ -7,7 +7,7 @@ ghost use Rattle.std.specs.Prelude.{◌≡◌, ◌↔◌, IsTrue, false, Contain
 pub struct Row {
     /// The name: of an option without its hyphens, of a word as help shows it.
     pub name: &'static str,
-    pub place: Place,
+    pub place: WordPlace,
     /// What its value is.
     pub value: Value,
     /// What help calls an option's value.
@@ -28,7 +28,7 @@ pub struct Row {
 
 /// Where a row stands on the command line, and how often.
 #[derive(Clone, Copy)]
-pub enum Place {
+pub enum WordPlace {
     /// A word, by its place among the others.
     Word,
     /// One word or more.

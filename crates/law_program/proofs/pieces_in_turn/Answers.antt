@@ -1,4 +1,4 @@
-use Rattle.law_program.proofs.Cuts.{expanded_together, flashed_in_turn_are}
+use Rattle.law_program.proofs.ProgramCuts.{expanded_together, flashed_in_turn_are}
 use Rattle.law_program.proofs.pieces_in_turn.Goals as goal
 
 pub returns-clause-flashed : goal.returns-clause-flashed

@@ -19,10 +19,10 @@ invariant-steps g l =
     record {
       walks : WalksOn i 65580 l.fn.input l.input l.fn.m l.m;
       writes : OnlyWrites {X = Unit {0}} {E = Unit {0}} (Ok tt) 0 o l.fn.output l.output;
-      told : IsTrue i.tells → (t : List ℕ) → finish (written l.fn.output)
+      told : IsTrue i.models → (t : List ℕ) → finish (written l.fn.output)
           (seen (outcome (take (got l.input - got l.fn.input) (i.remaining l.fn.input) ++ t)))
           ≡ finish (written l.output) (ahead l.machine.walk t);
-      needed : IsTrue i.tells → AllNeeded (i.remaining l.fn.input) (got l.input - got l.fn.input);
+      needed : IsTrue i.models → AllNeeded (i.remaining l.fn.input) (got l.input - got l.fn.input);
       going : IsGoing l.machine.walk.phase;
       read_faults : i.read_faults l.input ≡ i.read_faults l.fn.input;
       reads : i.reads l.input + 4 * got l.fn.input + 4 * length (written l.fn.output)

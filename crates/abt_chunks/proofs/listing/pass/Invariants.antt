@@ -11,9 +11,9 @@ invariant-steps g l =
     let remaining = g.I.Input.remaining in
     record {
       read : got l.fn.input ≤ got l.input;
-      present : IsTrue g.I.Input.tells → got l.input - got l.fn.input ≤ length (remaining l.fn.input);
-      rest : IsTrue g.I.Input.tells → remaining l.input ≡ drop (got l.input - got l.fn.input) (remaining l.fn.input);
-      same : IsTrue g.I.Input.tells → with_begun l.fn.walk (remaining l.fn.input) ≡ with_begun l.walk (remaining l.input);
+      present : IsTrue g.I.Input.models → got l.input - got l.fn.input ≤ length (remaining l.fn.input);
+      rest : IsTrue g.I.Input.models → remaining l.input ≡ drop (got l.input - got l.fn.input) (remaining l.fn.input);
+      same : IsTrue g.I.Input.models → with_begun l.fn.walk (remaining l.fn.input) ≡ with_begun l.walk (remaining l.input);
       body : l.walk.phase ≡ phases.Body;
       index : l.walk.index ≡ l.fn.walk.index;
       frame : g.I.Input.read_frame l.input ≡ g.I.Input.read_frame l.fn.input;

@@ -3,7 +3,7 @@ use Rattle.abt_pieces.specs.Fault.{CutCause}
 use Rattle.abt_pieces.specs.declared.fault.PieceFault.{PieceFault}
 use Rattle.abt_pieces.specs.declared.fault.PieceFault.TheVariants as cuts
 use Rattle.abt_pieces.specs.Cutter.{has_more}
-use Rattle.abt_pieces.specs.declared.stage.Stage.TheVariants.{Between, Done}
+use Rattle.abt_pieces.specs.declared.stage.CutterStage.TheVariants.{Between, Done}
 use Rattle.abt_flash.specs.Causes.{planning_fault}
 use Rattle.abt_flash.specs.Delivering.{CountsTo}
 use Rattle.abt_flash.specs.Going.{PlanRefused, IsBehindPiece}
@@ -37,9 +37,9 @@ pieces-preserved g c =
     record {
       runs = e.left.cutter.same_image ∙ i.runs;
       limit = e.left.cutter.same_limit ∙ i.limit;
-      told = λ tells. rw (i.runs, i.kept tells) at (e.left.told tells);
-      kept = λ tells. e.left.reads.content tells ∙ i.kept tells;
-      size = λ tells. e.left.reads.size tells ∙ i.size tells;
+      told = λ models. rw (i.runs, i.kept models) at (e.left.told models);
+      kept = λ models. e.left.reads.content models ∙ i.kept models;
+      size = λ models. e.left.reads.size models ∙ i.size models;
       frame = e.left.reads.frame ∙ i.frame;
       unbroken = rw made (unbroken_more n c.pieces.cutter.made next st at);
       few = rw made (few_more n c.pieces.cutter.made s left inside);
@@ -105,7 +105,7 @@ returns-in-Err-clause-costs g c =
     let tick = c.tick.ensures.turns in
     record {
       begun = c.pieces.cutter.made;
-      counted = rw c.not_planned.ensures (plan_begins c.in-Err.fault _ _ _ _ i.planned (λ tells. let z = one_left c.args.cutter.now.limit b all c.pieces.cutter.made c.pieces.cutter.start.block (rw (i.limit, is) at (i.told tells).cuts) in omega (arith, z)));
+      counted = rw c.not_planned.ensures (plan_begins c.in-Err.fault _ _ _ _ i.planned (λ models. let z = one_left c.args.cutter.now.limit b all c.pieces.cutter.made c.pieces.cutter.start.block (rw (i.limit, is) at (i.told models).cuts) in omega (arith, z)));
       calls = omega (arith, calls, more_calls, given, i.given);
       turns = omega (arith, turns, words, more_turns, given, tick, i.given);
       read = omega (arith, i.given, given);
@@ -115,13 +115,13 @@ returns-in-Err-clause-costs g c =
 
 -- ---- why planning is refused
 
-plan_refused : (e : PieceFault) (before : ℕ) (tells : Bool) (r r' : ℕ) → CutCause e tells r r' 0 0 → PlanRefused (planning_fault e) before tells r r'
-plan_refused (cuts.Read d) before tells r r' h = h
-plan_refused (cuts.Write d) before tells r r' h = absurd (omega (arith, h))
-plan_refused cuts.SourceChanged before tells r r' h = h
-plan_refused cuts.TooLarge before tells r r' h = absurd h
-plan_refused (cuts.BadBlock n) before tells r r' h = absurd h
-plan_refused (cuts.LimitTooSmall n) before tells r r' h = absurd h
+plan_refused : (e : PieceFault) (before : ℕ) (models : Bool) (r r' : ℕ) → CutCause e models r r' 0 0 → PlanRefused (planning_fault e) before models r r'
+plan_refused (cuts.Read d) before models r r' h = h
+plan_refused (cuts.Write d) before models r r' h = absurd (omega (arith, h))
+plan_refused cuts.SourceChanged before models r r' h = h
+plan_refused cuts.TooLarge before models r r' h = absurd h
+plan_refused (cuts.BadBlock n) before models r r' h = absurd h
+plan_refused (cuts.LimitTooSmall n) before models r r' h = absurd h
 
 plan_counts : (e : PieceFault) (before k : ℕ) → CountsTo (Err (planning_fault e)) before k
 plan_counts (cuts.Read d) before k = tt
@@ -136,14 +136,14 @@ returns-in-Err-clause-refused g c =
     let i = c.pieces.invariant in
     let is : c.pieces.cutter.stage ≡ Between = still_between _ _ _ _ i.unbroken (sym c.more.ensures ∙ c.if-not-more.false) in
     let faults = i.faults in
-    let cause : CutCause c.in-Err.fault g.S.Source.tells (g.S.Source.read_faults c.pieces.source) (g.S.Source.read_faults c.skip_piece.new.source) 0 0 = elim c.in-Err.ensures.cause [
+    let cause : CutCause c.in-Err.fault g.S.Source.models (g.S.Source.read_faults c.pieces.source) (g.S.Source.read_faults c.skip_piece.new.source) 0 0 = elim c.in-Err.ensures.cause [
       | inl failed ↦ absurd (let z = sym is ∙ failed in cc)
       | inr h ↦ h
     ] in
     rw c.not_planned.ensures (plan_refused c.in-Err.fault _ _ _ _ (rw faults at cause))
 
 pub returns-in-Err-clause-counted : goal.returns-in-Err-clause-counted
-returns-in-Err-clause-counted g c tells = rw c.not_planned.ensures (plan_counts c.in-Err.fault _ _)
+returns-in-Err-clause-counted g c models = rw c.not_planned.ensures (plan_counts c.in-Err.fault _ _)
 
 pub returns-then-not-more-clause-refused : goal.returns-then-not-more-clause-refused
 returns-then-not-more-clause-refused g c =
@@ -151,12 +151,12 @@ returns-then-not-more-clause-refused g c =
     ((i.unbroken.done (now_done _ _ _ _ i.unbroken (sym c.more.ensures ∙ c.if-not-more.true))).0, i.planned)
 
 pub returns-then-not-more-clause-counted : goal.returns-then-not-more-clause-counted
-returns-then-not-more-clause-counted g c tells =
+returns-then-not-more-clause-counted g c models =
     let i = c.pieces.invariant in
     let b = g.R.BlockRuns.size c.args.cutter.now.runs in
     let all = g.R.BlockRuns.list c.args.cutter.now.runs (g.S.Source.content c.args.source.now) in
     let is : c.pieces.cutter.stage ≡ Done = now_done _ _ _ _ i.unbroken (sym c.more.ensures ∙ c.if-not-more.true) in
-    none_left c.args.cutter.now.limit b all c.pieces.cutter.made c.pieces.cutter.start.block (rw (i.limit, is) at (i.told tells).cuts)
+    none_left c.args.cutter.now.limit b all c.pieces.cutter.made c.pieces.cutter.start.block (rw (i.limit, is) at (i.told models).cuts)
 
 pub returns-then-are_planned-clause-inside : goal.returns-then-are_planned-clause-inside
 returns-then-are_planned-clause-inside g c =
@@ -179,7 +179,7 @@ pub returns-in-Err-clause-source : goal.returns-in-Err-clause-source
 returns-in-Err-clause-source g c =
     let i = c.pieces.invariant in
     let s = c.skip_piece.ensures in
-    record { content = λ tells. s.left.reads.content tells ∙ i.kept tells; size = λ tells. s.left.reads.size tells ∙ i.size tells; frame = s.left.reads.frame ∙ i.frame; faults = omega (arith, i.faults, s.left.reads.faults); clean = tt }
+    record { content = λ models. s.left.reads.content models ∙ i.kept models; size = λ models. s.left.reads.size models ∙ i.size models; frame = s.left.reads.frame ∙ i.frame; faults = omega (arith, i.faults, s.left.reads.faults); clean = tt }
 
 -- ---- what planning a piece asks for
 
@@ -187,6 +187,6 @@ pub skip_piece-requires-clause-ready : goal.skip_piece-requires-clause-ready
 skip_piece-requires-clause-ready g c =
     let i = c.pieces.invariant in
     record {
-      opened = λ tells. rw (i.runs, i.kept tells) (c.requires.ready.opened tells);
-      told = λ tells. rw (i.runs, i.kept tells) (i.told tells);
+      opened = λ models. rw (i.runs, i.kept models) (c.requires.ready.opened models);
+      told = λ models. rw (i.runs, i.kept models) (i.told models);
     }

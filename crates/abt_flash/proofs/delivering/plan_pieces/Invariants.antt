@@ -13,9 +13,9 @@ invariant-pieces g l =
     record {
       runs : l.cutter.runs ≡ l.fn.cutter.runs;
       limit : l.cutter.limit ≡ l.fn.cutter.limit;
-      told : IsTrue g.S.Source.tells → ToldCutter (g.R.BlockRuns.place image (content l.fn.source)) (g.R.BlockRuns.together image (content l.fn.source)) (g.R.BlockRuns.size image) (g.R.BlockRuns.list image (content l.fn.source)) l.cutter.limit l.cutter.made l.cutter.start l.cutter.stage;
-      kept : IsTrue g.S.Source.tells → content l.source ≡ content l.fn.source;
-      size : IsTrue g.S.Source.tells → g.S.Source.size l.source ≡ g.S.Source.size l.fn.source;
+      told : IsTrue g.S.Source.models → ToldCutter (g.R.BlockRuns.place image (content l.fn.source)) (g.R.BlockRuns.together image (content l.fn.source)) (g.R.BlockRuns.size image) (g.R.BlockRuns.list image (content l.fn.source)) l.cutter.limit l.cutter.made l.cutter.start l.cutter.stage;
+      kept : IsTrue g.S.Source.models → content l.source ≡ content l.fn.source;
+      size : IsTrue g.S.Source.models → g.S.Source.size l.source ≡ g.S.Source.size l.fn.source;
       frame : g.S.Source.read_frame l.source ≡ g.S.Source.read_frame l.fn.source;
       unbroken : Unbroken n l.cutter.made l.cutter.start.block l.cutter.stage;
       few : l.cutter.made ≤ max 1 n;

@@ -1,13 +1,13 @@
 use Rattle.std.proofs.Common.{◌≡◌, ℕ, Bool, List, drop, ◌≤◌, ◌+◌, ◌-◌, ◌*◌, Ok, Result, length, arith, refl, sym, ap, ◌∙◌, length-drop, false, Err}
 use Rattle.std.specs.Prelude.{IsTrue}
 use Rattle.abt_io.proofs.Parts.{rest_more}
-use Rattle.abt_chunks.specs.declared.progress.Progress.{Progress}
-use Rattle.abt_chunks.specs.declared.progress.Progress.TheVariants.{Done, More}
+use Rattle.abt_chunks.specs.declared.progress.MachineProgress.{MachineProgress}
+use Rattle.abt_chunks.specs.declared.progress.MachineProgress.TheVariants.{Done, More}
 use Rattle.abt_flash_faults.specs.declared.fault.FlashFault.{FlashFault}
 use Rattle.abt_flash.specs.Devices.{Reads}
 use Rattle.abt_flash.specs.Stepping.{is_done}
-use Rattle.abt_flash.specs.declared.stage.Stage.{Stage}
-use Rattle.abt_flash.specs.declared.stage.Stage.TheVariants as stages
+use Rattle.abt_flash.specs.declared.stage.FlashStage.{FlashStage}
+use Rattle.abt_flash.specs.declared.stage.FlashStage.TheVariants as stages
 use Rattle.abt_flash.proofs.Come.{come_first, come_next, done_holds, done_whole, ends, ends_kept, ends_moments, ends_seen, fault_flashes, fault_holds, going_phase, known_head, need_stays, short_first, short_same}
 use Rattle.abt_chunks.specs.declared.walk.Phase.TheVariants as phases
 use Rattle.abt_flash.proofs.flashing.flash.Goals as goal
@@ -19,10 +19,10 @@ steps-init g c =
     let zero : g.I.Input.given c.args.input.now - g.I.Input.given c.args.input.now ≡ 0 = omega arith in
     record {
       read = omega arith;
-      present = λ tells. omega (arith, zero);
-      rest = λ tells. rw zero refl;
+      present = λ models. omega (arith, zero);
+      rest = λ models. rw zero refl;
       goes = rw (c.open-machine.ensures.stage, c.open-machine.ensures.walk) tt;
-      told = λ tells. come_first _ _ _ _ _ _ _ _ _ c.open-machine.ensures.walk zero c.open-machine.ensures.laid;
+      told = λ models. come_first _ _ _ _ _ _ _ _ _ c.open-machine.ensures.walk zero c.open-machine.ensures.laid;
       fresh = λ f. refl;
       measured = λ body some. absurd (let q : phases.Header ≡ phases.Body = sym c.open-machine.ensures.walk ∙ body in cc);
       synced = refl;
@@ -38,7 +38,7 @@ steps-init g c =
       greatest = omega arith;
     }
 
-not_done : (st : Stage) → is_done st (Ok More) ≡ false
+not_done : (st : FlashStage) → is_done st (Ok More) ≡ false
 not_done stages.Going = refl
 not_done stages.Done = refl
 not_done (stages.Failed f) = refl
@@ -48,7 +48,7 @@ steps-preserved g c =
     let i = c.steps.invariant in
     let e = c.step.ensures in
     let m = c.in-Ok-More.ensures in
-    let more : c.step.result ≡ Ok More = c.in-Ok-More.is ∙ ap (λ (p : Progress). let r : Result Progress FlashFault = Ok p in r) c.in-Ok-More.field-0-is in
+    let more : c.step.result ≡ Ok More = c.in-Ok-More.is ∙ ap (λ (p : MachineProgress). let r : Result MachineProgress FlashFault = Ok p in r) c.in-Ok-More.field-0-is in
     let few : c.step.new.m.turns.number + 2 * g.P.Partition.taken c.steps.partition ≤ c.tick.new.self.turns.number + (g.I.Input.given c.step.new.input - g.I.Input.given c.steps.input) + 2 * g.P.Partition.taken c.step.new.partition + 2 = rw more at c.step.ensures.stepped.costs.few in
     let progress : idle c.step.new.self.walk + 1 ≤ idle c.steps.machine.walk + 2 * (g.I.Input.given c.step.new.input - g.I.Input.given c.steps.input) + 2 * (g.P.Partition.taken c.step.new.partition - g.P.Partition.taken c.steps.partition) = rw more at c.step.ensures.stepped.costs.progress in
     let stage = rw more at c.step.ensures.stepped.stage in
@@ -63,18 +63,18 @@ steps-preserved g c =
     let n = g.I.Input.given c.step.new.input - g.I.Input.given c.steps.input in
     let j = g.I.Input.given c.step.new.input - g.I.Input.given c.args.input.now in
     let rem = g.I.Input.remaining c.args.input.now in
-    let rest = λ (tells : IsTrue g.I.Input.tells). rest_more rem (g.I.Input.remaining c.steps.input) (g.I.Input.remaining c.step.new.input) k n j (i.rest tells) (e.stepped.read.rest tells) (let q : j ≡ k + n = omega arith in q) in
+    let rest = λ (models : IsTrue g.I.Input.models). rest_more rem (g.I.Input.remaining c.steps.input) (g.I.Input.remaining c.step.new.input) k n j (i.rest models) (e.stepped.read.rest models) (let q : j ≡ k + n = omega arith in q) in
     record {
       read = omega arith;
-      present = λ tells.
-          let here : g.I.Input.given c.step.new.input - g.I.Input.given c.steps.input ≤ length (g.I.Input.remaining c.steps.input) = e.stepped.read.present tells in
-          let long : length (g.I.Input.remaining c.steps.input) ≡ length rem - k = ap length (i.rest tells) ∙ length-drop k rem in
-          let before : k ≤ length rem = i.present tells in
+      present = λ models.
+          let here : g.I.Input.given c.step.new.input - g.I.Input.given c.steps.input ≤ length (g.I.Input.remaining c.steps.input) = e.stepped.read.present models in
+          let long : length (g.I.Input.remaining c.steps.input) ≡ length rem - k = ap length (i.rest models) ∙ length-drop k rem in
+          let before : k ≤ length rem = i.present models in
           omega arith;
       rest = rest;
       goes = rw (stage, body) tt;
-      told = λ tells. come_next g.P.Source.tells c.steps.machine.stage c.steps.machine.walk c.step.new.self.walk rem (g.I.Input.remaining c.steps.input) (g.I.Input.remaining c.step.new.input) k n j (g.P.Source.size c.args.partition.now)
-          _ _ _ _ _ _ _ _ _ _ _ (i.rest tells) (let q : j ≡ k + n = omega arith in q) i.synced (i.told tells) (rw c.in-Ok-More.field-0-is at (m.stepped.told tells)) (m.stepped.laid i.goes) (rest tells) (rw c.in-Ok-More.field-0-is at (m.stepped.heads tells i.goes))
+      told = λ models. come_next g.P.Source.models c.steps.machine.stage c.steps.machine.walk c.step.new.self.walk rem (g.I.Input.remaining c.steps.input) (g.I.Input.remaining c.step.new.input) k n j (g.P.Source.size c.args.partition.now)
+          _ _ _ _ _ _ _ _ _ _ _ (i.rest models) (let q : j ≡ k + n = omega arith in q) i.synced (i.told models) (rw c.in-Ok-More.field-0-is at (m.stepped.told models)) (m.stepped.laid i.goes) (rest models) (rw c.in-Ok-More.field-0-is at (m.stepped.heads models i.goes))
           begins measures going quiet;
       fresh = λ f. let q = fresh f in q.1 ∙ i.fresh q.0;
       measured = λ b some. need_stays c.steps.machine.walk c.step.new.self.walk _ going (begins some) (rw c.in-Ok-More.field-0-is at m.stepped.goes_on.header) (measures (begins some));
@@ -92,7 +92,7 @@ steps-preserved g c =
     }
 
 pub returns-in-Ok-Done-clause-touches : goal.returns-in-Ok-Done-clause-touches
-returns-in-Ok-Done-clause-touches g c tells partition =
+returns-in-Ok-Done-clause-touches g c models partition =
     let i = c.steps.invariant in
     let e = c.step.ensures in
     let k = g.I.Input.given c.steps.input - g.I.Input.given c.args.input.now in
@@ -100,13 +100,13 @@ returns-in-Ok-Done-clause-touches g c tells partition =
     let j = g.I.Input.given c.step.new.input - g.I.Input.given c.args.input.now in
     let rem = g.I.Input.remaining c.args.input.now in
     let same : j ≡ k + n = omega arith in
-    let rest = rest_more rem (g.I.Input.remaining c.steps.input) (g.I.Input.remaining c.step.new.input) k n j (i.rest tells) (e.stepped.read.rest tells) same in
-    let ended = (ends g.P.Source.tells c.steps.machine.stage c.steps.machine.walk c.step.new.self.walk rem (g.I.Input.remaining c.steps.input) (g.I.Input.remaining c.step.new.input) k n j (g.P.Source.size c.args.partition.now)
-    _ _ _ _ _ _ _ _ _ _ c.step.result (i.rest tells) same i.synced (i.told tells) (e.stepped.told tells) c.step.new.self.laid rest (e.stepped.laid i.goes)) in
+    let rest = rest_more rem (g.I.Input.remaining c.steps.input) (g.I.Input.remaining c.step.new.input) k n j (i.rest models) (e.stepped.read.rest models) same in
+    let ended = (ends g.P.Source.models c.steps.machine.stage c.steps.machine.walk c.step.new.self.walk rem (g.I.Input.remaining c.steps.input) (g.I.Input.remaining c.step.new.input) k n j (g.P.Source.size c.args.partition.now)
+    _ _ _ _ _ _ _ _ _ _ c.step.result (i.rest models) same i.synced (i.told models) (e.stepped.told models) c.step.new.self.laid rest (e.stepped.laid i.goes)) in
     record { kept = ends_kept _ _ _ _ _ _ _ _ _ _ _ _ _ ended partition; moments = ends_moments _ _ _ _ _ _ _ _ _ _ _ _ _ ended partition }
 
 pub returns-in-Ok-Done-clause-seen : goal.returns-in-Ok-Done-clause-seen
-returns-in-Ok-Done-clause-seen g c tells =
+returns-in-Ok-Done-clause-seen g c models =
     let i = c.steps.invariant in
     let e = c.step.ensures in
     let k = g.I.Input.given c.steps.input - g.I.Input.given c.args.input.now in
@@ -114,12 +114,12 @@ returns-in-Ok-Done-clause-seen g c tells =
     let j = g.I.Input.given c.step.new.input - g.I.Input.given c.args.input.now in
     let rem = g.I.Input.remaining c.args.input.now in
     let same : j ≡ k + n = omega arith in
-    let rest = rest_more rem (g.I.Input.remaining c.steps.input) (g.I.Input.remaining c.step.new.input) k n j (i.rest tells) (e.stepped.read.rest tells) same in
-    ends_seen _ _ _ _ _ _ _ _ _ _ _ _ _ (ends g.P.Source.tells c.steps.machine.stage c.steps.machine.walk c.step.new.self.walk rem (g.I.Input.remaining c.steps.input) (g.I.Input.remaining c.step.new.input) k n j (g.P.Source.size c.args.partition.now)
-    _ _ _ _ _ _ _ _ _ _ c.step.result (i.rest tells) same i.synced (i.told tells) (e.stepped.told tells) c.step.new.self.laid rest (e.stepped.laid i.goes))
+    let rest = rest_more rem (g.I.Input.remaining c.steps.input) (g.I.Input.remaining c.step.new.input) k n j (i.rest models) (e.stepped.read.rest models) same in
+    ends_seen _ _ _ _ _ _ _ _ _ _ _ _ _ (ends g.P.Source.models c.steps.machine.stage c.steps.machine.walk c.step.new.self.walk rem (g.I.Input.remaining c.steps.input) (g.I.Input.remaining c.step.new.input) k n j (g.P.Source.size c.args.partition.now)
+    _ _ _ _ _ _ _ _ _ _ c.step.result (i.rest models) same i.synced (i.told models) (e.stepped.told models) c.step.new.self.laid rest (e.stepped.laid i.goes))
 
 pub returns-in-Err-clause-touches : goal.returns-in-Err-clause-touches
-returns-in-Err-clause-touches g c tells partition =
+returns-in-Err-clause-touches g c models partition =
     let i = c.steps.invariant in
     let e = c.step.ensures in
     let k = g.I.Input.given c.steps.input - g.I.Input.given c.args.input.now in
@@ -127,13 +127,13 @@ returns-in-Err-clause-touches g c tells partition =
     let j = g.I.Input.given c.step.new.input - g.I.Input.given c.args.input.now in
     let rem = g.I.Input.remaining c.args.input.now in
     let same : j ≡ k + n = omega arith in
-    let rest = rest_more rem (g.I.Input.remaining c.steps.input) (g.I.Input.remaining c.step.new.input) k n j (i.rest tells) (e.stepped.read.rest tells) same in
-    let ended = (ends g.P.Source.tells c.steps.machine.stage c.steps.machine.walk c.step.new.self.walk rem (g.I.Input.remaining c.steps.input) (g.I.Input.remaining c.step.new.input) k n j (g.P.Source.size c.args.partition.now)
-    _ _ _ _ _ _ _ _ _ _ c.step.result (i.rest tells) same i.synced (i.told tells) (e.stepped.told tells) c.step.new.self.laid rest (e.stepped.laid i.goes)) in
+    let rest = rest_more rem (g.I.Input.remaining c.steps.input) (g.I.Input.remaining c.step.new.input) k n j (i.rest models) (e.stepped.read.rest models) same in
+    let ended = (ends g.P.Source.models c.steps.machine.stage c.steps.machine.walk c.step.new.self.walk rem (g.I.Input.remaining c.steps.input) (g.I.Input.remaining c.step.new.input) k n j (g.P.Source.size c.args.partition.now)
+    _ _ _ _ _ _ _ _ _ _ c.step.result (i.rest models) same i.synced (i.told models) (e.stepped.told models) c.step.new.self.laid rest (e.stepped.laid i.goes)) in
     record { kept = ends_kept _ _ _ _ _ _ _ _ _ _ _ _ _ ended partition; moments = ends_moments _ _ _ _ _ _ _ _ _ _ _ _ _ ended partition }
 
 pub returns-in-Err-clause-seen : goal.returns-in-Err-clause-seen
-returns-in-Err-clause-seen g c tells =
+returns-in-Err-clause-seen g c models =
     let i = c.steps.invariant in
     let e = c.step.ensures in
     let k = g.I.Input.given c.steps.input - g.I.Input.given c.args.input.now in
@@ -141,12 +141,12 @@ returns-in-Err-clause-seen g c tells =
     let j = g.I.Input.given c.step.new.input - g.I.Input.given c.args.input.now in
     let rem = g.I.Input.remaining c.args.input.now in
     let same : j ≡ k + n = omega arith in
-    let rest = rest_more rem (g.I.Input.remaining c.steps.input) (g.I.Input.remaining c.step.new.input) k n j (i.rest tells) (e.stepped.read.rest tells) same in
-    ends_seen _ _ _ _ _ _ _ _ _ _ _ _ _ (ends g.P.Source.tells c.steps.machine.stage c.steps.machine.walk c.step.new.self.walk rem (g.I.Input.remaining c.steps.input) (g.I.Input.remaining c.step.new.input) k n j (g.P.Source.size c.args.partition.now)
-    _ _ _ _ _ _ _ _ _ _ c.step.result (i.rest tells) same i.synced (i.told tells) (e.stepped.told tells) c.step.new.self.laid rest (e.stepped.laid i.goes))
+    let rest = rest_more rem (g.I.Input.remaining c.steps.input) (g.I.Input.remaining c.step.new.input) k n j (i.rest models) (e.stepped.read.rest models) same in
+    ends_seen _ _ _ _ _ _ _ _ _ _ _ _ _ (ends g.P.Source.models c.steps.machine.stage c.steps.machine.walk c.step.new.self.walk rem (g.I.Input.remaining c.steps.input) (g.I.Input.remaining c.step.new.input) k n j (g.P.Source.size c.args.partition.now)
+    _ _ _ _ _ _ _ _ _ _ c.step.result (i.rest models) same i.synced (i.told models) (e.stepped.told models) c.step.new.self.laid rest (e.stepped.laid i.goes))
 
 pub returns-in-Ok-Done-clause-flashes : goal.returns-in-Ok-Done-clause-flashes
-returns-in-Ok-Done-clause-flashes g c tells =
+returns-in-Ok-Done-clause-flashes g c models =
     let i = c.steps.invariant in
     let e = c.step.ensures in
     let k = g.I.Input.given c.steps.input - g.I.Input.given c.args.input.now in
@@ -154,16 +154,16 @@ returns-in-Ok-Done-clause-flashes g c tells =
     let j = g.I.Input.given c.step.new.input - g.I.Input.given c.args.input.now in
     let rem = g.I.Input.remaining c.args.input.now in
     let same : j ≡ k + n = omega arith in
-    let rest = rest_more rem (g.I.Input.remaining c.steps.input) (g.I.Input.remaining c.step.new.input) k n j (i.rest tells) (e.stepped.read.rest tells) same in
+    let rest = rest_more rem (g.I.Input.remaining c.steps.input) (g.I.Input.remaining c.step.new.input) k n j (i.rest models) (e.stepped.read.rest models) same in
     let ended = rw c.in-Ok-Done.field-0-is at (c.in-Ok-Done.ensures.stepped.leaves i.goes) in
     let measures = rw (c.in-Ok-Done.field-0-is, i.unread.size) at (c.in-Ok-Done.ensures.stepped.measures i.goes) in
     let going = going_phase c.steps.machine.stage c.steps.machine.walk.phase i.goes in
-    done_whole _ c.steps.machine.walk _ _ _ _ _ _ _ _ _ _ _ (ends g.P.Source.tells c.steps.machine.stage c.steps.machine.walk c.step.new.self.walk rem (g.I.Input.remaining c.steps.input) (g.I.Input.remaining c.step.new.input) k n j (g.P.Source.size c.args.partition.now)
-    _ _ _ _ _ _ _ _ _ _ (Ok Done) (i.rest tells) same i.synced (i.told tells) (rw c.in-Ok-Done.field-0-is at (c.in-Ok-Done.ensures.stepped.told tells)) c.step.new.self.laid rest (c.in-Ok-Done.ensures.stepped.laid i.goes)) ended _ _ (g.met.I.Input.are_bytes c.args.input.now tells)
-    (known_head _ _ _ _ _ _ _ _ _ _ _ _ (i.told tells) going measures.0) measures.1 c.blocks-in-Ok-Done.ensures
+    done_whole _ c.steps.machine.walk _ _ _ _ _ _ _ _ _ _ _ (ends g.P.Source.models c.steps.machine.stage c.steps.machine.walk c.step.new.self.walk rem (g.I.Input.remaining c.steps.input) (g.I.Input.remaining c.step.new.input) k n j (g.P.Source.size c.args.partition.now)
+    _ _ _ _ _ _ _ _ _ _ (Ok Done) (i.rest models) same i.synced (i.told models) (rw c.in-Ok-Done.field-0-is at (c.in-Ok-Done.ensures.stepped.told models)) c.step.new.self.laid rest (c.in-Ok-Done.ensures.stepped.laid i.goes)) ended _ _ (g.met.I.Input.are_bytes c.args.input.now models)
+    (known_head _ _ _ _ _ _ _ _ _ _ _ _ (i.told models) going measures.0) measures.1 c.blocks-in-Ok-Done.ensures
 
 pub returns-in-Ok-Done-clause-holds : goal.returns-in-Ok-Done-clause-holds
-returns-in-Ok-Done-clause-holds g c tells t =
+returns-in-Ok-Done-clause-holds g c models t =
     let i = c.steps.invariant in
     let e = c.step.ensures in
     let k = g.I.Input.given c.steps.input - g.I.Input.given c.args.input.now in
@@ -171,13 +171,13 @@ returns-in-Ok-Done-clause-holds g c tells t =
     let j = g.I.Input.given c.step.new.input - g.I.Input.given c.args.input.now in
     let rem = g.I.Input.remaining c.args.input.now in
     let same : j ≡ k + n = omega arith in
-    let rest = rest_more rem (g.I.Input.remaining c.steps.input) (g.I.Input.remaining c.step.new.input) k n j (i.rest tells) (e.stepped.read.rest tells) same in
+    let rest = rest_more rem (g.I.Input.remaining c.steps.input) (g.I.Input.remaining c.step.new.input) k n j (i.rest models) (e.stepped.read.rest models) same in
     let ended = rw c.in-Ok-Done.field-0-is at (c.in-Ok-Done.ensures.stepped.leaves i.goes) in
-    done_holds _ c.steps.machine.walk _ _ _ _ _ _ _ _ _ _ _ (ends g.P.Source.tells c.steps.machine.stage c.steps.machine.walk c.step.new.self.walk rem (g.I.Input.remaining c.steps.input) (g.I.Input.remaining c.step.new.input) k n j (g.P.Source.size c.args.partition.now)
-    _ _ _ _ _ _ _ _ _ _ (Ok Done) (i.rest tells) same i.synced (i.told tells) (rw c.in-Ok-Done.field-0-is at (c.in-Ok-Done.ensures.stepped.told tells)) c.step.new.self.laid rest (c.in-Ok-Done.ensures.stepped.laid i.goes)) ended t
+    done_holds _ c.steps.machine.walk _ _ _ _ _ _ _ _ _ _ _ (ends g.P.Source.models c.steps.machine.stage c.steps.machine.walk c.step.new.self.walk rem (g.I.Input.remaining c.steps.input) (g.I.Input.remaining c.step.new.input) k n j (g.P.Source.size c.args.partition.now)
+    _ _ _ _ _ _ _ _ _ _ (Ok Done) (i.rest models) same i.synced (i.told models) (rw c.in-Ok-Done.field-0-is at (c.in-Ok-Done.ensures.stepped.told models)) c.step.new.self.laid rest (c.in-Ok-Done.ensures.stepped.laid i.goes)) ended t
 
 pub returns-in-Err-clause-flashes : goal.returns-in-Err-clause-flashes
-returns-in-Err-clause-flashes g c tells =
+returns-in-Err-clause-flashes g c models =
     let i = c.steps.invariant in
     let e = c.step.ensures in
     let k = g.I.Input.given c.steps.input - g.I.Input.given c.args.input.now in
@@ -185,15 +185,15 @@ returns-in-Err-clause-flashes g c tells =
     let j = g.I.Input.given c.step.new.input - g.I.Input.given c.args.input.now in
     let rem = g.I.Input.remaining c.args.input.now in
     let same : j ≡ k + n = omega arith in
-    let rest = rest_more rem (g.I.Input.remaining c.steps.input) (g.I.Input.remaining c.step.new.input) k n j (i.rest tells) (e.stepped.read.rest tells) same in
+    let rest = rest_more rem (g.I.Input.remaining c.steps.input) (g.I.Input.remaining c.step.new.input) k n j (i.rest models) (e.stepped.read.rest models) same in
     let m = c.in-Err.ensures in
     let going = going_phase c.steps.machine.stage c.steps.machine.walk.phase i.goes in
-    fault_flashes _ _ _ _ _ _ _ _ _ _ _ _ _ _ _ _ _ _ _ _ (g.met.I.Input.are_bytes c.args.input.now tells) going (i.rest tells) (i.told tells) c.in-Err.fault (ends g.P.Source.tells c.steps.machine.stage c.steps.machine.walk c.step.new.self.walk rem (g.I.Input.remaining c.steps.input) (g.I.Input.remaining c.step.new.input) k n j (g.P.Source.size c.args.partition.now)
-    _ _ _ _ _ _ _ _ _ _ (Err c.in-Err.fault) (i.rest tells) same i.synced (i.told tells) (m.stepped.told tells) c.step.new.self.laid rest tt)
-    (m.stepped.leaves i.goes) (m.stepped.heads tells i.goes) (rw i.unread.size at (m.stepped.measures i.goes)) (short_same c.in-Err.fault _ _ (λ q. ap g.P.Partition.taken q) m.stepped.short)
+    fault_flashes _ _ _ _ _ _ _ _ _ _ _ _ _ _ _ _ _ _ _ _ (g.met.I.Input.are_bytes c.args.input.now models) going (i.rest models) (i.told models) c.in-Err.fault (ends g.P.Source.models c.steps.machine.stage c.steps.machine.walk c.step.new.self.walk rem (g.I.Input.remaining c.steps.input) (g.I.Input.remaining c.step.new.input) k n j (g.P.Source.size c.args.partition.now)
+    _ _ _ _ _ _ _ _ _ _ (Err c.in-Err.fault) (i.rest models) same i.synced (i.told models) (m.stepped.told models) c.step.new.self.laid rest tt)
+    (m.stepped.leaves i.goes) (m.stepped.heads models i.goes) (rw i.unread.size at (m.stepped.measures i.goes)) (short_same c.in-Err.fault _ _ (λ q. ap g.P.Partition.taken q) m.stepped.short)
 
 pub returns-in-Err-clause-holds : goal.returns-in-Err-clause-holds
-returns-in-Err-clause-holds g c tells t =
+returns-in-Err-clause-holds g c models t =
     let i = c.steps.invariant in
     let e = c.step.ensures in
     let k = g.I.Input.given c.steps.input - g.I.Input.given c.args.input.now in
@@ -201,11 +201,11 @@ returns-in-Err-clause-holds g c tells t =
     let j = g.I.Input.given c.step.new.input - g.I.Input.given c.args.input.now in
     let rem = g.I.Input.remaining c.args.input.now in
     let same : j ≡ k + n = omega arith in
-    let rest = rest_more rem (g.I.Input.remaining c.steps.input) (g.I.Input.remaining c.step.new.input) k n j (i.rest tells) (e.stepped.read.rest tells) same in
+    let rest = rest_more rem (g.I.Input.remaining c.steps.input) (g.I.Input.remaining c.step.new.input) k n j (i.rest models) (e.stepped.read.rest models) same in
     let m = c.in-Err.ensures in
     let going = going_phase c.steps.machine.stage c.steps.machine.walk.phase i.goes in
-    fault_holds _ _ _ _ _ _ _ _ _ _ _ _ _ _ _ _ _ _ _ _ (g.met.I.Input.are_bytes c.args.input.now tells) going (i.rest tells) (i.told tells) c.in-Err.fault (ends g.P.Source.tells c.steps.machine.stage c.steps.machine.walk c.step.new.self.walk rem (g.I.Input.remaining c.steps.input) (g.I.Input.remaining c.step.new.input) k n j (g.P.Source.size c.args.partition.now)
-    _ _ _ _ _ _ _ _ _ _ (Err c.in-Err.fault) (i.rest tells) same i.synced (i.told tells) (m.stepped.told tells) c.step.new.self.laid rest tt)
+    fault_holds _ _ _ _ _ _ _ _ _ _ _ _ _ _ _ _ _ _ _ _ (g.met.I.Input.are_bytes c.args.input.now models) going (i.rest models) (i.told models) c.in-Err.fault (ends g.P.Source.models c.steps.machine.stage c.steps.machine.walk c.step.new.self.walk rem (g.I.Input.remaining c.steps.input) (g.I.Input.remaining c.step.new.input) k n j (g.P.Source.size c.args.partition.now)
+    _ _ _ _ _ _ _ _ _ _ (Err c.in-Err.fault) (i.rest models) same i.synced (i.told models) (m.stepped.told models) c.step.new.self.laid rest tt)
     (m.stepped.leaves i.goes) (rw i.unread.size at (m.stepped.measures i.goes)) (short_same c.in-Err.fault _ _ (λ q. ap g.P.Source.content q) m.stepped.short) t
 
 pub returns-in-Err-clause-untouched : goal.returns-in-Err-clause-untouched
@@ -224,8 +224,8 @@ pub returns-in-Err-clause-cause : goal.returns-in-Err-clause-cause
 returns-in-Err-clause-cause g c = let i = c.steps.invariant in rw (i.read_faults, i.put_faults) at (c.in-Err.ensures.stepped.cause i.goes)
 
 -- what is read of an input that tells is there, step after step
-read_on : (tells : Bool) (n n1 n2 : ℕ) (rem r1 r2 : List ℕ) → n ≤ n1 → n1 ≤ n2 → (IsTrue tells → n1 - n ≤ length rem) → (IsTrue tells → r1 ≡ drop (n1 - n) rem) → Reads tells n1 n2 r1 r2 → Reads tells n n2 rem r2
-read_on tells n n1 n2 rem r1 r2 a b before rest e = record {
+read_on : (models : Bool) (n n1 n2 : ℕ) (rem r1 r2 : List ℕ) → n ≤ n1 → n1 ≤ n2 → (IsTrue models → n1 - n ≤ length rem) → (IsTrue models → r1 ≡ drop (n1 - n) rem) → Reads models n1 n2 r1 r2 → Reads models n n2 rem r2
+read_on models n n1 n2 rem r1 r2 a b before rest e = record {
   present = λ t. let k = before t in let q = e.present t in omega (arith, a, b, k, q, ap length (rest t), length-drop (n1 - n) rem);
   rest = λ t. rest_more rem r1 r2 (n1 - n) (n2 - n1) (n2 - n) (rest t) (e.rest t) (let q : n2 - n ≡ (n1 - n) + (n2 - n1) = omega (arith, a, b) in q);
 }

@@ -17,10 +17,10 @@ invariant-steps g l =
     let took = g.P.Partition.taken in
     record {
       read : got l.fn.input ≤ got l.input;
-      present : IsTrue g.I.Input.tells → got l.input - got l.fn.input ≤ length (remaining l.fn.input);
-      rest : IsTrue g.I.Input.tells → remaining l.input ≡ drop (got l.input - got l.fn.input) (remaining l.fn.input);
+      present : IsTrue g.I.Input.models → got l.input - got l.fn.input ≤ length (remaining l.fn.input);
+      rest : IsTrue g.I.Input.models → remaining l.input ≡ drop (got l.input - got l.fn.input) (remaining l.fn.input);
       goes : Goes l.machine.stage l.machine.walk.phase;
-      told : IsTrue g.I.Input.tells → Come g.P.Source.tells l.machine.walk (got l.input - got l.fn.input) (remaining l.fn.input) (g.P.Source.size l.fn.partition) (past l.fn.partition) (past l.partition) (content l.fn.partition) (content l.partition) (took l.fn.partition) (took l.partition) l.machine.laid;
+      told : IsTrue g.I.Input.models → Come g.P.Source.models l.machine.walk (got l.input - got l.fn.input) (remaining l.fn.input) (g.P.Source.size l.fn.partition) (past l.fn.partition) (past l.partition) (content l.fn.partition) (content l.partition) (took l.fn.partition) (took l.partition) l.machine.laid;
       fresh : IsFresh l.machine.walk → l.partition ≡ l.fn.partition;
       measured : l.machine.walk.phase ≡ phases.Body → 0 < l.machine.walk.index → need_of l.machine.walk ≤ g.P.Source.size l.fn.partition;
       synced : (past l.partition).synced ≡ (past l.fn.partition).synced;

@@ -23,52 +23,52 @@ use Rattle.abt_io.proofs.Lent.{reads_none, reads_then, reads_err, reads_ok}
 -- ---- the piece that was written
 
 -- its segment
-segment : (g : Over) (c : In-Ok-write_piece g) → IsTrue g.S.Source.tells → FirstPiece (g.R.BlockRuns.size c.args.cutter.now.runs) (g.R.BlockRuns.list c.args.cutter.now.runs (g.S.Source.content c.args.source.now)) c.args.cutter.now.limit c.args.cutter.now.start.block c.write_piece.new.cutter.start.block
-segment g c tells =
+segment : (g : Over) (c : In-Ok-write_piece g) → IsTrue g.S.Source.models → FirstPiece (g.R.BlockRuns.size c.args.cutter.now.runs) (g.R.BlockRuns.list c.args.cutter.now.runs (g.S.Source.content c.args.source.now)) c.args.cutter.now.limit c.args.cutter.now.start.block c.write_piece.new.cutter.start.block
+segment g c models =
     let o = c.in-Ok-write_piece.ensures in
     let p = o.made.piece in
-    let h = o.laid tells in
+    let h = o.laid models in
     rw (p.begins, p.ends) at h.greatest
 
 -- its bytes
-bytes : (g : Over) (c : In-Ok-write_piece g) → IsTrue g.S.Source.tells → g.L.Output.written c.write_piece.new.spool ≡ g.L.Output.written c.args.spool.now ++ piece (g.R.BlockRuns.size c.args.cutter.now.runs) (frame (g.R.BlockRuns.list c.args.cutter.now.runs (g.S.Source.content c.args.source.now)) c.args.cutter.now.start.block c.write_piece.new.cutter.start.block)
-bytes g c tells =
+bytes : (g : Over) (c : In-Ok-write_piece g) → IsTrue g.S.Source.models → g.L.Output.written c.write_piece.new.spool ≡ g.L.Output.written c.args.spool.now ++ piece (g.R.BlockRuns.size c.args.cutter.now.runs) (frame (g.R.BlockRuns.list c.args.cutter.now.runs (g.S.Source.content c.args.source.now)) c.args.cutter.now.start.block c.write_piece.new.cutter.start.block)
+bytes g c models =
     let b = g.R.BlockRuns.size c.args.cutter.now.runs in
     let l = g.R.BlockRuns.list c.args.cutter.now.runs (g.S.Source.content c.args.source.now) in
     let o = c.in-Ok-write_piece.ensures in
     let p = o.made.piece in
-    let h = o.laid tells in
+    let h = o.laid models in
     h.written
     ∙ ap (λ (x : List ℕ). x ++ piece b (frame l c.in-Ok-write_piece.field-0.first c.in-Ok-write_piece.field-0.past)) c.clear.ensures.written
     ∙ ap (λ (s : ℕ). g.L.Output.written c.args.spool.now ++ piece b (frame l s c.in-Ok-write_piece.field-0.past)) p.begins
     ∙ ap (λ (e : ℕ). g.L.Output.written c.args.spool.now ++ piece b (frame l c.args.cutter.now.start.block e)) p.ends
 
 -- what it reads as
-reads : (g : Over) (c : In-Ok-write_piece g) → IsTrue g.S.Source.tells → Reads (g.R.BlockRuns.size c.args.cutter.now.runs) (g.R.BlockRuns.count c.args.cutter.now.runs) (frame (g.R.BlockRuns.list c.args.cutter.now.runs (g.S.Source.content c.args.source.now)) c.args.cutter.now.start.block c.write_piece.new.cutter.start.block) (piece (g.R.BlockRuns.size c.args.cutter.now.runs) (frame (g.R.BlockRuns.list c.args.cutter.now.runs (g.S.Source.content c.args.source.now)) c.args.cutter.now.start.block c.write_piece.new.cutter.start.block))
-reads g c tells =
+reads : (g : Over) (c : In-Ok-write_piece g) → IsTrue g.S.Source.models → Reads (g.R.BlockRuns.size c.args.cutter.now.runs) (g.R.BlockRuns.count c.args.cutter.now.runs) (frame (g.R.BlockRuns.list c.args.cutter.now.runs (g.S.Source.content c.args.source.now)) c.args.cutter.now.start.block c.write_piece.new.cutter.start.block) (piece (g.R.BlockRuns.size c.args.cutter.now.runs) (frame (g.R.BlockRuns.list c.args.cutter.now.runs (g.S.Source.content c.args.source.now)) c.args.cutter.now.start.block c.write_piece.new.cutter.start.block))
+reads g c models =
     let b = g.R.BlockRuns.size c.args.cutter.now.runs in
     let l = g.R.BlockRuns.list c.args.cutter.now.runs (g.S.Source.content c.args.source.now) in
     let sized = g.met.R.BlockRuns.sized c.args.cutter.now.runs in
-    let long = g.met.R.BlockRuns.long c.args.cutter.now.runs _ (c.requires.ready.opened tells) in
-    let good = g.met.R.BlockRuns.are_blocks c.args.cutter.now.runs _ (c.requires.ready.opened tells) in
+    let long = g.met.R.BlockRuns.long c.args.cutter.now.runs _ (c.requires.ready.opened models) in
+    let good = g.met.R.BlockRuns.are_blocks c.args.cutter.now.runs _ (c.requires.ready.opened models) in
     let granted : 64 + b ≤ c.args.cutter.now.limit = c.args.cutter.now.sound.granted in
     let small : c.args.cutter.now.limit < 2 ^ 32 = omega arith in
     let few : length l < 2 ^ 32 = let z : g.R.BlockRuns.count c.args.cutter.now.runs < 2 ^ 32 = omega arith in omega (arith, long, z) in
     let some : 0 < b = omega (arith, sized.0) in
     let size : IsBlockSize b = (some, sized.1, omega (arith, granted, small)) in
     subst (λ (n : ℕ). Reads b n (frame l c.args.cutter.now.start.block c.write_piece.new.cutter.start.block) (piece b (frame l c.args.cutter.now.start.block c.write_piece.new.cutter.start.block))) long
-    (piece_reads c.args.cutter.now.limit b l c.args.cutter.now.start.block c.write_piece.new.cutter.start.block size good few small (segment g c tells))
+    (piece_reads c.args.cutter.now.limit b l c.args.cutter.now.start.block c.write_piece.new.cutter.start.block size good few small (segment g c models))
 
 -- what the spool gives
-comes : (g : Over) (c : In-Ok-write_piece g) → IsTrue g.S.Source.tells → IsTrue g.L.Input.tells → g.L.Input.remaining c.write_piece.new.spool ≡ piece (g.R.BlockRuns.size c.args.cutter.now.runs) (frame (g.R.BlockRuns.list c.args.cutter.now.runs (g.S.Source.content c.args.source.now)) c.args.cutter.now.start.block c.write_piece.new.cutter.start.block)
-comes g c tells spool =
+comes : (g : Over) (c : In-Ok-write_piece g) → IsTrue g.S.Source.models → IsTrue g.L.Input.models → g.L.Input.remaining c.write_piece.new.spool ≡ piece (g.R.BlockRuns.size c.args.cutter.now.runs) (frame (g.R.BlockRuns.list c.args.cutter.now.runs (g.S.Source.content c.args.source.now)) c.args.cutter.now.start.block c.write_piece.new.cutter.start.block)
+comes g c models spool =
     let same = sym (g.met.L.Spool.writing c.write_piece.new.spool) ∙ c.write_piece.ensures.writes.frame ∙ g.met.L.Spool.writing c.clear.new.spool in
     let gone : g.L.Spool.gone c.write_piece.new.spool ≡ length (g.L.Output.written c.args.spool.now) = ap (λ (f : WriteFrame). f.gone) same ∙ c.in-Ok.ensures.gone in
-    g.met.L.Spool.held c.write_piece.new.spool spool ∙ behind_clear _ _ _ _ (bytes g c tells) gone
+    g.met.L.Spool.held c.write_piece.new.spool spool ∙ behind_clear _ _ _ _ (bytes g c models) gone
 
 -- what it touches
-touches : (g : Over) (c : In-Ok-write_piece g) → IsTrue g.S.Source.tells → IsTrue g.L.Input.tells → given (outcome (g.L.Input.remaining c.write_piece.new.spool)) ≡ cells (g.R.BlockRuns.size c.args.cutter.now.runs) (blocks_at c.args.cutter.now.limit (g.R.BlockRuns.size c.args.cutter.now.runs) (g.R.BlockRuns.list c.args.cutter.now.runs (g.S.Source.content c.args.source.now)) c.args.cutter.now.start.block)
-touches g c tells spool = touched_reads _ _ _ _ _ _ _ _ (comes g c tells spool) (reads g c tells) (segment g c tells)
+touches : (g : Over) (c : In-Ok-write_piece g) → IsTrue g.S.Source.models → IsTrue g.L.Input.models → given (outcome (g.L.Input.remaining c.write_piece.new.spool)) ≡ cells (g.R.BlockRuns.size c.args.cutter.now.runs) (blocks_at c.args.cutter.now.limit (g.R.BlockRuns.size c.args.cutter.now.runs) (g.R.BlockRuns.list c.args.cutter.now.runs (g.S.Source.content c.args.source.now)) c.args.cutter.now.start.block)
+touches g c models spool = touched_reads _ _ _ _ _ _ _ _ (comes g c models spool) (reads g c models) (segment g c models)
 
 -- ---- the spool behind a flash
 
@@ -90,30 +90,30 @@ wrote_cuts g c = ap (λ (f : WriteFrame). f.cuts) (sym (g.met.L.Spool.writing c.
 image : (g : Over) (c : In-Ok-write_piece g) → Appended (IsPlainImage (g.R.BlockRuns.size c.args.cutter.now.runs) (g.R.BlockRuns.count c.args.cutter.now.runs)) (g.L.Output.written c.clear.new.spool) (g.L.Output.written c.write_piece.new.spool)
 image g c = c.in-Ok-write_piece.ensures.made.image
 
-gives : (g : Over) (c : In-Ok-write_piece g) → IsTrue g.L.Input.tells → g.L.Input.remaining c.write_piece.new.spool ≡ (image g c).wrote
+gives : (g : Over) (c : In-Ok-write_piece g) → IsTrue g.L.Input.models → g.L.Input.remaining c.write_piece.new.spool ≡ (image g c).wrote
 gives g c spool =
     let same = sym (g.met.L.Spool.writing c.write_piece.new.spool) ∙ c.write_piece.ensures.writes.frame ∙ g.met.L.Spool.writing c.clear.new.spool in
     let gone : g.L.Spool.gone c.write_piece.new.spool ≡ length (g.L.Output.written c.clear.new.spool) = ap (λ (f : WriteFrame). f.gone) same ∙ c.in-Ok.ensures.gone ∙ ap length (sym c.clear.ensures.written) in
     g.met.L.Spool.held c.write_piece.new.spool spool ∙ behind_clear _ _ _ _ (image g c).behind gone
 
-cut_cause : (g : Over) (c : In-Err-write_piece g) → CutCause c.in-Err-write_piece.fault g.S.Source.tells (g.S.Source.read_faults c.args.source.now) (g.S.Source.read_faults c.write_piece.new.source) (g.L.Output.write_faults c.clear.new.spool) (g.L.Output.write_faults c.write_piece.new.spool)
+cut_cause : (g : Over) (c : In-Err-write_piece g) → CutCause c.in-Err-write_piece.fault g.S.Source.models (g.S.Source.read_faults c.args.source.now) (g.S.Source.read_faults c.write_piece.new.source) (g.L.Output.write_faults c.clear.new.spool) (g.L.Output.write_faults c.write_piece.new.spool)
 cut_cause g c = c.in-Err-write_piece.ensures.cause
 
 -- ---- where the spool was not cleared
 
 pub returns-in-Err-clause-greatest_end : goal.returns-in-Err-clause-greatest_end
-returns-in-Err-clause-greatest_end g c tells = rw c.in-Err.ensures.names tt
+returns-in-Err-clause-greatest_end g c models = rw c.in-Err.ensures.names tt
 
 pub returns-in-Err-clause-partition : goal.returns-in-Err-clause-partition
 returns-in-Err-clause-partition g c = record {
   size = refl;
   unread = (refl, refl);
-  laid = λ tells spool partition. rw c.in-Err.ensures.names tt;
-  touches = λ tells spool partition. touches_none _ _ _;
-  settled = λ tells. tt;
+  laid = λ models spool partition. rw c.in-Err.ensures.names tt;
+  touches = λ models spool partition. touches_none _ _ _;
+  settled = λ models. tt;
   synced = omega arith;
   unsynced = rw c.in-Err.ensures.names (omega arith);
-  blocks = λ tells spool. tt;
+  blocks = λ models spool. tt;
 }
 
 pub returns-in-Err-clause-fails : goal.returns-in-Err-clause-fails
@@ -144,9 +144,9 @@ returns-in-Err-write_piece-clause-spool g c = record {
       let same = ap length c.clear.ensures.written in
       fits_one _ _ _ _ _ cuts (omega (arith, same, c.write_piece.ensures.writes.least)) (omega (arith, same, c.write_piece.ensures.within));
   cut = tt;
-  written = λ tells. tt;
-  begins = λ forward tells. rw c.clear.ensures.written at (c.write_piece.ensures.begins forward tells);
-  no_part = λ late tells.
+  written = λ models. tt;
+  begins = λ forward models. rw c.clear.ensures.written at (c.write_piece.ensures.begins forward models);
+  no_part = λ late models.
       let k = (goal.at.returns-in-Err-write_piece-clause-spool g c).After-write_piece in
       let h = rw c.clear.ensures.written at (c.in-Err-write_piece.ensures.late late) in
       no_part_late _ _ _ _ _ (wrote_cuts g k) h.before h.unfinished;
@@ -154,25 +154,25 @@ returns-in-Err-write_piece-clause-spool g c = record {
       let k = (goal.at.returns-in-Err-write_piece-clause-spool g c).After-write_piece in
       let h = rw c.clear.ensures.written at (c.in-Err-write_piece.ensures.late late) in
       ends_late _ _ _ _ _ _ (wrote_cuts g k) h.unfinished;
-  back = λ tells spool. tt;
+  back = λ models spool. tt;
 }
 
 pub returns-in-Err-write_piece-clause-partition : goal.returns-in-Err-write_piece-clause-partition
 returns-in-Err-write_piece-clause-partition g c = record {
   size = refl;
   unread = (refl, refl);
-  laid = λ tells spool partition. rw (c.not_written.ensures) (laid_cut c.in-Err-write_piece.fault _);
-  touches = λ tells spool partition. touches_none _ _ _;
-  settled = λ tells. tt;
+  laid = λ models spool partition. rw (c.not_written.ensures) (laid_cut c.in-Err-write_piece.fault _);
+  touches = λ models spool partition. touches_none _ _ _;
+  settled = λ models. tt;
   synced = omega arith;
   unsynced =
       let none = unsynced_cut c.in-Err-write_piece.fault in
       rw (c.not_written.ensures) (omega (arith, none));
-  blocks = λ tells spool. tt;
+  blocks = λ models spool. tt;
 }
 
 pub returns-in-Err-write_piece-clause-greatest_end : goal.returns-in-Err-write_piece-clause-greatest_end
-returns-in-Err-write_piece-clause-greatest_end g c tells = rw (c.not_written.ensures) (laid_cut c.in-Err-write_piece.fault _)
+returns-in-Err-write_piece-clause-greatest_end g c models = rw (c.not_written.ensures) (laid_cut c.in-Err-write_piece.fault _)
 
 -- ---- where it was flashed
 
@@ -188,29 +188,29 @@ returns-in-Ok-flash-clause-spool g c = record {
       let long = ap length (after_written g k) in
       fits_one _ _ _ _ _ (after_cuts g k) (omega (arith, same, long, c.write_piece.ensures.writes.least)) (omega (arith, same, long, c.write_piece.ensures.within));
   cut = after_cuts g ((goal.at.returns-in-Ok-flash-clause-spool g c).After-flash);
-  written = λ tells.
+  written = λ models.
       let k = (goal.at.returns-in-Ok-flash-clause-spool g c).After-flash in
       let s = (goal.at.returns-in-Ok-flash-clause-spool g c).In-Ok-write_piece in
-      after_written g k ∙ bytes g s tells ∙ ap (λ (x : List ℕ). g.L.Output.written c.args.spool.now ++ x) (piece_is _ _ _ _ _ (segment g s tells));
-  begins = λ forward tells.
+      after_written g k ∙ bytes g s models ∙ ap (λ (x : List ℕ). g.L.Output.written c.args.spool.now ++ x) (piece_is _ _ _ _ _ (segment g s models));
+  begins = λ forward models.
       let k = (goal.at.returns-in-Ok-flash-clause-spool g c).After-flash in
-      rw (← after_written g k) at (rw c.clear.ensures.written at (c.write_piece.ensures.begins forward tells));
-  no_part = λ late tells.
+      rw (← after_written g k) at (rw c.clear.ensures.written at (c.write_piece.ensures.begins forward models));
+  no_part = λ late models.
       let k = (goal.at.returns-in-Ok-flash-clause-spool g c).After-flash in
       let s = (goal.at.returns-in-Ok-flash-clause-spool g c).In-Ok-write_piece in
-      no_part_one _ _ (g.L.Spool.cuts c.flash.new.input) _ (after_written g k ∙ bytes g s tells ∙ ap (λ (x : List ℕ). g.L.Output.written c.args.spool.now ++ x) (piece_is _ _ _ _ _ (segment g s tells)));
+      no_part_one _ _ (g.L.Spool.cuts c.flash.new.input) _ (after_written g k ∙ bytes g s models ∙ ap (λ (x : List ℕ). g.L.Output.written c.args.spool.now ++ x) (piece_is _ _ _ _ _ (segment g s models)));
   ends = λ late.
       let k = (goal.at.returns-in-Ok-flash-clause-spool g c).After-flash in
       let s = (goal.at.returns-in-Ok-flash-clause-spool g c).In-Ok-write_piece in
       let h : Appended (IsPlainImage (g.R.BlockRuns.size c.args.cutter.now.runs) (g.R.BlockRuns.count c.args.cutter.now.runs)) (g.L.Output.written c.args.spool.now) (g.L.Output.written c.flash.new.input) = rw (after_written g k) (rw c.clear.ensures.written at (image g s)) in
       ends_one _ _ _ _ _ _ _ (after_cuts g k) h;
-  back = λ tells spool.
+  back = λ models spool.
       let k = (goal.at.returns-in-Ok-flash-clause-spool g c).After-flash in
       let s = (goal.at.returns-in-Ok-flash-clause-spool g c).In-Ok-write_piece in
-      let none = (all_flashed _ _ _ _ _ _ _ _ _ (reads g s tells) (rw (comes g s tells spool) at (c.in-Ok-flash.ensures.flashes spool))).none in
+      let none = (all_flashed _ _ _ _ _ _ _ _ _ (reads g s models) (rw (comes g s models spool) at (c.in-Ok-flash.ensures.flashes spool))).none in
       let read = all_read _ _ _ (c.flash.ensures.read.present spool) (c.flash.ensures.read.rest spool) none in
-      let long = ap length (comes g s tells spool) in
-      let wrote = ap length (bytes g s tells) in
+      let long = ap length (comes g s models spool) in
+      let wrote = ap length (bytes g s models) in
       let sum = length-append (g.L.Output.written c.args.spool.now) (piece (g.R.BlockRuns.size c.args.cutter.now.runs) (frame (g.R.BlockRuns.list c.args.cutter.now.runs (g.S.Source.content c.args.source.now)) c.args.cutter.now.start.block c.write_piece.new.cutter.start.block)) in
       let same = ap length (after_written g k) in
       let gives : g.L.Input.given c.write_piece.new.spool ≡ g.L.Input.given c.clear.new.spool = ap (λ (f : WriteFrame). f.given) (sym (g.met.L.Spool.writing c.write_piece.new.spool) ∙ c.write_piece.ensures.writes.frame ∙ g.met.L.Spool.writing c.clear.new.spool) in
@@ -221,18 +221,18 @@ pub returns-in-Ok-flash-clause-partition : goal.returns-in-Ok-flash-clause-parti
 returns-in-Ok-flash-clause-partition g c = record {
   size = c.flash.ensures.unread.size;
   unread = (c.flash.ensures.unread.reads, c.flash.ensures.unread.given);
-  laid = λ tells spool partition.
+  laid = λ models spool partition.
       let s = (goal.at.returns-in-Ok-flash-clause-partition g c).In-Ok-write_piece in
       c.in-Ok-flash.ensures.holds spool partition
-      ∙ ap (λ (x : List ℕ). over (g.P.Source.content c.args.partition.now) (given (outcome x))) (comes g s tells spool)
-      ∙ ap (over (g.P.Source.content c.args.partition.now)) (given_reads _ _ _ _ (reads g s tells));
-  touches = λ tells spool partition. rw (touches g ((goal.at.returns-in-Ok-flash-clause-partition g c).In-Ok-write_piece) tells spool) at (c.flash.ensures.touches spool partition);
+      ∙ ap (λ (x : List ℕ). over (g.P.Source.content c.args.partition.now) (given (outcome x))) (comes g s models spool)
+      ∙ ap (over (g.P.Source.content c.args.partition.now)) (given_reads _ _ _ _ (reads g s models));
+  touches = λ models spool partition. rw (touches g ((goal.at.returns-in-Ok-flash-clause-partition g c).In-Ok-write_piece) models spool) at (c.flash.ensures.touches spool partition);
   settled = c.in-Ok-flash.ensures.syncs.settled;
   synced = c.in-Ok-flash.ensures.syncs.synced;
   unsynced = c.in-Ok-flash.ensures.syncs.refused;
-  blocks = λ tells spool.
+  blocks = λ models spool.
       let s = (goal.at.returns-in-Ok-flash-clause-partition g c).In-Ok-write_piece in
-      (all_flashed _ _ _ _ _ _ _ _ _ (reads g s tells) (rw (comes g s tells spool) at (c.in-Ok-flash.ensures.flashes spool))).taken;
+      (all_flashed _ _ _ _ _ _ _ _ _ (reads g s models) (rw (comes g s models spool) at (c.in-Ok-flash.ensures.flashes spool))).taken;
 }
 
 -- ---- where flashing it failed
@@ -249,41 +249,41 @@ returns-in-Err-flash-clause-spool g c = record {
       let long = ap length (after_written g k) in
       fits_one _ _ _ _ _ (after_cuts g k) (omega (arith, same, long, c.write_piece.ensures.writes.least)) (omega (arith, same, long, c.write_piece.ensures.within));
   cut = rw c.not_flashed.ensures tt;
-  written = λ tells. rw c.not_flashed.ensures tt;
-  begins = λ forward tells.
+  written = λ models. rw c.not_flashed.ensures tt;
+  begins = λ forward models.
       let k = (goal.at.returns-in-Err-flash-clause-spool g c).After-flash in
-      rw (← after_written g k) at (rw c.clear.ensures.written at (c.write_piece.ensures.begins forward tells));
-  no_part = λ late tells.
+      rw (← after_written g k) at (rw c.clear.ensures.written at (c.write_piece.ensures.begins forward models));
+  no_part = λ late models.
       let k = (goal.at.returns-in-Err-flash-clause-spool g c).After-flash in
       let s = (goal.at.returns-in-Err-flash-clause-spool g c).In-Ok-write_piece in
-      no_part_one _ _ (g.L.Spool.cuts c.flash.new.input) _ (after_written g k ∙ bytes g s tells ∙ ap (λ (x : List ℕ). g.L.Output.written c.args.spool.now ++ x) (piece_is _ _ _ _ _ (segment g s tells)));
+      no_part_one _ _ (g.L.Spool.cuts c.flash.new.input) _ (after_written g k ∙ bytes g s models ∙ ap (λ (x : List ℕ). g.L.Output.written c.args.spool.now ++ x) (piece_is _ _ _ _ _ (segment g s models)));
   ends = λ late.
       let k = (goal.at.returns-in-Err-flash-clause-spool g c).After-flash in
       let s = (goal.at.returns-in-Err-flash-clause-spool g c).In-Ok-write_piece in
       let h : Appended (IsPlainImage (g.R.BlockRuns.size c.args.cutter.now.runs) (g.R.BlockRuns.count c.args.cutter.now.runs)) (g.L.Output.written c.args.spool.now) (g.L.Output.written c.flash.new.input) = rw (after_written g k) (rw c.clear.ensures.written at (image g s)) in
       ends_one _ _ _ _ _ _ _ (after_cuts g k) h;
-  back = λ tells spool. rw c.not_flashed.ensures tt;
+  back = λ models spool. rw c.not_flashed.ensures tt;
 }
 
 pub returns-in-Err-flash-clause-partition : goal.returns-in-Err-flash-clause-partition
 returns-in-Err-flash-clause-partition g c = record {
   size = c.flash.ensures.unread.size;
   unread = (c.flash.ensures.unread.reads, c.flash.ensures.unread.given);
-  laid = λ tells spool partition.
+  laid = λ models spool partition.
       let s = (goal.at.returns-in-Err-flash-clause-partition g c).In-Ok-write_piece in
-      rw (c.not_flashed.ensures) (laid_stops c.in-Err-flash.fault _ _ _ _ (c.in-Err-flash.ensures.holds spool partition) (ap (λ (x : List ℕ). given (outcome x)) (comes g s tells spool) ∙ given_reads _ _ _ _ (reads g s tells)));
-  touches = λ tells spool partition. rw (touches g ((goal.at.returns-in-Err-flash-clause-partition g c).In-Ok-write_piece) tells spool) at (c.flash.ensures.touches spool partition);
-  settled = λ tells. rw c.not_flashed.ensures tt;
+      rw (c.not_flashed.ensures) (laid_stops c.in-Err-flash.fault _ _ _ _ (c.in-Err-flash.ensures.holds spool partition) (ap (λ (x : List ℕ). given (outcome x)) (comes g s models spool) ∙ given_reads _ _ _ _ (reads g s models)));
+  touches = λ models spool partition. rw (touches g ((goal.at.returns-in-Err-flash-clause-partition g c).In-Ok-write_piece) models spool) at (c.flash.ensures.touches spool partition);
+  settled = λ models. rw c.not_flashed.ensures tt;
   synced = rw c.not_flashed.ensures c.in-Err-flash.ensures.syncs.synced;
   unsynced =
       let same = unsynced_stops c.in-Err-flash.fault _ _ _ _ c.in-Err-flash.ensures.cause in
       let sum = c.in-Err-flash.ensures.syncs.refused in
       rw (c.not_flashed.ensures) (omega (arith, same, sum));
-  blocks = λ tells spool. rw c.not_flashed.ensures tt;
+  blocks = λ models spool. rw c.not_flashed.ensures tt;
 }
 
 pub returns-in-Err-flash-clause-greatest_end : goal.returns-in-Err-flash-clause-greatest_end
-returns-in-Err-flash-clause-greatest_end g c tells = rw (c.not_flashed.ensures) (on_flashed _ _ (segment g ((goal.at.returns-in-Err-flash-clause-greatest_end g c).In-Ok-write_piece) tells))
+returns-in-Err-flash-clause-greatest_end g c models = rw (c.not_flashed.ensures) (on_flashed _ _ (segment g ((goal.at.returns-in-Err-flash-clause-greatest_end g c).In-Ok-write_piece) models))
 
 pub returns-in-Err-flash-clause-fails : goal.returns-in-Err-flash-clause-fails
 returns-in-Err-flash-clause-fails g c = record {
@@ -516,8 +516,8 @@ returns-in-Ok-flash-clause-takes g c = record {
       let long = ap length c.clear.ensures.written in
       let takes = c.in-Ok-write_piece.ensures.made.takes in
       omega (arith, same, long, takes);
-  spent = λ tells. (c.in-Ok-write_piece.ensures.spent tells).piece;
-  spent_end = λ tells over. (c.in-Ok-write_piece.ensures.spent tells).end over;
+  spent = λ models. (c.in-Ok-write_piece.ensures.spent models).piece;
+  spent_end = λ models over. (c.in-Ok-write_piece.ensures.spent models).end over;
 }
 
 -- ---- the rest where the spool was not cleared: nothing else was called
@@ -530,11 +530,11 @@ returns-in-Err-clause-spool g c = record {
   capacity = c.clear.ensures.size;
   fits = fits_same _ _ _ _ _ c.in-Err.ensures.kept c.clear.ensures.written;
   cut = tt;
-  written = λ tells. tt;
-  begins = λ forward tells. begins_same _ _ _ c.clear.ensures.written;
-  no_part = λ late tells. no_part_none (g.L.Output.written c.args.spool.now) (g.L.Output.written c.clear.new.spool) (g.L.Spool.cuts c.clear.new.spool) _ c.clear.ensures.written;
+  written = λ models. tt;
+  begins = λ forward models. begins_same _ _ _ c.clear.ensures.written;
+  no_part = λ late models. no_part_none (g.L.Output.written c.args.spool.now) (g.L.Output.written c.clear.new.spool) (g.L.Spool.cuts c.clear.new.spool) _ c.clear.ensures.written;
   ends = λ late. ends_none _ _ _ _ _ c.clear.ensures.written c.in-Err.ensures.kept;
-  back = λ tells spool. tt;
+  back = λ models spool. tt;
 }
 
 pub returns-in-Err-clause-work : goal.returns-in-Err-clause-work
@@ -587,7 +587,7 @@ returns-in-Ok-flash-clause-behind g c =
     goes_behind _ _ _ _ _ _ _ _ p.one_more p.begins p.ends p.passed
 
 pub returns-in-Ok-flash-clause-greatest_end : goal.returns-in-Ok-flash-clause-greatest_end
-returns-in-Ok-flash-clause-greatest_end g c tells = segment g ((goal.at.returns-in-Ok-flash-clause-greatest_end g c).In-Ok-write_piece) tells
+returns-in-Ok-flash-clause-greatest_end g c models = segment g ((goal.at.returns-in-Ok-flash-clause-greatest_end g c).In-Ok-write_piece) models
 
 -- ---- what is only said of a piece that was delivered, where it was not flashed
 
@@ -597,8 +597,8 @@ returns-in-Err-flash-clause-behind g c = rw c.not_flashed.ensures tt
 pub returns-in-Err-flash-clause-takes : goal.returns-in-Err-flash-clause-takes
 returns-in-Err-flash-clause-takes g c = record {
   takes = rw c.not_flashed.ensures tt;
-  spent = λ tells. rw c.not_flashed.ensures tt;
-  spent_end = λ tells. rw c.not_flashed.ensures tt;
+  spent = λ models. rw c.not_flashed.ensures tt;
+  spent_end = λ models. rw c.not_flashed.ensures tt;
 }
 
 -- ---- what a callee says as it stands

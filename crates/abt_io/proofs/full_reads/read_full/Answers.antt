@@ -13,9 +13,9 @@ loop-at-preserved g c =
     record {
       within = omega arith;
       given = omega arith;
-      present = λ tells. omega (arith, e.present tells, ap length (i.rest tells), length-drop at (g.I.Input.remaining c.args.input.now));
-      bytes = λ tells. filled c.loop-at.out c.read.new.out _ _ at c.in-Ok.n i.within e.within (i.bytes tells) (i.rest tells) (c.in-Ok.ensures.bytes tells);
-      rest = λ tells. rest_more _ _ _ at _ _ (i.rest tells) (e.rest tells) (omega arith);
+      present = λ models. omega (arith, e.present models, ap length (i.rest models), length-drop at (g.I.Input.remaining c.args.input.now));
+      bytes = λ models. filled c.loop-at.out c.read.new.out _ _ at c.in-Ok.n i.within e.within (i.bytes models) (i.rest models) (c.in-Ok.ensures.bytes models);
+      rest = λ models. rest_more _ _ _ at _ _ (i.rest models) (e.rest models) (omega arith);
       none = λ z. absurd (omega arith);
       frame = e.frame ∙ i.frame;
       faults = omega arith;

@@ -15,10 +15,10 @@ loop-done-preserved g c =
     record {
       within = omega arith;
       given = omega arith;
-      present = λ tells. omega (arith, e.present tells, i.present tells, ap length (i.content tells));
-      bytes = λ tells. filled c.loop-done.out c.read_at.new.out (drop c.args.at told) _ done c.in-Ok.got i.within e.within (i.bytes tells) (ap (λ (l : List ℕ). drop (c.args.at + done) l) (i.content tells) ∙ sym (drop-drop done c.args.at told)) (e.bytes tells);
-      content = λ tells. e.content tells ∙ i.content tells;
-      size = λ tells. e.size tells ∙ i.size tells;
+      present = λ models. omega (arith, e.present models, i.present models, ap length (i.content models));
+      bytes = λ models. filled c.loop-done.out c.read_at.new.out (drop c.args.at told) _ done c.in-Ok.got i.within e.within (i.bytes models) (ap (λ (l : List ℕ). drop (c.args.at + done) l) (i.content models) ∙ sym (drop-drop done c.args.at told)) (e.bytes models);
+      content = λ models. e.content models ∙ i.content models;
+      size = λ models. e.size models ∙ i.size models;
       none = λ z. absurd (omega arith);
       frame = e.frame ∙ i.frame;
       faults = omega arith;

@@ -9,10 +9,10 @@ invariant-loop-done g l =
     record {
       within : l.done ≤ length l.out;
       given : given l.source ≡ given l.fn.source + l.done;
-      present : IsTrue g.S.Source.tells → l.done ≤ length (told l.fn.source) - l.at;
-      bytes : IsTrue g.S.Source.tells → take l.done l.out ≡ take l.done (drop l.at (told l.fn.source));
-      content : IsTrue g.S.Source.tells → told l.source ≡ told l.fn.source;
-      size : IsTrue g.S.Source.tells → g.S.Source.size l.source ≡ g.S.Source.size l.fn.source;
+      present : IsTrue g.S.Source.models → l.done ≤ length (told l.fn.source) - l.at;
+      bytes : IsTrue g.S.Source.models → take l.done l.out ≡ take l.done (drop l.at (told l.fn.source));
+      content : IsTrue g.S.Source.models → told l.source ≡ told l.fn.source;
+      size : IsTrue g.S.Source.models → g.S.Source.size l.source ≡ g.S.Source.size l.fn.source;
       none : length l.out ≡ 0 → l.source ≡ l.fn.source;
       frame : g.S.Source.read_frame l.source ≡ g.S.Source.read_frame l.fn.source;
       faults : g.S.Source.read_faults l.source ≡ g.S.Source.read_faults l.fn.source;

@@ -9,8 +9,8 @@ invariant-loop-at g l =
     record {
       within : l.at ≤ length l.room;
       given : given l.input ≡ given l.fn.input + l.at;
-      present : IsTrue g.I.Input.tells → l.at ≤ length (remaining l.fn.input);
-      rest : IsTrue g.I.Input.tells → remaining l.input ≡ drop l.at (remaining l.fn.input);
+      present : IsTrue g.I.Input.models → l.at ≤ length (remaining l.fn.input);
+      rest : IsTrue g.I.Input.models → remaining l.input ≡ drop l.at (remaining l.fn.input);
       none : length l.room ≡ 0 → l.input ≡ l.fn.input;
       frame : g.I.Input.read_frame l.input ≡ g.I.Input.read_frame l.fn.input;
       faults : g.I.Input.read_faults l.input ≡ g.I.Input.read_faults l.fn.input;

@@ -18,11 +18,11 @@ loop-m-init g c =
         room = omega (arith, e.weight, c.requires.limit);
         even = e.even;
       };
-      told = λ tells. record {
-        place = rw e.at (c.requires.told tells).1;
+      told = λ models. record {
+        place = rw e.at (c.requires.told models).1;
         planned =
             let long = g.met.R.BlockRuns.long c.args.runs.now (g.S.Source.content c.args.source.now)
-            (c.requires.told tells).0 in
+            (c.requires.told models).0 in
             e.planned _ _ (omega (arith, b, long));
       };
       charged = rw e.at (omega arith);
@@ -57,14 +57,14 @@ returns g c =
     record {
       source = record { reads = reads_ok _ (reads_then i.reads e.source.reads); cause = tt };
       sound = record { first = first; within = s.within; room = s.room; even = s.even };
-      told = λ tells. rw (i.reads.content tells) at (e.told tells);
-      greatest = λ tells.
+      told = λ models. rw (i.reads.content models) at (e.told models);
+      greatest = λ models.
           let size = g.met.R.BlockRuns.sized c.args.runs.now in
-          let p = (rw (i.reads.content tells) at (e.told tells)).planned in
-          let d = rw (i.reads.content tells) at (e.ends tells) in
+          let p = (rw (i.reads.content models) at (e.told models)).planned in
+          let d = rw (i.reads.content models) at (e.ends models) in
           first_piece _ _ _ _ _ size.0 c.requires.limit (rw first at p.order) p.within
           (rw first at (rw p.weight at s.room)) (rw first at (d stop).over);
-      ends = λ tells. let d = rw (i.reads.content tells) at (e.ends tells) in d stop;
+      ends = λ models. let d = rw (i.reads.content models) at (e.ends models) in d stop;
       charges = record {
         charged = omega (arith, rest.last, rest.rests.0, i.charged);
         charged_end = λ over.

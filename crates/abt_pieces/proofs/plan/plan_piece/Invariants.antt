@@ -12,7 +12,7 @@ invariant-loop-m g l =
     record {
       reads : OnlyReads {X = Unit {0}} {E = Unit {0}} (Ok tt) g.S.Source l.fn.source l.source;
       sound : SoundPlanner (g.R.BlockRuns.within l.fn.runs) l.limit l.fn.from.block l.planner;
-      told : IsTrue g.S.Source.tells → ToldPlanner (g.R.BlockRuns.place l.fn.runs (content l.fn.source))
+      told : IsTrue g.S.Source.models → ToldPlanner (g.R.BlockRuns.place l.fn.runs (content l.fn.source))
           (g.R.BlockRuns.size l.fn.runs) (g.R.BlockRuns.list l.fn.runs (content l.fn.source)) l.planner;
       charged : g.S.Source.given l.source + g.R.BlockRuns.charge l.fn.runs l.fn.from ≤ g.S.Source.given l.fn.source + g.R.BlockRuns.charge l.fn.runs l.planner.at + 16;
       inside : 0 < l.planner.at.used → ((l.planner.tail ≡ tails.Raw) × (l.limit - l.planner.weight < g.R.BlockRuns.size l.fn.runs)) ⊎ (g.S.Source.given l.source + g.R.BlockRuns.charge l.fn.runs l.fn.from ≤ g.S.Source.given l.fn.source + g.R.BlockRuns.charge l.fn.runs l.planner.at);

@@ -32,7 +32,7 @@ take_source-requires g c = record {
     told =
         let s = c.begin-segment.result in
         let e = c.begin-segment.ensures in
-        first_told g.S.Source.tells (g.S.Source.content c.args.source.now) c.args.runs.now.size c.args.first (g.O.Output.written c.write_out.new.output) s e.first e.taken (e.laid c.args.runs.now.size (g.O.Output.written c.args.output.now) (g.O.Output.written c.write_out.new.output) c.position-front.ensures c.in-Ok.ensures.ok);
+        first_told g.S.Source.models (g.S.Source.content c.args.source.now) c.args.runs.now.size c.args.first (g.O.Output.written c.write_out.new.output) s e.first e.taken (e.laid c.args.runs.now.size (g.O.Output.written c.args.output.now) (g.O.Output.written c.write_out.new.output) c.position-front.ensures c.in-Ok.ensures.ok);
   };
 }
 
@@ -175,7 +175,7 @@ returns g c =
         next = next;
         written = refl;
         bytes = omega (arith, w.writes.least, t.lays.grown, n.writes.grown);
-        whole = whole_piece g.S.Source.tells (g.S.Source.content c.args.source.now) r.size r.length r.blocks c.args.limit c.args.most c.args.first (taken s.placer) c.end.new.self.placer.chunks old now (take f now) new s r.some r.covers r.last c.requires.opened all.segment.sound all.told c.in-Ok-take_source.ensures.ended (t.segment.same.2 ∙ b.first) refl (t.segment.same.3 ∙ b.limit) all.inside
+        whole = whole_piece g.S.Source.models (g.S.Source.content c.args.source.now) r.size r.length r.blocks c.args.limit c.args.most c.args.first (taken s.placer) c.end.new.self.placer.chunks old now (take f now) new s r.some r.covers r.last c.requires.opened all.segment.sound all.told c.in-Ok-take_source.ensures.ended (t.segment.same.2 ∙ b.first) refl (t.segment.same.3 ∙ b.limit) all.inside
             (front_kept f c.begin-segment.result.placer.front old mid now place (sym t.segment.same.1) kept.ok t.segment.kept) (let l = e.laid all.told.blocks all.told.laid in rw (t.segment.same.0, b.most) at l);
         takes = λ uncut. let long = short uncut in omega (arith, long, light);
       };

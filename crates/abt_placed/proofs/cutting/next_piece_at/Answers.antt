@@ -5,7 +5,7 @@ use Rattle.abt_runs.specs.RawLaws.{raw_long}
 use Rattle.abt_runs.specs.declared.part.Cursor.{Cursor}
 use Rattle.abt_pieces.specs.Cutter.{has_failed, has_more}
 use Rattle.abt_pieces.specs.declared.fault.PieceFault.{PieceFault}
-use Rattle.abt_pieces.specs.declared.stage.Stage.TheVariants.{Done, Failed}
+use Rattle.abt_pieces.specs.declared.stage.CutterStage.TheVariants.{Done, Failed}
 use Rattle.abt_pieces.proofs.Cutting.{piece_is, told_more, told_failed}
 use Rattle.abt_pieces.proofs.Stepping.{Behind, behind_unbegun, behind_passed}
 use Rattle.abt_placed.specs.Segment.{IsUncut}
@@ -31,12 +31,12 @@ returns-in-Ok g c =
     let sound = o.made.sound uncut in
     let behind : Behind r.blocks u.piece.past c.pass.new.self.stage = record { end = sound.end; done = p.done; between = p.between } in
     let more : has_more c.args.cutter.now.stage ≡ true = search rules in
-    let long : IsTrue g.S.Source.tells → r.blocks ≡ length l = λ tells. sym (raw_long r.length r.blocks r.size x r.some r.covers r.last (c.requires.ready.opened tells)) in
+    let long : IsTrue g.S.Source.models → r.blocks ≡ length l = λ models. sym (raw_long r.length r.blocks r.size x r.some r.covers r.last (c.requires.ready.opened models)) in
     record {
       cutter = record { same_image = p.runs; same_limit = p.limit; unbegun = behind_unbegun _ _ _ behind };
       grows = record { grown = q.lays.grown; before = q.before; unfinished = tt };
       made = record {
-        image = piece_image g.S.Source.tells x r.size r.blocks limit most start.block u.piece.past u.chunks old new (omega (arith, r.some), r.words, omega (arith, r.window)) c.most_raw-most.ensures.some c.most_raw-most.ensures.small r.fits o.made.whole;
+        image = piece_image g.S.Source.models x r.size r.blocks limit most start.block u.piece.past u.chunks old new (omega (arith, r.some), r.words, omega (arith, r.window)) c.most_raw-most.ensures.some c.most_raw-most.ensures.small r.fits o.made.whole;
         piece = rw (p.piece, p.start) (record {
           passed = (behind_passed _ _ _ _ sound.moves behind);
           begins = sound.first;
@@ -50,11 +50,11 @@ returns-in-Ok g c =
         once = rw (p.piece, sound.first) o.work.last;
         going_turns = rw p.piece o.work.going_turns;
       };
-      laid = λ tells. rw p.piece (record {
-        written = rw sound.first (piece_told g.S.Source.tells x r.size r.blocks limit most start.block u.piece.past u.chunks old new uncut tells (long tells) o.made.whole);
-        coming = piece_told g.S.Source.tells x r.size r.blocks limit most start.block u.piece.past u.chunks old new uncut tells (long tells) o.made.whole ∙ ap (λ (y : List ℕ). old ++ y) (piece_is r.size limit l start.block u.piece.past (o.made.whole.told tells).1);
-        exact = (piece_exact g.S.Source.tells x r.size r.blocks limit most start.block u.chunks old new u.piece uncut tells (long tells) sound.first sound.order sound.end o.made.written o.made.bytes o.made.whole);
-        greatest = rw sound.first (o.made.whole.told tells).1;
+      laid = λ models. rw p.piece (record {
+        written = rw sound.first (piece_told g.S.Source.models x r.size r.blocks limit most start.block u.piece.past u.chunks old new uncut models (long models) o.made.whole);
+        coming = piece_told g.S.Source.models x r.size r.blocks limit most start.block u.piece.past u.chunks old new uncut models (long models) o.made.whole ∙ ap (λ (y : List ℕ). old ++ y) (piece_is r.size limit l start.block u.piece.past (o.made.whole.told models).1);
+        exact = (piece_exact g.S.Source.models x r.size r.blocks limit most start.block u.chunks old new u.piece uncut models (long models) sound.first sound.order sound.end o.made.written o.made.bytes o.made.whole);
+        greatest = rw sound.first (o.made.whole.told models).1;
       });
       costs = record {
         given = q.lays.given;
@@ -77,7 +77,7 @@ returns-in-Ok g c =
         faults = q.lays.faults;
         clean = o.lays.clean.0;
       };
-      told = λ tells. rw (p.limit, p.made, p.start) (told_more _ _ (λ (d : Cursor). RawPlace r.blocks r.size d) _ r.blocks _ _ _ start u _ _ more (c.requires.ready.told tells) sound (long tells) (o.made.whole.told tells).1 o.made.next behind.done behind.between);
+      told = λ models. rw (p.limit, p.made, p.start) (told_more _ _ (λ (d : Cursor). RawPlace r.blocks r.size d) _ r.blocks _ _ _ start u _ _ more (c.requires.ready.told models) sound (long models) (o.made.whole.told models).1 o.made.next behind.done behind.between);
       within = let long = q.long uncut in omega (arith, long);
       over = record {
         none = tt;
@@ -105,7 +105,7 @@ returns-in-Err g c =
       cutter = record { same_image = x.rest.0; same_limit = x.rest.1; unbegun = rw x.stage refl };
       grows = record { grown = q.lays.grown; before = q.before; unfinished = unfinished_refused old new c.in-Err.ensures.unfinished };
       made = tt;
-      laid = λ tells. tt;
+      laid = λ models. tt;
       costs = record {
         given = q.lays.given;
         steps = q.lays.received;
@@ -127,9 +127,9 @@ returns-in-Err g c =
         faults = q.lays.faults;
         clean = tt;
       };
-      told = λ tells.
+      told = λ models.
           let more : has_more c.args.cutter.now.stage ≡ true = search rules in
-          rw (x.rest.1, x.rest.3, x.rest.2, x.stage) (told_failed _ _ _ _ _ _ c.args.cutter.now.start _ _ more (c.requires.ready.told tells));
+          rw (x.rest.1, x.rest.3, x.rest.2, x.stage) (told_failed _ _ _ _ _ _ c.args.cutter.now.start _ _ more (c.requires.ready.told models));
       within = let long = q.long c.most_raw-most.ensures.uncut in omega (arith, long);
       over = record {
         none = tt;

@@ -36,9 +36,9 @@ returns-in-Err g c =
         cause = refused_cause _ _ _ _ _ _ _ _ _ is refused;
       };
       written = tt;
-      chunks = λ tells. tt;
+      chunks = λ models. tt;
       grows = record { grown = as_many _; before = take_all (length old) old (omega arith); unfinished = inl refl };
-      whole = λ tells. tt;
+      whole = λ models. tt;
       takes = record {
         economy = no_more _ _;
         once = tt;
@@ -58,7 +58,7 @@ returns-in-Ok-lay_piece g c =
     let old = g.O.Output.written c.args.output.now in
     let new = g.O.Output.written c.lay_piece.new.output in
     let all : u.piece.past ≡ r.blocks = o.made.reached (omega arith) in
-    let blocks = λ (tells : IsTrue g.S.Source.tells). image_blocks g.S.Source.tells x r.size r.length r.blocks 18446744073709551615 c.args.most u.piece.past u.chunks old new r.some r.covers r.last (omega (arith, e.opened)) tells all o.made.whole in
+    let blocks = λ (models : IsTrue g.S.Source.models). image_blocks g.S.Source.models x r.size r.length r.blocks 18446744073709551615 c.args.most u.piece.past u.chunks old new r.some r.covers r.last (omega (arith, e.opened)) models all o.made.whole in
     let laid = o.made.whole.laid in
     record {
       does = record {
@@ -96,11 +96,11 @@ returns-in-Ok-lay_piece g c =
       written = record {
         blocks = (rw (size, e.size.1) at r.covers, rw (size, e.size.1) at r.last);
         long = o.made.bytes;
-        image = rw size at (piece_image g.S.Source.tells x r.size r.blocks 18446744073709551615 c.args.most 0 u.piece.past u.chunks old new (omega (arith, r.some), r.words, omega (arith, r.window)) c.requires.some (rw size c.requires.small) r.fits o.made.whole);
+        image = rw size at (piece_image g.S.Source.models x r.size r.blocks 18446744073709551615 c.args.most 0 u.piece.past u.chunks old new (omega (arith, r.some), r.words, omega (arith, r.window)) c.requires.some (rw size c.requires.small) r.fits o.made.whole);
       };
-      chunks = λ tells. (rw size at (sym laid.count ∙ ap length (blocks tells)), rw size at (laid.chunks_are ∙ ap (λ (l : List Block). length (chunks_of c.args.most l)) (blocks tells)));
+      chunks = λ models. (rw size at (sym laid.count ∙ ap length (blocks models)), rw size at (laid.chunks_are ∙ ap (λ (l : List Block). length (chunks_of c.args.most l)) (blocks models)));
       grows = record { grown = w.lays.grown; before = w.before; unfinished = tt };
-      whole = λ tells. rw size at (laid.stands ∙ ap (λ (l : List Block). old ++ spelling r.size c.args.most l) (blocks tells));
+      whole = λ models. rw size at (laid.stands ∙ ap (λ (l : List Block). old ++ spelling r.size c.args.most l) (blocks models));
       takes = record {
         economy = let read = rw e.size.1 at w.work.economy in omega (arith, read);
         once =
@@ -154,9 +154,9 @@ returns-in-Err-lay_piece g c =
         cause = sparsify_causes (let r : Result Written PieceFault = Err c.in-Err-lay_piece.fault in r) _ _ _ _ _ _ _ x.lays.cause;
       };
       written = tt;
-      chunks = λ tells. tt;
+      chunks = λ models. tt;
       grows = record { grown = w.lays.grown; before = w.before; unfinished = unfinished_refused old new x.unfinished };
-      whole = λ tells. tt;
+      whole = λ models. tt;
       takes = record {
         economy = let read = rw e.size.1 at w.work.economy in omega (arith, read);
         once = tt;

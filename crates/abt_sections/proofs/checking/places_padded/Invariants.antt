@@ -9,6 +9,6 @@ invariant-loop-i g l =
     let s = g.S.Source in
     record {
       reads : OnlyReads {X = Unit {0}} {E = Unit {0}} (Ok tt) s l.fn.source l.source;
-      value : IsTrue s.tells → padded_places (s.content l.fn.source) l.page (drop l.i l.sections)
+      value : IsTrue s.models → padded_places (s.content l.fn.source) l.page (drop l.i l.sections)
           ≡ padded_places (s.content l.fn.source) l.page l.sections;
     }

@@ -11,8 +11,8 @@ returns-then-not-zero g c =
     record {
       found = record {
         reads = search rules;
-        value = λ tells. not_zeros _ _ c.args.at c.loop-done.done ask c.args.n c.part.result.now
-            (v.reads.content tells) (c.part.ensures.value ∙ e.bytes tells) (v.zeros tells)
+        value = λ models. not_zeros _ _ c.args.at c.loop-done.done ask c.args.n c.part.result.now
+            (v.reads.content models) (c.part.ensures.value ∙ e.bytes models) (v.zeros models)
             (sym c.all_zero-zero.ensures ∙ c.if-not-zero.true) (omega arith);
       };
     }
@@ -25,7 +25,7 @@ loop-done-preserved g c =
     record {
       within = omega arith;
       reads = reads_ok tt (reads_then v.reads e.reads.only);
-      zeros = λ tells.
-          more_zeros _ _ c.args.at c.loop-done.done ask c.part.result.now (v.reads.content tells)
-          (c.part.ensures.value ∙ e.bytes tells) (v.zeros tells) (sym c.all_zero-zero.ensures ∙ c.if-not-zero.false);
+      zeros = λ models.
+          more_zeros _ _ c.args.at c.loop-done.done ask c.part.result.now (v.reads.content models)
+          (c.part.ensures.value ∙ e.bytes models) (v.zeros models) (sym c.all_zero-zero.ensures ∙ c.if-not-zero.false);
     }

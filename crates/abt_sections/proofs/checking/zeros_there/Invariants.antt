@@ -10,7 +10,7 @@ invariant-loop-done g l =
     record {
       within : l.done ≤ l.n;
       reads : OnlyReads {X = Unit {0}} {E = Unit {0}} (Ok tt) s l.fn.source l.source;
-      zeros : IsTrue s.tells → all_zero (take l.done (drop l.at (s.content l.fn.source))) ≡ true;
+      zeros : IsTrue s.models → all_zero (take l.done (drop l.at (s.content l.fn.source))) ≡ true;
     }
 
 abbrev pub decreases-loop-done : goal.decreases-loop-done

@@ -12,6 +12,6 @@ invariant-loop-i g l =
     record {
       reads : OnlyReads {X = Unit {0}} {E = Unit {0}} (Ok tt) s l.fn.source l.source;
       held : ComesNext l.held.first l.held.end l.i l.table.count;
-      stand : IsTrue s.tells → EntriesStand l.w.bytes (s.content l.fn.source) l.table.at l.held.first l.held.end;
-      within : IsTrue s.tells → (j : ℕ) → j < l.i → IsWithin h (entry_of (s.content l.fn.source) h j);
+      stand : IsTrue s.models → EntriesStand l.w.bytes (s.content l.fn.source) l.table.at l.held.first l.held.end;
+      within : IsTrue s.models → (j : ℕ) → j < l.i → IsWithin h (entry_of (s.content l.fn.source) h j);
     }

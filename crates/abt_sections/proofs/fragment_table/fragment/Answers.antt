@@ -11,5 +11,5 @@ returns-in-Err-clause-reads g c =
     let t = c.table_of-table.ensures in
     let h = view_of c.args.image.now.header in
     let before = reads_none {X = Unit {0}} {E = Unit {0}} (Ok tt) g.S.Source c.args.source.now in
-    reads_on before c.in-Err.ensures.reads (λ changed tells opened. changed tells (omega
+    reads_on before c.in-Err.ensures.reads (λ changed models opened. changed models (omega
     (arith, entry_there h (length x) c.args.i t.whole opened.has.there c.requires, t.at)))

@@ -10,10 +10,10 @@ returns-in-Err-clause-reads g c =
     let x = g.S.Source.content c.args.source.now in
     let t = c.table_of-table.ensures in
     let h = view_of c.args.header.now in
-    reads_on v c.in-Err.ensures.found.reads (λ changed tells there. changed tells (omega (
+    reads_on v c.in-Err.ensures.found.reads (λ changed models there. changed models (omega (
       arith,
       table_there h (length x) c.loop-i.i t.whole there (omega (arith, t.count)),
       t.at,
       t.count,
-      ap length (v.content tells),
+      ap length (v.content models),
     )))

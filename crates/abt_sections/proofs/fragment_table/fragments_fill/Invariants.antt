@@ -13,8 +13,8 @@ invariant-loop-i g l =
     record {
       reads : OnlyReads {X = Unit {0}} {E = Unit {0}} (Ok tt) s l.fn.source l.source;
       held : ComesNext l.held.first l.held.end l.i l.table.count;
-      stand : IsTrue s.tells → EntriesStand l.w.bytes (s.content l.fn.source) l.table.at l.held.first l.held.end;
+      stand : IsTrue s.models → EntriesStand l.w.bytes (s.content l.fn.source) l.table.at l.held.first l.held.end;
       low : l.next ≤ 4294967295 * l.i;
-      next : IsTrue s.tells → l.next ≡ sizes_before (s.content l.fn.source) h l.i;
-      placed : IsTrue s.tells → (j : ℕ) → j < l.i → (entry_of (s.content l.fn.source) h j).ramdisk_offset ≡ sizes_before (s.content l.fn.source) h j;
+      next : IsTrue s.models → l.next ≡ sizes_before (s.content l.fn.source) h l.i;
+      placed : IsTrue s.models → (j : ℕ) → j < l.i → (entry_of (s.content l.fn.source) h j).ramdisk_offset ≡ sizes_before (s.content l.fn.source) h j;
     }

@@ -8,6 +8,6 @@ returns-clause-found g c =
     let e = c.in-Ok.ensures in
     record {
       reads = search rules;
-      value = λ tells. c.entry_in.ensures ∙ ap entry_at
-          (held_entry _ _ c.args.table.now.at _ _ c.args.i e.held.from e.held.to (e.stand tells));
+      value = λ models. c.entry_in.ensures ∙ ap entry_at
+          (held_entry _ _ c.args.table.now.at _ _ c.args.i e.held.from e.held.to (e.stand models));
     }

@@ -12,5 +12,5 @@ invariant-loop-i g l =
     record {
       long : length l.parts ≡ length l.fn.parts;
       reads : OnlyReadsAll {X = Unit {0}} {E = SectionFault} (Ok tt) s l.fn.parts l.parts;
-      hashed : IsTrue s.tells → Holds l.hasher (sized_parts (take l.i (map s.content l.fn.parts)));
+      hashed : IsTrue s.models → Holds l.hasher (sized_parts (take l.i (map s.content l.fn.parts)));
     }

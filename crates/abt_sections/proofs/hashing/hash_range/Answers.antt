@@ -11,7 +11,7 @@ loop-at-preserved g c =
     record {
       within = omega arith;
       reads = reads_then i.reads e.reads.only;
-      present = λ tells h. omega (arith, e.present tells (k.some (omega arith)), ap length (i.reads.content tells));
-      hashed = λ tells t h. hashed_next _ _ _ t c.args.from c.loop-at.at c.next_ask-ask.result (i.reads.content tells)
-          (rw (c.part.ensures.value, e.bytes tells) at (c.update.ensures _ (i.hashed tells t h)));
+      present = λ models h. omega (arith, e.present models (k.some (omega arith)), ap length (i.reads.content models));
+      hashed = λ models t h. hashed_next _ _ _ t c.args.from c.loop-at.at c.next_ask-ask.result (i.reads.content models)
+          (rw (c.part.ensures.value, e.bytes models) at (c.update.ensures _ (i.hashed models t h)));
     }

@@ -11,8 +11,8 @@ invariant-loop-at g l =
     record {
       within : l.at ≤ l.n;
       reads : OnlyReads {X = Unit {0}} {E = SectionFault} (Ok tt) g.S.Source l.fn.source l.source;
-      present : IsTrue g.S.Source.tells → 0 < l.at → l.from + l.at ≤ length (bytes l.fn.source);
-      hashed : IsTrue g.S.Source.tells → (t : List ℕ) → Holds l.fn.hasher t
+      present : IsTrue g.S.Source.models → 0 < l.at → l.from + l.at ≤ length (bytes l.fn.source);
+      hashed : IsTrue g.S.Source.models → (t : List ℕ) → Holds l.fn.hasher t
           → Holds l.hasher (t ++ take l.at (drop l.from (bytes l.fn.source)));
     }
 

@@ -12,25 +12,25 @@ loop-i-preserved g c =
     let e = c.in-Ok.ensures in
     record {
       reads = reads_then i.reads e.reads.only;
-      hashed = λ tells.
+      hashed = λ models.
           hash_stored c.hash_size.new.hasher _ _ c.args.sections.now c.loop-i.i c.place-place.result
-          (i.reads.content tells) (omega arith) c.place-place.ensures (e.present tells)
-          (c.hash_size.ensures _ (e.hashed tells _ (i.hashed tells)));
+          (i.reads.content models) (omega arith) c.place-place.ensures (e.present models)
+          (c.hash_size.ensures _ (e.hashed models _ (i.hashed models)));
     }
 
 pub returns-clause-id : goal.returns-clause-id
-returns-clause-id g c = λ tells.
+returns-clause-id g c = λ models.
     let x = g.S.Source.content c.args.source.now in
     id_is (part_of x) c.args.sections.now c.loop-i.i c.finalize-digest.result c.id_field.result (omega arith)
-    (c.finalize-digest.ensures _ (c.loop-i.invariant.hashed tells)) c.id_field.ensures
+    (c.finalize-digest.ensures _ (c.loop-i.invariant.hashed models)) c.id_field.ensures
 
 pub returns-in-Err-clause-reads : goal.returns-in-Err-clause-reads
 returns-in-Err-clause-reads g c =
     let v = c.loop-i.invariant.reads in
     let p = c.place-place.result in
     let x = g.S.Source.content c.args.source.now in
-    reads_on v c.in-Err.ensures.reads (λ changed tells there. changed tells (λ some. omega (
+    reads_on v c.in-Err.ensures.reads (λ changed models there. changed models (λ some. omega (
       arith,
       place_there c.args.sections.now (length x) c.loop-i.i p there (omega arith) c.place-place.ensures some,
-      ap length (v.content tells),
+      ap length (v.content models),
     )))

@@ -12,5 +12,5 @@ invariant-loop-i g l =
     let s = g.S.Source in
     record {
       reads : OnlyReads {X = Unit {0}} {E = SectionFault} (Ok tt) s l.fn.source l.source;
-      hashed : IsTrue s.tells → Holds l.hasher (sized_parts (take l.i (parts_of (s.content l.fn.source) l.sections)));
+      hashed : IsTrue s.models → Holds l.hasher (sized_parts (take l.i (parts_of (s.content l.fn.source) l.sections)));
     }

@@ -15,11 +15,11 @@ loop-at-preserved g c =
       within = omega arith;
       reads = reads_then i.reads e.moves.reads;
       once = omega (arith, e.once, i.once);
-      present = λ tells. omega (arith, e.present tells (k.some (omega arith)), ap length (i.reads.content tells));
-      written = λ tells. written_next _ _ _ _ _ c.loop-at.at c.next_ask-ask.result (i.reads.content tells)
-          (i.written tells) (e.written tells);
-      hashed = λ wanted tells t h. hashed_front _ _ _ t c.loop-at.at c.next_ask-ask.result (i.reads.content tells)
-          (e.hashed wanted tells _ (i.hashed wanted tells t h));
+      present = λ models. omega (arith, e.present models (k.some (omega arith)), ap length (i.reads.content models));
+      written = λ models. written_next _ _ _ _ _ c.loop-at.at c.next_ask-ask.result (i.reads.content models)
+          (i.written models) (e.written models);
+      hashed = λ wanted models t h. hashed_front _ _ _ t c.loop-at.at c.next_ask-ask.result (i.reads.content models)
+          (e.hashed wanted models _ (i.hashed wanted models t h));
       grown = grows_on _ _ _ i.grown e.bytes.grown (omega (arith, i.all));
       all = omega (arith, e.bytes.all, i.all);
       writes = writes_then i.writes e.moves.writes;

@@ -14,9 +14,9 @@ invariant-loop-at g l =
       within : l.at ≤ l.n;
       reads : OnlyReads {X = Unit {0}} {E = SectionFault} (Ok tt) s l.fn.part l.part;
       once : s.given l.part ≤ s.given l.fn.part + l.at;
-      present : IsTrue s.tells → l.at ≤ length (s.content l.fn.part);
-      written : IsTrue s.tells → o.written l.output ≡ o.written l.fn.output ++ take l.at (s.content l.fn.part);
-      hashed : IsTrue l.id → IsTrue s.tells → (t : List ℕ) → Holds l.fn.hasher t
+      present : IsTrue s.models → l.at ≤ length (s.content l.fn.part);
+      written : IsTrue s.models → o.written l.output ≡ o.written l.fn.output ++ take l.at (s.content l.fn.part);
+      hashed : IsTrue l.id → IsTrue s.models → (t : List ℕ) → Holds l.fn.hasher t
           → Holds l.hasher (t ++ take l.at (s.content l.fn.part));
       grown : Grows (o.written l.fn.output) (o.written l.output);
       all : length (o.written l.output) ≡ length (o.written l.fn.output) + l.at;

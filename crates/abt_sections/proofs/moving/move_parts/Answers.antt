@@ -38,8 +38,8 @@ returns-in-Err-clause-parts g c =
     let i = c.loop-i.i in
     let d = c.index-parts-i.result in
     record {
-      moves = moves_part ps i d _ (omega arith) v.reads v.writes c.in-Err.ensures.part.moves (λ changed tells same.
-          changed tells (part_size g.S.Source.size ps c.args.parts.now i d c.args.sizes.now (v.reads.size tells) same
+      moves = moves_part ps i d _ (omega arith) v.reads v.writes c.in-Err.ensures.part.moves (λ changed models same.
+          changed models (part_size g.S.Source.size ps c.args.parts.now i d c.args.sizes.now (v.reads.size models) same
           (omega arith)));
       written = search rules;
       lasting = tt;
@@ -63,13 +63,13 @@ loop-i-preserved g c =
       long = simp length-set v.long;
       reads = all_part s _ ps i d new (omega arith) v.reads e.part.moves.reads;
       once = omega (arith, v.once, e.once, sum_by-set s.given ps i new d (omega arith), sum_next sizes i (omega arith));
-      written = λ tells.
-          let next = next_part s.content ps c.args.parts.now i d (v.reads.content tells) (omega arith) in
-          growing.then_all _ _ _ (laid page (take i all)) (padded page b) (v.written tells) (e.part.written tells)
+      written = λ models.
+          let next = next_part s.content ps c.args.parts.now i d (v.reads.content models) (omega arith) in
+          growing.then_all _ _ _ (laid page (take i all)) (padded page b) (v.written models) (e.part.written models)
           ∙ ap (λ (l : List ℕ). g.O.Output.written c.args.output.now ++ l) (laid_next page all b i next);
-      hashed = λ wanted tells none.
-          hash_next _ _ _ (next_part s.content ps c.args.parts.now i d (v.reads.content tells) (omega arith))
-          (e.hashed wanted tells _ (v.hashed wanted tells none));
+      hashed = λ wanted models none.
+          hash_next _ _ _ (next_part s.content ps c.args.parts.now i d (v.reads.content models) (omega arith))
+          (e.hashed wanted models _ (v.hashed wanted models none));
       grown = grows_on _ _ _ v.grown e.part.bytes.grown (omega (arith, v.all));
       all = omega (arith, v.all, e.part.bytes.all, sum_by_more p sizes i 0 (omega arith));
       lasting = sizes_next s.size ps i new sizes (omega arith) (omega arith) v.lasting e.part.lasting.1;

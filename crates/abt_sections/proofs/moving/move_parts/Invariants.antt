@@ -17,9 +17,9 @@ invariant-loop-i g l =
       long : length l.parts ≡ length l.fn.parts;
       reads : OnlyReadsAll {X = Unit {0}} {E = SectionFault} (Ok tt) s l.fn.parts l.parts;
       once : total s.given l.parts ≤ total s.given l.fn.parts + sum (take l.i l.sizes);
-      written : IsTrue s.tells → o.written l.output ≡ o.written l.fn.output ++ laid l.page
+      written : IsTrue s.models → o.written l.output ≡ o.written l.fn.output ++ laid l.page
           (take l.i (map s.content l.fn.parts));
-      hashed : IsTrue l.id → IsTrue s.tells → Holds l.fn.hasher []
+      hashed : IsTrue l.id → IsTrue s.models → Holds l.fn.hasher []
           → Holds l.hasher (sized_parts (take l.i (map s.content l.fn.parts)));
       grown : Grows (o.written l.fn.output) (o.written l.output);
       all : length (o.written l.output) ≡ length (o.written l.fn.output) + laid_size l.page (take l.i l.sizes);

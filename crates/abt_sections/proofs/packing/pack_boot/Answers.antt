@@ -13,18 +13,18 @@ use Rattle.abt_sections.proofs.packing.pack_boot.Goals.{After-boot_header_for-he
 use Rattle.abt_sections.proofs.packing.pack_boot.Goals as goal
 
 -- the image of the header that was made is the one image
-canon : (g : Over) (c : After-boot_header_for-header g) → IsTrue g.S.Source.tells
+canon : (g : Over) (c : After-boot_header_for-header g) → IsTrue g.S.Source.models
     → (let s = g.S.Source in boot_image c.boot_header_for-header.result (map s.content c.id_for.new.parts)
     ≡ boot_canon (cmd_common_fields c.args.spec.now) (map s.content c.args.parts.now))
-canon g c tells =
+canon g c models =
     let s = g.S.Source in
     let sizes = c.in_ok-sizes.ensures.value.1
     ∙ ap (λ (l : List ℕ). filled 5 l)
-    (sizes_are s.size s.content c.args.parts.now (λ p. g.met.S.Source.sized p tells)) in
+    (sizes_are s.size s.content c.args.parts.now (λ p. g.met.S.Source.sized p models)) in
     canon_is (cmd_common_fields c.args.spec.now) c.in_ok-page.page c.in_ok-sizes.sizes c.in_ok-id.id
     c.boot_header_for-header.result (map s.content c.args.parts.now) (map s.content c.id_for.new.parts)
-    c.boot_header_for-header.ensures c.in_ok-page.ensures.refused.value.1 sizes (c.in_ok-id.ensures.id tells)
-    (c.in_ok-id.ensures.reads.only.content tells)
+    c.boot_header_for-header.ensures c.in_ok-page.ensures.refused.value.1 sizes (c.in_ok-id.ensures.id models)
+    (c.in_ok-id.ensures.reads.only.content models)
 
 -- and has its size, told by so many sizes as there are parts
 sized : (g : Over) (c : After-boot_header_for-header g) (n : ℕ) → n ≡ length (map g.S.Source.size c.args.parts.now)
@@ -37,14 +37,14 @@ sized g c n long =
     c.in_ok-page.ensures.refused.value.1 c.in_ok-sizes.ensures.value.1 long
 
 pub returns-in_err-write_image-clause-front : goal.returns-in_err-write_image-clause-front
-returns-in_err-write_image-clause-front g c = λ tells.
+returns-in_err-write_image-clause-front g c = λ models.
     let at = goal.at.returns-in_err-write_image-clause-front g c in
-    begins_is _ _ _ _ (canon g at.After-boot_header_for-header tells) (c.in_err-write_image.ensures.front tells)
+    begins_is _ _ _ _ (canon g at.After-boot_header_for-header models) (c.in_err-write_image.ensures.front models)
 
 pub returns-clause-front : goal.returns-clause-front
-returns-clause-front g c = λ tells.
+returns-clause-front g c = λ models.
     let at = goal.at.returns-clause-front g c in
-    begins_is _ _ _ _ (canon g at.After-boot_header_for-header tells) (c.in_ok-write_image.ensures.front tells)
+    begins_is _ _ _ _ (canon g at.After-boot_header_for-header models) (c.in_ok-write_image.ensures.front models)
 
 pub returns-in_err-write_image-clause-packs : goal.returns-in_err-write_image-clause-packs
 returns-in_err-write_image-clause-packs g c =
@@ -72,8 +72,8 @@ returns-clause-packs g c =
       reads = search rules;
       writes = search rules;
       refused = search rules;
-      written = λ tells. e.parts.written tells
-          ∙ ap (λ (l : List ℕ). g.O.Output.written c.args.output.now ++ l) (canon g at tells);
+      written = λ models. e.parts.written models
+          ∙ ap (λ (l : List ℕ). g.O.Output.written c.args.output.now ++ l) (canon g at models);
       most = omega (arith, size, e.bytes.most);
       packed = (bytes, omega (arith, bytes, size, e.bytes.all));
       lasting = same_sizes s.size c.args.parts.now c.write_image.new.parts sizes (length c.id_for.new.parts)

@@ -85,13 +85,13 @@ returns-clause-packs g c =
       reads = search rules;
       writes = search rules;
       refused = search rules;
-      written = λ tells.
+      written = λ models.
           once_written fields c.in_ok-page.page sizes c.in_ok-id.id h (map s.content ps)
           (g.O.Output.written c.args.output.now) _ _ c.position-at.result c.in_ok-page.ensures.version
           c.boot_header_for-header.ensures c.in_ok-page.ensures.refused.value.1
           (told ∙ ap (λ (l : List ℕ). filled 5 l)
-          (sizes_are s.size s.content ps (λ p. g.met.S.Source.sized p tells)))
-          (e.id tells) laid.size c.position-at.ensures (rw c.bytes.ensures.value at (e.parts.written tells))
+          (sizes_are s.size s.content ps (λ p. g.met.S.Source.sized p models)))
+          (e.id models) laid.size c.position-at.ensures (rw c.bytes.ensures.value at (e.parts.written models))
           c.in_ok-lay_header.ensures.lays.written;
       most = omega (arith, size, all, laid.lays.long);
       packed = (bytes, omega (arith, bytes, size, all, laid.lays.long));

@@ -5,10 +5,10 @@ use Rattle.abt_sections.proofs.Placing.{no_magic_yet, page_stands}
 use Rattle.abt_sections.proofs.packing_once.write_behind.Goals as goal
 
 pub returns-in-Ok-move_parts-clause-id : goal.returns-in-Ok-move_parts-clause-id
-returns-in-Ok-move_parts-clause-id g c = λ tells.
+returns-in-Ok-move_parts-clause-id g c = λ models.
     wanted_id c.args.version (nat_lt c.args.version 3) c.move_parts.new.hasher c.id_of_hashed.result
     (map g.S.Source.content c.args.parts.now) refl
-    (λ wanted. c.in-Ok-move_parts.ensures.hashed wanted tells c.new-hasher.ensures) c.id_of_hashed.ensures.wanted
+    (λ wanted. c.in-Ok-move_parts.ensures.hashed wanted models c.new-hasher.ensures) c.id_of_hashed.ensures.wanted
     c.id_of_hashed.ensures.unwanted
 
 pub returns-in-Err-move_parts-clause-broken : goal.returns-in-Err-move_parts-clause-broken

@@ -10,6 +10,6 @@ returns-clause-moves g c =
     let x = g.S.Source.content c.args.source.now in
     let ps = places_of (view_of c.args.image.now.header) in
     let before = reads_none {X = Unit {0}} {E = Unit {0}} (Ok tt) g.S.Source c.args.source.now in
-    moves_on before c.copy_part.ensures.moves (λ changed tells opened. changed tells
+    moves_on before c.copy_part.ensures.moves (λ changed models opened. changed models
     (λ some. place_there ps (length x) c.args.i c.section-place.result opened.has.there c.requires
     c.section-place.ensures.value some))

@@ -8,27 +8,27 @@ use Rattle.abt_sections.proofs.Tables.{ramdisk_there, part_within, fragment_is}
 use Rattle.abt_sections.proofs.unpacking.unpack_fragment.Goals as goal
 
 pub returns-clause-written : goal.returns-clause-written
-returns-clause-written g c = λ tells.
+returns-clause-written g c = λ models.
     let x = g.S.Source.content c.args.source.now in
     let e = c.in-Ok.ensures in
     let same = fragment_is x _ (view_of c.args.image.now.header) c.args.i c.fragment_at-at.result c.in-Ok.entry
-    (e.reads.only.content tells) c.fragment_at-at.ensures.value (e.entry tells) in
+    (e.reads.only.content models) c.fragment_at-at.ensures.value (e.entry models) in
     on_ok_then c.copy_part.result (λ w. w ∙ ap (λ (l : List ℕ). g.O.Output.written c.args.output.now ++ l) same)
-    (c.copy_part.ensures.written tells)
+    (c.copy_part.ensures.written models)
 
 pub returns-clause-front : goal.returns-clause-front
-returns-clause-front g c = λ tells.
+returns-clause-front g c = λ models.
     let x = g.S.Source.content c.args.source.now in
     let e = c.in-Ok.ensures in
     begins_is _ _ _ _ (fragment_is x _ (view_of c.args.image.now.header) c.args.i c.fragment_at-at.result c.in-Ok.entry
-    (e.reads.only.content tells) c.fragment_at-at.ensures.value (e.entry tells)) (c.copy_part.ensures.front tells)
+    (e.reads.only.content models) c.fragment_at-at.ensures.value (e.entry models)) (c.copy_part.ensures.front models)
 
 pub returns-clause-part : goal.returns-clause-part
-returns-clause-part g c = λ tells.
+returns-clause-part g c = λ models.
     let x = g.S.Source.content c.args.source.now in
     let h = view_of c.args.image.now.header in
     let within : IsWithin h (entry_of x h c.args.i) =
-    subst (λ (q : RamdiskEntry). IsWithin h q) (c.in-Ok.ensures.entry tells) c.in-Ok.ensures.within in
+    subst (λ (q : RamdiskEntry). IsWithin h q) (c.in-Ok.ensures.entry models) c.in-Ok.ensures.within in
     on_ok c.copy_part.result
     (part_within x (ramdisk_at h) (ramdisk_size h) (entry_of x h c.args.i).ramdisk_offset
     (entry_of x h c.args.i).ramdisk_size within)
@@ -38,11 +38,11 @@ returns-clause-moves g c =
     let x = g.S.Source.content c.args.source.now in
     let h = view_of c.args.image.now.header in
     let e = c.in-Ok.ensures in
-    moves_on e.reads.only c.copy_part.ensures.moves (λ changed tells opened. changed tells
+    moves_on e.reads.only c.copy_part.ensures.moves (λ changed models opened. changed models
     (λ some. omega (
       arith,
       ramdisk_there h (length x) opened.has.there (omega (arith, e.within, some)),
       e.within,
       c.fragment_at-at.ensures.value,
-      ap length (e.reads.only.content tells),
+      ap length (e.reads.only.content models),
     )))

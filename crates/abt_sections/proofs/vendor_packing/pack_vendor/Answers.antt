@@ -23,13 +23,13 @@ use Rattle.abt_sections.proofs.vendor_packing.pack_vendor.Goals.{In_ok-write_fir
 use Rattle.abt_sections.proofs.vendor_packing.pack_vendor.Goals as goal
 
 -- the first sections and the rest are the one image
-canon : (g : Over) (c : After-vendor_header_for-header g) → IsTrue g.S.Source.tells
+canon : (g : Over) (c : After-vendor_header_for-header g) → IsTrue g.S.Source.models
     → (let s = g.S.Source in let fields = vendor_fields c.args.spec.now in
     let parts = vendor_parts c.args.fragments.now (map s.content c.args.ramdisks.now) (s.content c.args.dtb.now)
     (s.content c.args.bootconfig.now) in
     first_sections (vendor_view c.vendor_header_for-header.result) (concat (map s.content c.args.ramdisks.now))
     (s.content c.args.dtb.now) ++ rest_for fields parts ≡ vendor_canon fields parts)
-canon g c tells =
+canon g c models =
     let s = g.S.Source in
     let fields = vendor_fields c.args.spec.now in
     let parts = vendor_parts c.args.fragments.now (map s.content c.args.ramdisks.now) (s.content c.args.dtb.now)
@@ -39,8 +39,8 @@ canon g c tells =
     (header_is fields parts c.in_ok-page.page c.in_ok-sizes.sizes (length c.args.fragments.now)
     (total s.size c.args.ramdisks.now) (s.size c.args.dtb.now) (s.size c.args.bootconfig.now) v
     c.vendor_header_for-header.ensures c.in_ok-page.ensures.refused.value.1 c.in_ok-sizes.ensures.value.1
-    (concat_size s.size s.content c.args.ramdisks.now (λ p. g.met.S.Source.sized p tells))
-    (g.met.S.Source.sized c.args.dtb.now tells) refl (g.met.S.Source.sized c.args.bootconfig.now tells))
+    (concat_size s.size s.content c.args.ramdisks.now (λ p. g.met.S.Source.sized p models))
+    (g.met.S.Source.sized c.args.dtb.now models) refl (g.met.S.Source.sized c.args.bootconfig.now models))
 
 -- the first sections have the size that the fields say
 first_sized : (g : Over) (c : After-vendor_header_for-header g)
@@ -62,13 +62,13 @@ first_sized g c =
     ∙ ap (λ (l : List ℕ). first_size (vendor_header_for fields page zs count) (get_or l 0 0) (get_or l 1 0)) z
 
 -- behind them comes the rest of version 4
-rest_is : (g : Over) (c : In_ok-write_first_sections g) → IsTrue g.S.Source.tells → (c.args.spec.now.version ≡ 3 → ⊥)
+rest_is : (g : Over) (c : In_ok-write_first_sections g) → IsTrue g.S.Source.models → (c.args.spec.now.version ≡ 3 → ⊥)
     → (let s = g.S.Source in
     let parts = vendor_parts c.args.fragments.now (map s.content c.args.ramdisks.now) (s.content c.args.dtb.now)
     (s.content c.args.bootconfig.now) in
     laid c.bytes-bytes.result (table_for c.args.fragments.now (map s.size c.write_first_sections.new.ramdisks) 0
     ∷ s.content c.args.bootconfig.now ∷ []) ≡ rest_for (vendor_fields c.args.spec.now) parts)
-rest_is g c tells other =
+rest_is g c models other =
     let s = g.S.Source in
     let fields = vendor_fields c.args.spec.now in
     let fs = c.args.fragments.now in
@@ -76,8 +76,8 @@ rest_is g c tells other =
     let parts = vendor_parts fs (map s.content c.args.ramdisks.now) (s.content c.args.dtb.now) config in
     let sizes = map s.size c.write_first_sections.new.ramdisks in
     let same : sizes ≡ map length (map s.content c.args.ramdisks.now) =
-    c.in_ok-write_first_sections.ensures.moves.reads.size tells
-    ∙ sizes_are s.size s.content c.args.ramdisks.now (λ p. g.met.S.Source.sized p tells) in
+    c.in_ok-write_first_sections.ensures.moves.reads.size models
+    ∙ sizes_are s.size s.content c.args.ramdisks.now (λ p. g.met.S.Source.sized p models) in
     let page : c.bytes-bytes.result ≡ vendor_page (vendor_header_of fields parts) =
     c.bytes-bytes.ensures.value ∙ ap page_bytes c.in_ok-page.ensures.refused.value.1
     ∙ sym (page_is fields (vendor_page_for fields) (vendor_sizes_for
@@ -88,10 +88,10 @@ rest_is g c tells other =
     ∙ sym (rest_4 fields parts other)
 
 pub returns-in_err-write_first_sections-clause-front : goal.returns-in_err-write_first_sections-clause-front
-returns-in_err-write_first_sections-clause-front g c = λ tells.
+returns-in_err-write_first_sections-clause-front g c = λ models.
     begins_is _ _ _ _ (canon g ((goal.at.returns-in_err-write_first_sections-clause-front g
-    c).After-vendor_header_for-header) tells)
-    (begins_stop _ _ _ _ (c.in_err-write_first_sections.ensures.front tells))
+    c).After-vendor_header_for-header) models)
+    (begins_stop _ _ _ _ (c.in_err-write_first_sections.ensures.front models))
 
 pub returns-in_err-write_first_sections-clause-most : goal.returns-in_err-write_first_sections-clause-most
 returns-in_err-write_first_sections-clause-most g c =
@@ -104,30 +104,30 @@ returns-in_err-write_first_sections-clause-most g c =
     omega (arith, c.in_err-write_first_sections.ensures.bytes.most, size, fits)
 
 pub returns-then-spec-eq3-clause-written : goal.returns-then-spec-eq3-clause-written
-returns-then-spec-eq3-clause-written g c = λ tells.
+returns-then-spec-eq3-clause-written g c = λ models.
     let s = g.S.Source in
     let fields = vendor_fields c.args.spec.now in
     let parts = vendor_parts c.args.fragments.now (map s.content c.args.ramdisks.now) (s.content c.args.dtb.now)
     (s.content c.args.bootconfig.now) in
     let first = first_sections (vendor_view c.vendor_header_for-header.result)
     (concat (map s.content c.args.ramdisks.now)) (s.content c.args.dtb.now) in
-    let whole = canon g ((goal.at.returns-then-spec-eq3-clause-written g c).After-vendor_header_for-header) tells in
-    c.in_ok-write_first_sections.ensures.written tells
+    let whole = canon g ((goal.at.returns-then-spec-eq3-clause-written g c).After-vendor_header_for-header) models in
+    c.in_ok-write_first_sections.ensures.written models
     ∙ ap (λ (l : List ℕ). g.O.Output.written c.args.output.now ++ l)
     (sym (append-nil first) ∙ ap (λ (l : List ℕ). first ++ l) (sym (rest_3 fields parts c.if-spec-eq3.true)) ∙ whole)
 
 pub returns-then-spec-eq3-clause-front : goal.returns-then-spec-eq3-clause-front
-returns-then-spec-eq3-clause-front g c = λ tells.
-    begins_is _ _ _ _ (canon g ((goal.at.returns-then-spec-eq3-clause-front g c).After-vendor_header_for-header) tells)
-    (begins_stop _ _ _ _ (c.in_ok-write_first_sections.ensures.front tells))
+returns-then-spec-eq3-clause-front g c = λ models.
+    begins_is _ _ _ _ (canon g ((goal.at.returns-then-spec-eq3-clause-front g c).After-vendor_header_for-header) models)
+    (begins_stop _ _ _ _ (c.in_ok-write_first_sections.ensures.front models))
 
 pub returns-in-Err-clause-front : goal.returns-in-Err-clause-front
-returns-in-Err-clause-front g c = λ tells.
+returns-in-Err-clause-front g c = λ models.
     let at = goal.at.returns-in-Err-clause-front g c in
-    begins_is _ _ _ _ (canon g at.After-vendor_header_for-header tells)
-    (begins_then _ _ _ _ _ (c.in_ok-write_first_sections.ensures.written tells)
-    (begins_is _ _ _ _ (rest_is g at.In_ok-write_first_sections tells c.if-spec-eq3.false)
-    (c.in-Err.ensures.front tells))
+    begins_is _ _ _ _ (canon g at.After-vendor_header_for-header models)
+    (begins_then _ _ _ _ _ (c.in_ok-write_first_sections.ensures.written models)
+    (begins_is _ _ _ _ (rest_is g at.In_ok-write_first_sections models c.if-spec-eq3.false)
+    (c.in-Err.ensures.front models))
     c.in-Err.ensures.moves.writes.least)
 
 pub returns-in-Err-clause-cause : goal.returns-in-Err-clause-cause
@@ -146,32 +146,32 @@ returns-in-Err-clause-cause g c =
     ∙ c.in_ok-sizes.ensures.value.0 in
     let z : c.in_ok-sizes.sizes ≡ zs = c.in_ok-sizes.ensures.value.1 in
     let e = c.in_ok-write_first_sections.ensures in
-    pack_moves refusal c.in-Err.fault _ _ _ _ (IsTrue s.tells → ⊥) none
+    pack_moves refusal c.in-Err.fault _ _ _ _ (IsTrue s.models → ⊥) none
     (third_move c.in-Err.fault (total f c.args.ramdisks.now) (total f first.ramdisks) (f c.args.dtb.now) (f first.dtb)
     (f c.args.bootconfig.now) (f last.bootconfig) (w c.args.output.now) (w first.output) (w last.output)
-    (w last.output) (IsTrue s.tells → config ≡ get_or c.in_ok-sizes.sizes 3 0 → ⊥) (IsTrue s.tells → ⊥)
+    (w last.output) (IsTrue s.models → config ≡ get_or c.in_ok-sizes.sizes 3 0 → ⊥) (IsTrue s.models → ⊥)
     e.moves.reads.faults e.moves.more.faults e.moves.writes.faults (le_refl _)
-    (λ changed tells. changed tells (sym (ap (λ (l : List ℕ). get_or l 3 0) z)))
+    (λ changed models. changed models (sym (ap (λ (l : List ℕ). get_or l 3 0) z)))
     c.in-Err.ensures.moves.cause)
 
 pub returns-clause-written : goal.returns-clause-written
-returns-clause-written g c = λ tells.
+returns-clause-written g c = λ models.
     let s = g.S.Source in
     let at = goal.at.returns-clause-written g c in
     let first = first_sections (vendor_view c.vendor_header_for-header.result)
     (concat (map s.content c.args.ramdisks.now)) (s.content c.args.dtb.now) in
-    let rest = rest_is g at.In_ok-write_first_sections tells c.if-spec-eq3.false in
-    then_all _ _ _ first _ (c.in_ok-write_first_sections.ensures.written tells) (c.in-Ok.ensures.written tells)
+    let rest = rest_is g at.In_ok-write_first_sections models c.if-spec-eq3.false in
+    then_all _ _ _ first _ (c.in_ok-write_first_sections.ensures.written models) (c.in-Ok.ensures.written models)
     ∙ ap (λ (l : List ℕ). g.O.Output.written c.args.output.now ++ l)
-    (ap (λ (l : List ℕ). first ++ l) rest ∙ canon g at.After-vendor_header_for-header tells)
+    (ap (λ (l : List ℕ). first ++ l) rest ∙ canon g at.After-vendor_header_for-header models)
 
 pub returns-clause-front : goal.returns-clause-front
-returns-clause-front g c = λ tells.
+returns-clause-front g c = λ models.
     let at = goal.at.returns-clause-front g c in
-    begins_is _ _ _ _ (canon g at.After-vendor_header_for-header tells)
-    (begins_then _ _ _ _ _ (c.in_ok-write_first_sections.ensures.written tells)
-    (begins_is _ _ _ _ (rest_is g at.In_ok-write_first_sections tells c.if-spec-eq3.false)
-    (c.in-Ok.ensures.front tells))
+    begins_is _ _ _ _ (canon g at.After-vendor_header_for-header models)
+    (begins_then _ _ _ _ _ (c.in_ok-write_first_sections.ensures.written models)
+    (begins_is _ _ _ _ (rest_is g at.In_ok-write_first_sections models c.if-spec-eq3.false)
+    (c.in-Ok.ensures.front models))
     c.in-Ok.ensures.moves.writes.least)
 
 pub returns-clause-table : goal.returns-clause-table

@@ -34,9 +34,9 @@ loop-i-preserved g c =
       long = simp length-set v.long;
       reads = all_part s _ ps i d new (omega arith) v.reads e.part.moves.reads;
       lasting = kept s.size ps i d new (e.part.lasting.1 ∙ sym e.part.lasting.0) ∙ v.lasting;
-      written = λ tells.
-          let next = next_part s.content ps c.args.ramdisks.now i d (v.reads.content tells) (omega arith) in
-          then_all _ _ _ (concat (take i all)) b (v.written tells) (e.part.written tells)
+      written = λ models.
+          let next = next_part s.content ps c.args.ramdisks.now i d (v.reads.content models) (omega arith) in
+          then_all _ _ _ (concat (take i all)) b (v.written models) (e.part.written models)
           ∙ ap (λ (l : List ℕ). g.O.Output.written c.args.output.now ++ l) (concat_next all b i next);
       all = omega (arith, v.all, e.part.bytes.all, n, sum_by_more s.size c.args.ramdisks.now i d (omega arith));
       writes = writes_then v.writes e.part.moves.writes;
@@ -54,12 +54,12 @@ returns-in-Err-clause-ramdisks g c =
     let b = s.content (get_or ps i d) in
     record {
       moves = moves_part ps i d _ (omega arith) v.reads v.writes e.part.moves
-          (λ changed tells. changed tells (sym c.length-size.ensures.size));
+          (λ changed models. changed models (sym c.length-size.ensures.size));
       lasting = tt;
       written = search rules;
-      front = λ tells.
-          let next = next_part s.content ps c.args.ramdisks.now i d (v.reads.content tells) (omega arith) in
+      front = λ models.
+          let next = next_part s.content ps c.args.ramdisks.now i d (v.reads.content models) (omega arith) in
           begins_is _ _ _ _ (concat_at all b i next)
           (begins_stop _ _ (concat (take i all) ++ b) (concat (drop (i + 1) all))
-          (begins_then _ _ _ (concat (take i all)) b (v.written tells) (e.front tells) e.part.moves.writes.least));
+          (begins_then _ _ _ (concat (take i all)) b (v.written models) (e.front models) e.part.moves.writes.least));
     }

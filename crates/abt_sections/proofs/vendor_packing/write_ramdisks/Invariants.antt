@@ -14,7 +14,7 @@ invariant-loop-i g l =
       long : length l.ramdisks ≡ length l.fn.ramdisks;
       reads : OnlyReadsAll {X = Unit {0}} {E = SectionFault} (Ok tt) s l.fn.ramdisks l.ramdisks;
       lasting : map s.size l.ramdisks ≡ map s.size l.fn.ramdisks;
-      written : IsTrue s.tells → o.written l.output ≡ o.written l.fn.output ++ concat
+      written : IsTrue s.models → o.written l.output ≡ o.written l.fn.output ++ concat
           (take l.i (map s.content l.fn.ramdisks));
       all : length (o.written l.output) ≡ length (o.written l.fn.output) + total s.size (take l.i l.fn.ramdisks);
       writes : OnlyWrites {X = Unit {0}} {E = SectionFault} (Ok tt) 0 o l.fn.output l.output;

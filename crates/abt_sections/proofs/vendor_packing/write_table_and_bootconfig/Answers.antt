@@ -8,7 +8,7 @@ use Rattle.abt_sections.proofs.Growing.{begins_then, begins_stop, begins_is, the
 use Rattle.abt_sections.proofs.vendor_packing.write_table_and_bootconfig.Goals as goal
 
 pub returns-in-Err-write_padding-clause-front : goal.returns-in-Err-write_padding-clause-front
-returns-in-Err-write_padding-clause-front g c = λ tells.
+returns-in-Err-write_padding-clause-front g c = λ models.
     let page = c.args.page in
     let t = table_for c.args.fragments.now (map g.S.Source.size c.args.ramdisks.now) 0 in
     let w0 = g.O.Output.written c.args.output.now in
@@ -21,7 +21,7 @@ returns-in-Err-write_padding-clause-front g c = λ tells.
     c.in-Err-write_padding.ensures.appends.writes.only.least))
 
 pub returns-clause-written : goal.returns-clause-written
-returns-clause-written g c = λ tells.
+returns-clause-written g c = λ models.
     let page = c.args.page in
     let t = table_for c.args.fragments.now (map g.S.Source.size c.args.ramdisks.now) 0 in
     let b = padded page (g.S.Source.content c.args.bootconfig.now) in
@@ -36,10 +36,10 @@ returns-clause-written g c = λ tells.
     ap (λ (l : List ℕ). l ++ b) first ∙ append_assoc w0 (padded page t) b
     ∙ ap (λ (l : List ℕ). w0 ++ (padded page t ++ l)) (sym (append-nil b)) in
     subst (λ (l : List ℕ). OnOk c.write_part.result (g.O.Output.written c.write_part.new.output ≡ l)) whole
-    (c.write_part.ensures.part.written tells)
+    (c.write_part.ensures.part.written models)
 
 pub returns-clause-front : goal.returns-clause-front
-returns-clause-front g c = λ tells.
+returns-clause-front g c = λ models.
     let page = c.args.page in
     let t = table_for c.args.fragments.now (map g.S.Source.size c.args.ramdisks.now) 0 in
     let b = padded page (g.S.Source.content c.args.bootconfig.now) in
@@ -51,7 +51,7 @@ returns-clause-front g c = λ tells.
     let first : g.O.Output.written c.write_padding.new.output ≡ w0 ++ padded page t =
     then_all _ _ _ t _ e.appends.written p.appends.written ∙ ap (λ (k : ℕ). w0 ++ (t ++ zeros_behind k page)) long in
     begins_then _ _ _ (padded page t) (b ++ []) first (begins_is _ _ _ _ (sym (append-nil b))
-    (c.write_part.ensures.front tells)) c.write_part.ensures.part.moves.writes.least
+    (c.write_part.ensures.front models)) c.write_part.ensures.part.moves.writes.least
 
 pub returns-clause-table : goal.returns-clause-table
 returns-clause-table g c =

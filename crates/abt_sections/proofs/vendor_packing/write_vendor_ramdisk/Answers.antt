@@ -12,13 +12,13 @@ returns-clause-ramdisks g c =
     let w0 = g.O.Output.written c.args.output.now in
     let e = c.in-Ok.ensures in
     let p = c.write_padding.ensures.appends in
-    let long : IsTrue g.S.Source.tells → length x ≡ c.args.size = λ tells.
-    omega (arith, ap length (e.ramdisks.written tells), length-append w0 x, e.bytes.all, c.requires.sized) in
+    let long : IsTrue g.S.Source.models → length x ≡ c.args.size = λ models.
+    omega (arith, ap length (e.ramdisks.written models), length-append w0 x, e.bytes.all, c.requires.sized) in
     record {
       moves = search rules;
       lasting = search rules;
-      written = λ tells. ok_padded c.write_padding.result _ _ _ x c.args.size c.args.page (long tells)
-          (e.ramdisks.written tells) p.written;
-      front = λ tells. begins_is _ _ _ _ (ap (λ (k : ℕ). x ++ zeros_behind k c.args.page) (sym (long tells)))
-          (begins_then _ _ _ x _ (e.ramdisks.written tells) p.front p.writes.only.least);
+      written = λ models. ok_padded c.write_padding.result _ _ _ x c.args.size c.args.page (long models)
+          (e.ramdisks.written models) p.written;
+      front = λ models. begins_is _ _ _ _ (ap (λ (k : ℕ). x ++ zeros_behind k c.args.page) (sym (long models)))
+          (begins_then _ _ _ x _ (e.ramdisks.written models) p.front p.writes.only.least);
     }

@@ -21,17 +21,17 @@ loop-gatherer-init g c =
       blocks = rw none c.blocks-count.ensures;
       reads = reads_none _ g.S.Source _;
       sound = rw begun (gatherer_sound _ _ c.start.result s.first s.within);
-      told = λ tells.
-          let o = raw_blocks r.blocks r.size r.length _ r.some r.covers r.last (c.requires.opened tells) in
+      told = λ models.
+          let o = raw_blocks r.blocks r.size r.length _ r.some r.covers r.last (c.requires.opened models) in
           rw begun (gatherer_told _ _ _ c.start.result s.first s.within o.0);
       bounds = rw (begun, none) (first_count _ _ c.start.result);
-      numbers = λ tells. rw (begun, none) (counted_first _ _ c.start.result _ s.first);
+      numbers = λ models. rw (begun, none) (counted_first _ _ c.start.result _ s.first);
       given = as_many _;
       received = as_many _;
       greatest = max_most _ _;
       calls = omega arith;
       turns = omega arith;
-      reads_to = λ tells. rw begun (let z = granted r.length r.blocks r.size c.start.result s.unused in omega
+      reads_to = λ models. rw begun (let z = granted r.length r.blocks r.size c.start.result s.unused in omega
           (arith, z));
     }
 
@@ -76,21 +76,21 @@ loop-gatherer-preserved-in-Some g c =
       blocks = rw now i.blocks;
       reads = reads_then i.reads (reads_ok tt e.source.reads);
       sound = rw i.count at e.sound;
-      told = λ tells. rw (i.count, i.reads.content tells) at (e.told tells);
+      told = λ models. rw (i.count, i.reads.content models) at (e.told models);
       bounds = rw now z;
-      numbers = λ tells.
-          let o = raw_blocks r.blocks r.size r.length _ r.some r.covers r.last (c.requires.opened tells) in
-          let closed = rw (i.count, i.reads.content tells, c.in-Some.is) at (e.closed tells) in
+      numbers = λ models.
+          let o = raw_blocks r.blocks r.size r.length _ r.some r.covers r.last (c.requires.opened models) in
+          let closed = rw (i.count, i.reads.content models, c.in-Some.is) at (e.closed models) in
           rw now (counted_on _ _ _ _ c.loop-gatherer.gatherer c.gather.new.self c.in-Some.run' c.loop-gatherer.counted
-          c.requires.some o.0 o.1 (i.told tells).gathered closed run (i.numbers tells));
+          c.requires.some o.0 o.1 (i.told models).gathered closed run (i.numbers models));
       given = omega (arith, e.costs.given, i.given);
       received = omega (arith, e.costs.received, e.costs.one_step.steps, i.received, c.tick.ensures.steps);
       greatest = omega (arith, e.costs.received, e.costs.one_step.greatest, i.greatest, c.tick.ensures.greatest);
       calls = omega (arith, e.costs.calls, e.costs.given, paid, most, i.calls, i.given);
       turns = omega (arith, words, e.costs.given, paid, most, i.turns, i.given, c.tick.ensures.turns);
-      reads_to = λ tells. let place = is_end_place r.blocks r.size r.window in
-          let z = rw i.count at (e.gathered tells (end_place r.blocks) place place (sym i.count) refl) in
-          omega (arith, z, i.reads_to tells);
+      reads_to = λ models. let place = is_end_place r.blocks r.size r.window in
+          let z = rw i.count at (e.gathered models (end_place r.blocks) place place (sym i.count) refl) in
+          omega (arith, z, i.reads_to models);
     }
 
 pub loop-gatherer-preserved : goal.loop-gatherer-preserved
@@ -110,19 +110,19 @@ loop-gatherer-preserved g c =
       blocks = i.blocks;
       reads = reads_then i.reads (reads_ok tt e.source.reads);
       sound = on;
-      told = λ tells. rw (i.count, i.reads.content tells) at (e.told tells);
+      told = λ models. rw (i.count, i.reads.content models) at (e.told models);
       bounds = sound_count_still _ c.loop-gatherer.gatherer c.gather.new.self c.loop-gatherer.counted i.sound.behind_it
           on.behind_it grows i.bounds;
-      numbers = λ tells. counted_still _ _ c.loop-gatherer.gatherer c.gather.new.self c.loop-gatherer.counted
-          i.sound.behind_it on.behind_it grows (i.numbers tells);
+      numbers = λ models. counted_still _ _ c.loop-gatherer.gatherer c.gather.new.self c.loop-gatherer.counted
+          i.sound.behind_it on.behind_it grows (i.numbers models);
       given = omega (arith, e.costs.given, i.given);
       received = omega (arith, e.costs.received, e.costs.one_step.steps, i.received, c.tick.ensures.steps);
       greatest = omega (arith, e.costs.received, e.costs.one_step.greatest, i.greatest, c.tick.ensures.greatest);
       calls = omega (arith, e.costs.calls, e.costs.given, paid, most, i.calls, i.given);
       turns = omega (arith, words, e.costs.given, paid, most, i.turns, i.given, c.tick.ensures.turns);
-      reads_to = λ tells. let place = is_end_place r.blocks r.size r.window in
-          let z = rw i.count at (e.gathered tells (end_place r.blocks) place place (sym i.count) refl) in
-          omega (arith, z, i.reads_to tells);
+      reads_to = λ models. let place = is_end_place r.blocks r.size r.window in
+          let z = rw i.count at (e.gathered models (end_place r.blocks) place place (sym i.count) refl) in
+          omega (arith, z, i.reads_to models);
     }
 
 -- all runs are counted
@@ -131,17 +131,17 @@ returns g c =
     let i = c.loop-gatherer.invariant in
     let r = c.args.runs.now in
     let z = i.sound.ended (sym c.loop-gatherer-test.ensures) in
-    let whole = λ (tells : IsTrue g.S.Source.tells).
-    let o = raw_blocks r.blocks r.size r.length _ r.some r.covers r.last (c.requires.opened tells) in
-    counted_whole r.size _ _ _ c.loop-gatherer.gatherer c.loop-gatherer.counted o.0 z.0 z.1 (i.numbers tells) in
+    let whole = λ (models : IsTrue g.S.Source.models).
+    let o = raw_blocks r.blocks r.size r.length _ r.some r.covers r.last (c.requires.opened models) in
+    counted_whole r.size _ _ _ c.loop-gatherer.gatherer c.loop-gatherer.counted o.0 z.0 z.1 (i.numbers models) in
     let most = words_most r.size r.blocks (min c.loop-gatherer.gatherer.at.block r.blocks) in
     record {
       source = record { reads = reads_ok _ i.reads; cause = tt };
       blocks = i.blocks;
       counts = whole;
       bounded = bounded_whole _ _ c.loop-gatherer.gatherer c.loop-gatherer.counted z.0 z.1 i.bounds;
-      economy = λ tells. let end = granted_end r.length r.blocks r.size c.loop-gatherer.gatherer.at z.1 in omega
-          (arith, end, i.reads_to tells);
+      economy = λ models. let end = granted_end r.length r.blocks r.size c.loop-gatherer.gatherer.at z.1 in omega
+          (arith, end, i.reads_to models);
       costs = record {
         given = i.given;
         received = i.received;
@@ -163,9 +163,9 @@ returns-in-Err g c =
         cause = run_causes _ _ _ _ _ _ _ c.run_fault.ensures (rw i.reads.clean at c.in-Err.ensures.source.cause);
       };
       blocks = tt;
-      counts = λ tells. tt;
+      counts = λ models. tt;
       bounded = tt;
-      economy = λ tells. tt;
+      economy = λ models. tt;
       costs = record {
         given = omega (arith, i.given, e.costs.given);
         received = omega (arith, e.costs.received, e.costs.one_step.steps, i.received, c.tick.ensures.steps);

@@ -19,16 +19,16 @@ invariant-loop-gatherer g l =
       blocks : l.counted.blocks ≡ l.fn.runs.blocks;
       reads : OnlyReads {X = Unit {0}} {E = PieceFault} (Ok tt) g.S.Source l.fn.source l.source;
       sound : SoundGatherer (λ c. RawPlace l.fn.runs.blocks l.fn.runs.size c) l.fn.runs.blocks 0 l.fn.runs.blocks l.gatherer;
-      told : IsTrue g.S.Source.tells → ToldGatherer (λ c. RawPlace l.fn.runs.blocks l.fn.runs.size c) (classify l.fn.runs.size (content l.fn.source)) 0 l.fn.runs.blocks l.gatherer;
+      told : IsTrue g.S.Source.models → ToldGatherer (λ c. RawPlace l.fn.runs.blocks l.fn.runs.size c) (classify l.fn.runs.size (content l.fn.source)) 0 l.fn.runs.blocks l.gatherer;
       bounds : SoundCount l.fn.runs.size l.gatherer l.counted;
-      numbers : IsTrue g.S.Source.tells → Counted l.fn.most (classify l.fn.runs.size (content l.fn.source)) l.gatherer l.counted;
+      numbers : IsTrue g.S.Source.models → Counted l.fn.most (classify l.fn.runs.size (content l.fn.source)) l.gatherer l.counted;
       given : given' l.fn.source ≤ given' l.source;
       received : given' l.source + 65536 * l.fn.m.steps.number ≤ given' l.fn.source + 65536 * l.m.steps.number;
       greatest : l.m.greatest.number ≤ max l.fn.m.greatest.number 65536;
       calls : g.S.Source.reads l.source + 2 * min (silent_left l.fn.runs.blocks l.fn.runs.blocks l.gatherer) 3
           ≤ g.S.Source.reads l.fn.source + 3 * (given' l.source - given' l.fn.source) + 6;
       turns : l.m.turns.number + 3 * min (silent_left l.fn.runs.blocks l.fn.runs.blocks l.gatherer) 3 ≤ l.fn.m.turns.number + 5 * (given' l.source - given' l.fn.source) + 9 + last_words l.fn.runs.size l.fn.runs.blocks (min l.gatherer.at.block l.fn.runs.blocks);
-      reads_to : IsTrue g.S.Source.tells → given' l.source + 16 ≤ given' l.fn.source + read_to l.fn.runs.length l.fn.runs.blocks l.fn.runs.size l.gatherer.at;
+      reads_to : IsTrue g.S.Source.models → given' l.source + 16 ≤ given' l.fn.source + read_to l.fn.runs.length l.fn.runs.blocks l.fn.runs.size l.gatherer.at;
     }
 
 abbrev pub decreases-loop-gatherer : goal.decreases-loop-gatherer

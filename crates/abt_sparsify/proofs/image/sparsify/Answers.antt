@@ -34,7 +34,7 @@ returns-in-Err g c =
         full = λ says. absurd (run_unsaid _ _ is says);
         cause = refused_cause _ _ _ _ _ _ _ _ _ is refused;
       };
-      told = λ tells. record { chunks = tt; front = nothing_more _ _; whole = tt; economy = tt };
+      told = λ models. record { chunks = tt; front = nothing_more _ _; whole = tt; economy = tt };
       sparse = tt;
     }
 
@@ -61,6 +61,6 @@ returns g c =
         full = w.moves.full;
         cause = sparsify_causes c.write_image.result _ _ _ _ _ _ _ w.moves.cause;
       };
-      told = λ tells. rw size at (w.told tells);
+      told = λ models. rw size at (w.told models);
       sparse = rw (size, e.size.1) at w.sparse;
     }

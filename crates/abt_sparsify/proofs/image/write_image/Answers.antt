@@ -19,7 +19,7 @@ returns-in-Err g c =
         full = λ says. absurd (none_says _ none says);
         cause = cause_unwritten c.in-Err.fault _ _ _ _ _ e.source.cause;
       };
-      told = λ tells. record { chunks = tt; front = nothing_more _ _; whole = tt; economy = tt };
+      told = λ models. record { chunks = tt; front = nothing_more _ _; whole = tt; economy = tt };
       sparse = tt;
       within = no_more _ _;
       costs = record {
@@ -47,10 +47,10 @@ returns-in-Err-write_header g c =
         full = λ says. f.full (says_full c.in-Err-write_header.fault says);
         cause = f.cause;
       };
-      told = λ tells.
-          let o = raw_blocks i.blocks i.size i.length _ i.some i.covers i.last (c.requires.ready.opened tells) in
+      told = λ models.
+          let o = raw_blocks i.blocks i.size i.length _ i.some i.covers i.last (c.requires.ready.opened models) in
           let whole = header_first i.size c.args.most _ c.block_size-size.result c.in-Ok.counted.blocks
-          c.in-Ok.counted.chunks c.block_size-size.ensures (e.blocks ∙ o.0) (e.counts tells).chunks in
+          c.in-Ok.counted.chunks c.block_size-size.ensures (e.blocks ∙ o.0) (e.counts models).chunks in
           record { chunks = tt; front = wrote_part _ _ _ _ _ f.put.front whole; whole = tt; economy = tt };
       sparse = tt;
       within = omega (arith, h.within);
@@ -81,16 +81,16 @@ returns-in-Ok-write_runs g c =
         full = λ says. absurd (not_full says);
         cause = tt;
       };
-      told = λ tells.
-          let o = raw_blocks i.blocks i.size i.length _ i.some i.covers i.last (c.requires.ready.opened tells) in
+      told = λ models.
+          let o = raw_blocks i.blocks i.size i.length _ i.some i.covers i.last (c.requires.ready.opened models) in
           let header = header_first i.size c.args.most _ c.block_size-size.result c.in-Ok.counted.blocks
-          c.in-Ok.counted.chunks c.block_size-size.ensures (e.blocks ∙ o.0) (e.counts tells).chunks in
+          c.in-Ok.counted.chunks c.block_size-size.ensures (e.blocks ∙ o.0) (e.counts models).chunks in
           record {
-            chunks = (e.blocks ∙ o.0, (e.counts tells).chunks);
+            chunks = (e.blocks ∙ o.0, (e.counts models).chunks);
             front = front_join _ _ _ _ _ b.writes.least y.moves.writes.least (wrote_front _ _ _ _ _ h.put.ok header)
-                (wrote_rest _ _ _ _ _ h.put.ok header) (rw (e.source.reads.content tells) at (y.front tells));
-            whole = whole_of _ _ _ _ _ _ h.put.ok (rw (e.source.reads.content tells) at (z.whole tells)) header;
-            economy = omega (arith, e.economy tells, z.economy tells, c.requires.ready.opened tells);
+                (wrote_rest _ _ _ _ _ h.put.ok header) (rw (e.source.reads.content models) at (y.front models));
+            whole = whole_of _ _ _ _ _ _ h.put.ok (rw (e.source.reads.content models) at (z.whole models)) header;
+            economy = omega (arith, e.economy models, z.economy models, c.requires.ready.opened models);
           };
       sparse =
           let written = rw (c.block_size-size.ensures, e.blocks) at h.put.ok in
@@ -148,14 +148,14 @@ returns-in-Err-write_runs g c =
         full = z.moves.full;
         cause = cause_since c.in-Err-write_runs.fault _ _ _ _ _ _ _ a.source.reads.faults b.writes.faults z.moves.cause;
       };
-      told = λ tells.
-          let o = raw_blocks i.blocks i.size i.length _ i.some i.covers i.last (c.requires.ready.opened tells) in
+      told = λ models.
+          let o = raw_blocks i.blocks i.size i.length _ i.some i.covers i.last (c.requires.ready.opened models) in
           let header = header_first i.size c.args.most _ c.block_size-size.result c.in-Ok.counted.blocks
-          c.in-Ok.counted.chunks c.block_size-size.ensures (e.blocks ∙ o.0) (e.counts tells).chunks in
+          c.in-Ok.counted.chunks c.block_size-size.ensures (e.blocks ∙ o.0) (e.counts models).chunks in
           record {
             chunks = tt;
             front = front_join _ _ _ _ _ b.writes.least y.moves.writes.least (wrote_front _ _ _ _ _ h.put.ok header)
-                (wrote_rest _ _ _ _ _ h.put.ok header) (rw (e.source.reads.content tells) at (y.front tells));
+                (wrote_rest _ _ _ _ _ h.put.ok header) (rw (e.source.reads.content models) at (y.front models));
             whole = tt;
             economy = tt;
           };

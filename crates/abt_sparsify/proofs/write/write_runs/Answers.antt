@@ -29,12 +29,12 @@ loop-m-preserved g c =
       first = e.segment.0 ∙ i.first;
       past = e.segment.1 ∙ i.past;
       sound = s.sound;
-      told = λ tells. rw (i.reads.content tells) at (s.told tells);
+      told = λ models. rw (i.reads.content models) at (s.told models);
       counted = omega (arith, s.counted, i.counted);
-      front = λ tells. front_join _ _ _ _ _ i.writes.least e.writes.least (i.front tells) (i.rest tells)
-          (rw (i.reads.content tells, i.first, i.past) at (e.front tells));
-      rest = λ tells. rest_join _ _ _ _ _ _ i.writes.least e.writes.least (i.rest tells)
-          (rw (i.reads.content tells, i.first, i.past) at (s.rest tells));
+      front = λ models. front_join _ _ _ _ _ i.writes.least e.writes.least (i.front models) (i.rest models)
+          (rw (i.reads.content models, i.first, i.past) at (e.front models));
+      rest = λ models. rest_join _ _ _ _ _ _ i.writes.least e.writes.least (i.rest models)
+          (rw (i.reads.content models, i.first, i.past) at (s.rest models));
       given = omega (arith, e.costs.given, i.given);
       received = omega (arith, e.costs.received, e.costs.steps, i.received);
       greatest = omega (arith, e.costs.received, e.costs.greatest, i.greatest);
@@ -60,9 +60,9 @@ loop-m-preserved g c =
         i.writes.least,
         c.tick.ensures.turns,
       );
-      spends = λ tells.
-          let z = s.spends tells (end_place r.blocks) place place (sym i.past) refl 16
-          (32 + (g.S.Source.given c.loop-m.source - g.S.Source.given c.args.source.now)) (i.spends tells) in
+      spends = λ models.
+          let z = s.spends models (end_place r.blocks) place place (sym i.past) refl 16
+          (32 + (g.S.Source.given c.loop-m.source - g.S.Source.given c.args.source.now)) (i.spends models) in
           let t : 32 + (g.S.Source.given c.loop-m.source - g.S.Source.given c.args.source.now) +
           (g.S.Source.given c.step.new.source - g.S.Source.given c.loop-m.source) ≡ 32 +
           (g.S.Source.given c.step.new.source - g.S.Source.given c.args.source.now) = omega
@@ -92,15 +92,15 @@ returns g c =
       };
       within = omega (arith, e.within, i.counted);
       long = omega (arith, i.counted, done.0, ap length done.1);
-      front = λ tells. front_join _ _ _ _ _ i.writes.least e.writes.least (i.front tells) (i.rest tells)
-          (rw (i.reads.content tells, i.first, i.past) at (e.front tells));
-      whole = λ tells. done.1 ∙ whole_join _ _ _ i.writes.least (i.front tells) (sym (i.rest tells)
-          ∙ no_bytes _ (let long = rw (i.first, i.past) at (i.told tells).long in omega (arith, long, done.0)));
+      front = λ models. front_join _ _ _ _ _ i.writes.least e.writes.least (i.front models) (i.rest models)
+          (rw (i.reads.content models, i.first, i.past) at (e.front models));
+      whole = λ models. done.1 ∙ whole_join _ _ _ i.writes.least (i.front models) (sym (i.rest models)
+          ∙ no_bytes _ (let long = rw (i.first, i.past) at (i.told models).long in omega (arith, long, done.0)));
       image = leads_whole (AreChunks r.size c.args.counted.chunks r.blocks) (MayCome r.size r.blocks c.loop-m.writer) _
           _ _ i.leads (nothing_appended (MayCome r.size r.blocks c.loop-m.writer) _ _ done.1 (o.all test));
-      economy = λ tells.
-          let z = o.spent tells (end_place r.blocks) place place (sym i.past) refl 16
-          (32 + (g.S.Source.given c.loop-m.source - g.S.Source.given c.args.source.now)) (i.spends tells) test in
+      economy = λ models.
+          let z = o.spent models (end_place r.blocks) place place (sym i.past) refl 16
+          (32 + (g.S.Source.given c.loop-m.source - g.S.Source.given c.args.source.now)) (i.spends models) test in
           let y = all_read r.length r.blocks r.size (g.S.Source.given c.step.new.source - g.S.Source.given
           c.args.source.now) (omega (arith, z, e.costs.given, i.given)) in
           omega (arith, y, e.costs.given, i.given);
@@ -138,11 +138,11 @@ returns-in_err-step g c =
       };
       within = omega (arith, e.within, i.counted);
       long = rw p.1 tt;
-      front = λ tells. front_join _ _ _ _ _ i.writes.least e.writes.least (i.front tells) (i.rest tells)
-          (rw (i.reads.content tells, i.first, i.past) at (e.front tells));
-      whole = λ tells. rw p.1 tt;
+      front = λ models. front_join _ _ _ _ _ i.writes.least e.writes.least (i.front models) (i.rest models)
+          (rw (i.reads.content models, i.first, i.past) at (e.front models));
+      whole = λ models. rw p.1 tt;
       image = rw p.1 tt;
-      economy = λ tells. rw p.1 tt;
+      economy = λ models. rw p.1 tt;
       costs = record {
         given = omega (arith, e.costs.given, i.given);
         received = omega (arith, e.costs.received, e.costs.steps, i.received);
@@ -169,8 +169,8 @@ loop-m-init g c =
     let begun = rw c.blocks-count.ensures at c.writer_of-writer.ensures in
     let start = c.start.result in
     let silent = silent_most r.blocks r.blocks (first_gatherer start) in
-    let blocks = λ (tells : IsTrue g.S.Source.tells). raw_blocks r.blocks r.size r.length _ r.some r.covers r.last
-    (c.requires.ready.opened tells) in
+    let blocks = λ (models : IsTrue g.S.Source.models). raw_blocks r.blocks r.size r.length _ r.some r.covers r.last
+    (c.requires.ready.opened models) in
     record {
       reads = reads_none _ g.S.Source _;
       writes = writes_none _ g.O.Output _;
@@ -178,11 +178,11 @@ loop-m-init g c =
       past = rw begun refl;
       sound = rw begun (first_sound r.blocks r.size _ start c.args.counted s.first s.within c.requires.ready.some
           c.requires.ready.small (omega arith));
-      told = λ tells. rw begun (first_told r.blocks r.size _ _ start c.args.counted s.first s.within (blocks tells).0
-          (c.requires.counts tells).chunks (c.requires.counts tells).bytes);
+      told = λ models. rw begun (first_told r.blocks r.size _ _ start c.args.counted s.first s.within (blocks models).0
+          (c.requires.counts models).chunks (c.requires.counts models).bytes);
       counted = rw begun (omega (arith, c.requires.least));
-      front = λ tells. nothing_more _ _;
-      rest = λ tells. rw begun (first_rest r.blocks c.args.most _ start c.args.counted (blocks tells).0 ∙ nothing_less
+      front = λ models. nothing_more _ _;
+      rest = λ models. rw begun (first_rest r.blocks c.args.most _ start c.args.counted (blocks models).0 ∙ nothing_less
           (g.O.Output.written c.args.output.now) _);
       given = as_many _;
       received = as_many _;
@@ -190,7 +190,7 @@ loop-m-init g c =
       calls = rw begun (omega (arith, silent));
       write_calls = rw begun (omega (arith, silent));
       turns = rw begun (omega (arith, silent));
-      spends = λ tells.
+      spends = λ models.
           let z = all_spent r.length r.blocks r.size c.args.most start c.args.counted s.first s.unused s.fresh r.covers
           in
           let t : 32 ≡ 32 + (g.S.Source.given c.args.source.now - g.S.Source.given c.args.source.now) = omega arith in

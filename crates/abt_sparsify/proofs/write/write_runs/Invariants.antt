@@ -26,10 +26,10 @@ invariant-loop-m g l =
       first : l.writer.first ≡ 0;
       past : l.writer.past ≡ n;
       sound : SoundWriter (λ c. RawPlace n b c) (λ c. (n - c.block) * b) n b l.writer;
-      told : IsTrue g.S.Source.tells → ToldWriter (λ c. RawPlace n b c) (λ c. n - c.block) (classify b (content l.fn.source)) l.writer;
+      told : IsTrue g.S.Source.models → ToldWriter (λ c. RawPlace n b c) (λ c. n - c.block) (classify b (content l.fn.source)) l.writer;
       counted : length (written l.output) + l.writer.bytes + 28 ≡ length (written l.fn.output) + l.fn.counted.bytes;
-      front : IsTrue g.S.Source.tells → written l.output ≡ written l.fn.output ++ take (length (written l.output) - length (written l.fn.output)) (bytes_of l.fn.most (classify b (content l.fn.source)));
-      rest : IsTrue g.S.Source.tells → rest_of (framed (classify b (content l.fn.source)) 0 n) l.writer ≡ drop (length (written l.output) - length (written l.fn.output)) (bytes_of l.fn.most (classify b (content l.fn.source)));
+      front : IsTrue g.S.Source.models → written l.output ≡ written l.fn.output ++ take (length (written l.output) - length (written l.fn.output)) (bytes_of l.fn.most (classify b (content l.fn.source)));
+      rest : IsTrue g.S.Source.models → rest_of (framed (classify b (content l.fn.source)) 0 n) l.writer ≡ drop (length (written l.output) - length (written l.fn.output)) (bytes_of l.fn.most (classify b (content l.fn.source)));
       given : given' l.fn.source ≤ given' l.source;
       received : given' l.source + 65536 * l.fn.m.steps.number ≤ given' l.fn.source + 65536 * l.m.steps.number;
       greatest : l.m.greatest.number ≤ max l.fn.m.greatest.number 65536;
@@ -39,7 +39,7 @@ invariant-loop-m g l =
       write_calls : g.O.Output.writes l.output + silent_write n l.writer ≤ g.O.Output.writes l.fn.output
           + (given' l.source - given' l.fn.source) + 2 * (length (written l.output) - length (written l.fn.output)) + 3;
       turns : l.m.turns.number + 4 * silent_write n l.writer ≤ l.fn.m.turns.number + 6 * (given' l.source - given' l.fn.source) + 5 * (length (written l.output) - length (written l.fn.output)) + 12 + writer_words b n l.writer;
-      spends : IsTrue g.S.Source.tells → Spent (λ c. RawPlace n b c × RawPlace n b c) (λ c. raw_charge len n b c) (λ c. raw_before len b c) (λ c k. raw_held len b c k) (end_place n) 16 (32 + (given' l.source - given' l.fn.source)) l.writer;
+      spends : IsTrue g.S.Source.models → Spent (λ c. RawPlace n b c × RawPlace n b c) (λ c. raw_charge len n b c) (λ c. raw_before len b c) (λ c k. raw_held len b c k) (end_place n) 16 (32 + (given' l.source - given' l.fn.source)) l.writer;
       leads : Leads (AreChunks b l.fn.counted.chunks n) (MayCome b n l.writer) (written l.fn.output) (written l.output);
     }
 

@@ -6,7 +6,7 @@ use Rattle.abt_verify.proofs.comparing.compare_at.Goals as goal
 pub returns-then-same-n-clause-compares : goal.returns-then-same-n-clause-compares
 returns-then-same-n-clause-compares g c = record {
   stands = search rules;
-  differs = λ tells.
+  differs = λ models.
       let w = c.args.w.now.bytes in
       let n = c.args.n in
       let o = c.read_full_at-got.ensures in
@@ -19,9 +19,9 @@ returns-then-same-n-clause-compares g c = record {
       let image : c.part.result.now ≡ take n w = c.part.ensures.value
       ∙ first_half n 32768 w out (drop (32768 + n) w) c.requires.half (omega arith) in
       let there : c.part-2.result.now ≡ take count (drop c.args.at p) = c.part-2.ensures.value
-      ∙ second_half count 32768 w out (drop (32768 + n) w) o.within (omega arith) ∙ o.bytes tells in
+      ∙ second_half count 32768 w out (drop (32768 + n) w) o.within (omega arith) ∙ o.bytes models in
       let long : length (take n w) ≡ n = length-take-le n w (omega arith) in
-      let all : count ≡ min (length (take n w)) (length p - c.args.at) = let q = o.all tells (rw c.in-None.is refl) in
+      let all : count ≡ min (length (take n w)) (length p - c.args.at) = let q = o.all models (rw c.in-None.is refl) in
       omega (arith, q, asked, long) in
       first_there p (take n w) c.part.result.now c.part-2.result.now c.args.at c.alike-same.result count image there
       c.alike-same.ensures.within c.alike-same.ensures.same
@@ -32,7 +32,7 @@ returns-then-same-n-clause-compares g c = record {
 
 pub returns-clause-compares : goal.returns-clause-compares
 returns-clause-compares g c = record {
-  stands = λ tells.
+  stands = λ models.
       let w = c.args.w.now.bytes in
       let n = c.args.n in
       let o = c.read_full_at-got.ensures in
@@ -43,7 +43,7 @@ returns-clause-compares g c = record {
       let image : c.part.result.now ≡ take n w = c.part.ensures.value
       ∙ first_half n 32768 w out (drop (32768 + n) w) c.requires.half (omega arith) in
       let there : c.part-2.result.now ≡ take count (drop c.args.at p) = c.part-2.ensures.value
-      ∙ second_half count 32768 w out (drop (32768 + n) w) o.within (omega arith) ∙ o.bytes tells in
+      ∙ second_half count 32768 w out (drop (32768 + n) w) o.within (omega arith) ∙ o.bytes models in
       let long : length (take n w) ≡ n = length-take-le n w (omega arith) in
       all_there p (take n w) c.part.result.now c.part-2.result.now c.args.at c.alike-same.result count image there
       c.alike-same.ensures.within c.alike-same.ensures.same

@@ -8,7 +8,7 @@ use Rattle.abt_verify.proofs.RawSteps.{all_came}
 use Rattle.abt_verify.proofs.raw_verifier.compare_piece.Goals as goal
 
 pub returns-in-None-clause-stands : goal.returns-in-None-clause-stands
-returns-in-None-clause-stands g c tells there =
+returns-in-None-clause-stands g c models there =
     let n = c.args.n in
     let w = c.args.w.now.bytes in
     let x = drop c.args.at (g.S.Source.content c.args.source.now) in
@@ -24,7 +24,7 @@ returns-in-None-clause-stands g c tells there =
       o.within,
     ) in
     let same : take n (out ++ drop n w) ≡ take n x =
-    take-append-le n out (drop n w) (omega (arith, asked)) ∙ ap (λ (k : ℕ). take k out) full ∙ o.bytes tells
+    take-append-le n out (drop n w) (omega (arith, asked)) ∙ ap (λ (k : ℕ). take k out) full ∙ o.bytes models
     ∙ ap (λ (k : ℕ). take k x) (sym full) in
     subst (λ (l : List ℕ). IfNone c.compare_at-done.result.fault (Stands (g.P.Source.content c.args.partition.now)
     (from_place c.args.at (somes l)))) same (c.compare_at-done.ensures.compares.stands there)

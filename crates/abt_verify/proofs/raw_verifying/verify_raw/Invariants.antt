@@ -12,8 +12,8 @@ invariant-steps g l =
     let p = g.P.Source in
     record {
       goes : IsUnderway l.machine.stage;
-      long : IsTrue s.tells → l.machine.length ≡ length (s.content l.fn.source);
-      told : IsTrue s.tells → IsTrue p.tells
+      long : IsTrue s.models → l.machine.length ≡ length (s.content l.fn.source);
+      told : IsTrue s.models → IsTrue p.models
           → Stands (p.content l.fn.partition) (somes (take l.machine.at (s.content l.fn.source)));
       read : s.given l.source ≡ s.given l.fn.source + l.machine.at;
       compared : p.given l.partition ≡ p.given l.fn.partition + l.machine.at;

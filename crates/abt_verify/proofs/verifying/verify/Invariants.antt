@@ -16,11 +16,11 @@ invariant-steps g l =
     let got = i.given in
     let seen = p.given in
     record {
-      input : ReadsOn i.tells (input_state i l.fn.input) (input_state i l.input);
+      input : ReadsOn i.models (input_state i l.fn.input) (input_state i l.input);
       partition : OnlyReads {X = Unit {0}} {E = Unit {0}} (Ok tt) p l.fn.partition l.partition;
       compared : seen l.fn.partition ≤ seen l.partition;
       goes : IsComparing l.machine.stage l.machine.walk.phase;
-      told : IsTrue i.tells → Come p.tells l.machine.walk (got l.input - got l.fn.input) (i.remaining l.fn.input)
+      told : IsTrue i.models → Come p.models l.machine.walk (got l.input - got l.fn.input) (i.remaining l.fn.input)
           (p.content l.fn.partition) (seen l.fn.partition) (seen l.partition) l.machine.compared;
       read_faults : i.read_faults l.input ≡ i.read_faults l.fn.input;
       calls : i.reads l.input + p.reads l.partition + 2 * idle l.machine.walk + 8 * got l.fn.input

@@ -16,9 +16,9 @@ loop-i-preserved g c =
     record {
       reads = reads_ok tt (reads_then before.reads seen.finds.reads.only);
       few = omega (arith, before.few, seen.few, c.page_size-page.ensures.high);
-      value = λ tells.
+      value = λ models.
           padding_on (g.S.Source.content c.args.source.now) (page_of h) c.loop-i.i (places_of h) place.result
           c.loop-i.count c.in-Ok-set_behind.more _ within place.ensures.value
-          (rw (before.reads.content tells, c.page_size-page.ensures.value) at (seen.finds.value tells))
-          (before.value tells);
+          (rw (before.reads.content models, c.page_size-page.ensures.value) at (seen.finds.value models))
+          (before.value models);
     }

@@ -12,6 +12,6 @@ invariant-loop-i g l =
     record {
       reads : OnlyReads {X = Unit {0}} {E = Unit {0}} (Ok tt) s l.fn.source l.source;
       few : l.count ≤ 131072 * (l.i + 1);
-      value : IsTrue s.tells → l.count + behind_places (s.content l.fn.source) (page_of h) (drop l.i (places_of h))
+      value : IsTrue s.models → l.count + behind_places (s.content l.fn.source) (page_of h) (drop l.i (places_of h))
           ≡ padding_left (s.content l.fn.source) h;
     }

@@ -11,7 +11,7 @@ invariant-loop-done g l =
       within : l.done ≤ l.all;
       reads : OnlyReads {X = Unit {0}} {E = Unit {0}} (Ok tt) s l.fn.source l.source;
       few : l.count ≤ l.done;
-      value : IsTrue s.tells → l.count ≡ set_in (take l.done (drop l.from (s.content l.fn.source)));
+      value : IsTrue s.models → l.count ≡ set_in (take l.done (drop l.from (s.content l.fn.source)));
     }
 
 abbrev pub decreases-loop-done : goal.decreases-loop-done

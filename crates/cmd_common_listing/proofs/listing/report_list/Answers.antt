@@ -16,25 +16,25 @@ still_written : {O : Type 0} (written : O → List ℕ) (old : List ℕ) (s t : 
 still_written written old s t same is = ap (λ (x : Text _). written x.output.now) same ∙ is
 
 pub returns-in-Ok-clause-begun : goal.returns-in-Ok-clause-begun
-returns-in-Ok-clause-begun g c = λ tells.
-    front_begins g.O.Output.written g.O.Output.write_faults _ _ _ _ _ _ (c.lines-listed.ensures.begun tells)
+returns-in-Ok-clause-begun g c = λ models.
+    front_begins g.O.Output.written g.O.Output.write_faults _ _ _ _ _ _ (c.lines-listed.ensures.begun models)
     c.finish.ensures.prints
     (still_empty c.new-text.result _ c.send_each_line_if.ensures c.new-text.ensures.nothing_held)
     (still_written g.O.Output.written _ c.new-text.result _ c.send_each_line_if.ensures c.new-text.ensures.written)
     (search rules)
 
 pub returns-in-Err-clause-begun : goal.returns-in-Err-clause-begun
-returns-in-Err-clause-begun g c = λ tells.
-    front_begins g.O.Output.written g.O.Output.write_faults _ _ _ _ _ _ (c.lines-listed.ensures.begun tells)
+returns-in-Err-clause-begun g c = λ models.
+    front_begins g.O.Output.written g.O.Output.write_faults _ _ _ _ _ _ (c.lines-listed.ensures.begun models)
     c.finish.ensures.prints
     (still_empty c.new-text.result _ c.send_each_line_if.ensures c.new-text.ensures.nothing_held)
     (still_written g.O.Output.written _ c.new-text.result _ c.send_each_line_if.ensures c.new-text.ensures.written)
     (search rules)
 
 pub returns-in-Ok-clause-refused : goal.returns-in-Ok-clause-refused
-returns-in-Ok-clause-refused g c = λ tells.
+returns-in-Ok-clause-refused g c = λ models.
     refused_written g.O.Output.written g.O.Output.write_faults c.lines-listed.result _ _ _ _ _ _
-    (c.lines-listed.ensures.refused tells)
+    (c.lines-listed.ensures.refused models)
     c.finish.ensures.prints (search rules) c.finish.ensures.emptied
     (still_empty c.new-text.result _ c.send_each_line_if.ensures c.new-text.ensures.nothing_held)
     (still_written g.O.Output.written _ c.new-text.result _ c.send_each_line_if.ensures c.new-text.ensures.written)

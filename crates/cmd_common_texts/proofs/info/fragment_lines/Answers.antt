@@ -10,7 +10,7 @@ pub loop-i-init : goal.loop-i-init
 loop-i-init g c = record {
   faults = refl;
   prints = ([], printed_none _ _ _);
-  lines = λ tells. (refl, printed_none _ _ _);
+  lines = λ models. (refl, printed_none _ _ _);
 }
 
 pub loop-i-preserved : goal.loop-i-preserved
@@ -26,14 +26,14 @@ loop-i-preserved g c =
         c.loop-i.invariant.prints.0 ++ line (fragment_text c.args.notation i c.in-Ok.entry),
         c.loop-i.invariant.prints.1 ▸ c.put_fragment.ensures,
       );
-      lines = λ tells.
-          let before = c.loop-i.invariant.lines tells in
-          let entry : c.in-Ok.entry ≡ entry_of x h i = found.entry tells ∙ ap (λ y. entry_of y h i) before.0 in
+      lines = λ models.
+          let before = c.loop-i.invariant.lines models in
+          let entry : c.in-Ok.entry ≡ entry_of x h i = found.entry models ∙ ap (λ y. entry_of y h i) before.0 in
           let next : suc i ≡ i + 1 = omega arith in
           let all : Prints g.O.Output.written g.O.Output.write_faults c.args.text.now c.put_fragment.new.text
           (fragment_lines c.args.notation x h (suc i))
           = before.1 ▸ as_text (ap (λ e. line (fragment_text c.args.notation i e)) entry) c.put_fragment.ensures in (
-            found.reads.only.content tells ∙ before.0,
+            found.reads.only.content models ∙ before.0,
             subst
                 (λ k. Prints g.O.Output.written g.O.Output.write_faults c.args.text.now c.put_fragment.new.text
                 (fragment_lines c.args.notation x h k)) next all,
@@ -41,19 +41,19 @@ loop-i-preserved g c =
     }
 
 pub returns-in-Err-clause-begun : goal.returns-in-Err-clause-begun
-returns-in-Err-clause-begun g c = λ tells.
+returns-in-Err-clause-begun g c = λ models.
     let h = view_of c.args.image.now.header in
     let within : c.loop-i.i ≤ fragment_count h = search (rules, arith) in
     front_of_fragments c.args.notation (g.S.Source.content c.args.source.now) h c.loop-i.i (fragment_count h) within
-    (c.loop-i.invariant.lines tells).1
+    (c.loop-i.invariant.lines models).1
 
 pub returns-in-Err-is_whole-clause-begun : goal.returns-in-Err-is_whole-clause-begun
-returns-in-Err-is_whole-clause-begun g c = λ tells.
+returns-in-Err-is_whole-clause-begun g c = λ models.
     let x = g.S.Source.content c.args.source.now in
     let h = view_of c.args.image.now.header in
     let i = c.loop-i.i in
-    let before = c.loop-i.invariant.lines tells in
-    let entry : c.in-Ok.entry ≡ entry_of x h i = c.in-Ok.ensures.entry tells ∙ ap (λ y. entry_of y h i) before.0 in
+    let before = c.loop-i.invariant.lines models in
+    let entry : c.in-Ok.entry ≡ entry_of x h i = c.in-Ok.ensures.entry models ∙ ap (λ y. entry_of y h i) before.0 in
     let within : suc i ≤ fragment_count h = search (rules, arith) in
     front_of_fragments c.args.notation x h (suc i) (fragment_count h) within
     (before.1 ▸ as_text (ap (λ e. line (fragment_text c.args.notation i e)) entry) c.put_fragment.ensures)

@@ -7,8 +7,8 @@ use Rattle.sys_text.proofs.Printing.{◌▸◌, as_text, front_exactly}
 use Rattle.cmd_common_texts.proofs.info.image_lines.Goals as goal
 
 pub returns-in-Err-clause-begun : goal.returns-in-Err-clause-begun
-returns-in-Err-clause-begun g c = λ tells v right. as_far_as_fragments _ _ _ _ c.put_kind.ensures
-    c.section_lines.ensures (c.fragment_lines.ensures.begun tells)
+returns-in-Err-clause-begun g c = λ models v right. as_far_as_fragments _ _ _ _ c.put_kind.ensures
+    c.section_lines.ensures (c.fragment_lines.ensures.begun models)
 
 pub returns-in-Err-clause-leaves : goal.returns-in-Err-clause-leaves
 returns-in-Err-clause-leaves g c = record {
@@ -20,8 +20,8 @@ returns-in-Err-clause-leaves g c = record {
 }
 
 pub returns-in-Err-check-clause-begun : goal.returns-in-Err-check-clause-begun
-returns-in-Err-check-clause-begun g c = λ tells v right.
-    as_far_as_fields _ _ _ _ c.put_kind.ensures c.section_lines.ensures (c.in-Ok.ensures.lines tells)
+returns-in-Err-check-clause-begun g c = λ models v right.
+    as_far_as_fields _ _ _ _ c.put_kind.ensures c.section_lines.ensures (c.in-Ok.ensures.lines models)
     c.header_lines.ensures
 
 pub returns-in-Err-check-clause-leaves : goal.returns-in-Err-check-clause-leaves
@@ -39,26 +39,26 @@ returns-in-Err-check-clause-leaves g c = record {
 }
 
 pub returns-clause-verdict : goal.returns-clause-verdict
-returns-clause-verdict g c = λ tells.
+returns-clause-verdict g c = λ models.
     let h = view_of c.args.image.now.header in
-    subst (λ x. IsVerdict x h c.in-Ok-check.verdict) (c.in-Ok.ensures.leaves.content tells)
-    (c.in-Ok-check.ensures.verdict tells)
+    subst (λ x. IsVerdict x h c.in-Ok-check.verdict) (c.in-Ok.ensures.leaves.content models)
+    (c.in-Ok-check.ensures.verdict models)
 
 pub returns-clause-lines : goal.returns-clause-lines
-returns-clause-lines g c = λ tells. record {
+returns-clause-lines g c = λ models. record {
   verdict = c.in-Ok-check.verdict;
-  checked = returns-clause-verdict g c tells;
-  holds = all_printed _ _ _ _ c.put_kind.ensures c.section_lines.ensures (c.in-Ok.ensures.lines tells)
+  checked = returns-clause-verdict g c models;
+  holds = all_printed _ _ _ _ c.put_kind.ensures c.section_lines.ensures (c.in-Ok.ensures.lines models)
       c.header_lines.ensures c.put_check.ensures;
 }
 
 pub returns-clause-begun : goal.returns-clause-begun
-returns-clause-begun g c = λ tells v right.
+returns-clause-begun g c = λ models v right.
     let h = view_of c.args.image.now.header in
     let x = g.S.Source.content c.args.source.now in
-    let same = same_verdict x h c.in-Ok-check.verdict v (returns-clause-verdict g c tells) right in
+    let same = same_verdict x h c.in-Ok-check.verdict v (returns-clause-verdict g c models) right in
     front_exactly _ _ _ _ _ (all_printed c.args.notation x h v c.put_kind.ensures c.section_lines.ensures
-    (c.in-Ok.ensures.lines tells) c.header_lines.ensures
+    (c.in-Ok.ensures.lines models) c.header_lines.ensures
     (as_text (ap (λ u. line (check_text u)) same) c.put_check.ensures))
 
 pub returns-clause-leaves : goal.returns-clause-leaves

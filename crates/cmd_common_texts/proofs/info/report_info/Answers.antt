@@ -8,63 +8,63 @@ use Rattle.cmd_common_texts.proofs.Refusing.{told_reads, told_writes, writes_cle
 use Rattle.cmd_common_texts.proofs.info.report_info.Goals as goal
 
 pub returns-in-Ok-Ok-clause-begun : goal.returns-in-Ok-Ok-clause-begun
-returns-in-Ok-Ok-clause-begun g c = λ tells h image v right.
+returns-in-Ok-Ok-clause-begun g c = λ models h image v right.
     let opened = c.in-Ok.ensures in
     info_begins c.args.notation g.O.Output.written g.O.Output.write_faults _ _ _ _ _ _ _ h _ v
-    (opened.reads.only.content tells) image (opened.opens tells).has right
-    (c.image_lines-told.ensures.begun tells) c.finish.ensures.prints c.new-text.ensures.nothing_held
+    (opened.reads.only.content models) image (opened.opens models).has right
+    (c.image_lines-told.ensures.begun models) c.finish.ensures.prints c.new-text.ensures.nothing_held
     c.new-text.ensures.written (search rules)
 
 pub returns-in-Ok-Err-clause-begun : goal.returns-in-Ok-Err-clause-begun
-returns-in-Ok-Err-clause-begun g c = λ tells h image v right.
+returns-in-Ok-Err-clause-begun g c = λ models h image v right.
     let opened = c.in-Ok.ensures in
     info_begins c.args.notation g.O.Output.written g.O.Output.write_faults _ _ _ _ _ _ _ h _ v
-    (opened.reads.only.content tells) image (opened.opens tells).has right
-    (c.image_lines-told.ensures.begun tells) c.finish.ensures.prints c.new-text.ensures.nothing_held
+    (opened.reads.only.content models) image (opened.opens models).has right
+    (c.image_lines-told.ensures.begun models) c.finish.ensures.prints c.new-text.ensures.nothing_held
     c.new-text.ensures.written (search rules)
 
 pub returns-in-Err-default-clause-begun : goal.returns-in-Err-default-clause-begun
-returns-in-Err-default-clause-begun g c = λ tells h image v right.
+returns-in-Err-default-clause-begun g c = λ models h image v right.
     let opened = c.in-Ok.ensures in
     info_begins c.args.notation g.O.Output.written g.O.Output.write_faults _ _ _ _ _ _ _ h _ v
-    (opened.reads.only.content tells) image (opened.opens tells).has right
-    (c.image_lines-told.ensures.begun tells) c.finish.ensures.prints c.new-text.ensures.nothing_held
+    (opened.reads.only.content models) image (opened.opens models).has right
+    (c.image_lines-told.ensures.begun models) c.finish.ensures.prints c.new-text.ensures.nothing_held
     c.new-text.ensures.written (search rules)
 
 -- an image that does not open prints nothing
 pub returns-in-Err-clause-begun : goal.returns-in-Err-clause-begun
-returns-in-Err-clause-begun g c = λ tells h image v right. begins_none _ _
+returns-in-Err-clause-begun g c = λ models h image v right. begins_none _ _
 
 pub returns-in-Err-clause-refused : goal.returns-in-Err-clause-refused
-returns-in-Err-clause-refused g c = λ tells.
-    opening_caused c.in-Err.fault _ _ _ _ _ c.in-Err.ensures.reads.cause (λ changed. changed tells)
-    (c.in-Err.ensures.opens tells) refl
+returns-in-Err-clause-refused g c = λ models.
+    opening_caused c.in-Err.fault _ _ _ _ _ c.in-Err.ensures.reads.cause (λ changed. changed models)
+    (c.in-Err.ensures.opens models) refl
 
 -- the source fails
 pub returns-in-Ok-Err-clause-refused : goal.returns-in-Ok-Err-clause-refused
-returns-in-Ok-Err-clause-refused g c = λ tells.
-    let opened = subst (λ x. IsOpened x c.in-Ok.image) (sym (c.in-Ok.ensures.reads.only.content tells))
-    (c.in-Ok.ensures.opens tells) in
+returns-in-Ok-Err-clause-refused g c = λ models.
+    let opened = subst (λ x. IsOpened x c.in-Ok.image) (sym (c.in-Ok.ensures.reads.only.content models))
+    (c.in-Ok.ensures.opens models) in
     told_caused c.image_lines-told.result c.in-Ok-Err.fault _ _ _ _ _ c.in-Ok-Err.is-1 c.in-Ok.ensures.reads.only.clean
-    (c.image_lines-told.ensures.leaves.refused tells opened)
+    (c.image_lines-told.ensures.leaves.refused models opened)
 
 -- the output fails
 -- neither does
 pub returns-in-Ok-Ok-clause-printed : goal.returns-in-Ok-Ok-clause-printed
-returns-in-Ok-Ok-clause-printed g c = λ tells.
+returns-in-Ok-Ok-clause-printed g c = λ models.
     reports_all g.O.Output.written g.O.Output.write_faults c.args.notation _ _ _ c.new-text.result
     c.image_lines-told.new.text c.finish.new.self _ _
-    (c.in-Ok.ensures.reads.only.content tells) (c.in-Ok.ensures.opens tells).has
-    (rw c.in-Ok-Ok.is-1 at (c.image_lines-told.ensures.lines tells))
+    (c.in-Ok.ensures.reads.only.content models) (c.in-Ok.ensures.opens models).has
+    (rw c.in-Ok-Ok.is-1 at (c.image_lines-told.ensures.lines models))
     c.finish.ensures.prints c.in-Ok-Ok.ensures.done c.finish.ensures.emptied c.new-text.ensures.nothing_held
     c.new-text.ensures.written (search rules)
 
 pub returns-in-Ok-Ok-clause-reported : goal.returns-in-Ok-Ok-clause-reported
-returns-in-Ok-Ok-clause-reported g c = λ tells.
-    let verdict = rw c.in-Ok-Ok.is-1 at (c.image_lines-told.ensures.verdict tells) in (
-      c.in-Ok.ensures.opens tells,
+returns-in-Ok-Ok-clause-reported g c = λ models.
+    let verdict = rw c.in-Ok-Ok.is-1 at (c.image_lines-told.ensures.verdict models) in (
+      c.in-Ok.ensures.opens models,
       subst (λ x. IsVerdict x (view_of c.in-Ok.image.header) c.in-Ok-Ok.verdict)
-          (c.in-Ok.ensures.reads.only.content tells) verdict,
+          (c.in-Ok.ensures.reads.only.content models) verdict,
     )
 
 pub returns-in-Err-clause-leaves : goal.returns-in-Err-clause-leaves

@@ -12,7 +12,7 @@ pub loop-i-init : goal.loop-i-init
 loop-i-init g c = record {
   faults = refl;
   prints = ([], printed_none _ _ _);
-  lines = λ tells. (refl, printed_none _ _ _);
+  lines = λ models. (refl, printed_none _ _ _);
 }
 
 pub loop-i-preserved : goal.loop-i-preserved
@@ -28,15 +28,15 @@ loop-i-preserved g c =
         c.loop-i.invariant.prints.0 ++ words_text (entry_words folder i c.in-Ok-fragment.entry),
         c.loop-i.invariant.prints.1 ▸ c.entry_words.ensures,
       );
-      lines = λ tells.
-          let before = c.loop-i.invariant.lines tells in
-          let entry : c.in-Ok-fragment.entry ≡ entry_of x h i = found.entry tells ∙ ap (λ y. entry_of y h i) before.0 in
+      lines = λ models.
+          let before = c.loop-i.invariant.lines models in
+          let entry : c.in-Ok-fragment.entry ≡ entry_of x h i = found.entry models ∙ ap (λ y. entry_of y h i) before.0 in
           let next : suc i ≡ i + 1 = omega arith in
           let all : PrintsWords g.O.Output.written g.O.Output.write_faults c.args.text.now c.entry_words.new.text
           (fragment_words folder x h (suc i))
           = more_words (fragment_words folder x h i) (entry_words folder i (entry_of x h i)) before.1
           (as_text (ap (λ e. words_text (entry_words folder i e)) entry) c.entry_words.ensures) in (
-            found.reads.only.content tells ∙ before.0,
+            found.reads.only.content models ∙ before.0,
             subst
                 (λ k. PrintsWords g.O.Output.written g.O.Output.write_faults c.args.text.now c.entry_words.new.text
                 (fragment_words folder x h k)) next all,
@@ -50,9 +50,9 @@ returns-in-Err-fragment-clause-leaves g c = record {
   told = search rules;
   reads = reading_told c.in-Err-fragment.fault _ _ _ _ c.loop-i.invariant.faults
       c.in-Err-fragment.ensures.reads.cause c.in-Err-fragment.ensures.reads.only.faults;
-  refused = λ tells opened.
-      let before = (c.loop-i.invariant.lines tells).0 in
+  refused = λ models opened.
+      let before = (c.loop-i.invariant.lines models).0 in
       let now = subst (λ x. IsOpened x c.args.image.now) (sym before) opened in
       read_refuses c.in-Err-fragment.fault _ _ _ _ (omega (arith, c.loop-i.invariant.faults))
-      c.in-Err-fragment.ensures.reads.cause (λ changed. changed tells now);
+      c.in-Err-fragment.ensures.reads.cause (λ changed. changed models now);
 }

@@ -8,8 +8,8 @@ abbrev pub invariant-parts : goal.invariant-parts
 invariant-parts g l = record {
   reads : OnlyReads {X = Unit {0}} {E = Unit {0}} (Ok tt) g.S.Source l.initial.source l.source;
   within : g.R.BlockRuns.within l.runs l.at;
-  place : IsTrue g.S.Source.tells → g.R.BlockRuns.place l.runs (g.S.Source.content l.initial.source) l.at;
-  span : IsTrue g.S.Source.tells → IsSpanOf l.found
+  place : IsTrue g.S.Source.models → g.R.BlockRuns.place l.runs (g.S.Source.content l.initial.source) l.at;
+  span : IsTrue g.S.Source.models → IsSpanOf l.found
       (SaidBelow (g.R.BlockRuns.list l.runs (g.S.Source.content l.initial.source)) l.at.block);
 }
 

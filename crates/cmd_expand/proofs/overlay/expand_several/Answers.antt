@@ -38,8 +38,8 @@ close-end-requires g c = record {
   long = λ t.
       let told = g.met.D.Disk.part_told t in
       as_long _ _ _ _ _ _ _ _ _ _ (c.in_ok-zeros.ensures.made t) (c.lay_all-answer.ensures.alone.world t)
-      (c.lay_all-answer.ensures.alone.held t) (sym (g.met.D.Part.Source.sized c.lay_all-answer.new.onto told)
-      ∙ c.lay_all-answer.ensures.alone.size ∙ g.met.D.Part.Source.sized c.in_ok-zeros.zeros told)
+      (c.lay_all-answer.ensures.alone.held t) (sym (g.met.D.InPlace.Source.sized c.lay_all-answer.new.onto told)
+      ∙ c.lay_all-answer.ensures.alone.size ∙ g.met.D.InPlace.Source.sized c.in_ok-zeros.zeros told)
       (c.in_ok-zeros.ensures.zeros t);
 }
 
@@ -55,14 +55,14 @@ pub returns-in-Err-answer-clause-refused : goal.returns-in-Err-answer-clause-ref
 returns-in-Err-answer-clause-refused g c = λ t.
     let opened = c.in-Ok.ensures.opened t in
     let s = sized _ _ _ _ _ _ _ c.whole_of-blocks.ensures opened (c.in-Ok.ensures.shape t) in
-    let long = zeros_long _ _ _ _ (g.met.D.Part.Source.sized c.in_ok-zeros.zeros (g.met.D.Disk.part_told t))
+    let long = zeros_long _ _ _ _ (g.met.D.InPlace.Source.sized c.in_ok-zeros.zeros (g.met.D.Disk.part_told t))
     (c.in_ok-zeros.ensures.zeros t) s.long in
     let h = g.D.Disk.held c.args.disk.now in
     let h2 = g.D.Disk.held c.zeros.new.self in
     let h3 = g.D.Disk.held c.lay_all-answer.new.disk in
     let h4 = g.D.Disk.held c.close-end.new.self in
-    let failures = g.D.Part.Partition.put_faults c.lay_all-answer.new.onto in
-    let counts = failed_in_all _ _ _ _ _ _ _ failures _ (g.D.Part.Partition.past c.lay_all-answer.new.onto) h _ h2 h3 h4
+    let failures = g.D.InPlace.Partition.put_faults c.lay_all-answer.new.onto in
+    let counts = failed_in_all _ _ _ _ _ _ _ failures _ (g.D.InPlace.Partition.past c.lay_all-answer.new.onto) h _ h2 h3 h4
     opened (c.in_ok-zeros.ensures.made t) (c.close-end.ensures.closed t) in
     from_laying _ c.in-Err-answer.refusal.fault _ _ _ _ h h4 _ _
     (failed_laying h h2 h3 h4 _ failures _ counts (c.in_ok-zeros.ensures.clean t))
@@ -83,8 +83,8 @@ returns-in-Err-end-clause-refused g c = λ t.
     let h2 = g.D.Disk.held c.zeros.new.self in
     let h3 = g.D.Disk.held c.lay_all-answer.new.disk in
     let h4 = g.D.Disk.held c.close-end.new.self in
-    let failures = g.D.Part.Partition.put_faults c.lay_all-answer.new.onto in
-    let counts = failed_in_all _ _ _ _ _ _ _ failures _ (g.D.Part.Partition.past c.lay_all-answer.new.onto) h _ h2 h3 h4
+    let failures = g.D.InPlace.Partition.put_faults c.lay_all-answer.new.onto in
+    let counts = failed_in_all _ _ _ _ _ _ _ failures _ (g.D.InPlace.Partition.past c.lay_all-answer.new.onto) h _ h2 h3 h4
     opened (c.in_ok-zeros.ensures.made t) (c.in-Err-end.ensures.closed t) in
     from_files _ c.into.result.fault _ _ _ _ _ _ (_, c.into.ensures) (inl
     (failed_closing h h2 h3 h4 _ failures _ counts (c.in_ok-zeros.ensures.clean t)
@@ -114,8 +114,8 @@ returns-in-Ok-printed-clause-leaves g c = λ t.
     let h2 = g.D.Disk.held c.zeros.new.self in
     let h3 = g.D.Disk.held c.lay_all-answer.new.disk in
     let h4 = g.D.Disk.held c.close-end.new.self in
-    let failures = g.D.Part.Partition.put_faults c.lay_all-answer.new.onto in
-    let counts = failed_in_all _ _ _ _ _ _ _ failures _ (g.D.Part.Partition.past c.lay_all-answer.new.onto) h _ h2 h3 h4
+    let failures = g.D.InPlace.Partition.put_faults c.lay_all-answer.new.onto in
+    let counts = failed_in_all _ _ _ _ _ _ _ failures _ (g.D.InPlace.Partition.past c.lay_all-answer.new.onto) h _ h2 h3 h4
     opened (c.in_ok-zeros.ensures.made t) (c.in-Ok-end.ensures.closed t) in
     leaves_overlaid _ _ _ _ _ _ _ _ _ _ (c.in-Ok.ensures.opened t) refl (lands _ _ _ _ _ _ _ _ _ _ _
     (c.in_ok-zeros.ensures.made t) (c.open_all.ensures.alone t).world
@@ -126,8 +126,8 @@ returns-in-Ok-printed-clause-leaves g c = λ t.
 
 pub returns-in-Ok-printed-clause-synced : goal.returns-in-Ok-printed-clause-synced
 returns-in-Ok-printed-clause-synced g c = λ t.
-    synced _ _ _ _ _ _ _ _ _ _ (g.D.Part.Partition.past c.in_ok-zeros.zeros)
-    (g.D.Part.Partition.past c.lay_all-answer.new.onto) _ _ _ _ _ (c.in-Ok.ensures.opened t)
+    synced _ _ _ _ _ _ _ _ _ _ (g.D.InPlace.Partition.past c.in_ok-zeros.zeros)
+    (g.D.InPlace.Partition.past c.lay_all-answer.new.onto) _ _ _ _ _ (c.in-Ok.ensures.opened t)
     (c.in_ok-zeros.ensures.made t)
     (c.lay_all-answer.ensures.alone.held t) (c.in-Ok-end.ensures.closed t) (c.in_ok-zeros.ensures.past t)
     (c.in-Ok-answer.ensures.settled t (ap (λ q. q.pending) (c.in_ok-zeros.ensures.past t)))

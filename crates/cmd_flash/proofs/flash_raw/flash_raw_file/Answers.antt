@@ -7,7 +7,7 @@ use Rattle.cmd_flash.proofs.flash_raw.flash_raw_file.Goals as goal
 
 pub returns-in-Err-clause-leaves : goal.returns-in-Err-clause-leaves
 returns-in-Err-clause-leaves g c = λ t.
-    let all = ran _ _ _ _ _ _ _ _ _ _ _ _ _ _ _ _ _ (g.D.Part.Partition.past c.flash_blocks-answer.new.onto) _ _
+    let all = ran _ _ _ _ _ _ _ _ _ _ _ _ _ _ _ _ _ (g.D.InPlace.Partition.past c.flash_blocks-answer.new.onto) _ _
     (c.in_ok-source.ensures.opened t) (c.in_ok-source.ensures.world t)
     (c.in_ok-onto.ensures.opened t) (c.in_ok-onto.ensures.world t) (c.let_go_source.ensures.held t)
     (c.let_go_source.ensures.world t)
@@ -21,7 +21,7 @@ returns-in-Err-clause-leaves g c = λ t.
 
 pub returns-in_err-line_beside-clause-leaves : goal.returns-in_err-line_beside-clause-leaves
 returns-in_err-line_beside-clause-leaves g c = λ t.
-    let all = ran _ _ _ _ _ _ _ _ _ _ _ _ _ _ _ _ _ (g.D.Part.Partition.past c.flash_blocks-answer.new.onto) _ _
+    let all = ran _ _ _ _ _ _ _ _ _ _ _ _ _ _ _ _ _ (g.D.InPlace.Partition.past c.flash_blocks-answer.new.onto) _ _
     (c.in_ok-source.ensures.opened t) (c.in_ok-source.ensures.world t)
     (c.in_ok-onto.ensures.opened t) (c.in_ok-onto.ensures.world t) (c.let_go_source.ensures.held t)
     (c.let_go_source.ensures.world t)
@@ -35,7 +35,7 @@ returns-in_err-line_beside-clause-leaves g c = λ t.
 
 pub returns-clause-leaves : goal.returns-clause-leaves
 returns-clause-leaves g c = λ t.
-    let all = ran _ _ _ _ _ _ _ _ _ _ _ _ _ _ _ _ _ (g.D.Part.Partition.past c.flash_blocks-answer.new.onto) _ _
+    let all = ran _ _ _ _ _ _ _ _ _ _ _ _ _ _ _ _ _ (g.D.InPlace.Partition.past c.flash_blocks-answer.new.onto) _ _
     (c.in_ok-source.ensures.opened t) (c.in_ok-source.ensures.world t)
     (c.in_ok-onto.ensures.opened t) (c.in_ok-onto.ensures.world t) (c.let_go_source.ensures.held t)
     (c.let_go_source.ensures.world t)
@@ -52,7 +52,7 @@ returns-clause-leaves g c = λ t.
 
 pub returns-in-Err-clause-refused : goal.returns-in-Err-clause-refused
 returns-in-Err-clause-refused g c = λ t.
-    let all = ran _ _ _ _ _ _ _ _ _ _ _ _ _ _ _ _ _ (g.D.Part.Partition.past c.flash_blocks-answer.new.onto) _ _
+    let all = ran _ _ _ _ _ _ _ _ _ _ _ _ _ _ _ _ _ (g.D.InPlace.Partition.past c.flash_blocks-answer.new.onto) _ _
     (c.in_ok-source.ensures.opened t) (c.in_ok-source.ensures.world t)
     (c.in_ok-onto.ensures.opened t) (c.in_ok-onto.ensures.world t) (c.let_go_source.ensures.held t)
     (c.let_go_source.ensures.world t)
@@ -69,7 +69,7 @@ pub returns-clause-done : goal.returns-clause-done
 returns-clause-done g c = λ t.
     let f = c.flash_blocks-answer.ensures in
     let done = c.in-Ok.ensures.done in
-    let all = ran _ _ _ _ _ _ _ _ _ _ _ _ _ _ _ _ _ (g.D.Part.Partition.past c.flash_blocks-answer.new.onto) _ _
+    let all = ran _ _ _ _ _ _ _ _ _ _ _ _ _ _ _ _ _ (g.D.InPlace.Partition.past c.flash_blocks-answer.new.onto) _ _
     (c.in_ok-source.ensures.opened t) (c.in_ok-source.ensures.world t)
     (c.in_ok-onto.ensures.opened t) (c.in_ok-onto.ensures.world t) (c.let_go_source.ensures.held t)
     (c.let_go_source.ensures.world t)
@@ -79,8 +79,8 @@ returns-clause-done g c = λ t.
       flashed = all.with_files (IsFlashedRaw c.in-Ok.end.0 c.args.size)
           (is_flashed_raw c.flash_blocks-answer.result c.in-Ok.end.0 c.args.size _ _ _ _ done
           (f.lays (g.met.D.Disk.source_told t) (g.met.D.Disk.part_told t)));
-      synced = all.synced (settled_once (g.D.Part.Partition.past c.in_ok-onto.onto)
-          (g.D.Part.Partition.past c.flash_blocks-answer.new.onto) (c.in_ok-onto.ensures.past t)
+      synced = all.synced (settled_once (g.D.InPlace.Partition.past c.in_ok-onto.onto)
+          (g.D.InPlace.Partition.past c.flash_blocks-answer.new.onto) (c.in_ok-onto.ensures.past t)
           (on_ok c.flash_blocks-answer.result c.in-Ok.end.0 _ done f.syncs.synced)
           (on_ok c.flash_blocks-answer.result c.in-Ok.end.0 _ done (f.syncs.settled (g.met.D.Disk.part_told t))));
       shown = beside c.args.report.now c.line_beside.new.self _ _ _ (c.in-Ok.ensures.stream t)
@@ -91,7 +91,7 @@ pub returns-in_err-line_beside-clause-refused : goal.returns-in_err-line_beside-
 returns-in_err-line_beside-clause-refused g c = λ t.
     let f = c.flash_blocks-answer.ensures in
     let done = c.in-Ok.ensures.done in
-    let all = ran _ _ _ _ _ _ _ _ _ _ _ _ _ _ _ _ _ (g.D.Part.Partition.past c.flash_blocks-answer.new.onto) _ _
+    let all = ran _ _ _ _ _ _ _ _ _ _ _ _ _ _ _ _ _ (g.D.InPlace.Partition.past c.flash_blocks-answer.new.onto) _ _
     (c.in_ok-source.ensures.opened t) (c.in_ok-source.ensures.world t)
     (c.in_ok-onto.ensures.opened t) (c.in_ok-onto.ensures.world t) (c.let_go_source.ensures.held t)
     (c.let_go_source.ensures.world t)
@@ -102,8 +102,8 @@ returns-in_err-line_beside-clause-refused g c = λ t.
       flashed = all.with_files (IsFlashedRaw c.in-Ok.end.0 c.args.size)
           (is_flashed_raw c.flash_blocks-answer.result c.in-Ok.end.0 c.args.size _ _ _ _ done
           (f.lays (g.met.D.Disk.source_told t) (g.met.D.Disk.part_told t)));
-      synced = all.synced (settled_once (g.D.Part.Partition.past c.in_ok-onto.onto)
-          (g.D.Part.Partition.past c.flash_blocks-answer.new.onto) (c.in_ok-onto.ensures.past t)
+      synced = all.synced (settled_once (g.D.InPlace.Partition.past c.in_ok-onto.onto)
+          (g.D.InPlace.Partition.past c.flash_blocks-answer.new.onto) (c.in_ok-onto.ensures.past t)
           (on_ok c.flash_blocks-answer.result c.in-Ok.end.0 _ done f.syncs.synced)
           (on_ok c.flash_blocks-answer.result c.in-Ok.end.0 _ done (f.syncs.settled (g.met.D.Disk.part_told t))));
       shown = c.in_err-line_beside.ensures.refused;
@@ -113,8 +113,8 @@ returns-in_err-line_beside-clause-refused g c = λ t.
 pub closed-requires : goal.closed-requires
 closed-requires g c = record {
   long = λ t.
-      let one = g.met.D.Part.Source.sized c.flash_blocks-answer.new.onto (g.met.D.Disk.part_told t) in
-      let two = g.met.D.Part.Source.sized c.in_ok-onto.onto (g.met.D.Disk.part_told t) in
+      let one = g.met.D.InPlace.Source.sized c.flash_blocks-answer.new.onto (g.met.D.Disk.part_told t) in
+      let two = g.met.D.InPlace.Source.sized c.in_ok-onto.onto (g.met.D.Disk.part_told t) in
       let size = c.flash_blocks-answer.ensures.syncs.size in
       as_long _ _ _ _ _ _ _ _ _ _ (c.in_ok-onto.ensures.opened t) (c.in_ok-onto.ensures.world t)
       (c.let_go_source.ensures.held t) (c.let_go_source.ensures.world t) (omega (arith, one, two, size));

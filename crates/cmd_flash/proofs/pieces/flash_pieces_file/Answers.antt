@@ -12,7 +12,7 @@ use Rattle.cmd_flash.proofs.pieces.flash_pieces_file.Goals as goal
 pub returns-in-Err-closed-clause-leaves : goal.returns-in-Err-closed-clause-leaves
 returns-in-Err-closed-clause-leaves g c = λ t.
     let all = crossed _ _ _ _ _ _ _ _ _ _ _ _ _ _ _ _ _ _ _ _ _ _
-    (g.D.Part.Partition.past c.delivered_through-answer.new.onto) _ _ (c.in_ok-source.ensures.opened t)
+    (g.D.InPlace.Partition.past c.delivered_through-answer.new.onto) _ _ (c.in_ok-source.ensures.opened t)
     (c.in_ok-source.ensures.world t) (c.in_ok-onto.ensures.opened t) (c.in_ok-onto.ensures.world t)
     (c.in_ok-through.ensures.opened t) (c.delivered_through-answer.ensures.closed t)
     (c.delivered_through-answer.ensures.rest t) (c.let_go_source.ensures.held t) (c.let_go_source.ensures.world t)
@@ -27,7 +27,7 @@ returns-in-Err-closed-clause-leaves g c = λ t.
 pub returns-in_err-line_beside-clause-leaves : goal.returns-in_err-line_beside-clause-leaves
 returns-in_err-line_beside-clause-leaves g c = λ t.
     let all = crossed _ _ _ _ _ _ _ _ _ _ _ _ _ _ _ _ _ _ _ _ _ _
-    (g.D.Part.Partition.past c.delivered_through-answer.new.onto) _ _ (c.in_ok-source.ensures.opened t)
+    (g.D.InPlace.Partition.past c.delivered_through-answer.new.onto) _ _ (c.in_ok-source.ensures.opened t)
     (c.in_ok-source.ensures.world t) (c.in_ok-onto.ensures.opened t) (c.in_ok-onto.ensures.world t)
     (c.in_ok-through.ensures.opened t) (c.delivered_through-answer.ensures.closed t)
     (c.delivered_through-answer.ensures.rest t) (c.let_go_source.ensures.held t) (c.let_go_source.ensures.world t)
@@ -42,7 +42,7 @@ returns-in_err-line_beside-clause-leaves g c = λ t.
 pub returns-clause-leaves : goal.returns-clause-leaves
 returns-clause-leaves g c = λ t.
     let all = crossed _ _ _ _ _ _ _ _ _ _ _ _ _ _ _ _ _ _ _ _ _ _
-    (g.D.Part.Partition.past c.delivered_through-answer.new.onto) _ _ (c.in_ok-source.ensures.opened t)
+    (g.D.InPlace.Partition.past c.delivered_through-answer.new.onto) _ _ (c.in_ok-source.ensures.opened t)
     (c.in_ok-source.ensures.world t) (c.in_ok-onto.ensures.opened t) (c.in_ok-onto.ensures.world t)
     (c.in_ok-through.ensures.opened t) (c.delivered_through-answer.ensures.closed t)
     (c.delivered_through-answer.ensures.rest t) (c.let_go_source.ensures.held t) (c.let_go_source.ensures.world t)
@@ -79,7 +79,7 @@ returns-in-Err-closed-clause-refused g c = λ t.
     let most = c.max-from.ensures in
     let same : c.max-from.result - 1 ≡ max 1 c.args.from - 1 = omega (arith, most) in
     let all = crossed _ _ _ _ _ _ _ _ _ _ _ _ _ _ _ _ _ _ _ _ _ _
-    (g.D.Part.Partition.past c.delivered_through-answer.new.onto) _ _ (c.in_ok-source.ensures.opened t)
+    (g.D.InPlace.Partition.past c.delivered_through-answer.new.onto) _ _ (c.in_ok-source.ensures.opened t)
     (c.in_ok-source.ensures.world t) (c.in_ok-onto.ensures.opened t) (c.in_ok-onto.ensures.world t)
     (c.in_ok-through.ensures.opened t) (c.delivered_through-answer.ensures.closed t)
     (c.delivered_through-answer.ensures.rest t) (c.let_go_source.ensures.held t) (c.let_go_source.ensures.world t)
@@ -97,14 +97,14 @@ returns-clause-done g c = λ t.
     let same : c.max-from.result - 1 ≡ max 1 c.args.from - 1 = omega (arith, most) in
     let d = c.delivered_through-answer.ensures in
     let all = crossed _ _ _ _ _ _ _ _ _ _ _ _ _ _ _ _ _ _ _ _ _ _
-    (g.D.Part.Partition.past c.delivered_through-answer.new.onto) _ _ (c.in_ok-source.ensures.opened t)
+    (g.D.InPlace.Partition.past c.delivered_through-answer.new.onto) _ _ (c.in_ok-source.ensures.opened t)
     (c.in_ok-source.ensures.world t) (c.in_ok-onto.ensures.opened t) (c.in_ok-onto.ensures.world t)
     (c.in_ok-through.ensures.opened t) (c.delivered_through-answer.ensures.closed t)
     (c.delivered_through-answer.ensures.rest t) (c.let_go_source.ensures.held t) (c.let_go_source.ensures.world t)
     (c.closed.ensures.ended t) (c.closed.ensures.paths t) (c.in-Ok.ensures.closed t) in
     done_across c.delivered_through-answer.result.0 c.in-Ok.end.0 _ c.args.raw c.args.limit _ _ _ _ _ _ _ _ _ _ _ _ _
     _ _
-    (g.D.Part.Partition.past c.in_ok-onto.onto) (g.D.Part.Partition.past c.delivered_through-answer.new.onto) _ all
+    (g.D.InPlace.Partition.past c.in_ok-onto.onto) (g.D.InPlace.Partition.past c.delivered_through-answer.new.onto) _ all
     (sym c.counted.ensures ∙ c.in-Ok.ensures.done) (c.in_ok-onto.ensures.past t) d.syncs.some
     d.syncs.synced (d.syncs.settled (g.met.D.Disk.part_told t)) same
     (d.delivers t (ap (λ (q : Past). q.pending) (c.in_ok-onto.ensures.past t)))
@@ -116,7 +116,7 @@ returns-in_err-line_beside-clause-refused g c = λ t.
     let same : c.max-from.result - 1 ≡ max 1 c.args.from - 1 = omega (arith, most) in
     let d = c.delivered_through-answer.ensures in
     let all = crossed _ _ _ _ _ _ _ _ _ _ _ _ _ _ _ _ _ _ _ _ _ _
-    (g.D.Part.Partition.past c.delivered_through-answer.new.onto) _ _ (c.in_ok-source.ensures.opened t)
+    (g.D.InPlace.Partition.past c.delivered_through-answer.new.onto) _ _ (c.in_ok-source.ensures.opened t)
     (c.in_ok-source.ensures.world t) (c.in_ok-onto.ensures.opened t) (c.in_ok-onto.ensures.world t)
     (c.in_ok-through.ensures.opened t) (c.delivered_through-answer.ensures.closed t)
     (c.delivered_through-answer.ensures.rest t) (c.let_go_source.ensures.held t) (c.let_go_source.ensures.world t)
@@ -127,7 +127,7 @@ returns-in_err-line_beside-clause-refused g c = λ t.
     (done_across c.delivered_through-answer.result.0 c.in-Ok.end.0 _ c.args.raw c.args.limit _ _ _
     _ _
     _ _ _ _ _ _ _ _ _ _
-    (g.D.Part.Partition.past c.in_ok-onto.onto) (g.D.Part.Partition.past c.delivered_through-answer.new.onto) _ all
+    (g.D.InPlace.Partition.past c.in_ok-onto.onto) (g.D.InPlace.Partition.past c.delivered_through-answer.new.onto) _ all
     (sym c.counted.ensures ∙ c.in-Ok.ensures.done) (c.in_ok-onto.ensures.past t) d.syncs.some
     d.syncs.synced (d.syncs.settled (g.met.D.Disk.part_told t)) same
     (d.delivers t (ap (λ (q : Past). q.pending) (c.in_ok-onto.ensures.past t)))
@@ -137,8 +137,8 @@ returns-in_err-line_beside-clause-refused g c = λ t.
 pub closed-requires : goal.closed-requires
 closed-requires g c = record {
   long = λ t.
-      let one = g.met.D.Part.Source.sized c.delivered_through-answer.new.onto (g.met.D.Disk.part_told t) in
-      let two = g.met.D.Part.Source.sized c.in_ok-onto.onto (g.met.D.Disk.part_told t) in
+      let one = g.met.D.InPlace.Source.sized c.delivered_through-answer.new.onto (g.met.D.Disk.part_told t) in
+      let two = g.met.D.InPlace.Source.sized c.in_ok-onto.onto (g.met.D.Disk.part_told t) in
       let size = c.delivered_through-answer.ensures.syncs.size in
       as_long_across _ _ _ _ _ _ _ _ _ _ _ _ _ _ _ _ _ _ _ (c.in_ok-source.ensures.opened t)
       (c.in_ok-source.ensures.world t) (c.in_ok-onto.ensures.opened t) (c.in_ok-onto.ensures.world t)

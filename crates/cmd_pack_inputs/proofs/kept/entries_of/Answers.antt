@@ -14,8 +14,8 @@ loop-i-preserved g c =
     let made = c.in-Ok.ensures in
     record {
       only = reads_ok tt (reads_then i.only made.reads.only);
-      entries = λ tells. c.in-Ok-push.ensures.items ∙ entries_next (s.content c.args.source.now) h c.loop-i.i _ _
-          (i.entries tells) (made.entry tells ∙ ap (λ x. entry_of x h c.loop-i.i) (i.only.content tells));
+      entries = λ models. c.in-Ok-push.ensures.items ∙ entries_next (s.content c.args.source.now) h c.loop-i.i _ _
+          (i.entries models) (made.entry models ∙ ap (λ x. entry_of x h c.loop-i.i) (i.only.content models));
     }
 
 pub returns-in-Err-clause-reads : goal.returns-in-Err-clause-reads
@@ -23,6 +23,6 @@ returns-in-Err-clause-reads g c =
     let i = c.loop-i.invariant in
     record {
       only = reads_err _ (reads_then i.only c.in-Err.ensures.reads.only);
-      refused = λ tells opened. read_unread c.in-Err.fault _ _ _ _ i.only.clean c.in-Err.ensures.reads.cause
-          (λ changed. changed tells (subst (λ x. IsOpened x c.args.image.now) (sym (i.only.content tells)) opened));
+      refused = λ models opened. read_unread c.in-Err.fault _ _ _ _ i.only.clean c.in-Err.ensures.reads.cause
+          (λ changed. changed models (subst (λ x. IsOpened x c.args.image.now) (sym (i.only.content models)) opened));
     }

@@ -10,5 +10,5 @@ invariant-loop-i g l =
     let s = g.S.Source in
     record {
       only : OnlyReads {X = Unit {0}} {E = Unit {0}} (Ok tt) s l.fn.source l.source;
-      entries : IsTrue s.tells → l.entries.items ≡ entries_to (s.content l.fn.source) (view_of l.image.header) l.i;
+      entries : IsTrue s.models → l.entries.items ≡ entries_to (s.content l.fn.source) (view_of l.image.header) l.i;
     }

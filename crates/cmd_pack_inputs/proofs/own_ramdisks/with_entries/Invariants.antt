@@ -11,9 +11,9 @@ invariant-loop-entry g l =
     let done = take l.entry-index l.entries in
     record {
       specs : l.ramdisks.specs.items ≡ map said_of done;
-      bytes : IsTrue g.D.Disk.tells → map (content_of at.content) l.ramdisks.sources.items
+      bytes : IsTrue g.D.Disk.models → map (content_of at.content) l.ramdisks.sources.items
           ≡ map (bytes_behind (at.content l.own.source) l.front) done;
-      unread : IsTrue g.D.Disk.tells → total (faults_of at.read_faults) l.ramdisks.sources.items ≡ 0;
-      held : IsTrue g.D.Disk.tells → g.D.Disk.held l.disk ≡ g.D.Disk.held l.initial.disk;
-      world : IsTrue g.D.Disk.tells → g.D.Disk.world l.disk ≡ g.D.Disk.world l.initial.disk;
+      unread : IsTrue g.D.Disk.models → total (faults_of at.read_faults) l.ramdisks.sources.items ≡ 0;
+      held : IsTrue g.D.Disk.models → g.D.Disk.held l.disk ≡ g.D.Disk.held l.initial.disk;
+      world : IsTrue g.D.Disk.models → g.D.Disk.world l.disk ≡ g.D.Disk.world l.initial.disk;
     }

@@ -9,7 +9,7 @@ use Rattle.cmd_common_boot.specs.Sources.{content_of, faults_of}
 use Rattle.cmd_pack_inputs.proofs.parts.open_parts.Given as goal
 
 abbrev pub invariant-loop-row : goal.invariant-loop-row
-invariant-loop-row g l = (length l.parts.items ≡ l.row-index) × (IsTrue g.D.Disk.tells →
+invariant-loop-row g l = (length l.parts.items ≡ l.row-index) × (IsTrue g.D.Disk.models →
     ArePartsOf (g.D.Disk.world l.initial.disk) l.texts.options.items (IsOwnPart g.D.At.Source.content l.own)
     (map (λ (r : PartRow). r.section) (take l.row-index l.rows)) (map (content_of g.D.At.Source.content) l.parts.items)
     × (total (faults_of g.D.At.Source.read_faults) l.parts.items ≡ 0)

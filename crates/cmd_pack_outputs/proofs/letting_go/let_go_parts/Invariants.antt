@@ -6,7 +6,7 @@ use Rattle.cmd_common_boot.specs.Sources.{faults_of}
 use Rattle.cmd_pack_outputs.proofs.letting_go.let_go_parts.Given as goal
 
 abbrev pub invariant-loop-part : goal.invariant-loop-part
-invariant-loop-part g l = IsTrue g.D.Disk.tells → (n : ℕ)
+invariant-loop-part g l = IsTrue g.D.Disk.models → (n : ℕ)
     × (g.D.Disk.held l.disk ≡ failing n (g.D.Disk.held l.initial.disk))
     × (n + total (faults_of g.D.At.Source.read_faults) l.parts.items
     ≡ total (faults_of g.D.At.Source.read_faults) l.initial.parts.items)

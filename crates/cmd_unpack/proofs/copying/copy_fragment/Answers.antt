@@ -8,10 +8,10 @@ returns-in-Err-clause-copies g c =
     let e = c.in-Err.ensures.reads in
     record {
       written = search rules;
-      content = λ tells. tt;
+      content = λ models. tt;
       clean = tt;
-      refused = λ tells opened. read_first c.in-Err.fault _ _ _ (g.S.Source.content c.args.source.now) _ e.cause
-          (λ changed. changed tells opened) e.only.faults;
+      refused = λ models opened. read_first c.in-Err.fault _ _ _ (g.S.Source.content c.args.source.now) _ e.cause
+          (λ changed. changed models opened) e.only.faults;
     }
 
 pub returns-in-Ok-answer-clause-copies : goal.returns-in-Ok-answer-clause-copies
@@ -20,9 +20,9 @@ returns-in-Ok-answer-clause-copies g c =
     let e = c.in-Ok-answer.ensures.moves in
     record {
       written = search rules;
-      content = λ tells. e.reads.content tells ∙ k.content tells;
+      content = λ models. e.reads.content models ∙ k.content models;
       clean = sum_behind _ _ _ _ _ k.clean (e.reads.clean, e.writes.clean);
-      refused = λ tells opened. tt;
+      refused = λ models opened. tt;
     }
 
 pub returns-in-Err-answer-clause-copies : goal.returns-in-Err-answer-clause-copies
@@ -31,10 +31,10 @@ returns-in-Err-answer-clause-copies g c =
     let e = c.in-Err-answer.ensures.moves in
     record {
       written = search rules;
-      content = λ tells. tt;
+      content = λ models. tt;
       clean = tt;
-      refused = λ tells opened.
-          let now = subst (λ x. IsOpened x c.args.image.now) (sym (k.content tells)) opened in
+      refused = λ models opened.
+          let now = subst (λ x. IsOpened x c.args.image.now) (sym (k.content models)) opened in
           moved_behind c.in-Err-answer.fault _ _ _ _ _ (g.S.Source.content c.args.source.now) _ k.clean e.cause
-          (λ changed. changed tells now) e.reads.faults e.writes.faults;
+          (λ changed. changed models now) e.reads.faults e.writes.faults;
     }

@@ -9,7 +9,7 @@ returns-in-Ok-clause-copies g c = λ p found.
       written = search rules;
       content = e.reads.content;
       clean = sum_stays _ _ _ _ (e.reads.clean, e.writes.clean);
-      refused = λ tells opened. tt;
+      refused = λ models opened. tt;
     }
 
 pub returns-in-Err-clause-copies : goal.returns-in-Err-clause-copies
@@ -17,8 +17,8 @@ returns-in-Err-clause-copies g c = λ p found.
     let e = c.in-Err.ensures.moves in
     record {
       written = search rules;
-      content = λ tells. tt;
+      content = λ models. tt;
       clean = tt;
-      refused = λ tells opened. moved c.in-Err.fault _ _ _ _ (g.S.Source.content c.args.source.now) _ e.cause
-          (λ changed. changed tells opened) e.reads.faults e.writes.faults;
+      refused = λ models opened. moved c.in-Err.fault _ _ _ _ (g.S.Source.content c.args.source.now) _ e.cause
+          (λ changed. changed models opened) e.reads.faults e.writes.faults;
     }

@@ -26,7 +26,7 @@ returns-in-Ok g c =
       written = search rules;
       content = e.leaves.content;
       clean = sum_stays _ _ _ _ (e.leaves.reads, e.leaves.clean);
-      refused = λ tells opened. tt;
+      refused = λ models opened. tt;
     }
 
 pub returns-in-Err : goal.returns-in-Err
@@ -34,9 +34,9 @@ returns-in-Err g c =
     let e = c.in-Err.ensures in
     record {
       written = search rules;
-      content = λ tells. tt;
+      content = λ models. tt;
       clean = tt;
-      refused = λ tells opened.
-          printed ℕ c.in-Err.fault _ _ _ _ (g.S.Source.content c.args.source.now) (e.refused tells opened)
+      refused = λ models opened.
+          printed ℕ c.in-Err.fault _ _ _ _ (g.S.Source.content c.args.source.now) (e.refused models opened)
           e.leaves.reads e.leaves.failed;
     }

@@ -5,7 +5,7 @@ use Rattle.cmd_common_boot.proofs.Causes.{refused_more}
 use Rattle.cmd_unpack.proofs.Counts.{some_then}
 use Rattle.cmd_unpack.proofs.Loops.{fragment_any, fragment_under, fragments_later, fragments_more, no_fragments}
 use Rattle.cmd_unpack.proofs.Shown.{cannot_behind, fragment_shown, rises_then, silent}
-use Rattle.cmd_unpack.proofs.Steps.{parts_more, parts_none, parts_then, stop_more, stop_then}
+use Rattle.cmd_unpack.proofs.UnpackSteps.{parts_more, parts_none, parts_then, stop_more, stop_then}
 use Rattle.cmd_unpack.proofs.parts.write_fragments.Goals as goal
 
 pub loop-i-init : goal.loop-i-init

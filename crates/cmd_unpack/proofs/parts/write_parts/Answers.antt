@@ -8,7 +8,7 @@ use Rattle.cmd_common_boot.proofs.Causes.{refused_more}
 use Rattle.cmd_unpack.proofs.Counts.{and_words, no_words, none_then, some_then}
 use Rattle.cmd_unpack.proofs.Loops.{fragments_later, goes_fragment, goes_section, goes_words, sections_later}
 use Rattle.cmd_unpack.proofs.Shown.{all_shown, all_but_words, cannot_behind, rises_then}
-use Rattle.cmd_unpack.proofs.Steps.{parts_more, parts_then, stop_more, stop_then}
+use Rattle.cmd_unpack.proofs.UnpackSteps.{parts_more, parts_then, stop_more, stop_then}
 use Rattle.cmd_unpack.proofs.parts.write_parts.Goals as goal
 
 -- a section was refused

@@ -5,7 +5,7 @@ use Rattle.cmd_common_boot.proofs.Causes.{refused_more}
 use Rattle.cmd_unpack.proofs.Counts.{some_then}
 use Rattle.cmd_unpack.proofs.Loops.{no_sections, section_any, section_under, sections_later, sections_more}
 use Rattle.cmd_unpack.proofs.Shown.{cannot_behind, rises_then, section_shown, silent}
-use Rattle.cmd_unpack.proofs.Steps.{parts_more, parts_none, parts_then, stop_more, stop_then}
+use Rattle.cmd_unpack.proofs.UnpackSteps.{parts_more, parts_none, parts_then, stop_more, stop_then}
 use Rattle.cmd_unpack.proofs.parts.write_sections.Goals as goal
 
 pub loop-i-init : goal.loop-i-init

@@ -1,7 +1,7 @@
 use Rattle.std.proofs.Common.{◌≤◌, ◌+◌, refl, sym, subst, arith, rules}
 use Rattle.abt_sections.specs.Open.{IsOpened}
 use Rattle.cmd_unpack.proofs.Counts.{some_then}
-use Rattle.cmd_unpack.proofs.Steps.{parts_more, parts_none, parts_then, stop_more, stop_then}
+use Rattle.cmd_unpack.proofs.UnpackSteps.{parts_more, parts_none, parts_then, stop_more, stop_then}
 use Rattle.cmd_unpack_aosp.proofs.Files.{files_more, no_files, part_more, path_any, path_under}
 use Rattle.cmd_unpack_aosp.proofs.unpack.write_files.Goals as goal
 

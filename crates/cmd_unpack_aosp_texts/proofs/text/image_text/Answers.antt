@@ -21,4 +21,4 @@ returns-clause-leaves g c = record {
 }
 
 pub returns-clause-lines : goal.returns-clause-lines
-returns-clause-lines g c = λ tells. c.put_front.ensures ▸ c.in-Ok.ensures.lines tells ▸ c.put_end.ensures
+returns-clause-lines g c = λ models. c.put_front.ensures ▸ c.in-Ok.ensures.lines models ▸ c.put_end.ensures

@@ -12,7 +12,7 @@ pub loop-i-init : goal.loop-i-init
 loop-i-init g c = record {
   faults = refl;
   prints = ([], printed_none _ _ _);
-  lines = λ tells. (refl, printed_none _ _ _);
+  lines = λ models. (refl, printed_none _ _ _);
 }
 
 pub loop-i-preserved : goal.loop-i-preserved
@@ -29,15 +29,15 @@ loop-i-preserved g c =
         c.loop-i.invariant.prints.0 ++ fragment_part which folder i c.in-Ok-fragment.entry,
         c.loop-i.invariant.prints.1 ▸ c.put_entry.ensures,
       );
-      lines = λ tells.
-          let before = c.loop-i.invariant.lines tells in
-          let entry : c.in-Ok-fragment.entry ≡ entry_of x h i = found.entry tells
+      lines = λ models.
+          let before = c.loop-i.invariant.lines models in
+          let entry : c.in-Ok-fragment.entry ≡ entry_of x h i = found.entry models
           ∙ ap (λ y. entry_of y h i) before.0 in
           let next : suc i ≡ i + 1 = omega arith in
           let all : Prints g.O.Output.written g.O.Output.write_faults c.args.text.now c.put_entry.new.text
           (fragment_texts which folder x h (suc i))
           = before.1 ▸ as_text (ap (fragment_part which folder i) entry) c.put_entry.ensures in (
-            found.reads.only.content tells ∙ before.0,
+            found.reads.only.content models ∙ before.0,
             subst
                 (λ k. Prints g.O.Output.written g.O.Output.write_faults c.args.text.now c.put_entry.new.text
                 (fragment_texts which folder x h k)) next all,
@@ -51,9 +51,9 @@ returns-in-Err-fragment-clause-leaves g c = record {
   told = search rules;
   reads = reading_told c.in-Err-fragment.fault _ _ _ _ c.loop-i.invariant.faults
       c.in-Err-fragment.ensures.reads.cause c.in-Err-fragment.ensures.reads.only.faults;
-  refused = λ tells opened.
-      let before = (c.loop-i.invariant.lines tells).0 in
+  refused = λ models opened.
+      let before = (c.loop-i.invariant.lines models).0 in
       let now = subst (λ x. IsOpened x c.args.image.now) (sym before) opened in
       read_refuses c.in-Err-fragment.fault _ _ _ _ (omega (arith, c.loop-i.invariant.faults))
-      c.in-Err-fragment.ensures.reads.cause (λ changed. changed tells now);
+      c.in-Err-fragment.ensures.reads.cause (λ changed. changed models now);
 }

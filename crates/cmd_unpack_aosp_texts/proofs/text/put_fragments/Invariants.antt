@@ -10,7 +10,7 @@ invariant-loop-i g l =
     record {
       faults : g.S.Source.read_faults l.source ≡ g.S.Source.read_faults l.initial.source;
       prints : (done : List ℕ) × Prints g.O.Output.written g.O.Output.write_faults l.initial.text l.text done;
-      lines : IsTrue g.S.Source.tells → (content l.source ≡ content l.initial.source)
+      lines : IsTrue g.S.Source.models → (content l.source ≡ content l.initial.source)
           × Prints g.O.Output.written g.O.Output.write_faults l.initial.text l.text
           (fragment_texts l.fn.which l.fn.folder (content l.initial.source) (view_of l.fn.image.header) l.i);
     }

@@ -6,12 +6,12 @@ use Rattle.abt_sections.proofs.Sizing.{sizes_are}
 use Rattle.law_sections.proofs.inputs.boot_input.Goals as goal
 
 pub returns : goal.returns
-returns g c = λ tells none.
+returns g c = λ models none.
     let s = g.S.Source in
     let ps = c.args.parts.now in
     let fields = cmd_common_fields c.args.spec.now in
     record {
       numbers = c.boot_numbers.ensures;
       count = length-map ps s.content ∙ c.requires;
-      accepted = ap (λ (l : List ℕ). pack_boot_refusal fields l) (sym (sizes_are s.size s.content ps (λ p. g.met.S.Source.sized p tells))) ∙ none;
+      accepted = ap (λ (l : List ℕ). pack_boot_refusal fields l) (sym (sizes_are s.size s.content ps (λ p. g.met.S.Source.sized p models))) ∙ none;
     }

@@ -8,14 +8,14 @@ use Rattle.abt_sections.proofs.VendorCanons.{concat_size}
 use Rattle.law_sections.proofs.inputs.vendor_input.Goals as goal
 
 pub returns : goal.returns
-returns g c = λ tells none.
+returns g c = λ models none.
     let s = g.S.Source in
     let rs = c.args.ramdisks.now in
     let n = length c.args.fragments.now in
     let fields = vendor_fields c.args.spec.now in
-    let ramdisk = concat_size s.size s.content rs (λ p. g.met.S.Source.sized p tells) in
-    let dtb = g.met.S.Source.sized c.args.dtb.now tells in
-    let config = g.met.S.Source.sized c.args.bootconfig.now tells in
+    let ramdisk = concat_size s.size s.content rs (λ p. g.met.S.Source.sized p models) in
+    let dtb = g.met.S.Source.sized c.args.dtb.now models in
+    let config = g.met.S.Source.sized c.args.bootconfig.now models in
     record {
       numbers = c.vendor_numbers.ensures;
       fragments = c.fragments_fit.ensures;

@@ -1,4 +1,4 @@
-use Rattle.law_sparse.proofs.Cuts.{segments_are, only_cuts}
+use Rattle.law_sparse.proofs.SparseCuts.{segments_are, only_cuts}
 use Rattle.law_sparse.proofs.theorems.one_cutting.Goals as goal
 
 pub returns : goal.returns

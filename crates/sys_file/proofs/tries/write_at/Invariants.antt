@@ -3,6 +3,6 @@ use Rattle.sys_file.proofs.tries.write_at.Given as goal
 
 -- no write was done yet
 abbrev pub invariant-loop : goal.invariant-loop
-invariant-loop g l = (IsTrue g.F.SystemFile.tells → g.F.SystemFile.stands l.file ≡ g.F.SystemFile.stands l.fn.file)
-    × (IsTrue g.F.SystemFile.tells → g.F.SystemFile.past l.file ≡ g.F.SystemFile.past l.fn.file)
-    × (IsTrue g.F.SystemFile.tells → g.F.SystemFile.place l.file ≡ g.F.SystemFile.place l.fn.file)
+invariant-loop g l = (IsTrue g.F.SystemFile.models → g.F.SystemFile.stands l.file ≡ g.F.SystemFile.stands l.fn.file)
+    × (IsTrue g.F.SystemFile.models → g.F.SystemFile.past l.file ≡ g.F.SystemFile.past l.fn.file)
+    × (IsTrue g.F.SystemFile.models → g.F.SystemFile.place l.file ≡ g.F.SystemFile.place l.fn.file)

@@ -10,10 +10,10 @@ loop-done-preserved g c =
     let e = c.in-Ok.ensures.writes in
     record {
       within = omega (arith, e.within, i.within);
-      laid = λ tells. record {
-        written = put_on _ _ _ _ c.args.at c.loop-done.done c.in-Ok.n i.within (i.laid tells).reaches
-            (i.laid tells).written (e.written tells);
-        reaches = (i.laid tells).reaches;
+      laid = λ models. record {
+        written = put_on _ _ _ _ c.args.at c.loop-done.done c.in-Ok.n i.within (i.laid models).reaches
+            (i.laid models).written (e.written models);
+        reaches = (i.laid models).reaches;
       };
     }
 
@@ -27,20 +27,20 @@ returns-in-Err g c =
     record {
       within = i.within;
       all = tt;
-      written = λ tells. tt;
-      changes = λ tells.
-          let l = i.laid tells in
-          let m = c.in-Err.ensures.writes.marred tells in
+      written = λ models. tt;
+      changes = λ models.
+          let l = i.laid models in
+          let m = c.in-Err.ensures.writes.marred models in
           changes_then _ _ _ c.args.at (c.args.at + done) _ _ (c.args.at + length bytes)
           (put_changes _ _ (take done bytes) c.args.at l.reaches l.written)
           record { before = m.before; long = m.long }
           (omega arith) (omega (arith, long, i.within)) (omega (arith, i.within, rest));
-      reaches = λ tells.
-          let l = i.laid tells in
-          let m = c.in-Err.ensures.writes.marred tells in
+      reaches = λ models.
+          let l = i.laid models in
+          let m = c.in-Err.ensures.writes.marred models in
           omega (arith, m.least, ap length l.written, long_put _ (take done bytes) c.args.at l.reaches, long);
-      least = λ tells.
-          let l = i.laid tells in
-          let m = c.in-Err.ensures.writes.marred tells in
+      least = λ models.
+          let l = i.laid models in
+          let m = c.in-Err.ensures.writes.marred models in
           omega (arith, m.least, ap length l.written, long_put _ (take done bytes) c.args.at l.reaches, long);
     }

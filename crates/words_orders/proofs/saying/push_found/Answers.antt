@@ -2,7 +2,7 @@ use Rattle.std.proofs.Common.{◌≡◌, ◌∙◌, ◌∷◌, ◌++◌, [], tru
 use Rattle.std.specs.Prelude.{codes, option_map}
 use Rattle.words_orders.specs.Table.{shape_of}
 use Rattle.words_orders.specs.Words.{SaysNext, apart, flag, is_flag, is_option, joined, of_row, saying_of, written}
-use Rattle.words_orders.proofs.Steps.{adds_one}
+use Rattle.words_orders.proofs.ReadSteps.{adds_one}
 use Rattle.words_orders.proofs.saying.push_found.Goals as goal
 
 pub returns-in-Some-clause-adds : goal.returns-in-Some-clause-adds

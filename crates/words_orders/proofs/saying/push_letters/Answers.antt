@@ -3,7 +3,7 @@ use Rattle.std.specs.List.{AllZip}
 use Rattle.std.proofs.lemmas.List.{take_all}
 use Rattle.words_orders.specs.Table.{shape_of}
 use Rattle.words_orders.specs.Words.{AddsSaid, IsLetter, saying_of}
-use Rattle.words_orders.proofs.Steps.{added_one, letter_more, letters_all, some_letters}
+use Rattle.words_orders.proofs.ReadSteps.{added_one, letter_more, letters_all, some_letters}
 use Rattle.words_orders.proofs.saying.push_letters.Goals as goal
 
 pub loop-letter-preserved : goal.loop-letter-preserved

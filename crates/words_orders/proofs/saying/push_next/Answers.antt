@@ -3,7 +3,7 @@ use Rattle.std.specs.Prelude.{codes}
 use Rattle.std.proofs.lemmas.Slice.Eq.{bytes_eq-Decides}
 use Rattle.words_orders.specs.Table.{shape_of}
 use Rattle.words_orders.specs.Words.{SaysNext, by_place, ended, plain, saying_of}
-use Rattle.words_orders.proofs.Steps.{adds_one}
+use Rattle.words_orders.proofs.ReadSteps.{adds_one}
 use Rattle.words_orders.proofs.saying.push_next.Goals as goal
 
 pub returns-then-is_plain-clause-adds : goal.returns-then-is_plain-clause-adds

@@ -1,7 +1,7 @@
 use Rattle.std.proofs.Common.{◌≡◌, ◌∙◌, ◌∷◌, sym, ap, subst, map}
 use Rattle.words_orders.specs.Table.{shape_of}
 use Rattle.words_orders.specs.Words.{WordsSay, saying_of}
-use Rattle.words_orders.proofs.Steps.{no_words, says_all, says_more}
+use Rattle.words_orders.proofs.ReadSteps.{no_words, says_all, says_more}
 use Rattle.words_orders.proofs.saying.said_by.Goals as goal
 
 pub loop-word-preserved : goal.loop-word-preserved

@@ -5,8 +5,8 @@ use Rattle.words_program.proofs.word_files.read_word_files.Given as goal
 
 abbrev pub invariant-loop-word : goal.invariant-loop-word
 invariant-loop-word g l = record {
-  texts : IsTrue g.D.Disk.tells → ReadsWordFiles (map string_bytes (take l.word-index l.words))
+  texts : IsTrue g.D.Disk.models → ReadsWordFiles (map string_bytes (take l.word-index l.words))
       (map string_bytes l.texts.items) (g.D.Disk.world l.initial.disk) (g.D.Disk.held l.initial.disk)
       (g.D.Disk.held l.disk);
-  world : IsTrue g.D.Disk.tells → g.D.Disk.world l.disk ≡ g.D.Disk.world l.initial.disk;
+  world : IsTrue g.D.Disk.models → g.D.Disk.world l.disk ≡ g.D.Disk.world l.initial.disk;
 }

@@ -3,7 +3,7 @@ use Rattle.abt_chunks.proofs.Finishing.{onward, begins, fault_errs, held_part}
 use Rattle.abt_chunks.proofs.expander.Expander.step.Goals as goal
 
 pub returns-in-Ok-clause-told : goal.returns-in-Ok-clause-told
-returns-in-Ok-clause-told g c tells t e =
+returns-in-Ok-clause-told g c models t e =
     let p = c.part-taken.ensures in
     let q = c.part-taken.result.part in
     let r = c.part-taken.result.received in
@@ -12,12 +12,12 @@ returns-in-Ok-clause-told g c tells t e =
     (arith, p.step.input.received) in
     rw (k, c.answer.ensures) (onward c.args.self.now.walk c.part-taken.new.self
     (g.I.Input.remaining c.part-taken.new.input) (take r rem) t c.part-taken.new.w.bytes
-    (g.O.Output.written c.args.output.now) (g.O.Output.written c.write_part-done.new.output) r (p.gives.window tells) q
-    ((p.gives.told tells).says t (λ f. e (rw c.answer.ensures (fault_errs q f)))) p.step.turn.leaves p.step.turn.moved
+    (g.O.Output.written c.args.output.now) (g.O.Output.written c.write_part-done.new.output) r (p.gives.window models) q
+    ((p.gives.told models).says t (λ f. e (rw c.answer.ensures (fault_errs q f)))) p.step.turn.leaves p.step.turn.moved
     c.in-Ok.ensures.front.ok)
 
 pub returns-in-Ok-clause-begun : goal.returns-in-Ok-clause-begun
-returns-in-Ok-clause-begun g c tells =
+returns-in-Ok-clause-begun g c models =
     let p = c.part-taken.ensures in
     let r = c.part-taken.result.received in
     let rem = g.I.Input.remaining c.args.input.now in
@@ -25,11 +25,11 @@ returns-in-Ok-clause-begun g c tells =
     (arith, p.step.input.received) in
     rw k (begins c.args.self.now.walk c.part-taken.new.self (g.I.Input.remaining c.part-taken.new.input) (take r rem)
     c.part-taken.new.w.bytes (g.O.Output.written c.args.output.now) (g.O.Output.written c.write_part-done.new.output) r
-    _ (p.gives.window tells) c.part-taken.result.part (p.gives.told tells).says p.step.turn.moved
+    _ (p.gives.window models) c.part-taken.result.part (p.gives.told models).says p.step.turn.moved
     c.write_part-done.ensures.front.front)
 
 pub returns-in-Err-clause-begun : goal.returns-in-Err-clause-begun
-returns-in-Err-clause-begun g c tells =
+returns-in-Err-clause-begun g c models =
     let p = c.part-taken.ensures in
     let r = c.part-taken.result.received in
     let rem = g.I.Input.remaining c.args.input.now in
@@ -37,11 +37,11 @@ returns-in-Err-clause-begun g c tells =
     (arith, p.step.input.received) in
     rw k (begins c.args.self.now.walk c.part-taken.new.self (g.I.Input.remaining c.part-taken.new.input) (take r rem)
     c.part-taken.new.w.bytes (g.O.Output.written c.args.output.now) (g.O.Output.written c.write_part-done.new.output) r
-    _ (p.gives.window tells) c.part-taken.result.part (p.gives.told tells).says p.step.turn.moved
+    _ (p.gives.window models) c.part-taken.result.part (p.gives.told models).says p.step.turn.moved
     c.write_part-done.ensures.front.front)
 
 pub returns-in-Ok-clause-held : goal.returns-in-Ok-clause-held
-returns-in-Ok-clause-held g c tells =
+returns-in-Ok-clause-held g c models =
     let p = c.part-taken.ensures in
     let q = c.part-taken.result.part in
     let r = c.part-taken.result.received in
@@ -50,5 +50,5 @@ returns-in-Ok-clause-held g c tells =
     (arith, p.step.input.received) in
     rw (k, c.answer.ensures) (held_part c.args.self.now.walk c.part-taken.new.self
     (g.I.Input.remaining c.part-taken.new.input) (take r rem) c.part-taken.new.w.bytes
-    (g.O.Output.written c.args.output.now) (g.O.Output.written c.write_part-done.new.output) r (p.gives.window tells) q
-    (p.gives.told tells).says p.step.turn.leaves p.step.turn.moved c.in-Ok.ensures.front.ok)
+    (g.O.Output.written c.args.output.now) (g.O.Output.written c.write_part-done.new.output) r (p.gives.window models) q
+    (p.gives.told models).says p.step.turn.leaves p.step.turn.moved c.in-Ok.ensures.front.ok)

@@ -14,11 +14,11 @@ use Rattle.abt_chunks.proofs.walk.Walk.part_within.Goals.{in-Some, in-None}
 
 pub returns-clause-gives : goal.returns-clause-gives
 returns-clause-gives g c = record {
-  window = λ tells.
+  window = λ models.
       let o = c.read_full-got.ensures in
       take-append-le c.read_full-got.result.count c.read_full-got.new.out (drop c.min-ask.result c.args.w.now.bytes)
-      o.within ∙ o.bytes tells;
-  told = λ tells. elim c.match-got.branch [
+      o.within ∙ o.bytes models;
+  told = λ models. elim c.match-got.branch [
     | in-Some w ↦ rw (w.part-is, w.fail-part.ensures.part) (record { says = λ t e. tt; lists = λ t e. tt })
     | in-None w ↦
         let s = c.args.self.now in
@@ -30,8 +30,8 @@ returns-clause-gives g c = record {
         ∙ ap (λ (j : ℕ). take j (c.read_full-got.new.out ++ drop c.min-ask.result c.args.w.now.bytes))
         (let z : n - 0 ≡ n = omega arith in z)
         ∙ take-append-le n c.read_full-got.new.out (drop c.min-ask.result c.args.w.now.bytes) o.within
-        ∙ o.bytes tells in
-        let all : n ≡ min (length c.read_full-got.new.out) (length rem) = o.all tells (rw w.in-None.is refl) in
+        ∙ o.bytes models in
+        let all : n ≡ min (length c.read_full-got.new.out) (length rem) = o.all models (rw w.in-None.is refl) in
         let asked : length c.read_full-got.new.out ≡ min (ask_of c.turn-turn.result s) c.args.most =
         let a = c.read_full-got.auto.out in
         let v = ap length c.part_mut.ensures.value in
@@ -54,15 +54,15 @@ returns-clause-gives g c = record {
           needed_asked c.turn-turn.result s c.turn-turn.ensures,
           ap length got_is,
           length-take n rem,
-          o.forward.present tells,
+          o.forward.present models,
         ) in le in
         rw (w.part-is, w.self-is) (record {
           says = λ t e. told w.take-part.result s w.take-part.new.self (take n rem) t
               (subst (λ (l : List ℕ). Says w.take-part.result s w.take-part.new.self l t) got_is
-              (h.told.says t (λ k. e (h.told.short k) ∙ o.forward.rest tells ∙ drop_all n rem (short k))));
+              (h.told.says t (λ k. e (h.told.short k) ∙ o.forward.rest models ∙ drop_all n rem (short k))));
           lists = λ t e. lists w.take-part.result s w.take-part.new.self (take n rem) t
               (subst (λ (l : List ℕ). ShowsPart w.take-part.result s w.take-part.new.self l t) got_is
-              (h.told.lists t (λ k. e (h.told.short k) ∙ o.forward.rest tells ∙ drop_all n rem (short k))));
+              (h.told.lists t (λ k. e (h.told.short k) ∙ o.forward.rest models ∙ drop_all n rem (short k))));
         })
   ];
   words = search rules;

@@ -1,7 +1,7 @@
 use Rattle.std.proofs.Common.{◌≡◌, ◌+◌, ◌-◌, ◌≤◌, ◌<◌, ◌^◌, ◌++◌, ℕ, Bool, List, [], true, false, length, take, arith, refl, sym, ap, ◌∙◌, length-take, take-append-drop, nat_lt, max, ◌&&◌, ltb-false}
 use Rattle.abt_chunks.specs.declared.walk.Walk.{Walk}
 use Rattle.abt_flash.specs.Stepping.{is_short_of, need_of, passed}
-use Rattle.abt_flash.proofs.Steps.{answer_cause, laid_part, nothing_laid, refused_cause, refused_heads, refused_laid, refused_leaves, refused_measures}
+use Rattle.abt_flash.proofs.FlashSteps.{answer_cause, laid_part, nothing_laid, refused_cause, refused_heads, refused_laid, refused_leaves, refused_measures}
 use Rattle.abt_flash.proofs.Places.{fresh_goes, room_for}
 use Rattle.abt_flash.proofs.Answering.{on_more, never_short, answer_leaves, answer_done, answer_measures, answer_refused, answer_settles, begins_of, faults_rise, refused_none, refused_short}
 use Rattle.abt_flash.proofs.Heads.{heads}
@@ -31,7 +31,7 @@ returns-then-is_short g c = record {
   stepped = record {
     read = search rules;
     unread = search rules;
-    told = λ tells. nothing_laid _ _ _ _ _ _ _ _ _ _ (nothing_read _ _) refl (λ goes. tt) tt;
+    told = λ models. nothing_laid _ _ _ _ _ _ _ _ _ _ (nothing_read _ _) refl (λ goes. tt) tt;
     heads = search rules;
     syncs = search rules;
     measures = search rules;
@@ -54,35 +54,35 @@ returns-in-Ok g c = record {
     read =
         record {
           asked = search rules;
-          present = λ tells. let p = c.part_within-taken.ensures in p.step.input.input.present tells;
+          present = λ models. let p = c.part_within-taken.ensures in p.step.input.input.present models;
           rest = search rules;
           frame = search rules;
         };
     unread = search rules;
-    told = λ tells.
+    told = λ models.
         let p = c.part_within-taken.ensures in
         let e = c.in-Ok.ensures in
         let r = c.part_within-taken.result.received in
         let rem = g.I.Input.remaining c.args.input.now in
         let win = c.part_within-taken.new.w.bytes in
         let k : g.I.Input.given c.part_within-taken.new.input - g.I.Input.given c.args.input.now ≡ r = omega arith in
-        let long : r ≤ length win = omega (arith, ap length (p.gives.window tells), length-take r win, length-take r rem, p.step.input.input.present tells) in
-        rw (k, c.answer-answer.ensures) (laid_part g.P.Source.tells c.args.self.now.stage c.args.self.now.walk c.part_within-taken.new.self (take r rem) (g.I.Input.remaining c.part_within-taken.new.input) win
+        let long : r ≤ length win = omega (arith, ap length (p.gives.window models), length-take r win, length-take r rem, p.step.input.input.present models) in
+        rw (k, c.answer-answer.ensures) (laid_part g.P.Source.models c.args.self.now.stage c.args.self.now.walk c.part_within-taken.new.self (take r rem) (g.I.Input.remaining c.part_within-taken.new.input) win
         (g.P.Partition.past c.args.partition.now) (g.P.Partition.past c.lay_part-done.new.partition) (g.P.Source.content c.args.partition.now) (g.P.Source.content c.lay_part-done.new.partition)
-        (g.P.Partition.taken c.args.partition.now) (g.P.Partition.taken c.lay_part-done.new.partition) r c.max-all.result (p.gives.window tells) long
-        c.part_within-taken.result.part p.step.turn.moved p.gives.words.within p.step.turn.leaves (p.gives.told tells).says p.step.turn.place e.all
+        (g.P.Partition.taken c.args.partition.now) (g.P.Partition.taken c.lay_part-done.new.partition) r c.max-all.result (p.gives.window models) long
+        c.part_within-taken.result.part p.step.turn.moved p.gives.words.within p.step.turn.leaves (p.gives.told models).says p.step.turn.place e.all
         (λ t. rw c.place-at.ensures at (e.laid t)) (λ t. rw c.place-at.ensures at (e.touches t).kept) (λ t. rw c.place-at.ensures at (e.touches t).moments));
-    heads = λ tells goes.
+    heads = λ models goes.
         let p = c.part_within-taken.ensures in
         let r = c.part_within-taken.result.received in
         let rem = g.I.Input.remaining c.args.input.now in
         let rest = g.I.Input.remaining c.part_within-taken.new.input in
         let k : g.I.Input.given c.part_within-taken.new.input - g.I.Input.given c.args.input.now ≡ r = omega arith in
-        let joined : take r rem ++ rest ≡ rem = ap (λ (l : List ℕ). take r rem ++ l) (rw k at (p.step.input.input.rest tells)) ∙ take-append-drop r rem in
-        rw c.answer-answer.ensures (heads c.part_within-taken.result.part c.args.self.now.walk c.part_within-taken.new.self (take r rem) rest rem joined p.step.turn.leaves ((p.gives.told tells).lists rest (λ z. refl)));
+        let joined : take r rem ++ rest ≡ rem = ap (λ (l : List ℕ). take r rem ++ l) (rw k at (p.step.input.input.rest models)) ∙ take-append-drop r rem in
+        rw c.answer-answer.ensures (heads c.part_within-taken.result.part c.args.self.now.walk c.part_within-taken.new.self (take r rem) rest rem joined p.step.turn.leaves ((p.gives.told models).lists rest (λ z. refl)));
     syncs =
         record {
-          settled = λ goes tells. rw c.answer-answer.ensures (answer_settles c.part_within-taken.result.part _ (c.in-Ok.ensures.settled tells));
+          settled = λ goes models. rw c.answer-answer.ensures (answer_settles c.part_within-taken.result.part _ (c.in-Ok.ensures.settled models));
           synced =
               let done = answer_done c.part_within-taken.result.part in
               let synced = c.in-Ok.ensures.synced in
@@ -145,33 +145,33 @@ returns-in-Err g c = record {
     read =
         record {
           asked = search rules;
-          present = λ tells. let p = c.part_within-taken.ensures in p.step.input.input.present tells;
+          present = λ models. let p = c.part_within-taken.ensures in p.step.input.input.present models;
           rest = search rules;
           frame = search rules;
         };
     unread = search rules;
-    told = λ tells.
+    told = λ models.
         let p = c.part_within-taken.ensures in
         let e = c.in-Err.ensures in
         let r = c.part_within-taken.result.received in
         let rem = g.I.Input.remaining c.args.input.now in
         let win = c.part_within-taken.new.w.bytes in
         let k : g.I.Input.given c.part_within-taken.new.input - g.I.Input.given c.args.input.now ≡ r = omega arith in
-        let long : r ≤ length win = omega (arith, ap length (p.gives.window tells), length-take r win, length-take r rem, p.step.input.input.present tells) in
-        rw k (refused_laid g.P.Source.tells c.args.self.now.stage c.args.self.now.walk c.part_within-taken.new.self (take r rem) (g.I.Input.remaining c.part_within-taken.new.input) win
+        let long : r ≤ length win = omega (arith, ap length (p.gives.window models), length-take r win, length-take r rem, p.step.input.input.present models) in
+        rw k (refused_laid g.P.Source.models c.args.self.now.stage c.args.self.now.walk c.part_within-taken.new.self (take r rem) (g.I.Input.remaining c.part_within-taken.new.input) win
         (g.P.Partition.past c.args.partition.now) (g.P.Partition.past c.lay_part-done.new.partition) (g.P.Source.content c.args.partition.now) (g.P.Source.content c.lay_part-done.new.partition)
-        (g.P.Partition.taken c.args.partition.now) (g.P.Partition.taken c.lay_part-done.new.partition) r c.max-all.result (p.gives.window tells) long
-        c.part_within-taken.result.part c.in-Err.fault _ _ p.step.turn.moved p.gives.words.within p.step.turn.leaves (p.gives.told tells).says e.cause e.ends e.all (λ t. rw c.place-at.ensures at (e.laid t))
+        (g.P.Partition.taken c.args.partition.now) (g.P.Partition.taken c.lay_part-done.new.partition) r c.max-all.result (p.gives.window models) long
+        c.part_within-taken.result.part c.in-Err.fault _ _ p.step.turn.moved p.gives.words.within p.step.turn.leaves (p.gives.told models).says e.cause e.ends e.all (λ t. rw c.place-at.ensures at (e.laid t))
         (λ t. rw c.place-at.ensures at (e.touches t).kept) (λ t. rw c.place-at.ensures at (e.touches t).moments));
-    heads = λ tells goes.
+    heads = λ models goes.
         let p = c.part_within-taken.ensures in
         let e = c.in-Err.ensures in
         let r = c.part_within-taken.result.received in
         let rem = g.I.Input.remaining c.args.input.now in
         let rest = g.I.Input.remaining c.part_within-taken.new.input in
         let k : g.I.Input.given c.part_within-taken.new.input - g.I.Input.given c.args.input.now ≡ r = omega arith in
-        let joined : take r rem ++ rest ≡ rem = ap (λ (l : List ℕ). take r rem ++ l) (rw k at (p.step.input.input.rest tells)) ∙ take-append-drop r rem in
-        refused_heads c.part_within-taken.result.part c.in-Err.fault c.args.self.now.walk c.part_within-taken.new.self rem rest _ _ e.cause e.ends (heads c.part_within-taken.result.part c.args.self.now.walk c.part_within-taken.new.self (take r rem) rest rem joined p.step.turn.leaves ((p.gives.told tells).lists rest (λ z. refl)));
+        let joined : take r rem ++ rest ≡ rem = ap (λ (l : List ℕ). take r rem ++ l) (rw k at (p.step.input.input.rest models)) ∙ take-append-drop r rem in
+        refused_heads c.part_within-taken.result.part c.in-Err.fault c.args.self.now.walk c.part_within-taken.new.self rem rest _ _ e.cause e.ends (heads c.part_within-taken.result.part c.args.self.now.walk c.part_within-taken.new.self (take r rem) rest rem joined p.step.turn.leaves ((p.gives.told models).lists rest (λ z. refl)));
     syncs =
         record {
           settled = search rules;

@@ -1,7 +1,7 @@
 use Rattle.std.proofs.Common.{rules, arith, ap, sym, ◌∙◌, ◌≡◌, ◌+◌, ◌++◌, ℕ, List, inl}
 use Rattle.abt_io.proofs.Lent.{reads_err, reads_ok, reads_then, writes_err, writes_ok}
 use Rattle.abt_io.proofs.Lent.{writes_then}
-use Rattle.abt_pieces.specs.declared.stage.Stage.TheVariants.{Between}
+use Rattle.abt_pieces.specs.declared.stage.CutterStage.TheVariants.{Between}
 use Rattle.abt_pieces.proofs.Fronts.{front_join, rest_join, not_full}
 use Rattle.abt_pieces.proofs.Stepping.{whole_front, piece_came}
 use Rattle.abt_pieces.proofs.Joining.{steps_join, greatest_join, counted_join, within_join, long_join, calls_join}
@@ -35,15 +35,15 @@ steps-preserved g c =
       made = on.same_number ∙ i.made;
       reads = reads_ok tt (reads_then i.reads o.reads);
       writes = writes_ok tt (writes_then i.writes (writes_as (full_at_ok _) o.writes));
-      told = λ tells. rw (i.runs, i.reads.content tells) at (e.told tells);
+      told = λ models. rw (i.runs, i.reads.content models) at (e.told models);
       fresh = inl (begun, between);
       counted = counted_join _ _ _ _ _ i.writes.least costs.grown on.counted i.counted;
-      front = λ tells. front_join _ _ _ _ _ i.writes.least e.costs.grown (i.front tells) (i.rest tells)
-          (rw (i.runs, i.reads.content tells, i.limit, i.start) at (e.front tells));
-      rest = λ tells.
-          let r = rw is at (o.rest tells) in
-          rest_join _ _ _ _ _ _ i.writes.least e.costs.grown (i.rest tells)
-          (rw (i.runs, i.reads.content tells, i.limit, i.start) at r);
+      front = λ models. front_join _ _ _ _ _ i.writes.least e.costs.grown (i.front models) (i.rest models)
+          (rw (i.runs, i.reads.content models, i.limit, i.start) at (e.front models));
+      rest = λ models.
+          let r = rw is at (o.rest models) in
+          rest_join _ _ _ _ _ _ i.writes.least e.costs.grown (i.rest models)
+          (rw (i.runs, i.reads.content models, i.limit, i.start) at r);
       given = omega (arith, i.given, e.costs.given);
       steps = steps_join _ _ _ _ _ _ _ i.steps c.tick.ensures.steps costs.steps costs.received;
       greatest = greatest_join _ _ _ _ _ _ i.greatest c.tick.ensures.greatest costs.greatest costs.received;
@@ -52,8 +52,8 @@ steps-preserved g c =
           costs.write_calls paid;
       turns = turns_join _ _ _ _ _ _ _ _ _ _ _ _ _ _ i.given costs.given i.writes.least costs.grown i.turns
           c.tick.ensures.turns words paid;
-      spent = λ tells.
-          let step = rw (i.runs, i.reads.content tells, i.limit, i.start) at (rw is at (o.spends tells)) in
+      spent = λ models.
+          let step = rw (i.runs, i.reads.content models, i.limit, i.start) at (rw is at (o.spends models)) in
           stage_joins (λ x. g.R.BlockRuns.within c.args.self.now.runs x × g.R.BlockRuns.place c.args.self.now.runs
           (g.S.Source.content c.args.source.now) x) (g.R.BlockRuns.charge c.args.self.now.runs)
           (g.R.BlockRuns.copied c.args.self.now.runs) (g.R.BlockRuns.held c.args.self.now.runs)
@@ -61,7 +61,7 @@ steps-preserved g c =
           (g.R.BlockRuns.one c.args.self.now.runs) c.args.self.now.start
           (all_passes (g.R.BlockRuns.charge c.args.self.now.runs) (g.R.BlockRuns.copied c.args.self.now.runs)
           c.args.self.now.start) (g.S.Source.given c.args.source.now) (g.S.Source.given c.steps.source)
-          (g.S.Source.given c.step.new.source) c.step.new.self.stage i.given e.costs.given (step _ (i.spent tells));
+          (g.S.Source.given c.step.new.source) c.step.new.self.stage i.given e.costs.given (step _ (i.spent models));
       leads = leads_join (StageMayCome (g.R.BlockRuns.size c.args.self.now.runs)
           (g.R.BlockRuns.count c.args.self.now.runs) c.args.self.now.stage)
           (StageMayCome (g.R.BlockRuns.size c.args.self.now.runs) (g.R.BlockRuns.count c.args.self.now.runs)
@@ -86,14 +86,14 @@ returns-in-Ok-Piece g c =
       left = record {
         cutter = record { same_image = e.same.0 ∙ i.runs; same_limit = e.same.1 ∙ i.limit; unbegun = rw is at o.begun };
         reads = reads_ok _ (reads_then i.reads o.reads);
-        told = λ tells. rw (i.runs, i.reads.content tells) at (e.told tells);
+        told = λ models. rw (i.runs, i.reads.content models) at (e.told models);
         refused = tt;
       };
       writes = writes_as (sym (full_at_ok c.args.self.now.stage))
           (writes_ok _ (writes_then i.writes (writes_as (full_at_ok _) o.writes)));
       within = within_join _ _ _ _ _ i.writes.least e.costs.grown (rw i.limit at e.within) i.counted;
-      front = λ tells. front_join _ _ _ _ _ i.writes.least e.costs.grown (i.front tells) (i.rest tells)
-          (rw (i.runs, i.reads.content tells, i.limit, i.start) at (e.front tells));
+      front = λ models. front_join _ _ _ _ _ i.writes.least e.costs.grown (i.front models) (i.rest models)
+          (rw (i.runs, i.reads.content models, i.limit, i.start) at (e.front models));
       made = record {
         image = between_image _ _ _ _ _ between (leads_whole _ _ _ _ _ i.leads (rw i.runs at (rw is at o.all)));
         piece = record {
@@ -109,16 +109,16 @@ returns-in-Ok-Piece g c =
         words = words_join _ _ _ _ _ _ _ _ _ _ _ _ _ i.given e.costs.given i.writes.least e.costs.grown i.turns
             c.tick.ensures.turns (rw i.runs at ends.words);
       };
-      laid = λ tells.
-          let came = rw is at (o.laid tells) in
-          let whole = whole_front _ _ _ _ _ _ (i.front tells) (i.rest tells)
-          (rw (i.runs, i.reads.content tells, i.limit, i.start) at came.written) in
-          let greatest = rw (i.runs, i.reads.content tells, i.limit) at came.greatest in
+      laid = λ models.
+          let came = rw is at (o.laid models) in
+          let whole = whole_front _ _ _ _ _ _ (i.front models) (i.rest models)
+          (rw (i.runs, i.reads.content models, i.limit, i.start) at came.written) in
+          let greatest = rw (i.runs, i.reads.content models, i.limit) at came.greatest in
           record {
             written = whole ∙ ap (λ (y : List ℕ). g.O.Output.written c.args.output.now ++ y)
                 (piece_came _ _ _ _ c.in-Ok-Piece.piece _ between (rw i.start at piece.begins) greatest);
             coming = rw between at whole;
-            exact = rw (i.runs, i.reads.content tells) at came.exact;
+            exact = rw (i.runs, i.reads.content models) at came.exact;
             greatest = greatest;
           };
       none = tt;
@@ -126,9 +126,9 @@ returns-in-Ok-Piece g c =
       again = λ f d. absurd (between_unfailed _ f between d);
       costs = costs_join _ _ _ _ _ _ _ _ _ _ (rw i.runs at e.costs) i.given i.writes.least i.steps i.greatest i.calls
           i.write_calls i.turns c.tick.ensures.steps c.tick.ensures.greatest c.tick.ensures.turns;
-      spent = λ tells.
-          let step = rw (i.runs, i.reads.content tells, i.limit, i.start) at (rw is at (o.spent tells)) in
-          let z = step _ (i.spent tells) in
+      spent = λ models.
+          let step = rw (i.runs, i.reads.content models, i.limit, i.start) at (rw is at (o.spent models)) in
+          let z = step _ (i.spent models) in
           record {
             most = omega (arith, z.most, i.given, e.costs.given);
             end = λ over. let y = z.end over in omega
@@ -148,21 +148,21 @@ returns-in-Err g c =
       left = record {
         cutter = record { same_image = e.same.0 ∙ i.runs; same_limit = e.same.1 ∙ i.limit; unbegun = o.begun };
         reads = reads_err _ (reads_then i.reads o.reads);
-        told = λ tells. rw (i.runs, i.reads.content tells) at (e.told tells);
+        told = λ models. rw (i.runs, i.reads.content models) at (e.told models);
         refused = o.refused;
       };
       writes = writes_as (full_at_fresh _ _ _ i.fresh) (writes_err _ (writes_then i.writes o.writes));
       within = within_join _ _ _ _ _ i.writes.least e.costs.grown (rw i.limit at e.within) i.counted;
-      front = λ tells. front_join _ _ _ _ _ i.writes.least e.costs.grown (i.front tells) (i.rest tells)
-          (rw (i.runs, i.reads.content tells, i.limit, i.start) at (e.front tells));
+      front = λ models. front_join _ _ _ _ _ i.writes.least e.costs.grown (i.front models) (i.rest models)
+          (rw (i.runs, i.reads.content models, i.limit, i.start) at (e.front models));
       made = tt;
-      laid = λ tells. tt;
+      laid = λ models. tt;
       none = tt;
       after_last = search rules;
       again = search rules;
       costs = costs_join _ _ _ _ _ _ _ _ _ _ (rw i.runs at e.costs) i.given i.writes.least i.steps i.greatest i.calls
           i.write_calls i.turns c.tick.ensures.steps c.tick.ensures.greatest c.tick.ensures.turns;
-      spent = λ tells. tt;
+      spent = λ models. tt;
       full = λ h says.
           let z = o.full (still_unfailed _ _ i.fresh h) says in
           let few = rw i.limit at z.1 in

@@ -15,7 +15,7 @@ returns-in-Err g c =
         cause = run_causes _ _ _ _ _ _ _ c.run_fault.ensures c.in-Err.ensures.source.cause;
       };
       sound = tt;
-      told = λ tells. tt;
+      told = λ models. tt;
       charges = tt;
       takes = tt;
       costs = a.costs;
@@ -31,15 +31,15 @@ returns-in-Ok-planned g c =
     record {
       source = record { reads = reads_ok _ e.source.reads; cause = tt };
       sound = rw e.sound.first at o.sound;
-      told = λ tells.
-          let x = (c.requires.told tells).0 in
+      told = λ models.
+          let x = (c.requires.told models).0 in
           let exact = o.exact in
           let runs = c.args.self.now.runs in
           record {
             exact = exact _ (g.met.R.BlockRuns.long runs _ x) (g.met.R.BlockRuns.are_blocks runs _ x)
-                (e.told tells).planned;
-            greatest = rw o.next.1 (e.greatest tells);
-            place = rw o.next.0 (e.told tells).place;
+                (e.told models).planned;
+            greatest = rw o.next.1 (e.greatest models);
+            place = rw o.next.0 (e.told models).place;
           };
       charges = record {
         charged = rw o.next.0 e.charges.charged;
@@ -64,12 +64,12 @@ returns-in-Err-planned g c =
     record {
       source = record {
         reads = reads_then e.source.reads (reads_none _ _ _);
-        cause = rw r.0 (not_told _ (λ tells.
-            let long = g.met.R.BlockRuns.long c.args.self.now.runs _ (c.requires.told tells).0 in
-            moves _ _ _ c.in-Ok.planner size.0 c.args.self.now.sound.granted (e.ends tells) r.1 (rw long r.2)));
+        cause = rw r.0 (not_told _ (λ models.
+            let long = g.met.R.BlockRuns.long c.args.self.now.runs _ (c.requires.told models).0 in
+            moves _ _ _ c.in-Ok.planner size.0 c.args.self.now.sound.granted (e.ends models) r.1 (rw long r.2)));
       };
       sound = tt;
-      told = λ tells. tt;
+      told = λ models. tt;
       charges = tt;
       takes = tt;
       costs = a.costs;

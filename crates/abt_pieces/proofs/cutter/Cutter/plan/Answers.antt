@@ -4,7 +4,7 @@ use Rattle.abt_runs.specs.declared.part.Cursor.{Cursor}
 use Rattle.abt_pieces.specs.Fault.{full_in_cut}
 use Rattle.abt_pieces.specs.declared.fault.PieceFault.{PieceFault}
 use Rattle.abt_pieces.specs.declared.plan.Planner.{Planner}
-use Rattle.abt_pieces.specs.declared.stage.Stage.TheVariants.{Failed}
+use Rattle.abt_pieces.specs.declared.stage.CutterStage.TheVariants.{Failed}
 use Rattle.abt_pieces.proofs.Fronts.{not_told, run_causes, run_not_full}
 use Rattle.abt_pieces.proofs.Planning.{first_piece}
 use Rattle.abt_pieces.proofs.Cutting.{moves}
@@ -46,19 +46,19 @@ returns-in-Ok g c =
         paid = omega (arith, a.costs.given);
         words = let z = plan_covers _ _ _ _ p.0 p.1 in rw past (omega (arith, turns, z));
       };
-      told = λ tells.
-          let x = c.requires.ready.opened tells in
-          let p = (e.told tells).planned in
-          let ends = e.ends tells test in
+      told = λ models.
+          let x = c.requires.ready.opened models in
+          let p = (e.told models).planned in
+          let ends = e.ends models test in
           let exact = o.exact in
           record {
             exact = exact _ (g.met.R.BlockRuns.long c.args.self.now.runs _ x)
                 (g.met.R.BlockRuns.are_blocks c.args.self.now.runs _ x) p;
             greatest = rw n.1 (first_piece _ _ _ _ _ size.0 c.args.self.now.sound.granted (rw f at p.order) p.within
                 (rw f at (rw p.weight at e.sound.room)) (rw f at ends.over));
-            place = rw n.0 (e.told tells).place;
+            place = rw n.0 (e.told models).place;
           };
-      coming = λ tells. refl;
+      coming = λ models. refl;
       spends = λ t h.
           let fresh : c.in-Ok.outline.next.ask ≡ 1 = ap (λ (x : Cursor). x.ask) (n.0 ∙ ap (λ (q : Planner). q.at) still)
           in
@@ -88,14 +88,14 @@ returns-in-Err-planned g c =
       };
       source = record {
         reads = reads_then e.source.reads (reads_none _ _ _);
-        cause = rw (x.fault, r.0) (not_told _ (λ tells.
-            let long = g.met.R.BlockRuns.long c.args.self.now.runs _ (c.requires.ready.opened tells) in
-            moves _ _ _ c.step.new.self size.0 c.args.self.now.sound.granted (e.ends tells c.in-Ok-true.field-0-test)
+        cause = rw (x.fault, r.0) (not_told _ (λ models.
+            let long = g.met.R.BlockRuns.long c.args.self.now.runs _ (c.requires.ready.opened models) in
+            moves _ _ _ c.step.new.self size.0 c.args.self.now.sound.granted (e.ends models c.in-Ok-true.field-0-test)
             r.1 (rw long r.2)));
       };
       goes_on = tt;
-      told = λ tells. tt;
-      coming = λ tells. tt;
+      told = λ models. tt;
+      coming = λ models. tt;
       spends = λ t h. tt;
       costs = part_words a.costs (omega (arith, top));
       unwritten = ap (λ (f : PieceFault). full_in_cut f) (x.fault ∙ r.0);
@@ -119,8 +119,8 @@ returns-in-Err g c =
         cause = run_causes _ _ _ _ _ _ _ (x.fault ∙ c.run_fault.ensures) c.in-Err.ensures.source.cause;
       };
       goes_on = tt;
-      told = λ tells. tt;
-      coming = λ tells. tt;
+      told = λ models. tt;
+      coming = λ models. tt;
       spends = λ t h. tt;
       costs = part_words a.costs (omega (arith, top));
       unwritten = ap (λ (f : PieceFault). full_in_cut f) (x.fault ∙ c.run_fault.ensures) ∙ run_not_full c.in-Err.fault;

@@ -17,13 +17,13 @@ returns-in-Ok g c =
       left = record {
         cutter = record { same_image = p.runs; same_limit = p.limit; unbegun = behind_unbegun _ _ _ behind };
         reads = reads_ok _ o.source.reads;
-        told = λ tells.
-            let long = g.met.R.BlockRuns.long c.args.self.now.runs _ (c.requires.ready.opened tells) in
+        told = λ models.
+            let long = g.met.R.BlockRuns.long c.args.self.now.runs _ (c.requires.ready.opened models) in
             let more : has_more c.args.self.now.stage ≡ true = search rules in
             rw (p.limit, p.made, p.start) (told_more _ _ (g.R.BlockRuns.within c.args.self.now.runs) _
             (g.R.BlockRuns.count c.args.self.now.runs) _ _ _ c.args.self.now.start c.in-Ok.outline _ _ more
-            (c.requires.ready.told tells) o.sound (sym long) (o.told tells).greatest
-            (o.told tells).place behind.done behind.between);
+            (c.requires.ready.told models) o.sound (sym long) (o.told models).greatest
+            (o.told models).place behind.done behind.between);
         refused = tt;
       };
       passed = record {
@@ -39,8 +39,8 @@ returns-in-Ok g c =
         takes = rw (p.piece, p.start) o.takes;
         words = rw p.piece o.words;
       };
-      exact = λ tells. rw p.piece (o.told tells).exact.is;
-      greatest = λ tells. rw (p.piece, o.sound.first) (o.told tells).greatest;
+      exact = λ models. rw p.piece (o.told models).exact.is;
+      greatest = λ models. rw (p.piece, o.sound.first) (o.told models).greatest;
       none = tt;
       again = search rules;
       costs = q.costs;

@@ -9,8 +9,8 @@ use Rattle.abt_pieces.specs.declared.fault.PieceFault.{PieceFault}
 use Rattle.abt_pieces.specs.declared.fault.PieceFault.TheVariants.{Read, SourceChanged, TooLarge, BadBlock}
 use Rattle.abt_pieces.specs.declared.fault.PieceFault.TheVariants.{LimitTooSmall}
 use Rattle.abt_pieces.specs.declared.fault.PieceFault.TheVariants as faults
-use Rattle.abt_pieces.specs.declared.stage.Stage.{Stage}
-use Rattle.abt_pieces.specs.declared.stage.Stage.TheVariants.{Between, Begin, Done, Failed}
+use Rattle.abt_pieces.specs.declared.stage.CutterStage.{CutterStage}
+use Rattle.abt_pieces.specs.declared.stage.CutterStage.TheVariants.{Between, Begin, Done, Failed}
 use Rattle.abt_pieces.proofs.Fronts.{wrote_rest, wrote_part, not_full}
 use Rattle.abt_pieces.proofs.Stepping.{begun_told, header_comes, first_left, plan_most, told_moves, header_costs}
 use Rattle.abt_pieces.proofs.SpendingStages.{outline_writes, nothing_read}
@@ -25,18 +25,18 @@ below_header : (limit b w0 w1 : ℕ) → 64 + b ≤ limit → w1 < w0 + 28 → 0
 below_header limit b w0 w1 granted few = omega (arith, granted, few)
 
 -- a header reads nothing
-cause_unread : (e : PieceFault) (tells : Bool) (r r' w w' : ℕ) → CutCause e true 0 0 w w' → CutCause e tells r r' w w'
-cause_unread (Read f) tells r r' w w' h = absurd (omega (arith, h.0))
-cause_unread (faults.Write f) tells r r' w w' h = h
-cause_unread SourceChanged tells r r' w w' h = absurd (true≢false h)
-cause_unread TooLarge tells r r' w w' h = absurd h
-cause_unread (BadBlock n) tells r r' w w' h = absurd h
-cause_unread (LimitTooSmall n) tells r r' w w' h = absurd h
+cause_unread : (e : PieceFault) (models : Bool) (r r' w w' : ℕ) → CutCause e true 0 0 w w' → CutCause e models r r' w w'
+cause_unread (Read f) models r r' w w' h = absurd (omega (arith, h.0))
+cause_unread (faults.Write f) models r r' w w' h = h
+cause_unread SourceChanged models r r' w w' h = absurd (true≢false h)
+cause_unread TooLarge models r r' w w' h = absurd h
+cause_unread (BadBlock n) models r r' w w' h = absurd h
+cause_unread (LimitTooSmall n) models r r' w w' h = absurd h
 
-begun_undone : (st : Stage) (o : Outline) → st ≡ Begin o → st ≡ Done → ⊥
+begun_undone : (st : CutterStage) (o : Outline) → st ≡ Begin o → st ≡ Done → ⊥
 begun_undone st o begun done = absurd cc
 
-begun_unfailed : (st : Stage) (o : Outline) (f : PieceFault) → st ≡ Begin o → st ≡ Failed f → ⊥
+begun_unfailed : (st : CutterStage) (o : Outline) (f : PieceFault) → st ≡ Begin o → st ≡ Failed f → ⊥
 begun_unfailed st o f begun failed = absurd cc
 
 pub plan_on-requires-clause-ready : goal.plan_on-requires-clause-ready
@@ -48,10 +48,10 @@ plan_on-requires-clause-ready g c =
       sound = search rules;
       taken = search rules;
       opened = c.requires.ready.opened;
-      planned = λ tells.
-          let long = g.met.R.BlockRuns.long c.args.self.now.runs _ (c.requires.ready.opened tells) in
+      planned = λ models.
+          let long = g.met.R.BlockRuns.long c.args.self.now.runs _ (c.requires.ready.opened models) in
           record {
-            place = rw e.at (c.requires.ready.told tells).place;
+            place = rw e.at (c.requires.ready.told models).place;
             planned = e.planned _ _ (omega (arith, b, long));
           };
     }
@@ -71,11 +71,11 @@ returns-in-Ok g c =
     let some : 0 < g.R.BlockRuns.size r = omega (arith, size.0) in
     let room : 40 ≤ self.limit = omega (arith, granted) in
     let s = rw is at self.sound in
-    let header = λ (tells : IsTrue g.S.Source.tells).
+    let header = λ (models : IsTrue g.S.Source.models).
     header_comes _ _ (g.R.BlockRuns.count r) _ _ self.start c.in-Begin.outline
-    (sym (g.met.R.BlockRuns.long r _ (c.requires.ready.opened tells))) s.stage.first
-    (g.met.R.BlockRuns.are_blocks r _ (c.requires.ready.opened tells)) some room s.stage.long
-    (rw is at (c.requires.ready.told tells)).stage in
+    (sym (g.met.R.BlockRuns.long r _ (c.requires.ready.opened models))) s.stage.first
+    (g.met.R.BlockRuns.are_blocks r _ (c.requires.ready.opened models)) some room s.stage.long
+    (rw is at (c.requires.ready.told models)).stage in
     let whole = whole_header (plain_header (g.R.BlockRuns.size r) (g.R.BlockRuns.count r) c.in-Begin.outline.chunks) _ _
     e.front o.whole in
     record {
@@ -83,12 +83,12 @@ returns-in-Ok g c =
         same = (e.keeps.runs, e.keeps.rest.0);
         reads = reads_none _ _ _;
         writes = rw is (writes_ok _ o.writes);
-        told = λ tells.
-            let long = g.met.R.BlockRuns.long r _ (c.requires.ready.opened tells) in
-            let good = g.met.R.BlockRuns.are_blocks r _ (c.requires.ready.opened tells) in
+        told = λ models.
+            let long = g.met.R.BlockRuns.long r _ (c.requires.ready.opened models) in
+            let good = g.met.R.BlockRuns.are_blocks r _ (c.requires.ready.opened models) in
             rw (e.keeps.rest.0, e.keeps.rest.1, e.keeps.rest.2, o.stage)
             (begun_told _ _ _ (g.R.BlockRuns.count r) _ _ _ self.start c.in-Begin.outline
-            (sym long) s.stage.first good some room s.stage.long (rw is at (c.requires.ready.told tells)));
+            (sym long) s.stage.first good some room s.stage.long (rw is at (c.requires.ready.told models)));
         begun = rw o.stage refl;
         goes_on = record {
           same_place = e.keeps.rest.1;
@@ -100,21 +100,21 @@ returns-in-Ok g c =
           words = search rules;
         };
         within = rw is (within_header _ _ _ _ granted e.within);
-        front = λ tells. rw is (wrote_part _ _ _ _ _ e.front (header tells));
-        rest = λ tells. rw (o.stage, is) (wrote_rest _ _ _ _ _ whole (header tells));
+        front = λ models. rw is (wrote_part _ _ _ _ _ e.front (header models));
+        rest = λ models. rw (o.stage, is) (wrote_rest _ _ _ _ _ whole (header models));
         leads = rw (o.stage, is) (header_leads _ _ _ self.start c.in-Begin.outline _ _
             (omega (arith, size.0), size.1, e.fits.0) e.fits.1 e.fits.2 whole);
         all = tt;
         piece = tt;
         ends = tt;
-        laid = λ tells. tt;
+        laid = λ models. tt;
         refused = tt;
         costs = rw is (header_costs _ _ _ _ _ _ refl refl most e.writes.least e.within e.one_step.steps
             (omega (arith, greatest)) e.costs.calls e.costs.turns);
-        spends = λ tells t spent. let h = rw is at spent in rw o.stage
+        spends = λ models t spent. let h = rw is at spent in rw o.stage
             (nothing_read _ _ _ _ _ _ t _ c.in-Begin.outline _
             (outline_writes _ _ _ _ _ _ self.start t _ c.in-Begin.outline s.stage.first h));
-        spent = λ tells t spent. tt;
+        spent = λ models t spent. tt;
         full = λ going says. absurd (not_full says);
         cause = tt;
       };
@@ -138,39 +138,39 @@ returns-in-Err g c =
     let some : 0 < g.R.BlockRuns.size r = omega (arith, size.0) in
     let room : 40 ≤ self.limit = omega (arith, granted) in
     let s = rw is at self.sound in
-    let header = λ (tells : IsTrue g.S.Source.tells).
+    let header = λ (models : IsTrue g.S.Source.models).
     header_comes _ _ (g.R.BlockRuns.count r) _ _ self.start c.in-Begin.outline
-    (sym (g.met.R.BlockRuns.long r _ (c.requires.ready.opened tells))) s.stage.first
-    (g.met.R.BlockRuns.are_blocks r _ (c.requires.ready.opened tells)) some room s.stage.long
-    (rw is at (c.requires.ready.told tells)).stage in
+    (sym (g.met.R.BlockRuns.long r _ (c.requires.ready.opened models))) s.stage.first
+    (g.met.R.BlockRuns.are_blocks r _ (c.requires.ready.opened models)) some room s.stage.long
+    (rw is at (c.requires.ready.told models)).stage in
     record {
       stepped = record {
         same = (e.keeps.runs, e.keeps.rest.0);
         reads = reads_none _ _ _;
         writes = rw is (writes_err _ o.writes);
-        told = λ tells.
+        told = λ models.
             let l = g.R.BlockRuns.list r (g.S.Source.content c.args.source.now) in
             let b = g.R.BlockRuns.size r in
             let same : segments_left b self.limit l self.start.block self.stage ≡ segments_left b self.limit l
             self.start.block Between = rw is refl in
             rw (o.keeps.refused, e.keeps.rest.0, e.keeps.rest.1, e.keeps.rest.2)
             (told_moves _ _ b l self.limit self.made self.start self.stage (Failed c.in-Err.fault)
-            (c.requires.ready.told tells) (sym same) tt);
+            (c.requires.ready.told models) (sym same) tt);
         begun = rw o.keeps.refused refl;
         goes_on = tt;
         within = rw is (within_header _ _ _ _ granted e.within);
-        front = λ tells. rw is (wrote_part _ _ _ _ _ e.front (header tells));
-        rest = λ tells. tt;
+        front = λ models. rw is (wrote_part _ _ _ _ _ e.front (header models));
+        rest = λ models. tt;
         leads = tt;
         all = tt;
         piece = tt;
         ends = tt;
-        laid = λ tells. tt;
+        laid = λ models. tt;
         refused = o.keeps.refused;
         costs = rw is (header_costs _ _ _ _ _ _ refl refl most e.writes.least e.within e.one_step.steps
             (omega (arith, greatest)) e.costs.calls e.costs.turns);
-        spends = λ tells t spent. tt;
-        spent = λ tells t spent. tt;
+        spends = λ models t spent. tt;
+        spent = λ models t spent. tt;
         full = λ going says. let z = o.full says in (z.0, rw is (below_header _ _ _ _ granted z.1));
         cause = inr (cause_unread c.in-Err.fault _ _ _ _ _ o.cause);
       };

@@ -23,12 +23,12 @@ returns-in-Ok-false g c =
         same = (refl, refl);
         reads = reads_ok _ e.stepped.reads;
         writes = rw is (writes_ok _ e.stepped.writes);
-        told = λ tells. let h = rw is at (c.requires.ready.told tells) in
+        told = λ models. let h = rw is at (c.requires.ready.told models) in
             record {
               place = h.place;
               cuts = h.cuts;
               stage =
-                  record { outline = h.stage.outline; writer = e.stepped.told tells };
+                  record { outline = h.stage.outline; writer = e.stepped.told models };
             };
         begun = refl;
         goes_on = record {
@@ -40,22 +40,22 @@ returns-in-Ok-false g c =
           words = rw is (omega (arith, words));
         };
         within = rw is (omega (arith, a.stepped.within, a.stepped.costs.grown, s.rest, s.outline.long));
-        front = λ tells. rw is (a.stepped.front tells);
-        rest = λ tells. rw (is, a.stepped.segment.0, a.stepped.segment.1) (e.stepped.rest tells);
+        front = λ models. rw is (a.stepped.front models);
+        rest = λ models. rw (is, a.stepped.segment.0, a.stepped.segment.1) (e.stepped.rest models);
         leads = rw is (e.stepped.leads test);
         all = tt;
         piece = tt;
         ends = tt;
-        laid = λ tells. tt;
+        laid = λ models. tt;
         refused = tt;
         costs = rw is (write_costs _ _ _ _ _ _ _ most a.stepped.costs);
-        spends = λ tells t spent.
-            let told = (rw is at (c.requires.ready.told tells)).stage in
+        spends = λ models t spent.
+            let told = (rw is at (c.requires.ready.told models)).stage in
             let h = rw is at spent in
             writing_goes _ _ _ _ _ _ t _ _ c.args.outline c.args.from c.step.new.self h
-            (e.stepped.spends tells c.args.outline.next s.outline.within told.outline.place
+            (e.stepped.spends models c.args.outline.next s.outline.within told.outline.place
             (sym (s.past ∙ s.outline.past)) h.fresh h.begun h.total h.spent);
-        spent = λ tells t spent. tt;
+        spent = λ models t spent. tt;
         full = λ going says. absurd (not_full says);
         cause = tt;
       };
@@ -85,17 +85,17 @@ returns-in-Ok-true g c =
         same = (p.runs, p.limit);
         reads = reads_ok _ e.stepped.reads;
         writes = rw is (writes_ok _ e.stepped.writes);
-        told = λ tells.
-            let long = g.met.R.BlockRuns.long c.args.self.now.runs _ (c.requires.ready.opened tells) in
-            let h = rw is at (c.requires.ready.told tells) in
+        told = λ models.
+            let long = g.met.R.BlockRuns.long c.args.self.now.runs _ (c.requires.ready.opened models) in
+            let h = rw is at (c.requires.ready.told models) in
             rw (p.limit, p.made, p.start) (told_more _ _ (g.R.BlockRuns.within c.args.self.now.runs) _
             (g.R.BlockRuns.count c.args.self.now.runs) _ _ _ c.args.self.now.start c.args.outline _ _ refl h
             s.outline (sym long) h.stage.outline.greatest h.stage.outline.place behind.done behind.between);
         begun = behind_unbegun _ _ _ behind;
         goes_on = tt;
         within = rw is (omega (arith, a.stepped.within, a.stepped.costs.grown, s.rest, s.outline.long));
-        front = λ tells. rw is (a.stepped.front tells);
-        rest = λ tells. tt;
+        front = λ models. rw is (a.stepped.front models);
+        rest = λ models. tt;
         leads = tt;
         all = rw is (nothing_appended _ _ _ ended.1 (e.all test));
         piece = record {
@@ -114,18 +114,18 @@ returns-in-Ok-true g c =
               c.args.outline.piece.past c.step.new.self past in
               rw (is, p.piece) (omega (arith, words, z));
         };
-        laid = λ tells. let h = rw is at (c.requires.ready.told tells) in record {
+        laid = λ models. let h = rw is at (c.requires.ready.told models) in record {
           written = rw is (nothing_left _ _ _ _ ended.1 h.stage.writer.long ended.0);
           exact = rw p.piece h.stage.outline.exact.is;
           greatest = rw (p.piece, s.outline.first) h.stage.outline.greatest;
         };
         refused = tt;
         costs = rw is (write_costs _ _ _ _ _ _ _ most a.stepped.costs);
-        spends = λ tells t spent. tt;
-        spent = λ tells t spent.
-            let told = (rw is at (c.requires.ready.told tells)).stage in
+        spends = λ models t spent. tt;
+        spent = λ models t spent.
+            let told = (rw is at (c.requires.ready.told models)).stage in
             let h = rw is at spent in
-            let z = e.spent tells c.args.outline.next s.outline.within told.outline.place
+            let z = e.spent models c.args.outline.next s.outline.within told.outline.place
             (sym (s.past ∙ s.outline.past)) h.fresh h.begun h.total h.spent test in
             rw (p.piece, p.start) (writing_ends _ _ _ _ _ _ t _ _ c.args.outline c.args.from h z);
         full = λ going says. absurd (not_full says);

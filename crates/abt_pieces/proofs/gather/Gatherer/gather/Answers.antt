@@ -26,8 +26,8 @@ returns g c =
                 e.found.raw;
             ended = e.found.ended;
           }));
-      told = λ tells. rw next (told_on _ _ _ _ self part (c.requires.ready.told tells) (e.told tells).part
-          (e.told tells).place (e.told tells).raw_place);
+      told = λ models. rw next (told_on _ _ _ _ self part (c.requires.ready.told models) (e.told models).part
+          (e.told models).place (e.told models).raw_place);
       grows = rw next (grows_on _ _ _ _ self part c.requires.ready.sound
           (record {
             next = e.found.on.0;
@@ -47,16 +47,16 @@ returns g c =
         raw = e.found.raw;
         ended = e.found.ended;
       }));
-      closed = λ tells. rw next (closed_on _ self part (c.requires.ready.told tells).gathered (e.told tells).part);
+      closed = λ models. rw next (closed_on _ self part (c.requires.ready.told models).gathered (e.told models).part);
       left = λ going. rw next (left_on (g.R.BlockRuns.left c.args.runs.now) within _ _ _ self part
           c.requires.ready.sound going e.found.left e.found.tail e.found.at_end);
       paid = λ going. rw next (paid_on within _ _ _ _ self part c.requires.ready.sound going
           (λ low. let f = e.found.fetched low in omega (arith, f)) e.found.tail e.found.at_end);
-      gathered = λ tells d there place is fresh. rw (next, same_at self part)
-          ((e.told tells).gathered d there place is fresh);
-      spends = λ tells d there place is fresh s h. rw next
+      gathered = λ models d there place is fresh. rw (next, same_at self part)
+          ((e.told models).gathered d there place is fresh);
+      spends = λ models d there place is fresh s h. rw next
           (spent_on _ _ _ _ d s self part h (record {
-            behind = (e.told tells).behind_start d there place is fresh;
+            behind = (e.told models).behind_start d there place is fresh;
             next = e.found.on.0;
             unused = e.found.unused;
             raw = λ k. let r = e.found.raw k in let z = e.found.anew k in

@@ -4,7 +4,7 @@ use Rattle.abt_io.proofs.Lent.{reads_err, reads_ok}
 use Rattle.abt_runs.specs.Part.{is_end}
 use Rattle.abt_pieces.proofs.Planning.{planned_on, planned_rests, planned_still, even_on, even_rests, even_still}
 use Rattle.abt_pieces.proofs.Planning.{ends_here, ends_last, ends_rests, last_ask, cap_some, fills_up, no_room}
-use Rattle.abt_pieces.specs.declared.contents.Contents.{Contents}
+use Rattle.abt_pieces.specs.declared.contents.PieceContents.{PieceContents}
 use Rattle.abt_pieces.proofs.Counts.{words_on, takes_on}
 use Rattle.abt_pieces.proofs.plan.Planner.step.Goals as goal
 
@@ -20,7 +20,7 @@ returns-in-Err g c =
       told = c.requires.ready.told;
       goes_on = tt;
       rests = tt;
-      ends = λ tells. tt;
+      ends = λ models. tt;
       onward = tt;
       stuck = λ used tail room. tt;
       costs = e.costs;
@@ -43,9 +43,9 @@ returns-in-End g c =
         even =
             even_rests c.args.self.now c.requires.ready.sound.even;
       };
-      told = λ tells. record {
-        place = g.met.R.BlockRuns.afresh_place c.args.runs.now _ c.args.self.now.at (c.requires.ready.told tells).place;
-        planned = planned_rests _ _ c.args.self.now (c.requires.ready.told tells).planned;
+      told = λ models. record {
+        place = g.met.R.BlockRuns.afresh_place c.args.runs.now _ c.args.self.now.at (c.requires.ready.told models).place;
+        planned = planned_rests _ _ c.args.self.now (c.requires.ready.told models).planned;
       };
       goes_on = λ d. absurd (true≢false d);
       rests = λ d. record {
@@ -54,8 +54,8 @@ returns-in-End g c =
         still = refl;
         rests = (here.charge, here.taken, here.left);
       };
-      ends = λ tells d. ends_rests _ _ _ c.args.self.now
-          (ends_last _ _ _ c.args.self.now ((e.told tells).part.ended ended));
+      ends = λ models d. ends_rests _ _ _ c.args.self.now
+          (ends_last _ _ _ c.args.self.now ((e.told models).part.ended ended));
       onward = here.copied;
       stuck = λ used tail room. refl;
       costs = n.costs;
@@ -81,9 +81,9 @@ returns-then-run-eq0 g c =
         even =
             even_still c.args.self.now _ there c.requires.ready.sound.even;
       };
-      told = λ tells. record {
-        place = (e.told tells).place;
-        planned = planned_still _ _ c.args.self.now _ there (c.requires.ready.told tells).planned;
+      told = λ models. record {
+        place = (e.told models).place;
+        planned = planned_still _ _ c.args.self.now _ there (c.requires.ready.told models).planned;
       };
       goes_on = λ d. record {
         on = e.found.on going;
@@ -96,7 +96,7 @@ returns-then-run-eq0 g c =
         words = words_on _ _ _ _ _ c.in-Ok.run'.blocks p.0 p.1 e.found.filled_up e.found.moved;
       };
       rests = λ d. absurd (false≢true d);
-      ends = λ tells d. absurd (false≢true d);
+      ends = λ models d. absurd (false≢true d);
       onward = omega (arith, e.found.onward);
       stuck = λ used tail room. let s = (e.found.goes_on used).1 in absurd (omega (arith, s, none));
       costs = n.costs;
@@ -128,9 +128,9 @@ returns-then-gain-room g c =
         even =
             even_rests c.args.self.now c.requires.ready.sound.even;
       };
-      told = λ tells. record {
-        place = g.met.R.BlockRuns.afresh_place c.args.runs.now _ c.args.self.now.at (c.requires.ready.told tells).place;
-        planned = planned_rests _ _ c.args.self.now (c.requires.ready.told tells).planned;
+      told = λ models. record {
+        place = g.met.R.BlockRuns.afresh_place c.args.runs.now _ c.args.self.now.at (c.requires.ready.told models).place;
+        planned = planned_rests _ _ c.args.self.now (c.requires.ready.told models).planned;
       };
       goes_on = λ d. absurd (true≢false d);
       rests = λ d. record {
@@ -139,9 +139,9 @@ returns-then-gain-room g c =
         still = refl;
         rests = (here.charge, here.taken, here.left);
       };
-      ends = λ tells d. ends_rests _ _ _ c.args.self.now
-          (ends_here _ _ _ c.args.self.now c.in-Ok.run' _ (omega (arith, size)) (c.requires.ready.told tells).planned
-          (e.told tells).part some c.requires.ready.sound.room capped gain over);
+      ends = λ models d. ends_rests _ _ _ c.args.self.now
+          (ends_here _ _ _ c.args.self.now c.in-Ok.run' _ (omega (arith, size)) (c.requires.ready.told models).planned
+          (e.told models).part some c.requires.ready.sound.room capped gain over);
       onward = here.copied;
       stuck = λ used tail room. refl;
       costs = n.costs;
@@ -161,7 +161,7 @@ returns g c =
     let fits = c.if-gain-room.false in
     let gain = rw c.block_size-size.ensures at c.added-gain.ensures.gain in
     let with = rw c.block_size-size.ensures at c.with-self.ensures in
-    let bytes = ap (λ (x : Contents). x.bytes) with in
+    let bytes = ap (λ (x : PieceContents). x.bytes) with in
     let takes = takes_on c.last-last.result c.in-Ok.run'.kind c.args.self.now.at.used c.in-Ok.run'.blocks _
     c.args.self.now.contents.bytes _ _ (λ used. (e.found.goes_on used).0) going e.found.takes in
     record {
@@ -175,10 +175,10 @@ returns g c =
             even_on c.args.self.now c.in-Ok.run' _ _ _ _ _ c.requires.ready.sound.even e.found.moved some going gain
             c.added-gain.ensures.tail c.last-last.ensures with;
       };
-      told = λ tells. record {
-        place = (e.told tells).place;
-        planned = planned_on _ _ c.args.self.now c.in-Ok.run' _ _ _ _ (c.requires.ready.told tells).planned
-            (e.told tells).part some gain c.added-gain.ensures.tail c.last-last.ensures with;
+      told = λ models. record {
+        place = (e.told models).place;
+        planned = planned_on _ _ c.args.self.now c.in-Ok.run' _ _ _ _ (c.requires.ready.told models).planned
+            (e.told models).part some gain c.added-gain.ensures.tail c.last-last.ensures with;
       };
       goes_on = λ d. record {
         on = e.found.on going;
@@ -192,7 +192,7 @@ returns g c =
         words = words_on _ _ _ _ _ c.in-Ok.run'.blocks p.0 p.1 e.found.filled_up e.found.moved;
       };
       rests = λ d. absurd (false≢true d);
-      ends = λ tells d. absurd (false≢true d);
+      ends = λ models d. absurd (false≢true d);
       onward = omega (arith, e.found.onward);
       stuck = λ used tail little. absurd (no_room c.args.self.now.tail _ _ _ room some (e.found.goes_on used).0 tail
           little (rw gain at fits));

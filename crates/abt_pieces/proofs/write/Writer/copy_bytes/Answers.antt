@@ -23,17 +23,17 @@ returns-in-Err g c =
         reads = reads_err _ c.in-Err.ensures.source.reads;
         writes = none_written _ _ _ (run_never_full _ _ c.run_fault.ensures);
         sound = tt;
-        told = λ tells. tt;
+        told = λ models. tt;
         segment = (refl, refl, refl);
         within = no_more _ _;
         counted = tt;
-        front = λ tells. nothing_more _ _;
-        rest = λ tells. tt;
+        front = λ models. nothing_more _ _;
+        rest = λ models. tt;
         leads = tt;
         cause = run_causes _ _ _ _ _ _ _ c.run_fault.ensures c.in-Err.ensures.source.cause;
         left = tt;
         paid = tt;
-        spends = λ tells d within place is fresh s t spent. tt;
+        spends = λ models d within place is fresh s t spent. tt;
         words = tt;
         costs = record {
           given = given.0;
@@ -79,25 +79,25 @@ returns-in-Err-write_out g c =
         reads = reads_then e.source.reads (reads_none _ _ _);
         writes = writes_err _ f.writes;
         sound = tt;
-        told = λ tells. tt;
+        told = λ models. tt;
         segment = (refl, refl, refl);
         within = omega (arith, o.within, long, left, h.room);
         counted = tt;
-        front = λ tells.
-            let o = c.requires.copies.ready.opened tells in
+        front = λ models.
+            let o = c.requires.copies.ready.opened models in
             let x = copied_writer _ _ _ _ _ _ _ c.args.self.now c.args.copying c.in-Ok.count c.requires.copies.is
             c.requires.copies.ready.sound (sym (g.met.R.BlockRuns.long c.args.runs.now _ o))
-            (g.met.R.BlockRuns.are_blocks c.args.runs.now _ o) (c.requires.copies.ready.told tells) fits left in
-            let t = rw c.requires.copies.is at (c.requires.copies.ready.told tells).copies in
+            (g.met.R.BlockRuns.are_blocks c.args.runs.now _ o) (c.requires.copies.ready.told models) fits left in
+            let t = rw c.requires.copies.is at (c.requires.copies.ready.told models).copies in
             let these = c.part.ensures.value ∙ part_front c.in-Ok.count c.copy.new.out _ e.within
-            ∙ e.bytes tells _ t.stands x.raw (omega (arith, fits, h.part)) ∙ x.bytes in
+            ∙ e.bytes models _ t.stands x.raw (omega (arith, fits, h.part)) ∙ x.bytes in
             wrote_part _ _ _ _ _ (rw these at f.front) (sym (take-append-drop c.in-Ok.count _));
-        rest = λ tells. tt;
+        rest = λ models. tt;
         leads = tt;
         cause = f.cause;
         left = tt;
         paid = tt;
-        spends = λ tells d within place is fresh s t spent. tt;
+        spends = λ models d within place is fresh s t spent. tt;
         words = tt;
         costs = record {
           given = e.costs.given.0;
@@ -149,14 +149,14 @@ returns g c =
     let h = is_copying _ _ _ _ self c.args.copying c.requires.copies.is c.requires.copies.ready.sound in
     let all : length (g.O.Output.written c.write_out.new.output) ≡ length (g.O.Output.written c.args.output.now) +
     c.in-Ok.count = omega (arith, w.all, long) in
-    let x = λ (tells : IsTrue g.S.Source.tells). copied_writer _ _ _ _ _ _ _ self c.args.copying c.in-Ok.count
+    let x = λ (models : IsTrue g.S.Source.models). copied_writer _ _ _ _ _ _ _ self c.args.copying c.in-Ok.count
     c.requires.copies.is c.requires.copies.ready.sound (sym (g.met.R.BlockRuns.long c.args.runs.now _
-    (c.requires.copies.ready.opened tells))) (g.met.R.BlockRuns.are_blocks c.args.runs.now _
-    (c.requires.copies.ready.opened tells)) (c.requires.copies.ready.told tells) fits left in
-    let these = λ (tells : IsTrue g.S.Source.tells).
-    let t = rw c.requires.copies.is at (c.requires.copies.ready.told tells).copies in
-    c.part.ensures.value ∙ part_front c.in-Ok.count c.copy.new.out _ e.within ∙ e.bytes tells _ t.stands (x tells).raw
-    (omega (arith, fits, h.part)) ∙ (x tells).bytes in
+    (c.requires.copies.ready.opened models))) (g.met.R.BlockRuns.are_blocks c.args.runs.now _
+    (c.requires.copies.ready.opened models)) (c.requires.copies.ready.told models) fits left in
+    let these = λ (models : IsTrue g.S.Source.models).
+    let t = rw c.requires.copies.is at (c.requires.copies.ready.told models).copies in
+    c.part.ensures.value ∙ part_front c.in-Ok.count c.copy.new.out _ e.within ∙ e.bytes models _ t.stands (x models).raw
+    (omega (arith, fits, h.part)) ∙ (x models).bytes in
     let most = writer_most (g.R.BlockRuns.one c.args.runs.now) (g.R.BlockRuns.count c.args.runs.now) c.args.self.now in
     let new = record self { copying = c.and_bytes-self.result; bytes = self.bytes - c.in-Ok.count } in
     let words = writer_copies (g.R.BlockRuns.one c.args.runs.now) (g.R.BlockRuns.count c.args.runs.now) self new refl
@@ -181,20 +181,20 @@ returns g c =
           fits =
               omega (arith, c.requires.copies.ready.sound.fits);
         };
-        told = λ tells. rw c.and_bytes-self.ensures (x tells).told;
+        told = λ models. rw c.and_bytes-self.ensures (x models).told;
         segment = (refl, refl, refl);
         within = omega (arith, all, left, h.room);
         counted = omega (arith, all, left, h.room);
-        front = λ tells. wrote_front _ _ _ _ _ (rw (these tells) at w.ok) (sym (take-append-drop c.in-Ok.count _));
-        rest = λ tells. rw c.and_bytes-self.ensures
-            ((x tells).rest ∙ wrote_rest _ _ _ _ _ (rw (these tells) at w.ok) (sym (take-append-drop c.in-Ok.count _)));
+        front = λ models. wrote_front _ _ _ _ _ (rw (these models) at w.ok) (sym (take-append-drop c.in-Ok.count _));
+        rest = λ models. rw c.and_bytes-self.ensures
+            ((x models).rest ∙ wrote_rest _ _ _ _ _ (rw (these models) at w.ok) (sym (take-append-drop c.in-Ok.count _)));
         leads = rw c.and_bytes-self.ensures (copy_leads _ _ self c.args.copying c.in-Ok.count c.part.result.now _ _
             c.requires.copies.is long left w.ok);
         cause = tt;
         left = write_copies _ _ self new refl refl (rw (c.and_bytes-self.ensures, c.requires.copies.is)
             (copied_fewer _ self.bytes c.args.copying c.in-Ok.count some (omega (arith, left, h.room))));
         paid = omega (arith, paid);
-        spends = λ tells d within place is fresh s t spent.
+        spends = λ models d within place is fresh s t spent.
             let size = g.met.R.BlockRuns.sized c.args.runs.now in
             let grows = g.met.R.BlockRuns.held_grows c.args.runs.now c.args.copying.here
             (c.args.copying.done + c.in-Ok.count) c.args.copying.size fits in

@@ -23,17 +23,17 @@ returns-in-Err g c =
         reads = reads_err _ c.in-Err.ensures.source.reads;
         writes = none_written _ _ _ (run_never_full _ _ c.run_fault.ensures);
         sound = tt;
-        told = λ tells. tt;
+        told = λ models. tt;
         segment = (refl, refl, refl);
         within = no_more _ _;
         counted = tt;
-        front = λ tells. nothing_more _ _;
-        rest = λ tells. tt;
+        front = λ models. nothing_more _ _;
+        rest = λ models. tt;
         leads = tt;
         cause = run_causes _ _ _ _ _ _ _ c.run_fault.ensures c.in-Err.ensures.source.cause;
         left = tt;
         paid = tt;
-        spends = λ tells d within place is fresh s t spent. tt;
+        spends = λ models d within place is fresh s t spent. tt;
         words = tt;
         costs = record {
           given = a.costs.given;
@@ -68,12 +68,12 @@ returns-in-Some g c =
     let count = g.R.BlockRuns.count runs in
     let one = g.R.BlockRuns.one c.args.runs.now in
     let begun = run_sound _ _ _ _ self on x c.requires.none c.requires.ready.sound e.sound run in
-    let begins = λ (tells : IsTrue g.S.Source.tells).
-    let closed = rw c.in-Some.is at (e.closed tells) in
+    let begins = λ (models : IsTrue g.S.Source.models).
+    let closed = rw c.in-Some.is at (e.closed models) in
     let good = frame_blocks _ _ self.first self.past
-    (g.met.R.BlockRuns.are_blocks c.args.runs.now _ (c.requires.ready.opened tells)) in
-    run_begins _ _ _ _ _ _ _ self on x c.requires.none good c.requires.ready.sound (c.requires.ready.told tells)
-    (e.told tells) closed run in
+    (g.met.R.BlockRuns.are_blocks c.args.runs.now _ (c.requires.ready.opened models)) in
+    run_begins _ _ _ _ _ _ _ self on x c.requires.none good c.requires.ready.sound (c.requires.ready.told models)
+    (e.told models) closed run in
     let turns = a.costs.turns in
     let words = e.words in
     let more = b.put.turns in
@@ -84,21 +84,21 @@ returns-in-Some g c =
         writes = b.put.writes;
         sound = begun_ok (λ v. SoundWriter (g.R.BlockRuns.within runs) (g.R.BlockRuns.reach runs) count
             (g.R.BlockRuns.size runs) v) t res new begun b.ok;
-        told = λ tells. begun_ok (λ v. ToldWriter (g.R.BlockRuns.place runs content)
+        told = λ models. begun_ok (λ v. ToldWriter (g.R.BlockRuns.place runs content)
             (g.R.BlockRuns.together runs content) (g.R.BlockRuns.list runs content) v) t res new
-            (begins tells).told b.ok;
+            (begins models).told b.ok;
         segment = b.put.segment;
         within = b.put.within;
         counted = run_counted res (gathering self on) new x (length (g.O.Output.written c.args.output.now))
             (length (g.O.Output.written c.begin_run.new.output)) b.ok b.room b.put.whole;
-        front = λ tells. wrote_part _ _ _ _ _ b.put.front (begins tells).chunk;
-        rest = λ tells. begun_rest _ self t _ res new (g.O.Output.written c.args.output.now)
-            (g.O.Output.written c.begin_run.new.output) (begins tells).chunk b.ok b.put.written;
+        front = λ models. wrote_part _ _ _ _ _ b.put.front (begins models).chunk;
+        rest = λ models. begun_rest _ self t _ res new (g.O.Output.written c.args.output.now)
+            (g.O.Output.written c.begin_run.new.output) (begins models).chunk b.ok b.put.written;
         leads = run_leads _ _ _ self on x res new _ _ c.requires.none c.requires.going sound e.sound run b.ok b.some
             b.put.written b.put.whole;
         cause = chunk_causes res _ self.chunks self.bytes _ (g.S.Source.read_faults c.args.source.now)
             (g.S.Source.read_faults c.gather.new.source) (g.O.Output.write_faults c.args.output.now)
-            (g.O.Output.write_faults c.begin_run.new.output) b.cause (λ tells. let z = begins tells in
+            (g.O.Output.write_faults c.begin_run.new.output) b.cause (λ models. let z = begins models in
             (z.enough, z.room));
         left = begun_ok (λ v. write_left (g.R.BlockRuns.left c.args.runs.now) count v < write_left
             (g.R.BlockRuns.left c.args.runs.now) count self) t res new
@@ -110,19 +110,19 @@ returns-in-Some g c =
             res new
             (let z = run_paid (g.R.BlockRuns.within c.args.runs.now) count _ self on x c.requires.none sound run
             (e.paid c.requires.going) in omega (arith, z)) b.ok;
-        spends = λ tells d within place is fresh s t' h.
+        spends = λ models d within place is fresh s t' h.
             begun_ok (λ v. Spent (λ y. g.R.BlockRuns.within runs y × g.R.BlockRuns.place runs content y)
             (g.R.BlockRuns.charge runs) (g.R.BlockRuns.copied runs) (g.R.BlockRuns.held runs) d s
             (t' + (g.S.Source.given c.gather.new.source - g.S.Source.given c.args.source.now)) v) t res new
             (run_spent _ _ _ _ _ _ d s t' _ _ self on x
             (λ y. let z = g.met.R.BlockRuns.held_grows c.args.runs.now y 0 0 (omega arith) in z.1)
-            (λ k q. ((sound.raw k q).within, (c.requires.ready.told tells).gathering.raw k q)) c.requires.none sound
+            (λ k q. ((sound.raw k q).within, (c.requires.ready.told models).gathering.raw k q)) c.requires.none sound
             run h
             (record {
-              read = e.gathered tells d within place is fresh;
+              read = e.gathered models d within place is fresh;
               grown = e.costs.given;
               gathering =
-                  e.spends tells d within place is fresh s h.gathering;
+                  e.spends models d within place is fresh s h.gathering;
             })) b.ok;
         words = begun_ok (λ v. c.begin_run.new.m.turns.number + writer_words one count self ≤ c.args.m.now.turns.number
             + 2 * (g.S.Source.given c.gather.new.source - g.S.Source.given c.args.source.now)
@@ -153,9 +153,9 @@ returns-in-None g c =
     let self = c.args.self.now in
     let on = c.gather.new.self in
     let grows = rw c.in-None.is at e.grows in
-    let still = λ (tells : IsTrue g.S.Source.tells).
+    let still = λ (models : IsTrue g.S.Source.models).
     still_told _ _ _ _ _ self on c.requires.none c.requires.ready.sound.gathering e.sound
-    (c.requires.ready.told tells) (e.told tells) grows in
+    (c.requires.ready.told models) (e.told models) grows in
     let turns = a.costs.turns in
     let words = e.words in
     record {
@@ -163,25 +163,25 @@ returns-in-None g c =
         reads = reads_ok _ e.source.reads;
         writes = writes_none _ _ _;
         sound = still_sound _ _ _ _ self on c.requires.none c.requires.ready.sound e.sound;
-        told = λ tells. (still tells).1;
+        told = λ models. (still models).1;
         segment = (refl, refl, refl);
         within = no_more _ _;
         counted = refl;
-        front = λ tells. nothing_more _ _;
-        rest = λ tells. (still tells).0 ∙ nothing_less (g.O.Output.written c.args.output.now) _;
+        front = λ models. nothing_more _ _;
+        rest = λ models. (still models).0 ∙ nothing_less (g.O.Output.written c.args.output.now) _;
         leads = leads_same _ _ _ _ refl (look_comes _ _ _ self on c.requires.ready.sound.gathering e.sound grows);
         cause = tt;
         left = write_looks _ _ self (gathering self on) on refl refl (e.left c.requires.going)
             (none_small _ self.bytes _ c.requires.none);
         paid = looks_paid _ _ (length (g.O.Output.written c.args.output.now)) self on c.requires.none
             (e.paid c.requires.going);
-        spends = λ tells d within place is fresh s t h.
+        spends = λ models d within place is fresh s t h.
             spent_looks _ _ _ _ _ _ d s t _ _ self on c.requires.none c.requires.ready.sound.gathering e.sound grows h
             (record {
-              read = e.gathered tells d within place is fresh;
+              read = e.gathered models d within place is fresh;
               grown = e.costs.given;
               gathering =
-                  e.spends tells d within place is fresh s h.gathering;
+                  e.spends models d within place is fresh s h.gathering;
             });
         words = writer_looks _ _ _ _ self _ refl (still_passes self on c.requires.none
             c.requires.ready.sound.gathering.behind_it e.sound.behind_it grows) (omega (arith, words));

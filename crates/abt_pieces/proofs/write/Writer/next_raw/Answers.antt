@@ -46,17 +46,17 @@ returns-in-Some g c =
       ended = λ q.
           (e.found.at_end q).0;
     }) is in
-    let x = λ (tells : IsTrue g.S.Source.tells). next_writer _ _ _ _ _ _ _ self c.args.copying c.in-Ok.part
+    let x = λ (models : IsTrue g.S.Source.models). next_writer _ _ _ _ _ _ _ self c.args.copying c.in-Ok.part
     c.requires.copies.is c.requires.copies.ready.sound (sym (g.met.R.BlockRuns.long c.args.runs.now _
-    (c.requires.copies.ready.opened tells))) (g.met.R.BlockRuns.are_blocks c.args.runs.now _
-    (c.requires.copies.ready.opened tells)) c.requires.whole c.requires.copies.remains
-    (c.requires.copies.ready.told tells)
-    (e.told tells).part (e.told tells).place (e.told tells).here_place e.found.here.0 (e.told tells).stands
+    (c.requires.copies.ready.opened models))) (g.met.R.BlockRuns.are_blocks c.args.runs.now _
+    (c.requires.copies.ready.opened models)) c.requires.whole c.requires.copies.remains
+    (c.requires.copies.ready.told models)
+    (e.told models).part (e.told models).place (e.told models).here_place e.found.here.0 (e.told models).stands
     e.found.capped.raw in
     record {
       source = record { reads = reads_ok _ e.source.reads; cause = tt };
-      told = λ tells.
-          let y = x tells in
+      told = λ models.
+          let y = x models in
           let same = some_of y.0 c.in-Some.next (sym y.1 ∙ is) in
           let t = rw same at y.2.told in
           record {
@@ -68,11 +68,11 @@ returns-in-Some g c =
           };
       segment = (refl, refl, refl);
       bytes = refl;
-      rest = λ tells.
-          let y = x tells in
+      rest = λ models.
+          let y = x models in
           let same = some_of y.0 c.in-Some.next (sym y.1 ∙ is) in
           rw same at y.2.rest;
-      spends = λ tells d within place there fresh s t spent. record {
+      spends = λ models d within place there fresh s t spent. record {
         gathering = spent.gathering;
         copies = spent_next _ _ _ _ _ _ _ _ _ _ c.args.copying c.in-Some.next c.in-Ok.part (omega (arith, on))
             c.requires.whole
@@ -82,7 +82,7 @@ returns-in-Some g c =
               onward = e.found.onward;
               copies = e.found.copies;
               stops = λ u. (e.found.stops u).1;
-              first = (e.told tells).first;
+              first = (e.told models).first;
               grown = e.costs.given;
             }) is
             (rw c.requires.copies.is at spent.copies);
@@ -125,30 +125,30 @@ returns-in-None g c =
     record {
       source = record {
         reads = reads_then e.source.reads (reads_none _ _ _);
-        cause = not_told _ (λ tells.
-            let o = c.requires.copies.ready.opened tells in
+        cause = not_told _ (λ models.
+            let o = c.requires.copies.ready.opened models in
             let is = sym (rw c.block_size-size.ensures at c.and_part.ensures) ∙ c.in-None.is in
             let x = next_writer _ _ _ _ _ _ _ self c.args.copying c.in-Ok.part c.requires.copies.is
             c.requires.copies.ready.sound
             (sym (g.met.R.BlockRuns.long c.args.runs.now _ o))
             (g.met.R.BlockRuns.are_blocks c.args.runs.now _ o) c.requires.whole c.requires.copies.remains
-            (c.requires.copies.ready.told tells)
-            (e.told tells).part (e.told tells).place (e.told tells).here_place e.found.here.0 (e.told tells).stands
+            (c.requires.copies.ready.told models)
+            (e.told models).part (e.told models).place (e.told models).here_place e.found.here.0 (e.told models).stands
             e.found.capped.raw in
             some_no_none x.0 (sym x.1 ∙ is));
       };
-      told = λ tells. tt;
+      told = λ models. tt;
       segment = (refl, refl, refl);
       bytes = refl;
-      rest = λ tells. tt;
+      rest = λ models. tt;
       goes_on = tt;
-      spends = λ tells d within place is fresh s t spent. tt;
+      spends = λ models d within place is fresh s t spent. tt;
       costs = part_words n.costs top;
       unwritten = refl;
     }
 
 pub next_raw-requires-clause-raw : goal.next_raw-requires-clause-raw
-next_raw-requires-clause-raw g c tells =
+next_raw-requires-clause-raw g c models =
     raw_known _ _ _ _ _ _ _ c.args.self.now c.args.copying c.requires.copies.is c.requires.copies.ready.sound
-    (sym (g.met.R.BlockRuns.long c.args.runs.now _ (c.requires.copies.ready.opened tells)))
-    (c.requires.copies.ready.told tells)
+    (sym (g.met.R.BlockRuns.long c.args.runs.now _ (c.requires.copies.ready.opened models)))
+    (c.requires.copies.ready.told models)

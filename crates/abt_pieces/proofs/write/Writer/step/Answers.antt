@@ -26,10 +26,10 @@ returns-in-Ok g c =
     let ok = rw size at e.ok in
     let room = rw size at e.room in
     let written = rw size at e.put.written in
-    let z = λ (tells : IsTrue g.S.Source.tells). opened _ _ _ _ _ _ _ self copying c.in-Some.is
-    (sym (g.met.R.BlockRuns.long r _ (c.requires.ready.opened tells)))
-    (g.met.R.BlockRuns.are_blocks r _ (c.requires.ready.opened tells)) c.requires.ready.sound
-    (c.requires.ready.told tells) shut in
+    let z = λ (models : IsTrue g.S.Source.models). opened _ _ _ _ _ _ _ self copying c.in-Some.is
+    (sym (g.met.R.BlockRuns.long r _ (c.requires.ready.opened models)))
+    (g.met.R.BlockRuns.are_blocks r _ (c.requires.ready.opened models)) c.requires.ready.sound
+    (c.requires.ready.told models) shut in
     let most = writer_most (g.R.BlockRuns.one r) (g.R.BlockRuns.count r) self in
     let turns = b.put.turns in
     let whole = e.put.whole in
@@ -39,12 +39,12 @@ returns-in-Ok g c =
         writes = writes_ok _ e.put.writes;
         sound = rw ok (opened_sound _ _ _ _ self copying (omega (arith, some)) c.in-Some.is c.requires.ready.sound shut
             room.1);
-        told = λ tells. rw ok (z tells).told;
+        told = λ models. rw ok (z models).told;
         segment = b.put.segment;
         within = b.put.within;
         counted = rw ok (omega (arith, whole, room.1));
-        front = λ tells. wrote_front _ _ _ _ _ written (z tells).chunk;
-        rest = λ tells. rw ok (wrote_rest _ _ _ _ _ written (z tells).chunk);
+        front = λ models. wrote_front _ _ _ _ _ written (z models).chunk;
+        rest = λ models. rw ok (wrote_rest _ _ _ _ _ written (z models).chunk);
         leads = λ d. rw ok (open_leads _ _ self copying _ _ c.in-Some.is shut room.0 c.requires.ready.sound.small
             written);
         cause = tt;
@@ -53,7 +53,7 @@ returns-in-Ok g c =
         paid = λ d. rw ok (let y = open_paid (g.R.BlockRuns.count r)
             (length (g.O.Output.written c.open_chunk.new.output) - length (g.O.Output.written c.args.output.now)) self
             copying (g.R.BlockRuns.size r) (omega (arith, whole)) in omega (arith, y));
-        spends = λ tells d within place is fresh s t h.
+        spends = λ models d within place is fresh s t h.
             rw ok (open_spent _ _ _ _ d s t _ _ self copying c.in-Some.is h);
         costs = record {
           given = as_many _;
@@ -71,7 +71,7 @@ returns-in-Ok g c =
       };
       all = λ d. absurd (false≢true d);
       ended = λ d. absurd (false≢true d);
-      spent = λ tells d within place is fresh s t h whole. absurd (false≢true whole);
+      spent = λ models d within place is fresh s t h whole. absurd (false≢true whole);
     }
 
 -- no next chunk
@@ -84,10 +84,10 @@ returns-in-Err g c =
     let e = c.in-Err.ensures in
     let size = c.block_size-size.ensures in
     let shut = c.if-copying-eq0.true in
-    let z = λ (tells : IsTrue g.S.Source.tells). opened _ _ _ _ _ _ _ self copying c.in-Some.is
-    (sym (g.met.R.BlockRuns.long r _ (c.requires.ready.opened tells)))
-    (g.met.R.BlockRuns.are_blocks r _ (c.requires.ready.opened tells)) c.requires.ready.sound
-    (c.requires.ready.told tells) shut in
+    let z = λ (models : IsTrue g.S.Source.models). opened _ _ _ _ _ _ _ self copying c.in-Some.is
+    (sym (g.met.R.BlockRuns.long r _ (c.requires.ready.opened models)))
+    (g.met.R.BlockRuns.are_blocks r _ (c.requires.ready.opened models)) c.requires.ready.sound
+    (c.requires.ready.told models) shut in
     let most = writer_most (g.R.BlockRuns.one r) (g.R.BlockRuns.count r) self in
     let turns = b.put.turns in
     record {
@@ -95,18 +95,18 @@ returns-in-Err g c =
         reads = reads_none _ _ _;
         writes = writes_err _ e.put.writes;
         sound = tt;
-        told = λ tells. tt;
+        told = λ models. tt;
         segment = b.put.segment;
         within = b.put.within;
         counted = tt;
-        front = λ tells. wrote_part _ _ _ _ _ (rw size at b.put.front) (z tells).chunk;
-        rest = λ tells. tt;
+        front = λ models. wrote_part _ _ _ _ _ (rw size at b.put.front) (z models).chunk;
+        rest = λ models. tt;
         leads = tt;
-        cause = chunk_cause c.in-Err.fault _ self.chunks self.bytes _ _ _ _ _ (λ tells. let y = z tells in
+        cause = chunk_cause c.in-Err.fault _ self.chunks self.bytes _ _ _ _ _ (λ models. let y = z models in
             (y.enough, y.room)) (rw size at e.cause);
         left = tt;
         paid = tt;
-        spends = λ tells d within place is fresh s t h. tt;
+        spends = λ models d within place is fresh s t h. tt;
         costs = record {
           given = as_many _;
           received = no_more _ _;
@@ -123,7 +123,7 @@ returns-in-Err g c =
       };
       all = tt;
       ended = tt;
-      spent = λ tells d within place is fresh s t h. tt;
+      spent = λ models d within place is fresh s t h. tt;
     }
 
 -- the next part of the raw run
@@ -142,13 +142,13 @@ returns-in-Ok-next_raw g c =
         segment = a.segment;
         within = no_more _ _;
         counted = omega (arith, a.bytes);
-        front = λ tells. nothing_more _ _;
-        rest = λ tells. e.rest tells ∙ nothing_less (g.O.Output.written c.args.output.now) _;
+        front = λ models. nothing_more _ _;
+        rest = λ models. e.rest models ∙ nothing_less (g.O.Output.written c.args.output.now) _;
         leads = λ d. leads_same _ _ _ _ refl e.goes_on.comes;
         cause = tt;
         left = λ d. e.goes_on.left;
         paid = λ d. let z = e.goes_on.paid in omega (arith, z);
-        spends = λ tells d within place is fresh s t h. e.spends tells d within place is fresh s t h;
+        spends = λ models d within place is fresh s t h. e.spends models d within place is fresh s t h;
         costs = record {
           given = a.costs.given;
           received = a.costs.received;
@@ -165,7 +165,7 @@ returns-in-Ok-next_raw g c =
       };
       all = λ d. absurd (false≢true d);
       ended = λ d. absurd (false≢true d);
-      spent = λ tells d within place is fresh s t h whole. absurd (false≢true whole);
+      spent = λ models d within place is fresh s t h whole. absurd (false≢true whole);
     }
 
 -- no next part
@@ -179,17 +179,17 @@ returns-in-Err-next_raw g c =
         reads = reads_err _ e.source.reads;
         writes = none_written _ _ _ e.unwritten;
         sound = tt;
-        told = λ tells. tt;
+        told = λ models. tt;
         segment = a.segment;
         within = no_more _ _;
         counted = tt;
-        front = λ tells. nothing_more _ _;
-        rest = λ tells. tt;
+        front = λ models. nothing_more _ _;
+        rest = λ models. tt;
         leads = tt;
         cause = cause_unwritten c.in-Err-next_raw.fault _ _ _ _ _ e.source.cause;
         left = tt;
         paid = tt;
-        spends = λ tells d within place is fresh s t h. tt;
+        spends = λ models d within place is fresh s t h. tt;
         costs = record {
           given = a.costs.given;
           received = a.costs.received;
@@ -206,7 +206,7 @@ returns-in-Err-next_raw g c =
       };
       all = tt;
       ended = tt;
-      spent = λ tells d within place is fresh s t h. tt;
+      spent = λ models d within place is fresh s t h. tt;
     }
 
 -- nothing is left to look for
@@ -224,20 +224,20 @@ returns-then-is_done g c =
         reads = reads_none r _ _;
         writes = none_written r _ _ unfull;
         sound = always_ok r _ (λ x. c.requires.ready.sound);
-        told = λ tells. always_ok r _ (λ x. c.requires.ready.told tells);
+        told = λ models. always_ok r _ (λ x. c.requires.ready.told models);
         segment = (refl, refl, refl);
         within = no_more _ _;
         counted = always_ok r _ (λ x. refl);
-        front = λ tells. nothing_more _ _;
-        rest = λ tells. always_ok r _ (λ x. nothing_less (g.O.Output.written c.args.output.now) _);
+        front = λ models. nothing_more _ _;
+        rest = λ models. always_ok r _ (λ x. nothing_less (g.O.Output.written c.args.output.now) _);
         leads = whole_goes_not r _ _ _ w;
-        cause = whole_cause r _ _ _ _ _ _ c.end.ensures.refused (λ tells.
+        cause = whole_cause r _ _ _ _ _ _ c.end.ensures.refused (λ models.
             told_whole _ _ _ _ _ k c.requires.ready.sound.gathering
-            (sym (g.met.R.BlockRuns.long c.args.runs.now _ (c.requires.ready.opened tells))) c.in-None.is done
-            (c.requires.ready.told tells));
+            (sym (g.met.R.BlockRuns.long c.args.runs.now _ (c.requires.ready.opened models))) c.in-None.is done
+            (c.requires.ready.told models));
         left = whole_goes_not r _ _ _ w;
         paid = whole_goes_not r _ _ _ w;
-        spends = λ tells d within place is fresh s t h. always_ok r _ (λ x. spent_same _ _ _ _ d s t _ k h);
+        spends = λ models d within place is fresh s t h. always_ok r _ (λ x. spent_same _ _ _ _ d s t _ k h);
         words = always_ok r _ (λ x. omega (arith, turns));
         costs = record {
           given = as_many _;
@@ -254,7 +254,7 @@ returns-then-is_done g c =
       };
       all = end_comes r _ _ _ k c.requires.ready.sound.gathering c.in-None.is done w;
       ended = whole_ended r _ _ _ w refl;
-      spent = λ tells d within place is fresh s t h.
+      spent = λ models d within place is fresh s t h.
           let given = g.S.Source.given c.args.source.now in
           let z = spent_whole _ _ _ _ _ _ d s t k (within, place) is fresh c.in-None.is done
           c.requires.ready.sound.gathering h in

@@ -40,7 +40,7 @@ returns-then-from-runs g c =
           last = last_on _ _ given given 0 (le_refl _) (omega arith) (omega arith);
         };
       };
-      ended = λ is. none_over g.S.Source.tells (g.S.Source.content c.args.source.now) r.size r.length r.blocks s r.some r.covers r.last q.opened c.if-from-runs.true;
+      ended = λ is. none_over g.S.Source.models (g.S.Source.content c.args.source.now) r.size r.length r.blocks s r.some r.covers r.last q.opened c.if-from-runs.true;
       on = λ on. absurd (let z : true ≡ false = on in cc);
       once = λ on. absurd (let z : true ≡ false = on in cc);
       going_calls = λ on. absurd (let z : true ≡ false = on in cc);
@@ -61,7 +61,7 @@ returns-then-length-runs g c =
     record {
       lays = record {
         lays = reads g.S.Source g.O.Output _ _ _ c.args.m.now c.args.m.now c.close_step-then-length-runs.new.self 0 (reads_none {X = ℕ} {E = ℕ} (Ok 0) g.S.Source c.args.source.now) (omega arith) (omega arith) refl refl step.steps step.greatest tt refl
-            (not_told g.S.Source.tells (λ tells. let other = c.if-length-runs.true in absurd (omega (arith, c.length.ensures.told tells, q.opened tells))));
+            (not_told g.S.Source.models (λ models. let other = c.if-length-runs.true in absurd (omega (arith, c.length.ensures.told models, q.opened models))));
         told = tt;
         segment = record {
           kept = keeps_same _ _;
@@ -103,7 +103,7 @@ returns-in-Some g c =
     record {
       lays = record {
         lays = reads g.S.Source g.O.Output c.args.source.now c.load_filled-loaded.new.source c.args.output.now c.args.m.now c.load_filled-loaded.new.m c.close_step-2.new.self got l.wanted.loads.reads l.wanted.loads.given few l.wanted.loads.no_step.steps l.wanted.loads.no_step.greatest step.steps step.greatest tt (let z = run_unfilled c.run_fault.result c.in-Some.fault 0 c.run_fault.ensures in omega (arith, z))
-            (run_causes c.run_fault.result c.in-Some.fault g.S.Source.tells _ _ _ _ c.run_fault.ensures (rw c.in-Some.is at l.wanted.loads.cause));
+            (run_causes c.run_fault.result c.in-Some.fault g.S.Source.models _ _ _ _ c.run_fault.ensures (rw c.in-Some.is at l.wanted.loads.cause));
         told = tt;
         segment = record {
           kept = keeps_same _ _;
@@ -150,17 +150,17 @@ returns-in-Ok g c =
     let within : taken s'.placer ≤ taken s.placer + a = no_more_than c.in-Ok.ended (taken s.placer) (taken s'.placer) a e.all e.short in
     let read = window_read (taken s.placer) a r.size r.length r.blocks c.place_of-at.result want got _ _ _ _ _ _ c.place_of-at.ensures.place c.place_of-at.ensures.within (omega arith) r.some c.min-want.ensures (if_none {P = got ≡ want} c.load_filled-loaded.result.fault c.in_default.is l.wanted.whole) (omega arith) r.last l.wanted.loads.given l.wanted.loads.calls l.wanted.loads.turns in
     let spent = read_costs (taken s.placer) a r.size r.length r.blocks want got _ _ _ _ _ _ _ _ _ _ _ _ read step.turns t.writes.calls t.writes.turns in
-    let loaded : IsTrue g.S.Source.tells → Loaded r.size r.length (taken s.placer) want (a * r.size) x c.load_filled-loaded.new.w.bytes =
-    λ tells. record {
-      long = c.requires.ready.opened tells;
+    let loaded : IsTrue g.S.Source.models → Loaded r.size r.length (taken s.placer) want (a * r.size) x c.load_filled-loaded.new.w.bytes =
+    λ models. record {
+      long = c.requires.ready.opened models;
       there = omega (arith, c.place_of-at.ensures.place, c.place_of-at.ensures.within);
       asked = rw c.place_of-at.ensures.place at c.min-want.ensures;
-      bytes = rw c.place_of-at.ensures.place at (if_none {P = slice_range c.load_filled-loaded.new.w.bytes 0 (a * r.size) ≡ take want (drop c.place_of-at.result x) ++ replicate (a * r.size - want) 0} c.load_filled-loaded.result.fault c.in_default.is (l.bytes tells));
+      bytes = rw c.place_of-at.ensures.place at (if_none {P = slice_range c.load_filled-loaded.new.w.bytes 0 (a * r.size) ≡ take want (drop c.place_of-at.result x) ++ replicate (a * r.size - want) 0} c.load_filled-loaded.result.fault c.in_default.is (l.bytes models));
     } in
     record {
       lays = record {
         lays = lays_then {x = false} (reads g.S.Source g.O.Output c.args.source.now c.load_filled-loaded.new.source c.args.output.now c.args.m.now c.load_filled-loaded.new.m c.close_step-2.new.self got l.wanted.loads.reads l.wanted.loads.given few l.wanted.loads.no_step.steps l.wanted.loads.no_step.greatest step.steps step.greatest (rw c.in_default.is at l.wanted.loads.reads).clean refl tt) (lays_written _ _ e.writes);
-        told = told_on g.S.Source.tells x r.size r.length r.blocks a (taken s'.placer - taken s.placer) want (a * r.size) w w' c.load_filled-loaded.new.w.bytes s s' r.some r.covers r.last (omega arith) (omega (arith, within, e.order)) (omega (arith, e.order)) t.segment.same.2 c.requires.ready.sound.order refl told (e.laid told.blocks told.laid) loaded;
+        told = told_on g.S.Source.models x r.size r.length r.blocks a (taken s'.placer - taken s.placer) want (a * r.size) w w' c.load_filled-loaded.new.w.bytes s s' r.some r.covers r.last (omega arith) (omega (arith, within, e.order)) (omega (arith, e.order)) t.segment.same.2 c.requires.ready.sound.order refl told (e.laid told.blocks told.laid) loaded;
         segment = record {
           kept = t.segment.kept;
           sound = e.segment.sound;
@@ -177,7 +177,7 @@ returns-in-Ok g c =
       };
       ended = λ is.
           let short = e.short is in
-          ended_on g.S.Source.tells x r.size r.length r.blocks a (taken s'.placer - taken s.placer) want (a * r.size) w w' c.load_filled-loaded.new.w.bytes s s' r.some r.covers r.last (omega arith) (omega (arith, short, e.order)) (omega (arith, e.order)) t.segment.same.2 t.segment.same.3 c.requires.ready.sound.order (e.some is)
+          ended_on g.S.Source.models x r.size r.length r.blocks a (taken s'.placer - taken s.placer) want (a * r.size) w w' c.load_filled-loaded.new.w.bytes s s' r.some r.covers r.last (omega arith) (omega (arith, short, e.order)) (omega (arith, e.order)) t.segment.same.2 t.segment.same.3 c.requires.ready.sound.order (e.some is)
           (not_so_far (taken s.placer + a) r.blocks r.size s.limit (omega arith) r.fits (omega (arith, r.window)) (e.reached is)) refl told (e.laid told.blocks told.laid) loaded (e.over told.blocks told.laid is);
       on = λ on. omega (arith, e.all on);
       once = λ on. (going_costs (taken s.placer) (taken s'.placer) a r.size r.length r.blocks want got _ _ _ _ _ _ _ _ _ _ _ _ (e.all on) read step.turns t.writes.calls t.writes.turns).once;

@@ -22,7 +22,7 @@ loop-ended-preserved g c =
       given = omega (arith, i.given, e.once on);
       sound = e.lays.segment.sound;
       within = e.lays.inside;
-      told = same_told g.S.Source.tells (g.S.Source.content c.loop-ended.source) (g.S.Source.content c.args.source.now) r.size new c.step.new.self i.lays.content e.lays.told;
+      told = same_told g.S.Source.models (g.S.Source.content c.loop-ended.source) (g.S.Source.content c.args.source.now) r.size new c.step.new.self i.lays.content e.lays.told;
       same = (t.segment.same.0 ∙ i.same.0, t.segment.same.1 ∙ i.same.1, t.segment.same.2 ∙ i.same.2, t.segment.same.3 ∙ i.same.3);
       kept = keeps_then (c.args.self.now.placer.front + 28) old now new i.kept (subst (λ (j : ℕ). KeepsFront (j + 28) now new) i.same.1 t.segment.kept);
       calls = omega (arith, i.calls, e.going_calls on, i.lays.given, t.lays.given);
@@ -59,7 +59,7 @@ returns-then-ended g c =
     record {
       lays = record {
         lays = lays_value (lays_then i.lays e.lays.lays);
-        told = same_told g.S.Source.tells x y r.size new c.step.new.self i.lays.content e.lays.told;
+        told = same_told g.S.Source.models x y r.size new c.step.new.self i.lays.content e.lays.told;
         segment = record {
           kept = keeps_then (c.args.self.now.placer.front + 28) old now new i.kept (subst (λ (j : ℕ). KeepsFront (j + 28) now new) i.same.1 t.segment.kept);
           sound = e.lays.segment.sound;
@@ -74,7 +74,7 @@ returns-then-ended g c =
           last = omega (arith, i.given, e.lays.reads.last);
         };
       };
-      ended = same_ended g.S.Source.tells x y r.size r.blocks c.step.new.self i.lays.content (e.ended c.if-ended.true);
+      ended = same_ended g.S.Source.models x y r.size r.blocks c.step.new.self i.lays.content (e.ended c.if-ended.true);
       calls = omega (arith, i.calls, c.step.ensures.calls, i.lays.given, t.lays.given);
       turns = omega (arith, i.turns, c.step.ensures.turns, i.lays.given, t.lays.given);
     }

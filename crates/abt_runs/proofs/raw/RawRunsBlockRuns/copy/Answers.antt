@@ -7,10 +7,10 @@ use Rattle.abt_runs.proofs.Copied.{raw_copied, filled_within, filled_behind}
 use Rattle.abt_runs.proofs.raw.RawRunsBlockRuns.copy.Goals as goal
 
 pub returns-then-pos-self-clause-bytes : goal.returns-then-pos-self-clause-bytes
-returns-then-pos-self-clause-bytes g c tells q within raws le =
+returns-then-pos-self-clause-bytes g c models q within raws le =
     let s = c.args.self.now in
     let x = g.S.Source.content c.args.source.now in
-    let e = (c.requires.told tells).0 in
+    let e = (c.requires.told models).0 in
     let count = raw_count s.length s.blocks s.size x s.some s.covers s.last e in
     let total : s.size * block_count s.size x ≡ s.blocks * s.size = rw count (omega arith) in
     let n = c.min-zeros.result in
@@ -40,16 +40,16 @@ returns-then-pos-self-clause-bytes g c tells q within raws le =
     distributes a b c = omega arith
 
 pub returns-else-n-eq0-clause-bytes : goal.returns-else-n-eq0-clause-bytes
-returns-else-n-eq0-clause-bytes g c tells q within raws le =
+returns-else-n-eq0-clause-bytes g c models q within raws le =
     let s = c.args.self.now in
     let x = g.S.Source.content c.args.source.now in
-    let e = (c.requires.told tells).0 in
+    let e = (c.requires.told models).0 in
     let count = raw_count s.length s.blocks s.size x s.some s.covers s.last e in
     let r = c.in-Ok.ensures.has_read in
     let test = c.if-pos-self.false in
     let n = c.in-Ok.n in
-    take-append-le n c.read_at.new.out _ r.within ∙ r.bytes tells
+    take-append-le n c.read_at.new.out _ r.within ∙ r.bytes models
     ∙ sym (raw_copied s.size c.args.here.block q n c.args.at s.blocks x count
     (let z : c.args.here.block + q ≤ s.blocks = omega (arith, within, c.requires.within.within) in z) raws le
     ∙ filled_within x n (c.args.here.block * s.size + c.args.at) (s.size * block_count s.size x)
-    (omega (arith, e, r.present tells)))
+    (omega (arith, e, r.present models)))

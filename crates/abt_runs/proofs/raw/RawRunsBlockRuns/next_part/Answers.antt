@@ -22,10 +22,10 @@ returns-then-from-self g c =
     record {
       part = record {
         source = record { reads = reads_none _ g.S.Source _; cause = tt };
-        told = λ tells. record {
+        told = λ models. record {
           part =
               let n = raw_long self.length self.blocks self.size _ self.some self.covers self.last
-              (c.requires.asks.told tells).0 in
+              (c.requires.asks.told models).0 in
               record {
                 within = omega (arith, n, c.if-from-self.true);
                 next = omega arith;
@@ -108,13 +108,13 @@ returns g c =
     record {
       part = record {
         source = record { reads = reads_ok _ (rw c.in_default.is at f.loads.reads); cause = tt };
-        told = λ tells. record {
+        told = λ models. record {
           part =
               let x = g.S.Source.content c.args.source.now in
-              let e = (c.requires.asks.told tells).0 in
+              let e = (c.requires.asks.told models).0 in
               let long = raw_long self.length self.blocks self.size x self.some self.covers self.last e in
               let read = c.part.ensures.value ∙ if_none c.load_filled-loaded.result.fault c.in_default.is
-              (c.load_filled-loaded.ensures.bytes tells) in
+              (c.load_filled-loaded.ensures.bytes models) in
               record {
                 within = omega (arith, long, l.within, a.within);
                 next = n.block;

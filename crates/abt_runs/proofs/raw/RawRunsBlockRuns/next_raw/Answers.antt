@@ -36,14 +36,14 @@ returns g c =
     record {
       part = record {
         source = record { reads = reads_none _ g.S.Source _; cause = tt };
-        told = λ tells. record {
+        told = λ models. record {
           part =
               let long = raw_long self.length self.blocks self.size _ self.some self.covers self.last
-              (c.requires.asks.told tells).0 in
+              (c.requires.asks.told models).0 in
               record {
                 within = omega (arith, long, c.requires.inside);
                 next = refl;
-                all = c.requires.raw tells;
+                all = c.requires.raw models;
                 ended = λ end. absurd cc;
               };
           place = next;

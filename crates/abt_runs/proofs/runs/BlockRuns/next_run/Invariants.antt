@@ -16,10 +16,10 @@ invariant-parts g l =
     let self = l.fn.self in
     record {
       reads : OnlyReads {X = Unit {0}} {E = RunFault} (Ok tt) g.S.Source l.fn.source l.source;
-      so_far : IsTrue g.S.Source.tells → SoFar (runs.list self (content l.fn.source)) l.fn.from.block l.run;
-      here_place : IsTrue g.S.Source.tells → runs.place self (content l.fn.source) l.run.here;
-      next_place : IsTrue g.S.Source.tells → runs.place self (content l.fn.source) l.run.next;
-      stands : IsTrue g.S.Source.tells → l.run.kind ≡ kinds.Raw → 0 < runs.together self (content l.fn.source) l.run.here;
+      so_far : IsTrue g.S.Source.models → SoFar (runs.list self (content l.fn.source)) l.fn.from.block l.run;
+      here_place : IsTrue g.S.Source.models → runs.place self (content l.fn.source) l.run.here;
+      next_place : IsTrue g.S.Source.models → runs.place self (content l.fn.source) l.run.next;
+      stands : IsTrue g.S.Source.models → l.run.kind ≡ kinds.Raw → 0 < runs.together self (content l.fn.source) l.run.here;
       here_within : runs.within self l.run.here;
       next_within : runs.within self l.run.next;
       reached : l.run.kind ≡ kinds.Raw → runs.size self ≤ runs.reach self l.run.here;

@@ -13,7 +13,7 @@ invariant-steps g l =
     let given = g.S.Source.given in
     record {
       going : IsOpeningOver l.opening.stage → ⊥;
-      told : IsTrue g.S.Source.tells → ComesTo l.opening (content l.fn.source) (ends (outcome (content l.fn.source)));
+      told : IsTrue g.S.Source.models → ComesTo l.opening (content l.fn.source) (ends (outcome (content l.fn.source)));
       reads : OnlyReads {X = Unit {0}} {E = RunFault} (Ok tt) g.S.Source l.fn.source l.source;
       charged : given l.source ≤ given l.fn.source + l.opening.at;
       more : given l.fn.source ≤ given l.source;

@@ -4,7 +4,7 @@ use Rattle.abt_runs.proofs.Chunked.{copied}
 use Rattle.abt_runs.proofs.sparse_parts.SparseRunsBlockRuns.copy.Goals as goal
 
 pub returns-else-n-eq0-clause-bytes : goal.returns-else-n-eq0-clause-bytes
-returns-else-n-eq0-clause-bytes g c tells q le raws fits =
+returns-else-n-eq0-clause-bytes g c models q le raws fits =
     let s = c.args.self.now in
     let x = g.S.Source.content c.args.source.now in
     let n = c.in-Ok.n in
@@ -18,6 +18,6 @@ returns-else-n-eq0-clause-bytes g c tells q le raws fits =
     let few = c.in-Ok.ensures.has_read.within in
     let room : c.args.at + n ≤ s.image - (c.args.here.at + s.header.chunk_hdr_sz + c.args.here.used * s.header.blk_sz) =
     omega (arith, given, long, few) in
-    c.in-Ok.ensures.has_read.bytes tells ∙ ap (λ (m : ℕ). take n (drop m x)) at ∙ sym
-    (copied (view s.header) s.length s.image x c.args.here q c.args.at n (c.requires.told tells).0
-    (c.requires.told tells).1 le fits room)
+    c.in-Ok.ensures.has_read.bytes models ∙ ap (λ (m : ℕ). take n (drop m x)) at ∙ sym
+    (copied (view s.header) s.length s.image x c.args.here q c.args.at n (c.requires.told models).0
+    (c.requires.told models).1 le fits room)

@@ -33,11 +33,11 @@ returns-then-from-self-2 g c =
       part = record {
         source = record {
           reads = reads_none _ g.S.Source _;
-          cause = not_telling g.S.Source.tells (λ t. c.if-from-self-2.true
+          cause = not_telling g.S.Source.models (λ t. c.if-from-self-2.true
               (at_last (view self.header) (g.S.Source.content c.args.source.now) c.args.from (c.requires.asks.told t).1
               c.if-from-self.true));
         };
-        told = λ tells. tt;
+        told = λ models. tt;
         found = tt;
         costs = nothing_read _ _ _ _ _ s.turns s.steps s.greatest;
       };
@@ -56,18 +56,18 @@ returns-then-from-self g c =
     record {
       part = record {
         source = record { reads = reads_none _ g.S.Source _; cause = tt };
-        told = λ tells. record {
+        told = λ models. record {
           part =
               let long = sparse_long (view self.header) self.length self.image (g.S.Source.content c.args.source.now)
-              (c.requires.asks.told tells).0 in
+              (c.requires.asks.told models).0 in
               record {
                 within = omega (arith, long, c.if-from-self-2.false);
                 next = omega arith;
                 all = refl;
                 ended = λ _. omega (arith, long, c.if-from-self-2.false);
               };
-          place = (c.requires.asks.told tells).1;
-          here_place = (c.requires.asks.told tells).1;
+          place = (c.requires.asks.told models).1;
+          here_place = (c.requires.asks.told models).1;
           stands = λ kind. absurd cc;
           first = λ some. absurd (omega (arith, some));
           not_past = λ d within place at. omega arith;
@@ -112,14 +112,14 @@ returns-then-self-from g c =
       part = record {
         source = record {
           reads = reads_none _ g.S.Source _;
-          cause = not_telling g.S.Source.tells (λ t.
+          cause = not_telling g.S.Source.models (λ t.
               let x = g.S.Source.content c.args.source.now in
               let o = (c.requires.asks.told t).0 in
               let r = standing (view self.header) self.length self.image x (take 12 (drop c.args.from.at x)) c.args.from
               o (c.requires.asks.told t).1 lt refl in
               omega (arith, r.2.fits.whole, r.2.fits.total, self.chunk_header, c.if-self-from.true));
         };
-        told = λ tells. tt;
+        told = λ models. tt;
         found = tt;
         costs = nothing_read _ _ _ _ _ s.turns s.steps s.greatest;
       };
@@ -139,7 +139,7 @@ returns-in-None g c =
       part = record {
         source = record {
           reads = reads_then (rw c.in_default.is at h.loads.reads) (reads_none _ g.S.Source _);
-          cause = not_telling g.S.Source.tells (λ t.
+          cause = not_telling g.S.Source.models (λ t.
               let x = g.S.Source.content c.args.source.now in
               let is = c.part.ensures.value ∙ if_none c.load-head.result.fault c.in_default.is
               (c.load-head.ensures.bytes t) in
@@ -148,7 +148,7 @@ returns-in-None g c =
               let found = c.chunk_here.ensures.found r.0 r.1 r.2.fits in
               absurd (not_both _ _ found c.in-None.is));
         };
-        told = λ tells. tt;
+        told = λ models. tt;
         found = tt;
         costs = load_costs h.loads (omega (arith, h.few)) s.turns s.steps s.greatest;
       };
@@ -180,11 +180,11 @@ returns-in-None-fault g c =
     let more = adds v self.image from k word c.args.cap r f c.requires.asks.some p in
     let going = not_end k word from c.args.cap r p in
     let not_over : is_end r.kind ≡ true → ⊥ = λ end. true≢false (sym end ∙ going) in
-    let stands = λ (tells : IsTrue g.S.Source.tells).
-    let is = c.part.ensures.value ∙ if_none c.load-head.result.fault c.in_default.is (c.load-head.ensures.bytes tells)
+    let stands = λ (models : IsTrue g.S.Source.models).
+    let is = c.part.ensures.value ∙ if_none c.load-head.result.fault c.in_default.is (c.load-head.ensures.bytes models)
     in
     standing_as v self.length self.image (g.S.Source.content c.args.source.now) c.part.result.now from k
-    (c.requires.asks.told tells).0 (c.requires.asks.told tells).1 lt is c.in-Some-chunk_here.ensures.read in
+    (c.requires.asks.told models).0 (c.requires.asks.told models).1 lt is c.in-Some-chunk_here.ensures.read in
     record {
       part = record {
         source = record {
@@ -192,29 +192,29 @@ returns-in-None-fault g c =
               (reads_ok _ (rw c.in-None-fault.is at w.loads.reads));
           cause = tt;
         };
-        told = λ tells. record {
+        told = λ models. record {
           part =
               let x = g.S.Source.content c.args.source.now in
               let bytes : has_word k.kind k.blocks ≡ true → word ≡ take 4 (drop (from.at + self.header.chunk_hdr_sz) x)
               =
-              λ q. if_none c.load_word-word.result.fault c.in-None-fault.is (w.bytes tells) q
-              ∙ ap (λ (y : List ℕ). take 4 (drop (from.at + c.from.result) y)) (h.loads.reads.content tells)
+              λ q. if_none c.load_word-word.result.fault c.in-None-fault.is (w.bytes models) q
+              ∙ ap (λ (y : List ℕ). take 4 (drop (from.at + c.from.result) y)) (h.loads.reads.content models)
               ∙ ap (λ (n : ℕ). take 4 (drop (from.at + n) x)) c.from.ensures in
-              part_is v x self.image from k word c.args.cap r (stands tells) c.requires.asks.within.used
+              part_is v x self.image from k word c.args.cap r (stands models) c.requires.asks.within.used
               c.requires.asks.some bytes p;
-          place = next_place v (g.S.Source.content c.args.source.now) self.image from k word c.args.cap r (stands tells)
+          place = next_place v (g.S.Source.content c.args.source.now) self.image from k word c.args.cap r (stands models)
               p;
           here_place = here_place v (g.S.Source.content c.args.source.now) self.image from k word c.args.cap r
-              (stands tells) (c.requires.asks.told tells).1 p;
+              (stands models) (c.requires.asks.told models).1 p;
           stands = stand_together v (g.S.Source.content c.args.source.now) self.image from k word c.args.cap r
-              (stands tells) p;
+              (stands models) p;
           first = λ some d is le.
               let one = next_first v self.length self.image (g.S.Source.content c.args.source.now) from k word
-              c.args.cap r (c.requires.asks.told tells).0 (stands tells) c.requires.asks.some p some d is.0 is.1 le
+              c.args.cap r (c.requires.asks.told models).0 (stands models) c.requires.asks.some p some d is.0 is.1 le
               in
               (one, one);
           not_past = λ d within place at. not_past v self.length self.image (g.S.Source.content c.args.source.now) from
-              k word c.args.cap r (c.requires.asks.told tells).0 (stands tells) c.requires.asks.some p d within place
+              k word c.args.cap r (c.requires.asks.told models).0 (stands models) c.requires.asks.some p d within place
               at;
         };
         found = record {

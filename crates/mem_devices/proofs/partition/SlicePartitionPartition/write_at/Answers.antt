@@ -13,17 +13,17 @@ returns-clause-laid c =
     let past : c.wrote.new.self.past ≡ wrote s.history.past c.put.new.self.bytes.now c.args.at n = search rules in
     let laid = rw c.put.ensures.value at past in
     record {
-      written = λ tells. c.put.ensures.value
+      written = λ models. c.put.ensures.value
           ∙ ap (λ (l : List ℕ). put_at s.cells.bytes.now c.args.at l)
           (sym (take_all (length c.args.bytes.now) c.args.bytes.now (le_refl _)));
-      kept = λ tells. rw c.put.ensures.value
+      kept = λ models. rw c.put.ensures.value
           (kept_wrote s.history.past c.wrote.new.self.past s.cells.bytes.now c.args.bytes.now c.args.at
           c.requires.fits laid);
-      moments = λ tells. one_wrote s.history.past c.wrote.new.self.past c.put.new.self.bytes.now c.args.at n past;
-      newest = λ tells. search rules;
-      pending = λ tells. search rules;
-      stays = λ tells. search rules;
-      unsettled = λ tells. rw c.put.ensures.value
+      moments = λ models. one_wrote s.history.past c.wrote.new.self.past c.put.new.self.bytes.now c.args.at n past;
+      newest = λ models. search rules;
+      pending = λ models. search rules;
+      stays = λ models. search rules;
+      unsettled = λ models. rw c.put.ensures.value
           (unsettled_wrote s.history.past c.wrote.new.self.past s.cells.bytes.now c.args.bytes.now c.args.at
           c.requires.fits
           laid);

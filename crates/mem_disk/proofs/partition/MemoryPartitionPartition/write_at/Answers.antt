@@ -13,16 +13,16 @@ returns-clause-laid c =
     let past : c.wrote.new.self.past ≡ wrote s.history.past c.put_part.new.into.items c.args.at n = search rules in
     let laid = rw c.put_part.ensures.value at past in
     record {
-      written = λ tells. c.put_part.ensures.value
+      written = λ models. c.put_part.ensures.value
           ∙ ap (λ (l : List ℕ). put_at s.bytes.items c.args.at l) (sym (take_all n c.args.bytes.now (le_refl _)));
-      kept = λ tells. rw c.put_part.ensures.value
+      kept = λ models. rw c.put_part.ensures.value
           (kept_wrote s.history.past c.wrote.new.self.past s.bytes.items c.args.bytes.now c.args.at c.requires.fits
           laid);
-      moments = λ tells. one_wrote s.history.past c.wrote.new.self.past c.put_part.new.into.items c.args.at n past;
-      newest = λ tells. search rules;
-      pending = λ tells. search rules;
-      stays = λ tells. search rules;
-      unsettled = λ tells. rw c.put_part.ensures.value
+      moments = λ models. one_wrote s.history.past c.wrote.new.self.past c.put_part.new.into.items c.args.at n past;
+      newest = λ models. search rules;
+      pending = λ models. search rules;
+      stays = λ models. search rules;
+      unsettled = λ models. rw c.put_part.ensures.value
           (unsettled_wrote s.history.past c.wrote.new.self.past s.bytes.items c.args.bytes.now c.args.at
           c.requires.fits laid);
       synced = search rules;

@@ -3,7 +3,7 @@ use Rattle.abt_io.proofs.Moments.{one_settled}
 use Rattle.mem_files.proofs.memory_file.MemoryFileSystemFile.sync.Goals as goal
 
 pub returns : goal.returns
-returns c = λ tells. record {
+returns c = λ models. record {
   same = refl;
   kept = search rules;
   settled = search rules;

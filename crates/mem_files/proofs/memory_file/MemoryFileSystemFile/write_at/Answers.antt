@@ -6,14 +6,14 @@ use Rattle.sys_file.proofs.Pasts.{lays_none}
 use Rattle.mem_files.proofs.memory_file.MemoryFileSystemFile.write_at.Goals as goal
 
 pub returns-then-is_over-clause-lays : goal.returns-then-is_over-clause-lays
-returns-then-is_over-clause-lays c = λ tells fits.
+returns-then-is_over-clause-lays c = λ models fits.
     let bytes : c.is_over.new.self.bytes.items ≡ c.args.self.now.bytes.items = search rules in
     let past : c.is_over.new.self.history.past ≡ c.args.self.now.history.past = search rules in
     rw bytes (rw past (lays_none c.args.self.now.bytes.items c.args.self.now.history.past _ c.args.at
     (length c.args.bytes.now)))
 
 pub returns-clause-lays : goal.returns-clause-lays
-returns-clause-lays c = λ tells fits.
+returns-clause-lays c = λ models fits.
     let old = c.args.self.now.history.past in
     let x = c.args.self.now.bytes.items in
     let b = c.args.bytes.now in

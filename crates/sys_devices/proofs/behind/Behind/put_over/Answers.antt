@@ -32,12 +32,12 @@ invariant_of-self g c =
     let found = c.in-Ok.ensures.flushes.found in
     record {
       place = omega (arith, same, place);
-      stands = λ tells sound. ap (λ (l : List ℕ). take (length l) (g.F.SystemFile.stands c.write_at.new.file)) logged
-          ∙ front_over sent _ _ x c.args.at (m.stands tells sound) (w.written tells) fits ∙ sym logged;
-      ends = λ tells.
-          let in_file = front_within sent _ (m.stands tells found) in
+      stands = λ models sound. ap (λ (l : List ℕ). take (length l) (g.F.SystemFile.stands c.write_at.new.file)) logged
+          ∙ front_over sent _ _ x c.args.at (m.stands models sound) (w.written models) fits ∙ sym logged;
+      ends = λ models.
+          let in_file = front_within sent _ (m.stands models found) in
           let e = long_put (g.F.SystemFile.stands m.file) x c.args.at (omega (arith, fits, in_file)) in
-          omega (arith, ap length (w.written tells), e, same, fits, in_file, m.ends tells);
-      emptied = λ tells empty. absurd (false≢true (sym found ∙ m.gone empty));
+          omega (arith, ap length (w.written models), e, same, fits, in_file, m.ends models);
+      emptied = λ models empty. absurd (false≢true (sym found ∙ m.gone empty));
       gone = λ empty. absurd (false≢true (sym found ∙ m.gone empty));
     }

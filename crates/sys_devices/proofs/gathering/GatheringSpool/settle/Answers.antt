@@ -6,5 +6,5 @@ pub invariant_of-self-clause-whole : goal.invariant_of-self-clause-whole
 invariant_of-self-clause-whole g c = c.settle.ensures.flushes.whole ∙ c.args.self.now.whole
 
 pub invariant_of-self-clause-holds : goal.invariant_of-self-clause-holds
-invariant_of-self-clause-holds g c = λ tells.
-    holds_on _ _ _ c.settle.ensures.flushes.grows (c.args.self.now.holds tells)
+invariant_of-self-clause-holds g c = λ models.
+    holds_on _ _ _ c.settle.ensures.flushes.grows (c.args.self.now.holds models)

@@ -41,10 +41,10 @@ invariant_of-self-in-Ok-clause-told g c =
     (bytes_of_append _ _ c.args.self.now.told c.are_bytes.ensures)
 
 pub invariant_of-self-in-Ok-clause-holds : goal.invariant_of-self-in-Ok-clause-holds
-invariant_of-self-in-Ok-clause-holds g c = λ tells. holds_on _ _ _ c.in-Ok.ensures.grows (c.args.self.now.holds tells)
+invariant_of-self-in-Ok-clause-holds g c = λ models. holds_on _ _ _ c.in-Ok.ensures.grows (c.args.self.now.holds models)
 
 pub invariant_of-self-in-Err-clause-whole : goal.invariant_of-self-in-Err-clause-whole
 invariant_of-self-in-Err-clause-whole g c = c.in-Err.ensures.taken ∙ append-nil _ ∙ c.args.self.now.whole
 
 pub invariant_of-self-in-Err-clause-holds : goal.invariant_of-self-in-Err-clause-holds
-invariant_of-self-in-Err-clause-holds g c = λ tells. holds_on _ _ _ c.in-Err.ensures.grows (c.args.self.now.holds tells)
+invariant_of-self-in-Err-clause-holds g c = λ models. holds_on _ _ _ c.in-Err.ensures.grows (c.args.self.now.holds models)

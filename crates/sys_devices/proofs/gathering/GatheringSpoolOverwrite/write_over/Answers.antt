@@ -43,4 +43,4 @@ invariant_of-self-in-Ok-clause-told g c =
     (bytes_of_put _ _ c.args.at c.args.self.now.told c.are_bytes.ensures)
 
 pub invariant_of-self-in-Ok-clause-holds : goal.invariant_of-self-in-Ok-clause-holds
-invariant_of-self-in-Ok-clause-holds g c = λ tells. c.forget.ensures _
+invariant_of-self-in-Ok-clause-holds g c = λ models. c.forget.ensures _

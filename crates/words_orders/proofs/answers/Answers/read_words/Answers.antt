@@ -5,7 +5,7 @@ use Rattle.words_orders.specs.declared.answers.Answer.{Answer}
 use Rattle.words_orders.specs.Asked.{IsReadRight, saying_of_answer}
 use Rattle.words_orders.specs.Table.{shape_of}
 use Rattle.words_orders.specs.Words.{of_row}
-use Rattle.words_orders.proofs.Steps.{added_more_of, answer_is, read_is}
+use Rattle.words_orders.proofs.ReadSteps.{added_more_of, answer_is, read_is}
 use Rattle.words_orders.proofs.answers.Answers.read_words.Goals as goal
 
 pub loop-word-preserved : goal.loop-word-preserved

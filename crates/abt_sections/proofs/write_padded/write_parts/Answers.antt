@@ -1,0 +1,77 @@
+use Rattle.std.proofs.Common.{rules, ◌+◌, ◌*◌, ℕ, List, arith, ap, ◌∙◌, length, length-set, map, get_or, take, drop}
+use Rattle.std.proofs.Common.{◌++◌}
+use Rattle.std.proofs.lemmas.List.Sums.{sum_by_more}
+use Rattle.abt_io.proofs.Lent.{writes_then}
+use Rattle.abt_headers.specs.Page.{pages}
+use Rattle.abt_sections.specs.Layout.{padded, laid}
+use Rattle.abt_sections.proofs.Growing.{begins_then, begins_stop, begins_is}
+use Rattle.abt_sections.proofs.Growing as growing
+use Rattle.abt_sections.proofs.Layouts.{laid_next, laid_at, laid_less}
+use Rattle.abt_sections.proofs.Moves.{moves_part}
+use Rattle.abt_sections.proofs.Parts.{all_part, next_part, part_size, sizes_next}
+use Rattle.abt_sections.proofs.write_padded.write_parts.Goals as goal
+
+pub returns-in-Err-clause-front : goal.returns-in-Err-clause-front
+returns-in-Err-clause-front g c = λ models.
+    let s = g.S.Source in
+    let v = c.loop-i.invariant in
+    let e = c.in-Err.ensures in
+    let all = map s.content c.args.parts.now in
+    let i = c.loop-i.i in
+    let page = c.args.page in
+    let b = s.content (get_or c.loop-i.parts i c.index-parts-i.result) in
+    let next = next_part s.content c.loop-i.parts c.args.parts.now i c.index-parts-i.result (v.reads.content models)
+    (omega arith) in
+    begins_is _ _ _ _ (laid_at page all b i next)
+    (begins_stop _ _ (laid page (take i all) ++ padded page b) (laid page (drop (i + 1) all))
+    (begins_then _ _ _ (laid page (take i all)) (padded page b) (v.written models) (e.front models)
+    e.part.moves.writes.least))
+
+pub returns-in-Err-clause-bytes : goal.returns-in-Err-clause-bytes
+returns-in-Err-clause-bytes g c =
+    let page = c.args.page in
+    let i = c.loop-i.i in
+    let p : ℕ → ℕ = λ m. pages m page * page in
+    let sizes = c.args.sizes.now in
+    let next = sum_by_more p sizes i 0 (omega arith) in
+    let rest = laid_less page sizes (i + 1) (length c.args.parts.now) (omega arith) in
+    record { most = omega (arith, c.loop-i.invariant.all, c.in-Err.ensures.part.bytes.most, next, rest); all = tt }
+
+pub returns-in-Err-clause-parts : goal.returns-in-Err-clause-parts
+returns-in-Err-clause-parts g c =
+    let v = c.loop-i.invariant in
+    let ps = c.loop-i.parts in
+    let i = c.loop-i.i in
+    let d = c.index-parts-i.result in
+    record {
+      moves = moves_part ps i d _ (omega arith) v.reads v.writes c.in-Err.ensures.part.moves (λ changed models same.
+          changed models (part_size g.S.Source.size ps c.args.parts.now i d c.args.sizes.now (v.reads.size models) same
+          (omega arith)));
+      written = search rules;
+      lasting = tt;
+    }
+
+pub loop-i-preserved : goal.loop-i-preserved
+loop-i-preserved g c =
+    let s = g.S.Source in
+    let v = c.loop-i.invariant in
+    let ps = c.loop-i.parts in
+    let i = c.loop-i.i in
+    let d = c.index-parts-i.result in
+    let e = c.in-Ok.ensures in
+    let new = c.write_part.new.part in
+    let page = c.args.page in
+    let p : ℕ → ℕ = λ m. pages m page * page in
+    let all = map s.content c.args.parts.now in
+    let b = s.content (get_or ps i d) in
+    record {
+      long = simp length-set v.long;
+      reads = all_part s _ ps i d new (omega arith) v.reads e.part.moves.reads;
+      written = λ models.
+          let next = next_part s.content ps c.args.parts.now i d (v.reads.content models) (omega arith) in
+          growing.then_all _ _ _ (laid page (take i all)) (padded page b) (v.written models) (e.part.written models)
+          ∙ ap (λ (l : List ℕ). g.O.Output.written c.args.output.now ++ l) (laid_next page all b i next);
+      all = omega (arith, v.all, e.part.bytes.all, sum_by_more p c.args.sizes.now i 0 (omega arith));
+      writes = writes_then v.writes e.part.moves.writes;
+      lasting = sizes_next s.size ps i new c.args.sizes.now (omega arith) (omega arith) v.lasting e.part.lasting.1;
+    }

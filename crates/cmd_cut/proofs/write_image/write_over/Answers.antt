@@ -1,0 +1,52 @@
+use Rattle.std.proofs.Common.{arith, rules}
+use Rattle.cmd_cut.proofs.Answered.{holds, left_whole, left_broken}
+use Rattle.cmd_cut.proofs.Counted.{closes_done, closes_given_up, closes_undone}
+use Rattle.cmd_cut.proofs.write_image.write_over.Goals as goal
+
+pub returns-in-Err-finish_image-clause-broken : goal.returns-in-Err-finish_image-clause-broken
+returns-in-Err-finish_image-clause-broken g c = λ t.
+    rw (c.let_go_source.ensures.held t) at
+    (left_whole _ c.args.blocks.size (g.D.At.Source.content c.args.source) _ _ _ (c.in-Ok.ensures.lays.written
+    (g.met.D.Disk.source_told t)) (c.in-Err-finish_image.ensures.left t))
+
+pub returns-in-Err-finish_image-clause-writes : goal.returns-in-Err-finish_image-clause-writes
+returns-in-Err-finish_image-clause-writes g c = λ t. record {
+  holds = tt;
+  closed = closes_undone _ _ _ _ _ (c.let_go_source.ensures.held t) (c.in-Err-finish_image.ensures.closed t)
+      (omega arith);
+  rest = rw (c.let_go_source.ensures.held t, c.let_go_source.ensures.world t) at (c.in-Err-finish_image.ensures.rest t);
+  outside = search rules;
+}
+
+pub returns-in-Err-clause-broken : goal.returns-in-Err-clause-broken
+returns-in-Err-clause-broken g c = λ t.
+    rw (c.let_go_source.ensures.held t) at
+    (left_broken _ c.args.blocks.size (g.D.At.Source.content c.args.source) _ _ c.in-Err.ensures.broken
+    (c.stopped.ensures.left t))
+
+pub returns-in-Err-clause-writes : goal.returns-in-Err-clause-writes
+returns-in-Err-clause-writes g c = λ t.
+    let told = g.met.D.Disk.source_told t in
+    let fails = c.in-Err.ensures.lays.fails in
+    record {
+      holds = tt;
+      closed = closes_given_up _ _ _ _ _ _ _ (c.let_go_source.ensures.held t) (c.stopped.ensures.closed t)
+          (omega (arith, fails.cause told, c.requires.ready.image.read t, c.requires.ready.output.clean t));
+      rest = rw (c.let_go_source.ensures.held t, c.let_go_source.ensures.world t) at (c.stopped.ensures.closed t).rest;
+      outside = c.stopped.ensures.outside (fails.outside told);
+    }
+
+pub returns-in-Ok-finish_image-clause-writes : goal.returns-in-Ok-finish_image-clause-writes
+returns-in-Ok-finish_image-clause-writes g c = λ t.
+    let told = g.met.D.Disk.source_told t in
+    let fails = c.in-Ok.ensures.lays.fails in
+    record {
+      holds = rw (c.let_go_source.ensures.held t, c.let_go_source.ensures.world t) at
+          (holds _ c.args.blocks.size (g.D.At.Source.content c.args.source) _ c.in-Ok.written _ _
+          (c.in-Ok.ensures.lays.written told) (c.in-Ok-finish_image.ensures.ended t));
+      closed = closes_done _ _ _ _ _ (c.let_go_source.ensures.held t) (c.in-Ok-finish_image.ensures.closed t)
+          (omega (arith, fails.clean, c.requires.ready.image.read t, c.requires.ready.output.clean t));
+      rest = rw (c.let_go_source.ensures.held t, c.let_go_source.ensures.world t) at
+          (c.in-Ok-finish_image.ensures.rest t);
+      outside = tt;
+    }

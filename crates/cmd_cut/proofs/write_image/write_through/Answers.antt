@@ -1,0 +1,23 @@
+use Rattle.std.proofs.Common.{rules}
+use Rattle.cmd_cut.proofs.Answered.{holds_end}
+use Rattle.cmd_cut.proofs.Counted.{answered, closes_answer}
+use Rattle.cmd_cut.proofs.write_image.write_through.Goals as goal
+
+pub returns : goal.returns
+returns g c = record {
+  writes = λ t.
+      let told = g.met.D.Disk.source_told t in
+      let fails = c.write_image-answer.ensures.lays.fails in
+      record {
+        holds = rw (c.let_go_source.ensures.held t, c.let_go_source.ensures.world t) at
+            (holds_end c.write_image-answer.result c.ended.result _ _ _ _ _ _
+            (c.write_image-answer.ensures.lays.written told) c.ended.ensures.done (c.ended.ensures.ended t));
+        closed = closes_answer _ _ _ _ _ _ _ _ _ (c.requires.ready.image.read t)
+            (c.requires.ready.output.clean t) (c.let_go_source.ensures.held t) (c.ended.ensures.closed t) fails.clean
+            (fails.cause told)
+            (answered _ _ c.ended.ensures.done);
+        rest = rw (c.let_go_source.ensures.held t, c.let_go_source.ensures.world t) at (c.ended.ensures.rest t);
+        outside = search rules;
+      };
+  stream = λ t. c.ended.ensures.stream t;
+}

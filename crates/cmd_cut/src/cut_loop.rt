@@ -1,0 +1,229 @@
+//! All pieces of an image, one after another.
+
+ghost use Rattle.std.specs.Prelude.{◌≡◌, ◌<◌, ◌≤◌, ◌+◌, ◌⊎◌, None, length, IsTrue, IfOk, IfErr, OnOk, OnErr};
+ghost use Rattle.sys_disk.specs.World.{HasFailed};
+ghost use Rattle.sys_report.specs.Shows.{CannotPrint, IsNoted, Shows, refusals};
+ghost use Rattle.cmd_common_sparse.specs.PieceNames.{naming_of};
+ghost use Rattle.cmd_cut.specs.Cutting.{ChangesNoFile, CutsAll, CutsSoFar, IsPiecePath, IsUnbegun};
+ghost use Rattle.cmd_cut.specs.Cutting.{LeavesPieces, OnlyLeaves, ReadyFirstPiece, ShowsCount, ShowsCut};
+ghost use Rattle.cmd_cut.specs.Cutting.{ShowsPieces, StopsCut, cut_into, piece_line};
+
+use crate::next_piece::LaysPieces;
+use crate::pieces::put_piece;
+use abt_io::{Meter, Window};
+use abt_pieces::Piece;
+use abt_runs::BlockRuns;
+use cmd_common_sparse::{
+    LeftOver, Line, PieceFiles, PieceNaming, PiecesOf, SparseRefusal, is_piece_name,
+};
+use std::alloc::AllocError;
+use sys_disk::Disk;
+use sys_refusals::{FileArg, HostFault, HostRefusal, Sides};
+use sys_report::{Carried, Report};
+
+/// Cuts an image that is open, and prints what its pieces are.
+pub(crate) fn cut_pieces<'a, D: Disk, B: BlockRuns + LaysPieces + Drop>(
+    disk: &mut D,
+    report: &mut Report,
+    source: D::At,
+    pieces: PiecesOf<B>,
+    input: FileArg<'a>,
+    names: PieceNaming<'a>,
+    passes: u64,
+    w: &mut Window,
+    m: &mut Meter,
+) -> Result<(), SparseRefusal<'a>>
+    requires fresh { IsTrue D.models → IsUnbegun (D.held disk.old) (D.At.read_faults source) }
+    requires ready { ReadyFirstPiece B.BlockRuns D.At.Source pieces.cutter.runs source pieces.cutter.limit
+        pieces.cutter.made pieces.cutter.start pieces.cutter.stage }
+    // each piece stands under its name; a line of each was printed, and how many they are
+    ensures done { IsTrue D.models → OnOk result (CutsAll (naming_of names.entry) (cut_into pieces.cutter.limit
+        (B.size pieces.cutter.runs) (B.list pieces.cutter.runs (D.At.content source))) (D.held disk.old)
+        (D.held disk.new) (D.world disk.old) (D.world disk.new) (ShowsCut (naming_of names.entry) pieces.cutter.limit
+        (D.world disk.new) report.old report.new (B.size pieces.cutter.runs)
+        (B.list pieces.cutter.runs (D.At.content source)))) }
+    // whatever comes, only files of pieces were created or changed, and none is open; where it is done nothing has failed
+    ensures leaves { IsTrue D.models → LeavesPieces result (IsPiecePath names.entry.prefix.now) (D.held disk.old)
+        (D.held disk.new) (D.world disk.old) (D.world disk.new) }
+    // it is refused where something has failed, or can't be told
+    ensures refused { IsTrue D.models → IfErr result (λ refusal. StopsCut refusal.fault
+        (HasFailed (D.held disk.old) (D.held disk.new)) (CannotPrint report.old report.new)
+        (λ n m. CutsSoFar (naming_of names.entry)
+        (cut_into pieces.cutter.limit (B.size pieces.cutter.runs) (B.list pieces.cutter.runs (D.At.content source))) n m (D.held disk.old)
+        (D.held disk.new) (D.world disk.old) (D.world disk.new))) }
+{
+    match refuse_image_as_piece(disk, input.name, names) {
+        Ok(()) => {}
+        Err(refusal) => return Err(refusal.into()),
+    }
+    let sides = Sides::none().reading(input, None);
+    let (source, answer) = write_pieces(disk, report, source, pieces, sides, names, passes, w, m);
+    disk.let_go_source(source);
+    let files = match answer {
+        Ok(files) => files,
+        Err(refusal) => return Err(refusal),
+    };
+    match tell_all(disk, report, files) {
+        Ok(()) => Ok(()),
+        Err(refusal) => Err(refusal.into()),
+    }
+}
+
+// Prints how many pieces there were, and notes the first one that is left of an older cut, where they count from 1: AOSP's
+// tool, which counts from 0, notes none.
+#[inline(never)]
+fn tell_all<'a, D: Disk>(
+    disk: &D,
+    report: &mut Report,
+    files: PieceFiles<'a>,
+) -> Result<(), HostRefusal<'a>>
+    ensures shown { IsTrue D.models → OnOk result (ShowsCount (naming_of files.entry.names) files.entry.count
+        (D.world disk.now) report.old report.new) }
+    ensures refused { IfErr result (λ refusal. CannotPrint report.old report.new
+        ⊎ (refusal.fault ≡ HostFault.Memory)) }
+{
+    match report.line(Line::Pieces(files.count)) {
+        Ok(()) => {}
+        Err(refusal) => return Err(refusal),
+    }
+    if files.names.is_from_zero {
+        return Ok(());
+    }
+    let front = files.front();
+    match disk.left_over(front, files.number()) {
+        Ok(Some(number)) => {
+            note_left_over(report, front, number);
+            Ok(())
+        }
+        Ok(None) => Ok(()),
+        Err(AllocError) => Err(HostRefusal::memory()),
+    }
+}
+
+// Its text takes more of the stack than all else here, and none of it while the folder is read.
+#[inline(never)]
+fn note_left_over(report: &mut Report, front: FileArg<'_>, number: u32)
+    ensures { IsNoted report.old report.new }
+{
+    report.note(LeftOver(front.numbered(number)));
+}
+
+// Writes each piece to its file, and prints its line. The names that they have.
+fn write_pieces<'a, D: Disk, B: BlockRuns + LaysPieces + Drop>(
+    disk: &mut D,
+    report: &mut Report,
+    source: D::At,
+    pieces: PiecesOf<B>,
+    sides: Sides<'a>,
+    names: PieceNaming<'a>,
+    passes: u64,
+    w: &mut Window,
+    m: &mut Meter,
+) -> (D::At, Result<PieceFiles<'a>, SparseRefusal<'a>>)
+    requires one { IsTrue D.models → (D.held disk.old).output ≡ None }
+    requires ready { ReadyFirstPiece B.BlockRuns D.At.Source pieces.cutter.runs source pieces.cutter.limit
+        pieces.cutter.made pieces.cutter.start pieces.cutter.stage }
+    ensures done { IsTrue D.models → IfOk result.1 (λ files. CutsSoFar (naming_of names.entry)
+        (cut_into pieces.cutter.limit (B.size pieces.cutter.runs) (B.list pieces.cutter.runs (D.At.content source))) files.count files.count
+        (D.held disk.old) (D.held disk.new) (D.world disk.old) (D.world disk.new)) }
+    ensures all { IsTrue D.models → IfOk result.1 (λ files. files.count ≡ length (cut_into pieces.cutter.limit
+        (B.size pieces.cutter.runs) (B.list pieces.cutter.runs (D.At.content source)))) }
+    ensures some { IfOk result.1 (λ files. 0 < files.count) }
+    ensures told { IsTrue D.models → IfOk result.1 (λ files. ShowsPieces names.entry.is_from_zero pieces.cutter.limit
+        (B.size pieces.cutter.runs) (B.list pieces.cutter.runs (D.At.content source)) files.count report.old
+        report.new) }
+    ensures rises { refusals report.old ≤ refusals report.new }
+    ensures named { IfOk result.1 (λ files. files.names ≡ names.entry) }
+    ensures left { IsTrue D.models → OnlyLeaves (IsPiecePath names.entry.prefix.now) (D.held disk.old) (D.held disk.new)
+        (D.world disk.old) (D.world disk.new) }
+    ensures refused { IsTrue D.models → IfErr result.1 (λ refusal. StopsCut refusal.fault
+        ((D.held disk.old).failed + D.At.read_faults source
+        < (D.held disk.new).failed + D.At.read_faults result.0) (CannotPrint report.old report.new)
+        (λ n m. CutsSoFar (naming_of names.entry) (cut_into pieces.cutter.limit (B.size pieces.cutter.runs)
+        (B.list pieces.cutter.runs (D.At.content source))) n m (D.held disk.old) (D.held disk.new)
+        (D.world disk.old) (D.world disk.new))) }
+    ensures clean { IsTrue D.models → OnOk result.1 ((D.held disk.new).failed + D.At.read_faults result.0
+        ≡ (D.held disk.old).failed + D.At.read_faults source) }
+{
+    let mut source = source;
+    let mut pieces = pieces;
+    let mut files = PieceFiles::new(names);
+    let _count = pieces.cutter.runs.blocks();
+    'pieces: loop {
+        m.tick();
+        if !pieces.cutter.more() {
+            return (source, Ok(files));
+        }
+        let place = files.next();
+        let mut carried = Carried {
+            device: source,
+            progress: &mut report.progress,
+        };
+        let answer = put_piece(disk, &mut pieces, &mut carried, place, sides, passes, w, m);
+        let Carried { device, .. } = carried;
+        source = device;
+        let (piece, is_on_output) = match answer {
+            Ok(end) => end,
+            Err(refusal) => return (source, Err(refusal)),
+        };
+        match print_piece(report, place.number.unwrap_or(1), piece, is_on_output) {
+            Ok(()) => {}
+            Err(refusal) => return (source, Err(refusal.into())),
+        }
+    }
+}
+
+// None is begun before it is known that the line of the last one is out.
+#[inline(never)]
+fn print_piece<'a>(
+    report: &mut Report,
+    number: u32,
+    piece: Piece,
+    is_on_output: bool,
+) -> Result<(), HostRefusal<'a>>
+    ensures shown { OnOk result (Shows report.old report.new (piece_line number piece)) }
+    ensures refused { OnErr result (CannotPrint report.old report.new) }
+    ensures rises { refusals report.old ≤ refusals report.new }
+{
+    let line = Line::Piece {
+        number,
+        first: piece.first,
+        past: piece.past,
+        bytes: piece.bytes,
+    };
+    report.line_beside(is_on_output, line)
+}
+
+// Refuses an image that has the name of a piece, or is one of the files that stand there for pieces.
+fn refuse_image_as_piece<'a, D: Disk>(
+    disk: &mut D,
+    image: &'a str,
+    names: PieceNaming<'a>,
+) -> Result<(), HostRefusal<'a>>
+    ensures held { IsTrue D.models → OnOk result (D.held disk.new ≡ D.held disk.old) }
+    ensures refused { IsTrue D.models → IfErr result (λ refusal. (refusal.fault ≡ HostFault.Memory)
+        ⊎ HasFailed (D.held disk.old) (D.held disk.new)) }
+    ensures keeps { IsTrue D.models → ChangesNoFile (D.held disk.old) (D.held disk.new) (D.world disk.old)
+        (D.world disk.new) }
+{
+    if is_piece_name(image, names.prefix) {
+        match disk.refuse_taken(FileArg::new("PIECE", image)) {
+            Ok(()) => {}
+            Err(refusal) => return Err(refusal),
+        }
+    }
+    let mut files = PieceFiles::new(names);
+    for _ in 0..u32::MAX {
+        let place = files.next();
+        match disk.is_there(place) {
+            Ok(true) => {}
+            Ok(false) => return Ok(()),
+            Err(refusal) => return Err(refusal),
+        }
+        match disk.refuse_taken(place) {
+            Ok(()) => {}
+            Err(refusal) => return Err(refusal),
+        }
+    }
+    Ok(())
+}

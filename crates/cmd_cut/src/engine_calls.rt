@@ -1,0 +1,51 @@
+//! The sparse image of a raw one, as far as it goes, while it is known how far the command is.
+
+ghost use Rattle.std.specs.Prelude.{◌+◌, OnErr};
+ghost use Rattle.cmd_cut.specs.Sparsing.{HoldsNoSparse, LaysSparseImage, ReadyToLay};
+
+use abt_io::{Meter, Output, Overwrite, Source, Window};
+use abt_placed::sparsify_at;
+use abt_sparsify::{Written, sparsify};
+use cmd_common_sparse::{Blocks, SparseCommandFault};
+use sys_report::Carried;
+
+/// Lays the sparse image of a raw one, its magic last.
+pub(crate) fn lay_image<S: Source, O: Overwrite>(
+    source: &mut Carried<'_, S>,
+    blocks: Blocks,
+    output: &mut O,
+    w: &mut Window,
+    m: &mut Meter,
+) -> Result<Written, SparseCommandFault>
+    requires ready { ReadyToLay blocks (S.size source.old.device) (O.written output.old) }
+    ensures lays { LaysSparseImage result S.models blocks.size (S.content source.old.device) (O.written output.new)
+        (S.read_faults source.old.device + O.write_faults output.old)
+        (S.read_faults source.new.device + O.write_faults output.new) }
+    ensures broken { OnErr result (HoldsNoSparse (O.written output.new)) }
+{
+    let Blocks { size, most } = blocks;
+    match sparsify_at(source, size, most, output, w, m) {
+        Ok(written) => Ok(written),
+        Err(fault) => Err(SparseCommandFault::Piece(fault)),
+    }
+}
+
+/// Writes the same from its front on.
+pub(crate) fn write_image<S: Source, O: Output>(
+    source: &mut Carried<'_, S>,
+    blocks: Blocks,
+    output: &mut O,
+    w: &mut Window,
+    m: &mut Meter,
+) -> Result<Written, SparseCommandFault>
+    requires ready { ReadyToLay blocks (S.size source.old.device) (O.written output.old) }
+    ensures lays { LaysSparseImage result S.models blocks.size (S.content source.old.device) (O.written output.new)
+        (S.read_faults source.old.device + O.write_faults output.old)
+        (S.read_faults source.new.device + O.write_faults output.new) }
+{
+    let Blocks { size, most } = blocks;
+    match sparsify(source, size, most, output, w, m) {
+        Ok(written) => Ok(written),
+        Err(fault) => Err(SparseCommandFault::Piece(fault)),
+    }
+}

@@ -1,0 +1,42 @@
+//! What is told of a command that stopped, where its file is written late.
+
+ghost use Rattle.std.specs.Prelude.{◌≡◌, ◌≤◌, false, IsTrue, IfErr, IfOk, OnOk};
+ghost use Rattle.sys_disk.specs.Images.{Leaves};
+ghost use Rattle.cmd_cut.specs.Sparsing.{IsOutsideSparse, GivesUp};
+
+use abt_io::DeviceFault;
+use abt_pieces::PieceFault;
+use cmd_common_sparse::{SparseCommandFault, SparseRefusal};
+use sys_disk::{Disk, Late, Reasons};
+use sys_refusals::{FileArg, Sides};
+
+/// Lets an image go, and refuses the command for this fault, or for a write that came before it and could not be done.
+pub(crate) fn stopped<'a, D: Disk>(
+    disk: &mut D,
+    fault: SparseCommandFault,
+    image: D::Image,
+    output: FileArg<'a>,
+    sides: Sides<'a>,
+) -> SparseRefusal<'a>
+    ensures left { IsTrue D.models → Leaves (D.held disk.old).output (D.Image.Output.written image) (D.world disk.new) }
+    ensures closed { IsTrue D.models → GivesUp (D.Image.Output.write_faults image) (D.held disk.old) (D.held disk.new)
+        (D.world disk.old) (D.world disk.new) }
+    ensures outside { IsOutsideSparse fault → IsOutsideSparse result.fault }
+{
+    let mut image = image;
+    let fault = first_of(image.settle(), fault);
+    let sides = sides.begun(output, image.why());
+    disk.give_up_image(image);
+    sides.refuse(fault)
+}
+
+// Of a write and a fault behind it the first.
+fn first_of(settled: Result<(), DeviceFault>, fault: SparseCommandFault) -> SparseCommandFault
+    ensures settled { OnOk settled (result ≡ fault) }
+    ensures refused { IfErr settled (λ device. result ≡ SparseCommandFault.Piece (PieceFault.Write device)) }
+{
+    match settled {
+        Ok(()) => fault,
+        Err(device) => SparseCommandFault::Piece(PieceFault::Write(device)),
+    }
+}

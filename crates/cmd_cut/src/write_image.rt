@@ -1,0 +1,119 @@
+//! The sparse image of a raw one in its file, which is at its end then.
+
+ghost use Rattle.std.specs.Prelude.{◌≡◌, [], IsTrue, IfOk, OnErr};
+ghost use Rattle.sys_disk.specs.Images.{OfImage, is_file};
+ghost use Rattle.sys_refusals.specs.Paths.{path_out};
+ghost use Rattle.cmd_cut.specs.Sparsing.{LeavesNoneOrSparse, ReadyRawImage, ReadyToWrite, WritesSparseImage};
+
+use crate::engine_calls::{lay_image, write_image};
+use crate::stopped_command::stopped;
+use abt_io::{Meter, Window};
+use abt_sparsify::Written;
+use cmd_common_sparse::{Blocks, SparseRefusal};
+use sys_disk::{Disk, ImageTo, Reasons, ended};
+use sys_refusals::{FileArg, Sides};
+use sys_report::{Carried, Progress};
+
+// A pipe or a device gets each header before what it tells of: the raw image is read to count its chunks, to find each
+// run whole, and to copy it. A regular file is written over, and the raw image read once.
+const PASSES: u64 = 3;
+
+/// Writes the sparse image of a raw one to the output that is open, and brings it to its end. What it has, and whether it
+/// is where standard output goes.
+pub(crate) fn write_whole<'a, D: Disk>(
+    disk: &mut D,
+    source: D::At,
+    blocks: Blocks,
+    image: ImageTo<D::Image, D::Onto>,
+    output: FileArg<'a>,
+    sides: Sides<'a>,
+    progress: &mut Progress,
+    w: &mut Window,
+    m: &mut Meter,
+) -> Result<(Written, bool), SparseRefusal<'a>>
+    requires ready { ReadyRawImage D.models blocks (D.At.size source) (D.At.read_faults source) }
+    requires empty { OfImage (λ file. D.Image.Output.written file ≡ []) (λ onto. D.Onto.written onto ≡ []) image }
+    requires clean { IsTrue D.models → OfImage (λ file. D.Image.Output.write_faults file ≡ 0)
+        (λ onto. D.Onto.write_faults onto ≡ 0) image }
+    ensures writes { IsTrue D.models → WritesSparseImage result (λ refusal. refusal.fault) blocks.size (D.At.content source)
+        (D.held disk.old) (D.held disk.new) (D.world disk.old) (D.world disk.new) }
+    ensures stream { IsTrue D.models → IfOk result (λ end. end.1 ≡ D.on_output (path_out output.entry)) }
+    ensures broken { IsTrue D.models → IsTrue (is_file image) → OnErr result (LeavesNoneOrSparse blocks.size
+        (D.At.content source) (D.held disk.old).output (D.world disk.new)) }
+{
+    match image {
+        ImageTo::File(file) => write_over(
+            disk, source, blocks, file, output, sides, progress, w, m,
+        ),
+        ImageTo::Stream(onto) => {
+            progress.repeat(PASSES);
+            write_through(disk, source, blocks, onto, output, sides, progress, w, m)
+        }
+    }
+}
+
+// The same to a file that is written over.
+fn write_over<'a, D: Disk>(
+    disk: &mut D,
+    source: D::At,
+    blocks: Blocks,
+    image: D::Image,
+    output: FileArg<'a>,
+    sides: Sides<'a>,
+    progress: &mut Progress,
+    w: &mut Window,
+    m: &mut Meter,
+) -> Result<(Written, bool), SparseRefusal<'a>>
+    requires ready { ReadyToWrite D.models blocks (D.At.size source) (D.At.read_faults source)
+        (D.Image.Output.written image) (D.Image.Output.write_faults image) }
+    ensures writes { IsTrue D.models → WritesSparseImage result (λ refusal. refusal.fault) blocks.size (D.At.content source)
+        (D.held disk.old) (D.held disk.new) (D.world disk.old) (D.world disk.new) }
+    ensures stream { IsTrue D.models → IfOk result (λ end. end.1 ≡ D.on_output (path_out output.entry)) }
+    ensures broken { IsTrue D.models → OnErr result (LeavesNoneOrSparse blocks.size (D.At.content source)
+        (D.held disk.old).output (D.world disk.new)) }
+{
+    let mut carried = Carried {
+        device: source,
+        progress,
+    };
+    let mut image = image;
+    let answer = lay_image(&mut carried, blocks, &mut image, w, m);
+    let Carried { device: source, .. } = carried;
+    disk.let_go_source(source);
+    match answer {
+        Ok(written) => match disk.finish_image(image, output) {
+            Ok(is_on_output) => Ok((written, is_on_output)),
+            Err(refusal) => Err(refusal.into()),
+        },
+        Err(fault) => Err(stopped(disk, fault, image, output, sides)),
+    }
+}
+
+// The same to what is written from its front on.
+fn write_through<'a, D: Disk>(
+    disk: &mut D,
+    source: D::At,
+    blocks: Blocks,
+    onto: D::Onto,
+    output: FileArg<'a>,
+    sides: Sides<'a>,
+    progress: &mut Progress,
+    w: &mut Window,
+    m: &mut Meter,
+) -> Result<(Written, bool), SparseRefusal<'a>>
+    requires ready { ReadyToWrite D.models blocks (D.At.size source) (D.At.read_faults source) (D.Onto.written onto)
+        (D.Onto.write_faults onto) }
+    ensures writes { IsTrue D.models → WritesSparseImage result (λ refusal. refusal.fault) blocks.size (D.At.content source)
+        (D.held disk.old) (D.held disk.new) (D.world disk.old) (D.world disk.new) }
+    ensures stream { IsTrue D.models → IfOk result (λ end. end.1 ≡ D.on_output (path_out output.entry)) }
+{
+    let mut carried = Carried {
+        device: source,
+        progress,
+    };
+    let mut onto = onto;
+    let answer = write_image(&mut carried, blocks, &mut onto, w, m);
+    let Carried { device: source, .. } = carried;
+    disk.let_go_source(source);
+    ended(disk, answer, onto, output, sides)
+}

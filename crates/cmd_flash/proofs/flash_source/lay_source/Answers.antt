@@ -1,0 +1,35 @@
+use Rattle.std.proofs.Common.{arith, ◌∙◌, ◌≡◌, ◌≤◌, length, refl, ap, sym}
+use Rattle.cmd_flash.proofs.Laid.{laid_more}
+use Rattle.cmd_flash.proofs.flash_source.lay_source.Goals as goal
+
+pub loop-at-preserved : goal.loop-at-preserved
+loop-at-preserved g c =
+    let i = c.loop-at.invariant in
+    let e = c.in-Ok.ensures in
+    record {
+      within = omega (arith, e.some, c.min-ask.ensures);
+      size = e.lays.size ∙ i.size;
+      synced = e.lays.synced ∙ i.synced;
+      clean = e.lays.clean ∙ i.clean;
+      content = λ t. e.content t ∙ i.content t;
+      laid = λ s p.
+          let room : length (g.S.Source.content c.args.source.now) ≤ length (g.P.Source.content c.args.onto.now) = omega (arith, c.requires.all, c.requires.room, g.met.S.Source.sized c.args.source.now s, g.met.P.Source.sized c.args.onto.now p) in
+          laid_more _ _ _ (g.S.Source.content c.args.source.now) c.loop-at.at c.in-Ok.got _ (i.laid s p)
+          (rw (i.content s) at (e.laid s p)) (omega (arith, i.within, c.requires.all, g.met.S.Source.sized c.args.source.now s)) room refl;
+    }
+
+pub returns-in-Err-clause-lays : goal.returns-in-Err-clause-lays
+returns-in-Err-clause-lays g c =
+    let i = c.loop-at.invariant in
+    let e = c.in-Err.ensures.lays in
+    record {
+      synced = e.synced ∙ i.synced;
+      size = e.size ∙ i.size;
+      refused = rw i.clean at e.refused;
+      clean = tt;
+    }
+
+pub returns-clause-lays : goal.returns-clause-lays
+returns-clause-lays g c =
+    let i = c.loop-at.invariant in
+    record { synced = i.synced; size = i.size; refused = tt; clean = i.clean }

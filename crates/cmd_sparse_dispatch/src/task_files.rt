@@ -1,0 +1,21 @@
+//! The files that the words of a task name.
+
+ghost use Rattle.std.specs.Prelude.{◌≡◌};
+ghost use Rattle.sys_refusals.specs.Paths.{output_path, path_in, path_of, path_out};
+ghost use Rattle.cmd_common_sparse.specs.ImagePath.{image_path};
+
+use sys_refusals::FileArg;
+
+/// The file at a word. Where it is read forward, `-` is standard input, and where it is an output, standard output.
+pub(crate) fn place<'a>(role: &'static str, word: &'a str) -> FileArg<'a>
+    ensures at { path_of result ≡ word.now }
+    ensures read { path_in result ≡ image_path word.now }
+    ensures written { path_out result ≡ output_path word.now }
+{
+    FileArg {
+        role,
+        folder: None,
+        name: word,
+        number: None,
+    }
+}

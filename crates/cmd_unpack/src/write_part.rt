@@ -1,0 +1,188 @@
+//! One part of an image, to a file of its own.
+
+ghost use Rattle.std.specs.Prelude.{◌≡◌, ◌<◌, ◌≤◌, ◌+◌, None, Ok, Err, Bool, ℕ, true, MatchResult, IsTrue, IsOk};
+ghost use Rattle.std.specs.Prelude.{IfOk, IfErr, OnOk, length};
+ghost use Rattle.sys_disk.specs.World.{Ends, ended};
+ghost use Rattle.sys_report.specs.Shows.{CannotPrint, Shows, refusals};
+ghost use Rattle.abt_sections.specs.Header.{entry_of, fragment_count, fragment_of, places_of, view_of};
+ghost use Rattle.abt_sections.specs.Open.{IsOpened};
+ghost use Rattle.sys_disk.specs.Among.{IsMade};
+ghost use Rattle.cmd_common_boot.specs.ImageFaults.{IsAnswerOf, IsRefusedOver, SomeFailed};
+ghost use Rattle.cmd_unpack.specs.Lines.{ShowsSection, told_part};
+ghost use Rattle.cmd_unpack.specs.Unpacking.{IsFragmentPath, IsSectionPath, SectionDone, WordsDone, path_of_part};
+ghost use Rattle.cmd_unpack.specs.Writing.{EndsPart, WritesParts};
+ghost use Rattle.cmd_common_boot.specs.declared.part_names.ImagePart.TheVariants as parts;
+
+use crate::copying::{copy_fragment, copy_section, copy_words};
+use crate::lines::PartLine;
+use crate::names::place_of;
+use abt_io::{Meter, Window};
+use abt_sections::{Image, SectionFault, section};
+use cmd_common_boot::{BootCommandFault, BootOutcome, ImagePart};
+use sys_disk::{Disk, ended};
+use sys_refusals::{FileArg, Sides};
+use sys_report::Report;
+
+/// Writes section `i` to its file.
+pub(crate) fn write_section<'t, 'a, D: Disk>(
+    disk: &mut D,
+    image: &Image,
+    i: usize,
+    source: &mut D::At,
+    input: FileArg<'t>,
+    folder: &'t str,
+    report: &mut Report,
+    w: &mut Window,
+    m: &mut Meter,
+) -> BootOutcome<'t, 'a>
+    requires there { i < length (places_of (view_of image.now.header)) }
+    requires one { IsTrue D.models → (D.held disk.old).output ≡ None }
+    ensures writes { IsTrue D.models → WritesParts result 1 (IsSectionPath folder.now (view_of image.now.header) (i + 1))
+        D.At.Source source.old source.new (D.held disk.old) (D.held disk.new) (D.world disk.old) (D.world disk.new) }
+    ensures done { IsTrue D.models → OnOk result (SectionDone folder.now (view_of image.now.header)
+        (D.At.content source.old) i (D.held disk.new) (D.world disk.new)) }
+    ensures shown { OnOk result (ShowsSection (view_of image.now.header) i report.old report.new) }
+    ensures rises { OnOk result (refusals report.old ≤ refusals report.new) }
+    ensures refused { IsTrue D.models → IsOpened (D.At.content source.old) image.now → IfErr result (λ refusal.
+        IsRefusedOver (D.At.content source.old) (SomeFailed (D.held disk.old) (D.At.read_faults source.old)
+        (D.held disk.new) (D.At.read_faults source.new)) (SectionDone folder.now (view_of image.now.header)
+        (D.At.content source.old) i (D.held disk.new) (D.world disk.new) × CannotPrint report.old report.new)
+        refusal.fault) }
+{
+    let part = ImagePart::Section(section(image, i).kind);
+    let place = place_of(part, folder);
+    let onto = match disk.plain(place) {
+        Ok(onto) => onto,
+        Err(refusal) => return Err(refusal.into()),
+    };
+    let progress = &mut report.progress;
+    let (onto, answer) = copy_section(image, i, source, onto, progress, w, m);
+    match finish(disk, answer, onto, place, input, part, report) {
+        Ok(()) => Ok(()),
+        Err(refusal) => Err(refusal),
+    }
+}
+
+/// Writes fragment `index` to its file.
+pub(crate) fn write_fragment<'t, 'a, D: Disk>(
+    disk: &mut D,
+    image: &Image,
+    index: u32,
+    source: &mut D::At,
+    input: FileArg<'t>,
+    folder: &'t str,
+    report: &mut Report,
+    w: &mut Window,
+    m: &mut Meter,
+) -> BootOutcome<'t, 'a>
+    requires there { index < fragment_count (view_of image.now.header) }
+    requires one { IsTrue D.models → (D.held disk.old).output ≡ None }
+    ensures writes { IsTrue D.models → WritesParts result 1
+        (IsFragmentPath folder.now (view_of image.now.header) (index + 1)) D.At.Source source.old source.new
+        (D.held disk.old) (D.held disk.new) (D.world disk.old) (D.world disk.new) }
+    ensures done { IsTrue D.models → OnOk result (IsMade (D.held disk.new) (D.world disk.new)
+        (path_of_part folder.now (parts.Fragment index))
+        (fragment_of (D.At.content source.old) (view_of image.now.header) index)) }
+    ensures shown { IsTrue D.models → OnOk result (Shows report.old report.new (told_part (parts.Fragment index)
+        (entry_of (D.At.content source.old) (view_of image.now.header) index).ramdisk_size)) }
+    ensures rises { OnOk result (refusals report.old ≤ refusals report.new) }
+    ensures refused { IsTrue D.models → IsOpened (D.At.content source.old) image.now → IfErr result (λ refusal.
+        IsRefusedOver (D.At.content source.old) (SomeFailed (D.held disk.old) (D.At.read_faults source.old)
+        (D.held disk.new) (D.At.read_faults source.new)) (IsMade (D.held disk.new) (D.world disk.new)
+        (path_of_part folder.now (parts.Fragment index)) (fragment_of (D.At.content source.old)
+        (view_of image.now.header) index) × CannotPrint report.old report.new) refusal.fault) }
+{
+    let part = ImagePart::Fragment(index);
+    let place = place_of(part, folder);
+    let onto = match disk.plain(place) {
+        Ok(onto) => onto,
+        Err(refusal) => return Err(refusal.into()),
+    };
+    let progress = &mut report.progress;
+    let (onto, answer) = copy_fragment(image, index, source, onto, progress, w, m);
+    match finish(disk, answer, onto, place, input, part, report) {
+        Ok(()) => Ok(()),
+        Err(refusal) => Err(refusal),
+    }
+}
+
+/// Writes the words that pack the image again to their file.
+pub(crate) fn write_pack_words<'t, 'a, D: Disk>(
+    disk: &mut D,
+    image: &Image,
+    source: &mut D::At,
+    input: FileArg<'t>,
+    folder: &'t str,
+    report: &mut Report,
+    w: &mut Window,
+    m: &mut Meter,
+) -> BootOutcome<'t, 'a>
+    requires one { IsTrue D.models → (D.held disk.old).output ≡ None }
+    ensures writes { IsTrue D.models → WritesParts result 1 (λ path. path ≡ path_of_part folder.now parts.Words)
+        D.At.Source source.old source.new (D.held disk.old) (D.held disk.new) (D.world disk.old) (D.world disk.new) }
+    ensures done { IsTrue D.models → OnOk result (WordsDone folder.now (view_of image.now.header)
+        (D.At.content source.old) (D.held disk.new) (D.world disk.new)) }
+    ensures shown { OnOk result ((bytes : ℕ) × Shows report.old report.new (told_part parts.Words bytes)) }
+    ensures refused { IsTrue D.models → IsOpened (D.At.content source.old) image.now → IfErr result (λ refusal.
+        IsRefusedOver (D.At.content source.old) (SomeFailed (D.held disk.old) (D.At.read_faults source.old)
+        (D.held disk.new) (D.At.read_faults source.new)) (WordsDone folder.now (view_of image.now.header)
+        (D.At.content source.old) (D.held disk.new) (D.world disk.new) × CannotPrint report.old report.new)
+        refusal.fault) }
+{
+    let place = place_of(ImagePart::Words, folder);
+    let onto = match disk.plain(place) {
+        Ok(onto) => onto,
+        Err(refusal) => return Err(refusal.into()),
+    };
+    let progress = &mut report.progress;
+    let (onto, answer) = copy_words(image, folder, source, onto, progress, w, m);
+    match finish(disk, answer, onto, place, input, ImagePart::Words, report) {
+        Ok(()) => Ok(()),
+        Err(refusal) => Err(refusal),
+    }
+}
+
+// What a call answered that copied a part, once its file is at its end and its line is printed.
+fn finish<'t, 'a, D: Disk>(
+    disk: &mut D,
+    answer: Result<u64, SectionFault>,
+    onto: D::Onto,
+    place: FileArg<'t>,
+    input: FileArg<'t>,
+    part: ImagePart,
+    report: &mut Report,
+) -> BootOutcome<'t, 'a>
+    ensures done { OnOk result (IsOk answer) }
+    ensures ends { EndsPart D.models result (D.Onto.written onto) (D.held disk.old) (D.world disk.old)
+        (D.world disk.new) }
+    ensures closed { IsTrue D.models → (b : Bool) × (n : ℕ) × (D.held disk.new ≡ ended b n (D.held disk.old)) }
+    ensures clean { IsTrue D.models → OnOk result (D.held disk.new
+        ≡ ended true (D.Onto.write_faults onto) (D.held disk.old)) }
+    ensures counts { IsTrue D.models → (D.held disk.old).failed + D.Onto.write_faults onto ≤ (D.held disk.new).failed }
+    ensures shown { OnOk result (IfOk answer (λ bytes. Shows report.old report.new (told_part part bytes))) }
+    ensures rises { OnOk result (refusals report.old ≤ refusals report.new) }
+    ensures told { IsTrue D.models → IfErr result (λ refusal. IsAnswerOf answer
+        ((D.held disk.old).failed + D.Onto.write_faults onto < (D.held disk.new).failed)
+        (Ends (D.held disk.old).output (D.Onto.written onto) (D.world disk.old) (D.world disk.new)
+        × CannotPrint report.old report.new) refusal.fault) }
+{
+    let sides = Sides::none().reading(input, None);
+    let (bytes, is_on_output) = match ended(disk, of_answer(answer), onto, place, sides) {
+        Ok(end) => end,
+        Err(refusal) => return Err(refusal),
+    };
+    match report.line_beside(is_on_output, PartLine { part, bytes }) {
+        Ok(()) => Ok(()),
+        Err(refusal) => Err(refusal.into()),
+    }
+}
+
+// The fault of a section as one of a command.
+fn of_answer<'a>(answer: Result<u64, SectionFault>) -> Result<u64, BootCommandFault<'a>>
+    ensures { MatchResult answer (λ n. result ≡ Ok n) (λ f. result ≡ Err (BootCommandFault.Section f)) }
+{
+    match answer {
+        Ok(bytes) => Ok(bytes),
+        Err(fault) => Err(BootCommandFault::Section(fault)),
+    }
+}

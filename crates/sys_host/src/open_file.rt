@@ -1,0 +1,166 @@
+//! One file that is opened: how, and what it has to be.
+
+ghost use Rattle.std.specs.Prelude.{◌≡◌, IfOk};
+ghost use Rattle.sys_file.specs.System.{creates};
+ghost use Rattle.sys_host.specs.Access.{may_write, may_create, asks_to_write};
+ghost use Rattle.sys_host.specs.Opens.{WasOpened};
+
+use std::io;
+use sys_file::{Kind, Opening, System};
+use sys_identity::{Found, found_at};
+use sys_refusals::{FileArg, HostFault, HostRefusal};
+
+// The number of 'Is a directory'.
+const IS_A_FOLDER: i32 = 21;
+
+/// What a command does with a file.
+#[derive(Clone, Copy, Drop)]
+pub enum Access {
+    /// It is read from its front on.
+    Forward,
+    /// It is read at any place, so that it has a length.
+    AnyPlace,
+    /// It is written in place, and has a length.
+    InPlace,
+    /// It is created, or emptied where it is there.
+    Create,
+    /// The same, where nothing but a regular file will do.
+    CreateFile,
+    /// It is created or emptied, written, and read again: a regular file.
+    Spool,
+}
+
+impl Access {
+    fn creates(self) -> bool {
+        match self {
+            Access::Forward => false,
+            Access::AnyPlace => false,
+            Access::InPlace => false,
+            Access::Create => true,
+            Access::CreateFile => true,
+            Access::Spool => true,
+        }
+    }
+
+    // Nothing but a regular file will do.
+    fn needs_file(self) -> bool {
+        match self {
+            Access::Forward => false,
+            Access::AnyPlace => false,
+            Access::InPlace => false,
+            Access::Create => false,
+            Access::CreateFile => true,
+            Access::Spool => true,
+        }
+    }
+}
+
+/// A file that was just opened.
+#[derive(Drop)]
+pub struct OpenedFile<F> {
+    pub file: F,
+    pub found: Found,
+    /// Whether it was there before.
+    pub was_there: bool,
+}
+
+/// WasOpened a file. A folder is refused, which opens to be read and then gives no bytes, and what is not of the kind that
+/// the access needs.
+///
+/// A pipe is told by its path, before it is opened, where a file is needed: opening one can wait for ever.
+pub fn open_file<'a, S: System>(
+    system: &mut S,
+    place: FileArg<'a>,
+    access: Access,
+) -> Result<OpenedFile<S::File>, HostRefusal<'a>>
+    ensures { IfOk result (WasOpened S.File.models S.File.stands S.File.place S.File.past (may_create access)) }
+{
+    let Ok(path) = place.path(system.alloc()) else {
+        return Err(HostRefusal::memory());
+    };
+    match opened_at(system, path.as_str(), access) {
+        Ok(opened) => Ok(opened),
+        Err(error) if is_folder_missing(&error, path.as_str(), access) => {
+            Err(HostRefusal::at(HostFault::NoFolder, place, None))
+        }
+        Err(error) if is_of_wrong_kind(&error) && access.needs_file() => {
+            Err(not_opened(&error, place).advised("it is no regular file"))
+        }
+        Err(error) => Err(not_opened(&error, place)),
+    }
+}
+
+/// The refusal of a file that the system did not open.
+pub fn not_opened<'a>(error: &io::Error, place: FileArg<'a>) -> HostRefusal<'a> {
+    if error.kind() == io::ErrorKind::OutOfMemory {
+        return HostRefusal::memory();
+    }
+    HostRefusal::at(HostFault::CannotOpen, place, error.raw_os_error())
+}
+
+// Whether a file was not created for want of its folder.
+fn is_folder_missing(error: &io::Error, path: &str, access: Access) -> bool {
+    access.creates() && error.kind() == io::ErrorKind::NotFound && !path.is_empty()
+}
+
+// Whether a file was refused for what it is, and not by the system.
+fn is_of_wrong_kind(error: &io::Error) -> bool {
+    error.kind() == io::ErrorKind::InvalidInput && error.raw_os_error().is_none()
+}
+
+fn opened_at<S: System>(
+    system: &mut S,
+    path: &str,
+    access: Access,
+) -> io::Result<OpenedFile<S::File>>
+    ensures { IfOk result (WasOpened S.File.models S.File.stands S.File.place S.File.past (may_create access)) }
+{
+    let before = found_at(system, path).ok();
+    if let Some(found) = before {
+        require_kind(found.kind, access)?;
+    }
+    let file = system.open(path, opening(access))?;
+    let found = Found::new(&system.stat(&file)?);
+    require_kind(found.kind, access)?;
+    Ok(OpenedFile {
+        file,
+        found,
+        was_there: before.is_some(),
+    })
+}
+
+// How the system is asked. What is only read is not opened for more.
+fn opening(access: Access) -> Opening
+    ensures writes { asks_to_write result ≡ may_write access }
+    ensures creates { creates result ≡ may_create access }
+{
+    match access {
+        Access::Forward => Opening::Read,
+        Access::AnyPlace => Opening::Read,
+        Access::InPlace => Opening::Write,
+        Access::Create => Opening::Create,
+        Access::CreateFile => Opening::Create,
+        Access::Spool => Opening::CreateAndRead,
+    }
+}
+
+fn require_kind(kind: Kind, access: Access) -> io::Result<()> {
+    if kind == Kind::Folder {
+        return Err(io::Error::from_raw_os_error(IS_A_FOLDER));
+    }
+    let is_file = kind == Kind::File;
+    let is_block = kind == Kind::Block;
+    let fits = match access {
+        Access::Forward => true,
+        Access::Create => true,
+        Access::AnyPlace => is_file || is_block,
+        Access::InPlace => is_file || is_block,
+        Access::CreateFile => is_file,
+        Access::Spool => is_file,
+    };
+    if fits {
+        Ok(())
+    } else {
+        Err(io::Error::from(io::ErrorKind::InvalidInput))
+    }
+}
