@@ -57,7 +57,7 @@ BODIES = ("cmd_flash", "cmd_expand", "cmd_cut", "cmd_pack_inputs")
 
 # What asks the system for anything, and is trusted, and how many lines of code that is at most; what prints a report and
 # holds the standard streams; and what is no part of the program.
-SYSTEM = ("crates/sys_file/src/os_file.rt", "crates/sys_std/src/os_file.rt", "crates/sys_std/src/sys_std.rt")
+SYSTEM = ("crates/sys_file/src/os_file.rt", "crates/sys_std/src/os_file.rt", "crates/sys_std/src/system.rt")
 MOST_TRUSTED = 199
 STREAMS = (
     "crates/sys_report/src/report.rt", "crates/sys_report/src/standard_output.rt", "crates/abootimg/src/main.rt",

@@ -17,13 +17,15 @@ ready_if true h r = record {
 ready_if false h r = r
 
 -- a task is done from the moment when its order has begun
-pub does_from : (on : List ℕ → Bool) (task : SparseTask) (w w' : World) (h h' : OpenFiles) (r : Report) (z : State) → w' ≡ w
+pub does_from : (on : List ℕ → Bool) (task : SparseTask) (w w' : World) (h h' : OpenFiles) (r : Report) (z : State)
+    → w' ≡ w
     → h' ≡ h → DoesTask on task (state w' h' r) z → DoesTask on task (state w h r) z
 does_from on task w w' h h' r z world held does =
     subst (λ (k : OpenFiles). DoesTask on task (state w k r) z) held
     (subst (λ (x : World). DoesTask on task (state x h' r) z) world does)
 
-pub boot_from : (on : List ℕ → Bool) (kind : Kind) (w w' z : World) (h h' k : OpenFiles) (r r' : Report) → w' ≡ w → h' ≡ h
+pub boot_from : (on : List ℕ → Bool) (kind : Kind) (w w' z : World) (h h' k : OpenFiles) (r r' : Report) → w' ≡ w → h'
+    ≡ h
     → BootDone on kind w' h' r z k r' → BootDone on kind w h r z k r'
 boot_from on kind w w' z h h' k r r' world held done =
     subst (λ (l : OpenFiles). BootDone on kind w l r z k r') held

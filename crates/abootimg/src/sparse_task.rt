@@ -27,7 +27,8 @@ pub fn do_sparse<D: Disk>(
     requires through { IsTrue D.models → (D.held disk.old).spool ≡ None }
     ensures status { result ≤ 2 }
     // the status is 0 only where the task is done, and what was printed tells of it
-    ensures done { IsTrue D.models → result ≡ 0 → DoesTask D.on_output task.entry (state (D.world disk.old) (D.held disk.old)
+    ensures done { IsTrue D.models → result ≡ 0 → DoesTask D.on_output task.entry
+        (state (D.world disk.old) (D.held disk.old)
         report.old) (state (D.world disk.new) (D.held disk.new) report.new) }
     // and where nothing failed
     ensures clean { IsTrue D.models → result ≡ 0 → HasNotFailed (D.held disk.old) (D.held disk.new) }

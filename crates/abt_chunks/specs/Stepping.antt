@@ -13,7 +13,8 @@ use Rattle.abt_chunks.specs.Turns.{IsWalkOver}
 
 -- One step of a walk: what it received, at most so many bytes, and what is left of the input; the turn that it took,
 -- and whose fault its part is. A walk that is over stays as it is, and reads nothing.
-pub record StepTaken {A : Type 0} (i : inputs.Ghosts A) (r : WalkStep) (most : ℕ) (s s' : Walk) (a a' : A) (m m' : Meter)
+pub record StepTaken {A : Type 0} (i : inputs.Ghosts A) (r : WalkStep) (most : ℕ) (s s' : Walk) (a a' : A)
+    (m m' : Meter)
     : Type 0 where
   pub input : ReadStep r.received most s i.models (input_state i a) (input_state i a')
   pub turn : TurnTaken r.part s s' r.received

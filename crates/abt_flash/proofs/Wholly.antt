@@ -44,7 +44,8 @@ delivers_none e early counted source costs = record {
 pub delivers_opened : {A B C X E : Type 0} {x : X} {forward : Bool} {i j : ImageBlocks} {limit made : ℕ}
     {words each words' each' : ℕ} {s : sources.Ghosts A} {f : inputs.Ghosts B} {o : outputs.Ghosts B}
     {l : spools.Ghosts B} {q : sources.Ghosts C} {p : partitions.Ghosts C} {r : Result Delivered FlashFault}
-    {a a' z : A} {b b' : B} {c c' : C} {m m' n : Meter} → (IsTrue s.models → i ≡ j) → (forward ≡ false → i.size ≡ j.size)
+    {a a' z : A} {b b' : B} {c c' : C} {m m' n : Meter} → (IsTrue s.models → i ≡ j)
+    → (forward ≡ false → i.size ≡ j.size)
     → OnlyReads {E = E} (Ok x) s a z
     → DeliveryCosts s.models j limit words' each' made r (counts s f o l p a b c) (counts s f o l p a' b' c') m m'
     → HasDelivered forward i limit made words each s f o l q p r z a' b b' c c' n m'

@@ -106,7 +106,8 @@ OnShort (Err (PartitionTooSmall need)) P = P
 OnShort r P = Unit {0}
 
 -- What a step from walk s to walk s' lays over a partition that held p, once the bytes c are read and rest is left.
-pub record Laid (models : Bool) (stage : FlashStage) (r : Result MachineProgress FlashFault) (s s' : Walk) (c rest : List ℕ)
+pub record Laid (models : Bool) (stage : FlashStage) (r : Result MachineProgress FlashFault) (s s' : Walk)
+    (c rest : List ℕ)
     (past past' : Past) (p p' : List ℕ) (taken taken' : ℕ) : Type 0 where
   -- the cells that it lays, and what comes behind them where t follows
   pub cells : List (Option ℕ)
@@ -136,13 +137,15 @@ Heads (Err f) s s' x y = Unit {0}
 
 -- Where the flasher goes on: no chunk has been begun only where none had been and the partition was not called, the
 -- header stays, and the first chunk is begun behind the header.
-pub record GoesOn (r : Result MachineProgress FlashFault) (stage : FlashStage) (s s' : Walk) (untouched : Type 0) : Type 0 where
+pub record GoesOn (r : Result MachineProgress FlashFault) (stage : FlashStage) (s s' : Walk) (untouched : Type 0) :
+    Type 0 where
   pub fresh : Goes stage s.phase → OnMoreExpanding r (IsFresh s' → IsFresh s × untouched)
   pub header : OnMoreExpanding r (s.phase ≡ phases.Body → s'.header ≡ s.header)
   pub begins : OnMoreExpanding r (0 < s'.index → passed s ≡ true)
 
 -- A sync that was called has succeeded, save where the answer says that it was refused, and then nothing is pending.
-pub record StepSyncs (models : Bool) (stage : FlashStage) (s : Walk) (r : Result MachineProgress FlashFault) (past past' : Past)
+pub record StepSyncs (models : Bool) (stage : FlashStage) (s : Walk) (r : Result MachineProgress FlashFault)
+    (past past' : Past)
     (syncs syncs' : ℕ) : Type 0 where
   pub settled : Goes stage s.phase → IsTrue models → OnDone r (past'.pending ≡ [])
   pub synced : past'.synced ≡ past.synced + (if is_done stage r then 1 else 0)
@@ -150,13 +153,14 @@ pub record StepSyncs (models : Bool) (stage : FlashStage) (s : Walk) (r : Result
 
 -- The calls of the devices, and the turns of loops, in the bytes that were moved. A step that moves none is followed
 -- by one that does.
-pub record StepCosts (r : Result MachineProgress FlashFault) (s s' : Walk) (old new : Flow) (m m' : Meter) : Type 0 where
-  pub reads : new.reads ≤ old.reads + (new.given - old.given) + 1
-  pub puts : new.puts + new.syncs + 2 * old.taken ≤ old.puts + old.syncs + 2 * new.taken + 1
-  pub turns : m'.turns.number + 2 * old.taken ≤ m.turns.number + (new.given - old.given) + 2 * new.taken + 17
-  pub few : OnMoreExpanding r
-      (m'.turns.number + 2 * old.taken ≤ m.turns.number + (new.given - old.given) + 2 * new.taken + 2)
-  pub progress : OnMoreExpanding r (idle s' + 1 ≤ idle s + 2 * (new.given - old.given) + 2 * (new.taken - old.taken))
+pub record StepCosts (r : Result MachineProgress FlashFault) (s s' : Walk) (old new : Flow) (m m' : Meter) : Type 0
+  where
+    pub reads : new.reads ≤ old.reads + (new.given - old.given) + 1
+    pub puts : new.puts + new.syncs + 2 * old.taken ≤ old.puts + old.syncs + 2 * new.taken + 1
+    pub turns : m'.turns.number + 2 * old.taken ≤ m.turns.number + (new.given - old.given) + 2 * new.taken + 17
+    pub few : OnMoreExpanding r
+        (m'.turns.number + 2 * old.taken ≤ m.turns.number + (new.given - old.given) + 2 * new.taken + 2)
+    pub progress : OnMoreExpanding r (idle s' + 1 ≤ idle s + 2 * (new.given - old.given) + 2 * (new.taken - old.taken))
 
 -- ---- a step
 
@@ -169,7 +173,8 @@ pub record StepReads {A : Type 0} (i : inputs.Ghosts A) (old new : A) : Type 0 w
 
 -- what a step of a flasher does
 pub record FlashStep {A C : Type 0} (i : inputs.Ghosts A) (s : sources.Ghosts C) (p : partitions.Ghosts C)
-    (r : Result MachineProgress FlashFault) (old new : Flasher) (input input' : A) (partition partition' : C) (m m' : Meter)
+    (r : Result MachineProgress FlashFault) (old new : Flasher) (input input' : A) (partition partition' : C)
+    (m m' : Meter)
     : Type 0 where
   -- what is read: at most a window, and of the partition nothing
   pub read : StepReads i input input'

@@ -49,14 +49,16 @@ pub trait Input {
     /// Reads the next bytes, at most as many as `out` has room for.
     fn read(&mut self, out: &mut [u8]) -> Result<usize, DeviceFault>
         requires { length out.old ≤ 65536 }
-        ensures passed { HasPassed models remaining reads given read_faults read_frame result self.old self.new (length out.new) }
+        ensures passed { HasPassed models remaining reads given read_faults read_frame result self.old self.new
+            (length out.new) }
         ensures bytes { IsTrue models → take (count_of result) out.new ≡ take (count_of result) (remaining self.old) };
 
     /// Passes over the next bytes, at most as many as `room` has room for: a read of which nobody wants the
     /// bytes. What `room` holds behind it is anything.
     fn pass(&mut self, room: &mut [u8]) -> Result<usize, DeviceFault>
         requires { length room.old ≤ 65536 }
-        ensures passed { HasPassed models remaining reads given read_faults read_frame result self.old self.new (length room.new) }
+        ensures passed { HasPassed models remaining reads given read_faults read_frame result self.old self.new
+            (length room.new) }
     {
         self.read(room)
     }
@@ -140,7 +142,8 @@ pub trait Source {
     /// nothing.
     fn read_at(&mut self, at: u64, out: &mut [u8]) -> Result<usize, DeviceFault>
         requires { length out.old ≤ 65536 }
-        ensures has_read { HasReadAt models content size reads given read_faults read_frame result self.old self.new at out.new };
+        ensures has_read { HasReadAt models content size reads given read_faults read_frame result self.old self.new
+            at out.new };
 
     /// It is as long as its content.
     ghost sized: { (s : Self) → IsTrue models → size s ≡ length (content s) };

@@ -75,7 +75,8 @@ whole_join w0 w1 x low front none =
 
 -- ---- causes
 
-pub run_cause : (f : RunFault) (models : Bool) (r r' w w' : ℕ) → RunCaused f models r r' → CutCause (fault_of_run f) models
+pub run_cause : (f : RunFault) (models : Bool) (r r' w w' : ℕ) → RunCaused f models r r'
+    → CutCause (fault_of_run f) models
     r r' w w'
 run_cause (of_runs.Read d) models r r' w w' h = h
 run_cause of_runs.TooLarge models r r' w w' h = absurd h
@@ -106,7 +107,8 @@ no_bytes [] e = refl
 no_bytes (y ∷ x) e = absurd (omega arith)
 
 -- a fault since then is a fault since earlier
-pub cause_since : (e : PieceFault) (models : Bool) (r0 r r' w0 w w' : ℕ) → r0 ≤ r → w0 ≤ w → CutCause e models r r' w w' →
+pub cause_since : (e : PieceFault) (models : Bool) (r0 r r' w0 w w' : ℕ) → r0 ≤ r → w0 ≤ w
+    → CutCause e models r r' w w' →
     CutCause e models r0 r' w0 w'
 cause_since (Read f) models r0 r r' w0 w w' a b h = (omega (arith, a, h.0), h.1)
 cause_since (Write f) models r0 r r' w0 w w' a b h = omega (arith, b, h)
@@ -143,7 +145,8 @@ no_more_than n j k = omega arith
 pub max_most : (n k : ℕ) → n ≤ max n k
 max_most n k = omega arith
 
-pub run_causes : (e : PieceFault) (f : RunFault) (models : Bool) (r r' w w' : ℕ) → e ≡ fault_of_run f → RunCaused f models
+pub run_causes : (e : PieceFault) (f : RunFault) (models : Bool) (r r' w w' : ℕ) → e ≡ fault_of_run f
+    → RunCaused f models
     r r' → CutCause e models r r' w w'
 run_causes e f models r r' w w' is h = rw is (run_cause f models r r' w w' h)
 
@@ -163,7 +166,8 @@ pub not_full : ◌≡◌ {A = ℕ} 0 1 → ⊥
 not_full h = omega (arith, h)
 
 -- a call that has no output
-pub cause_unwritten : (e : PieceFault) (models : Bool) (r r' w w' : ℕ) → CutCause e models r r' 0 0 → CutCause e models r
+pub cause_unwritten : (e : PieceFault) (models : Bool) (r r' w w' : ℕ) → CutCause e models r r' 0 0
+    → CutCause e models r
     r' w w'
 cause_unwritten (Read f) models r r' w w' h = h
 cause_unwritten (Write f) models r r' w w' h = absurd (omega (arith, h))

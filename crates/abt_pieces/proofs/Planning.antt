@@ -237,7 +237,8 @@ last_after tails.Raw kinds.Skip at q some e = refl
 last_after (tails.Fill w) kinds.Skip at q some e = refl
 last_after t kinds.End at q some e = absurd cc
 
-pub planned_on : (b : ℕ) (l : List Block) (p : Planner) (r : Run) (more : ℕ) (t : Tail) (j : RunKind) (c : PieceContents) →
+pub planned_on : (b : ℕ) (l : List Block) (p : Planner) (r : Run) (more : ℕ) (t : Tail) (j : RunKind)
+    (c : PieceContents) →
     Planned b l p → PartOf l p.at.block r → 0 < r.blocks → more ≡ gain_of p.tail r.kind r.blocks b → t ≡ tail_after
     p.tail r.kind
     → j ≡ last_kind p.tail p.at.block → c ≡ with_blocks p.contents j r.kind r.blocks b
@@ -262,7 +263,8 @@ planned_on b l p r more t j c plan part some gains ends behind grows =
 
 -- ---- the numbers, whatever the source gave
 
-pub even_on : (p : Planner) (r : Run) (more : ℕ) (t : Tail) (j : RunKind) (c : PieceContents) (b : ℕ) → Even p → r.next.block
+pub even_on : (p : Planner) (r : Run) (more : ℕ) (t : Tail) (j : RunKind) (c : PieceContents) (b : ℕ) → Even p
+    → r.next.block
     ≡ p.at.block + r.blocks → 0 < r.blocks → is_end r.kind ≡ false → more ≡ gain_of p.tail r.kind r.blocks b → t ≡
     tail_after p.tail r.kind
     → j ≡ last_kind p.tail p.at.block → c ≡ with_blocks p.contents j r.kind r.blocks b
@@ -270,7 +272,8 @@ pub even_on : (p : Planner) (r : Run) (more : ℕ) (t : Tail) (j : RunKind) (c :
 even_on p r more t j c b even next some going gains ends behind grows = record {
   order = omega (arith, even.order);
   chunks = let z = ap (λ (x : PieceContents). x.chunks) grows in omega (arith, z, even.chunks, opens_le j r.kind);
-  written = let z = ap (λ (x : PieceContents). x.written) grows in omega (arith, z, even.written, held_le r.kind r.blocks);
+  written = let z = ap (λ (x : PieceContents). x.written) grows in omega
+      (arith, z, even.written, held_le r.kind r.blocks);
   least = let z : c.bytes ≡ p.contents.bytes + (opens_len j r.kind + copy_len r.kind r.blocks b) = ap
       (λ (x : PieceContents). x.bytes) grows in omega (arith, z, even.least);
   slim = let z : c.bytes ≡ p.contents.bytes + (opens_len j r.kind + copy_len r.kind r.blocks b) = ap

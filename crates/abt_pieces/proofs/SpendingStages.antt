@@ -101,7 +101,8 @@ nothing_read Is charge copied held n one t given o w h = let z : t + (given - gi
 -- ---- a piece from its first step on
 
 pub stage_joins : (Is : Cursor → Type 0) (charge copied : Cursor → ℕ) (held : Cursor → ℕ → ℕ) (b limit n one : ℕ)
-    (start : Cursor) (t x y z : ℕ) (st : CutterStage) → x ≤ y → y ≤ z → SpentStage Is charge copied held b limit n one start
+    (start : Cursor) (t x y z : ℕ) (st : CutterStage) → x ≤ y → y ≤ z
+    → SpentStage Is charge copied held b limit n one start
     (t + (y - x) + (z - y)) st → SpentStage Is charge copied held b limit n one start (t + (z - x)) st
 stage_joins Is charge copied held b limit n one start t x y z st le more' h = let e : t + (y - x) + (z - y) ≡ t +
     (z - x) = omega (arith, le, more') in rw e at h

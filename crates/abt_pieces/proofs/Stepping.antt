@@ -72,7 +72,8 @@ first_left left n r c o = let z = looks_first left n o.piece.past c in omega (ar
 
 -- ---- a piece from its first step on
 
-pub is_between : (st : CutterStage) → is_begun st ≡ false → (st ≡ Done → ⊥) → ((f : PieceFault) → st ≡ Failed f → ⊥) → st ≡
+pub is_between : (st : CutterStage) → is_begun st ≡ false → (st ≡ Done → ⊥) → ((f : PieceFault) → st ≡ Failed f → ⊥)
+    → st ≡
     Between
 is_between Between h done failed = refl
 is_between (Plan p) h done failed = absurd cc
@@ -159,7 +160,8 @@ behind_passed n s e st moves h = record {
 }
 
 pub told_moves : (P : Cursor → Type 0) (T : Cursor → ℕ) (b : ℕ) (l : List Block) (limit made : ℕ) (start : Cursor)
-    (st new : CutterStage) → ToldCutter P T b l limit made start st → segments_left b limit l start.block new ≡ segments_left
+    (st new : CutterStage) → ToldCutter P T b l limit made start st → segments_left b limit l start.block new
+    ≡ segments_left
     b limit l start.block st → ToldStage P T b l limit start.block new → ToldCutter P T b l limit made start new
 told_moves P T b l limit made start st new told same stage = record {
   place = told.place;

@@ -60,7 +60,8 @@ SoundStage-prop W alike reach n b limit s (Write o w) = SoundWriting-prop W alik
 SoundStage-prop W alike reach n b limit s Done = Prim.hlevel props
 SoundStage-prop W alike reach n b limit s (Failed f) = Prim.hlevel props
 
-TakenStage-prop : (K : Cursor → ℕ) (b limit : ℕ) (start : Cursor) (st : CutterStage) → IsProp (TakenStage K b limit start st)
+TakenStage-prop : (K : Cursor → ℕ) (b limit : ℕ) (start : Cursor) (st : CutterStage)
+    → IsProp (TakenStage K b limit start st)
 TakenStage-prop K b limit start Between = Prim.hlevel props
 TakenStage-prop K b limit start (Plan p) = Prim.hlevel props
 TakenStage-prop K b limit start (Begin o) = Prim.hlevel props

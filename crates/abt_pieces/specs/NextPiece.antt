@@ -33,7 +33,8 @@ pub record KeepsPlace {X R : Type 0} (r : Result X PieceFault) (image image' : R
 -- A call that reads for the next piece leaves the cutter so, with what it knows of a source that tells; it refuses for
 -- good.
 pub record LeavesCutter {R A : Type 0} (g : images.Ghosts R) (s : sources.Ghosts A) {X : Type 0}
-    (r : Result X PieceFault) (runs runs' : R) (limit limit' made' : ℕ) (start' : Cursor) (st' : CutterStage) (old new : A)
+    (r : Result X PieceFault) (runs runs' : R) (limit limit' made' : ℕ) (start' : Cursor) (st' : CutterStage)
+    (old new : A)
     : Type 0 where
   pub cutter : SameCutter runs runs' limit limit' st'
   pub reads : OnlyReads r s old new

@@ -40,7 +40,8 @@ pub record PieceGoesOn {R : Type 0} (g : images.Ghosts R) (image : R) (start sta
       + cut_words (g.one image) (g.count image) start' st'
 
 -- The begun piece of an image has ended as p: its bytes are those that were written of it.
-pub record PieceEnds {R : Type 0} (g : images.Ghosts R) (image : R) (start start' : Cursor) (st : CutterStage) (p : Piece)
+pub record PieceEnds {R : Type 0} (g : images.Ghosts R) (image : R) (start start' : Cursor) (st : CutterStage)
+    (p : Piece)
     (a z : Devices) (m m' : Meter) : Type 0 where
   pub long : p.bytes ≡ so_far st + (z.written - a.written)
   pub takes : p.bytes + g.taken image start ≤ g.taken image start' + 80

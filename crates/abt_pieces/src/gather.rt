@@ -189,7 +189,8 @@ impl Gatherer {
             R.place runs.now (S.content source.old) d → d.block ≡ past → d.ask ≡ 1 →
             IfOk result (λ o. S.given source.new + gathered_to (R.charge runs.now) past d self.old.at
             ≤ S.given source.old + gathered_to (R.charge runs.now) past d self.new.at) }
-        ensures spends { IsTrue S.models → (d : Cursor) → R.within runs.now d → R.place runs.now (S.content source.old) d
+        ensures spends { IsTrue S.models → (d : Cursor) → R.within runs.now d
+            → R.place runs.now (S.content source.old) d
             → d.block ≡ past → d.ask ≡ 1 → (s : ℕ) → SpentGathering (R.charge runs.now) (R.copied runs.now) first past d
             s self.old →
             IfOk result (λ o. SpentGathering (R.charge runs.now) (R.copied runs.now) first past d s self.new) }

@@ -287,7 +287,8 @@ impl Writer {
             ≡ rest_of (frame_of (R.list runs.now (S.content source.old)) self.old) self.old) }
         ensures goes_on { OnOk result (RawGoes R.BlockRuns runs.now self.old self.new (S.given source.old)
             (S.given source.new) m.old m.new) }
-        ensures spends { IsTrue S.models → (d : Cursor) → R.within runs.now d → R.place runs.now (S.content source.old) d
+        ensures spends { IsTrue S.models → (d : Cursor) → R.within runs.now d
+            → R.place runs.now (S.content source.old) d
             → d.block ≡ self.old.past → d.ask ≡ 1 → (s t : ℕ) →
             Spent (λ c. R.within runs.now c × R.place runs.now (S.content source.old) c) (R.charge runs.now)
             (R.copied runs.now) (R.held runs.now) d s t self.old →

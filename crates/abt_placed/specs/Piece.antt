@@ -42,7 +42,8 @@ pub record WholePiece (models : Bool) (x : List ℕ) (b n limit r first past chu
 
 -- So is laid what an outline says, from block `first` of these runs on: the next piece, within its limit where no raw
 -- run is cut, and whole where the limit is none.
-pub record OutlineLaid (models : Bool) (x : List ℕ) (runs : RawRuns) (limit r first : ℕ) (old new : List ℕ) (o : Outline)
+pub record OutlineLaid (models : Bool) (x : List ℕ) (runs : RawRuns) (limit r first : ℕ) (old new : List ℕ)
+    (o : Outline)
     : Type 0 where
   pub sound : IsUncut runs.size limit r
       → SoundOutline (λ c. RawPlace runs.blocks runs.size c) runs.blocks limit first o
@@ -68,7 +69,8 @@ pub record OutlineWork (runs : RawRuns) (first : ℕ) (r : Result Outline PieceF
       ≤ m.turns.number + z.written + 8 * (z.given - a.given) + 100)
 
 -- The same of a cutter's next piece p, whatever the source gave.
-pub record PieceAt (runs : RawRuns) (limit first first' made made' : ℕ) (st' : CutterStage) (old new : List ℕ) (a z : Devices)
+pub record PieceAt (runs : RawRuns) (limit first first' made made' : ℕ) (st' : CutterStage) (old new : List ℕ)
+    (a z : Devices)
     (m m' : Meter) (p : Piece) : Type 0 where
   pub image : Appended (IsPlainImage runs.size runs.blocks) old new
   pub piece : IsNext runs.blocks limit first first' made made' st' p
@@ -93,7 +95,8 @@ pub record ReadyRaw (models : Bool) (x : List ℕ) (runs : RawRuns) (limit made 
 
 -- Behind the last piece none is answered, and no fault; behind a fault it is answered again, and nothing is done. A
 -- fault is kept.
-pub record AnswersOver (st st' : CutterStage) (unchanged still : Type 0) (r : Result (Option Piece) PieceFault) : Type 0 where
+pub record AnswersOver (st st' : CutterStage) (unchanged still : Type 0) (r : Result (Option Piece) PieceFault) : Type
+    0 where
   pub none : IfOk r (λ o. IfNone o ((st ≡ Done) × unchanged × still))
   pub after_last : st ≡ Done → IfOk r (λ o. IfSome o (λ p. ⊥)) × OnErr r ⊥
   pub again : (f : PieceFault) → st ≡ Failed f → (r ≡ Err f) × unchanged

@@ -37,7 +37,8 @@ pub fn sparsify_at<S: Source, O: Overwrite>(
         m.new }
     ensures written { IfOk result (λ a. ImageWritten block_size (S.size source.old) a (O.written output.old)
         (O.written output.new)) }
-    ensures chunks { IsTrue S.models → IfOk result (λ a. (a.blocks ≡ length (classify block_size (S.content source.old)))
+    ensures chunks { IsTrue S.models → IfOk result (λ a. (a.blocks
+        ≡ length (classify block_size (S.content source.old)))
         × (a.chunks ≡ length (chunks_of most (classify block_size (S.content source.old))))) }
     ensures grows { OutputGrows result (O.written output.old) (O.written output.new) }
     ensures whole { IsTrue S.models →

@@ -34,7 +34,8 @@ pub record TakesChunk (bytes : List ℕ) (r : Result OpeningProgress RunFault) (
 
 -- The opening has gone on by what was read, the source having given g bytes before and g' then; what the bytes x of a
 -- source that tells come to stands.
-pub record Advances (models : Bool) (x : List ℕ) (g g' : ℕ) (r : Result OpeningProgress RunFault) (o o' : Opening) : Type 0
+pub record Advances (models : Bool) (x : List ℕ) (g g' : ℕ) (r : Result OpeningProgress RunFault) (o o' : Opening) :
+    Type 0
   where
     pub keeps : IsTrue models → (v : Result (Header × ℕ) SparseFault) → ComesTo o x v → ComesTo o' x v
     pub leaves : OpeningLeaves r o'.stage

@@ -163,7 +163,8 @@ pub trait BlockRuns {
         ensures source { ReadsImage result S.Source source.old source.new }
         ensures within { count_of result ≤ length out.new }
         ensures some { IfOk result (λ n. 0 < length out.new → 0 < n) }
-        ensures bytes { IsTrue S.models → IfOk result (λ n. (q : ℕ) → q ≤ together self.now (S.content source.old) here →
+        ensures bytes { IsTrue S.models → IfOk result (λ n. (q : ℕ)
+            → q ≤ together self.now (S.content source.old) here →
             AllOf RunKind.Raw (take q (drop here.block (list self.now (S.content source.old)))) →
             at + n ≤ q * size self.now →
             take n out.new

@@ -45,7 +45,8 @@ impl SparseRuns {
         ensures calls { S.reads source.new ≤ S.reads source.old + 2 * (S.given source.new - S.given source.old) + 1 }
         ensures turns { m.new.turns.number ≤ m.old.turns.number + 2 * (S.given source.new - S.given source.old) + 2 }
         ensures greatest { m.new.greatest.number ≤ max m.old.greatest.number 28 }
-        ensures cause { IfErr result (λ e. CausedAt OpeningStage.Header e (S.read_faults source.old) (S.read_faults source.new)
+        ensures cause { IfErr result (λ e. CausedAt OpeningStage.Header e (S.read_faults source.old)
+            (S.read_faults source.new)
             (IsTrue S.models)) }
     {
         let mut opening = Opening::begin();

@@ -135,7 +135,8 @@ fn hold_entry<S: Source>(
     m: &mut Meter,
 ) -> Result<LoadedEntries, SectionFault>
     requires entry { MayAskEntry table.now.at held.first held.end i table.now.count }
-    requires stand { IsTrue S.models → EntriesStand w.old.bytes (S.content source.old) table.now.at held.first held.end }
+    requires stand { IsTrue S.models → EntriesStand w.old.bytes (S.content source.old) table.now.at held.first
+        held.end }
     ensures reads { ReadsUnless result S.Source source.old source.new
         (IsTrue S.models → table.now.at + 108 * table.now.count ≤ length (S.content source.old) → ⊥) }
     ensures stand { IsTrue S.models → IfOk result (λ h. EntriesStand w.new.bytes

@@ -59,13 +59,16 @@ pub fn unpack<S: Source, O: Output>(
     requires { i < length (header_spec.places_of (header_spec.view_of image.now.header)) }
     ensures moves { MovesUnless result S.Source source.old source.new O.Output output.old output.new
         (IsTrue S.models → IsOpened (S.content source.old) image.now → ⊥) }
-    ensures written { (p : SectionPlace) → p ≡ slice_index_or (header_spec.places_of (header_spec.view_of image.now.header)) i
+    ensures written { (p : SectionPlace) → p ≡ slice_index_or
+        (header_spec.places_of (header_spec.view_of image.now.header)) i
         p → IsTrue S.models → OnOk result (O.written output.new ≡ O.written output.old
         ++ part_of (S.content source.old) p) }
-    ensures front { (p : SectionPlace) → p ≡ slice_index_or (header_spec.places_of (header_spec.view_of image.now.header)) i
+    ensures front { (p : SectionPlace) → p ≡ slice_index_or (header_spec.places_of
+        (header_spec.view_of image.now.header)) i
         p → IsTrue S.models → AppendsFront (O.written output.old) (O.written output.new)
         (part_of (S.content source.old) p) }
-    ensures bytes { (p : SectionPlace) → p ≡ slice_index_or (header_spec.places_of (header_spec.view_of image.now.header)) i
+    ensures bytes { (p : SectionPlace) → p ≡ slice_index_or (header_spec.places_of
+        (header_spec.view_of image.now.header)) i
         p → AddsUpTo result (O.written output.old) (O.written output.new) p.size }
     ensures changed { (S.size source.old ≡ image.now.length → ⊥) → (result ≡ Err SectionFault.SourceChanged) ×
         (source.new ≡ source.old) × (output.new ≡ output.old) }

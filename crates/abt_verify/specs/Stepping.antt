@@ -91,7 +91,8 @@ pub record Compares (models : Bool) (r : Result MachineProgress VerifyFault) (s 
 
 -- A step over a raw image of so many bytes, of which so many were compared before: it compares more of them, or all are
 -- compared.
-pub record RawAdvances (r : Result MachineProgress VerifyFault) (from to : VerifyStage) (size size' old new : ℕ) : Type 0 where
+pub record RawAdvances (r : Result MachineProgress VerifyFault) (from to : VerifyStage) (size size' old new : ℕ) :
+    Type 0 where
   pub stage : to ≡ stage_after r
   pub length : size' ≡ size
   pub at : old ≤ new

@@ -168,14 +168,16 @@ host_refused x P U fault host same failed = record { refuses = host_refuses x P 
 
 -- ---- the file that an image is opened from
 
-pub opens_as : (path x y : List ℕ) (h h' : OpenFiles) (a : World) → y ≡ x → OpensFile a path x h h' → OpensFile a path y h h'
+pub opens_as : (path x y : List ℕ) (h h' : OpenFiles) (a : World) → y ≡ x → OpensFile a path x h h'
+    → OpensFile a path y h h'
 opens_as path x y h h' a same opens = subst (λ z. OpensFile a path z h h') (sym same) opens
 
 pub opened_as : (x y : List ℕ) (image : Image) → y ≡ x → IsOpened x image → IsOpened y image
 opened_as x y image same opened = subst (λ z. IsOpened z image) (sym same) opened
 
 -- it was opened, and is no image
-pub open_failed : (path bytes : List ℕ) (w : World) (h h' h'' : OpenFiles) (r r' : ℕ) → OpensFile w path bytes h h' → r ≡ 0
+pub open_failed : (path bytes : List ℕ) (w : World) (h h' h'' : OpenFiles) (r r' : ℕ) → OpensFile w path bytes h h'
+    → r ≡ 0
     → h'' ≡ failing r' h' → r < r' → h.failed < h''.failed
 open_failed path bytes w h h' h'' r r' opens none let_go failed =
     let e : h'.failed ≡ h.failed = ap (λ q. q.failed) opens.taken in

@@ -62,7 +62,8 @@ of_vendor s = four (nat_lt s.version 3 || nat_lt 4 s.version) (not (is_some (pag
 pub refusal_fixed : (kind : ImageKind) (s : BootSpec) (parts ramdisks : List ℕ) → NoMoving
     (refusal_of kind s parts ramdisks)
 refusal_fixed (Boot n) s parts ramdisks =
-    either (boot_refusal (cmd_common_fields s)) (size_refusal (boot_names s.version) parts) (of_boot (cmd_common_fields s))
+    either (boot_refusal (cmd_common_fields s)) (size_refusal (boot_names s.version) parts)
+    (of_boot (cmd_common_fields s))
     (of_sizes (boot_names s.version) parts)
 refusal_fixed (Vendor n) s parts ramdisks =
     let sizes = vendor_sizes s.version parts ramdisks in

@@ -23,7 +23,8 @@ use Rattle.abt_sections.specs.Open.{HasImage, IsOpened, RefusedAs}
 use Rattle.abt_sections.specs.declared.image.Image.{Image}
 use Rattle.abt_sections.specs.declared.fault.SectionFault.{SectionFault}
 use Rattle.abt_sections.specs.declared.fault.SectionFault.TheVariants as faults
-use Rattle.cmd_common_fields.specs.Fields.{address_name, address_of, field_name, field_of, id_field_of, os_number_of, text_of}
+use Rattle.cmd_common_fields.specs.Fields.{address_name, address_of, field_name, field_of, id_field_of, os_number_of}
+use Rattle.cmd_common_fields.specs.Fields.{text_of}
 use Rattle.cmd_common_fields.specs.declared.fields.Address.{Address}
 use Rattle.cmd_common_fields.specs.declared.fields.Address.TheVariants as addresses
 use Rattle.cmd_common_fields.specs.declared.fields.TextField.{TextField}

@@ -4,7 +4,8 @@ use Rattle.std.specs.Prelude.{IsOk, IfOk, OnOk, OnErr, Result, Ok, Err, is_ok, u
 use Rattle.std.specs.Prelude.{Option}
 use Rattle.std.proofs.lemmas.Bool.{false≢true}
 use Rattle.abt_pieces.specs.Turn.{HasAt}
-use Rattle.sys_disk.specs.World.{World, OpenFiles, Creates, OnlyAt, Ends, Spares, SparesRest, KeepsBegun, ended, unended}
+use Rattle.sys_disk.specs.World.{World, OpenFiles, Creates, OnlyAt, Ends, Spares, SparesRest, KeepsBegun, ended}
+use Rattle.sys_disk.specs.World.{unended}
 use Rattle.sys_disk.specs.World.{failing}
 use Rattle.cmd_cut.specs.Cutting.{AddsNone, AddsPiece, ClosesBeside, HoldsPiece}
 use Rattle.sys_disk.specs.Among.{GoesAmong, IsMade, KeepsMade}

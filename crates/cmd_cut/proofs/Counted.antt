@@ -59,7 +59,8 @@ closes_undone r n h h' h'' before end some = record {
   cause = λ f. some;
 }
 
-pub closes_given_up : (r n : ℕ) (h h' h'' : OpenFiles) (a b : World) → h' ≡ failing r h → GivesUp n h' h'' a b → 0 < r + n
+pub closes_given_up : (r n : ℕ) (h h' h'' : OpenFiles) (a b : World) → h' ≡ failing r h → GivesUp n h' h'' a b → 0 < r
+    + n
     → ClosesOutput false h h''
 closes_given_up r n h h' h'' a b before given some =
     closes_undone r given.failures h h' h'' before given.closed (omega (arith, given.least, some))
@@ -71,7 +72,8 @@ answered answer (Ok y) is = ap is_ok is
 answered answer (Err e) is = tt
 
 -- what was answered is told by the end
-pub closes_answer : {X Y F G : Type 0} (answer : Result X F) (result : Result Y G) (r0 w0 r n : ℕ) (h h' h'' : OpenFiles)
+pub closes_answer : {X Y F G : Type 0} (answer : Result X F) (result : Result Y G) (r0 w0 r n : ℕ)
+    (h h' h'' : OpenFiles)
     → r0 ≡ 0 → w0 ≡ 0 → h' ≡ failing r h → h'' ≡ ended (is_ok result) (unended (is_ok answer) (is_ok result) + n) h'
     → OnOk answer (r + n ≡ r0 + w0) → OnErr answer (r0 + w0 < r + n) → OnOk result (IsOk answer)
     → ClosesOutput (is_ok result) h h''
@@ -86,7 +88,8 @@ closes_answer (Err f) (Ok y) r0 w0 r n h h' h'' zero_r zero_w before end clean c
 -- ---- from the front of a run
 
 -- a file was opened, an output created and closed
-pub failed_behind : (input path bytes : List ℕ) (h h' h'' h''' : OpenFiles) (w a b : World) → OpensFile w input bytes h h'
+pub failed_behind : (input path bytes : List ℕ) (h h' h'' h''' : OpenFiles) (w a b : World)
+    → OpensFile w input bytes h h'
     → Creates path h' h'' a b → ClosesOutput false h'' h''' → HasFailed h h'''
 failed_behind input path bytes h h' h'' h''' w a b opened made closes =
     omega (
@@ -97,7 +100,8 @@ failed_behind input path bytes h h' h'' h''' w a b opened made closes =
       closes.cause refl,
     )
 
-pub clean_behind : (input path bytes : List ℕ) (h h' h'' h''' : OpenFiles) (w a b : World) → OpensFile w input bytes h h'
+pub clean_behind : (input path bytes : List ℕ) (h h' h'' h''' : OpenFiles) (w a b : World)
+    → OpensFile w input bytes h h'
     → Creates path h' h'' a b → ClosesOutput true h'' h''' → HasNotFailed h h'''
 clean_behind input path bytes h h' h'' h''' w a b opened made closes =
     omega (

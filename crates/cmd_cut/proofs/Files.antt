@@ -87,7 +87,8 @@ part_whole input output bytes size n x h h' h'' a b c d sized opened made has = 
 -- ---- what OUT is left as
 
 -- it was not begun
-pub left_unbegun : {X F : Type 0} (e : F) (input output : List ℕ) (size : ℕ) (over : Bool) (h h' : OpenFiles) (a c : World)
+pub left_unbegun : {X F : Type 0} (e : F) (input output : List ℕ) (size : ℕ) (over : Bool) (h h' : OpenFiles)
+    (a c : World)
     → h'.output ≡ None → c ≡ a → LeavesImage {X = X} (Err e) input output size over h h' a c
 left_unbegun e input output size over h h' a c none same = record {
   synced = tt;

@@ -20,7 +20,8 @@ pub not_done : (st : CutterStage) → st ≡ Between → st ≡ Done → ⊥
 not_done st between done = false≢true (sym (ap has_more (sym between ∙ done)))
 
 -- what was written behind nothing is the piece behind those that are made
-pub next_laid : (b limit made first : ℕ) (l : List Block) (p : Piece) (old new : List ℕ) (st : CutterStage) → st ≡ Between
+pub next_laid : (b limit made first : ℕ) (l : List Block) (p : Piece) (old new : List ℕ) (st : CutterStage) → st
+    ≡ Between
     → old ≡ [] → Made b limit l made (segments_left b limit l first st) → p.first ≡ first
     → LaidNext b limit l first p old new → HasAt (pieces limit b l) made new
 next_laid b limit made first l p old new st between empty cuts begins laid =
@@ -34,7 +35,8 @@ next_laid b limit made first l p old new st between empty cuts begins laid =
     subst (λ x. HasAt (pieces limit b l) made x) (sym is) here
 
 -- and these are its numbers
-pub next_told : (b limit made first : ℕ) (l : List Block) (p : Piece) (old new : List ℕ) (st : CutterStage) → st ≡ Between
+pub next_told : (b limit made first : ℕ) (l : List Block) (p : Piece) (old new : List ℕ) (st : CutterStage) → st
+    ≡ Between
     → old ≡ [] → Made b limit l made (segments_left b limit l first st) → p.first ≡ first
     → LaidNext b limit l first p old new → NumbersOfPiece limit b l made p
 next_told b limit made first l p old new st between empty cuts begins laid =

@@ -98,7 +98,8 @@ first_stand names path bytes ps n m h h' h'' a b c none o same cuts = record {
 }
 
 pub cuts_file : (raw : Option ℕ) (limit : ℕ) (input : List ℕ) (names : Naming) (bytes : List ℕ)
-    (h h' h'' : OpenFiles) (a b c : World) (shows : ℕ → List Block → Type 0) → h.begun ≡ [] → OpensFile a input bytes h h'
+    (h h' h'' : OpenFiles) (a b c : World) (shows : ℕ → List Block → Type 0) → h.begun ≡ []
+    → OpensFile a input bytes h h'
     → b ≡ a
     → CutsImage raw limit names bytes h' h'' b c shows → CutsFile raw limit input names h h'' a c shows
 cuts_file raw limit input names bytes h h' h'' a b c shows none o same i = record {
@@ -130,7 +131,8 @@ stops_file Unprinted fault names path bytes ps h h' h'' a b c none o same (no_me
 
 image_file : (Unprinted : Type 0) (raw : Option ℕ) (limit : ℕ) (x : List ℕ) (fault : SparseCommandFault)
     (names : Naming)
-    (path bytes : List ℕ) (h h' h'' : OpenFiles) (a b c : World) → h.begun ≡ [] → (o : OpensFile a path bytes h h') → b ≡ a
+    (path bytes : List ℕ) (h h' h'' : OpenFiles) (a b c : World) → h.begun ≡ [] → (o : OpensFile a path bytes h h')
+    → b ≡ a
     → StopsImage raw limit x fault (HasFailed h' h'') Unprinted (c ≡ b) (λ ps n m. CutsSoFar names ps n m h' h'' b c)
     → StopsImage raw limit x fault (HasFailed h h'') Unprinted (c ≡ a) (FirstStand names o.file h h'' a c)
 image_file Unprinted raw limit x fault names path bytes h h' h'' a b c none o same (no_cut f told why still) =
@@ -145,7 +147,8 @@ image_file Unprinted raw limit x fault names path bytes h h' h'' a b c none o sa
     (stops_file Unprinted fault names path bytes (pieces limit size blocks) h h' h'' a b c none o same why)
 
 pub refuses_file : (Unprinted : Type 0) (raw : Option ℕ) (limit : ℕ) (input : List ℕ) (names : Naming) (bytes : List ℕ)
-    (fault : SparseCommandFault) (h h' h'' : OpenFiles) (a b c : World) → h.begun ≡ [] → OpensFile a input bytes h h' → b ≡ a
+    (fault : SparseCommandFault) (h h' h'' : OpenFiles) (a b c : World) → h.begun ≡ [] → OpensFile a input bytes h h'
+    → b ≡ a
     → StopsImage raw limit bytes fault (HasFailed h' h'') Unprinted (c ≡ b)
     (λ ps n m. CutsSoFar names ps n m h' h'' b c)
     → RefusesCut raw limit input names fault h h'' a c Unprinted
@@ -161,7 +164,8 @@ keeps_input prefix path bytes h h' h'' a b c o same goes = λ f there.
     let is : o.file ≡ f = ap (λ p. unwrap_or p 0) (sym o.there ∙ there) in
     subst (λ g. c.holds g ≡ a.holds g) is (kept_beside (IsPiecePath prefix) path bytes h h' h'' a b c o same goes)
 
-clean_file : (path bytes : List ℕ) (h h' h'' : OpenFiles) (a : World) → OpensFile a path bytes h h' → HasNotFailed h' h''
+clean_file : (path bytes : List ℕ) (h h' h'' : OpenFiles) (a : World) → OpensFile a path bytes h h'
+    → HasNotFailed h' h''
     → HasNotFailed h h''
 clean_file path bytes h h' h'' a o clean = omega (arith, clean, ap (λ k. k.failed) o.taken)
 
@@ -207,7 +211,8 @@ left_between P r h h1 h2 h3 a a1 b c held world left later same = record {
   closed = ap (λ k. k.output) later ∙ left.closed;
 }
 
-pub cuts_between : (names : Naming) (ps : List (List ℕ)) (n m r : ℕ) (h h1 h2 h3 : OpenFiles) (a a1 b c : World) → h1 ≡ h
+pub cuts_between : (names : Naming) (ps : List (List ℕ)) (n m r : ℕ) (h h1 h2 h3 : OpenFiles) (a a1 b c : World) → h1
+    ≡ h
     → a1 ≡ a → CutsSoFar names ps n m h1 h2 a1 b → h3 ≡ failing r h2 → c ≡ b → CutsSoFar names ps n m h h3 a c
 cuts_between names ps n m r h h1 h2 h3 a a1 b c held world cuts later same =
     cuts_past names ps n m r h h2 h3 a b c later same
@@ -234,7 +239,8 @@ stops_between Unprinted fault names ps r r' h h1 h2 h3 a a1 b c held world none 
 -- ---- from the answer of the call
 
 pub cuts_file_as : {X E : Type 0} (r : Result X E) (raw raw' : Option ℕ) (limit : ℕ) (input : List ℕ)
-    (names : Naming) (bytes : List ℕ) (h h' h'' : OpenFiles) (a b c : World) (shows : ℕ → List Block → Type 0) → raw ≡ raw'
+    (names : Naming) (bytes : List ℕ) (h h' h'' : OpenFiles) (a b c : World) (shows : ℕ → List Block → Type 0) → raw
+    ≡ raw'
     → h.begun ≡ []
     → OpensFile a input bytes h h' → b ≡ a
     → OnOk r (CutsImage raw' limit names bytes h' h'' b c shows)

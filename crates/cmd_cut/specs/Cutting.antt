@@ -167,7 +167,8 @@ pub record OnlyLeaves (named : List ℕ → Type 0) (held held' : OpenFiles) (ol
   pub closed : held'.output ≡ None
 
 -- and it is done only where nothing has failed
-pub record LeavesPieces {X F : Type 0} (r : Result X F) (named : List ℕ → Type 0) (held held' : OpenFiles) (old new : World)
+pub record LeavesPieces {X F : Type 0} (r : Result X F) (named : List ℕ → Type 0) (held held' : OpenFiles)
+    (old new : World)
     : Type 0 where
   pub left : OnlyLeaves named held held' old new
   pub clean : OnOk r (HasNotFailed held held')
@@ -303,7 +304,8 @@ IsUncutSparse f limit x reads reads' = ⊥
 -- ---- an image and its pieces
 
 -- x is an image of these blocks, and all its pieces stand
-pub record CutsImage (raw : Option ℕ) (limit : ℕ) (names : Naming) (x : List ℕ) (held held' : OpenFiles) (old new : World)
+pub record CutsImage (raw : Option ℕ) (limit : ℕ) (names : Naming) (x : List ℕ) (held held' : OpenFiles)
+    (old new : World)
     (shows : ℕ → List Block → Type 0) : Type 0 where
   pub size : ℕ
   pub blocks : List Block
@@ -315,7 +317,8 @@ pub record CutsImage (raw : Option ℕ) (limit : ℕ) (names : Naming) (x : List
 
 -- The first n pieces stand, each under its name, in a file that is none of the others and not the image's, synced where
 -- that is wanted. Nothing but the files of the first m was created or changed.
-pub record FirstStand (names : Naming) (from : ℕ) (held held' : OpenFiles) (old new : World) (ps : List (List ℕ)) (n m : ℕ)
+pub record FirstStand (names : Naming) (from : ℕ) (held held' : OpenFiles) (old new : World) (ps : List (List ℕ))
+    (n m : ℕ)
     : Type 0 where
   pub stand : PiecesStand names ps n held' new
   pub apart : AreApart names n new
@@ -324,7 +327,8 @@ pub record FirstStand (names : Naming) (from : ℕ) (held held' : OpenFiles) (ol
   pub only : OnlyAmong (IsFirstPiecePath names m) held.read held'.begun old new
 
 -- The file at one path held an image, and all its pieces stand. Their lines were printed, and how many they are.
-pub record CutsFile (raw : Option ℕ) (limit : ℕ) (input : List ℕ) (names : Naming) (held held' : OpenFiles) (old new : World)
+pub record CutsFile (raw : Option ℕ) (limit : ℕ) (input : List ℕ) (names : Naming) (held held' : OpenFiles)
+    (old new : World)
     (shows : ℕ → List Block → Type 0) : Type 0 where
   pub from : ℕ
   pub there : old.at input ≡ Some from

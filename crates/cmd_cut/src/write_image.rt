@@ -35,7 +35,8 @@ pub(crate) fn write_whole<'a, D: Disk>(
     requires empty { OfImage (λ file. D.Image.Output.written file ≡ []) (λ onto. D.Onto.written onto ≡ []) image }
     requires clean { IsTrue D.models → OfImage (λ file. D.Image.Output.write_faults file ≡ 0)
         (λ onto. D.Onto.write_faults onto ≡ 0) image }
-    ensures writes { IsTrue D.models → WritesSparseImage result (λ refusal. refusal.fault) blocks.size (D.At.content source)
+    ensures writes { IsTrue D.models → WritesSparseImage result (λ refusal. refusal.fault) blocks.size
+        (D.At.content source)
         (D.held disk.old) (D.held disk.new) (D.world disk.old) (D.world disk.new) }
     ensures stream { IsTrue D.models → IfOk result (λ end. end.1 ≡ D.on_output (path_out output.entry)) }
     ensures broken { IsTrue D.models → IsTrue (is_file image) → OnErr result (LeavesNoneOrSparse blocks.size
@@ -66,7 +67,8 @@ fn write_over<'a, D: Disk>(
 ) -> Result<(Written, bool), SparseRefusal<'a>>
     requires ready { ReadyToWrite D.models blocks (D.At.size source) (D.At.read_faults source)
         (D.Image.Output.written image) (D.Image.Output.write_faults image) }
-    ensures writes { IsTrue D.models → WritesSparseImage result (λ refusal. refusal.fault) blocks.size (D.At.content source)
+    ensures writes { IsTrue D.models → WritesSparseImage result (λ refusal. refusal.fault) blocks.size
+        (D.At.content source)
         (D.held disk.old) (D.held disk.new) (D.world disk.old) (D.world disk.new) }
     ensures stream { IsTrue D.models → IfOk result (λ end. end.1 ≡ D.on_output (path_out output.entry)) }
     ensures broken { IsTrue D.models → OnErr result (LeavesNoneOrSparse blocks.size (D.At.content source)
@@ -103,7 +105,8 @@ fn write_through<'a, D: Disk>(
 ) -> Result<(Written, bool), SparseRefusal<'a>>
     requires ready { ReadyToWrite D.models blocks (D.At.size source) (D.At.read_faults source) (D.Onto.written onto)
         (D.Onto.write_faults onto) }
-    ensures writes { IsTrue D.models → WritesSparseImage result (λ refusal. refusal.fault) blocks.size (D.At.content source)
+    ensures writes { IsTrue D.models → WritesSparseImage result (λ refusal. refusal.fault) blocks.size
+        (D.At.content source)
         (D.held disk.old) (D.held disk.new) (D.world disk.old) (D.world disk.new) }
     ensures stream { IsTrue D.models → IfOk result (λ end. end.1 ≡ D.on_output (path_out output.entry)) }
 {

@@ -12,7 +12,8 @@ use Rattle.abt_sparse.specs.declared.fault.SparseFault.TheVariants as of_sparse
 use Rattle.abt_chunks.specs.Cause.{Clean}
 use Rattle.abt_chunks.specs.Expanding.{ExpandingRises, UnlessExpandingDevice}
 use Rattle.abt_chunks.specs.Whole.{Expansion, Refusal}
-use Rattle.sys_disk.specs.World.{World, OpenFiles, Spares, OpensFile, Creates, Ends, SparesRest, HasFailed, HasNotFailed}
+use Rattle.sys_disk.specs.World.{World, OpenFiles, Spares, OpensFile, Creates, Ends, SparesRest, HasFailed}
+use Rattle.sys_disk.specs.World.{HasNotFailed}
 use Rattle.sys_disk.specs.World.{OnlyAt, failing, ended, unended}
 use Rattle.sys_disk.proofs.Worlds.{apart, kept_behind, only_behind, spares_trans}
 use Rattle.cmd_common_sparse.specs.declared.lines.Line.TheVariants as lines
@@ -98,7 +99,8 @@ of_image (of_sparse.Read d) risen failed P Q up go rose is = up rose
 of_image (of_sparse.Write d) risen failed P Q up go rose is = up rose
 of_image f risen failed P Q up go rose is = go is
 
-own : (untold : List ℕ → Type 0) (input path x old new : List ℕ) (h h1 k : OpenFiles) (a c : World) (f : SparseCommandFault)
+own : (untold : List ℕ → Type 0) (input path x old new : List ℕ) (h h1 k : OpenFiles) (a c : World)
+    (f : SparseCommandFault)
     (r0 r w w' : ℕ)
     → OpensFile a input x h h1 → r0 ≡ 0 → w ≡ 0 → k.failed ≡ h.failed + (r + w')
     → ExpandingSays (Err f) x old new → Blames (Err f) r0 r w w' → RefusesFile f input path a c h k untold
@@ -122,7 +124,8 @@ own untold input path x old new h h1 k a c (faults.OtherCut f) r0 r w w' opened 
 own untold input path x old new h h1 k a c (faults.Host f) r0 r w w' opened first none count says blames = absurd says
 
 -- a fault of files, behind which something has failed
-pub of_failed : (untold : List ℕ → Type 0) (input path : List ℕ) (a c : World) (h k : OpenFiles) (r : SparseCommandFault)
+pub of_failed : (untold : List ℕ → Type 0) (input path : List ℕ) (a c : World) (h k : OpenFiles)
+    (r : SparseCommandFault)
     → FromHost r → HasFailed h k
     → RefusesFile r input path a c h k untold
 of_failed untold input path a c h k r made failed =
@@ -162,7 +165,8 @@ failed_first h k refused =
     let up : k.failed ≡ h.failed + 1 = ap (λ q. q.failed) refused in
     omega (arith, up)
 
-pub failed_second : (input bytes : List ℕ) (w : World) (h h1 k : OpenFiles) → OpensFile w input bytes h h1 → k ≡ failing 1 h1
+pub failed_second : (input bytes : List ℕ) (w : World) (h h1 k : OpenFiles) → OpensFile w input bytes h h1 → k
+    ≡ failing 1 h1
     → HasFailed h k
 failed_second input bytes w h h1 k opened refused =
     let first : h1.failed ≡ h.failed = ap (λ q. q.failed) opened.taken in

@@ -122,12 +122,14 @@ not_walked of_runs.TooLarge x models r0 r r' t same cause = absurd cause
 not_walked of_runs.SourceChanged x models r0 r r' t same cause = absurd (false≢true (sym cause ∙ t))
 not_walked (of_runs.BadBlock n) x models r0 r r' t same cause = absurd cause
 
-pub told_so : (f g : SparseCommandFault) (path : List ℕ) (a : World) (h k : OpenFiles) → g ≡ f → IsNotOpened f path a h k
+pub told_so : (f g : SparseCommandFault) (path : List ℕ) (a : World) (h k : OpenFiles) → g ≡ f
+    → IsNotOpened f path a h k
     → IsNotOpened g path a h k
 told_so f g path a h k same is = subst (λ q. IsNotOpened q path a h k) (sym same) is
 
 -- it could not be opened
-pub refused_once : (f : SparseCommandFault) (path : List ℕ) (a : World) (h h' : OpenFiles) → FromHost f → h' ≡ failing 1 h
+pub refused_once : (f : SparseCommandFault) (path : List ℕ) (a : World) (h h' : OpenFiles) → FromHost f → h'
+    ≡ failing 1 h
     → IsNotOpened f path a h h'
 refused_once f path a h h' host refused =
     let up : h'.failed ≡ h.failed + 1 = ap (λ k. k.failed) refused in
@@ -204,7 +206,8 @@ abbrev pub block_of : Option Shape → ℕ
 block_of None = 0
 block_of (Some s) = s.block
 
-pub are_images : (shape : Option Shape) (a : World) (paths xs : List (List ℕ)) (h h' : OpenFiles) → AreOpened a paths xs h h'
+pub are_images : (shape : Option Shape) (a : World) (paths xs : List (List ℕ)) (h h' : OpenFiles)
+    → AreOpened a paths xs h h'
     → IsShapeOf shape xs → AreImages (blocks_of shape) (block_of shape) paths a
 are_images None a paths xs h h' all is = record {
   files = all.files;
@@ -260,7 +263,8 @@ other_blocks (Some s) a inputs before behind xs path number h h' all is among co
 }
 
 other_cut : (shape : Option Shape) (pieces : List (Option CutPiece)) (a : World)
-    (inputs before behind xs : List (List ℕ)) (path : List ℕ) (number : ℕ) (h h' : OpenFiles) → AreOpened a before xs h h'
+    (inputs before behind xs : List (List ℕ)) (path : List ℕ) (number : ℕ) (h h' : OpenFiles)
+    → AreOpened a before xs h h'
     → IsShapeOf shape xs → TellsPieces a pieces before → inputs ≡ before ++ (path ∷ behind)
     → number ≡ min (length before + 1) 4294967295 → IsOtherCut pieces path a → HasOtherCut inputs a number
 unfolding stands

@@ -57,7 +57,8 @@ clean_closing h h2 h3 h4 p p' u counts none same zero = omega (arith, counts.0, 
 
 -- ---- what the output holds
 
-spared : (a a1 b b' c : World) (n : ℕ) (output y : List ℕ) (h1 h2 h3 : OpenFiles) (made : MakesZeros n output h1 h2 a1 b)
+spared : (a a1 b b' c : World) (n : ℕ) (output y : List ℕ) (h1 h2 h3 : OpenFiles)
+    (made : MakesZeros n output h1 h2 a1 b)
     → a1 ≡ a → b' ≡ b → FailsAlone h2 h3 → Ends h3.part y b' c → (c.holds made.file ≡ y) × Spares made.file a c
 spared a a1 b b' c n output y h1 h2 h3 made same same' alone ends =
     let part : h3.part ≡ Some made.file = ap (λ k. k.part) alone.same ∙ ap (λ k. k.part) made.begins in
@@ -153,7 +154,8 @@ others_read a a1 c inputs xs output h h1 all same only =
     fewer_read h.read all.files output a c (subst (λ k. OnlyAt k.read output a c) all.taken
     (subst (λ w. OnlyAt h1.read output w c) same only))
 
-ins_kept : (a a1 c : World) (inputs xs : List (List ℕ)) (output : List ℕ) (h h1 : OpenFiles) → AreOpened a inputs xs h h1
+ins_kept : (a a1 c : World) (inputs xs : List (List ℕ)) (output : List ℕ) (h h1 : OpenFiles)
+    → AreOpened a inputs xs h h1
     → a1 ≡ a → OnlyAt h1.read output a1 c → AllByRecursion (λ path. KeepsFile path a c) inputs
 ins_kept a a1 c inputs xs output h h1 all same only =
     keeps_read h1.read output inputs all.files a c all.there

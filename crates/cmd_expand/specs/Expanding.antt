@@ -69,7 +69,8 @@ pub record ExpandsFile (input output : List ℕ) (old new : World) (shows : List
 
 -- What is left of files, whatever the outcome: OUT alone may hold anything else, IN holds what it held, and no output
 -- is open. It is done only where nothing has failed.
-pub record LeavesExpanded {X F : Type 0} (r : Result X F) (from onto : List ℕ) (held held' : OpenFiles) (old new : World)
+pub record LeavesExpanded {X F : Type 0} (r : Result X F) (from onto : List ℕ) (held held' : OpenFiles)
+    (old new : World)
     : Type 0 where
   pub others : OnlyAt held.read onto old new
   pub input : KeepsFile from old new
@@ -78,7 +79,8 @@ pub record LeavesExpanded {X F : Type 0} (r : Result X F) (from onto : List ℕ)
 
 -- why it is refused: for a fault of what IN's file holds; because a device or the system failed; or all was done, and
 -- its line is untold
-abbrev pub RefusesFile : SparseCommandFault → List ℕ → List ℕ → World → World → OpenFiles → OpenFiles → (List ℕ → Type 0)
+abbrev pub RefusesFile : SparseCommandFault → List ℕ → List ℕ → World → World → OpenFiles → OpenFiles
+    → (List ℕ → Type 0)
     → Type 0
 RefusesFile (faults.Sparse f) input output old new held held' untold =
     OfDevice f (HasFailed held held') (HasFault input old f)

@@ -111,7 +111,8 @@ pub record MayOverlay (held : OpenFiles) : Type 0 where
 
 -- What is left of files, whatever the outcome: OUT alone may hold anything else, each IN holds what it held, and no
 -- file is open that is written in place. It is done only where nothing has failed.
-pub record LeavesOverlaid {X F : Type 0} (r : Result X F) (paths : List (List ℕ)) (onto : List ℕ) (held held' : OpenFiles)
+pub record LeavesOverlaid {X F : Type 0} (r : Result X F) (paths : List (List ℕ)) (onto : List ℕ)
+    (held held' : OpenFiles)
     (old new : World) : Type 0 where
   pub others : OnlyAt held.read onto old new
   pub inputs : AllByRecursion (λ path. KeepsFile path old new) paths

@@ -73,7 +73,8 @@ IsOtherShape (Some s) path world =
     (n : ℕ) × (b : ℕ) × AreImages n b (path ∷ []) world × ¬ ((n ≡ s.blocks) × (b ≡ s.block))
 
 -- why the next image is not opened, which has this number
-abbrev pub IsNotNext : SparseCommandFault → Option Shape → List (Option CutPiece) → ℕ → List ℕ → World → OpenFiles → OpenFiles
+abbrev pub IsNotNext : SparseCommandFault → Option Shape → List (Option CutPiece) → ℕ → List ℕ → World → OpenFiles
+    → OpenFiles
     → Type 0
 IsNotNext (faults.Run (of_runs.Sparse f)) shape pieces number path world held held' = HasFault path world f
 IsNotNext (faults.Run (of_runs.Read d)) shape pieces number path world held held' = HasFailed held held'

@@ -67,7 +67,8 @@ pub(crate) fn open_all<'a, D: Disk>(
     ensures clean { IsTrue D.models → IfOk result (λ all.
         AllByRecursion (λ kept. D.At.read_faults kept.source ≡ 0) all.kept.items) }
     // nothing is written
-    ensures alone { IsTrue D.models → OpensAlone (D.held disk.old) (D.held disk.new) (D.world disk.old) (D.world disk.new) }
+    ensures alone { IsTrue D.models → OpensAlone (D.held disk.old) (D.held disk.new) (D.world disk.old)
+        (D.world disk.new) }
     ensures refused { IsTrue D.models → IfErr result (λ refusal. IsNotAllOpened refusal.fault
         (map (λ word. image_path word.now) inputs.now) (D.world disk.old) (D.held disk.old) (D.held disk.new)) }
 {
@@ -118,7 +119,8 @@ fn open_next<'a, D: Disk>(
         AllByRecursion (λ kept. D.At.read_faults kept.source ≡ 0) all.new.kept.items) }
     ensures piece { IsTrue D.models → OnOk result (NextPiece (D.world disk.old) (path_of place.entry)
         (map (λ kept. kept.piece) all.old.kept.items) (map (λ kept. kept.piece) all.new.kept.items)) }
-    ensures alone { IsTrue D.models → OpensAlone (D.held disk.old) (D.held disk.new) (D.world disk.old) (D.world disk.new) }
+    ensures alone { IsTrue D.models → OpensAlone (D.held disk.old) (D.held disk.new) (D.world disk.old)
+        (D.world disk.new) }
     ensures refused { IsTrue D.models → IfErr result (λ refusal. IsNotNext refusal.fault all.old.shape
         (map (λ kept. kept.piece) all.old.kept.items) all.new.count (path_of place.entry) (D.world disk.old)
         (D.held disk.old) (D.held disk.new)) }
@@ -186,7 +188,8 @@ fn open_one<'a, D: Disk>(
     ensures clean { IsTrue D.models → IfOk result (λ one. D.At.read_faults one.0 ≡ 0) }
     ensures piece { IsTrue D.models → IfOk result (λ one. TellsPiece one.2 (path_of place.entry)
         (FileGives (D.world disk.old) (path_of place.entry))) }
-    ensures alone { IsTrue D.models → OpensAlone (D.held disk.old) (D.held disk.new) (D.world disk.old) (D.world disk.new) }
+    ensures alone { IsTrue D.models → OpensAlone (D.held disk.old) (D.held disk.new) (D.world disk.old)
+        (D.world disk.new) }
     ensures refused { IsTrue D.models → IfErr result (λ refusal. IsNotOpened refusal.fault (path_of place.entry)
         (D.world disk.old) (D.held disk.old) (D.held disk.new)) }
 {
@@ -213,7 +216,8 @@ fn shape_of<'a, S: Source + Lasting>(
     m: &mut Meter,
 ) -> Result<(Shape, Option<CutPiece<'a>>), SparseCommandFault>
     ensures image { IsTrue S.models → IfOk result (λ one. IsImageOf one.0.blocks one.0.block (S.content source.old)) }
-    ensures piece { IsTrue S.models → IfOk result (λ one. TellsPiece one.1 path.now (GivesBlock (S.content source.old))) }
+    ensures piece { IsTrue S.models → IfOk result (λ one. TellsPiece one.1 path.now
+        (GivesBlock (S.content source.old))) }
     ensures reads { OnlyReads result S.Source source.old source.new }
     ensures refused { IsTrue S.models → IfErr result (λ fault. IsNotRead fault (S.content source.old)
         (S.read_faults source.old) (S.read_faults source.new)) }

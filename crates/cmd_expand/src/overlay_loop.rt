@@ -37,7 +37,8 @@ pub(crate) fn lay_all<'a, D: Disk>(
     ensures settled { IsTrue D.models → (D.InPlace.past onto.old).pending ≡ [] →
         OnOk result ((D.InPlace.past onto.new).pending ≡ []) }
     // of the disk nothing has changed but what has failed, and nothing has failed where all was laid
-    ensures alone { LaysAlone D.models (D.InPlace.size onto.old) (D.InPlace.size onto.new) (D.held disk.old) (D.held disk.new)
+    ensures alone { LaysAlone D.models (D.InPlace.size onto.old) (D.InPlace.size onto.new) (D.held disk.old)
+        (D.held disk.new)
         (D.world disk.old) (D.world disk.new) }
     ensures clean { IsTrue D.models → AllByRecursion (λ one. D.At.read_faults one.source ≡ 0) kept.entry.items →
         OnOk result ((D.held disk.new).failed + D.InPlace.put_faults onto.new
@@ -77,7 +78,8 @@ fn lay_one<'a, D: Disk>(
         ≡ flashed (D.InPlace.content onto.old) (D.At.content one.entry.source)) }
     ensures synced { OnOk result ((D.InPlace.past onto.new).synced ≡ (D.InPlace.past onto.old).synced + 1) }
     ensures settled { IsTrue D.models → OnOk result ((D.InPlace.past onto.new).pending ≡ []) }
-    ensures alone { LaysAlone D.models (D.InPlace.size onto.old) (D.InPlace.size onto.new) (D.held disk.old) (D.held disk.new)
+    ensures alone { LaysAlone D.models (D.InPlace.size onto.old) (D.InPlace.size onto.new) (D.held disk.old)
+        (D.held disk.new)
         (D.world disk.old) (D.world disk.new) }
     ensures clean { IsTrue D.models → OnOk result ((D.held disk.new).failed + D.InPlace.put_faults onto.new
         ≡ (D.held disk.old).failed + D.InPlace.put_faults onto.old + D.At.read_faults one.entry.source) }

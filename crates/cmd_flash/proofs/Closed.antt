@@ -106,7 +106,8 @@ held_late h h' u n s p closed one =
     let more : h'.failed ≡ h.failed + (u + n) = ap (λ (q : OpenFiles). q.failed) closed in omega (arith, one, more)
 
 -- the same of the disk, where what pieces went through is closed behind them
-pub told_held : (h h' : OpenFiles) (none s t u n : ℕ) (raw : Option ℕ) (r r' : Result Delivered FlashFault) (limit from : ℕ)
+pub told_held : (h h' : OpenFiles) (none s t u n : ℕ) (raw : Option ℕ) (r r' : Result Delivered FlashFault)
+    (limit from : ℕ)
     (late : Option Cause) (x p p' : List ℕ) → 1 ≤ from → from < 2 ^ 32 → IfOk r (λ d. 0 < d.pieces)
     → h' ≡ closed_spool (u + n) h → ((c : Cause) → late ≡ Some c → u ≡ 1) → r' ≡ told r from late
     → DeliversPieces (none ≡ 0 → 0 < s + t + n) raw r limit (from - 1) x p p'

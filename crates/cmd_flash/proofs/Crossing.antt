@@ -14,7 +14,8 @@ use Rattle.cmd_flash.specs.InPieces.{Across, SparesBoth}
 use Rattle.cmd_flash.specs.Through.{ClosesSpool}
 
 -- all three were closed
-pub record Crossed (input path spool x p p' : List ℕ) (old new : World) (h h3 h4 h' : OpenFiles) (faults : ℕ) (past : Past)
+pub record Crossed (input path spool x p p' : List ℕ) (old new : World) (h h3 h4 h' : OpenFiles) (faults : ℕ)
+    (past : Past)
     : Type 1 where
   pub across : (P : List ℕ → List ℕ → List ℕ → Type 0) → P x p p' → Across input path spool old new P
   pub others : SparesBoth path spool old new
@@ -32,10 +33,12 @@ read_then h h' h'' f g r o = ap (λ (q : OpenFiles). q.read) o ∙ ap (λ (q : O
 -- the file that is written in place is not the third
 apart_third : (h' h'' : OpenFiles) (f s : ℕ) → h'' ≡ in_place f h' → ¬ Contains h''.begun s → f ≢ s
 apart_third h' h'' f s o fresh same =
-    fresh (subst (λ (q : OpenFiles). Contains q.begun s) (sym o) (subst (λ (z : ℕ). Contains (z ∷ h'.begun) s) (sym same)
+    fresh (subst (λ (q : OpenFiles). Contains q.begun s) (sym o)
+    (subst (λ (z : ℕ). Contains (z ∷ h'.begun) s) (sym same)
     (Contains-append_left (s ∷ []) h'.begun s (Contains-push [] s))))
 
-part_then : (h' h'' h3 h4 h5 : OpenFiles) (f s m n : ℕ) → h'' ≡ in_place f h' → h3 ≡ through s h'' → h4 ≡ closed_spool m h3
+part_then : (h' h'' h3 h4 h5 : OpenFiles) (f s m n : ℕ) → h'' ≡ in_place f h' → h3 ≡ through s h'' → h4
+    ≡ closed_spool m h3
     → h5 ≡ failing n h4 → h5.part ≡ Some f
 part_then h' h'' h3 h4 h5 f s m n o t c l =
     ap (λ (q : OpenFiles). q.part) l ∙ ap (λ (q : OpenFiles). q.part) c ∙ ap (λ (q : OpenFiles). q.part) t
@@ -51,7 +54,8 @@ spared spool a a' a'' a3 a4 a5 h'' h3 same same' s rest last =
     (subst (λ (w : World). Spares s.file a'' w) (sym last) (spares_trans s.file a'' a3 a4 s.spares closed))
 
 -- the partition is handed back as long as it was
-pub as_long_across : (input path spool x p p' : List ℕ) (a a' a'' a3 a4 a5 : World) (h h' h'' h3 h4 h5 : OpenFiles) (n : ℕ)
+pub as_long_across : (input path spool x p p' : List ℕ) (a a' a'' a3 a4 a5 : World) (h h' h'' h3 h4 h5 : OpenFiles)
+    (n : ℕ)
     → OpensFile a input x h h' → a' ≡ a → OpensPart a' path p h' h'' → a'' ≡ a' → OpensSpool spool h'' h3 a'' a3
     → ClosesSpool h3 h4 → SparesRest h3.spool a3 a4 → h5 ≡ failing n h4 → a5 ≡ a4 → length p' ≡ length p
     → IsAsLong h5.part p' a5
@@ -74,7 +78,8 @@ grown : (h3 h4 : OpenFiles) → ClosesSpool h3 h4 → h3.failed ≤ h4.failed
 grown h3 h4 c = let one : h4.failed ≡ h3.failed + c.failures = ap (λ (q : OpenFiles). q.failed) c.closed in omega
     (arith, one)
 
-pub crossed : (input path spool x p p' : List ℕ) (a a' a'' a3 a4 a5 c : World) (h h' h'' h3 h4 h5 h6 : OpenFiles) (n k : ℕ)
+pub crossed : (input path spool x p p' : List ℕ) (a a' a'' a3 a4 a5 c : World) (h h' h'' h3 h4 h5 h6 : OpenFiles)
+    (n k : ℕ)
     (past : Past) (w d : Bool) → OpensFile a input x h h' → a' ≡ a → OpensPart a' path p h' h'' → a'' ≡ a'
     → OpensSpool spool h'' h3 a'' a3 → ClosesSpool h3 h4 → SparesRest h3.spool a3 a4 → h5 ≡ failing n h4 → a5 ≡ a4
     → Ends h5.part p' a5 c → c.at ≡ a5.at → (q : ClosesPart w d past k h5 h6)

@@ -189,7 +189,8 @@ done_across r n G raw limit before before' input path spool x p p' a c h h3 h4 h
 -- one of the files was not opened, and the partition not written
 pub pieces_unopened : (untold : List ℕ → Type 0) (e : SparseCommandFault) (host : HostFault) (raw : Option ℕ)
     (limit before : ℕ)
-    (input path spool : List ℕ) (a c : World) (h h' : OpenFiles) → e ≡ faults.Host host → HasFailed h h' → KeepsFile path a c
+    (input path spool : List ℕ) (a c : World) (h h' : OpenFiles) → e ≡ faults.Host host → HasFailed h h'
+    → KeepsFile path a c
     → RefusesPieces e raw limit before input path spool a c h h' untold
 pieces_unopened untold e host raw limit before input path spool a c h h' is failed kept =
     subst (λ (z : SparseCommandFault). RefusesPieces z raw limit before input path spool a c h h' untold) (sym is)

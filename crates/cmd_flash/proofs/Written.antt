@@ -25,7 +25,8 @@ settled_once past past' fresh one empty =
     ∙ ap (is_settled_in []) (one ∙ ap (λ (q : Past). q.synced + 1) fresh)
 
 -- the files that were read and written
-pub between : (input path x p p' : List ℕ) (a a' b c : World) (h0 h h' : OpenFiles) (P : List ℕ → List ℕ → List ℕ → Type 0)
+pub between : (input path x p p' : List ℕ) (a a' b c : World) (h0 h h' : OpenFiles)
+    (P : List ℕ → List ℕ → List ℕ → Type 0)
     → OpensFile a input x h0 h → a' ≡ a → OpensPart a' path p h h' → b ≡ a' → Ends h'.part p' b c → P x p p'
     → Between input path a c P
 between input path x p p' a a' b c h0 h h' P r same o same' ends so =
@@ -61,14 +62,16 @@ of_file input x a h0 h P r so =
     record { from = r.file; there = r.there; so = subst P r.held so }
 
 -- behind an input that was opened, the file that was written in place is the only one that may hold anything else
-pub others_written : (path p p' : List ℕ) (a a' b c : World) (h h' : OpenFiles) → a' ≡ a → OpensPart a' path p h h' → b ≡ a'
+pub others_written : (path p p' : List ℕ) (a a' b c : World) (h h' : OpenFiles) → a' ≡ a → OpensPart a' path p h h'
+    → b ≡ a'
     → Ends h'.part p' b c → c.at ≡ b.at → SparesOthers path a c
 others_written path p p' a a' b c h h' same o same' ends paths =
     others_spared path p p' a c h h' (subst (λ (w : World). OpensPart w path p h h') same o)
     (subst (λ (w : World). Ends h'.part p' w c) (same' ∙ same) ends) (paths ∙ ap (λ (w : World). w.at) (same' ∙ same))
 
 -- and the input holds what it held
-pub input_kept : (input path x p p' : List ℕ) (a a' b c : World) (h0 h h' : OpenFiles) → OpensFile a input x h0 h → a' ≡ a
+pub input_kept : (input path x p p' : List ℕ) (a a' b c : World) (h0 h h' : OpenFiles) → OpensFile a input x h0 h → a'
+    ≡ a
     → OpensPart a' path p h h' → b ≡ a' → Ends h'.part p' b c → KeepsFile input a c
 input_kept input path x p p' a a' b c h0 h h' r same o same' ends =
     keeps_read input path x p p' a c h0 h h' r (subst (λ (w : World). OpensPart w path p h h') same o)
@@ -76,21 +79,25 @@ input_kept input path x p p' a a' b c h0 h h' r same o same' ends =
 
 -- ---- an input was opened, and a partition; the one was let go, and the other closed
 
-pub record Ran (input path x p p' : List ℕ) (old new : World) (h h' : OpenFiles) (faults : ℕ) (past : Past) : Type 1 where
-  pub with_files : (P : List ℕ → List ℕ → List ℕ → Type 0) → P x p p' → Between input path old new P
-  pub others : SparesOthers path old new
-  pub kept : KeepsFile input old new
-  pub failed : h'.failed ≡ h.failed + faults
-  pub synced : is_settled past ≡ true → h'.syncs ≡ h.syncs + 1
-  pub closed : h'.part ≡ None
+pub record Ran (input path x p p' : List ℕ) (old new : World) (h h' : OpenFiles) (faults : ℕ) (past : Past) : Type 1
+  where
+    pub with_files : (P : List ℕ → List ℕ → List ℕ → Type 0) → P x p p' → Between input path old new P
+    pub others : SparesOthers path old new
+    pub kept : KeepsFile input old new
+    pub failed : h'.failed ≡ h.failed + faults
+    pub synced : is_settled past ≡ true → h'.syncs ≡ h.syncs + 1
+    pub closed : h'.part ≡ None
 
-synced_more : (h h' h'' h3 h4 : OpenFiles) (f g n k : ℕ) (past : Past) (w d : Bool) → h' ≡ reading f h → h'' ≡ in_place g h'
+synced_more : (h h' h'' h3 h4 : OpenFiles) (f g n k : ℕ) (past : Past) (w d : Bool) → h' ≡ reading f h → h''
+    ≡ in_place g h'
     → h3 ≡ failing n h'' → ClosesPart w d past k h3 h4 → is_settled past ≡ true → h4.syncs ≡ h.syncs + 1
 synced_more h h' h'' h3 h4 f g n k past w d r o l c settled =
     ap (λ (q : OpenFiles). q.syncs) c.closed ∙ ap (λ (t : Bool). h3.syncs + (if t then 1 else 0)) settled
-    ∙ ap (λ (q : OpenFiles). q.syncs + 1) l ∙ ap (λ (q : OpenFiles). q.syncs + 1) o ∙ ap (λ (q : OpenFiles). q.syncs + 1) r
+    ∙ ap (λ (q : OpenFiles). q.syncs + 1) l ∙ ap (λ (q : OpenFiles). q.syncs + 1) o
+    ∙ ap (λ (q : OpenFiles). q.syncs + 1) r
 
-failed_more : (h h' h'' h3 h4 : OpenFiles) (f g n k : ℕ) (past : Past) (w d : Bool) → h' ≡ reading f h → h'' ≡ in_place g h'
+failed_more : (h h' h'' h3 h4 : OpenFiles) (f g n k : ℕ) (past : Past) (w d : Bool) → h' ≡ reading f h → h''
+    ≡ in_place g h'
     → h3 ≡ failing n h'' → (c : ClosesPart w d past k h3 h4) → h4.failed ≡ h.failed + (n + k + c.more)
 failed_more h h' h'' h3 h4 f g n k past w d r o l c =
     let one : h'.failed ≡ h.failed = ap (λ (q : OpenFiles). q.failed) r in
@@ -134,7 +141,8 @@ ran_unclosed input path x p p' old new h h' n m past all rose =
     let more : h'.failed ≡ h.failed + (n + m) = all.failed in omega (arith, more, rose)
 
 -- two files were opened to be read, looked at again, and let go
-pub failed_two : (h h' h'' hu h3 h4 : OpenFiles) (f g u n k : ℕ) → h' ≡ reading f h → h'' ≡ reading g h' → hu ≡ failing u h''
+pub failed_two : (h h' h'' hu h3 h4 : OpenFiles) (f g u n k : ℕ) → h' ≡ reading f h → h'' ≡ reading g h' → hu
+    ≡ failing u h''
     → h3 ≡ failing n hu → h4 ≡ failing k h3 → h4.failed ≡ h.failed + (u + (n + k))
 failed_two h h' h'' hu h3 h4 f g u n k r o s l c =
     let one : h'.failed ≡ h.failed = ap (λ (q : OpenFiles). q.failed) r in
@@ -151,7 +159,8 @@ failed_one h h' h'' f n r l =
     let two : h''.failed ≡ h'.failed + n = ap (λ (q : OpenFiles). q.failed) l in
     omega (arith, one, two)
 
-pub rose_one : (h h' h'' : OpenFiles) (f n r : ℕ) → h' ≡ reading f h → h'' ≡ failing n h' → r ≡ 0 → r < n → HasFailed h h''
+pub rose_one : (h h' h'' : OpenFiles) (f n r : ℕ) → h' ≡ reading f h → h'' ≡ failing n h' → r ≡ 0 → r < n
+    → HasFailed h h''
 rose_one h h' h'' f n r opened gone none rose =
     let more : h''.failed ≡ h.failed + n = failed_one h h' h'' f n opened gone in omega (arith, more, none, rose)
 

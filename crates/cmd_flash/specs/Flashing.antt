@@ -88,7 +88,8 @@ FlashesUntold input partition old new held held' untold =
     OnClosed held' (FlashesFile input partition old new held.syncs held'.syncs untold)
 
 -- why the command is refused: for what the files hold; or a file or a device has failed, or the report
-abbrev pub RefusesFlash : SparseCommandFault → List ℕ → List ℕ → World → World → OpenFiles → OpenFiles → (List ℕ → Type 0)
+abbrev pub RefusesFlash : SparseCommandFault → List ℕ → List ℕ → World → World → OpenFiles → OpenFiles
+    → (List ℕ → Type 0)
     → Type 0
 RefusesFlash (faults.Flash f) input partition old new held held' untold =
     OnClosed held' (Between input partition old new (IsUnflashed (HasFailed held held') f))

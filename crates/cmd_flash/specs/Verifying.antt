@@ -80,14 +80,16 @@ pub record VerifiesRawFile (size : ℕ) (input partition : List ℕ) (world : Wo
 
 -- why the command is refused: for what both files hold; or a file or a device has failed, or all was compared, but its
 -- line is untold
-abbrev pub RefusesVerify : SparseCommandFault → List ℕ → List ℕ → World → OpenFiles → OpenFiles → (List ℕ → Type 0) → Type 0
+abbrev pub RefusesVerify : SparseCommandFault → List ℕ → List ℕ → World → OpenFiles → OpenFiles → (List ℕ → Type 0)
+    → Type 0
 RefusesVerify (faults.Verify f) input partition world held held' untold =
     OfBoth input partition world (IsNotThere (HasFailed held held') f)
 RefusesVerify (faults.Host f) input partition world held held' untold =
     HasFailed held held' ⊎ VerifiesFile input partition world untold
 RefusesVerify f input partition world held held' untold = ⊥
 
-abbrev pub RefusesVerifyRaw : SparseCommandFault → ℕ → List ℕ → List ℕ → World → OpenFiles → OpenFiles → (List ℕ → Type 0)
+abbrev pub RefusesVerifyRaw : SparseCommandFault → ℕ → List ℕ → List ℕ → World → OpenFiles → OpenFiles
+    → (List ℕ → Type 0)
     → Type 0
 RefusesVerifyRaw (faults.Verify f) size input partition world held held' untold =
     OfBoth input partition world (IsNotThereRaw (HasFailed held held') f size)

@@ -38,7 +38,8 @@ pub fn flash_raw_file<'a, D: Disk>(
         (D.world disk.new)) (path_of input.entry) (D.held disk.old) (D.held disk.new) (D.world disk.old)
         (D.world disk.new) }
     // it is refused for its blocks, for want of room, or where a file, a device or the report failed
-    ensures refused { IsTrue D.models → IfErr result (λ refusal. RefusesFlashRaw refusal.fault size (path_of input.entry)
+    ensures refused { IsTrue D.models → IfErr result (λ refusal. RefusesFlashRaw refusal.fault size
+        (path_of input.entry)
         (path_of partition.entry) (D.world disk.old) (D.world disk.new) (D.held disk.old) (D.held disk.new)
         (Unprinted report.old report.new)) }
 {

@@ -28,7 +28,8 @@ pub fn list_file<'a, D: Disk>(
     ensures done { IsTrue D.models → OnOk result (OfFile (path_in input.entry) (D.world disk.old) (λ x.
         IsListed x (λ text. report.new.out.log.state.bytes ≡ report.old.out.log.state.bytes ++ text))) }
     // every file stays as it is; and where it is done nothing has failed
-    ensures leaves { LeavesAll D.models result (D.held disk.old) (D.held disk.new) (D.world disk.old) (D.world disk.new) }
+    ensures leaves { LeavesAll D.models result (D.held disk.old) (D.held disk.new) (D.world disk.old)
+        (D.world disk.new) }
     // it is refused for the first fault that IN has, or where its file failed, or the report
     ensures refused { IsTrue D.models → IfErr result (λ refusal. RefusesList refusal.fault (path_in input.entry)
         (D.world disk.old) (D.held disk.old) (D.held disk.new)

@@ -31,7 +31,8 @@ pub fn verify_file<'a, D: Disk>(
     ensures done { IsTrue D.models → OnOk result (VerifiesFile (path_in input.entry) (path_of partition.entry)
         (D.world disk.old) (ShowsHere report.old report.new)) }
     // every file stays as it is; and where it is done nothing has failed
-    ensures leaves { LeavesAll D.models result (D.held disk.old) (D.held disk.new) (D.world disk.old) (D.world disk.new) }
+    ensures leaves { LeavesAll D.models result (D.held disk.old) (D.held disk.new) (D.world disk.old)
+        (D.world disk.new) }
     // it is refused for the first byte that differs or the first fault that IN has, or where a file or the report failed
     ensures refused { IsTrue D.models → IfErr result (λ refusal. RefusesVerify refusal.fault (path_in input.entry)
         (path_of partition.entry) (D.world disk.old) (D.held disk.old) (D.held disk.new)
@@ -79,7 +80,8 @@ pub fn verify_raw_file<'a, D: Disk>(
     ensures done { IsTrue D.models → OnOk result (VerifiesRawFile size (path_of input.entry) (path_of partition.entry)
         (D.world disk.old) (ShowsHere report.old report.new)) }
     // every file stays as it is; and where it is done nothing has failed
-    ensures leaves { LeavesAll D.models result (D.held disk.old) (D.held disk.new) (D.world disk.old) (D.world disk.new) }
+    ensures leaves { LeavesAll D.models result (D.held disk.old) (D.held disk.new) (D.world disk.old)
+        (D.world disk.new) }
     // it is refused for the first byte that differs, for the size of blocks, or where a file or the report failed
     ensures refused { IsTrue D.models → IfErr result (λ refusal. RefusesVerifyRaw refusal.fault size
         (path_of input.entry) (path_of partition.entry) (D.world disk.old) (D.held disk.old) (D.held disk.new)

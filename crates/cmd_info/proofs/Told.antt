@@ -201,7 +201,8 @@ refuses_host other h k fault host same failed =
     let d : k.failed ≡ h.failed + 1 = ap (λ q. q.failed) failed in
     inl (host, same, omega (arith, d))
 
-pub tells_file : (path x : List ℕ) (o : Notation) (with_check : Bool) (world : World) (h h' : OpenFiles) (old new : Report)
+pub tells_file : (path x : List ℕ) (o : Notation) (with_check : Bool) (world : World) (h h' : OpenFiles)
+    (old new : Report)
     → OpensFile world path x h h' → TellsImage o with_check x old new → TellsFile path o with_check world old new
 tells_file path x o with_check world h h' old new opens told = record {
   file = opens.file;
@@ -209,7 +210,8 @@ tells_file path x o with_check world h h' old new opens told = record {
   told = subst (λ z. TellsImage o with_check z old new) opens.held told;
 }
 
-pub none_failed : (path x : List ℕ) (world : World) (h h' k : OpenFiles) (r r' : ℕ) → OpensFile world path x h h' → r ≡ 0
+pub none_failed : (path x : List ℕ) (world : World) (h h' k : OpenFiles) (r r' : ℕ) → OpensFile world path x h h' → r
+    ≡ 0
     → r' ≡ r → k ≡ failing r' h' → k.failed ≡ h.failed
 none_failed path x world h h' k r r' opens none same let_go =
     let e : h'.failed ≡ h.failed = ap (λ q. q.failed) opens.taken in

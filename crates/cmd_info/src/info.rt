@@ -36,7 +36,8 @@ pub fn info_file<'t, 'a, D: Disk>(
         (D.world disk.new) }
     ensures begun { IsTrue D.models → (D.held disk.new).begun ≡ (D.held disk.old).begun }
     // it is refused for a fault that IN has, for an answer that is no, or since a call or standard output failed
-    ensures refused { IsTrue D.models → IfErr result (λ refusal. RefusesInfo (path_of input.entry) (notation_of with_hex)
+    ensures refused { IsTrue D.models → IfErr result (λ refusal. RefusesInfo (path_of input.entry)
+        (notation_of with_hex)
         with_check (D.world disk.old) (HasFailed (D.held disk.old) (D.held disk.new)) report.old report.new
         refusal.fault) }
 {

@@ -110,7 +110,8 @@ none_unread a b c d e f g h = omega (arith, e, f, g, h)
 outside_host : (fault : BootCommandFault) (f : HostFault) → fault ≡ faults.Host f → IsOutsideBoot fault
 outside_host fault f same = subst IsOutsideBoot (sym same) tt
 
-pub filling_stops : (command : PackCommand) (w : World) (x : List ℕ) (h : Header) (A : List ℕ → Type 0) (k k' : OpenFiles)
+pub filling_stops : (command : PackCommand) (w : World) (x : List ℕ) (h : Header) (A : List ℕ → Type 0)
+    (k k' : OpenFiles)
     (f : HostFault) (fault : BootCommandFault)
     → ((path : List ℕ) → A path → IsGivenPath command.texts (kind_of h) path) → StopsOpening A k k' f
     → fault ≡ faults.Host f → StopsFillingAgain command w x h (HasFailed k k') fault
@@ -149,7 +150,8 @@ pub boards_set : (command : PackCommand) (words : List (Bor (List ℕ))) (said s
 boards_set command words said set all same are told = subst (AreSet (board_id_words command) said) (sym told)
     (subst (λ l. AreSet (map (λ word. word.now) l) said set) same are)
 
-pub behind_stops : (command : PackCommand) (w : World) (x : List ℕ) (h : Header) (kind : ImageKind) (k k' k'' k3 : OpenFiles)
+pub behind_stops : (command : PackCommand) (w : World) (x : List ℕ) (h : Header) (kind : ImageKind)
+    (k k' k'' k3 : OpenFiles)
     (v : World) (f : HostFault) (fault : BootCommandFault)
     → OpensMore (IsFragmentInput command.texts.fragments.items) w k k'
     → OpensMore (IsPartInput command.texts.options.items (part_sections kind)) v k' k'' → k3 ≡ failing 1 k''
@@ -262,7 +264,8 @@ module _ (command : PackCommand) (x : List ℕ) (h : Header) (w w' : World) (k k
   same_failed : k'.failed ≡ k.failed
   same_failed = ap (λ q. q.failed) r.opened.taken
 
-  pub left_again : {X F : Type 0} (q : Result X F) (w'' : World) (k'' : OpenFiles) (path : List ℕ) (over : List ℕ → Bool)
+  pub left_again : {X F : Type 0} (q : Result X F) (w'' : World) (k'' : OpenFiles) (path : List ℕ)
+      (over : List ℕ → Bool)
       → path ≡ output_path command.output.now → LeavesOut q path (over path) (λ y. y ≡ bytes) k' k'' w' w''
       → LeavesOut q (output_path command.output.now) (over (output_path command.output.now))
       (IsPackedAgain command x h w) k k'' w w''
@@ -277,7 +280,8 @@ module _ (command : PackCommand) (x : List ℕ) (h : Header) (w w' : World) (k k
   failed_again : (k'' : OpenFiles) → HasFailed k' k'' → HasFailed k k''
   failed_again k'' more = let e = same_failed in omega (arith, e, more)
 
-  pub writing_stops : (w'' : World) (k'' : OpenFiles) (path : List ℕ) (shows : List ℕ → Type 0) (fault : BootCommandFault)
+  pub writing_stops : (w'' : World) (k'' : OpenFiles) (path : List ℕ) (shows : List ℕ → Type 0)
+      (fault : BootCommandFault)
       → path ≡ output_path command.output.now
       → StopsWriting refusal k' k'' w' w'' (LaysImage path k'.read bytes w' w'' shows) fault
       → RefusesAgain command x h w w'' (HasFailed k k'') (PacksAgain command x h k.read w w'' shows) fault

@@ -10,7 +10,8 @@ on_ok_by (Ok x) to p = to p
 on_ok_by (Err e) to p = tt
 
 -- the same told with another answer
-pub left_told : {X Y F G : Type 0} {x : X} (y : Y) {output : List ℕ} {over : Bool} {W : List ℕ → Type 0} {h h' : OpenFiles}
+pub left_told : {X Y F G : Type 0} {x : X} (y : Y) {output : List ℕ} {over : Bool} {W : List ℕ → Type 0}
+    {h h' : OpenFiles}
     {a b : World} → LeavesOut {F = F} (Ok x) output over W h h' a b → LeavesOut {F = G} (Ok y) output over W h h' a b
 left_told y left = record {
   others = left.others;

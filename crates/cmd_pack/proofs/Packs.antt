@@ -67,7 +67,8 @@ filling_stops A B words count h h' k f (opening.no_text path is bad why) told wi
 filling_stops A B words count h h' k f (opening.no_memory why) told wider =
     refusing.no_memory (told ∙ ap faults.Host why)
 
-pub board_stops : (A : List ℕ → Type 0) (words words' : List (List ℕ)) (m n : ℕ) (h h' : OpenFiles) (f : BootCommandFault)
+pub board_stops : (A : List ℕ → Type 0) (words words' : List (List ℕ)) (m n : ℕ) (h h' : OpenFiles)
+    (f : BootCommandFault)
     → IsBadBoard words m f → words ≡ words' → m ≡ n → StopsFilling A words' n h h' f
 board_stops A words words' m n h h' f bad named same =
     refusing.wrong_board (subst (λ k. IsBadBoard words' k f) same (subst (λ ws. IsBadBoard ws m f) named bad))
@@ -198,7 +199,8 @@ synced_behind A w h h' h'' opens synced = synced ∙ ap (λ k. k.syncs + (if k.i
 
 -- the image was written behind the opening of its parts
 pub left_behind : {X F : Type 0} (r : Result X F) (A : List ℕ → Type 0) (q path : List ℕ) (over : List ℕ → Bool)
-    (W : List ℕ → Type 0) (bytes : List ℕ) (w w' v : World) (h h' h'' : OpenFiles) → q ≡ path → w' ≡ w → OpensMore A w h h'
+    (W : List ℕ → Type 0) (bytes : List ℕ) (w w' v : World) (h h' h'' : OpenFiles) → q ≡ path → w' ≡ w
+    → OpensMore A w h h'
     → ((x : List ℕ) → x ≡ bytes → W x) → LeavesOut r q (over q) (λ x. x ≡ bytes) h' h'' w' v
     → LeavesOut r path (over path) W h h'' w v
 left_behind r A q path over W bytes w w' v h h' h'' named same opens to left = record {
@@ -234,7 +236,8 @@ pub refuses_words : (command : PackCommand) (w : World) (h : OpenFiles) (Done : 
 refuses_words command w h Done f g wrong told =
     subst (RefusesPack command w w h h Done) (sym told) (refusing.wrong_words wrong refl refl)
 
-pub refuses_filling : (command : PackCommand) (w v : World) (h h' : OpenFiles) (Done : Type 0) (f : BootCommandFault) → v ≡ w
+pub refuses_filling : (command : PackCommand) (w v : World) (h h' : OpenFiles) (Done : Type 0) (f : BootCommandFault)
+    → v ≡ w
     → StopsFilling (IsGivenPath command.texts (asked_kind command)) (board_id_words command)
     (length command.texts.fragments.items) h h' f → RefusesPack command w v h h' Done f
 refuses_filling command w v h h' Done f same (refusing.unopened outside more) = refusing.failed outside more
@@ -243,7 +246,8 @@ refuses_filling command w v h h' Done f same (refusing.no_text path is bad told)
 refuses_filling command w v h h' Done f same (refusing.no_memory told) = refusing.too_little told same
 refuses_filling command w v h h' Done f same (refusing.wrong_board bad) = refusing.bad_board bad same
 
-pub refuses_writing : {P : Type 0} (content : P → List ℕ) (command : PackCommand) (w w' v : World) (h h' h'' : OpenFiles)
+pub refuses_writing : {P : Type 0} (content : P → List ℕ) (command : PackCommand) (w w' v : World)
+    (h h' h'' : OpenFiles)
     (given : BootFields) (c : ImageContents P) (Laid Done : Type 0) (f : BootCommandFault) → w' ≡ w
     → OpensMore (IsGivenPath command.texts (asked_kind command)) w h h'
     → AreGiven no_fields (asked_kind command) command.page command.texts.options.items given → c.kind ≡ asked_kind

@@ -4,7 +4,8 @@ use Rattle.std.proofs.Common.{◌∙◌, subst, arith}
 use Rattle.std.specs.Prelude.{Contains, OnOk, Result, Ok, Err, if◌then◌else◌, unwrap_or}
 use Rattle.std.proofs.lemmas.List.Elements.{Contains-append_left, Contains-push}
 use Rattle.sys_refusals.specs.Paths.{output_path}
-use Rattle.sys_disk.specs.World.{World, OpenFiles, HasFailed, HasNotFailed, KeepsFile, OnlyAt, OpensFile, Spares, failing}
+use Rattle.sys_disk.specs.World.{World, OpenFiles, HasFailed, HasNotFailed, KeepsFile, OnlyAt, OpensFile, Spares}
+use Rattle.sys_disk.specs.World.{failing}
 use Rattle.sys_disk.specs.World.{untouched, in_output}
 use Rattle.std.proofs.Common.{append_assoc}
 use Rattle.abt_sections.specs.Header.{Header, image_header_at, view_of}
@@ -36,7 +37,8 @@ reads_failed h r r' more = record { rises = omega (arith, more) }
 
 -- ---- what IN begins with
 
-pub begins : (input x : List ℕ) (w : World) (h h' : OpenFiles) (image : Image) → OpensFile w input x h h' → IsOpened x image
+pub begins : (input x : List ℕ) (w : World) (h h' : OpenFiles) (image : Image) → OpensFile w input x h h'
+    → IsOpened x image
     → BeginsWith input w x (view_of image.header)
 begins input x w h h' image o opened = record {
   file = record { file = o.file; there = o.there; holds = sym o.held };
@@ -169,7 +171,8 @@ module _ (input : List ℕ) (command : PackCommand) (x : List ℕ) (image : Imag
       (again_more command x (view_of image.header) w1 w2 P (HasFailed h h3) Done Done' fault why more done)))
 
 -- all that has failed is counted where the image is let go
-pub failed_all : (path bytes : List ℕ) (w : World) (h h1 h2 h3 : OpenFiles) (r r' : ℕ) → OpensFile w path bytes h h1 → r ≡ 0
+pub failed_all : (path bytes : List ℕ) (w : World) (h h1 h2 h3 : OpenFiles) (r r' : ℕ) → OpensFile w path bytes h h1
+    → r ≡ 0
     → SomeFailed h1 r h2 r' → h3 ≡ failing r' h2 → HasFailed h h3
 failed_all path bytes w h h1 h2 h3 r r' o none more let_go =
     let e : h1.failed ≡ h.failed = ap (λ k. k.failed) o.taken in
@@ -177,7 +180,8 @@ failed_all path bytes w h h1 h2 h3 r r' o none more let_go =
     let m = more.rises in
     omega (arith, e, d, m, none)
 
-pub clean_all : (path bytes : List ℕ) (w : World) (h h1 h2 h3 : OpenFiles) (r r' : ℕ) → OpensFile w path bytes h h1 → r ≡ 0
+pub clean_all : (path bytes : List ℕ) (w : World) (h h1 h2 h3 : OpenFiles) (r r' : ℕ) → OpensFile w path bytes h h1
+    → r ≡ 0
     → NoMoreFailed h1 r h2 r' → h3 ≡ failing r' h2 → HasNotFailed h h3
 clean_all path bytes w h h1 h2 h3 r r' o none same let_go =
     let e : h1.failed ≡ h.failed = ap (λ k. k.failed) o.taken in

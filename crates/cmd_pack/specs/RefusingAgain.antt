@@ -67,7 +67,8 @@ pub data RefusesAgain (command : PackCommand) (x : List ℕ) (h : Header) (old n
 
 -- Why `repack` is refused: IN could not be read or is no image, before anything is opened to be written; or what its
 -- file holds is not packed again.
-pub data RefusesRepack (input : List ℕ) (command : PackCommand) (old new : World) (held held' : OpenFiles) (Done : Type 0)
+pub data RefusesRepack (input : List ℕ) (command : PackCommand) (old new : World) (held held' : OpenFiles)
+    (Done : Type 0)
     (fault : BootCommandFault) : Type 0 where
   no_image : RefusesImage input old (HasFailed held held') ⊥ fault → new ≡ old
       → RefusesRepack input command old new held held' Done fault

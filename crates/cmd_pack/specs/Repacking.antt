@@ -128,7 +128,8 @@ pub record KeepsRead (input : List ℕ) (command : PackCommand) (old new : World
 
 -- an image was opened that is packed again, whose kind is this: the fragments that are given are taken by that, and
 -- where none is given, all entries of the image's table are kept
-pub record IsAtHand {S : Type 0} (models : Bool) (content : S → List ℕ) (own : Own S) (kept : OwnData) (texts : PackTexts)
+pub record IsAtHand {S : Type 0} (models : Bool) (content : S → List ℕ) (own : Own S) (kept : OwnData)
+    (texts : PackTexts)
     (its_kind : ImageKind) : Type 0 where
   pub opened : IsTrue models → IsOpened (content own.source) own.image
   pub kind : its_kind ≡ kind_of (view_of own.image.header)

@@ -24,7 +24,8 @@ use Rattle.cmd_common_boot.specs.declared.pack_texts.FragmentText.{FragmentText}
 use Rattle.cmd_common_boot.specs.declared.pack_texts.OptionText.{OptionText}
 use Rattle.cmd_common_boot.specs.declared.part_rows.PartRow.{PartRow}
 use Rattle.cmd_pack_inputs.specs.Opening.{OpensMore, StopsOpening}
-use Rattle.cmd_pack_inputs.specs.Parts.{AddsFragment, AreFragmentsOf, ArePartsOf, IsFragmentOf, IsFragmentInput, IsPartBy}
+use Rattle.cmd_pack_inputs.specs.Parts.{AddsFragment, AreFragmentsOf, ArePartsOf, IsFragmentOf, IsFragmentInput}
+use Rattle.cmd_pack_inputs.specs.Parts.{IsPartBy}
 use Rattle.cmd_pack_inputs.specs.Parts.{IsPartInput, IsPathOf}
 use Rattle.cmd_pack_inputs.specs.BadBoards.{IsBadBoard}
 use Rattle.cmd_pack_inputs.proofs.Openings.{opens_file, opens_none, opens_then, stops_more, stops_then}
@@ -139,7 +140,8 @@ row_path o rows i d ss path there named sections of_row =
 
 -- a row's file was not opened
 pub row_stops : (w : World) (o : List OptionText) (rows : List PartRow) (i : ℕ) (d : PartRow) (ss : List Section)
-    (h h' h'' : OpenFiles) (f : HostFault) → i < length rows → All (λ (r : PartRow). r.option.now ≡ option_of r.section) rows
+    (h h' h'' : OpenFiles) (f : HostFault) → i < length rows → All
+    (λ (r : PartRow). r.option.now ≡ option_of r.section) rows
     → map (λ (r : PartRow). r.section) rows ≡ ss
     → OpensMore (IsPartInput o (map (λ (r : PartRow). r.section) (take i rows))) w h h'
     → StopsOpening (IsPathOf o (get_or rows i d).option.now) h' h'' f → StopsOpening (IsPartInput o ss) h h'' f
@@ -234,7 +236,8 @@ file_stops w texts items i d h h' h'' f all there at before stops =
 -- ---- one fragment with its file
 
 pub fragment_added : {R E P : Type 0} (r : Result R E) (specs_of : R → List FragmentSpec) (sources_of : R → List P)
-    (content : P → List ℕ) (w : World) (text : FragmentText) (spec : FragmentSpec) (p : P) (path : List ℕ) (h h' : OpenFiles)
+    (content : P → List ℕ) (w : World) (text : FragmentText) (spec : FragmentSpec) (p : P) (path : List ℕ)
+    (h h' : OpenFiles)
     (specs : List FragmentSpec) (sources : List P) → text.spec ≡ Some spec → path ≡ text.path.items
     → OpensFile w path (content p) h h' → IfOk r (λ x. specs_of x ≡ specs ++ (spec ∷ []))
     → IfOk r (λ x. sources_of x ≡ sources ++ (p ∷ []))
@@ -294,7 +297,8 @@ option_stops (Err e) fault options name path option h h' given is stops =
     stops_more (λ p. p ≡ path) (IsPathOf options name) h h' (fault e) stops
     (λ p same. record { option = option; given = given; is_path = same ∙ is })
 
-pub own_opens : {X E : Type 0} (r : Result X E) (options : List OptionText) (name : List ℕ) (w : World) (h h' : OpenFiles)
+pub own_opens : {X E : Type 0} (r : Result X E) (options : List OptionText) (name : List ℕ) (w : World)
+    (h h' : OpenFiles)
     → found options name ≡ None → h' ≡ failing (unless (is_ok r)) h → OnOk r (OpensMore (IsPathOf options name) w h h')
 own_opens (Ok p) options name w h h' none held =
     opens_none (IsPathOf options name) w h h' (held ∙ same_failing h)

@@ -48,10 +48,12 @@ opens_then A B C w w' h h' h'' same a b split = record {
 }
 
 -- no file has changed
-pub only_more : {A : List ℕ → Type 0} {v w w' : World} {h h' : OpenFiles} → OpensMore A v h h' → w' ≡ w → OnlyOpens h h' w w'
+pub only_more : {A : List ℕ → Type 0} {v w w' : World} {h h' : OpenFiles} → OpensMore A v h h' → w' ≡ w
+    → OnlyOpens h h' w w'
 only_more a same = record { world = same; output = ap (λ k. k.output) a.taken }
 
-pub only_failing : {models : Bool} {n : ℕ} {w w' : World} {h h' : OpenFiles} → FailsOnly models n h h' w w' → IsTrue models
+pub only_failing : {models : Bool} {n : ℕ} {w w' : World} {h h' : OpenFiles} → FailsOnly models n h h' w w'
+    → IsTrue models
     → OnlyOpens h h' w w'
 only_failing f t = record { world = f.world t; output = ap (λ k. k.output) (f.held t) }
 

@@ -27,7 +27,8 @@ use Rattle.cmd_pack_inputs.specs.Own.{AllEndBehind, EndsBehind, entries_to}
 
 -- ---- where it stands
 
-found_is : (b : Bool) (q place : SectionPlace) (r : Option SectionPlace) (P : SectionPlace → Type 0) → cond b (Some q) r ≡ Some place → P q
+found_is : (b : Bool) (q place : SectionPlace) (r : Option SectionPlace) (P : SectionPlace → Type 0)
+    → cond b (Some q) r ≡ Some place → P q
     → (r ≡ Some place → P place) → P place
 found_is true q place r P e here behind = subst P (ap (λ o. unwrap_or o q) e) here
 found_is false q place r P e here behind = behind e
@@ -47,7 +48,8 @@ ends_within n q inside some =
     (both_false (nat_lt 0 q.size) (nat_lt n (q.at + q.size)) inside (lt-ltb 0 q.size some))
 
 -- a section that is found ends within the bytes, of which every section is there
-pub lies : (p : SectionPlace → Bool) (ps : List SectionPlace) (n : ℕ) (place : SectionPlace) → find p ps ≡ Some place → beyond ps n ≡ None
+pub lies : (p : SectionPlace → Bool) (ps : List SectionPlace) (n : ℕ) (place : SectionPlace) → find p ps ≡ Some place
+    → beyond ps n ≡ None
     → 0 < place.size → place.at + place.size ≤ n
 unfolding beyond
 lies p [] n place e there = absurd (none-some place e)

@@ -87,7 +87,8 @@ pub fn open_fragments<'a, D: Disk>(
 ) -> Result<Ramdisks<'a, D::At>, HostRefusal<'a>>
     requires first { IsTrue D.models → (D.held disk.old).begun ≡ [] }
     requires said { All (λ fragment. IsSome fragment.spec) texts.now.fragments.items }
-    ensures fragments { IsTrue D.models → IfOk result (λ all. AreFragmentsOf (D.world disk.old) texts.now.fragments.items
+    ensures fragments { IsTrue D.models → IfOk result (λ all. AreFragmentsOf (D.world disk.old)
+        texts.now.fragments.items
         all.specs.items (map ⟦<PartSource<'a, D::At> as Source>⟧.content all.sources.items)) }
     ensures opens { OpensEach D.models result (IsFragmentInput texts.now.fragments.items)
         (λ all. total ⟦<PartSource<'a, D::At> as Source>⟧.read_faults all.sources.items) 0

@@ -5,7 +5,8 @@ use Rattle.std.specs.Prelude.{IsOk, IfOk, OnOk, OnErr, Result, Ok, Err, is_ok, i
 use Rattle.std.proofs.lemmas.Bool.{false≢true}
 use Rattle.std.proofs.lemmas.List.Sums.{sum_by-append}
 use Rattle.abt_sections.specs.Cause.{total}
-use Rattle.sys_disk.specs.World.{ClosesOutput, Creates, HasFailed, HasNotFailed, OpenFiles, World, ended, failing, unended}
+use Rattle.sys_disk.specs.World.{ClosesOutput, Creates, HasFailed, HasNotFailed, OpenFiles, World, ended, failing}
+use Rattle.sys_disk.specs.World.{unended}
 use Rattle.sys_disk.specs.World.{untouched}
 use Rattle.cmd_pack_outputs.specs.Writing.{LeavesOut}
 
@@ -67,7 +68,8 @@ closes_undone r n h h' h'' before end some = record {
 }
 
 -- an image was laid, and brought to its end
-pub closes_laid : (r0 w0 r n : ℕ) (h h' h'' : OpenFiles) → r0 ≡ 0 → w0 ≡ 0 → h' ≡ failing r h → h'' ≡ ended true (0 + n) h'
+pub closes_laid : (r0 w0 r n : ℕ) (h h' h'' : OpenFiles) → r0 ≡ 0 → w0 ≡ 0 → h' ≡ failing r h → h''
+    ≡ ended true (0 + n) h'
     → r + n ≡ r0 + w0 → ClosesOutput true h h''
 closes_laid r0 w0 r n h h' h'' none_r none_w before end same =
     closes_done r (0 + n) h h' h'' before end (omega (arith, same, none_r, none_w))
@@ -89,7 +91,8 @@ answered answer (Ok y) is = ap is_ok is
 answered answer (Err e) is = tt
 
 -- what was answered is told by the end
-pub closes_answer : {X Y F G : Type 0} (answer : Result X F) (result : Result Y G) (r0 w0 r n : ℕ) (h h' h'' : OpenFiles)
+pub closes_answer : {X Y F G : Type 0} (answer : Result X F) (result : Result Y G) (r0 w0 r n : ℕ)
+    (h h' h'' : OpenFiles)
     → r0 ≡ 0 → w0 ≡ 0 → h' ≡ failing r h → h'' ≡ ended (is_ok result) (unended (is_ok answer) (is_ok result) + n) h'
     → OnOk answer (r + n ≡ r0 + w0) → OnErr answer (r0 + w0 < r + n) → OnOk result (IsOk answer)
     → ClosesOutput (is_ok result) h h''
@@ -103,17 +106,20 @@ closes_answer (Err f) (Ok y) r0 w0 r n h h' h'' zero_r zero_w before end clean c
 
 -- ---- from the creation of the output on
 
-pub failed_created : (path : List ℕ) (h h' h'' : OpenFiles) (a b : World) → Creates path h h' a b → ClosesOutput false h' h''
+pub failed_created : (path : List ℕ) (h h' h'' : OpenFiles) (a b : World) → Creates path h h' a b
+    → ClosesOutput false h' h''
     → HasFailed h h''
 failed_created path h h' h'' a b made closes =
     omega (arith, ap (λ k. k.failed) made.begins, ap (λ k. k.failed) closes.closed, closes.cause refl)
 
-pub clean_created : (path : List ℕ) (h h' h'' : OpenFiles) (a b : World) → Creates path h h' a b → ClosesOutput true h' h''
+pub clean_created : (path : List ℕ) (h h' h'' : OpenFiles) (a b : World) → Creates path h h' a b
+    → ClosesOutput true h' h''
     → HasNotFailed h h''
 clean_created path h h' h'' a b made closes =
     omega (arith, ap (λ k. k.failed) made.begins, ap (λ k. k.failed) closes.closed, closes.clean refl)
 
-pub synced_created : (path : List ℕ) (h h' h'' : OpenFiles) (a b : World) → Creates path h h' a b → ClosesOutput true h' h''
+pub synced_created : (path : List ℕ) (h h' h'' : OpenFiles) (a b : World) → Creates path h h' a b
+    → ClosesOutput true h' h''
     → h''.syncs ≡ h.syncs + (if h.is_synced then 1 else 0)
 synced_created path h h' h'' a b made closes =
     ap (λ k. k.syncs) closes.closed ∙ ap (λ k. k.syncs + (if k.is_synced then 1 else 0)) made.begins

@@ -35,7 +35,8 @@ one o f g a b = ap (λ p. unwrap_or p 0) (sym a ∙ b)
 
 -- ---- all is at hand
 
-pub ready_image : {F S P : Type 0} {models : Bool} {size : P → ℕ} (faults : P → ℕ) {c : ImageContents P} (image : ImageTo F S)
+pub ready_image : {F S P : Type 0} {models : Bool} {size : P → ℕ} (faults : P → ℕ) {c : ImageContents P}
+    (image : ImageTo F S)
     (file_written : F → List ℕ) (file_faults : F → ℕ) (stream_written : S → List ℕ) (stream_faults : S → ℕ)
     → IsAccepted size c → (IsTrue models → faults_in faults c ≡ 0)
     → OfImage (λ f. file_written f ≡ []) (λ s. stream_written s ≡ []) image
@@ -73,7 +74,8 @@ part_whole output bytes h h' a b c made ends = λ file at.
     inr (inr (ap (λ f. c.holds f) (sym is) ∙ it.0))
 
 -- whatever was told of it then
-pub left_done : {X F : Type 0} (r : Result X F) (output bytes : List ℕ) (over : Bool) (h h' h'' : OpenFiles) (a b c : World)
+pub left_done : {X F : Type 0} (r : Result X F) (output bytes : List ℕ) (over : Bool) (h h' h'' : OpenFiles)
+    (a b c : World)
     → Creates output h h' a b → SparesRest h'.output b c → Ends h'.output bytes b c
     → ClosesOutput true h' h'' → LeavesOut r output over (λ x. x ≡ bytes) h h'' a c
 left_done r output bytes over h h' h'' a b c made rest ends closes = record {
@@ -151,7 +153,8 @@ counts_end (Err f) b (Ok end) to k told done is = absurd (false≢true (ap is_ok
 counts_end a b (Err x) to k told done is = tt
 
 pub ends_end : {F G R : Type 0} (a : Result ℕ F) (b : Result ℕ G) (r : Result (ℕ × Bool) R) (to : F → G)
-    (x w bytes : List ℕ) (n : ℕ) (h h' : OpenFiles) (u v c : World) → MatchResult a (λ n. b ≡ Ok n) (λ f. b ≡ Err (to f))
+    (x w bytes : List ℕ) (n : ℕ) (h h' : OpenFiles) (u v c : World)
+    → MatchResult a (λ n. b ≡ Ok n) (λ f. b ≡ Err (to f))
     → IfOk r (λ end. b ≡ Ok end.0) → w ≡ [] → h' ≡ failing n h → v ≡ u → OnOk a (x ≡ w ++ bytes)
     → OnOk r (Ends h'.output x v c) → OnOk r (Ends h.output bytes u c)
 ends_end (Ok m) b (Ok end) to x w bytes n h h' u v c told done none held same is ends =
@@ -187,7 +190,8 @@ pub part_behind : (bytes : List ℕ) (n : ℕ) (h h' : OpenFiles) (c : World) �
     bytes c
     → LeavesNoneOrAll h.output bytes c
 part_behind bytes n h h' c held left =
-    let o : h'.output ≡ h.output = ap (λ (k : OpenFiles). k.output) held in subst (λ o. LeavesNoneOrAll o bytes c) o left
+    let o : h'.output ≡ h.output = ap (λ (k : OpenFiles). k.output) held in subst (λ o. LeavesNoneOrAll o bytes c) o
+    left
 
 pub rest_behind : (n : ℕ) (h h' : OpenFiles) (u v c : World) → h' ≡ failing n h → v ≡ u → SparesRest h'.output v c
     → SparesRest h.output u c

@@ -2,7 +2,8 @@
 use Rattle.std.specs.Prelude.{◌≡◌, ◌<◌, ◌⊎◌, ℕ, Bool, List, [], ◌∷◌, ◌++◌, length, Option, Some, None, IsTrue}
 use Rattle.std.specs.Prelude.{Contains, Result, IfErr, IfOk, OnErr, OnOk, ◌+◌, if◌then◌else◌, is_ok}
 use Rattle.abt_sections.specs.declared.fault.SectionFault.{SectionFault}
-use Rattle.sys_disk.specs.World.{ClosesOutput, Ends, HasFailed, HasNotFailed, OpenFiles, OnlyAt, Spares, SparesRest, World}
+use Rattle.sys_disk.specs.World.{ClosesOutput, Ends, HasFailed, HasNotFailed, OpenFiles, OnlyAt, Spares, SparesRest}
+use Rattle.sys_disk.specs.World.{World}
 use Rattle.sys_refusals.specs.declared.refusal.HostFault.{HostFault}
 use Rattle.sys_refusals.specs.declared.refusal.HostFault.TheVariants as hosts
 use Rattle.cmd_common_boot.specs.Parts.{IsBoot}

@@ -4,7 +4,8 @@ ghost use Rattle.std.specs.Prelude.{◌≡◌, ◌<◌, ◌+◌, ◌++◌, IsTru
 ghost use Rattle.abt_sections.specs.Broken.{IsBrokenOff};
 ghost use Rattle.cmd_common_boot.specs.Parts.{IsBoot};
 ghost use Rattle.cmd_common_boot.specs.Refused.{IsOfMoving};
-ghost use Rattle.cmd_pack_outputs.specs.Contents.{faults_in, image_from, packed_image, packing_of, refusal_from, refusal_in};
+ghost use Rattle.cmd_pack_outputs.specs.Contents.{faults_in, image_from, packed_image, packing_of, refusal_from};
+ghost use Rattle.cmd_pack_outputs.specs.Contents.{refusal_in};
 ghost use Rattle.cmd_pack_outputs.specs.Writing.{IsAccepted, IsAcceptedAlone, PacksBytes};
 
 use crate::contents::ImageContents;

@@ -28,7 +28,8 @@ pub fn sparse_command<'a, D: Disk>(
     requires one { IsTrue D.models → (D.held disk.old).part ≡ None }
     requires through { IsTrue D.models → (D.held disk.old).spool ≡ None }
     // the task is done, by its own command, at the files that its words name
-    ensures done { IsTrue D.models → OnOk result (DoesTask D.on_output task.entry (state (D.world disk.old) (D.held disk.old)
+    ensures done { IsTrue D.models → OnOk result (DoesTask D.on_output task.entry
+        (state (D.world disk.old) (D.held disk.old)
         report.old) (state (D.world disk.new) (D.held disk.new) report.new)) }
     // whatever the outcome, what it reads holds what it held, and none has changed but what it is to write; it is done
     // only where nothing failed

@@ -42,10 +42,12 @@ pub(crate) fn expand_files<'a, D: Disk>(
     m: &mut Meter,
 ) -> Result<(), SparseRefusal<'a>>
     requires ready { IsTrue D.models → MayOverlay (D.held disk.old) }
-    ensures done { IsTrue D.models → OnOk result (ExpandsImages D.on_output (map (λ word. word.now) inputs.now) output.now
+    ensures done { IsTrue D.models → OnOk result (ExpandsImages D.on_output (map (λ word. word.now) inputs.now)
+        output.now
         (state (D.world disk.old) (D.held disk.old) report.old)
         (state (D.world disk.new) (D.held disk.new) report.new)) }
-    ensures leaves { IsTrue D.models → LeavesSpared result (SparesExpanded (map (λ word. word.now) inputs.now) output.now)
+    ensures leaves { IsTrue D.models → LeavesSpared result (SparesExpanded (map (λ word. word.now) inputs.now)
+        output.now)
         (state (D.world disk.old) (D.held disk.old) report.old)
         (state (D.world disk.new) (D.held disk.new) report.new) }
     ensures refused { IsTrue D.models → IfErr result (λ refusal. RefusesExpand refusal.fault
@@ -195,7 +197,8 @@ pub(crate) fn flash_pieces<'a, D: Disk>(
     m: &mut Meter,
 ) -> Result<(), SparseRefusal<'a>>
     requires ready { IsTrue D.models → MayFlashPieces (D.held disk.old) }
-    ensures done { IsTrue D.models → OnOk result (FlashesImage D.on_output input.now partition.now raw (Some pieces.entry)
+    ensures done { IsTrue D.models → OnOk result (FlashesImage D.on_output input.now partition.now raw
+        (Some pieces.entry)
         (state (D.world disk.old) (D.held disk.old) report.old)
         (state (D.world disk.new) (D.held disk.new) report.new)) }
     ensures leaves { IsTrue D.models → LeavesSpared result (SparesFlashed input.now partition.now (Some pieces.entry))

@@ -82,7 +82,8 @@ part_clean path h h' h'' u v r r' w w' made empty same done =
     record { stays = omega (arith, e, d, empty, same) }
 
 -- one step behind another
-pub none_then : (h h' h'' : OpenFiles) (r r' r'' : ℕ) → NoMoreFailed h r h' r' → NoMoreFailed h' r' h'' r'' → NoMoreFailed h
+pub none_then : (h h' h'' : OpenFiles) (r r' r'' : ℕ) → NoMoreFailed h r h' r' → NoMoreFailed h' r' h'' r''
+    → NoMoreFailed h
     r h'' r''
 none_then h h' h'' r r' r'' first next = record { stays = next.stays ∙ first.stays }
 
@@ -91,7 +92,8 @@ pub some_then : (h h' h'' : OpenFiles) (r r' r'' : ℕ) → NoMoreFailed h r h' 
 some_then h h' h'' r r' r'' first next = record { rises = omega (arith, first.stays, next.rises) }
 
 -- behind a file that was opened, and before it is let go
-pub failed_within : (path bytes : List ℕ) (w : World) (h h' g h'' k : OpenFiles) (r q r' : ℕ) → OpensFile w path bytes h h'
+pub failed_within : (path bytes : List ℕ) (w : World) (h h' g h'' k : OpenFiles) (r q r' : ℕ)
+    → OpensFile w path bytes h h'
     → r ≡ 0 → q ≡ r → g ≡ failing 0 h' → SomeFailed g q h'' r' → k ≡ failing r' h'' → h.failed < k.failed
 failed_within path bytes w h h' g h'' k r q r' opens none same free failed let_go =
     let e : h'.failed ≡ h.failed = ap (λ q. q.failed) opens.taken in
@@ -99,7 +101,8 @@ failed_within path bytes w h h' g h'' k r q r' opens none same free failed let_g
     let d : k.failed ≡ h''.failed + r' = ap (λ q. q.failed) let_go in
     omega (arith, e, f, d, none, same, failed.rises)
 
-pub clean_within : (path bytes : List ℕ) (w : World) (h h' g h'' k : OpenFiles) (r q r' : ℕ) → OpensFile w path bytes h h'
+pub clean_within : (path bytes : List ℕ) (w : World) (h h' g h'' k : OpenFiles) (r q r' : ℕ)
+    → OpensFile w path bytes h h'
     → r ≡ 0 → q ≡ r → g ≡ failing 0 h' → NoMoreFailed g q h'' r' → k ≡ failing r' h'' → k.failed ≡ h.failed
 clean_within path bytes w h h' g h'' k r q r' opens none same free clean let_go =
     let e : h'.failed ≡ h.failed = ap (λ q. q.failed) opens.taken in

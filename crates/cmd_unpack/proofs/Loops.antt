@@ -101,7 +101,8 @@ fragments_more folder header x y n h h' a b same kept done next =
     (fragments_later folder header x n h h' a b kept done)
     (subst (λ z. IsMade h' b (path_of_part folder (parts.Fragment n)) (fragment_of z header n)) same next)
 
-pub no_sections : (folder : List ℕ) (header : Header) (x : List ℕ) (h : OpenFiles) (w : World) → SectionsDone folder header x
+pub no_sections : (folder : List ℕ) (header : Header) (x : List ℕ) (h : OpenFiles) (w : World)
+    → SectionsDone folder header x
     0 h w
 no_sections folder header x h w = λ k below. absurd (omega (arith, below))
 
@@ -110,7 +111,8 @@ pub no_fragments : (folder : List ℕ) (header : Header) (x : List ℕ) (h : Ope
 no_fragments folder header x h w = λ k below. absurd (omega (arith, below))
 
 -- what stands does so where only a count has risen
-done_failing : (path bytes : List ℕ) (h : OpenFiles) (n : ℕ) (w : World) → IsMade h w path bytes → IsMade (failing n h) w
+done_failing : (path bytes : List ℕ) (h : OpenFiles) (n : ℕ) (w : World) → IsMade h w path bytes
+    → IsMade (failing n h) w
     path bytes
 done_failing path bytes h n w done = record {
   file = done.file;
@@ -119,7 +121,8 @@ done_failing path bytes h n w done = record {
   listed = done.listed;
 }
 
-pub begun_failing : (folder : List ℕ) (with_words : Bool) (header : Header) (x : List ℕ) (h : OpenFiles) (n : ℕ) (w : World)
+pub begun_failing : (folder : List ℕ) (with_words : Bool) (header : Header) (x : List ℕ) (h : OpenFiles) (n : ℕ)
+    (w : World)
     → PartsBegun folder with_words header x h w → PartsBegun folder with_words header x (failing n h) w
 begun_failing folder with_words header x h n w (up_to_section i below sections) =
     up_to_section i below (λ k under p found. done_failing _ _ h n w (sections k under p found))
@@ -139,7 +142,8 @@ begun_later folder with_words header x h k n c d let_go same begun =
     (begun_failing folder with_words header x h n c begun))
 
 -- and so do those before a refusal
-done_let_go : (path bytes : List ℕ) (h k : OpenFiles) (n : ℕ) (c d : World) → k ≡ failing n h → d ≡ c → IsMade h c path bytes
+done_let_go : (path bytes : List ℕ) (h k : OpenFiles) (n : ℕ) (c d : World) → k ≡ failing n h → d ≡ c
+    → IsMade h c path bytes
     → IsMade k d path bytes
 done_let_go path bytes h k n c d let_go same done =
     subst (λ w. IsMade k w path bytes) (sym same)
@@ -182,7 +186,8 @@ fragment_named folder header i path there is_path =
     record { index = i; below = omega arith; there = there; is_path = is_path }
 
 -- an output that was created empty, written, and brought to its end
-pub part_done : (path path' before after bytes : List ℕ) (b : Bool) (n : ℕ) (h h' h'' : OpenFiles) (u v w : World) → path
+pub part_done : (path path' before after bytes : List ℕ) (b : Bool) (n : ℕ) (h h' h'' : OpenFiles) (u v w : World)
+    → path
     ≡ path'
     → before ≡ [] → after ≡ before ++ bytes → Creates path h h' u v → h'' ≡ ended b n h' → Ends h'.output after v w
     → IsMade h'' w path' bytes

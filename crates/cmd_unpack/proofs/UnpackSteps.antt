@@ -10,12 +10,14 @@ use Rattle.cmd_unpack.proofs.Counts.{none_then, nothing_failed, part_clean, same
 use Rattle.cmd_unpack.proofs.Counts.{syncs_then}
 
 -- n parts were written
-abbrev pub Written : ℕ → (List ℕ → Type 0) → {A : Type 0} → sources.Ghosts A → A → A → OpenFiles → OpenFiles → World → World
+abbrev pub Written : ℕ → (List ℕ → Type 0) → {A : Type 0} → sources.Ghosts A → A → A → OpenFiles → OpenFiles → World
+    → World
     → Type 0
 Written n P s a b h h' u v = WritesParts {X = Unit {0}} {E = Unit {0}} (Ok tt) n P s a b h h' u v
 
 -- one was refused
-abbrev pub Stopped : (List ℕ → Type 0) → {A : Type 0} → sources.Ghosts A → A → A → OpenFiles → OpenFiles → World → World → Type 0
+abbrev pub Stopped : (List ℕ → Type 0) → {A : Type 0} → sources.Ghosts A → A → A → OpenFiles → OpenFiles → World
+    → World → Type 0
 Stopped P s a b h h' u v = WritesParts {X = Unit {0}} {E = Unit {0}} (Err tt) 0 P s a b h h' u v
 
 module _ {A : Type 0} {s : sources.Ghosts A} {a b : A} {h h' : OpenFiles} {u v : World} where
@@ -78,7 +80,8 @@ parts_none {s = s} {a = a} {h = h} {u = u} {P = P} closed = record {
 
 module _ {A : Type 0} {s : sources.Ghosts A} {a b : A} {P : List ℕ → Type 0} {path : List ℕ} (named : P path) where
   -- the file could not be created
-  pub part_refused : {X E : Type 0} {e : E} {n : ℕ} {h h' : OpenFiles} {u v : World} → h.output ≡ None → h' ≡ failing 1 h
+  pub part_refused : {X E : Type 0} {e : E} {n : ℕ} {h h' : OpenFiles} {u v : World} → h.output ≡ None → h'
+      ≡ failing 1 h
       → OnlyAt h.read path u v → KeepsBegun h.begun u v → WritesParts {X = X} (Err e) n P s a b h h' u v
   part_refused {h = h} {h' = h'} {u = u} {v = v} closed kept only begun = record {
     content = tt;

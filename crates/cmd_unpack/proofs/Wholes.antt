@@ -105,13 +105,15 @@ twice h h' h'' m n first next =
     next ∙ ap (λ k. failing n k) first ∙ ap (λ f. record h { failed = f }) sum
 
 -- whatever was done behind a file that was opened, before it was let go
-within : (P : List ℕ → Type 0) (h' g h'' k : OpenFiles) (b c d : World) (m n : ℕ) → g ≡ failing m h' → GoesAmong P g h'' b c
+within : (P : List ℕ → Type 0) (h' g h'' k : OpenFiles) (b c d : World) (m n : ℕ) → g ≡ failing m h'
+    → GoesAmong P g h'' b c
     → k ≡ failing n h'' → d ≡ c → GoesAmong P h' k b d
 within P h' g h'' k b c d m n taken goes let_go same =
     goes_then P h' h'' k b c d (goes_then P h' g h'' b b c (goes_none P h' g b b m taken refl) goes)
     (goes_none P h'' k c d n let_go same)
 
-pub only_let_go : (path folder x : List ℕ) (with_words : Bool) (header : Header) (h h' g h'' k : OpenFiles) (a b c d : World)
+pub only_let_go : (path folder x : List ℕ) (with_words : Bool) (header : Header) (h h' g h'' k : OpenFiles)
+    (a b c d : World)
     (m n : ℕ) → h.begun ≡ [] → OpensFile a path x h h' → b ≡ a → HasImage x header → g ≡ failing m h'
     → GoesAmong (IsPartPath folder with_words header) g h'' b c → k ≡ failing n h'' → d ≡ c
     → OnlyAmong (IsPartOf path folder with_words a) h.read k.begun a d

@@ -17,7 +17,8 @@ pub record WritesParts {X E : Type 0} (r : Result X E) (n : ℕ) (Named : List �
   pub clean : OnOk r (NoMoreFailed held (s.read_faults source) held' (s.read_faults source'))
 
 -- After an Ok the output that was open holds these bytes; all other files are as they were, whatever is answered.
-pub record EndsPart {X E : Type 0} (models : Bool) (r : Result X E) (bytes : List ℕ) (held : OpenFiles) (old new : World)
+pub record EndsPart {X E : Type 0} (models : Bool) (r : Result X E) (bytes : List ℕ) (held : OpenFiles)
+    (old new : World)
     : Type 0 where
   pub ended : IsTrue models → OnOk r (Ends held.output bytes old new)
   pub rest : IsTrue models → SparesRest held.output old new

@@ -37,7 +37,8 @@ pub(crate) fn write_section<'t, 'a, D: Disk>(
 ) -> BootOutcome<'t, 'a>
     requires there { i < length (places_of (view_of image.now.header)) }
     requires one { IsTrue D.models → (D.held disk.old).output ≡ None }
-    ensures writes { IsTrue D.models → WritesParts result 1 (IsSectionPath folder.now (view_of image.now.header) (i + 1))
+    ensures writes { IsTrue D.models → WritesParts result 1 (IsSectionPath folder.now (view_of image.now.header)
+        (i + 1))
         D.At.Source source.old source.new (D.held disk.old) (D.held disk.new) (D.world disk.old) (D.world disk.new) }
     ensures done { IsTrue D.models → OnOk result (SectionDone folder.now (view_of image.now.header)
         (D.At.content source.old) i (D.held disk.new) (D.world disk.new)) }

@@ -103,7 +103,8 @@ file_done folder h x i held world name bytes found same made =
     subst (λ o. IfSome o (λ n. IsMade held world (path_in_folder folder n) (part_bytes_at x h i))) (sym found)
     (subst (λ b. IsMade held world (path_in_folder folder name) b) same made)
 
-pub no_file : (folder : List ℕ) (h : Header) (x : List ℕ) (i : ℕ) (held : OpenFiles) (world : World) → name_at h i ≡ None
+pub no_file : (folder : List ℕ) (h : Header) (x : List ℕ) (i : ℕ) (held : OpenFiles) (world : World) → name_at h i
+    ≡ None
     → FileDone folder h x i held world
 no_file folder h x i held world none =
     subst (λ o. IfSome o (λ n. IsMade held world (path_in_folder folder n) (part_bytes_at x h i))) (sym none) tt
@@ -163,7 +164,8 @@ all_stand : (folder : List ℕ) (h : Header) (x : List ℕ) (i : ℕ) (k : OpenF
 all_stand folder h x i k w None done = tt
 all_stand folder h x i k w (Some n) done = stands k w _ _ done
 
-pub unpacks_all : (path folder x : List ℕ) (header : Header) (h h' h'' : OpenFiles) (a c : World) → OpensFile a path x h h'
+pub unpacks_all : (path folder x : List ℕ) (header : Header) (h h' h'' : OpenFiles) (a c : World)
+    → OpensFile a path x h h'
     → HasImage x header → FilesDone folder header x (file_count header) h'' c → UnpacksAsAosp path folder a c
 unpacks_all path folder x header h h' h'' a c opens image done = record {
   from = opens.file;
@@ -216,7 +218,8 @@ taken_refused path x h h' h'' k a n fault opens let_go (inl call) =
 taken_refused path x h h' h'' k a n fault opens let_go (inr unnamed) = inr unnamed
 
 -- nothing was begun
-pub nothing_begun : {X E A : Type 0} {e : E} {s : sources.Ghosts A} {a : A} {P : List ℕ → Type 0} {h : OpenFiles} {u : World}
+pub nothing_begun : {X E A : Type 0} {e : E} {s : sources.Ghosts A} {a : A} {P : List ℕ → Type 0} {h : OpenFiles}
+    {u : World}
     → h.output ≡ None → WritesParts {X = X} (Err e) 0 P s a a h h u u
 nothing_begun {s = s} {a = a} {P = P} {h = h} {u = u} closed =
     let none = parts_none {s = s} {a = a} {h = h} {u = u} {P = P} closed in record {

@@ -3,7 +3,8 @@
 ghost use Rattle.std.specs.Prelude.{◌≡◌, ◌++◌, ◌&&◌};
 ghost use Rattle.std.specs.List.{flat_map};
 ghost use Rattle.sys_text.specs.Printed.{Prints};
-ghost use Rattle.cmd_unpack_aosp_texts.specs.Shell.{are_safe, between_quotes, word_bytes, escaped_quote, is_blank, is_safe};
+ghost use Rattle.cmd_unpack_aosp_texts.specs.Shell.{are_safe, between_quotes, word_bytes, escaped_quote, is_blank};
+ghost use Rattle.cmd_unpack_aosp_texts.specs.Shell.{is_safe};
 ghost use Rattle.cmd_unpack_aosp_texts.specs.Shell.{shell_quoted};
 
 use abt_io::Output;

@@ -93,7 +93,8 @@ module _ (folder x : List ℕ) (h : Header) (command : PackCommand) (world : Wor
               (found options (codes "tags-offset")) (found options (codes "dtb-offset")) kernel ramdisk second tags dtb;
         }
 
-    parts_ready : (table : Bool) (places : List SectionPlace) (parts : List (List ℕ)) → AllByRecursion (IsListed table) places
+    parts_ready : (table : Bool) (places : List SectionPlace) (parts : List (List ℕ))
+        → AllByRecursion (IsListed table) places
         → SaysFiles (image_words folder x h) folder table places
         → AllByRecursion (λ p. FileHolds world (path_of_part folder (section_part p)) (part_of x p)) places
         → ArePartsOf world command.texts.options.items nothing (map (λ p. p.kind) places) parts

@@ -28,10 +28,14 @@ use Rattle.cmd_common_fields.specs.Options.{address_option, option_of}
 use Rattle.cmd_common_fields.specs.declared.fields.Address.TheVariants as addresses
 use Rattle.cmd_common_fields.specs.declared.fields.TextField.TheVariants as texts
 use Rattle.cmd_common_texts.specs.Info as info
-use Rattle.cmd_common_texts.specs.Words.{address_word, address_words, board_option, board_word, board_words, cmdline_word}
-use Rattle.cmd_common_texts.specs.Words.{entry_words, escaped_in_name, flag_word, fragment_option, fragment_words, has_table}
-use Rattle.cmd_common_texts.specs.Words.{header_words, image_words, is_month, kind_words, name_bytes, name_words, number_word}
-use Rattle.cmd_common_texts.specs.Words.{option_front, or_empty, os_option, os_text, os_words, part_word, section_option}
+use Rattle.cmd_common_texts.specs.Words.{address_word, address_words, board_option, board_word, board_words}
+use Rattle.cmd_common_texts.specs.Words.{cmdline_word}
+use Rattle.cmd_common_texts.specs.Words.{entry_words, escaped_in_name, flag_word, fragment_option, fragment_words}
+use Rattle.cmd_common_texts.specs.Words.{has_table}
+use Rattle.cmd_common_texts.specs.Words.{header_words, image_words, is_month, kind_words, name_bytes, name_words}
+use Rattle.cmd_common_texts.specs.Words.{number_word}
+use Rattle.cmd_common_texts.specs.Words.{option_front, or_empty, os_option, os_text, os_words, part_word}
+use Rattle.cmd_common_texts.specs.Words.{section_option}
 use Rattle.cmd_common_texts.specs.Words.{section_words, text_over, text_word, words_if, words_text}
 use Rattle.law_boot.specs.Said.{IsHeld}
 use Rattle.law_boot.proofs.FragmentsSay.{entry_name, name_of_bytes}

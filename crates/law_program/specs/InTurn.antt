@@ -70,7 +70,8 @@ IsNoPiece prefix world file = (n : ℕ) → ¬ (world.at (piece_path prefix n) �
 -- An image is cut, and each piece is flashed to a partition, which is no piece, by a command of its own: it holds then
 -- what flashing the image leaves of what it held before.
 abbrev pub CutThenFlashed : Type 0
-CutThenFlashed = (limit : ℕ) (input partition : List ℕ) (names : Naming) (held held' : OpenFiles) (a b c : World) (onto : ℕ)
+CutThenFlashed = (limit : ℕ) (input partition : List ℕ) (names : Naming) (held held' : OpenFiles) (a b c : World)
+    (onto : ℕ)
     (cut : CutsInTurn limit input names held held' a b) → a.at partition ≡ Some onto → IsNoPiece names.prefix b onto
     → FlashesEach partition (piece_paths names 1 cut.done.count) b c
     → c.holds onto ≡ flashed (a.holds onto) (a.holds cut.done.from)

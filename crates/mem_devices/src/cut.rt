@@ -152,7 +152,8 @@ impl<D: Partition> Partition for Cut<D> {
     fn write_at(&mut self, at: u64, bytes: &[u8]) -> Result<usize, DeviceFault>
         requires window { length bytes.now ≤ 65536 }
         requires fits { at + length bytes.now ≤ D.size self.old.device }
-        ensures laid { let p = ⟦<Cut<D> as Partition>⟧ in HasLaid p.models p.content p.past result self.old self.new at bytes.now }
+        ensures laid { let p = ⟦<Cut<D> as Partition>⟧ in HasLaid p.models p.content p.past result self.old self.new
+            at bytes.now }
         ensures put { let p = ⟦<Cut<D> as Partition>⟧ in HasPut p.size p.reads p.given p.read_faults p.puts p.taken
             p.syncs p.put_faults result self.old self.new (length bytes.now) }
         ensures most { MovesAtMost (count_of result) self.old.most self.new.most }

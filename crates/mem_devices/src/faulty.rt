@@ -199,7 +199,8 @@ impl<D: Partition> Partition for Faulty<D> {
     fn write_at(&mut self, at: u64, bytes: &[u8]) -> Result<usize, DeviceFault>
         requires window { length bytes.now ≤ 65536 }
         requires fits { at + length bytes.now ≤ D.size self.old.device }
-        ensures laid { let p = ⟦<Faulty<D> as Partition>⟧ in HasLaid p.models p.content p.past result self.old self.new at bytes.now }
+        ensures laid { let p = ⟦<Faulty<D> as Partition>⟧ in HasLaid p.models p.content p.past result self.old
+            self.new at bytes.now }
         ensures put { let p = ⟦<Faulty<D> as Partition>⟧ in HasPut p.size p.reads p.given p.read_faults p.puts p.taken
             p.syncs p.put_faults result self.old self.new (length bytes.now) }
         ensures once { FailsOnce result self.old.at self.new.at self.old.seen self.new.seen self.old.writes.number
@@ -213,7 +214,8 @@ impl<D: Partition> Partition for Faulty<D> {
     }
 
     fn sync(&mut self) -> Result<(), DeviceFault>
-        ensures settled { let p = ⟦<Faulty<D> as Partition>⟧ in HasSettled p.models p.content p.past result self.old self.new }
+        ensures settled { let p = ⟦<Faulty<D> as Partition>⟧ in HasSettled p.models p.content p.past result self.old
+            self.new }
         ensures synced { let p = ⟦<Faulty<D> as Partition>⟧ in HasSynced p.size p.reads p.given p.read_faults p.puts p.taken
             p.syncs p.put_faults result self.old self.new }
         ensures once { FailsOnce result self.old.at self.new.at self.old.seen self.new.seen self.old.others.number

@@ -90,7 +90,8 @@ impl<P: Partition> Partition for Marred<P> {
     fn write_at(&mut self, at: u64, bytes: &[u8]) -> Result<usize, DeviceFault>
         requires window { length bytes.now ≤ 65536 }
         requires fits { at + length bytes.now ≤ P.size self.old.partition }
-        ensures laid { let p = ⟦<Marred<P> as Partition>⟧ in HasLaid p.models p.content p.past result self.old self.new at bytes.now }
+        ensures laid { let p = ⟦<Marred<P> as Partition>⟧ in HasLaid p.models p.content p.past result self.old
+            self.new at bytes.now }
         ensures put { let p = ⟦<Marred<P> as Partition>⟧ in HasPut p.size p.reads p.given p.read_faults p.puts p.taken
             p.syncs p.put_faults result self.old self.new (length bytes.now) }
         ensures tears { self.old.is_done ≡ false → at ≤ self.old.at → self.old.at < at + length bytes.now →

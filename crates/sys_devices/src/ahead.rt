@@ -169,7 +169,8 @@ impl<F: SystemFile + Drop> AheadSource<F> {
     /// How long the file is now, if it is not as it was when it was opened, or has fewer bytes than were given of it from
     /// memory since the piece began.
     pub fn shorter(&self) -> Option<u64>
-        ensures { IsTrue F.models → IfSome result (λ n. n ≡ length (file_bytes F.stands self.now.from.value.source.file)) }
+        ensures { IsTrue F.models → IfSome result (λ n. n ≡ length
+            (file_bytes F.stands self.now.from.value.source.file)) }
     {
         self.file().shorter()
     }

@@ -112,12 +112,14 @@ first_or file f files listed = elim (Contains-append_cases (file ∷ []) files f
   | inr rest ↦ inl rest
 ]
 
-begun_now : (path : List ℕ) (h h' h'' : OpenFiles) (b : Bool) (n : ℕ) (old new : World) (made : Creates path h h' old new)
+begun_now : (path : List ℕ) (h h' h'' : OpenFiles) (b : Bool) (n : ℕ) (old new : World)
+    (made : Creates path h h' old new)
     → h'' ≡ ended b n h' → h''.begun ≡ made.file ∷ h.begun
 begun_now path h h' h'' b n old new made closed = ap (λ k. k.begun) closed ∙ ap (λ k. k.begun) made.begins
 
 -- an output that was created, and then brought to its end or let go
-pub goes_written : (P : List ℕ → Type 0) (path : List ℕ) (b : Bool) (n : ℕ) (h h' h'' : OpenFiles) (u v w : World) → P path
+pub goes_written : (P : List ℕ → Type 0) (path : List ℕ) (b : Bool) (n : ℕ) (h h' h'' : OpenFiles) (u v w : World)
+    → P path
     → Creates path h h' u v → h'' ≡ ended b n h' → SparesRest h'.output v w → GoesAmong P h h'' u w
 goes_written P path b n h h' h'' u v w named made closed rest =
     let after = spared path h h' u v w made rest in
@@ -147,7 +149,8 @@ keeps_written path b n h h' h'' u v w made closed rest =
           (Contains-append_right (made.file ∷ []) h.begun f listed);
     }
 
-pub made_written : (path bytes : List ℕ) (b : Bool) (n : ℕ) (h h' h'' : OpenFiles) (u v w : World) → Creates path h h' u v
+pub made_written : (path bytes : List ℕ) (b : Bool) (n : ℕ) (h h' h'' : OpenFiles) (u v w : World)
+    → Creates path h h' u v
     → h'' ≡ ended b n h' → Ends h'.output bytes v w → IsMade h'' w path bytes
 made_written path bytes b n h h' h'' u v w made closed ends =
     let now : (w.holds made.file ≡ bytes) × Spares made.file v w =
@@ -162,7 +165,8 @@ made_written path bytes b n h h' h'' u v w made closed ends =
 
 -- ---- what is done stays done
 
-pub keeps_none : (h h' : OpenFiles) (a b : World) (n : ℕ) → h.output ≡ None → h' ≡ failing n h → b ≡ a → KeepsMade h h' a b
+pub keeps_none : (h h' : OpenFiles) (a b : World) (n : ℕ) → h.output ≡ None → h' ≡ failing n h → b ≡ a
+    → KeepsMade h h' a b
 keeps_none h h' a b n closed same_held same = record {
   closed = ap (λ k. k.output) same_held ∙ closed;
   leads = λ p f there. subst (λ w. w.at p ≡ Some f) (sym same) there;
@@ -185,7 +189,8 @@ keeps_refused path h h' a b n closed same_held only begun = record {
   listed = λ f listed. subst (λ k. Contains k.begun f) (sym same_held) listed;
 }
 
-pub keeps_then : (h h' h'' : OpenFiles) (a b c : World) → KeepsMade h h' a b → KeepsMade h' h'' b c → KeepsMade h h'' a c
+pub keeps_then : (h h' h'' : OpenFiles) (a b c : World) → KeepsMade h h' a b → KeepsMade h' h'' b c
+    → KeepsMade h h'' a c
 keeps_then h h' h'' a b c first next = record {
   closed = next.closed;
   leads = λ p f there. next.leads p f (first.leads p f there);
@@ -202,7 +207,8 @@ made_later h h' a b path bytes kept done = record {
   listed = kept.listed done.file done.listed;
 }
 
-pub stands : (h : OpenFiles) (world : World) (path bytes : List ℕ) → IsMade h world path bytes → FileHolds world path bytes
+pub stands : (h : OpenFiles) (world : World) (path bytes : List ℕ) → IsMade h world path bytes
+    → FileHolds world path bytes
 stands h world path bytes done = record {
   file = done.file;
   there = done.there;
@@ -242,7 +248,8 @@ among_behind P path bytes h h' h'' a b c none opens same goes = record {
           (Contains-append_left h.read (opens.file ∷ []) f listed));
     }
 
-pub among_none : (P : List ℕ → Type 0) (h h' : OpenFiles) (a b : World) (n : ℕ) → h.begun ≡ [] → h' ≡ failing n h → b ≡ a
+pub among_none : (P : List ℕ → Type 0) (h h' : OpenFiles) (a b : World) (n : ℕ) → h.begun ≡ [] → h' ≡ failing n h → b
+    ≡ a
     → OnlyAmong P h.read h'.begun a b
 among_none P h h' a b n none same_held same = record {
   leads = λ p f there. subst (λ w. w.at p ≡ Some f) (sym same) there;

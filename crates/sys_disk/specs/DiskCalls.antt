@@ -88,7 +88,8 @@ pub record LetsGo (models : Bool) (failures : ℕ) (h h' : OpenFiles) (before af
   pub rest : IsTrue models → SparesRest h.output before after
 
 -- and it holds these bytes, or its front isn't there
-pub record LetsImageGo (models : Bool) (bytes : List ℕ) (failures : ℕ) (h h' : OpenFiles) (before after : World) : Type 0
+pub record LetsImageGo (models : Bool) (bytes : List ℕ) (failures : ℕ) (h h' : OpenFiles) (before after : World) :
+    Type 0
   where
     pub left : IsTrue models → Leaves h.output bytes after
     pub closed : IsTrue models → h' ≡ worlds.ended false failures h
@@ -97,7 +98,8 @@ pub record LetsImageGo (models : Bool) (bytes : List ℕ) (failures : ℕ) (h h'
 -- ---- for runs of calls
 
 -- no file has changed, and after an Ok nothing has failed
-pub record LeavesAll {A F : Type 0} (models : Bool) (r : Result A F) (h h' : OpenFiles) (before after : World) : Type 0 where
+pub record LeavesAll {A F : Type 0} (models : Bool) (r : Result A F) (h h' : OpenFiles) (before after : World) : Type
+    0 where
   pub world : IsTrue models → after ≡ before
   pub clean : IsTrue models → OnOk r (HasNotFailed h h')
 

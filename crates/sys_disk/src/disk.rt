@@ -89,7 +89,8 @@ pub trait Disk {
 
     /// What is open, to be read a second time beside the first.
     fn again<'a>(&mut self, at: &Self::At, place: FileArg<'a>) -> Result<Self::At, HostRefusal<'a>>
-        ensures content { IsTrue Self.At.models → IfOk result (λ again. Self.At.content again ≡ Self.At.content at.now) }
+        ensures content { IsTrue Self.At.models → IfOk result
+            (λ again. Self.At.content again ≡ Self.At.content at.now) }
         ensures clean { IsTrue models → IfOk result (λ again. Self.At.read_faults again ≡ 0) }
         ensures held { IsTrue models → held self.new ≡ failing (unless (is_ok result)) (held self.old) }
         ensures world { IsTrue models → world self.new ≡ world self.old };

@@ -63,20 +63,23 @@ pub trait SystemFile {
 
     /// One read of the bytes at its place, which goes on behind them.
     fn read(&mut self, out: &mut [u8]) -> io::Result<usize>
-        ensures { ReadsAtPlace models (stands self.old) (stands self.new) (place self.old) (place self.new) result out.new };
+        ensures { ReadsAtPlace models (stands self.old) (stands self.new) (place self.old) (place self.new) result
+            out.new };
 
     /// One write of a prefix of these bytes at its place, which goes on behind them. Where a signal interrupted it, it did
     /// nothing.
     fn write(&mut self, bytes: &[u8]) -> io::Result<usize>
         requires { IsTrue models → place self.old ≤ length (Self.stands self.old) }
-        ensures writes { WritesAt models (Self.stands self.old) (Self.stands self.new) result (place self.old) bytes.now }
+        ensures writes { WritesAt models (Self.stands self.old) (Self.stands self.new) result (place self.old)
+            bytes.now }
         ensures again { IsTrue models → IfErr result (λ e. error_kind e ≡ ErrorKind.Interrupted
             → Self.stands self.new ≡ Self.stands self.old) }
         ensures moves { IsTrue models → place self.new ≡ place self.old + count_of result };
 
     /// Goes to a place, where it has places.
     fn go_to(&mut self, at: u64) -> io::Result<()>
-        ensures { IsTrue models → GoesTo (stands self.old) (stands self.new) (place self.old) (place self.new) result at };
+        ensures { IsTrue models → GoesTo (stands self.old) (stands self.new) (place self.old) (place self.new) result
+            at };
 
     /// Cuts it off, or appends zeros.
     fn set_len(&mut self, n: u64) -> io::Result<()>
@@ -86,7 +89,8 @@ pub trait SystemFile {
 
     /// Makes all that was written durable.
     fn sync(&mut self) -> io::Result<()>
-        ensures { IsTrue models → SettlesFile (stands self.old) (stands self.new) (past self.old) (past self.new) result };
+        ensures { IsTrue models → SettlesFile (stands self.old) (stands self.new) (past self.old) (past self.new)
+            result };
 
     /// What it tells are bytes.
     ghost are_bytes: { (s : Self) → IsTrue models → AreBytes (stands s) };

@@ -13,7 +13,8 @@ use Rattle.sys_host.specs.Forward.{known, bytes_of_known}
 
 -- one read at a file's place is one of a reader whose bytes are those from there on
 pub reads_known : {E : Type 0} (models : Bool) (old new : List ℕ) (p p' : ℕ) (r : Result ℕ E) (out : List ℕ)
-    → ReadsAtPlace models old new p p' r out → ReadConsumes (known models (drop p old)) (known models (drop p' new)) r out
+    → ReadsAtPlace models old new p p' r out → ReadConsumes (known models (drop p old)) (known models (drop p' new)) r
+    out
 reads_known false old new p p' (Ok n) out e = record { 0 = tt; 1 = λ z some. tt }
 reads_known false old new p p' (Err x) out e = tt
 reads_known true old new p p' (Ok n) out e =

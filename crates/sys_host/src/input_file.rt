@@ -28,7 +28,8 @@ pub struct InputFile<F: SystemFile + Drop> {
     count: Tally,
     faults: Tally,
     ghost told: { IsTrue F.models → IsTrue (is_some (reader_remaining (left_of F.models F.stands F.place) reader)) },
-    ghost bytes: { IsTrue F.models → AreBytes (bytes_of_known (reader_remaining (left_of F.models F.stands F.place) reader)) },
+    ghost bytes: { IsTrue F.models → AreBytes (bytes_of_known
+        (reader_remaining (left_of F.models F.stands F.place) reader)) },
 }
 
 impl<F: SystemFile + Drop> InputFile<F> {

@@ -359,7 +359,8 @@ impl<S: System + Drop> Writing<S> {
         requires { may_write access ≡ true }
         ensures admits { Admits result self.old.reading.streams self.old.reading.taken
             self.new.reading.taken }
-        ensures opens { IfOk result (WasOpened S.File.models S.File.stands S.File.place S.File.past (may_create access)) }
+        ensures opens { IfOk result (WasOpened S.File.models S.File.stands S.File.place S.File.past
+            (may_create access)) }
     {
         let opened = open_file(&mut self.reading.system, place, access)?;
         let descriptor = self.reading.system.descriptor(&opened.file);

@@ -76,7 +76,8 @@ impl<F: SystemFile + Drop> Origin<F> {
     /// Goes on behind at most so many bytes, none of them beyond the end. It answers how many: none where only a read
     /// can tell.
     pub(crate) fn pass(&mut self, most: usize) -> usize
-        ensures { GoesPast F.models result most (F.stands self.old.file) (F.stands self.new.file) (F.place self.old.file)
+        ensures { GoesPast F.models result most (F.stands self.old.file) (F.stands self.new.file)
+            (F.place self.old.file)
             (F.place self.new.file) }
     {
         let Some(placed) = self.placed else {

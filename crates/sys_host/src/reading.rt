@@ -201,7 +201,8 @@ impl<S: System + Drop> Reading<S> {
         requires { may_write access ≡ false }
         ensures spared { IfOk result (λ opened. ¬ Reported self.old.streams opened.found.identity) }
         ensures taken { IfOk result (λ opened. Adds self.old.taken self.new.taken opened.found.identity) }
-        ensures opens { IfOk result (WasOpened S.File.models S.File.stands S.File.place S.File.past (may_create access)) }
+        ensures opens { IfOk result (WasOpened S.File.models S.File.stands S.File.place S.File.past
+            (may_create access)) }
     {
         let opened = match open_file(&mut self.system, place, access) {
             Ok(opened) => opened,

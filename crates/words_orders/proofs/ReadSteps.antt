@@ -11,7 +11,8 @@ use Rattle.words_values.specs.declared.rows.Row.{Row}
 use Rattle.words_orders.specs.declared.answers.Answer.{Answer}
 use Rattle.words_orders.specs.Asked.{IsReadRight, saying_of_answer}
 use Rattle.words_orders.specs.Table.{Shape, shape_of}
-use Rattle.words_orders.specs.Words.{AddsSaid, IsLetter, Saying, SaysNext, WordsSay, answers_due, end, left_over, letters}
+use Rattle.words_orders.specs.Words.{AddsSaid, IsLetter, Saying, SaysNext, WordsSay, answers_due, end, left_over}
+use Rattle.words_orders.specs.Words.{letters}
 use Rattle.words_orders.specs.Words.{more, of_row, words_due, words_of_row}
 
 -- an element of a list is added as what stands for it; the others follow

@@ -5,7 +5,8 @@ ghost use Rattle.std.specs.Prelude.{Contains, List, [], ◌∷◌, ◌≤◌, if
 ghost use Rattle.std.specs.Prelude.{drop, length, take};
 ghost use Rattle.std.specs.List.{All};
 ghost use Rattle.words_values.specs.NumberWord.{IsRead};
-ghost use Rattle.words_orders.specs.Asked.{IsEnough, IsGiven, IsReadRight, saying_of_answer, answer_named, answer_number, flag_named, number_named, word_named, words_named};
+ghost use Rattle.words_orders.specs.Asked.{IsEnough, IsGiven, IsReadRight, saying_of_answer, answer_named};
+ghost use Rattle.words_orders.specs.Asked.{answer_number, flag_named, number_named, word_named, words_named};
 ghost use Rattle.words_orders.specs.Refused.{TellsNoNumber};
 ghost use Rattle.words_orders.specs.Table.{AreFrom, AreRows, Shape, shape_of};
 ghost use Rattle.words_orders.specs.Words.{answers_due, words_due, default_words, left_over, of_row, option_list};

@@ -4,7 +4,8 @@ ghost use Rattle.std.specs.Prelude.{◌≡◌, ◌||◌, [], ℕ, List, IfOk, If
 ghost use Rattle.std.specs.List.{AllZip};
 ghost use Rattle.words_orders.specs.Asked.{AreAnswers, Asks, AsksBoot, AsksPack, AsksPieces, AsksSparse, IsGiven};
 ghost use Rattle.words_orders.specs.Asked.{IsOrderOf, IsSplit};
-ghost use Rattle.words_orders.specs.Table.{name_of, option_rows, shape_of, telling_rows, work_of, work_of_boot, work_of_sparse};
+ghost use Rattle.words_orders.specs.Table.{name_of, option_rows, shape_of, telling_rows, work_of, work_of_boot};
+ghost use Rattle.words_orders.specs.Table.{work_of_sparse};
 ghost use Rattle.words_orders.specs.Words.{AreRead, says_name, saying_of, words_by_place};
 ghost use Rattle.words_orders.specs.declared.rows.Work.TheVariants as works;
 

@@ -6,7 +6,8 @@ ghost use Rattle.std.specs.List.{All, AllZip};
 ghost use Rattle.words_values.specs.declared.rows.WordPlace.TheVariants as places;
 ghost use Rattle.words_orders.specs.Table.{Shape, shape_of};
 ghost use Rattle.words_orders.specs.Words.{AddsSaid, IsLetter, IsOnce, IsNoOption, AreRead, WordsSay, Saying};
-ghost use Rattle.words_orders.specs.Words.{by_place, is_again, is_flag, is_of_name, is_option, says_name, said_words, saying_of};
+ghost use Rattle.words_orders.specs.Words.{by_place, is_again, is_flag, is_of_name, is_option, says_name, said_words};
+ghost use Rattle.words_orders.specs.Words.{saying_of};
 ghost use Rattle.words_orders.specs.Words.{words_by_place, written};
 
 use std::alloc::{AllocError, Global};

@@ -40,7 +40,8 @@ named_more words word =
     ap (map path) (filter-append names_file words (word ∷ []))
     ∙ map-append path (filter names_file words) (filter names_file (word ∷ []))
 
-pub reads_more : (words : List (List ℕ)) (word : List ℕ) (texts texts' : List (List ℕ)) (a a1 : World) (h h1 h2 : OpenFiles)
+pub reads_more : (words : List (List ℕ)) (word : List ℕ) (texts texts' : List (List ℕ)) (a a1 : World)
+    (h h1 h2 : OpenFiles)
     → ReadsWordFiles words texts a h h1 → a1 ≡ a → ReadsNext word texts texts' a1 h1 h2
     → ReadsWordFiles (words ++ (word ∷ [])) texts' a h h2
 reads_more words word texts texts' a a1 h h1 h2 all same next =
@@ -70,7 +71,8 @@ reads_nothing texts a h none = record {
 
 -- the word behind the first ones
 pub reads_turn : {X : Type 0} (f : X → List ℕ) (xs : List X) (i : ℕ) (d : X) (word : List ℕ)
-    (texts texts' : List (List ℕ)) (a a1 : World) (h h1 h2 : OpenFiles) → i < length xs → word ≡ f (get_or xs i d) → a1 ≡ a
+    (texts texts' : List (List ℕ)) (a a1 : World) (h h1 h2 : OpenFiles) → i < length xs → word ≡ f (get_or xs i d)
+    → a1 ≡ a
     → ReadsWordFiles (map f (take i xs)) texts a h h1 → ReadsNext word texts texts' a1 h1 h2
     → ReadsWordFiles (map f (take (i + 1) xs)) texts' a h h2
 reads_turn f xs i d word texts texts' a a1 h h1 h2 below is same all next =
@@ -82,7 +84,8 @@ reads_turn f xs i d word texts texts' a a1 h h1 h2 below is same all next =
     (reads_more (map f (take i xs)) word texts texts' a a1 h h1 h2 all same next)
 
 -- all of them
-pub reads_all : {X : Type 0} (f : X → List ℕ) (xs : List X) (i : ℕ) (texts : List (List ℕ)) (a : World) (h h' : OpenFiles)
+pub reads_all : {X : Type 0} (f : X → List ℕ) (xs : List X) (i : ℕ) (texts : List (List ℕ)) (a : World)
+    (h h' : OpenFiles)
     → ReadsWordFiles (map f (take i xs)) texts a h h' → take i xs ≡ xs → ReadsWordFiles (map f xs) texts a h h'
 reads_all f xs i texts a h h' all end = subst (λ l. ReadsWordFiles (map f l) texts a h h') end all
 

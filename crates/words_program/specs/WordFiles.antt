@@ -18,7 +18,8 @@ pub record ReadsWordFiles (words texts : List (List ℕ)) (world : World) (held 
   pub taken : held' ≡ record held { read = held.read ++ files }
 
 -- one word more, and its text behind the others, if it names a file
-pub record ReadsNext (word : List ℕ) (texts texts' : List (List ℕ)) (world : World) (held held' : OpenFiles) : Type 0 where
-  pub own : List (List ℕ)
-  pub behind : texts' ≡ texts ++ own
-  pub reads : ReadsWordFiles (word ∷ []) own world held held'
+pub record ReadsNext (word : List ℕ) (texts texts' : List (List ℕ)) (world : World) (held held' : OpenFiles) : Type 0
+  where
+    pub own : List (List ℕ)
+    pub behind : texts' ≡ texts ++ own
+    pub reads : ReadsWordFiles (word ∷ []) own world held held'

@@ -3,9 +3,11 @@
 ghost use Rattle.std.specs.Prelude.{◌≡◌, ◌++◌, List, IfOk, IfSome, IsTrue};
 ghost use Rattle.std.specs.List.{AllZip};
 ghost use Rattle.words_tools.specs.Fragments.{BoardSaid, FragmentSaid, IsSpelledBoard, IsBoardText, IsSpelledFragment};
-ghost use Rattle.words_tools.specs.Fragments.{IsFragmentText, board_by, board_said, boards_said, count_behind, ended_by};
+ghost use Rattle.words_tools.specs.Fragments.{IsFragmentText, board_by, board_said, boards_said, count_behind};
+ghost use Rattle.words_tools.specs.Fragments.{ended_by};
 ghost use Rattle.words_tools.specs.Fragments.{fragment_said, fragments_said, group_behind, group_of, group_with};
-ghost use Rattle.words_tools.specs.Fragments.{is_board, is_file_word, no_group, of_platform, platform_group, ramdisk_type};
+ghost use Rattle.words_tools.specs.Fragments.{is_board, is_file_word, no_group, of_platform, platform_group};
+ghost use Rattle.words_tools.specs.Fragments.{ramdisk_type};
 
 use crate::fragments::{FRAGMENT, cut};
 use std::alloc::{AllocError, Global};

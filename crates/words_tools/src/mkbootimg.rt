@@ -2,7 +2,8 @@
 
 ghost use Rattle.std.specs.Prelude.{◌≡◌, ◌↔◌, ◌+◌, ◌*◌, IfOk, IfSome, IsTrue, Contains, length, map, option_map};
 ghost use Rattle.std.specs.List.{AllZip};
-ghost use Rattle.words_tools.specs.Mkbootimg.{AreImagesOf, Carries, IsFillOf, IsOptionOf, PacksImage, filler_of, fillers};
+ghost use Rattle.words_tools.specs.Mkbootimg.{AreImagesOf, Carries, IsFillOf, IsOptionOf, PacksImage, filler_of};
+ghost use Rattle.words_tools.specs.Mkbootimg.{fillers};
 ghost use Rattle.words_tools.specs.Fragments.{IsBoardText, IsFragmentText};
 ghost use Rattle.words_tools.specs.Mkbootimg.{boards_asked, filling, fragments_asked, id_asked, os_number};
 ghost use Rattle.words_tools.specs.Mkbootimg.{output_word, page_asked};

@@ -1,7 +1,8 @@
 //! Reading the words of AOSP's tools: the orders that they ask for.
 
 ghost use Rattle.std.specs.Prelude.{◌≡◌, [], IfOk, get_or, map};
-ghost use Rattle.words_tools.specs.Tools.{AreOrdersOf, AsksBlocks, AsksCut, AsksImages, AsksOrders, AsksUnpacking, IsToolOrder};
+ghost use Rattle.words_tools.specs.Tools.{AreOrdersOf, AsksBlocks, AsksCut, AsksImages, AsksOrders, AsksUnpacking};
+ghost use Rattle.words_tools.specs.Tools.{IsToolOrder};
 ghost use Rattle.words_tools.specs.Tools.{PacksAsked, standard_or};
 
 use crate::mkbootimg::{Image, id_asked, images_of, names_again, packing, refusal_of};

@@ -53,7 +53,8 @@ steps-preserved g c =
           (c.in-Ok-More.ensures.told models t (λ z. absurd cc));
       needed = λ models. needed_more (g.O.Output.written c.args.output.now) (g.O.Output.written c.steps.output) rem
           (g.I.Input.remaining c.steps.input) c.steps.machine.walk k n j
-          (g.met.I.Input.are_bytes c.args.input.now models) (i.walks.input.rest models) sum (e.input.input.present models)
+          (g.met.I.Input.are_bytes c.args.input.now models) (i.walks.input.rest models) sum
+          (e.input.input.present models)
           e.input.wanted (i.told models) (i.needed models);
       going = rw stands tt;
       read_faults = blame.clean.0 ∙ i.read_faults;

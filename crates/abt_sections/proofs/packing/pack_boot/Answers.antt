@@ -32,7 +32,8 @@ sized : (g : Over) (c : After-boot_header_for-header g) (n : ℕ) → n ≡ leng
     image_size (boot_page h) (boot_size h) (take n c.in_ok-sizes.sizes)
     ≡ boot_image_size (cmd_common_fields c.args.spec.now) (map g.S.Source.size c.args.parts.now))
 sized g c n long =
-    size_is (cmd_common_fields c.args.spec.now) c.in_ok-page.page c.in_ok-sizes.sizes (map g.S.Source.size c.args.parts.now)
+    size_is (cmd_common_fields c.args.spec.now) c.in_ok-page.page c.in_ok-sizes.sizes
+    (map g.S.Source.size c.args.parts.now)
     c.in_ok-id.id c.boot_header_for-header.result n c.in_ok-page.ensures.version c.boot_header_for-header.ensures
     c.in_ok-page.ensures.refused.value.1 c.in_ok-sizes.ensures.value.1 long
 
@@ -61,7 +62,8 @@ returns-clause-packs g c =
     let sizes = c.in_ok-sizes.sizes in
     let count = length c.write_image.new.parts in
     let long = length-map c.args.parts.now s.size in
-    let bytes : c.image_bytes.result ≡ boot_image_size (cmd_common_fields c.args.spec.now) (map s.size c.args.parts.now) =
+    let bytes : c.image_bytes.result ≡ boot_image_size (cmd_common_fields c.args.spec.now)
+    (map s.size c.args.parts.now) =
     c.image_bytes.ensures
     ∙ ap (λ (q : ℕ). image_size q c.size.result (take count sizes)) c.page_size.ensures.value
     ∙ ap (λ (q : ℕ). image_size (boot_page h) q (take count sizes)) c.size.ensures

@@ -80,7 +80,8 @@ returns-in-Ok-Done-clause-verifies g c models =
     (rw c.in-Ok-Done.field-0-is at (d.told models i.goes)) in
     done_whole _ _ _ _ _ _ _ _ _ (ends g.P.Source.models c.steps.machine.walk c.step.new.self.walk
     (g.I.Input.remaining c.args.input.now) (g.I.Input.remaining c.steps.input) (g.I.Input.remaining c.step.new.input)
-    (g.P.Source.content c.args.partition.now) k n j _ _ _ _ (Ok Done) (i.input.rest models) same (i.told models) compares
+    (g.P.Source.content c.args.partition.now) k n j _ _ _ _ (Ok Done) (i.input.rest models) same (i.told models)
+    compares
     c.step.new.self.compared rest (d.compared i.goes)) ended (g.met.I.Input.are_bytes c.args.input.now models) _
     c.blocks-in-Ok-Done.ensures
 

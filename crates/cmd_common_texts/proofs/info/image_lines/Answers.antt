@@ -2,7 +2,8 @@ use Rattle.std.proofs.Common.{subst, ap, rules}
 use Rattle.abt_sections.specs.Header.{view_of}
 use Rattle.abt_sections.specs.Check.{IsVerdict}
 use Rattle.cmd_common_texts.specs.Info.{check_text, line}
-use Rattle.cmd_common_texts.proofs.Informing.{all_printed, as_far_as_fields, as_far_as_fragments, reading_told, same_verdict}
+use Rattle.cmd_common_texts.proofs.Informing.{all_printed, as_far_as_fields, as_far_as_fragments, reading_told}
+use Rattle.cmd_common_texts.proofs.Informing.{same_verdict}
 use Rattle.sys_text.proofs.Printing.{◌▸◌, as_text, front_exactly}
 use Rattle.cmd_common_texts.proofs.info.image_lines.Goals as goal
 

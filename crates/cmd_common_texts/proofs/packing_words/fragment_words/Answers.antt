@@ -30,7 +30,8 @@ loop-i-preserved g c =
       );
       lines = λ models.
           let before = c.loop-i.invariant.lines models in
-          let entry : c.in-Ok-fragment.entry ≡ entry_of x h i = found.entry models ∙ ap (λ y. entry_of y h i) before.0 in
+          let entry : c.in-Ok-fragment.entry ≡ entry_of x h i = found.entry models
+          ∙ ap (λ y. entry_of y h i) before.0 in
           let next : suc i ≡ i + 1 = omega arith in
           let all : PrintsWords g.O.Output.written g.O.Output.write_faults c.args.text.now c.entry_words.new.text
           (fragment_words folder x h (suc i))

@@ -62,7 +62,8 @@ returns-in-Err-answer-clause-refused g c = λ t.
     let h3 = g.D.Disk.held c.lay_all-answer.new.disk in
     let h4 = g.D.Disk.held c.close-end.new.self in
     let failures = g.D.InPlace.Partition.put_faults c.lay_all-answer.new.onto in
-    let counts = failed_in_all _ _ _ _ _ _ _ failures _ (g.D.InPlace.Partition.past c.lay_all-answer.new.onto) h _ h2 h3 h4
+    let counts = failed_in_all _ _ _ _ _ _ _ failures _ (g.D.InPlace.Partition.past c.lay_all-answer.new.onto) h _ h2
+    h3 h4
     opened (c.in_ok-zeros.ensures.made t) (c.close-end.ensures.closed t) in
     from_laying _ c.in-Err-answer.refusal.fault _ _ _ _ h h4 _ _
     (failed_laying h h2 h3 h4 _ failures _ counts (c.in_ok-zeros.ensures.clean t))
@@ -84,7 +85,8 @@ returns-in-Err-end-clause-refused g c = λ t.
     let h3 = g.D.Disk.held c.lay_all-answer.new.disk in
     let h4 = g.D.Disk.held c.close-end.new.self in
     let failures = g.D.InPlace.Partition.put_faults c.lay_all-answer.new.onto in
-    let counts = failed_in_all _ _ _ _ _ _ _ failures _ (g.D.InPlace.Partition.past c.lay_all-answer.new.onto) h _ h2 h3 h4
+    let counts = failed_in_all _ _ _ _ _ _ _ failures _ (g.D.InPlace.Partition.past c.lay_all-answer.new.onto) h _ h2
+    h3 h4
     opened (c.in_ok-zeros.ensures.made t) (c.in-Err-end.ensures.closed t) in
     from_files _ c.into.result.fault _ _ _ _ _ _ (_, c.into.ensures) (inl
     (failed_closing h h2 h3 h4 _ failures _ counts (c.in_ok-zeros.ensures.clean t)
@@ -115,7 +117,8 @@ returns-in-Ok-printed-clause-leaves g c = λ t.
     let h3 = g.D.Disk.held c.lay_all-answer.new.disk in
     let h4 = g.D.Disk.held c.close-end.new.self in
     let failures = g.D.InPlace.Partition.put_faults c.lay_all-answer.new.onto in
-    let counts = failed_in_all _ _ _ _ _ _ _ failures _ (g.D.InPlace.Partition.past c.lay_all-answer.new.onto) h _ h2 h3 h4
+    let counts = failed_in_all _ _ _ _ _ _ _ failures _ (g.D.InPlace.Partition.past c.lay_all-answer.new.onto) h _ h2
+    h3 h4
     opened (c.in_ok-zeros.ensures.made t) (c.in-Ok-end.ensures.closed t) in
     leaves_overlaid _ _ _ _ _ _ _ _ _ _ (c.in-Ok.ensures.opened t) refl (lands _ _ _ _ _ _ _ _ _ _ _
     (c.in_ok-zeros.ensures.made t) (c.open_all.ensures.alone t).world

@@ -63,7 +63,8 @@ returns-in-Err-clause-alone g c = record {
 pub returns-in-None-clause-laid : goal.returns-in-None-clause-laid
 returns-in-None-clause-laid g c = λ t.
     let none = nothing_left c.images.kept.items _ c.in-None.ensures.items c.pop_front.ensures.rest in
-    ap (λ q. flashed_in_turn (g.D.InPlace.Source.content c.images.onto) (map (λ one. g.D.At.Source.content one.source) q))
+    ap (λ q. flashed_in_turn (g.D.InPlace.Source.content c.images.onto)
+    (map (λ one. g.D.At.Source.content one.source) q))
     (sym none) ∙ c.images.invariant.laid t
 
 pub returns-in-None-clause-synced : goal.returns-in-None-clause-synced

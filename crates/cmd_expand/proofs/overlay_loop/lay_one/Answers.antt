@@ -56,7 +56,8 @@ returns-in-Err-clause-refused g c = λ t blocks block sized image.
     (g.D.Disk.held c.let_go_source.new.self) (g.D.At.Source.read_faults c.args.one.source) _
     (g.D.InPlace.Partition.put_faults c.args.onto.now) (g.D.InPlace.Partition.put_faults c.flash_one-answer.new.onto)
     (sym (c.in-Err.ensures.whole (c.shorter.ensures told))) c.refuse.ensures (c.let_go_source.ensures.held t)
-    (subst (λ k. IfErr c.flash_one-answer.result (λ f. IsNotFlashed f (g.D.InPlace.Partition.put_faults c.args.onto.now +
+    (subst (λ k. IfErr c.flash_one-answer.result (λ f. IsNotFlashed f
+    (g.D.InPlace.Partition.put_faults c.args.onto.now +
     k)
     (g.D.InPlace.Partition.put_faults c.flash_one-answer.new.onto
     + g.D.At.Source.read_faults c.flash_one-answer.new.from.device.source))) same

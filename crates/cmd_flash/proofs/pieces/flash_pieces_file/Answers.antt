@@ -104,7 +104,8 @@ returns-clause-done g c = λ t.
     (c.closed.ensures.ended t) (c.closed.ensures.paths t) (c.in-Ok.ensures.closed t) in
     done_across c.delivered_through-answer.result.0 c.in-Ok.end.0 _ c.args.raw c.args.limit _ _ _ _ _ _ _ _ _ _ _ _ _
     _ _
-    (g.D.InPlace.Partition.past c.in_ok-onto.onto) (g.D.InPlace.Partition.past c.delivered_through-answer.new.onto) _ all
+    (g.D.InPlace.Partition.past c.in_ok-onto.onto) (g.D.InPlace.Partition.past c.delivered_through-answer.new.onto) _
+    all
     (sym c.counted.ensures ∙ c.in-Ok.ensures.done) (c.in_ok-onto.ensures.past t) d.syncs.some
     d.syncs.synced (d.syncs.settled (g.met.D.Disk.part_told t)) same
     (d.delivers t (ap (λ (q : Past). q.pending) (c.in_ok-onto.ensures.past t)))
@@ -127,7 +128,8 @@ returns-in_err-line_beside-clause-refused g c = λ t.
     (done_across c.delivered_through-answer.result.0 c.in-Ok.end.0 _ c.args.raw c.args.limit _ _ _
     _ _
     _ _ _ _ _ _ _ _ _ _
-    (g.D.InPlace.Partition.past c.in_ok-onto.onto) (g.D.InPlace.Partition.past c.delivered_through-answer.new.onto) _ all
+    (g.D.InPlace.Partition.past c.in_ok-onto.onto) (g.D.InPlace.Partition.past c.delivered_through-answer.new.onto) _
+    all
     (sym c.counted.ensures ∙ c.in-Ok.ensures.done) (c.in_ok-onto.ensures.past t) d.syncs.some
     d.syncs.synced (d.syncs.settled (g.met.D.Disk.part_told t)) same
     (d.delivers t (ap (λ (q : Past). q.pending) (c.in_ok-onto.ensures.past t)))

@@ -3,7 +3,8 @@ use Rattle.sys_disk.proofs.Worlds.{only_written}
 use Rattle.cmd_common_boot.specs.Sources.{faults_of}
 use Rattle.cmd_pack_outputs.specs.Writing.{failed, untold}
 use Rattle.cmd_pack_outputs.proofs.Closes.{closed_created, failed_created, failed_once, left_unopened}
-use Rattle.cmd_pack_outputs.proofs.Outputs.{beside_as, host_outside, judged_stops, lays, left_done, part_emptied, part_left}
+use Rattle.cmd_pack_outputs.proofs.Outputs.{beside_as, host_outside, judged_stops, lays, left_done, part_emptied}
+use Rattle.cmd_pack_outputs.proofs.Outputs.{part_left}
 use Rattle.cmd_pack_outputs.proofs.Outputs.{ready_image}
 use Rattle.cmd_pack_outputs.proofs.image_output.write_image.Goals as goal
 

@@ -21,7 +21,8 @@ words_unwritten : (t t' w w' g k : ℕ) → t' + w ≤ t + 2 * g + 3 + w' → t'
 words_unwritten t t' w w' g k h = omega (arith, h)
 
 -- the same segments are to come
-still_to_cut : (b limit : ℕ) (l : List Block) (s : ℕ) (st old : CutterStage) → is_begun st ≡ true → segments_left b limit l s
+still_to_cut : (b limit : ℕ) (l : List Block) (s : ℕ) (st old : CutterStage) → is_begun st ≡ true
+    → segments_left b limit l s
     old ≡ segments_left b limit l s Between → segments_left b limit l s st ≡ segments_left b limit l s old
 still_to_cut b limit l s Between old begun same = absurd cc
 still_to_cut b limit l s (Plan p) old begun same = sym same
@@ -41,7 +42,8 @@ record Planning (st : CutterStage) (start : Cursor) (p : Planner) : Type 0 where
   coming : (b limit : ℕ) (l : List Block) (s : ℕ) → coming b limit l s st ≡ piece_at b limit l s
   comes : (b n : ℕ) (t : List ℕ) → IsPlainImage b n t → StageMayCome b n st t
 
-planning : (st : CutterStage) (start : Cursor) (p : Planner) → (st ≡ Plan p) ⊎ ((st ≡ Between) × (p.at ≡ start)) → Planning st
+planning : (st : CutterStage) (start : Cursor) (p : Planner) → (st ≡ Plan p) ⊎ ((st ≡ Between) × (p.at ≡ start))
+    → Planning st
     start p
 planning st start p (inl is) = record {
   same = λ b limit l s. rw is refl;
@@ -65,7 +67,8 @@ planning st start p (inr is) = record {
 }
 
 planning_spends : (Is : Cursor → Type 0) (charge copied : Cursor → ℕ) (held : Cursor → ℕ → ℕ) (b limit n one : ℕ)
-    (start : Cursor) (t : ℕ) (st : CutterStage) (p : Planner) → (st ≡ Plan p) ⊎ ((st ≡ Between) × (p.at ≡ start)) → SpentStage
+    (start : Cursor) (t : ℕ) (st : CutterStage) (p : Planner) → (st ≡ Plan p) ⊎ ((st ≡ Between) × (p.at ≡ start))
+    → SpentStage
     Is charge copied held b limit n one start t st → SpentPlan charge copied b limit start t p
 planning_spends Is charge copied held b limit n one start t st p (inl is) h = rw is at h
 planning_spends Is charge copied held b limit n one start t st p (inr is) h = plan_begins_spent _ _ _ _ start t p is.1

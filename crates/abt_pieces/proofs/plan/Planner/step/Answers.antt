@@ -44,7 +44,8 @@ returns-in-End g c =
             even_rests c.args.self.now c.requires.ready.sound.even;
       };
       told = λ models. record {
-        place = g.met.R.BlockRuns.afresh_place c.args.runs.now _ c.args.self.now.at (c.requires.ready.told models).place;
+        place = g.met.R.BlockRuns.afresh_place c.args.runs.now _ c.args.self.now.at
+            (c.requires.ready.told models).place;
         planned = planned_rests _ _ c.args.self.now (c.requires.ready.told models).planned;
       };
       goes_on = λ d. absurd (true≢false d);
@@ -129,7 +130,8 @@ returns-then-gain-room g c =
             even_rests c.args.self.now c.requires.ready.sound.even;
       };
       told = λ models. record {
-        place = g.met.R.BlockRuns.afresh_place c.args.runs.now _ c.args.self.now.at (c.requires.ready.told models).place;
+        place = g.met.R.BlockRuns.afresh_place c.args.runs.now _ c.args.self.now.at
+            (c.requires.ready.told models).place;
         planned = planned_rests _ _ c.args.self.now (c.requires.ready.told models).planned;
       };
       goes_on = λ d. absurd (true≢false d);

@@ -187,7 +187,8 @@ returns g c =
         counted = omega (arith, all, left, h.room);
         front = λ models. wrote_front _ _ _ _ _ (rw (these models) at w.ok) (sym (take-append-drop c.in-Ok.count _));
         rest = λ models. rw c.and_bytes-self.ensures
-            ((x models).rest ∙ wrote_rest _ _ _ _ _ (rw (these models) at w.ok) (sym (take-append-drop c.in-Ok.count _)));
+            ((x models).rest ∙ wrote_rest _ _ _ _ _ (rw (these models) at w.ok)
+            (sym (take-append-drop c.in-Ok.count _)));
         leads = rw c.and_bytes-self.ensures (copy_leads _ _ self c.args.copying c.in-Ok.count c.part.result.now _ _
             c.requires.copies.is long left w.ok);
         cause = tt;

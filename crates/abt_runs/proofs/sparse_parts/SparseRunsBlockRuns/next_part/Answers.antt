@@ -202,7 +202,8 @@ returns-in-None-fault g c =
               ∙ ap (λ (n : ℕ). take 4 (drop (from.at + n) x)) c.from.ensures in
               part_is v x self.image from k word c.args.cap r (stands models) c.requires.asks.within.used
               c.requires.asks.some bytes p;
-          place = next_place v (g.S.Source.content c.args.source.now) self.image from k word c.args.cap r (stands models)
+          place = next_place v (g.S.Source.content c.args.source.now) self.image from k word c.args.cap r
+              (stands models)
               p;
           here_place = here_place v (g.S.Source.content c.args.source.now) self.image from k word c.args.cap r
               (stands models) (c.requires.asks.told models).1 p;

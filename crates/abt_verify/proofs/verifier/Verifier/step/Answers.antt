@@ -36,7 +36,8 @@ returns-after-done-clause-told g c models goes =
           (λ t. rw (c.place-at.ensures, w.in-Some.is) at (d.compares.differs t)))
       | in-None w ↦
           let all = rw w.in-None.is at d.all in
-          rw (w.answer-is, w.answer-answer.ensures) (compared_part g.P.Source.models s c.part_within-taken.new.self (take
+          rw (w.answer-is, w.answer-answer.ensures) (compared_part g.P.Source.models s c.part_within-taken.new.self
+          (take
           r rem) rest win there given given' r 8192 c.max-all.result (p.gives.window models) long
           q _ _ (going_phase c.args.self.now.stage s.phase goes) p.step.blame.cause p.step.turn.moved
           p.gives.words.within

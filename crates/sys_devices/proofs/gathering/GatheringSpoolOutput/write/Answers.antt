@@ -47,4 +47,5 @@ pub invariant_of-self-in-Err-clause-whole : goal.invariant_of-self-in-Err-clause
 invariant_of-self-in-Err-clause-whole g c = c.in-Err.ensures.taken ∙ append-nil _ ∙ c.args.self.now.whole
 
 pub invariant_of-self-in-Err-clause-holds : goal.invariant_of-self-in-Err-clause-holds
-invariant_of-self-in-Err-clause-holds g c = λ models. holds_on _ _ _ c.in-Err.ensures.grows (c.args.self.now.holds models)
+invariant_of-self-in-Err-clause-holds g c = λ models. holds_on _ _ _ c.in-Err.ensures.grows
+    (c.args.self.now.holds models)
