@@ -11,6 +11,8 @@ Of docs/claims.tsv, whose head explains its columns:
     (further edits in its more-edits/); where a function names no edit, words say why; a claim with further edits has one
     that the gate tries;
   - each public function of a crate that has a claim is named by one, or in the list of those that no claim names.
+Of crates.txt: each crate's name begins with the prefix of its layer. No two crates define a public type of one name in src/,
+but those that are listed here with a reason.
 Of docs/CLAIMS.md: the claims are numbered in turn, each of them has rows in docs/claims.tsv, and no other number has; the page
 has at most 400 lines.
 Of the code: no call of the engine counts in a meter of its own, beside the one that it borrows; each loop of the engine ticks
@@ -38,10 +40,21 @@ DOCUMENTS = ("README.md", "CONTRIBUTING.md", "CHANGELOG.md", "docs/*.md")
 OF_THE_PROGRAM = (
     "sys_devices", "words_values", "words_orders", "words_tools", "sys_refusals", "sys_disk", "mem_disk", "sys_report",
     "sys_finish", "sys_host", "sys_host_disk", "cmd_common_sparse", "cmd_expand", "cmd_cut", "cmd_flash",
-    "cmd_sparse_dispatch", "cmd_common_boot", "cmd_unpack", "cmd_unpack_aosp", "cmd_info", "cmd_pack_inputs", "cmd_pack_outputs", "cmd_pack", "cmd_boot_dispatch",
-    "mem_commands", "words_program", "abootimg",
+    "cmd_sparse_dispatch", "cmd_common_boot", "cmd_unpack", "cmd_unpack_aosp", "cmd_info", "cmd_pack_inputs",
+    "cmd_pack_outputs", "cmd_pack", "cmd_boot_dispatch", "mem_commands", "words_program", "abootimg",
 )
 
+# What the name of a crate begins with, and the two crates that are programs. docs/ARCHITECTURE.md says what each means.
+PREFIXES = ("abt_", "sys_", "words_", "cmd_", "law_", "mem_", "test_")
+PROGRAMS = ("abootimg", "speed")
+
+# The public types of src/ that two crates define, and why: no crate sees both but where that is said.
+TYPES_DEFINED_TWICE = {
+    "Kind": "of an order for a boot image, in `cmd_boot_dispatch`; of a file, in `sys_file`",
+    "MemoryFile": "a file of the disk in memory, in `mem_disk`; an open file in memory, in `mem_files`",
+    "Opening": "how `sys_file` opens a path; a list of chunks that `abt_runs` has begun to check",
+    "Sink": "an output of `sys_finish`; in `speed`, a program by itself, an output that keeps a checksum alone",
+}
 
 # The program begins to count, as the benchmark does, and what it prints and shows is counted by nobody.
 MAKE_METERS = ("abootimg", "sys_report", "sys_text", "speed")
@@ -70,14 +83,14 @@ WITHOUT_A_TICK = {
     "crates/mem_devices/src/pick.rt": 1,  # what a crash leaves, in a device of tests that has no meter
     "crates/sys_readers/src/tries.rt": 2,  # a call that a signal interrupted is tried again: no turn, and no call of a device
     "crates/abt_runs/src/words.rt": 2,  # the words of one block, for which `tick_words` ticks
-    "crates/cmd_expand/src/opening.rt": 1,  # numbers of pieces are compared: nothing is read
-    "crates/cmd_cut/src/turns.rt": 1,  # the names of pieces are looked at, before anything is read
+    "crates/cmd_expand/src/open_images.rt": 1,  # numbers of pieces are compared: nothing is read
+    "crates/cmd_cut/src/cut_loop.rt": 1,  # the names of pieces are looked at, before anything is read
     "crates/cmd_pack_inputs/src/own_ramdisks.rt": 1,  # files are opened: so are those of the two below
     "crates/cmd_pack_inputs/src/parts.rt": 1,
     "crates/cmd_pack_inputs/src/ramdisks.rt": 1,
 }
 # Files of which a loop ticks in the one arm that goes on.
-TICK_IN_AN_ARM = ("crates/cmd_expand/src/laying.rt",)
+TICK_IN_AN_ARM = ("crates/cmd_expand/src/overlay_loop.rt",)
 
 
 class Checks:
@@ -313,9 +326,9 @@ def check_documents(checks, under):
         [os.path.join(HERE, "tools/make_man.py"), os.path.join(HERE, "docs/COMMANDS.md")], stdout=subprocess.PIPE, text=True)
     for command in re.findall(r"(?m)^## ([a-z]+)$", "\n".join(lines_of("docs/COMMANDS.md"))):
         checks.that(f".SH {command.upper()}\n" in page.stdout, f"the manual page has a section on {command}")
-    told = "\n".join(lines_of("docs/ARCHITECTURE.md"))
+    described = "\n".join(lines_of("docs/ARCHITECTURE.md"))
     for crate in under:
-        checks.that(f"`{crate}`" in told, f"docs/ARCHITECTURE.md tells of the crate {crate}")
+        checks.that(f"`{crate}`" in described, f"docs/ARCHITECTURE.md describes the crate {crate}")
 
 
 @functools.lru_cache(maxsize=None)
@@ -403,6 +416,25 @@ def check_rules(checks, rows):
         for name in names:
             found = any(definition(crate, file, name) for file in files)
             checks.that(found, f"docs/ARCHITECTURE.md, line {number}: {crate} defines {name}")
+
+
+def check_crates(checks, under):
+    """Each crate is named by its layer, and the name of a public type of src/ says which type it is."""
+    public = re.compile(r"pub (?:struct|enum|union|trait|type) (\w+)")
+    defined = {}
+    for crate in under:
+        checks.that(crate.startswith(PREFIXES) or crate in PROGRAMS, f"crates.txt: {crate} begins with the prefix of a layer")
+        for path in glob.glob(os.path.join(HERE, "crates", crate, "src", "**", "*.rt"), recursive=True):
+            for found in map(public.match, lines_of(os.path.relpath(path, HERE))):
+                if found:
+                    defined.setdefault(found[1], set()).add(crate)
+    twice = {name for name, crates_with in defined.items() if len(crates_with) > 1}
+    for name in sorted(twice - set(TYPES_DEFINED_TWICE)):
+        checks.that(False, f"one crate defines a public type {name}: {', '.join(sorted(defined[name]))}")
+    for name in TYPES_DEFINED_TWICE:
+        checks.that(name in twice, f"two crates define a public type {name}, as tools/check_claims.py says")
+    once = len(defined) - len(twice)
+    checks.that(once, f"{once} public types have a name of their own")
 
 
 def check_meters(checks, under):
@@ -499,6 +531,7 @@ def main():
     check_page(checks, rows["claim"])
     check_public(checks, rows["claim"], rows["unclaimed"], under)
     check_rules(checks, [(cells, number) for head, cells, number in tables("docs/ARCHITECTURE.md") if head[0] == "rule"])
+    check_crates(checks, under)
     check_meters(checks, under)
     check_system(checks, under)
     check_ticks(checks)

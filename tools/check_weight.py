@@ -28,7 +28,7 @@ MORE_FUNCTIONS = {"abt_sections": 107, "words_orders": 104, "cmd_unpack_aosp_tex
 # How many functions have contracts of more clauses than this.
 LONG_CONTRACTS = {15: 3, 20: 1}
 # How many clauses are, to the letter, one that stands before, in any function of any crate.
-REPEATED_CLAUSES = 602
+REPEATED_CLAUSES = 601
 # The names that two files define, each with what it says in the one and in the other.
 NAMES_DEFINED_TWICE = {
     "Begins": "of a spool's and of a file's bytes, of which they are a front; of a text, which has grown by one",

@@ -1,5 +1,5 @@
 #!/usr/bin/env python3
-"""Times telling the class of each block of a raw image, against a C program and against reading alone, in one run and in turn.
+"""Times classing each block of a raw image, against a C program and against reading alone, in one run and in turn.
 
   bench/classify/classify.py [--folder FOLDER] [--mib 1024] [--rounds 5] [--rt rt]
 
@@ -9,10 +9,10 @@ at a time and compares each block with itself one word on, by memcmp; reading al
 zeros in turn. All must count the same blocks. Printed are medians and their ratios: figures of two runs, or of two machines,
 are not to be compared, ratios of one run are.
 
-The program is proved and built in a temporary repository of its own, of copies of the crates that it stands on. It is no crate
+The program is proved and built in a temporary repository of its own, of copies of the crates that it depends on. It is no crate
 of this repository, so its files have names that no check of this repository looks for.
 
-One image stands at a time, in FOLDER, by default /dev/shm where there is room, so that no disk is measured.
+One image is there at a time, in FOLDER, by default /dev/shm where there is room, so that no disk is measured.
 """
 import argparse
 import os
@@ -29,13 +29,13 @@ sys.dont_write_bytecode = True
 sys.path.insert(0, os.path.dirname(HERE))
 from timing import in_turn, timed
 
-CRATES = ("abt_io", "sys_readers", "abt_sparse", "abt_runs")
+CRATES = ("abt_io", "sys_file", "sys_devices", "abt_sparse", "abt_runs")
 BLOCK = 4096
 MIB = 1 << 20
 
 
 def assemble(root):
-    """A repository of the crates that the program stands on, and of the program."""
+    """A repository of the crates that the program depends on, and of the program."""
     with open(os.path.join(ROOT, "crates.txt")) as text:
         lines = [line for line in text if line.split(":")[0] in CRATES]
     with open(os.path.join(root, "crates.txt"), "w") as text:
@@ -52,7 +52,7 @@ def assemble(root):
 
 
 def build(words, work):
-    """Builds both programs, and answers their paths."""
+    """Builds both programs, and returns their paths."""
     root = os.path.join(work, "repository")
     os.mkdir(root)
     assemble(root)
@@ -100,13 +100,13 @@ def compare(name, image, ours, in_c, rounds):
         "dd": [shutil.which("dd"), "if=" + image, "of=/dev/null", "bs=64k"],
     }
     # One run of each that isn't counted.
-    told = {key: subprocess.run(runs[key], check=True, capture_output=True, text=True).stdout for key in ("next_part", "C")}
+    said = {key: subprocess.run(runs[key], check=True, capture_output=True, text=True).stdout for key in ("next_part", "C")}
     timed(runs["dd"])
-    if blocks_of(told["next_part"]) != blocks_of(told["C"]):
-        sys.exit(f"{name}: {told['next_part'].strip()}, but in C {told['C'].strip()}")
+    if blocks_of(said["next_part"]) != blocks_of(said["C"]):
+        sys.exit(f"{name}: {said['next_part'].strip()}, but in C {said['C'].strip()}")
     seconds = in_turn(runs, rounds)
     median = {key: statistics.median(run[0] for run in took) for key, took in seconds.items()}
-    print(f"{name:14} {told['next_part'].strip():38} {median['next_part']:9.3f} s {median['C']:7.3f} s {median['dd']:7.3f} s"
+    print(f"{name:14} {said['next_part'].strip():38} {median['next_part']:9.3f} s {median['C']:7.3f} s {median['dd']:7.3f} s"
           f" {median['next_part'] / median['C']:7.2f} {median['next_part'] / median['dd']:7.2f}", flush=True)
 
 
