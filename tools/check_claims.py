@@ -18,7 +18,8 @@ has at most 400 lines.
 Of the code: no call of the engine counts in a meter of its own, beside the one that it borrows; each loop of the engine ticks
 once in each pass; each lemma of proofs/ is named by another one, by an answer or by a contract.
 Of all documents: no line is longer than 120 columns, each file that a link or a path in backquotes names is there, and
-docs/ARCHITECTURE.md describes each crate of crates.txt. What a page names by its crate is there too (`check_names` says which
+docs/ARCHITECTURE.md describes each crate of crates.txt. What docs/CONTRACTS.md quotes is in the files that it links to, line by
+line. What a page names by its crate is there too (`check_names` says which
 names these are, and when one is there). The last line is 'N passed, M failed'.
 """
 import argparse
@@ -331,6 +332,18 @@ def check_documents(checks, under):
         checks.that(f"`{crate}`" in described, f"docs/ARCHITECTURE.md describes the crate {crate}")
 
 
+def check_quotes(checks):
+    """Each line of a code block of docs/CONTRACTS.md is a line of a file of crates/ to which a link of the page leads."""
+    path = "docs/CONTRACTS.md"
+    text = "\n".join(lines_of(path))
+    files = re.findall(r"\]\(\.\./(crates/[^)\s]+)\)", text)
+    there = {line for file in files for line in lines_of(file)}
+    quoted = [line for block in re.findall(r"(?ms)^```\n(.*?)^```$", text) for line in block.split("\n")]
+    missing = [line for line in quoted if line not in there]
+    where = f": not '{missing[0].strip()}'" if missing else ""
+    checks.that(quoted and not missing, f"{path} quotes {len(quoted)} lines as they are in the files that it links to{where}")
+
+
 @functools.lru_cache(maxsize=None)
 def names_of(crate):
     """The names that the files of src/ define or hand on: those of a block both alone and behind the name of its type."""
@@ -537,6 +550,7 @@ def main():
     check_ticks(checks)
     check_lemmas(checks, under)
     check_documents(checks, under)
+    check_quotes(checks)
     check_names(checks, rows["claim"], under)
     print(f"{checks.passed} passed, {checks.failed} failed")
     return 1 if checks.failed else 0
