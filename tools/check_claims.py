@@ -66,8 +66,8 @@ ENGINE = (
     "abt_placed", "abt_flash_faults", "abt_flash", "abt_verify", "abt_headers", "abt_sections",
 )
 
-# The bodies of commands, whose loops over what is read and written tick too.
-BODIES = ("cmd_flash", "cmd_expand", "cmd_cut", "cmd_pack_inputs")
+# The crates of commands whose loops over what is read and written tick too.
+COMMANDS = ("cmd_flash", "cmd_expand", "cmd_cut", "cmd_pack_inputs")
 
 # What asks the system for anything, and is trusted, and how many lines of code that is at most; what prints a report and
 # holds the standard streams; and what is no part of the program.
@@ -490,7 +490,7 @@ def loops_of(path):
 
 def check_ticks(checks):
     """A loop's tick is its first statement; or its last, where no pass that goes on leaves it out."""
-    for crate in ENGINE + BODIES:
+    for crate in ENGINE + COMMANDS:
         for path in sorted(glob.glob(os.path.join(HERE, "crates", crate, "src", "**", "*.rt"), recursive=True)):
             path = os.path.relpath(path, HERE)
             without, loops = [], list(loops_of(path))
