@@ -12,7 +12,7 @@ partition is a file of as many bytes, full of ones, whose pages are all there. B
   dd              `dd bs=1M conv=fsync,notrunc` of the expanded image to the partition: what writing alone costs
   simg2img, dd    expanding to a file first, and then the dd, which is what these replace
 
-timing.py says what is printed. What stands on the partition after each is compared with the image over what was there: `dd`
+timing.py says what is printed. What is on the partition after each is compared with the image over what was there: `dd`
 and raw flashing write zeros for don't care, the others keep what was there. FOLDER needs five times the image's raw size; on
 /dev/shm no disk is measured, and a sync costs nothing.
 """

@@ -98,7 +98,7 @@ def in_turn(lines, rounds, prepare=lambda name: None):
 
 
 def print_medians(took, memory):
-    """Prints the median of each program, and answers these: seconds, and seconds of processor time."""
+    """Prints the median of each program, and returns these: seconds, and seconds of processor time."""
     wide = max(len(name) for name in took)
     median = {}
     for name, rounds in took.items():

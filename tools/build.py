@@ -3,7 +3,7 @@
 
   tools/build.py [--rt rt] [--jobs N] [--target T] program|library OUT
 
-All that it stands on is copied to a temporary folder, without its must-fail edits, and proved there by `rt ci`. What that
+All that it depends on is copied to a temporary folder, without its must-fail edits, and proved there by `rt ci`. What that
 proves is kept on the machine by the checksums of all that was read: a second run, another clone and the gate take it from
 there, and what the gate proved is taken here. Then the program or the library itself is proved and compiled over the proved
 libraries, for x86-64 or for another target, and the program is linked (tools/link.sh).
@@ -31,7 +31,7 @@ def clock(seconds):
 
 
 class Progress:
-    """Lines that say how far the proofs are, by the lines of code and of proofs behind them."""
+    """Lines that say how far the proofs are, by their lines of code and of proofs."""
 
     def __init__(self, names):
         self.begun, self.done = time.monotonic(), 0

@@ -116,7 +116,7 @@ def lines_of(path):
 
 
 def crates():
-    """The crates of this repository, each with those that it stands on, nearest last."""
+    """The crates of this repository, each with those that it depends on, nearest last."""
     uses = {}
     for line in lines_of("crates.txt"):
         line = line.split("#")[0].strip()
@@ -274,7 +274,7 @@ def check_page(checks, rows):
 
 
 def public_functions(crate):
-    """The public functions of a crate, those of a type or trait behind its name."""
+    """The public functions of a crate, those of a type or trait after its name."""
     head = re.compile(r"( *)(?:pub (?:const )?(?:extern \"C\" )?|final )fn (\w+)")
     for path in glob.glob(os.path.join(HERE, "crates", crate, "src", "**", "*.rt"), recursive=True):
         owner = ""
@@ -346,7 +346,7 @@ def check_quotes(checks):
 
 @functools.lru_cache(maxsize=None)
 def names_of(crate):
-    """The names that the files of src/ define or hand on: those of a block both alone and behind the name of its type."""
+    """The names that the files of src/ define or hand on: those of a block both alone and after the name of its type."""
     item = re.compile(r"\s*(?:(?:pub(?:\(\w+\))?|const|unsafe|final|ghost|extern \"C\") )*"
                       r"(?:(?:fn|struct|enum|union|trait|type|mod|const|static) )?(\w+)(?=[\s:(<;,={]|$)")
     block = re.compile(r"(?:pub(?:\(\w+\))? )?(?:impl|trait|enum|struct)\b(?:<.*?>+)?(?: .* for)? (\w+)")
@@ -375,7 +375,7 @@ def has_other(crate, name):
 
 
 def names_in(text, under):
-    """What a page names by its crate: the crate, the name behind it, and the words as they stand there."""
+    """What a page names by its crate: the crate, the name after it, and the words as they are there."""
     for span in re.findall(r"`([^`]+)`", text):
         for crate, name in re.findall(r"(?<![\w:])(\w+)::(\w+(?:::\w+)*)", span):
             if crate in under:

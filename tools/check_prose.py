@@ -5,7 +5,7 @@
 
 Counted are the words of each sentence of docs/*.md, README.md, CONTRIBUTING.md and tests/README.md, outside code blocks,
 tables and headings. A list item is a text of its own: no sentence goes on from one item to the next. A sentence ends in a
-full stop, a question mark or an exclamation mark with a space behind it, or where its paragraph or item ends. No sentence
+full stop, a question mark or an exclamation mark with a space after it, or where its paragraph or item ends. No sentence
 ends in '..', which leaves something out, nor in an abbreviation. A code span is one word, and of a link only its text
 counts. Printed are, of each page, the number of sentences, the median and the 90th percentile, and then the ten longest
 sentences of all pages. A page of REWRITTEN fails above the figures below. The last line is 'N passed, M failed'.

@@ -37,8 +37,8 @@ NAMES_DEFINED_TWICE = {
     "Leaves": "what an output holds that was broken off; the phase that an answer leaves",
     "expansion": "of blocks; of words `@FILE`",
     "laid": "cells over zeros; parts one after another, each padded",
-    "left_of": "of a chunk; of a byte behind a crash; of words that were met",
-    "number_at": "the same in `abt_sparse` and `abt_headers`, which stand on nothing of ours together",
+    "left_of": "of a chunk; of a byte after a crash; of words that were met",
+    "number_at": "the same in `abt_sparse` and `abt_headers`, which depend on nothing of ours together",
     "text_of": "the same: `cmd_common_texts` hands on that of `cmd_common_fields`",
     "with_part": "a window with bytes in it; a placer with blocks taken",
 }

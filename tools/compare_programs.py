@@ -45,7 +45,7 @@ from run import difference, seen
 from try_faults import CALL, may_trace
 
 # What may differ, and why: a pattern of the mode and the line, one of what differs, as it is printed, and the reason, which
-# docs/DECISIONS.md tells. ("^faults ", "^answer: read of (x|y|spool) gives status 0$", "why") is one, say.
+# docs/DECISIONS.md says. ("^faults ", "^answer: read of (x|y|spool) gives status 0$", "why") is one, say.
 EXPLAINED = (
     (r"^faults", r"^answer: read of .* gives status 0$", "a read ahead that fails is made again for what was asked"),
     (r"^faults", r"^answer: fstat of .* gives status 0$", "an IN whose length is not told counts as it was"),

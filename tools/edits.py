@@ -5,7 +5,7 @@
   tools/edits.py [--jobs N] [CRATE ..]    tries them: the prover must refuse each (hours); without a CRATE those of all
 
 Both take --rt RT, the command of the toolchain. crates/NAME/must-fail/ has the edits that the gate tries, at most 12 of a
-crate: those that tell most. crates/NAME/more-edits/ has all others, in the same form: a line 'file: src/lib.rt', and then
+crate: those that show most. crates/NAME/more-edits/ has all others, in the same form: a line 'file: src/lib.rt', and then
 pairs of lines 'old: TEXT' and 'new: TEXT', where the old text stands once in the file as the pairs before have made it.
 
 Each crate is tried by `rt ci NAME` in a temporary copy, where all its edits stand in must-fail/. So what passes is kept on this
@@ -112,7 +112,7 @@ def check(names, rt, show):
 
 
 def tried(crate, below, lines, words):
-    """Tries the edits of one crate, which stands on those below: how many were refused, how many of them not by a proof,
+    """Tries the edits of one crate, which depends on those below: how many were refused, how many of them not by a proof,
     those that were not, and the seconds of processors."""
     paths, begun = edits_of(crate), resource.getrusage(resource.RUSAGE_CHILDREN)
     with tempfile.TemporaryDirectory(prefix="abootimg-edits-") as room:

@@ -5,7 +5,7 @@
 
 Each crate is planted in a folder of its own below FOLDER, so that several runs may stand side by side, and nothing of this
 tree is changed. The crates below it are proved first, or taken from what earlier checks on this machine proved. In that folder the remarks above the variants of enums
-are left out: `rt plant` takes them for a part of the variant's name, and a body that answers such a variant does not
+are left out: `rt plant` takes them for a part of the variant's name, and a body that returns such a variant does not
 compile.
 
 Each line `proves` is a contract to strengthen, or a body that is right; docs/DECISIONS.md says why of each that is
@@ -36,7 +36,7 @@ def without_remarks(text):
 
 
 def room_for(name, lines, uses, at):
-    """A folder with this crate and all that it stands on."""
+    """A folder with this crate and all that it depends on."""
     room = os.path.join(at, name)
     shutil.rmtree(room, ignore_errors=True)
     copy_of(room, with_below([name], uses), lines)
@@ -55,7 +55,7 @@ def main():
     parser = argparse.ArgumentParser(description="plants wrong bodies in copies of crates")
     parser.add_argument("--rt", default="rt")
     parser.add_argument("--at", default=os.path.join(tempfile.gettempdir(), "abootimg-plants"))
-    parser.add_argument("--minutes", type=int, default=120, help="for one crate, behind its first check")
+    parser.add_argument("--minutes", type=int, default=120, help="for one crate, after its first check")
     parser.add_argument("--only", default="", help="only functions whose file, line and path have this word")
     parser.add_argument("crates", nargs="+", metavar="CRATE")
     words = parser.parse_args()

@@ -32,7 +32,7 @@ def ran(words, folder):
 
 
 def told(name, passed, failed, said):
-    """Prints what came of it, with the lines that say what is wrong, and answers the counts."""
+    """Prints what came of it, with the lines that say what is wrong, and returns the counts."""
     print(f"{name}: {passed} passed, {failed} failed", flush=True)
     if failed:
         print("\n".join([it for it in said.splitlines() if WRONG.search(it)][:30] or said.splitlines()[-30:]), flush=True)

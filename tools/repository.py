@@ -1,4 +1,4 @@
-"""What the scripts of the gate and of the build know of the repository: its crates, what they stand on, and copies of it."""
+"""What the scripts of the gate and of the build know of the repository: its crates, what they depend on, and copies of it."""
 import os
 import shutil
 import subprocess
@@ -21,7 +21,7 @@ def crate_lines():
 
 
 def below(name, uses):
-    """The crates that a crate stands on, lowest first."""
+    """The crates that a crate depends on, lowest first."""
     found = []
     for it in uses[name]:
         found += [more for more in [*below(it, uses), it] if more not in found]
@@ -29,7 +29,7 @@ def below(name, uses):
 
 
 def with_below(names, uses):
-    """These crates and all that they stand on, lowest first."""
+    """These crates and all that they depend on, lowest first."""
     found = []
     for name in names:
         found += [it for it in [*below(name, uses), name] if it not in found]

@@ -7,7 +7,7 @@ It begins with tools/quick.py, so that a mistake shows after some minutes. `rt c
 must-fail edits, runs the tests, and compiles the program. What an earlier run on this machine passed of the same files is
 taken from there. The program and the C library are linked as make links them (tools/build.py, which takes what was proved),
 and each script runs on them and ends in a line 'N passed, M failed'. Behind each stands the time that it took, by the clock
-and of the processors, and behind `rt ci` a line for each crate. Where something failed, its lines stand once more at the
+and of the processors, and after `rt ci` a line for each crate. Where something failed, its lines stand once more at the
 end. The last line of all is the sum of what passed and failed. The exit status is 0 where nothing failed.
 """
 import argparse
@@ -42,7 +42,7 @@ def processor_time():
 
 
 def followed(words, name, wrong, **how):
-    """Runs a command and shows what it says but for its last line, whose counts it answers. Lines of what failed are added."""
+    """Runs a command and shows what it says but for its last line, whose counts it returns. Lines of what failed are added."""
     print(f"== {name}", flush=True)
     begun, used = time.monotonic(), processor_time()
     try:

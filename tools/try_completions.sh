@@ -79,7 +79,7 @@ class Terminal:
             os.execvp(words[0], words)
 
     def until(self, wanted):
-        """Reads until what is shown since the last call has this; answers that, or None after half a minute."""
+        """Reads until what is shown since the last call has this; returns that, or None after half a minute."""
         end = time.monotonic() + 30
         while time.monotonic() < end:
             found = re.search(wanted, self.shown)

@@ -57,7 +57,7 @@ class Trial:
 
 
 def ran(run, room, strace_words):
-    """Runs the line of a case below strace, in a room where its files are, and answers how it ended."""
+    """Runs the line of a case below strace, in a room where its files are, and returns how it ended."""
     for it in run.before:
         room.make(*it)
     room.before = seen(room.folder)
@@ -68,7 +68,7 @@ def ran(run, room, strace_words):
 
 
 def in_room(case, environment, use):
-    """What `use` answers of a new room of the case."""
+    """What `use` returns of a new room of the case."""
     with tempfile.TemporaryDirectory(prefix="abootimg-faults-") as folder:
         return use(Room(folder, case.recipes, environment))
 
@@ -132,7 +132,7 @@ def wrong_of(trial, environment):
 
 
 def tried(only, show, environment):
-    """Tries all trials with this word, side by side, and answers how many passed and how many failed."""
+    """Tries all trials with this word, side by side, and returns how many passed and how many failed."""
     counts = [0, 0]
     cases = [it for it in all_cases() if "/commands.txt" in it.place]
     with concurrent.futures.ThreadPoolExecutor(len(os.sched_getaffinity(0))) as lanes:

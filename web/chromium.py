@@ -59,7 +59,7 @@ class Browser:
             raise
 
     def call(self, method, parameters=None, session=""):
-        """Sends a command, and answers its result."""
+        """Sends a command, and returns its result."""
         number = next(self.numbers)
         message = {"id": number, "method": method, "params": parameters or {}}
         if session is not None:

@@ -94,7 +94,7 @@ class Trial:
         self.browser.open(url or f"file://{self.page}")
 
     def show(self, path):
-        """Chooses a file, and answers what is shown of it."""
+        """Chooses a file, and returns what is shown of it."""
         # The same file once more is no change, and an old status is no new one.
         self.browser.value("document.getElementById('file').value = document.getElementById('status').textContent = ''")
         self.browser.choose_file("#file", path)
