@@ -98,7 +98,7 @@ pub last_carried : (q : Part) (s s' : AbtSparse) (p p' : Puller) → StandsFor s
 last_carried q s s' p p' e f live x k l = part_carried q s s' p p' [] [] e f live (subst (λ (v : List ℕ). Says q p.walk
     p'.walk v []) (sym (append-nil (pulling.pulled_front p))) x) k l
 
--- ---- where a state stands in the expanded image
+-- ---- where a state is in the expanded image
 
 place_in_phase : (q : Phase) (w : Walk) → state_place_in (phase_number q) w.kind w.have w.header.blk_sz w.raw w.words ≡
     places.place_in q w

@@ -1,4 +1,4 @@
--- Bytes with zeros behind them.
+-- Bytes with zeros after them.
 use Rattle.std.proofs.Common.{◌≡◌, ℕ, ◌-◌, ◌++◌, List, drop, length, replicate, ◌∙◌}
 use Rattle.std.proofs.lemmas.List.{drop-replicate, drop_at}
 

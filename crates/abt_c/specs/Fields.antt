@@ -1,4 +1,4 @@
--- What C is told of a boot header beside its sections.
+-- What is reported to C of a boot header beside its sections.
 use Rattle.std.specs.Prelude.{◌≡◌, ℕ, List, [], ◌∷◌, take, drop, replicate, Option, Some, None, Result, Ok, Err}
 use Rattle.abt_headers.specs.declared.boot.BootFront.{BootFront}
 use Rattle.abt_headers.specs.declared.boot.ShortFront.{ShortFront}
@@ -22,7 +22,7 @@ parts_told p = p.a ∷ p.b ∷ p.c ∷ p.year ∷ p.month ∷ []
 abbrev pub os_told : ℕ → List ℕ
 os_told n = parts_told (os_parts n)
 
--- no address is told, as none is of boot 3 and 4, and of bytes that are no header
+-- no address is reported, as none is of boot 3 and 4, and of bytes that are no header
 pub record HasNoAddress (o : AbtFields) : Type 0 where
   pub kernel : o.kernel_addr ≡ 0
   pub ramdisk : o.ramdisk_addr ≡ 0
@@ -33,7 +33,7 @@ pub record HasNoAddress (o : AbtFields) : Type 0 where
 abbrev pub zeros : ℕ → List ℕ
 zeros n = replicate n 0
 
--- no text is told, and no id
+-- no text is reported, and no id
 pub record HasNoText (o : AbtFields) : Type 0 where
   pub id : o.id ≡ zeros 32
   pub name : o.name ≡ zeros 16

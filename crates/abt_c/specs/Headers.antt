@@ -1,4 +1,4 @@
--- What C is told of the headers of a sparse image, in the numbers of a state.
+-- What is reported to C of the headers of a sparse image, in the numbers of a state.
 use Rattle.std.specs.Prelude.{ℕ, [], ◌∷◌}
 use Rattle.abt_sparse.specs.declared.kind.ChunkKind.{ChunkKind}
 use Rattle.abt_sparse.specs.declared.kind.ChunkKind.TheVariants as kinds

@@ -1,4 +1,4 @@
--- What a call made of its input, and that reading ends: in the numbers of a state.
+-- What a call did with its input, and that reading ends, in the numbers of a state.
 use Rattle.std.specs.Prelude.{◌≡◌, ℕ, ◌+◌, ◌-◌, ◌*◌, ◌^◌, ◌<◌, ◌≤◌, Bool, true, if◌then◌else◌, ◌==◌, ◌&&◌, min}
 use Rattle.abt_chunks.specs.ListingAhead.{is_spent}
 use Rattle.abt_c.specs.declared.state.AbtPart.{AbtPart}
@@ -17,16 +17,15 @@ left_to_do s =
     + (s.total_chunks - s.index) * 2 ^ 68
     else 0
 
--- What an answer leaves. Behind each part but the end and a fault less is left to do, so one of these comes; and
--- both are
--- kept, to be answered again.
+-- What a result leaves. After each part but the end and a fault less is left to do, so one of these comes. Both are
+-- kept, to be returned again.
 pub record Nears (o : AbtPart) (s s' : AbtSparse) : Type 0 where
   pub falls : 1 ≤ o.kind → o.kind ≤ 4 → left_to_do s' < left_to_do s
   pub end : o.kind ≡ 5 → s'.phase ≡ 2
   pub fault : o.kind ≡ 6 → (s'.phase ≡ 3) × (s'.fault ≡ o.fault) × (s'.detail ≡ o.detail)
 
--- What a call that was lent n bytes made of them. Raw bytes are all that came of those that are left; a header or a word
--- used one at least; a fill and a gap come whole. These use none, nor does the end.
+-- What a call that was given n bytes made of them. Raw bytes are all that came of those that are left; a header or a
+-- word used one at least; a fill and a gap come whole. These use none, nor does the end.
 pub record Moves (o : AbtPart) (s s' : AbtSparse) (n : ℕ) : Type 0 where
   pub raw : o.kind ≡ 1 → (0 < o.used) × (o.used ≡ min s.raw n)
   pub fill : o.kind ≡ 2 → (o.used ≡ 0) × (chunk_ended s' ≡ true)

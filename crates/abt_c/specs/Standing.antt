@@ -1,4 +1,4 @@
--- The numbers of a reader, as C keeps them, and the machine whose numbers they are.
+-- The numbers of a reader, as C keeps them, and the machine that has these numbers.
 use Rattle.std.specs.Prelude.{◌≡◌, ℕ, ◌+◌, ◌-◌, ◌*◌, ◌^◌, ◌<◌, ◌≤◌, ◌↔◌, ◌++◌, List, [], take, length, Option, Some}
 use Rattle.std.specs.Prelude.{None}
 use Rattle.std.specs.Prelude.{Ok, Bool, if◌then◌else◌, ◌==◌, nat_lt}
@@ -146,7 +146,7 @@ StateSays (pulls.Gives parts.End) s s' c t = state_ahead s (c ++ t)
     ≡ record { cells = []; ending = Ok (header_of s', t) }
 StateSays (pulls.Gives (parts.Fault f)) s s' c t = state_ahead s (c ++ t) ≡ stopping f
 
--- a part o was told, for which the bytes c were used
+-- a part o was reported, for which the bytes c were used
 pub record Told (o : AbtPart) (s s' : AbtSparse) (c : List ℕ) : Type 0 where
   pub pull : Pull
   pub is : PartIs pull o
@@ -158,9 +158,9 @@ pub record Ended (o : AbtPart) (s s' : AbtSparse) : Type 0 where
   pub is : PartIs (pulls.Gives part) o
   pub says : StateSays (pulls.Gives part) s s' [] []
 
--- What a call that takes a state answers beside its part: the number of its fault, which only a part of kind 6 has. A
--- state that the calls left is taken and left so; each other one is answered with 90, and left as it is. After a fault
--- that is answered again.
+-- What a call that takes a state returns beside its part: the number of its fault, which only a part of kind 6 has. A
+-- state that the calls left is taken and left so; each other one is returned with 90, and left as it is. After a fault
+-- that is returned again.
 pub record Answered (n : ℕ) (o : AbtPart) (s s' : AbtSparse) : Type 0 where
   pub fault : n ≡ o.fault
   pub kind : (o.kind ≡ 6) ↔ (0 < o.fault)

@@ -1,4 +1,4 @@
--- A part of an image as the numbers that C is told.
+-- A part of an image as the numbers that are reported to C.
 use Rattle.abt_chunks.specs.Listing.{no_word}
 use Rattle.std.specs.Prelude.{◌≡◌, ℕ, ◌+◌, ◌*◌, List}
 use Rattle.abt_sparse.specs.Number.{number_of}
@@ -9,7 +9,7 @@ use Rattle.abt_chunks.specs.declared.feed.Pull.{Pull}
 use Rattle.abt_chunks.specs.declared.feed.Pull.TheVariants as pulls
 use Rattle.abt_c.specs.declared.state.AbtPart.{AbtPart}
 
--- what a fault tells beside its number
+-- the detail of a fault beside its number
 abbrev pub detail_of : SparseFault → ℕ
 detail_of faults.Magic = 0
 detail_of (faults.Major n) = n

@@ -1,4 +1,4 @@
--- What a boot header or a vendor boot header tells to C.
+-- What is reported to C of a boot header or a vendor boot header.
 use Rattle.std.specs.Prelude.{◌≡◌, ℕ, zero, suc, List, [], ◌∷◌, length, Result, Ok, Err}
 use Rattle.abt_headers.specs.declared.boot.BootHeader.{BootHeader}
 use Rattle.abt_headers.specs.declared.fault.HeaderFault.{HeaderFault}
@@ -30,7 +30,7 @@ section_told q = record { kind = section_number q.kind; size = q.size; at = q.at
 abbrev pub no_section : AbtSection
 no_section = record { kind = 0; size = 0; at = 0 }
 
--- section i, and none behind the last
+-- section i, and none after the last
 abbrev pub section_at : List SectionPlace → ℕ → AbtSection
 section_at [] i = no_section
 section_at (q ∷ qs) zero = section_told q
@@ -62,7 +62,7 @@ pub record TellsVendor (h : Vendor) (o : AbtBoot) : Type 0 where
   pub header_size : o.header_size ≡ vendor_size h
   pub shows : TellsSections (vendor_places h) o
 
--- of a version, a page size and a header that is cut short what they tell
+-- of a version, a page size and a header that is cut short: their detail
 abbrev pub header_detail : HeaderFault → ℕ
 header_detail (faults.Version n) = n
 header_detail (faults.PageSize n) = n

@@ -1,4 +1,4 @@
-//! What a boot image has, told to C.
+//! The sections of a boot image, reported to C.
 
 ghost use Rattle.std.specs.Prelude.{◌≡◌, ◌≤◌, length};
 ghost use Rattle.abt_headers.specs.Boot.{boot_at};
@@ -27,7 +27,7 @@ fn number_of(kind: Section) -> u32
     }
 }
 
-/// Section `i`, and none behind the last.
+/// Section `i`, and none after the last.
 #[tactic(auto, using(crate::proofs::Sections::section_is, crate::proofs::Sections::section_past))]
 fn section(places: &Sections, i: usize) -> AbtSection
     ensures { result ≡ section_at places.now i }
@@ -100,7 +100,7 @@ fn vendor_told(header: &VendorHeader) -> AbtBoot
     told
 }
 
-/// What a fault tells beside its number.
+/// The detail of a fault beside its number.
 pub fn detail(fault: HeaderFault) -> u32
     ensures { result ≡ header_detail fault }
 {
@@ -150,8 +150,8 @@ fn info(head: &[u8]) -> AbtBoot
     }
 }
 
-/// What the header at the front of these bytes says, of a boot image or a vendor boot image. 0, or the number of the
-/// fault.
+/// What the header at the beginning of these bytes says, of a boot image or a vendor boot image. 0, or the number of
+/// the fault.
 #[unsafe(no_mangle)]
 pub extern "C" fn abt_boot_info(head: &[u8], out: &mut AbtBoot) -> u32
     ensures told { InfoIs (boot_at head.now) (vendor_at head.now) out.new }

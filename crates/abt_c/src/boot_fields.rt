@@ -1,4 +1,5 @@
-//! What a boot header says beside where its sections stand: the calls on its fields and on the fragments of a ramdisk.
+//! What a boot header has beside the places of its sections: the calls on its fields and on the fragments of a
+//! ramdisk.
 
 ghost use Rattle.std.specs.Prelude.{◌≡◌, ◌≤◌, ◌<◌, ◌-◌, drop, length, take};
 ghost use Rattle.abt_headers.specs.Boot.{boot_at};
@@ -81,7 +82,7 @@ fn none(fault: u32, detail: u32) -> AbtFields
     }
 }
 
-/// A command line with zeros behind it.
+/// A command line with zeros after it.
 fn padded<const N: usize>(text: &[u8; N]) -> [u8; 2048]
     requires { N ≤ 2048 }
     ensures text { take N result ≡ text.now }
@@ -204,7 +205,7 @@ fn fields(head: &[u8]) -> AbtFields
     }
 }
 
-/// What the header at the front of these bytes says beside its sections. 0, or the number of the fault.
+/// What the header at the beginning of these bytes says beside its sections. 0, or the number of the fault.
 #[unsafe(no_mangle)]
 pub extern "C" fn abt_boot_fields(head: &[u8], out: &mut AbtFields) -> u32
     ensures told { FieldsAre (boot_at head.now) (vendor_at head.now) out.new }
@@ -214,7 +215,7 @@ pub extern "C" fn abt_boot_fields(head: &[u8], out: &mut AbtFields) -> u32
     out.fault
 }
 
-/// The fragment whose entry of the table stands at the front of these bytes. How many of them it took: 108, or 0 where
+/// The fragment whose entry of the table is at the beginning of these bytes. How many of them it took: 108, or 0 where
 /// there are fewer, and `out` is left.
 #[unsafe(no_mangle)]
 pub extern "C" fn abt_boot_fragment(entry: &[u8], out: &mut AbtFragment) -> usize

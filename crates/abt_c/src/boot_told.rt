@@ -1,10 +1,10 @@
-//! What C is told of a boot image.
+//! What is reported to C of a boot image.
 
-/// Where a section stands.
+/// Where a section is.
 #[repr(C)]
 #[derive(Clone, Copy, Drop)]
 pub struct AbtSection {
-    /// What stands there.
+    /// What is stored there.
     pub kind: u32,
     /// How many bytes it has, without padding.
     pub size: u32,
@@ -17,7 +17,7 @@ pub struct AbtSection {
 #[derive(Clone, Copy, Drop)]
 pub struct AbtBoot {
     pub fault: u32,
-    /// What the fault tells beside its number; of fault 25 how many bytes the header needs.
+    /// The detail of the fault beside its number; of fault 25 how many bytes the header needs.
     pub detail: u32,
     /// 1 of a boot image, 2 of a vendor boot image.
     pub kind: u32,

@@ -1,20 +1,20 @@
-//! Sparse images and boot images for programs written in C: a static library that takes no memory, calls nothing back
-//! and keeps nothing between two calls but the numbers that the caller lends it. `include/abootimg.h` at the top of the
-//! repository says how each call is used.
+//! Sparse images and boot images for programs written in C. It is a static library that allocates no memory and calls
+//! nothing back. Between two calls it keeps nothing but the numbers in the state that the caller passes.
+//! `include/abootimg.h` at the top of the repository says how each call is used.
 //!
-//! What a call says of a sparse image is the contract of [`abt_sparse_next`]: whatever bytes follow those that it used,
-//! what lay ahead of the state is the part that it tells, and then what lies ahead of the state behind it. So the parts
-//! of an image are the same wherever the caller cuts its input. Each call has an answer for every state: what none of
-//! them left is answered with fault 90, and left as it is.
+//! The contract of a call on a sparse image is that of [`abt_sparse_next`]. Whatever bytes follow those that it used,
+//! what lay ahead of the state is the part that it reports, and then what lies ahead of the state after it. So the
+//! parts of an image are the same wherever the caller cuts its input. Each call has a result for every state: it
+//! returns fault 90 for a state that none of the calls left, and leaves that state as it is.
 //!
-//! | file | what is in it |
+//! | file | content |
 //! |---|---|
-//! | `state.rt` | the numbers that C keeps and is told |
+//! | `state.rt` | the numbers that C keeps, and those that are reported to it |
 //! | `stored.rt` | from these numbers to the reading machine, with all its conditions checked, and back |
 //! | `told.rt` | a part as numbers |
 //! | `sparse.rt` | the calls on sparse images |
 //! | `sparse_header.rt` | the calls on the headers of a sparse image |
-//! | `boot.rt`, `boot_told.rt` | the call on boot images, and what it tells |
+//! | `boot.rt`, `boot_told.rt` | the call on boot images, and what it reports |
 //! | `boot_fields.rt` | the calls on the fields of a boot header and on the fragments of a ramdisk |
 #![tactic(auto)]
 

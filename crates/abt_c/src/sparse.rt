@@ -1,4 +1,4 @@
-//! A sparse image, read by a program that has it in pieces.
+//! The calls on a sparse image, for a program that has it in pieces.
 
 ghost use Rattle.std.specs.Prelude.{◌≡◌, ◌≤◌, ◌<◌, ◌+◌, ◌*◌, ◌↔◌, take, length};
 ghost use Rattle.abt_c.specs.Standing.{Answered, Ended, IsLeft, KeptFault, Told, no_size};
@@ -10,7 +10,7 @@ use crate::stored::{puller_in, state_of};
 use crate::told::{STATE, part_of, refused};
 use abt_chunks::{Pull, Puller};
 
-/// What is answered in a state that has failed: its fault once more, where these calls left it so.
+/// What is returned in a state that has failed: its fault once more, where these calls left it so.
 fn again(state: &AbtSparse) -> AbtPart
     ensures bare { IsBare result }
     ensures some { 3 ≤ state.now.phase → 0 < result.fault }
@@ -44,12 +44,12 @@ pub extern "C" fn abt_sparse_init(state: &mut AbtSparse)
     *state = state_of(&Puller::new());
 }
 
-/// The next part of the image, as far as this input goes: it is what comes behind all that was used before. 0, or the
+/// The next part of the image, as far as this input goes: it is what follows all that was used before. 0, or the
 /// number of the fault.
 #[unsafe(no_mangle)]
 pub extern "C" fn abt_sparse_next(state: &mut AbtSparse, input: &[u8], out: &mut AbtPart) -> u32
-    // A state that these calls left is taken and left so; each other one is answered with 90, and left as it is.
-    // After a fault it answers that again.
+    // A state that these calls left is taken and left so; each other one is returned with 90, and left as it is.
+    // After a fault it returns that again.
     ensures answers { Answered result out.new state.old state.new }
     ensures used { out.new.used ≤ length input.now }
     // More input is asked for only where all of this one was used.
@@ -62,7 +62,7 @@ pub extern "C" fn abt_sparse_next(state: &mut AbtSparse, input: &[u8], out: &mut
         Moves out.new state.old state.new (length input.now) }
     ensures lent { out.new.kind ≡ 1 → out.new.offset + out.new.length ≤ out.new.used }
     ensures offset { (out.new.kind ≡ 1 → ⊥) → out.new.offset ≡ 0 }
-    // After the end it answers that again.
+    // After the end it returns that again.
     ensures ended { state.old.phase ≡ 2 → (out.new.fault ≡ 90 → ⊥) →
         (out.new.kind ≡ 5) × (out.new.used ≡ 0) × (state.new.phase ≡ 2) }
 {
@@ -85,14 +85,14 @@ pub extern "C" fn abt_sparse_next(state: &mut AbtSparse, input: &[u8], out: &mut
     }
 }
 
-/// The part behind all others where the input has ended. 0, or the number of the fault: an image that is cut short has
+/// The part after all others where the input has ended. 0, or the number of the fault: an image that is cut short has
 /// fault 10.
 #[unsafe(no_mangle)]
 pub extern "C" fn abt_sparse_last(state: &mut AbtSparse, out: &mut AbtPart) -> u32
     ensures answers { Answered result out.new state.old state.new }
     ensures used { out.new.used ≡ 0 }
     ensures told { state.old.phase < 3 → (out.new.fault ≡ 90 → ⊥) → Ended out.new state.old state.new }
-    // Behind each answer but the end and a fault less is left to do; these two are kept, and answered again.
+    // After each result but the end and a fault less is left to do; these two are kept, and returned again.
     ensures nears { state.old.phase < 3 → (out.new.fault ≡ 90 → ⊥) → Nears out.new state.old state.new }
     ensures ended { state.old.phase ≡ 2 → (out.new.fault ≡ 90 → ⊥) → out.new.kind ≡ 5 }
     ensures offset { out.new.offset ≡ 0 }

@@ -1,4 +1,4 @@
-//! What the headers of a sparse image say, as far as they have been read.
+//! The fields of the headers of a sparse image, as far as they have been read.
 
 ghost use Rattle.std.specs.Prelude.{◌≡◌, ◌<◌};
 ghost use Rattle.abt_sparse.specs.Reading.{kind_at};

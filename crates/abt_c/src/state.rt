@@ -1,4 +1,5 @@
-//! The state of a reader as C keeps it, and what it is told. All are numbers, so that no byte of them is wrong as such.
+//! The state of a reader as C keeps it, and what is reported to C. All fields are numbers, so every value of their
+//! bytes is allowed.
 
 /// A reader between two calls, 120 bytes. C keeps it and looks at none of it.
 #[repr(C)]
@@ -40,7 +41,7 @@ pub struct AbtPart {
     pub used: usize,
     /// Raw bytes begin here in the input.
     pub offset: usize,
-    /// What the fault tells beside its number.
+    /// The detail of the fault beside its number.
     pub detail: u64,
     pub kind: u32,
     pub fault: u32,

@@ -1,4 +1,4 @@
-//! From the numbers that C keeps to the reading machine, with all of its conditions checked, and back.
+//! From the numbers that C keeps to the reading machine, with all its conditions checked, and back.
 
 ghost use Rattle.std.specs.Prelude.{◌≡◌, ◌≤◌, ◌<◌, ◌+◌, ◌*◌, ◌^◌, IfSome, IsNone, if◌then◌else◌, true, false};
 ghost use Rattle.abt_sparse.specs.Number.{number_of};
@@ -55,7 +55,7 @@ fn long_in(n: u64) -> Option<u32>
     Some(n as u32)
 }
 
-/// The fault of an image that has this number and tells this.
+/// The fault of an image that has this number and this detail.
 fn fault_in(number: u32, detail: u64) -> Option<SparseFault>
     ensures number { IfSome result (λ f. number ≡ number_of f) }
     ensures detail { IfSome result (λ f. detail ≡ detail_of f) }

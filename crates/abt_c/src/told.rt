@@ -26,7 +26,7 @@ pub const FAULT: u32 = 6;
 /// The fault of a state that no call left.
 pub const STATE: u32 = 90;
 
-/// What a fault tells beside its number: of a chunk of unknown type its index, and the type above the low 32 bits.
+/// The detail of a fault beside its number: of a chunk of unknown type its index, and the type above the low 32 bits.
 pub fn detail(fault: SparseFault) -> u64
     ensures value { result ≡ detail_of fault }
     ensures bits { result < details (number_of fault) }

@@ -1,4 +1,4 @@
--- Whose fault a part and an answer are, and how much is read at a turn.
+-- Whose fault a part and a result are, and how much is read at a turn.
 use Rattle.std.proofs.Common.{Result}
 use Rattle.std.proofs.Common.{◌≡◌, ℕ, ◌<◌, ◌≤◌, ◌+◌, ◌-◌, ◌∙◌, Bool, true, false, refl, arith, ap, eq-eqb, ne_eqb}
 use Rattle.std.proofs.Common.{lt-ltb, le-ltb, ◌==◌, nat_lt, inl, inr, eqb-true, if◌then◌else◌, ◌&&◌}
@@ -135,7 +135,7 @@ at_most_head s = elim (cases_Bool (nat_lt s.index s.header.total_chunks)) [
   | inr e ↦ let q : head_wanted s ≡ 0 = ap (λ (v : Bool). if v then 12 else 0) e in omega (arith, q)
 ]
 
--- behind a whole chunk no more than the next one's header
+-- after a whole chunk no more than the next one's header
 pub wanted_between : (s : Walk) → s.phase ≡ phases.Body → at_end s ≡ true → wanted s ≤ 12
 wanted_between s p e =
     let x : s.extra ≡ 0 = eqb-true _ _ (both_left (s.extra == 0) (is_spent s.kind s.due s.raw s.words) e) in

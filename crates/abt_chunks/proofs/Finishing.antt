@@ -54,7 +54,7 @@ module _ (s s' : Walk) (y' c t win w w' : List ℕ) (r : ℕ) (in_window : take 
   onward parts.End says leaves moved e = let k : w' ≡ w = e ∙ append-nil w in rw (says, leaves, k) refl
   onward (parts.Fault f) says leaves moved e = onward_fault f says leaves e
 
--- a front of what a part gives is a beginning
+-- a prefix of what a part gives is a beginning
 begins_part : (w w' xs : List ℕ) (k : ℕ) (a b : Ahead) (cs : List (Option ℕ)) → laid cs ≡ xs → a ≡ before cs b → w' ≡ w ++ take k xs → IsFrontOf w' (w ++ laid a.cells)
 begins_part w w' xs k a b cs e f g = record {
   more = drop k xs ++ laid b.cells;
@@ -128,7 +128,7 @@ abbrev pub FindsFault : SparseFault → List ℕ → List ℕ → Outcome → Ty
 FindsFault f old new (Image h cs rest) = ⊥
 FindsFault f old new (Fault g cs) = (f ≡ g) × (new ≡ old ++ laid cs)
 
--- what an expansion answers, by the outcome of its input
+-- what an expansion returns, by the outcome of its input
 abbrev pub Finds : Result Expanded SparseFault → List ℕ → List ℕ → List ℕ → Outcome → Type 0
 Finds (Ok e) old new left (Image h cs rest) = (left ≡ rest) × (new ≡ old ++ expansion h.blk_sz (classed cs)) × (e.blocks ≡ h.total_blks) × (e.bytes ≡ h.total_blks * h.blk_sz)
 Finds (Ok e) old new left (Fault f cs) = ⊥

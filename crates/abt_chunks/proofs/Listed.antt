@@ -115,7 +115,7 @@ listing_few h size i have y le e =
     let t : (have == h.total_blks) ≡ false = ne_eqb _ _ e in
     rw (k, t) refl
 
--- ---- behind a chunk's header
+-- ---- after a chunk's header
 
 lacks_data : (k : ChunkKind) (n b : ℕ) → lacking k (due_of k) (raw_announced k n b) ≡ data_len b k n
 lacks_data kinds.Raw n b = refl

@@ -13,7 +13,7 @@ use Rattle.abt_chunks.specs.Listing.{Listing, ListingsAreRight, headless, info_o
 use Rattle.abt_chunks.specs.ListingAhead.{shown_before}
 use Rattle.abt_chunks.proofs.Listed.{header_cut, listing_got, listing_bad, listing_done, listing_few}
 
--- chunks that are spelled in a row are shown in a row
+-- chunks that are encoded in a row are shown in a row
 shown_chunks : (h : Header) (size : ℕ) (cs : List Chunk) (i have : ℕ) (y rest : List ℕ) → SpellsChunks h cs y rest → i + length cs ≤ h.total_chunks → have + counted_in cs ≤ h.total_blks
     → listing_from h size i have y ≡ shown_before (infos i cs) (listing_from h size (i + length cs) (have + counted_in cs) rest)
 shown_chunks h size [] i have y rest s few room =
@@ -27,7 +27,7 @@ shown_chunks h size (c ∷ cs) i have y rest s few room =
     rw s.3 (listing_got h size i have (s.0 ++ s.1) c (count c) s.1 (omega (arith, few)) got
     ∙ ap (λ (l : Listing). shown_before (info_of i c ∷ []) l) (rw (a, b) at (shown_chunks h size cs (i + 1) (have + count c) s.1 rest s.4 (omega (arith, few)) (omega (arith, room)))))
 
--- behind a header that is spelled
+-- after a header that is encoded
 pub listing_behind_header : (x : List ℕ) (h : Header) (after : List ℕ) → SpellsHeader x h after → listing_of x ≡ listing_from h (length x) 0 0 after
 unfolding listing_of
 listing_behind_header x h after s =

@@ -26,7 +26,7 @@ use Rattle.abt_chunks.specs.Ahead.{Ahead, stopping, before, somes, fills, gaps, 
 pub drop_past : {A : Type 0} (c t : List A) (n e : ℕ) → length c ≡ n → n ≤ e → drop e (c ++ t) ≡ drop (e - n) t
 drop_past c t n e l le = ap (λ (j : ℕ). drop j (c ++ t)) (let j : e ≡ length c + (e - n) = omega arith in j) ∙ drop-append-add c t (e - n)
 
--- a test on a length, behind n bytes
+-- a test on a length, after n bytes
 pub shorter : (c t : List ℕ) (n e : ℕ) → length c ≡ n → n ≤ e → nat_lt (length (c ++ t)) e ≡ nat_lt (length t) (e - n)
 shorter c t n e l le = elim (cases_Bool (nat_lt (length t) (e - n))) [
   | inl s ↦ let lt = ltb-true _ _ s in lt-ltb _ _ (omega (arith, length-append c t)) ∙ sym s
@@ -38,7 +38,7 @@ before-append a b x = ap (λ (cs : List (Option ℕ)). let r : Ahead = record { 
 
 -- ---- through a chunk
 
--- behind some of the header's extra bytes
+-- after some of the header's extra bytes
 pub past_extra : (k : ChunkKind) (due : Bool) (h : Header) (i have extra raw words : ℕ) (word : List ℕ) (size : ℕ) (c t : List ℕ) (n : ℕ) → length c ≡ n → n ≤ extra
     → walk k due h i have extra raw words word size (c ++ t) ≡ walk k due h i have (extra - n) raw words word size t
 unfolding walk
@@ -48,7 +48,7 @@ pub no_extra : (k : ChunkKind) (due : Bool) (h : Header) (i have raw words : ℕ
 unfolding walk
 no_extra k due h i have raw words word size y = let t : nat_lt (length y) 0 ≡ false = le-ltb _ _ (omega arith) in rw t refl
 
--- behind some raw bytes
+-- after some raw bytes
 past_raw_body : (due : Bool) (h : Header) (i have raw words : ℕ) (word : List ℕ) (size : ℕ) (c t : List ℕ) (n : ℕ) → length c ≡ n → n ≤ raw
     → body_ahead kinds.Raw due h i have raw words word size (c ++ t) ≡ before (somes c) (body_ahead kinds.Raw due h i have (raw - n) words word size t)
 unfolding body_ahead
@@ -63,7 +63,7 @@ past_raw due h i have raw words word size c t n l le =
     no_extra kinds.Raw due h i have raw words word size (c ++ t) ∙ past_raw_body due h i have raw words word size c t n l le
     ∙ ap (λ (a : Ahead). before (somes c) a) (sym (no_extra kinds.Raw due h i have (raw - n) words word size t))
 
--- behind the word
+-- after the word
 past_word_body : (k : ChunkKind) (h : Header) (i have raw words : ℕ) (word : List ℕ) (size : ℕ) (c t : List ℕ) → length c ≡ 4 → due_of k ≡ true
     → body_ahead k true h i have raw words word size (c ++ t) ≡ body_ahead k false h i have raw words c size t
 unfolding body_ahead
@@ -79,7 +79,7 @@ pub past_word : (k : ChunkKind) (h : Header) (i have raw words : ℕ) (word : Li
 past_word k h i have raw words word size c t l d =
     no_extra k true h i have raw words word size (c ++ t) ∙ past_word_body k h i have raw words word size c t l d ∙ sym (no_extra k false h i have raw words c size t)
 
--- behind some of the words of a fill, and of a gap
+-- after some of the words of a fill, and of a gap
 pub past_fill : (h : Header) (i have raw words : ℕ) (word : List ℕ) (size : ℕ) (y : List ℕ) (n : ℕ) → n ≤ words
     → walk kinds.Fill false h i have 0 raw words word size y ≡ before (fills n word) (walk kinds.Fill false h i have 0 raw (words - n) word size y)
 unfolding body_ahead
@@ -236,7 +236,7 @@ good_at h size i have c t k n total g b e =
     let room : nat_lt h.total_blks (have + counted k n) ≡ false = le-ltb _ _ g.room in
     rw (long, kind_is, blocks_is, total_is, right, room, e) refl
 
--- behind a good header
+-- after a good header
 pub past_head : (h : Header) (size i have : ℕ) (word c t : List ℕ) (k : ChunkKind) (n total : ℕ) → h.blk_sz % 4 ≡ 0 → 12 ≤ h.chunk_hdr_sz → i < h.total_chunks → GoodHead h have c k n total
     → chunks_ahead h size i have (c ++ t) ≡ walk k (due_of k) h (i + 1) (have + counted k n) (h.chunk_hdr_sz - 12) (raw_announced k n h.blk_sz) (words_announced k n h.blk_sz) word size t
 unfolding walk

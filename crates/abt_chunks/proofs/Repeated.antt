@@ -8,18 +8,18 @@ use Rattle.abt_io.proofs.Words.{front_words, length_words, take_past, words_add}
 abbrev words : ℕ → List ℕ → List ℕ
 words n w = concat (replicate n w)
 
--- the front of the window, where most words are laid
+-- the beginning of the window, where most words are written
 pub some_of_window : (window w : List ℕ) (most some : ℕ) → length w ≡ 4 → some ≤ most → take (4 * most) window ≡ words most w → slice_range window 0 (4 * some) ≡ words some w
 some_of_window window w most some l le laid =
     ap (λ (j : ℕ). take j window) (let z : 4 * some - 0 ≡ 4 * some = omega arith in z) ∙ sym (take-take (4 * some) (4 * most) window (omega arith))
     ∙ ap (λ (xs : List ℕ). take (4 * some) xs) laid ∙ front_words most some w l le
 
--- some more of them behind those that are written
+-- some more of them after those that are written
 pub words_on : (old now new part w : List ℕ) (done some : ℕ) → now ≡ old ++ words done w → part ≡ words some w → new ≡ now ++ part → new ≡ old ++ words (done + some) w
 words_on old now new part w done some before p e =
     e ∙ ap (λ (l : List ℕ). l ++ part) before ∙ append_assoc old (words done w) part ∙ ap (λ (l : List ℕ). old ++ (words done w ++ l)) p ∙ ap (λ (l : List ℕ). old ++ l) (sym (words_add done some w))
 
--- and a front of some more
+-- and a prefix of some more
 pub words_front : (old now new part w : List ℕ) (done some n k j : ℕ) → length w ≡ 4 → now ≡ old ++ words done w → part ≡ words some w → new ≡ now ++ take k part → k ≤ 4 * some → done + some ≤ n → j ≡ 4 * done + k → new ≡ old ++ take j (words n w)
 words_front old now new part w done some n k j l before p e kle le same =
     let rest = words (n - done) w in

@@ -1,4 +1,4 @@
--- From a step of the machine to the answers of a listing.
+-- From a step of the machine to the results of a listing.
 use Rattle.std.proofs.Common.{◌≡◌, ℕ, ◌+◌, ◌<◌, ◌≤◌, Bool, true, false, List, [], ◌∷◌, ◌++◌, length, Err, sym, ap, ◌∙◌, arith, ◌==◌, if◌then◌else◌, ne_eqb, eq-eqb}
 use Rattle.abt_sparse.specs.declared.fault.SparseFault.{SparseFault}
 use Rattle.abt_sparse.specs.declared.fault.SparseFault.TheVariants as faults
@@ -68,7 +68,7 @@ shown_next s s1 s2 x x1 y first next e p i =
 no_index : (s : Walk) → s.index ≡ 0 → (if s.index == 0 then [] else (info_at s ∷ [])) ≡ []
 no_index s i = let e : (s.index == 0) ≡ true = eq-eqb _ _ i in ap (λ (b : Bool). let l : List ChunkInfo = (if b then [] else (info_at s ∷ [])) in l) e
 
--- the header is behind, and all chunks are still to come
+-- the header has been passed, and all chunks are still to come
 pub shown_open : (s s1 s2 : Walk) (x x1 y : List ℕ) → s.phase ≡ phases.Header → upcoming s x ≡ with_begun s1 x1
     → with_begun s1 x1 ≡ with_begun s2 y → at_end s2 ≡ true → s2.phase ≡ phases.Body → s2.index ≡ 0 → listing_of x ≡ upcoming s2 y
 shown_open s s1 s2 x x1 y h first next e p i =

@@ -1,4 +1,4 @@
--- What the rest of an input gives to a reader that stands in the midst of an image, by the numbers that it keeps.
+-- What the rest of an input gives to a reader in the middle of an image, by the numbers that the reader keeps.
 use Rattle.std.specs.Prelude.{ℕ, ◌-◌, ◌*◌, ◌/◌, Bool, true, false, List, [], ◌++◌, length, take, drop, map, replicate}
 use Rattle.std.specs.Prelude.{Option, Some, None, Result, Ok, Err, nat_lt, if◌then◌else◌}
 use Rattle.std.specs.List.{concat}
@@ -10,7 +10,7 @@ use Rattle.abt_sparse.specs.Block.{cells, laid}
 use Rattle.abt_sparse.specs.Chunk.{Header, classed}
 use Rattle.abt_sparse.specs.Reading.{ChunksRead, Done, Failed, chunks_at, Outcome, Image, Fault}
 
--- What is still to come: the cells, one for each byte, and how it ends, with the header and the bytes behind the image
+-- What is still to come: the cells, one for each byte, and how it ends, with the header and the bytes after the image
 -- or with a fault.
 pub record Ahead : Type 0 where
   pub cells : List (Option ℕ)
@@ -43,11 +43,11 @@ abbrev pub seen : Outcome → Ahead
 seen (Image h cs rest) = record { cells = cells h.blk_sz (classed cs); ending = Ok (h, rest) }
 seen (Fault f cs) = record { cells = cs; ending = Err f }
 
--- what comes behind i chunks that have so many blocks, where the whole input has size bytes
+-- what follows i chunks that have so many blocks, where the whole input has size bytes
 unfoldable pub chunks_ahead : Header → ℕ → ℕ → ℕ → List ℕ → Ahead
 chunks_ahead h size i have y = seen_chunks h (chunks_at h size i have (h.total_chunks - i) y)
 
--- a word is read, and then what f says of it and of the bytes behind it
+-- a word is read, and then what f says of it and of the bytes after it
 abbrev pub word_then : ℕ → List ℕ → (List ℕ → List ℕ → Ahead) → Ahead
 word_then size y f = if nat_lt (length y) 4 then stopping (Truncated size) else f (take 4 y) (drop 4 y)
 
@@ -92,6 +92,6 @@ left_of kinds.Fill raw words = 4 * words
 left_of kinds.Skip raw words = 4 * words
 left_of kinds.Crc raw words = 0
 
--- what stands written once all that lies ahead is laid behind these bytes, and the ending
+-- what has been written once all that lies ahead is written after these bytes, and the ending
 abbrev pub finish : List ℕ → Ahead → List ℕ × Result (Header × List ℕ) SparseFault
 finish front a = (front ++ laid a.cells, a.ending)

@@ -1,4 +1,5 @@
--- Who is to blame where a call is refused, how much it may have read before it knew, and that nothing else failed.
+-- Which device failed where a call is refused, how much the call may have read before that was known, and that no
+-- other device failed.
 use Rattle.std.specs.Prelude.{◌≡◌, ℕ, ◌==◌, Bool, Result, Err, if◌then◌else◌, nat_lt}
 use Rattle.abt_sparse.specs.declared.fault.SparseFault.{SparseFault}
 use Rattle.abt_sparse.specs.declared.fault.SparseFault.TheVariants as faults
@@ -13,7 +14,7 @@ use Rattle.abt_chunks.specs.declared.walk.Part.TheVariants as parts
 use Rattle.abt_chunks.specs.Expanding.{IsGoing, ExpandingRises}
 use Rattle.abt_chunks.specs.Parts.{Caused}
 
--- No device has failed but the one whose fault is answered: the input's faults went from r to r', the output's from w
+-- No device has failed but the one whose fault is returned: the input's faults went from r to r', the output's from w
 -- to w'.
 abbrev pub Clean : {X : Type 0} → Result X SparseFault → ℕ → ℕ → ℕ → ℕ → Type 0
 Clean (Err (faults.Read d)) r r' w w' = w' ≡ w
@@ -37,12 +38,12 @@ pub record PartBlamed (q : Part) (s : Walk) (r r' : ℕ) : Type 0 where
   pub clean : CleanPart q r r'
   pub failed : IsGoing s.phase → full_in_part q ≡ 0
 
--- Whose fault an answer is: the device that it names has failed, and no other.
+-- Whose fault a result is: the device that it names has failed, and no other.
 pub record Blamed {X : Type 0} (a : Result X SparseFault) (r r' w w' : ℕ) : Type 0 where
   pub cause : ExpandingRises a r r' w w'
   pub clean : Clean a r r' w w'
 
--- the same of an answer that comes of an input alone, which is never that a device is full
+-- the same of a result that comes of an input alone, which is never that a device is full
 pub record InputBlamed {X : Type 0} (a : Result X SparseFault) (r r' : ℕ) : Type 0 where
   pub cause : ExpandingRises a r r' 0 0
   pub clean : Clean a r r' 0 0

@@ -1,4 +1,4 @@
--- What calls cost, in the bytes that were moved.
+-- The costs of calls, in bytes that were moved.
 use Rattle.std.specs.Prelude.{◌≡◌, ℕ, ◌+◌, ◌-◌, ◌*◌, ◌<◌, ◌≤◌, Result, OnOk, List, length, max, replicate}
 use Rattle.std.specs.List.{concat}
 use Rattle.abt_sparse.specs.declared.fault.SparseFault.{SparseFault}
@@ -32,7 +32,7 @@ pub record WritingCosts {X E : Type 0} (r : Result X E) (more : ℕ) {B : Type 0
   pub steps : m'.steps.number ≡ m.steps.number
   pub greatest : m'.greatest.number ≡ m.greatest.number
 
--- A word is written so many times, or a front of that and the write has failed.
+-- A word is written so many times, or a prefix of that and the write has failed.
 pub record LaysWords {X : Type 0} (r : Result X DeviceFault) (word : List ℕ) (n : ℕ) {B : Type 0} (o : outputs.Ghosts B)
     (old new : B) (m m' : Meter) : Type 0 where
   pub front : WritesOn r (concat (replicate n word)) o old new

@@ -1,4 +1,4 @@
--- What an expander writes of each part, and what its steps answer.
+-- What an expander writes for each part, and what its steps return.
 use Rattle.std.specs.Prelude.{◌≡◌, ℕ, ◌-◌, ◌*◌, ◌<◌, ◌≤◌, List, [], ◌++◌, length, take, replicate, Result, Ok, Err}
 use Rattle.std.specs.Prelude.{OnOk, OnErr, Option}
 use Rattle.std.specs.List.{concat}
@@ -13,14 +13,14 @@ use Rattle.abt_chunks.specs.Ahead.{somes, fills, gaps}
 use Rattle.abt_chunks.specs.declared.progress.MachineProgress.{MachineProgress}
 use Rattle.abt_chunks.specs.declared.progress.MachineProgress.TheVariants as answers
 
--- the bytes that a part lays, raw ones from the front of the window
+-- the bytes that a part writes, raw ones from the beginning of the window
 abbrev pub laid_by : Part → List ℕ → List ℕ
 laid_by (parts.Raw n) window = take n window
 laid_by (parts.Words word n) window = concat (replicate n word)
 laid_by (parts.Skip n) window = replicate (4 * n) 0
 laid_by q window = []
 
--- its cells, raw ones from the front of the window
+-- its cells, raw ones from the beginning of the window
 abbrev pub cells_by : Part → List ℕ → List (Option ℕ)
 cells_by (parts.Raw n) window = somes (take n window)
 cells_by (parts.Words word n) window = fills n word
@@ -47,7 +47,8 @@ IsWritable (parts.Words word n) = 0 < n
 IsWritable (parts.Skip n) = 0 < n
 IsWritable q = Unit {0}
 
--- The bytes x are written to an output: all of them after an Ok, and otherwise a front of them, and a write has failed.
+-- The bytes x are written to an output: all of them after an Ok, and otherwise a prefix of them, and a write has
+-- failed.
 pub record WritesOn {X E : Type 0} (r : Result X E) (x : List ℕ) {B : Type 0} (o : outputs.Ghosts B) (old new : B)
     : Type 0 where
   pub ok : OnOk r (o.written new ≡ o.written old ++ x)
@@ -59,7 +60,7 @@ pub record IsFrontOf (front whole : List ℕ) : Type 0 where
   pub more : List ℕ
   pub joined : whole ≡ front ++ more
 
--- what a step answers to a part that was done with, of a fault what it makes of it
+-- what a step returns for a part that was done with, of a fault what it makes of it
 abbrev pub answer_by : {E : Type 0} → (SparseFault → E) → Part → Result MachineProgress E
 answer_by g parts.End = Ok answers.Done
 answer_by g (parts.Fault f) = Err (g f)
@@ -68,7 +69,7 @@ answer_by g q = Ok answers.More
 abbrev pub answer_of : Part → Result MachineProgress SparseFault
 answer_of q = answer_by (λ f. f) q
 
--- the phase that an answer leaves
+-- the phase that a result leaves
 abbrev pub ExpandingLeaves : Result MachineProgress SparseFault → Phase → Type 0
 ExpandingLeaves (Ok answers.More) p = p ≡ phases.Body
 ExpandingLeaves (Ok answers.Done) p = p ≡ phases.Done

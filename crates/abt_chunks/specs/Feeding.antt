@@ -1,4 +1,4 @@
--- What a walk that is fed its input in pieces may hold of it: a header or a word of which something still lacks.
+-- What a walk that gets its input in pieces may hold of it: the beginning of a header or of a word.
 use Rattle.std.specs.Prelude.{ℕ, Bool, if◌then◌else◌, ◌==◌}
 use Rattle.abt_sparse.specs.declared.kind.ChunkKind.{ChunkKind}
 use Rattle.abt_sparse.specs.declared.kind.ChunkKind.TheVariants as kinds
@@ -23,7 +23,7 @@ whole_of turns.Word = 4
 whole_of turns.Chunk = 12
 whole_of t = 0
 
--- the same of a walk: of the data of a chunk, where its header is behind and the next one's takes so many
+-- the same of a walk: of the data of a chunk, where its header has been passed and the next one's takes so many
 abbrev pub whole_in_data : ChunkKind → Bool → ℕ → ℕ → ℕ → ℕ
 whole_in_data kinds.Raw due raw words head = if raw == 0 then head else 0
 whole_in_data kinds.Fill due raw words head = if due then 4 else (if words == 0 then head else 0)

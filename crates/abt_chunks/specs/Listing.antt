@@ -24,7 +24,7 @@ abbrev pub infos : ℕ → List Chunk → List ChunkInfo
 infos i [] = []
 infos i (c ∷ cs) = info_of i c ∷ infos (i + 1) cs
 
--- The header, where it is good; the chunks that are whole, in order; and the bytes behind the image, or its fault.
+-- The header, where it is good; the chunks that are whole, in order; and the bytes after the image, or its fault.
 pub record Listing : Type 0 where
   pub head : Option Header
   pub shown : List ChunkInfo
@@ -37,7 +37,7 @@ abbrev pub listed : Header → ℕ → ChunksRead → Listing
 listed h i (Done cs rest) = record { head = Some h; shown = infos i cs; ending = Ok rest }
 listed h i (Failed f cs came) = record { head = Some h; shown = infos i cs; ending = Err f }
 
--- the listing of an input of size bytes from chunk i on, behind so many blocks
+-- the listing of an input of size bytes from chunk i on, after so many blocks
 unfoldable pub listing_from : Header → ℕ → ℕ → ℕ → List ℕ → Listing
 listing_from h size i have y = listed h i (chunks_at h size i have (h.total_chunks - i) y)
 

@@ -1,4 +1,4 @@
--- What a listing still shows of the rest of an input, and what a part tells it.
+-- What a listing still shows of the rest of an input, and what a part adds to that.
 use Rattle.std.specs.Prelude.{◌≡◌, ℕ, ◌+◌, ◌-◌, ◌<◌, ◌≤◌, Bool, true, false, List, [], ◌∷◌, ◌++◌, length, take, drop}
 use Rattle.std.specs.Prelude.{Option, Some, None, Ok, Err, if◌then◌else◌, nat_lt, ◌&&◌, not, ◌==◌}
 use Rattle.abt_sparse.specs.declared.fault.SparseFault.{SparseFault}
@@ -39,7 +39,7 @@ idle_in p s = 0
 abbrev pub idle : Walk → ℕ
 idle s = idle_in s.phase s
 
--- where a listing stands between two calls
+-- where a listing is between two calls
 abbrev pub is_between : Phase → Walk → Bool
 is_between phases.Header s = false
 is_between phases.Body s = at_end s
@@ -82,7 +82,7 @@ head_shown h i = if i == 0 then None else Some h
 abbrev pub shown_before : List ChunkInfo → Listing → Listing
 shown_before l a = record { head = a.head; shown = l ++ a.shown; ending = a.ending }
 
--- In a chunk or in the image's header: it is shown once all of it is there, and the chunks behind it follow.
+-- In a chunk or in the image's header: it is shown once all of it is there, and the chunks after it follow.
 unfoldable pub begun_listing : ChunkKind → Bool → Header → ℕ → ℕ → ℕ → ℕ → List ℕ → ℕ → ℕ → List ℕ → Listing
 begun_listing k due h i have extra raw word blocks size y =
     if nat_lt (length y) (extra + lacking k due raw)
@@ -95,7 +95,7 @@ abbrev pub with_begun : Walk → List ℕ → Listing
 with_begun s y =
     begun_listing s.kind s.due (view s.header) s.index s.have s.extra s.raw s.word s.blocks (s.position + length y) y
 
--- behind the image's 28 bytes: what was begun has ended, and so was shown, or not
+-- after the image's 28 bytes: what was begun has ended, and so was shown, or not
 abbrev pub upcoming_ended : Bool → Walk → List ℕ → Listing
 upcoming_ended true s y = listing_from (view s.header) (s.position + length y) s.index s.have y
 upcoming_ended false s y = with_begun s y
@@ -122,7 +122,7 @@ breaking s f = record { head = head_in s.phase (at_end s) s; shown = []; ending 
 
 -- ---- a step
 
--- what a part tells a listing, once its bytes c are read and t comes behind
+-- what a part adds to a listing, once its bytes c are read and t follows
 abbrev pub ShowsPart : Part → Walk → Walk → List ℕ → List ℕ → Type 0
 ShowsPart parts.End s s' c t = upcoming s (c ++ t) ≡ record { head = Some (view s'.header); shown = []; ending = Ok t }
 ShowsPart (parts.Fault f) s s' c t = upcoming s (c ++ t) ≡ breaking s f
@@ -141,7 +141,7 @@ Numbers phases.Body s s' received = (s'.index ≡ (if at_end s then s.index + 1 
     × (at_end s ≡ true → 0 < received)
 Numbers p s s' received = Unit {0}
 
--- the image ends only behind a chunk or behind its header
+-- the image ends only after a chunk or after its header
 abbrev pub MayEnd : Phase → Walk → Type 0
 MayEnd phases.Header s = ⊥
 MayEnd phases.Body s = at_end s ≡ true

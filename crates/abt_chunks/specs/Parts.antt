@@ -1,4 +1,4 @@
--- What lies ahead of a walk, and what a part that it gives says of that.
+-- What lies ahead of a walk, and what a part says of that.
 use Rattle.std.specs.Prelude.{◌≡◌, ℕ, ◌+◌, ◌*◌, ◌<◌, ◌≤◌, Bool, true, false, List, [], ◌++◌, length, Ok}
 use Rattle.abt_sparse.specs.declared.fault.SparseFault.TheVariants as faults
 use Rattle.abt_sparse.specs.Reading.{outcome}
@@ -37,7 +37,7 @@ PartLeaves parts.End p = p ≡ phases.Done
 PartLeaves (parts.Fault f) p = p ≡ phases.Failed f
 PartLeaves q p = p ≡ phases.Body
 
--- the machine goes on behind it
+-- the machine goes on after it
 abbrev pub goes_on : Part → Bool
 goes_on parts.End = false
 goes_on (parts.Fault f) = false

@@ -1,4 +1,4 @@
--- Where a walk stands in the expanded image, and what it owes without another byte.
+-- Where a walk is in the expanded image, and what it still gives without another byte of input.
 use Rattle.std.specs.Prelude.{ℕ, ◌+◌, ◌-◌, ◌*◌, Bool, List, [], ◌∷◌, ◌++◌, replicate, Option, Some, None, ◌==◌}
 use Rattle.std.specs.Prelude.{if◌then◌else◌}
 use Rattle.abt_sparse.specs.declared.kind.ChunkKind.{ChunkKind}

@@ -1,4 +1,4 @@
--- The reading machine that is fed its input in pieces: what it holds, and what a pull says.
+-- The reading machine that gets its input in pieces: what it holds, and what a pull returns.
 use Rattle.std.specs.Prelude.{◌≡◌, ℕ, ◌+◌, ◌<◌, ◌≤◌, ◌++◌, List, length, take, min, true}
 use Rattle.abt_chunks.specs.declared.feed.Pull.{Pull}
 use Rattle.abt_chunks.specs.declared.feed.Pull.TheVariants as pulls
@@ -22,7 +22,7 @@ abbrev pub PullSays : Pull → Puller → Puller → List ℕ → List ℕ → T
 PullSays pulls.Need p p' c t = (p'.walk ≡ p.walk) × (pulled_front p' ≡ pulled_front p ++ c)
 PullSays (pulls.Gives q) p p' c t = Says q p.walk p'.walk (pulled_front p ++ c) t
 
--- nothing is held behind a part; where it gives something of a block, nothing was held before
+-- nothing is held after a part; where it gives something of a block, nothing was held before
 abbrev pub IsKept : Pull → Puller → Puller → Type 0
 IsKept pulls.Need p p' = p.count ≤ p'.count
 IsKept (pulls.Gives q) p p' = (p'.count ≡ 0) × (0 < given_by q → p.count ≡ 0)
@@ -56,7 +56,7 @@ PullMoves (pulls.Gives (parts.Skip k)) s s' used n = (used ≡ 0) × (at_end s' 
 PullMoves (pulls.Gives parts.End) s s' used n = used ≡ 0
 PullMoves q s s' used n = Unit {0}
 
--- behind each part that another one follows less is left to do
+-- after each part that another one follows less is left to do
 abbrev pub PullFalls : Pull → Walk → Walk → Type 0
 PullFalls (pulls.Gives q) s s' = goes_on q ≡ true → todo s' < todo s
 PullFalls q s s' = Unit {0}
@@ -67,7 +67,7 @@ pub record IsAgain (r : Pulled) (p p' : Puller) : Type 0 where
   pub unused : r.used ≡ 0
   pub given : r.pull ≡ pulls.Need → ⊥
 
--- what a pull that is given these bytes answers, and what it leaves
+-- what a pull that is given these bytes returns, and what it leaves
 pub record Pulls (r : Pulled) (p p' : Puller) (bytes : List ℕ) : Type 0 where
   pub used : r.used ≤ length bytes
   pub needs : IsUsed r.pull r.used (length bytes)

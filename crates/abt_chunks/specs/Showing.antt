@@ -1,4 +1,4 @@
--- What the calls of a listing answer.
+-- What the calls of a listing return.
 use Rattle.std.specs.Prelude.{◌≡◌, ℕ, ◌*◌, ◌<◌, ◌≤◌, true, List, [], ◌∷◌, Option, Some, None, Result, Ok, Err}
 use Rattle.abt_sparse.specs.declared.fault.SparseFault.{SparseFault}
 use Rattle.abt_sparse.specs.View.{view}
@@ -12,7 +12,7 @@ use Rattle.abt_chunks.specs.Expanding.{UnlessExpandingDevice}
 use Rattle.abt_chunks.specs.Listing.{Listing, listing_of}
 use Rattle.abt_chunks.specs.ListingAhead.{at_end, breaking, shown_before, upcoming, with_begun}
 
--- one step, from the bytes x to the bytes y behind those that it read
+-- one step, from the bytes x to the bytes y after those that it read
 abbrev pub ListsTo : Result MachineProgress SparseFault → Walk → Walk → List ℕ → List ℕ → Type 0
 ListsTo (Ok answers.More) s s' x y = upcoming s x ≡ with_begun s' y
 ListsTo (Ok answers.Done) s s' x y = upcoming s x ≡ record { head = Some (view s'.header); shown = []; ending = Ok y }
@@ -33,7 +33,7 @@ abbrev pub SettlesWalk : Result (Unit {0}) SparseFault → Walk → Type 0
 SettlesWalk (Ok u) s = (s.phase ≡ phases.Body) × (at_end s ≡ true)
 SettlesWalk (Err f) s = s.phase ≡ phases.Failed f
 
--- Opened on the bytes x, of which y are left: the header is good and behind, and the rest of the listing is still to
+-- Opened on the bytes x, of which y are left: the header is good and passed, and the rest of the listing is still to
 -- come.
 abbrev pub Opens : Walk → List ℕ → List ℕ → Type 0
 Opens s x y = (listing_of x ≡ upcoming s y) × (s.phase ≡ phases.Body) × (at_end s ≡ true)
@@ -44,7 +44,7 @@ Lists_next (Ok (Some info)) s s' x y = upcoming s x ≡ shown_before (info ∷ [
 Lists_next (Ok None) s s' x y = ((upcoming s x).shown ≡ []) × ((upcoming s x).ending ≡ Ok y)
 Lists_next (Err f) s s' x y = UnlessExpandingDevice f (((upcoming s x).shown ≡ []) × ((upcoming s x).ending ≡ Err f))
 
--- the phase that an answer leaves
+-- the phase that a result leaves
 abbrev pub Stands_next : Result (Option ChunkInfo) SparseFault → Phase → Type 0
 Stands_next (Ok (Some info)) p = p ≡ phases.Body
 Stands_next (Ok None) p = p ≡ phases.Done

@@ -1,4 +1,4 @@
--- What one step of a walk does, and what calls of several steps do of their input.
+-- What one step of a walk does, and what calls of several steps do with their input.
 use Rattle.std.specs.Prelude.{◌≡◌, ℕ, ◌+◌, Bool, true, IsTrue, List, take}
 use Rattle.abt_io.specs.declared.device.Input as inputs
 use Rattle.abt_io.specs.declared.meter.Meter.{Meter}
@@ -22,7 +22,7 @@ pub record StepTaken {A : Type 0} (i : inputs.Ghosts A) (r : WalkStep) (most : �
   pub over : IsWalkOver s.phase → (s' ≡ s) × (a' ≡ a)
   pub meter : TurnsOnly (r.received + 1) m m'
 
--- And what it says of the image, of whose bytes x it left y: what it received stands in the front of the window, and of
+-- And what it says of the image, of whose bytes x it left y: what it received is at the beginning of the window, and of
 -- a fill and of a gap it gives at most so many words.
 pub record GivesPart (models : Bool) (r : WalkStep) (fills skips : ℕ) (s s' : Walk) (x y bytes : List ℕ) : Type 0 where
   pub window : IsTrue models → take r.received bytes ≡ take r.received x

@@ -14,7 +14,7 @@ use Rattle.abt_chunks.specs.ListingAhead.{Closes, Empties, Lists, Numbers, Shows
 
 -- A turn that gave the part q: the phase is the one that q leaves; what came is what q gives, and lies within the
 -- blocks so far; the image's header stays once it has been read; and where the walk goes on, less is left to do, its
--- chunks are counted, and the next byte lies behind what q gives. It ends only behind a chunk or its header.
+-- chunks are counted, and the next byte lies after what q gives. It ends only after a chunk or its header.
 pub record TurnTaken (q : Part) (s s' : Walk) (received : ℕ) : Type 0 where
   pub leaves : PartLeaves q s'.phase
   pub moved : Moved q received
@@ -84,7 +84,7 @@ input_state i input = record {
   frame = i.read_frame input;
 }
 
--- A call that reads: what it was given is the front of what was left, the rest is left, and nothing else changed.
+-- A call that reads: what it was given is the beginning of what was left, the rest is left, and nothing else changed.
 pub record ReadsOn (models : Bool) (old new : InputState) : Type 0 where
   pub given : old.given ≤ new.given
   pub present : IsTrue models → new.given - old.given ≤ length old.remaining

@@ -1,4 +1,4 @@
--- What a walk does next: at which turn it is, how many bytes it asks for, and how much is left to do.
+-- What a walk does next: its turn, how many bytes it asks for, and how much work is left.
 use Rattle.std.specs.Prelude.{◌≡◌, ℕ, ◌+◌, ◌-◌, ◌*◌, ◌^◌, ◌<◌, ◌≤◌, Bool, true, false, if◌then◌else◌, min}
 use Rattle.abt_sparse.specs.declared.kind.ChunkKind.{ChunkKind}
 use Rattle.abt_sparse.specs.declared.kind.ChunkKind.TheVariants as kinds

@@ -1,4 +1,4 @@
--- What an expansion of a whole input answers and writes, in the words of what it is to be an image and to have a fault.
+-- What an expansion of a whole input returns and writes, in terms of what an image is and what a fault is.
 use Rattle.std.specs.Prelude.{◌≡◌, ℕ, ◌*◌, ◌<◌, List, ◌++◌, length, take, Option, Result, Ok, Err}
 use Rattle.abt_sparse.specs.declared.fault.SparseFault.TheVariants.{Truncated}
 use Rattle.abt_sparse.specs.declared.fault.SparseFault.{SparseFault}
@@ -8,7 +8,7 @@ use Rattle.abt_sparse.specs.Fails.{Fails, Spells}
 use Rattle.abt_chunks.specs.declared.progress.Expanded.{Expanded}
 use Rattle.abt_chunks.specs.Expanding.{IsFrontOf, UnlessExpandingDevice}
 
--- An image stands at the front of x, and rest behind it; its expansion was written, and the answer counts it.
+-- An image is at the beginning of x, and rest after it; its expansion was written, and the result counts it.
 pub record Expansion (e : Expanded) (old new x rest : List ℕ) : Type 0 where
   pub header : Header
   pub chunks : List Chunk
@@ -23,12 +23,12 @@ pub record Refusal (f : SparseFault) (old new x : List ℕ) : Type 0 where
   pub fails : Fails x f given
   pub written : new ≡ old ++ laid given
 
--- what is answered over an input x of which rest is left, save where a device failed
+-- what is returned over an input x of which rest is left, save where a device failed
 abbrev pub Expands : Result Expanded SparseFault → List ℕ → List ℕ → List ℕ → List ℕ → Type 0
 Expands (Ok e) old new x rest = Expansion e old new x rest
 Expands (Err f) old new x rest = UnlessExpandingDevice f (Refusal f old new x)
 
--- what bytes give where nothing was before, whether an image stands at their front or they have a fault
+-- what bytes give where nothing was before, whether an image is at their beginning or they have a fault
 pub data Gives (y : List ℕ) : List ℕ → Type 0 where
   image : (h : Header) (cs : List Chunk) (rest : List ℕ) → Spells y h cs rest
       → Gives y (expansion h.blk_sz (classed cs))

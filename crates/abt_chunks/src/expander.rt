@@ -1,4 +1,4 @@
-//! Expanding a sparse image, in steps and as a whole.
+//! Expands a sparse image, in steps and as a whole.
 
 ghost use Rattle.std.specs.Prelude.{◌≡◌, ◌<◌, ◌≤◌, ◌+◌, ◌-◌, ◌*◌, ◌++◌, ℕ, List, IsTrue, OnOk, is_err, length, take};
 ghost use Rattle.abt_io.specs.Lent.{OneStep, OnlyWrites};
@@ -23,7 +23,7 @@ use crate::walk::{Part, Phase, Walk};
 use abt_io::{Input, Meter, Output, Window};
 use abt_sparse::{ChunkKind, SparseFault, data_length};
 
-/// What a step answers once its part has been written.
+/// What a step returns once its part has been written.
 #[inline(always)]
 pub(crate) fn answer(part: Part) -> Result<MachineProgress, SparseFault>
     ensures { result ≡ answer_of part }
@@ -51,7 +51,7 @@ impl Expander {
     }
 
     /// One step: at most a window is read, and what it gives is written, a fill or a gap whole. An error is the first
-    /// fault of the image (1 to 10) or a device's (11 reading, 12 writing). After an error or Done every step answers
+    /// fault of the image (1 to 10) or a device's (11 reading, 12 writing). After an error or Done every step returns
     /// that again and calls no device.
     #[inline(always)]
     pub fn step<I: Input, O: Output>(
@@ -104,9 +104,9 @@ impl Expander {
     }
 }
 
-/// Writes the expansion of the image at the front of the input, and reads no further than it needs. An error is the
-/// first fault of the image (1 to 10), behind what comes before it, or a device's (11 reading, 12 writing), behind a
-/// beginning of that.
+/// Writes the expansion of the image at the beginning of the input, and reads no further than it needs. An error is
+/// the first fault of the image (1 to 10), after all that comes before it was written, or a device's fault (11
+/// reading, 12 writing), after a prefix of that was written.
 pub fn expand<I: Input, O: Output>(
     input: &mut I,
     output: &mut O,
@@ -114,13 +114,13 @@ pub fn expand<I: Input, O: Output>(
     m: &mut Meter,
 ) -> Result<Expanded, SparseFault>
     ensures walks { WalksOn I.Input 65580 input.old input.new m.old m.new }
-    // An image is expanded, and anything else is refused with its own fault, behind what came before it.
+    // An image is expanded, and anything else is refused with its own fault, after what came before it.
     ensures expands { IsTrue I.models → Expands result (O.written output.old) (O.written output.new)
         (I.remaining input.old) (I.remaining input.new) }
     // What is written is a beginning of what the bytes read give.
     ensures begun { IsTrue I.models → Begun (O.written output.old) (O.written output.new)
         (take (I.given input.new - I.given input.old) (I.remaining input.old)) }
-    // No byte is read that is not needed: none behind an image, and none once a fault is known.
+    // No byte is read that is not needed: none after an image, and none once a fault is known.
     ensures needed { IsTrue I.models → AllNeeded (I.remaining input.old) (I.given input.new - I.given input.old) }
     ensures blame { Blamed result (I.read_faults input.old) (I.read_faults input.new) (O.write_faults output.old)
         (O.write_faults output.new) }

@@ -1,4 +1,4 @@
-//! What an expander writes of each part of an image.
+//! Writes each part of an image for an expander.
 
 ghost use Rattle.std.specs.Prelude.{◌≡◌, ◌<◌, ◌*◌, ◌^◌, OnOk, length};
 ghost use Rattle.abt_io.specs.Count.{full_of};
@@ -54,7 +54,7 @@ fn write_fill<O: Output>(
     }
 }
 
-/// Writes a word so many times: it is laid over the window once, and the window written as often as it takes.
+/// Writes a word so many times. The window is filled with the word once, and written as often as it takes.
 fn write_words<O: Output>(
     word: [u8; 4],
     n: u64,

@@ -1,11 +1,11 @@
-//! The state of a walk that is fed its input in pieces, and what a pull of it answers.
+//! The state of a walk that gets its input in pieces, and what a pull of it returns.
 
 ghost use Rattle.std.specs.Prelude.{◌≤◌, ◌-◌};
 ghost use Rattle.abt_chunks.specs.Feeding.{whole_next};
 
 use crate::walk::{Part, Walk};
 
-/// What a pull answers.
+/// What a pull returns.
 #[derive(Clone, Copy, Debug, PartialEq, Eq, Drop)]
 pub enum Pull {
     /// More input is needed: all that there was is taken.
@@ -14,7 +14,7 @@ pub enum Pull {
     Gives(Part),
 }
 
-/// What a pull answers, and how many bytes of the input it took.
+/// What a pull returns, and how many bytes of the input it took.
 #[derive(Clone, Copy, Debug, PartialEq, Eq, Drop)]
 pub struct Pulled {
     pub pull: Pull,

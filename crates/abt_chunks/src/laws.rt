@@ -1,4 +1,4 @@
-//! Laws of what this crate reads, each the contract of a function that does nothing.
+//! The law of listings, as the contract of a function that does nothing.
 
 ghost use Rattle.abt_chunks.specs.Listing.{ListingsAreRight};
 

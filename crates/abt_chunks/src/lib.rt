@@ -1,35 +1,39 @@
-//! Sparse images (`sparse_format.h`) read forward through one window: expanded to an output, or listed chunk by chunk.
+//! Reads sparse images (`sparse_format.h`) forward through one window: expands them to an output, or lists their
+//! chunks.
 //!
-//! What the layers above use is the contract of [`expand`]. It answers Ok exactly where an image stands at the front of
-//! the input and no device fails; then its expansion was written, and exactly that image was read. Otherwise it answers
-//! the fault that the bytes have, with what comes before it written. Beside it stands [`Walk::part`], the one step on
-//! which [`Expander`], [`Chunks`] and a flasher are built: whatever bytes follow, what lies ahead of a walk is what the
-//! step gives, and then what lies ahead of the walk behind it.
+//! The layers above use the contract of [`expand`]:
 //!
-//! No call takes memory. Bytes pass through the lent window, at most 65,536 of them in a step, and none is held over.
+//! - It returns Ok exactly where an image is at the beginning of the input and no device fails. Then the expansion of
+//!   the image was written, and exactly the image was read.
+//! - Otherwise it returns the fault that the bytes have, and has written what comes before the fault.
 //!
-//! | file | what is in it |
+//! [`Walk::part`] is the one step on which [`Expander`], [`Chunks`] and a flasher are built. Whatever bytes follow,
+//! what lies ahead of a walk is what the step gives, and then what lies ahead of the walk after the step.
+//!
+//! No call allocates memory. Bytes pass through the borrowed window, at most 65,536 of them in a step. No byte is
+//! held over to the next step.
+//!
+//! | file | content |
 //! |---|---|
-//! | `progress.rt` | what the machines answer: `MachineProgress`, `Expanded`, `ChunkInfo` |
+//! | `progress.rt` | what the machines return: `MachineProgress`, `Expanded`, `ChunkInfo` |
 //! | `walk.rt` | `Walk`, the state of the reading machine, with `Phase`, `Turn`, `Part`, `WalkStep` |
-//! | `kinds.rt` | what follows from a chunk's kind |
-//! | `place.rt` | what a walk does next |
-//! | `parts.rt` | `Walk::part`, one step of it |
-//! | `expansion.rt` | what is written of a part |
-//! | `expander.rt` | `Expander`, `expand` |
+//! | `kinds.rt`, `place.rt` | what follows from a chunk's kind, and what a walk does next |
+//! | `parts.rt` | `Walk::part`, one step of a walk |
+//! | `expansion.rt`, `expander.rt` | what is written for a part; `Expander`, `expand` |
 //! | `listing.rt` | `Chunks` |
-//! | `feed.rt`, `pull.rt` | `Puller`, a walk that is fed its input in pieces of any length |
+//! | `feed.rt`, `pull.rt` | `Puller`, a walk that gets its input in pieces of any length |
 //! | `laws.rt` | the law of listings |
 //!
-//! | definitions | what they say |
+//! | definitions | content |
 //! |---|---|
-//! | `Whole`, `Expanding` | what an expansion answers and writes, whole and in steps |
+//! | `Whole`, `Expanding` | what an expansion returns and writes, as a whole and in steps |
 //! | `Ahead`, `Parts` | what the rest of an input gives to a walk, and what a part says of that |
-//! | `Turns`, `Places` | what a walk does next, and where it stands in the expanded image |
-//! | `Listing`, `ListingAhead`, `Showing` | what a listing shows, what it still shows, and what its calls answer |
-//! | `Feeding`, `Pulling` | what a walk that is fed in pieces holds, and what a pull says |
-//! | `Taking` | what each turn and each call that reads leaves |
-//! | `Cause` | who is to blame for a refusal, and how much was read before it was known |
+//! | `Turns`, `Places` | what a walk does next, and where it is in the expanded image |
+//! | `Listing`, `ListingAhead`, `Showing` | what a listing shows, what it still shows, and what its calls return |
+//! | `Feeding`, `Pulling` | what a walk that gets its input in pieces holds, and what a pull returns |
+//! | `Stepping`, `Taking` | what one step of a walk does, and what each turn and each call that reads leaves |
+//! | `Costs` | what calls cost, in bytes that were moved |
+//! | `Cause` | which device failed where a call is refused, and how much was read before that was known |
 #![tactic(auto)]
 
 mod expander;

@@ -1,4 +1,4 @@
-//! The chunks of a sparse image, one after the other.
+//! Lists the chunks of a sparse image, one after the other.
 
 ghost use Rattle.std.specs.Prelude.{◌≡◌, ◌<◌, ◌≤◌, ◌+◌, ◌-◌, ◌*◌, ℕ, IsTrue, IfErr, IfOk, MatchResult, OnOk};
 ghost use Rattle.std.specs.Prelude.{true, false};
@@ -19,8 +19,8 @@ use crate::walk::{Phase, Turn, Walk, WalkStep};
 use abt_io::{Input, Meter, Window, pass_full};
 use abt_sparse::{SparseFault, SparseHeader};
 
-/// Reads a sparse image chunk by chunk, and writes nothing. Between two calls it stands behind the image's header
-/// or behind a whole chunk.
+/// Reads a sparse image chunk by chunk, and writes nothing. Between two calls it is after the image's header or after
+/// a whole chunk.
 #[derive(Drop)]
 pub struct Chunks {
     pub walk: Walk,
@@ -181,8 +181,9 @@ impl Chunks {
         self.walk.header
     }
 
-    /// The next chunk, once its data has been read or passed over, and none behind the last one where the blocks of the
-    /// chunks are as many as the header says. After a fault and after none it answers that again, and reads nothing.
+    /// The next chunk, once its data has been read or passed over. After the last chunk it returns none, where the
+    /// blocks of the chunks are as many as the header says. After a fault and after none it returns that again, and
+    /// reads nothing.
     #[inline(always)]
     pub fn next<I: Input>(
         &mut self,

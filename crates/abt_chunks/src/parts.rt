@@ -1,8 +1,8 @@
-//! One step of a walk: the bytes for its turn are gathered in the window, and taken as a part of the image.
+//! One step of a walk: the bytes of its turn are gathered in the window, and taken as a part of the image.
 //!
-//! Each function that takes a turn says the same. `told`: what lies ahead is what the part gives, and then what lies
-//! ahead behind it, whatever bytes follow; the same of what a listing shows; and too few bytes are a fault.
-//! `turn`: what every turn leaves, and whose fault it is. `words`: how much is given of a fill or of a gap.
+//! Each function that takes a turn has the same clauses. `told`: whatever bytes follow, what lay ahead is what the
+//! part gives, and then what lies ahead after it. The same holds of what a listing shows. Too few bytes are a fault.
+//! `turn`: what every turn leaves, and whose fault a failure is. `words`: how much is given of a fill or of a gap.
 
 ghost use Rattle.std.specs.Prelude.{◌≡◌, ◌≤◌, ◌<◌, ◌-◌, ℕ, List, [], length, false};
 ghost use Rattle.abt_sparse.specs.Reading.{kind_at, number_at};
@@ -61,7 +61,7 @@ impl Walk {
         }
     }
 
-    /// Bytes of a header behind the part of it that this version knows. They are passed over.
+    /// Bytes of a header after the part of it that this version knows. They are passed over.
     #[inline(always)]
     pub(crate) fn take_extra(&mut self, got: &[u8]) -> Part
         requires here { AtTurn Turn.Extra self.old }
@@ -192,7 +192,7 @@ impl Walk {
         Part::Skip(n)
     }
 
-    /// Behind the last chunk: the blocks of all chunks are as many as the header says, or too few.
+    /// After the last chunk: the blocks of all chunks are as many as the header says, or too few.
     #[inline(always)]
     fn end(&mut self) -> Part
         requires here { AtTurn Turn.End self.old }
@@ -207,7 +207,7 @@ impl Walk {
         Part::End
     }
 
-    /// What was answered last, once more.
+    /// What was returned last, once more.
     fn again(&self) -> Part
         requires here { AtTurn Turn.Over self.now }
         ensures over { goes_on result ≡ false }
@@ -246,8 +246,8 @@ impl Walk {
         }
     }
 
-    /// One step: reads what comes next, at most a window, and tells what it gives. Raw bytes stand in the front of the
-    /// window. Of a fill it gives at most `fills` words of four bytes, of a gap at most `skips`.
+    /// One step: reads what comes next, at most a window, and returns what it gives. Raw bytes are at the beginning
+    /// of the window. Of a fill it gives at most `fills` words of four bytes, of a gap at most `skips`.
     #[inline(always)]
     pub fn part<I: Input>(
         &mut self,

@@ -1,4 +1,4 @@
-//! Where a walk stands: what it does next, how many bytes it asks for, and where the next block's byte lies.
+//! The position of a walk: what it does next, how many bytes it asks for, and where the next byte of a block lies.
 
 ghost use Rattle.std.specs.Prelude.{◌≡◌, ◌<◌, ◌≤◌, ◌^◌};
 ghost use Rattle.abt_chunks.specs.Turns.{AtTurn, ask_of};
@@ -11,7 +11,7 @@ use abt_io::WINDOW;
 use abt_sparse::{ChunkKind, SparseFault, data_length};
 
 impl Walk {
-    /// Stops the walk: from now on every step answers this fault.
+    /// Stops the walk: from now on every step returns this fault.
     pub(crate) fn fail(&mut self, fault: SparseFault) -> Part
         ensures part { result ≡ Part.Fault fault }
         ensures failed { self.new.phase ≡ Phase.Failed fault }
@@ -35,7 +35,7 @@ impl Walk {
         }
     }
 
-    /// The blocks of the chunks so far are fewer bytes than a `u64` counts, which contracts alone need to be told.
+    /// The blocks of the chunks so far are fewer bytes than a `u64` counts. Only contracts need this fact.
     pub(crate) fn is_counted(&self)
         ensures { upto_of self.now < 2 ^ 64 }
     {

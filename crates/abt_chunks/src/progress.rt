@@ -1,4 +1,4 @@
-//! What the machines of this crate answer.
+//! What the machines of this crate return.
 
 use abt_sparse::ChunkKind;
 
@@ -7,7 +7,7 @@ use abt_sparse::ChunkKind;
 pub enum MachineProgress {
     /// The next step goes on.
     More,
-    /// The image has ended. Every further step answers this again.
+    /// The image has ended. Every further step returns this again.
     Done,
 }
 

@@ -1,5 +1,5 @@
-//! A walk that is fed its input in pieces of any length, as a caller has them. It keeps what came of a header or of a
-//! word until all of it is there; of all other bytes it keeps none.
+//! A walk that gets its input in pieces of any length, as a caller has them. It keeps the bytes of a header or of a
+//! word until all of it has come. It keeps no other bytes.
 
 ghost use Rattle.std.specs.Prelude.{◌≡◌, ◌≤◌, ◌<◌, ◌+◌, ◌++◌, ℕ, List, [], length, take};
 ghost use Rattle.abt_chunks.specs.Feeding.{TakesWhole, whole_next, whole_of};
@@ -29,7 +29,7 @@ fn needed(turn: Turn) -> usize
     }
 }
 
-/// The front of what is held.
+/// The first `n` bytes that are held.
 fn front(held: &[u8; 28], n: usize) -> &[u8]
     requires { n ≤ 28 }
     ensures value { result.now ≡ take n held.now }
@@ -38,7 +38,7 @@ fn front(held: &[u8; 28], n: usize) -> &[u8]
     &held[..n]
 }
 
-/// What is held, with so many of these bytes behind it.
+/// What is held, with so many of these bytes after it.
 fn joined(held: [u8; 28], count: usize, n: usize, bytes: &[u8]) -> [u8; 28]
     requires room { count + n ≤ 28 }
     requires there { n ≤ length bytes.now }
@@ -170,7 +170,7 @@ impl Puller {
         }
     }
 
-    /// The next part of the image, as far as these bytes go: they are what comes behind those that were used.
+    /// The next part of the image, as far as these bytes go: they are what follows those that were used.
     pub fn pull(&mut self, bytes: &[u8]) -> Pulled
         ensures pulls { Pulls result self.old self.new bytes.now }
     {

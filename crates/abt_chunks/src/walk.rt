@@ -1,5 +1,6 @@
-//! The state of the one machine that reads a sparse image forward. It knows nothing of what is done with the blocks: an
-//! expander, a listing and a flasher all stand on it. Between two steps it is numbers, the image's header and one word.
+//! The state of the one machine that reads a sparse image forward. It does not depend on what is done with the
+//! blocks: an expander, a listing and a flasher all use it. Between two steps it holds numbers, the image's header
+//! and one word.
 
 ghost use Rattle.std.specs.Prelude.{◌≡◌, ◌≤◌, ◌+◌, ◌*◌, if◌then◌else◌};
 ghost use Rattle.abt_chunks.specs.Ahead.{left_of};
@@ -15,7 +16,7 @@ pub enum Phase {
     Body,
     /// The image has ended.
     Done,
-    /// The walk has stopped, and every step answers this fault.
+    /// The walk has stopped, and every step returns this fault.
     Failed(SparseFault),
 }
 
@@ -36,16 +37,16 @@ pub enum Turn {
     Gap,
     /// Reads the header of a chunk.
     Chunk,
-    /// Ends behind the last chunk.
+    /// Ends after the last chunk.
     End,
-    /// Answers again what it answered last.
+    /// Returns again what it returned last.
     Over,
 }
 
 /// What one step gives of the image.
 #[derive(Clone, Copy, Debug, PartialEq, Eq, Drop)]
 pub enum Part {
-    /// So many bytes of blocks, in the front of the window.
+    /// So many bytes of blocks, at the beginning of the window.
     Raw(usize),
     /// A word, so many times.
     Words([u8; 4], u64),

@@ -1,4 +1,4 @@
--- What a step answers to a part that is laid, clause by clause.
+-- What a step returns for a part that is written, clause by clause.
 use Rattle.std.proofs.Common.{◌≡◌, ℕ, ◌≤◌, ◌<◌, ◌||◌, Bool, List, [], true, false, Ok, Err, refl, sym, ◌∙◌, arith, nat_lt, inl, inr}
 use Rattle.std.specs.Prelude.{IsTrue, if◌then◌else◌}
 use Rattle.std.proofs.lemmas.Bool.{cases_Bool, lt-ltb}
@@ -23,7 +23,7 @@ use Rattle.abt_flash.proofs.FlashSteps.{refused_measures}
 use Rattle.abt_chunks.specs.Expanding.{OnMoreExpanding, OnDone, answer_by}
 use Rattle.abt_flash_faults.specs.Fault.{fault_of_sparse}
 
--- where the answer is more, the part goes on
+-- where the result is more, the part goes on
 pub on_more : (q : Part) (P : Type 0) → (IsTrue (goes_on q) → P) → OnMoreExpanding (answer_by fault_of_sparse q) P
 on_more (parts.Raw n) P h = h refl
 on_more (parts.Words word n) P h = h refl
@@ -65,7 +65,7 @@ or_true : (b : Bool) → (b || true) ≡ true
 or_true true = refl
 or_true false = refl
 
--- a chunk is begun only behind the header
+-- a chunk is begun only after the header
 begins_in : (p : Phase) (s s' : Walk) (r : ℕ) → s'.phase ≡ phases.Body → Numbers p s s' r → (IsWalkOver p → s'.phase ≡ p) → 0 < s'.index → passed_in p s ≡ true
 begins_in phases.Header s s' r body n over some = absurd (omega (arith, n, some))
 begins_in phases.Body s s' r body n over some = elim (cases_Bool (at_end s)) [

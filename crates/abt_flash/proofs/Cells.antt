@@ -1,4 +1,4 @@
--- Cells that are laid over a partition from a place on.
+-- Cells that are written over a partition from a place on.
 use Rattle.std.proofs.Common.{◌≡◌, ℕ, zero, suc, ◌+◌, ◌*◌, ◌%◌, ◌/◌, ◌<◌, ◌≤◌, true, false, List, [], ◌∷◌, ◌++◌, length, take, drop, replicate, Option, Some, None, get_or, refl, sym, ap, ◌∙◌, append-nil, arith, inl, inr}
 use Rattle.std.specs.Prelude.{is_some}
 use Rattle.std.proofs.lemmas.Bool.{cases_Bool}
@@ -39,7 +39,7 @@ nothing_over p at = rw (append-nil (nones at)) (over-nones p at)
 pub gap_over : (p : List ℕ) (at n : ℕ) → over p (from_place at (gaps n)) ≡ p
 gap_over p at n = ap (over p) (replicate-append-replicate at (4 * n) None) ∙ over-nones p (at + 4 * n)
 
--- cells behind others
+-- cells after others
 pub over_more : (p0 p p' : List ℕ) (cs ds : List (Option ℕ)) (at : ℕ) → p ≡ over p0 cs → at ≡ length cs → p' ≡ over p (from_place at ds) → p' ≡ over p0 (cs ++ ds)
 over_more p0 p p' cs ds at before long e =
     e ∙ ap (λ (q : List ℕ). over q (from_place at ds)) before ∙ ap (λ (k : ℕ). over (over p0 cs) (from_place k ds)) long ∙ over_behind p0 cs ds
@@ -76,7 +76,7 @@ empty_range at i = elim (cases_Bool (in_range at 0 i)) [
   | inr t ↦ t
 ]
 
--- what isn't written by cells isn't written by a front of them, nor by what is behind
+-- what isn't written by cells isn't written by a prefix of them, nor by what follows
 pub unwritten_front : (cs ds : List (Option ℕ)) (i : ℕ) → writes (cs ++ ds) i ≡ false → writes cs i ≡ false
 unwritten_front [] ds i e = ap is_some (get_none i)
 unwritten_front (c ∷ cs) ds zero e = e

@@ -1,4 +1,4 @@
--- A flash from its beginning: what has been laid so far, and how it ends.
+-- A flash from its beginning: what has been written so far, and how it ends.
 use Rattle.std.proofs.Common.{◌≡◌, ℕ, ◌+◌, ◌-◌, ◌*◌, ◌/◌, ◌^◌, ◌<◌, ◌≤◌, min, Bool, true, false, List, [], ◌∷◌, ◌++◌, length, take, drop, Option, Some, None, Result, Ok, Err, refl, sym, ap, subst, ◌∙◌, append-nil, append_assoc, arith, inl, inr, length-append, take-append-drop, nat_lt, ltb-true, ltb-false, ◌||◌, ◌==◌, eq-eqb}
 use Rattle.std.proofs.lemmas.Bool.{cases_Bool}
 use Rattle.std.proofs.Math.Nat.{mul-div_cancel_left, mul-le-mul}
@@ -43,7 +43,7 @@ use Rattle.abt_flash.proofs.Heads.{head_spelled, passed_head, spelled_head}
 use Rattle.abt_flash.proofs.Moments.{during_then, during_within, unsynced_during, unsynced_within}
 use Rattle.abt_chunks.specs.Places.{from_place, said_by}
 
--- After k bytes of x these cells have been laid, and the walk stands at s.
+-- After k bytes of x these cells have been written, and the walk is at s.
 pub record Come (models : Bool) (s : Walk) (k : ℕ) (x : List ℕ) (size : ℕ) (past0 past : Past) (p0 p : List ℕ) (taken0 taken laid : ℕ) : Type 0 where
   pub cells : List (Option ℕ)
   pub told : (t : List ℕ) → seen (outcome (take k x ++ t)) ≡ before cells (ahead s t)
@@ -91,7 +91,7 @@ pub seen_given : (o : Outcome) → (seen o).cells ≡ given o
 seen_given (Image h cs rest) = refl
 seen_given (Fault f cs) = refl
 
--- A flash that answers r, where x was read as far as rest: all cells that it laid or may have touched.
+-- A flash that returns r, where x was read as far as rest: all cells that it wrote or may have touched.
 pub record Ends (models : Bool) (r : Result MachineProgress FlashFault) (s' : Walk) (x read rest : List ℕ) (past0 past' : Past) (p0 p' : List ℕ) (taken0 taken' laid' : ℕ) : Type 0 where
   pub all : List (Option ℕ)
   pub more : List ℕ → List (Option ℕ)
@@ -123,7 +123,7 @@ module _ (models : Bool) (stage : FlashStage) (s s' : Walk) (x x' rest : List �
       ap (λ (m : ℕ). take m x ++ t) same ∙ ap (λ (l : List ℕ). l ++ t) (sym (take_plus k n x)) ∙ append_assoc (take k x) (take n (drop k x)) t
       ∙ ap (λ (l : List ℕ). take k x ++ (take n l ++ t)) (sym left)
 
-  -- the cells so far are a front of what is given, whatever follows
+  -- the cells so far are a prefix of what is given, whatever follows
   pub all_front : (t : List ℕ) → (seen (outcome (take j x ++ t))).cells ≡ All ++ e.more t
   all_front t =
       ap (λ (l : List ℕ). (seen (outcome l)).cells) (split_at t) ∙ ap (λ (a : Ahead). a.cells) (i.told (take n x' ++ t))
@@ -191,7 +191,7 @@ body_of (phases.Failed f) s going e = absurd going
 some_same : (g h : Header) → (let a : Option Header = Some g in let b : Option Header = Some h in a ≡ b) → g ≡ h
 some_same g h e = cc
 
--- the header that the walk has read is that in front
+-- the header that the walk has read is the one at the beginning
 pub known_head : (models : Bool) (s : Walk) (k : ℕ) (x : List ℕ) (size : ℕ) (past0 past : Past) (p0 p : List ℕ) (taken0 taken laid : ℕ) → Come models s k x size past0 past p0 p taken0 taken laid → IsGoing s.phase → passed s ≡ true
     → (listing_of x).head ≡ Some (view s.header)
 known_head models s k x size past0 past p0 p taken0 taken laid i going e = i.head ∙ passed_head s (drop k x) (body_of s.phase s going e) e
@@ -341,7 +341,7 @@ or_none : (a b : Bool) → (a || b) ≡ false → (a ≡ false) × (b ≡ false)
 or_none true b e = absurd (let f : true ≡ false = e in cc)
 or_none false b e = (refl, e)
 
--- before the header is behind, none is known
+-- before the header has been passed, none is known
 head_none : (ph : Phase) (s : Walk) → IsGoing ph → passed_in ph s ≡ false → head_in ph (at_end s) s ≡ None
 head_none phases.Header s going e = refl
 head_none phases.Body s going e =

@@ -1,4 +1,4 @@
--- One step: from a part of the image to what is laid of it.
+-- One step: from a part of the image to what is written of it.
 use Rattle.std.proofs.Common.{◌≡◌, ℕ, ◌+◌, ◌*◌, ◌<◌, ◌≤◌, Bool, true, false, List, [], ◌++◌, length, take, replicate, Option, Some, None, Result, Ok, Err, refl, sym, ap, ◌∙◌, arith, nat_lt, ◌||◌}
 use Rattle.std.specs.Prelude.{IsTrue, OnOk}
 use Rattle.std.proofs.lemmas.List.{length-map, length-replicate, length-take-le}
@@ -87,7 +87,7 @@ pub unless_all : {X : Type 0} (r : Result X FlashFault) (P : Type 0) → P → U
 unless_all (Ok x) P h = h
 unless_all (Err f) P h = unless_fault f P h
 
--- ---- what a step lays
+-- ---- what a step writes
 
 module _ (models : Bool) (stage : FlashStage) (s s' : Walk) (c rest win : List ℕ) (past past' : Past) (p p' : List ℕ) (taken taken' r m : ℕ) (in_window : take r win ≡ c) (long : r ≤ length win) where
   abbrev First : Moment
@@ -205,7 +205,7 @@ module _ (models : Bool) (stage : FlashStage) (s s' : Walk) (c rest win : List �
   unwritten_laid (parts.Fault g) d moved within leaves says kept moments = unwritten_front (parts.Fault g) d [] (λ t. (ahead s (c ++ t)).cells) (λ t. refl) (λ i e. empty_range (place_of s) i) kept moments
   unwritten_laid q d moved within leaves says kept moments = unwritten_part q d moved within refl leaves says kept moments
 
-  -- where it was not synced, all is laid
+  -- where it was not synced, all is written
   unsynced_laid : (d : DeviceFault) → Moved parts.End r → s'.phase ≡ phases.Done → ((t : List ℕ) → (is_fault parts.End ≡ true → t ≡ rest) → SaysUnlessDevice parts.End s s' c t) → taken' ≡ taken + put_by parts.End
       → Content_put parts.End → Keeps_put parts.End → Moments_put parts.End → Laid models stage (Err (fails.Sync d)) s s' c rest past past' p p' taken taken'
   unsynced_laid d moved leaves says put content kept moments = record {

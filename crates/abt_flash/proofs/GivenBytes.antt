@@ -39,7 +39,7 @@ pub of_all : (P : ℕ → Type 0) (r : Result Delivered FlashFault) → IfOk r (
 of_all P (Ok d) h = subst P (let z : 0 + d.pieces ≡ d.pieces = omega arith in z) h
 of_all P (Err f) h = tt
 
--- behind an opening that read so much
+-- after an opening that read so much
 pub behind_opening : (r : Result Delivered FlashFault) (a b c opening most : ℕ) (extra : ℕ → ℕ) → b ≤ a + opening → IfOk r (λ d. c + opening ≤ b + most + extra d.pieces) → IfOk r (λ d. c ≤ a + most + extra d.pieces)
 behind_opening (Ok d) a b c opening most extra le h = omega (arith, le, h)
 behind_opening (Err e) a b c opening most extra le h = tt

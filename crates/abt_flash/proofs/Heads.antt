@@ -32,7 +32,7 @@ from_head : (h : Header) (size i have : ℕ) (y : List ℕ) → (listing_from h 
 unfolding listing_from
 from_head h size i have y = listed_head h i (chunks_at h size i have (h.total_chunks - i) y)
 
--- a header that stands at the front
+-- a header that is at the beginning
 pub spelled_head : (x : List ℕ) (h : Header) (y : List ℕ) → SpellsHeader x h y → (listing_of x).head ≡ Some h
 spelled_head x h y s = ap (λ (l : Listing). l.head) (listing_behind_header x h y s) ∙ from_head h (length x) 0 0 y
 
@@ -59,7 +59,7 @@ head_good x h e = elim (cases_Bool (nat_lt (length x) 28)) [
   | inr t ↦ let g = behind_good x (checked_header x) h (rw t at e) refl in (ltb-false _ _ t, g.0, g.1)
 ]
 
--- and back: a listing with a header has it in front
+-- and back: a listing with a header has it first
 pub head_spelled : (x : List ℕ) (h : Header) → IsBytes x → (listing_of x).head ≡ Some h → SpellsHeader x h (drop h.file_hdr_sz x)
 head_spelled x h fits e = let g = head_good x h e in header_spelled x h fits g.0 g.2 g.1
 
@@ -74,7 +74,7 @@ begun_head k due h i have extra raw word blocks size y some =
       | inr t ↦ rw t (from_head h size i have (drop (extra + lacking k due raw) y))
     ]
 
--- once the header is behind, what is still to be shown has it
+-- once the header has been passed, what is still to be shown has it
 passed_body : (s : Walk) (y : List ℕ) (end : Bool) → at_end s ≡ end → (nat_lt 0 s.index || end) ≡ true → (upcoming_ended end s y).head ≡ Some (view s.header)
 passed_body s y true e p = from_head (view s.header) (s.position + length y) s.index s.have y
 passed_body s y false e p = begun_head s.kind s.due (view s.header) s.index s.have s.extra s.raw s.word s.blocks (s.position + length y) y (ltb-true _ _ (or_left (nat_lt 0 s.index) p)) where

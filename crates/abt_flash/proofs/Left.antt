@@ -26,7 +26,7 @@ use Rattle.abt_flash.specs.Going.{IsBehindPiece, frames_left, pieces_left}
 
 -- ---- one piece more
 
--- the segments that are left: that of the next piece, and those behind it
+-- the segments that are left: that of the next piece, and those after it
 pub segments_more : (limit b : ℕ) (l : List Block) (s e : ℕ) (st : CutterStage) → FirstPiece b l limit s e → IsBehindPiece (length l) e st → segments_left b limit l s Between ≡ between l s e ∷ segments_left b limit l e st
 segments_more limit b l s e st h at = h.cut ∙ ap (λ (x : List (List Block)). between l s e ∷ x) (left (drop e l) refl)
   where
@@ -91,12 +91,12 @@ written_more l s e order =
     let here = frame_written l s e in
     omega (arith, both, here)
 
--- ---- behind the first pieces
+-- ---- after the first pieces
 
 joined-both : (xs ys : List (List Block)) → joined (xs ++ ys) ≡ joined xs ++ joined ys
 joined-both xs ys = flat_map-append (λ part. part) xs ys
 
--- where a cutter stands, by how many pieces it has made
+-- where a cutter is, by how many pieces it has made
 pub record Behind (limit b : ℕ) (l : List Block) (made s : ℕ) (st : CutterStage) : Type 0 where
   pub blocks : blocks_in_first limit b l made ≡ s
   pub rest : drop made (segments limit b l) ≡ segments_left b limit l s st
@@ -129,7 +129,7 @@ pieces_behind_are limit b l made s st h =
 drop_good : (b : ℕ) (s : ℕ) (l : List Block) → AreBlocks b l → AreBlocks b (drop s l)
 drop_good b s l h = (AreBlocks-parts b (take s l) (drop s l) (rw (take-append-drop s l) h)).1
 
--- flashing what is left lays the blocks that are left
+-- flashing what is left writes the blocks that are left
 pub laid_left : (limit b : ℕ) (p : List ℕ) (l : List Block) (s : ℕ) (st : CutterStage) → b % 4 ≡ 0 → AreBlocks b l → (st ≡ Between) ⊎ ((st ≡ Done) × (length l ≤ s)) → flashed_all b p (frames_left limit b l s st) ≡ over p (cells b (blocks_behind s l))
 laid_left limit b p l s st four h at =
     let rest = segments_left b limit l s st in
@@ -171,7 +171,7 @@ pieces_front limit b l s le = go (greedy (λ part. nat_le (weight b part) limit)
         ap (λ (n : ℕ). piece b (framed s g n)) behind_it ∙ sym (ap (λ (x : List Block). piece b (framed s x (length l - (s + length x)))) seg) in
         (map (piece b) (frames (s + length g) gs), ap (λ (parts : List (List Block)). map (piece b) (frames s parts)) e ∙ ap (λ (x : List ℕ). x ∷ map (piece b) (frames (s + length g) gs)) here)
 
--- ---- what is laid so far
+-- ---- what is written so far
 
 laid_on : (b : ℕ) (p : List ℕ) (front seg : List Block) (t : ℕ) → b % 4 ≡ 0 → AreBlocks b front → over (over p (cells b front)) (cells b (framed (length front) seg t)) ≡ over p (cells b (front ++ seg))
 laid_on b p front seg t four h =

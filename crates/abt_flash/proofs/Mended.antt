@@ -74,7 +74,7 @@ piece_cells b front s rest after i four h =
           ]
     ]
 
--- an image before a block, the segment of the next piece, and what is behind it
+-- an image before a block, the segment of the next piece, and what follows it
 record Split (limit b : ℕ) (l : List Block) (s : ℕ) : Type 0 where
   rest : List Block
   joined : take s l ++ (segment_at b limit l s ++ rest) ≡ l
@@ -130,7 +130,7 @@ mendable_before b l p done less m le h =
       settled = λ i lt lasts. h.settled i lt (elim lasts [ inl e ↦ inl (omega (arith, e, mono)) | inr e ↦ inr e ]);
     }
 
--- where whatever a crash leaves is mendable, so is the moment
+-- where whatever a crash leaves is mendable, so is the state
 pub mendable_now : (b : ℕ) (l : List Block) (p : List ℕ) (done : ℕ) (m : Moment) → ((q : List ℕ) → MayLeave m q → Mendable b l p q done) → MendableAt b l p done m
 mendable_now b l p done m h = record { content = content; settled = settled }
   where

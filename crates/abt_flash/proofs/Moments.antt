@@ -7,7 +7,7 @@ use Rattle.abt_io.proofs.Moments.{keeps_then, keeps_within, since_then, since_we
 use Rattle.abt_io.proofs.Words.{words_add, length_words}
 use Rattle.abt_flash.specs.Laying.{During}
 
--- a run of calls that touch only what is touched, behind another
+-- a run of calls that touch only what is touched, after another
 pub unsynced_then : (touched inner : ℕ → Bool) (m0 m m' : Moment) (a b c : List Moment) → ((i : ℕ) → touched i ≡ false → inner i ≡ false)
     → Keeps touched m0 m → m.synced ≡ m0.synced → Keeps inner m m' → EachSince a b (KeepsUnsynced touched m0) → EachSince b c (KeepsUnsynced inner m)
     → Keeps touched m0 m' × EachSince a c (KeepsUnsynced touched m0)
@@ -17,7 +17,7 @@ unsynced_then touched inner m0 m m' a b c f h same k so_far now = (
       (since_weaker b c (KeepsUnsynced inner m) (KeepsUnsynced touched m0) (λ n e. record { kept = keeps_then touched m0 m n h (keeps_within inner touched m n f e.kept); synced = e.synced ∙ same }) now),
 )
 
--- some more words behind those that are written
+-- some more words after those that are written
 pub words_more : (c now new part w : List ℕ) (at done some : ℕ) → length w ≡ 4 → at + 4 * done ≤ length c → now ≡ put_at c at (concat (replicate done w)) → part ≡ concat (replicate some w)
     → new ≡ put_at now (at + 4 * done) part → new ≡ put_at c at (concat (replicate (done + some) w))
 words_more c now new part w at done some l room before p e =
@@ -29,11 +29,11 @@ words_more c now new part w at done some l room before p e =
     ∙ ap (λ (q : List ℕ). put_at c at (x ++ q)) p
     ∙ ap (put_at c at) (sym (words_add done some w))
 
--- a call in which no sync succeeds, as one that lasts to a moment e
+-- a call in which no sync succeeds, as one that lasts to a state e
 pub during_unsynced : (touched : ℕ → Bool) (m e : Moment) (a b : List Moment) → EachSince a b (KeepsUnsynced touched m) → EachSince a b (During touched m e)
 during_unsynced touched m e a b h = since_weaker a b (KeepsUnsynced touched m) (During touched m e) (λ n k. record { kept = k.kept; synced = inl k.synced }) h
 
--- a call whose moments are all like its last
+-- a call whose states are all like its last
 pub during_last : (touched : ℕ → Bool) (m e : Moment) (a b : List Moment) → Keeps touched m e → EachSince a b (λ n. n ≡ e) → EachSince a b (During touched m e)
 during_last touched m e a b k h = since_weaker a b (λ n. n ≡ e) (During touched m e) (λ n q. record { kept = subst (λ (x : Moment). Keeps touched m x) (sym q) k; synced = inr q }) h
 
@@ -49,7 +49,7 @@ pub unsynced_during : (touched : ℕ → Bool) (m e : Moment) (a b : List Moment
 unsynced_during touched m e a b same h = since_weaker a b (During touched m e) (KeepsUnsynced touched m)
     (λ n k. record { kept = k.kept; synced = elim k.synced [ inl q ↦ q | inr q ↦ ap (λ (x : Moment). x.synced) q ∙ same ] }) h
 
--- a step behind others: what is touched grows from one to the next
+-- a step after others: what is touched grows from one to the next
 pub during_then : (touched inner : ℕ → Bool) (m0 m e : Moment) (a b c : List Moment) → ((i : ℕ) → touched i ≡ false → inner i ≡ false)
     → Keeps touched m0 m → m.synced ≡ m0.synced → EachSince a b (KeepsUnsynced touched m0) → EachSince b c (During inner m e) → EachSince a c (During touched m0 e)
 during_then touched inner m0 m e a b c f h same so_far now =

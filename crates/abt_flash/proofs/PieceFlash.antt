@@ -37,7 +37,7 @@ use Rattle.abt_flash_faults.specs.declared.fault.FlashFault.TheVariants.{Sparse,
 
 -- ---- a piece as an image
 
--- y is an image of these n blocks of b bytes, with nothing behind it
+-- y is an image of these n blocks of b bytes, with nothing after it
 pub record Reads (b n : ℕ) (f : List Block) (y : List ℕ) : Type 0 where
   pub header : Header
   pub chunks : List Chunk
@@ -83,7 +83,7 @@ blocks_at_are limit b l s e h =
 pub given_reads : (b n : ℕ) (f : List Block) (y : List ℕ) → Reads b n f y → given (outcome y) ≡ cells b f
 given_reads b n f y r = given_is y r.header r.chunks [] r.spelled ∙ ap (λ (k : ℕ). cells k (classed r.chunks)) r.size ∙ ap (cells b) r.blocks
 
--- ---- what flashing it answers
+-- ---- what flashing it returns
 
 same_chunks : {h h' : Header} {cs cs' : List Chunk} {r r' : List ℕ} → Image h cs r ≡ Image h' cs' r' → cs ≡ cs'
 same_chunks {h} {h'} {cs} {cs'} {r} {r'} e = cc
@@ -151,7 +151,7 @@ flash_stops (LimitTooSmall n) source spool a z g le h only = absurd h
 flash_stops (Stopped n c) source spool a z g le h only = absurd h
 flash_stops (NoSuchPiece n) source spool a z g le h only = absurd h
 
--- a piece that was not written: the source or the spool has failed, or the source tells nothing
+-- a piece that was not written: the source or the spool has failed, or the source models nothing
 pub cut_stops : (e : PieceFault) (source spool : Bool) (a z : Counts) (w w' : ℕ) → CutCause e source a.read_faults z.read_faults w w' → (w < w' → a.write_faults < z.write_faults) → (e ≡ cuts.Write devices.Full → ⊥) → StopsFor (cutting_cause e) source spool a z
 cut_stops (cuts.Read d) source spool a z w w' h more full = h
 cut_stops (cuts.Write devices.Failed) source spool a z w w' h more full = (more h, refl)
@@ -221,7 +221,7 @@ on_flashed causes.SpoolChanged P h = tt
 
 -- ---- the spool
 
--- what stands behind a clear is what was written since
+-- what is after a clear is what was written since
 pub behind_clear : (all old y : List ℕ) (gone : ℕ) → all ≡ old ++ y → gone ≡ length old → drop gone all ≡ y
 behind_clear all old y gone e cut = ap (λ (n : ℕ). drop n all) cut ∙ ap (drop (length old)) e ∙ drop-append_seam old y
 

@@ -58,7 +58,7 @@ room_for s q size short inside small = room_in s.phase s size (given_by q) (put_
 
 -- ---- before the first chunk
 
--- where no chunk has been begun behind a step, none had been before it, and nothing was given
+-- where no chunk has been begun after a step, none had been before it, and nothing was given
 fresh_before : (p : Phase) (s s' : Walk) (r g : ℕ) → IsGoing p → Numbers p s s' r → place_in p s + g ≤ upto_in p s → s'.index ≡ 0 → IsFresh_in p s × (g ≡ 0)
 fresh_before phases.Header s s' r g going numbers inside none = (tt, omega arith)
 fresh_before phases.Body s s' r g going numbers inside none = elim (cases_Bool (at_end s)) [

@@ -217,7 +217,7 @@ early_holds (LimitTooSmall n) P h = h
 early_holds (PartitionTooSmall n) P h = h
 early_holds (Sync d) P h = h
 
--- ---- all pieces behind the first ones
+-- ---- all pieces after the first ones
 
 -- a stop is not early
 pub rest_early : (made : ℕ) (r : Result Delivered FlashFault) (l s : Bool) (a z : Counts) (P : Type 0) → IfErr r (λ e. StopsIn e made l s a z) → OnEarly r P

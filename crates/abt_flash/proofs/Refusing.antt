@@ -41,7 +41,7 @@ stops_since (causes.SpoolWrite d) source spool a b z le h = let x = le.write in 
 stops_since (causes.SpoolRead d) source spool a b z le h = let x = le.spool in let y = h.0 in (omega (arith, y, x), h.1)
 stops_since causes.SpoolChanged source spool a b z le h = h
 
--- an image that has room is refused behind its first pieces by a stop alone
+-- an image that has room is refused after its first pieces by a stop alone
 pub rest_refuses : (r : Result Delivered FlashFault) (limit b n size made : ℕ) (source spool : Bool) (a c z : Counts) → NoFewer a c → Room limit b n size → IfErr r (λ e. StopsIn e made source spool c z) → IfErr r (λ e. RefusedDelivery e limit b n size made source spool a z)
 rest_refuses (Ok d) limit b n size made source spool a c z le room h = tt
 rest_refuses (Err (Stopped j s)) limit b n size made source spool a c z le room h = (room, h.0, stops_since s source spool a c z le h.1)

@@ -18,7 +18,7 @@ fits_then limit c0 c1 c2 n0 n1 n2 h k = record {
   fit = within_then limit n0 n1 n2 k.clears h.clears h.fit k.fit;
 }
 
--- one piece, or a beginning of one, behind a clear
+-- one piece, or a beginning of one, after a clear
 pub fits_one : (limit : ℕ) (cuts cuts' : List ℕ) (n n' : ℕ) → cuts' ≡ n ∷ cuts → n ≤ n' → n' ≤ n + limit → PiecesFit limit cuts cuts' n n'
 fits_one limit cuts cuts' n n' e grown within = record { clears = n ∷ []; joined = e; fit = (grown, within, refl) }
 

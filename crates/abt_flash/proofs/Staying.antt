@@ -1,4 +1,4 @@
--- Every moment of a delivery leaves what a delivery mends.
+-- Every state of a delivery leaves what a delivery mends.
 use Rattle.std.proofs.Common.{◌≡◌, ℕ, zero, suc, ◌+◌, ◌-◌, ◌≤◌, List, [], ◌∷◌, length, take, refl, sym, ap, subst, ◌∙◌, arith, inl, inr, length-append}
 use Rattle.abt_io.specs.Moment.{Moment, Past, EachSince, Keeps, moment_of}
 use Rattle.abt_io.proofs.Moments.{none_since, since_then, since_weaker}
@@ -33,7 +33,7 @@ staying_first limit b l p made done s past content le blocks h = record {
   now = mendable_before b l p (blocks_in_first limit b l done) s (moment_of past content) (rw (← blocks) (blocks_grow limit b l made done le)) (mendable_now b l p (blocks_in_first limit b l done) (moment_of past content) h);
 }
 
--- a moment in the piece behind so many is as it is to be then
+-- a state in the piece after so many is as it is to be then
 then_mendable : (limit b : ℕ) (l : List Block) (p : List ℕ) (made synced now s : ℕ) (m : Moment) → made + (m.synced - synced) ≡ now → blocks_in_first limit b l now ≡ s → MendableAt b l p s m → MendableThen limit b l p made synced m
 then_mendable limit b l p made synced now s m count blocks h q may =
     let z = leaves_mendable b l p q s m h may in
@@ -43,7 +43,7 @@ then_mendable limit b l p made synced now s m count blocks h q may =
 module _ (limit b : ℕ) (l : List Block) (p : List ℕ) (made synced now s : ℕ) (old : List Moment) (past past' : Past) (content content' : List ℕ) (size : IsBlockSize b) (good : AreBlocks b l) (within : s ≤ length l)
     (count : past.synced + made ≡ synced + now) (order : made ≤ now) (blocks : blocks_in_first limit b l now ≡ s) (before : Staying limit b l p made synced s old past content)
     (moments : EachSince past.moments past'.moments (During (writes (cells b (blocks_at limit b l s))) (moment_of past content) (moment_of past' content'))) where
-  -- each moment within it
+  -- each state within it
   inner : (m : Moment) → m.synced ≡ past.synced → During (writes (cells b (blocks_at limit b l s))) (moment_of past content) (moment_of past' content') m → MendableThen limit b l p made synced m
   inner m same d = then_mendable limit b l p made synced now s m (omega (arith, same, count, order)) blocks (mendable_within limit b l p s (moment_of past content) m (size.1) good within d.kept before.now)
 
@@ -85,12 +85,12 @@ stays_none limit b l made past content = record {
 pub fresh_leaves : (limit b : ℕ) (l : List Block) (m : Moment) → m.pending ≡ [] → LeavesMendable limit b l m.content 0 m
 fresh_leaves limit b l m none q may = let e = leaves_same m q none may in subst (λ (y : List ℕ). Mendable b l m.content y 0) (sym e) (mendable_first b l m.content)
 
--- so every moment of a delivery is
+-- so every intermediate state of a delivery is
 pub from_fresh : (i : ImageBlocks) (limit : ℕ) (old new : PartitionState) → old.past.pending ≡ [] → StaysMendable limit i.size i.blocks 0 old.past new.past old.content new.content → AlwaysMendable i limit old new
 from_fresh i limit old new none h =
     let fresh = fresh_leaves limit i.size i.blocks (moment_of old.past old.content) none in
     record { since = h.since old.content 0 (omega arith) fresh; now = h.now old.content 0 (omega arith) fresh }
 
--- and of one that began behind no piece
+-- and of one that began after no piece
 pub from_first : (i : ImageBlocks) (limit made : ℕ) (old new : PartitionState) → made ≡ 0 → old.past.pending ≡ [] → StaysMendable limit i.size i.blocks made old.past new.past old.content new.content → AlwaysMendable i limit old new
 from_first i limit made old new first none h = from_fresh i limit old new none (rw first at h)

@@ -24,7 +24,7 @@ begins_same w w' x e = record { more = x; joined = ap (λ (y : List ℕ). y ++ x
 pub touches_none : (cs : List (Option ℕ)) (past : Past) (p : List ℕ) → TouchesOnly cs past past p p
 touches_none cs past p = record { kept = keeps_same (writes cs) (moment_of past p); moments = during_none (writes cs) (moment_of past p) (moment_of past p) past.moments }
 
--- the piece that was made goes on from where the cutter stood
+-- the piece that was made goes on from where the cutter was
 pub goes_behind : (n k k' s e first past : ℕ) (st : CutterStage) → k' ≡ k + 1 → first ≡ s → past ≡ e → Passed n first past st → GoesBehind n k k' s e st
 goes_behind n k k' s e first past st made begins ends h =
     let at = rw (begins, ends) at h in

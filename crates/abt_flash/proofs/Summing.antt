@@ -1,4 +1,4 @@
--- What a whole delivery costs, and what its answer counts.
+-- What a whole delivery costs, and what its result counts.
 use Rattle.std.proofs.Common.{◌≡◌, ℕ, ◌+◌, ◌-◌, ◌*◌, ◌≤◌, ◌<◌, max, List, length, drop, replicate, Result, Ok, Err, ap, ◌∙◌, arith}
 use Rattle.std.specs.Prelude.{IfOk, OnOk}
 use Rattle.std.proofs.Math.Nat.{mul-le-mul_right}
@@ -54,7 +54,7 @@ pub least_of : (limit b : ℕ) (l : List Block) (made : ℕ) (r : Result Deliver
 least_of limit b l made (Ok d) h = λ parts div. let z = fewest limit b l parts div in omega (arith, z, h)
 least_of limit b l made (Err e) h = tt
 
--- ---- what is written behind the first pieces
+-- ---- what is written after the first pieces
 
 pub behind_written : (n : ℕ) (l : List Block) → written_in (blocks_behind n l) ≡ written_in (drop n l)
 behind_written n l = let a = written-append (replicate n Skip) (drop n l) in let z = skips_written n in omega (arith, a, z)
@@ -64,7 +64,7 @@ behind_written n l = let a = written-append (replicate n Skip) (drop n l) in let
 times_less : (k one : ℕ) → 0 < k → k * one ≡ (k - 1) * one + one
 times_less k one some = let e : k ≡ (k - 1) + 1 = omega (arith, some) in ap (λ (m : ℕ). m * one) e ∙ (let z : ((k - 1) + 1) * one ≡ (k - 1) * one + one = omega arith in z)
 
--- in the opening, g0 behind it, planning so many pieces before the others, and delivering d
+-- in the opening, g0 after it, planning so many pieces before the others, and delivering d
 pub reads_few : (g0 g1 g2 c0 c1 p1 pass image n one opening before d : ℕ) → 0 < d → before + d ≤ max 1 n → (n - 1) * one ≤ image → opening + 3 * pass + 2 * image ≤ 8 * image
     → g1 + c0 ≤ g0 + c1 + before * (48 + one) → c1 ≤ p1 → g2 + p1 + (80 + one) ≤ g1 + 3 * pass + image + 48 + d * (80 + one) → g2 + opening ≤ g0 + 8 * image + 128 * (before + d + 1)
 reads_few g0 g1 g2 c0 c1 p1 pass image n one opening before d some few spared economy plan passes rest =

@@ -33,7 +33,7 @@ put_same parts.Nothing = refl
 put_same parts.End = refl
 put_same (parts.Fault f) = refl
 
--- what is laid
+-- what is written
 pub laid_same : (q : Part) (window p : List ℕ) (at : ℕ) → over p (from_place at (somes (bytes_by (task_of q) window))) ≡ over p (from_place at (cells_by q window))
 laid_same (parts.Raw n) window p at = refl
 laid_same (parts.Words word n) window p at = refl
@@ -50,7 +50,7 @@ idle_still parts.Nothing h = tt
 idle_still parts.End h = h
 idle_still (parts.Fault f) h = tt
 
--- ---- what is answered
+-- ---- what is returned
 
 pub unless_answered : (t : PartTask) (r : Result (Unit {0}) DeviceFault) (P Q : Type 0) → (P → Q) → UnlessUndone t r P → UnlessUnwritten (answered t r) Q
 unless_answered (tasks.Bytes n) (Ok u) P Q go h = go h
@@ -124,7 +124,7 @@ ends_answered parts.Nothing (Err d) = tt
 ends_answered parts.End (Err d) = refl
 ends_answered (parts.Fault f) (Err d) = tt
 
--- ---- of a task whose call was answered so
+-- ---- of a task whose call returned this
 
 pub on_put : (n : ℕ) (r : Result (Unit {0}) DeviceFault) (P Q : Type 0) → (P → Q) → OnOk r P → UnlessUndone (tasks.Bytes n) r Q
 on_put n (Ok u) P Q go h = go h

@@ -1,4 +1,4 @@
--- How a piece is written to the spool: what stands there, headers last.
+-- How a piece is written to the spool: what is stored there, headers last.
 use Rattle.std.proofs.Common.{nat_lt, ltb-true, ltb-false, ◌-◌, ◌*◌, ◌≤◌, ◌<◌, zero, suc, ◌+◌, ◌≡◌, ℕ, ◌⊎◌, List, [], ◌∷◌, ◌++◌, length, take, drop, sym, ap, subst, ◌∙◌, inl, inr, append-nil, append_assoc, arith}
 use Rattle.std.specs.List.{concat}
 use Rattle.std.proofs.lemmas.List.{append_cancel_right, drop_all, take_all, take-append-drop}
@@ -19,7 +19,7 @@ gave_none old new xs e = record { count = 0; gave = e ∙ sym (append-nil old) }
 pub gave_one : (old new x : List ℕ) → new ≡ old ++ x → GaveWhole old new (x ∷ [])
 gave_one old new x e = record { count = 1; gave = e ∙ ap (λ (y : List ℕ). old ++ y) (sym (append-nil x)) }
 
--- ---- behind one call
+-- ---- after one call
 
 -- nothing was written
 pub no_part_none : (old new cuts : List ℕ) (xs : List (List ℕ)) → new ≡ old → GaveNoPart old new cuts xs

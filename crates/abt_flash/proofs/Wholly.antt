@@ -1,4 +1,4 @@
--- All that a delivery does, where it was refused before its first piece, and behind an image that was opened.
+-- All that a delivery does, where it was refused before its first piece, and after an image that was opened.
 use Rattle.std.proofs.Common.{false, ◌≡◌, ℕ, Bool, Err, Ok, Result, refl, ◌∙◌}
 use Rattle.std.specs.Prelude.{IsTrue}
 use Rattle.abt_io.specs.Lent.{OnlyReads}
@@ -40,7 +40,7 @@ delivers_none e early counted source costs = record {
   costs = costs;
 }
 
--- behind an image that was opened, which is the same in other words
+-- after an image that was opened, which is the same in other words
 pub delivers_opened : {A B C X E : Type 0} {x : X} {forward : Bool} {i j : ImageBlocks} {limit made : ℕ}
     {words each words' each' : ℕ} {s : sources.Ghosts A} {f : inputs.Ghosts B} {o : outputs.Ghosts B}
     {l : spools.Ghosts B} {q : sources.Ghosts C} {p : partitions.Ghosts C} {r : Result Delivered FlashFault}

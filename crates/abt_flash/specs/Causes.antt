@@ -1,4 +1,4 @@
--- The same refusal as the cause of a stop.
+-- A refusal as the cause of a stop.
 use Rattle.abt_pieces.specs.declared.fault.PieceFault.{PieceFault}
 use Rattle.abt_pieces.specs.declared.fault.PieceFault.TheVariants as cuts
 use Rattle.abt_runs.specs.declared.part.RunFault.{RunFault}

@@ -1,4 +1,5 @@
--- What delivering an image piece by piece promises: of the spool, of the partition, and of every moment on the way.
+-- The contract of delivering an image piece by piece: for the spool, for the partition, and for every intermediate
+-- state on the way.
 use Rattle.std.specs.Prelude.{◌≡◌, ℕ, ◌+◌, ◌-◌, ◌*◌, ◌≤◌, ◌<◌, List, [], ◌∷◌, ◌++◌, length, take, drop, replicate, max}
 use Rattle.std.specs.Prelude.{Bool, false, IsTrue, Result, Ok, Err, OnOk, IfOk, IfErr, ◌⊎◌}
 use Rattle.std.specs.List.{concat}
@@ -32,13 +33,13 @@ use Rattle.abt_flash_faults.specs.declared.fault.FlashFault.TheVariants.{BadBloc
 use Rattle.abt_flash_faults.specs.declared.fault.FlashFault.TheVariants.{Sync}
 use Rattle.abt_flash_faults.specs.declared.fault.FlashFault.TheVariants.{Stopped, NoSuchPiece}
 
--- ---- an image behind its first pieces
+-- ---- an image after its first pieces
 
 -- how many blocks the first pieces have
 abbrev pub blocks_in_first : ℕ → ℕ → List Block → ℕ → ℕ
 blocks_in_first limit b l made = length (joined (take made (segments limit b l)))
 
--- the blocks behind so many, which are skipped
+-- the blocks after so many, which are skipped
 abbrev pub blocks_behind : ℕ → List Block → List Block
 blocks_behind n l = replicate n Skip ++ drop n l
 
@@ -46,7 +47,7 @@ blocks_behind n l = replicate n Skip ++ drop n l
 abbrev pub blocks_up_to : ℕ → ℕ → List Block → List Block
 blocks_up_to n end l = take end (blocks_behind n l)
 
--- the pieces behind the first ones
+-- the pieces after the first ones
 abbrev pub pieces_behind : ℕ → ℕ → List Block → ℕ → List (List ℕ)
 pieces_behind limit b l made = drop made (pieces limit b l)
 
@@ -57,32 +58,32 @@ pub record Begins (front whole : List ℕ) : Type 0 where
   pub more : List ℕ
   pub joined : front ++ more ≡ whole
 
--- so many of these pieces, whole, were written behind what stood there
+-- so many of these pieces, whole, were written after what was stored there
 pub record GaveWhole (old new : List ℕ) (pieces : List (List ℕ)) : Type 0 where
   pub count : ℕ
   pub gave : new ≡ old ++ concat (take count pieces)
 
--- That is all; or it is so up to the last clear, and behind that stands what is no image, whatever follows it.
+-- That is all; or it is so up to the last clear, and after that comes what is no image, whatever follows it.
 abbrev pub GaveNoPart : List ℕ → List ℕ → List ℕ → List (List ℕ) → Type 0
 GaveNoPart old new cuts pieces = GaveWhole old new pieces
     ⊎ (GaveWhole old (take (last_cut cuts) new) pieces × IsNoImage (drop (last_cut cuts) new))
 
--- nothing, an image of blocks of b bytes with nothing behind it, or what is no image, whatever follows it
+-- nothing, an image of blocks of b bytes with nothing after it, or what is no image, whatever follows it
 abbrev pub IsWholeOrNone : ℕ → List ℕ → Type 0
 IsWholeOrNone b x = (x ≡ []) ⊎ (((n : ℕ) × IsPlainImage b n x) ⊎ IsNoImage x)
 
--- Nothing was written, nor cleared; or that stands behind the last clear.
+-- Nothing was written, nor cleared; or that is after the last clear.
 abbrev pub EndsWhole : ℕ → List ℕ → List ℕ → List ℕ → List ℕ → Type 0
 EndsWhole b old new old_cuts new_cuts =
     ((new ≡ old) × (new_cuts ≡ old_cuts)) ⊎ IsWholeOrNone b (drop (last_cut new_cuts) new)
 
--- where a spool was cleared, the newest first, once each piece was written behind a clear of its own, the first behind
+-- where a spool was cleared, the newest first, once each piece was written after a clear of its own, the first after
 -- `at` bytes
 abbrev pub with_cuts : List ℕ → ℕ → List (List ℕ) → List ℕ
 with_cuts cuts at [] = cuts
 with_cuts cuts at (x ∷ xs) = with_cuts (at ∷ cuts) (at + length x) xs
 
--- behind these clears, the newest first, all was written from `start` up to `end`, and at most the limit behind each
+-- after these clears, the newest first, all was written from `start` up to `end`, and at most the limit after each
 abbrev pub WithinLimit : ℕ → ℕ → ℕ → List ℕ → Type 0
 WithinLimit limit start end [] = start ≡ end
 WithinLimit limit start end (cut ∷ cuts) = (cut ≤ end) × (end ≤ cut + limit) × WithinLimit limit start cut cuts
@@ -95,18 +96,18 @@ pub record PiecesFit (limit : ℕ) (old_cuts new_cuts : List ℕ) (old_length ne
 
 -- ---- what a stop may leave
 
--- whatever a crash leaves at this moment is mendable, with the first pieces whole: a delivery from the next piece on,
+-- whatever a crash leaves in this state is mendable, with the first pieces whole: a delivery from the next piece on,
 -- or from any before it, leaves it as p under the image
 abbrev pub LeavesMendable : ℕ → ℕ → List Block → List ℕ → ℕ → Moment → Type 0
 LeavesMendable limit b l p made m = (q : List ℕ) → MayLeave m q → Mendable b l p q (blocks_in_first limit b l made)
 
--- A call that began behind so many pieces, and so many syncs, is behind one piece more for each sync that succeeded
+-- A call that began after so many pieces, and so many syncs, is one piece further for each sync that succeeded
 -- since.
 abbrev pub MendableThen : ℕ → ℕ → List Block → List ℕ → ℕ → ℕ → Moment → Type 0
 MendableThen limit b l p made synced m = LeavesMendable limit b l p (made + (m.synced - synced)) m
 
--- At every moment of a call that began behind so many pieces, and after it, a stop leaves what a delivery mends, where
--- as much or more was whole before.
+-- In every intermediate state of a call that began after so many pieces, and after it, a stop leaves what a delivery
+-- mends, where as much or more was whole before.
 pub record StaysMendable (limit b : ℕ) (l : List Block) (made : ℕ) (old new : Past)
     (before after : List ℕ) : Type 0 where
   pub since : (p : List ℕ) (done : ℕ) → made ≤ done → LeavesMendable limit b l p done (moment_of old before)
@@ -114,9 +115,9 @@ pub record StaysMendable (limit b : ℕ) (l : List Block) (made : ℕ) (old new 
   pub now : (p : List ℕ) (done : ℕ) → made ≤ done → LeavesMendable limit b l p done (moment_of old before)
       → MendableThen limit b l p made old.synced (moment_of new after)
 
--- ---- what is answered
+-- ---- what is returned
 
--- how many pieces were begun behind the first ones, `made`
+-- how many pieces were begun after the first ones, `made`
 abbrev pub begun : ℕ → Result Delivered FlashFault → ℕ
 begun made (Ok d) = made + d.pieces
 begun made (Err (Stopped j c)) = j
@@ -141,7 +142,7 @@ OnStop (Ok d) P = Unit {0}
 OnStop (Err (Stopped j c)) P = P j
 OnStop (Err f) P = Unit {0}
 
--- the answer counts k pieces in all
+-- the result counts k pieces in all
 abbrev pub CountsTo : Result Delivered FlashFault → ℕ → ℕ → Type 0
 CountsTo (Ok d) made k = made + d.pieces ≡ k
 CountsTo (Err (Stopped j c)) made k = j ≤ k
@@ -155,7 +156,7 @@ OnEarly (Err (Stopped j c)) P = Unit {0}
 OnEarly (Err f) P = P
 
 -- Why a piece is not finished: the device that the cause names has failed in this call, and for no other reason than
--- that; or a source whose bytes passed tells nothing, or a spool. A spool that has room for the limit is never full.
+-- that; or a source whose bytes passed models nothing, or a spool. A spool that has room for the limit is never full.
 abbrev pub StopsFor : Cause → Bool → Bool → Counts → Counts → Type 0
 StopsFor (causes.Read d) source spool a z = (a.read_faults < z.read_faults) × (d ≡ Failed)
 StopsFor (causes.Write d) source spool a z = (a.put_faults < z.put_faults) × (d ≡ Failed)
@@ -189,7 +190,7 @@ pub record Room (limit b n size : ℕ) : Type 0 where
   pub each : 64 + b ≤ limit
   pub all : n * b ≤ size
 
--- Why an opened image of n blocks of b bytes is not delivered behind its first pieces, in this order: the limit, the
+-- Why an opened image of n blocks of b bytes is not delivered after its first pieces, in this order: the limit, the
 -- partition, planning, and then a stop alone.
 abbrev pub RefusedDelivery : FlashFault → ℕ → ℕ → ℕ → ℕ → ℕ → Bool → Bool → Counts → Counts → Type 0
 RefusedDelivery (LimitTooSmall least) limit b n size made source spool a z = (least ≡ 64 + b) × (limit < least)
@@ -222,7 +223,7 @@ pieces_in limit i = length (pieces limit i.size i.blocks)
 abbrev pub IsLeast : ℕ → ℕ → ImageBlocks → Type 0
 IsLeast limit k i = (parts : List (List Block)) → Division limit i.size i.blocks parts → k ≤ length parts
 
--- What a delivery of an image behind its first pieces, `made`, answers. Where it was refused before its first piece,
+-- What a delivery of an image after its first pieces, `made`, returns. Where it was refused before its first piece,
 -- nothing was touched; and after an Ok no device has failed.
 pub record Delivers (source : Bool) (i : ImageBlocks) (limit made : ℕ) (untouched : Type 0)
     (r : Result Delivered FlashFault) (old new : Counts) : Type 0 where
@@ -233,21 +234,21 @@ pub record Delivers (source : Bool) (i : ImageBlocks) (limit made : ℕ) (untouc
   pub least : IsTrue source → IfOk r (λ d. IsLeast limit (made + d.pieces) i)
   pub clean : OnOk r (NoneFailed old new)
 
--- What a spool was given by a call that delivers an image behind its first pieces.
--- Forward, each from its front on; or each with its headers last.
+-- What a spool was given by a call that delivers an image after its first pieces.
+-- Forward, each from its beginning; or each with its headers last.
 pub record GivesPieces (forward source spool : Bool) (i : ImageBlocks) (limit made : ℕ)
     (r : Result Delivered FlashFault) (old new : SpoolState) : Type 0 where
-  -- its room stays, and behind each clear at most the limit was written, also of a piece that was only begun
+  -- its room stays, and after each clear at most the limit was written, also of a piece that was only begun
   pub room : new.size ≡ old.size
   pub fits : PiecesFit limit old.cuts new.cuts (length old.written) (length new.written)
-  -- exactly the pieces that are left, each behind a clear of its own
+  -- exactly the pieces that are left, each after a clear of its own
   pub written : IsTrue source → OnOk r (new.written ≡ old.written ++ concat (pieces_behind limit i.size i.blocks made))
   pub cuts : IsTrue source
       → OnOk r (new.cuts ≡ with_cuts old.cuts (length old.written) (pieces_behind limit i.size i.blocks made))
   -- where it was refused, forward a beginning of them
   pub begins : IsTrue forward → IsTrue source
       → Begins new.written (old.written ++ concat (pieces_behind limit i.size i.blocks made))
-  -- headers last, some of them, and no part of an image behind the last clear; whatever the source gives, there is
+  -- headers last, some of them, and no part of an image after the last clear; whatever the source gives, there is
   -- nothing, an image, or none
   pub no_part : forward ≡ false → IsTrue source
       → GaveNoPart old.written new.written new.cuts (pieces_behind limit i.size i.blocks made)
@@ -261,7 +262,7 @@ pub record LaysBlocks (source spool partition : Bool) (i : ImageBlocks) (limit m
   -- its length stays, and nothing is read of it
   pub size : new.size ≡ old.size
   pub unread : (new.reads ≡ old.reads) × (new.given ≡ old.given)
-  -- the raw and fill blocks behind the first pieces are laid over what it held, each byte of them written once
+  -- the raw and fill blocks after the first pieces are written over what it held, each byte of them written once
   pub laid : IsTrue source → IsTrue spool → IsTrue partition
       → OnOk r (new.content
       ≡ over old.content (cells i.size (blocks_behind (blocks_in_first limit i.size i.blocks made) i.blocks)))
@@ -272,27 +273,27 @@ pub record LaysBlocks (source spool partition : Bool) (i : ImageBlocks) (limit m
       (blocks_in_first limit i.size i.blocks j) i.blocks)))
   pub once : IsTrue source → IsTrue spool → OnOk r (new.taken
       ≡ old.taken + i.size * written_in (blocks_behind (blocks_in_first limit i.size i.blocks made) i.blocks))
-  -- each piece that was finished was synced, and every sync has succeeded but one that the answer names
+  -- each piece that was finished was synced, and every sync has succeeded but one that the result names
   pub synced : new.past.synced ≡ old.past.synced + finished made r
   pub unsynced : new.syncs + old.past.synced ≡ old.syncs + new.past.synced + refused_syncs r
   -- nothing is pending in the end, so a crash leaves exactly what it holds
   pub settled : IsTrue partition → OnOk r (new.past.pending ≡ [])
   pub lasts : IsTrue partition → OnOk r ((q : List ℕ) → MayLeave (moment_of new.past new.content) q → q ≡ new.content)
 
--- Of a whole delivery, over a partition of which nothing was pending: at every moment of it, and after it, a stop
--- leaves what a delivery mends.
+-- Of a whole delivery, over a partition of which nothing was pending: in every intermediate state of it, and after it,
+-- a stop leaves what a delivery mends.
 pub record AlwaysMendable (i : ImageBlocks) (limit : ℕ) (old new : PartitionState) : Type 0 where
   pub since : EachSince old.past.moments new.past.moments
       (MendableThen limit i.size i.blocks old.content 0 old.past.synced)
   pub now : MendableThen limit i.size i.blocks old.content 0 old.past.synced (moment_of new.past new.content)
 
--- What is whole of the image when a call begins behind its first pieces, `made`, stays so at every moment, and an Ok
--- mends all else. Pieces behind the first ones that are whole already are written again, over whatever stands there;
--- the first ones are neither read nor written, so where they are not whole nothing is said of them.
+-- What is whole of the image when a call begins after its first pieces, `made`, stays so in every intermediate state,
+-- and an Ok mends all else. Pieces after the first ones that are whole already are written again, over whatever is
+-- there; the first ones are neither read nor written, so where they are not whole nothing is said of them.
 pub record MendsBlocks (i : ImageBlocks) (limit made : ℕ) (r : Result Delivered FlashFault)
     (old new : PartitionState) : Type 0 where
   pub stays : StaysMendable limit i.size i.blocks made old.past new.past old.content new.content
-  -- behind a stop in piece j, what stands and whatever a crash may leave of it is mended from j on, or from before it
+  -- after a stop in piece j, what is stored and whatever a crash may leave of it is mended from j on, or from before it
   pub stopped : OnStop r (λ j. (p : List ℕ) (done : ℕ) → made ≤ done
       → LeavesMendable limit i.size i.blocks p done (moment_of old.past old.content)
       → LeavesMendable limit i.size i.blocks p (j - 1) (moment_of new.past new.content))
@@ -327,12 +328,12 @@ pub record DeliveryCosts (source : Bool) (i : ImageBlocks) (limit words each mad
 
 -- ---- all of it
 
--- What delivering an image behind its first pieces, `made`, does, whatever it answers.
+-- What delivering an image after its first pieces, `made`, does, whatever it returns.
 pub record HasDelivered {A B C : Type 0} (forward : Bool) (i : ImageBlocks) (limit made words each : ℕ)
     (s : sources.Ghosts A) (f : inputs.Ghosts B) (o : outputs.Ghosts B) (l : spools.Ghosts B) (q : sources.Ghosts C)
     (p : partitions.Ghosts C) (r : Result Delivered FlashFault) (a a' : A) (b b' : B) (c c' : C) (m m' : Meter)
     : Type 0 where
-  -- what is answered
+  -- what is returned
   pub delivers : Delivers s.models i limit made ((b' ≡ b) × (c' ≡ c)) r (counts s f o l p a b c)
       (counts s f o l p a' b' c')
   -- what it wrote
@@ -347,7 +348,7 @@ pub record HasDelivered {A B C : Type 0} (forward : Bool) (i : ImageBlocks) (lim
   -- what it cost
   pub costs : DeliveryCosts s.models i limit words each made r (counts s f o l p a b c) (counts s f o l p a' b' c') m m'
 
--- What delivering an opened image does, behind its first pieces.
+-- What delivering an opened image does, after its first pieces.
 pub record OpenDelivered {R A B C : Type 0} (g : images.Ghosts R) (runs : R) (forward : Bool) (limit made : ℕ)
     (s : sources.Ghosts A) (f : inputs.Ghosts B) (o : outputs.Ghosts B) (l : spools.Ghosts B) (q : sources.Ghosts C)
     (p : partitions.Ghosts C) (r : Result Delivered FlashFault) (a a' : A) (b b' : B) (c c' : C) (m m' : Meter)

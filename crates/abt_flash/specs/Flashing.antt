@@ -1,4 +1,4 @@
--- What flashing a whole input answers, and what the partition holds then.
+-- What flashing a whole input returns, and what the partition holds then.
 use Rattle.std.specs.Prelude.{◌≡◌, ℕ, ◌+◌, ◌*◌, ◌<◌, ◌≤◌, Bool, IsTrue, List, [], Option, Result, Ok, Err, OnOk, is_ok}
 use Rattle.std.specs.Prelude.{max, if◌then◌else◌}
 use Rattle.abt_io.specs.Moment.{Past}
@@ -15,7 +15,7 @@ use Rattle.abt_flash_faults.specs.declared.fault.FlashFault.{FlashFault}
 use Rattle.abt_flash_faults.specs.declared.fault.FlashFault.TheVariants.{Sparse, Sync, PartitionTooSmall}
 use Rattle.abt_flash.specs.declared.stage.Flashed.{Flashed}
 
--- An image that fits a partition of this size stands at the front of x, and rest behind it. The answer counts its raw
+-- An image that fits a partition of this size is at the beginning of x, and rest after it. The result counts its raw
 -- and fill blocks, and each of their bytes was written once.
 pub record WholeFlash (e : Flashed) (size taken taken' : ℕ) (x rest : List ℕ) : Type 0 where
   pub header : Header
@@ -25,13 +25,13 @@ pub record WholeFlash (e : Flashed) (size taken taken' : ℕ) (x rest : List ℕ
   pub blocks : e.blocks ≡ written_in (classed chunks)
   pub once : taken' ≡ taken + header.blk_sz * e.blocks
 
--- x has this fault, and where a header stands at its front, the image's blocks fit
+-- x has this fault, and where a header is at its beginning, the image's blocks fit
 pub record RefusedFlash (f : SparseFault) (size : ℕ) (x : List ℕ) : Type 0 where
   pub given : List (Option ℕ)
   pub fails : Fails x f given
   pub fits : (h : Header) (y : List ℕ) → SpellsHeader x h y → h.total_blks * h.blk_sz ≤ size
 
--- a header stands at the front of x, the image's blocks do not fit, and nothing was written
+-- a header is at the beginning of x, the image's blocks do not fit, and nothing was written
 pub record Short (need size taken taken' : ℕ) (x : List ℕ) : Type 0 where
   pub header : Header
   pub behind : List ℕ
@@ -40,8 +40,8 @@ pub record Short (need size taken taken' : ℕ) (x : List ℕ) : Type 0 where
   pub short : size < need
   pub none : taken' ≡ taken
 
--- what is answered over an input x of which rest is left, and a partition of this size, save where bytes were not read
--- or not written. A sync is refused behind the whole image.
+-- what is returned over an input x of which rest is left, and a partition of this size, save where bytes were not read
+-- or not written. A sync is refused after the whole image.
 abbrev pub Flashes : Result Flashed FlashFault → ℕ → ℕ → ℕ → List ℕ → List ℕ → Type 0
 Flashes (Ok e) size taken taken' x rest = WholeFlash e size taken taken' x rest
 Flashes (Err (Sparse f)) size taken taken' x rest = RefusedFlash f size x
@@ -49,7 +49,7 @@ Flashes (Err (PartitionTooSmall need)) size taken taken' x rest = Short need siz
 Flashes (Err (Sync d)) size taken taken' x rest = (e : Flashed) × WholeFlash e size taken taken' x rest
 Flashes (Err f) size taken taken' x rest = Unit {0}
 
--- What a partition that held p holds behind it: what x gives is laid over it, an image or what comes before a fault.
+-- What a partition that held p holds after it: what x gives is written over it, an image or what comes before a fault.
 -- One that is too small is as it was, and one that was not synced holds all of the image, of which a crash may leave
 -- less.
 abbrev pub Holds : Result Flashed FlashFault → List ℕ → List ℕ → List ℕ → Type 0
@@ -59,12 +59,12 @@ Holds (Err (PartitionTooSmall need)) p p' x = p' ≡ p
 Holds (Err (Sync d)) p p' x = p' ≡ flashed p x
 Holds (Err f) p p' x = Unit {0}
 
--- At every moment from the first to the last no byte was touched but those that the cells write.
+-- In every intermediate state from the first to the last no byte was touched but those that the cells write.
 abbrev pub TouchesOnly : List (Option ℕ) → Past → Past → List ℕ → List ℕ → Type 0
 TouchesOnly cells past past' p p' = Touches (writes cells) past past' p p'
 
--- A sync has succeeded where the answer is Ok, and then nothing is pending; every other one that was called was
--- refused, as the answer says.
+-- A sync has succeeded where the result is Ok, and then nothing is pending; every other one that was called was
+-- refused, as the result says.
 pub record Syncs (models : Bool) (r : Result Flashed FlashFault) (past past' : Past) (syncs syncs' : ℕ) : Type 0 where
   pub settled : IsTrue models → OnOk r (past'.pending ≡ [])
   pub synced : past'.synced ≡ past.synced + (if is_ok r then 1 else 0)

@@ -1,4 +1,4 @@
--- Delivering between two pieces: what is still to come.
+-- A delivery between two pieces: what is still to come.
 use Rattle.std.specs.Prelude.{◌≡◌, ℕ, ◌+◌, ◌-◌, ◌*◌, ◌≤◌, ◌<◌, ◌⊎◌, Bool, false, Result, Ok, Err, List, length, map}
 use Rattle.std.specs.Prelude.{if◌then◌else◌, nat_lt, None, slice_index_or, max}
 use Rattle.abt_io.specs.Moment.{Moment, Past, EachSince, moment_of, is_pending}
@@ -17,9 +17,9 @@ use Rattle.abt_flash.specs.Delivering.{HasBegun, StopsFor, MendableThen}
 use Rattle.abt_flash_faults.specs.declared.fault.FlashFault.{FlashFault}
 use Rattle.abt_flash_faults.specs.declared.fault.FlashFault.TheVariants as flashes
 
--- ---- where a cutter stands
+-- ---- where a cutter is
 
--- behind a piece that ends before block e of n
+-- after a piece that ends before block e of n
 pub record IsBehindPiece (n e : ℕ) (st : CutterStage) : Type 0 where
   pub between : e < n → st ≡ Between
   pub done : n ≤ e → st ≡ Done
@@ -30,7 +30,7 @@ pub record GoesBehind (n k k' s e : ℕ) (st : CutterStage) : Type 0 where
   pub stands : IsBehindPiece n e st
   pub moves : e < n → s < e
 
--- between pieces or behind the last, with so many pieces made up to block e of n
+-- between pieces or after the last, with so many pieces made up to block e of n
 pub record Unbroken (n made e : ℕ) (st : CutterStage) : Type 0 where
   pub stands : (st ≡ Between) ⊎ (st ≡ Done)
   pub between : st ≡ Between → 0 < made → e < n
@@ -58,15 +58,15 @@ pieces_left limit b l s st = map (piece b) (frames_left limit b l s st)
 abbrev pub blocks_at : ℕ → ℕ → List Block → ℕ → List Block
 blocks_at limit b l s = framed s (segment_at b limit l s) (length l - (s + length (segment_at b limit l s)))
 
--- A moment at which no byte that the image does not write, and none before block `done`, is pending, or other than it
+-- A state in which no byte that the image does not write, and none before block `done`, is pending, or other than it
 -- is to be.
 pub record MendableAt (b : ℕ) (l : List Block) (p : List ℕ) (done : ℕ) (m : Moment) : Type 0 where
   pub content : Mendable b l p m.content done
   pub settled : (i : ℕ) → i < length p → (i < done * b) ⊎ (slice_index_or (cells b l) i None ≡ None)
       → is_pending m.pending i ≡ false
 
--- Since a call began, behind so many pieces and syncs and with these moments, every moment left what a delivery mends,
--- and the present one does with the first s blocks whole.
+-- Since a call began, after so many pieces and syncs and with these states, every intermediate state left what a
+-- delivery mends, and the present one does with the first s blocks whole.
 pub record Staying (limit b : ℕ) (l : List Block) (p : List ℕ) (made synced s : ℕ) (old : List Moment) (past : Past)
     (content : List ℕ) : Type 0 where
   pub since : EachSince old past.moments (MendableThen limit b l p made synced)

@@ -1,4 +1,4 @@
--- What a part of an image lays over a partition, and what a call may touch of it.
+-- What a part of an image writes to a partition, and what a call may touch of it.
 use Rattle.std.specs.Prelude.{◌≡◌, ℕ, ◌+◌, ◌*◌, ◌≤◌, ◌<◌, Bool, List, [], take, replicate, Option}
 use Rattle.std.specs.Prelude.{None, is_some, slice_index_or, ◌⊎◌, Result, Ok, Err, OnOk, OnErr, IfErr}
 use Rattle.std.specs.List.{concat}
@@ -15,7 +15,7 @@ use Rattle.abt_flash_faults.specs.declared.fault.FlashFault.TheVariants as flash
 use Rattle.abt_flash.specs.declared.write_part.PartTask.{PartTask}
 use Rattle.abt_flash.specs.declared.write_part.PartTask.TheVariants as tasks
 
--- byte i of a device is written by cells that are laid from its first byte on
+-- byte i of a device is written by cells that are written from its first byte on
 abbrev pub writes : List (Option ℕ) → ℕ → Bool
 writes cs i = is_some (slice_index_or cs i None)
 
@@ -30,7 +30,7 @@ task_of parts.Nothing = tasks.Nothing
 task_of parts.End = tasks.Sync
 task_of (parts.Fault f) = tasks.Nothing
 
--- how many bytes a task writes, and which, its own from the front of the window
+-- how many bytes a task writes, and which, its own from the beginning of the window
 abbrev pub put_in : PartTask → ℕ
 put_in (tasks.Bytes n) = n
 put_in (tasks.Words word n) = 4 * n
@@ -57,7 +57,7 @@ IsIdle (tasks.Words word n) = ⊥
 IsIdle tasks.Sync = ⊥
 IsIdle tasks.Nothing = Unit {0}
 
--- what is answered to a task that was done, or refused by the partition
+-- what is returned for a task that was done, or refused by the partition
 abbrev pub refused_by : PartTask → DeviceFault → FlashFault
 refused_by (tasks.Bytes n) d = flashes.Write d
 refused_by (tasks.Words word n) d = flashes.Write d
@@ -114,13 +114,13 @@ Settles q pending = Unit {0}
 
 -- ---- what a call may touch
 
--- A moment n of a call that lasted from m to e: what isn't touched is as it was at m, and no sync has succeeded since,
--- or it is the last moment.
+-- A state n of a call that lasted from m to e: what isn't touched is as it was at m, and no sync has succeeded since,
+-- or it is the last state.
 pub record During (touched : ℕ → Bool) (m e n : Moment) : Type 0 where
   pub kept : Keeps touched m n
   pub synced : (n.synced ≡ m.synced) ⊎ (n ≡ e)
 
--- At every moment of a call, from the first to the last, no byte is touched but these.
+-- In every intermediate state of a call, from the first to the last, no byte is touched but these.
 pub record Touches (touched : ℕ → Bool) (past past' : Past) (p p' : List ℕ) : Type 0 where
   pub kept : Keeps touched (moment_of past p) (moment_of past' p')
   pub moments : EachSince past.moments past'.moments (During touched (moment_of past p) (moment_of past' p'))

@@ -1,4 +1,4 @@
--- What one piece of a delivery is promised, and all that are left.
+-- The contract of one piece of a delivery, and of all pieces that are left.
 use Rattle.std.specs.Prelude.{◌≡◌, ℕ, ◌+◌, ◌*◌, ◌≤◌, ◌<◌, List, [], ◌∷◌, ◌++◌, length, max, Bool, false, IsTrue, Result}
 use Rattle.std.specs.Prelude.{OnOk, IfErr, drop, is_ok, if◌then◌else◌}
 use Rattle.abt_io.specs.declared.meter.Meter.{Meter}
@@ -20,7 +20,7 @@ use Rattle.abt_flash_faults.specs.declared.fault.FlashFault.{FlashFault}
 
 -- ---- one piece
 
--- The spool is given this piece behind a clear, or a beginning of it, or what is no image.
+-- The spool is given this piece after a clear, or a beginning of it, or what is no image.
 pub record GivesPiece (forward source spool : Bool) (b limit : ℕ) (piece : List ℕ) (r : Result (Unit {0}) Cause)
     (old new : SpoolState) : Type 0 where
   pub capacity : new.size ≡ old.size

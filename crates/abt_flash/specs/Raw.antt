@@ -1,4 +1,4 @@
--- Delivering a raw image.
+-- The delivery of a raw image.
 use Rattle.std.specs.Prelude.{◌≡◌, ℕ, ◌+◌, ◌-◌, ◌*◌, ◌%◌, ◌^◌, ◌≤◌, ◌<◌, Bool, false, IsTrue, List, length}
 use Rattle.std.specs.Prelude.{Result, OnOk, IfOk, IfErr}
 use Rattle.abt_sparse.specs.Block.{classify}
@@ -44,7 +44,7 @@ pub record IsAllowed (b : ℕ) (x : List ℕ) (long limit size : ℕ) (source : 
   pub all : count * b ≤ size
   pub room : IsTrue source → Room limit b (length (classify b x)) size
 
--- Why the raw image x, of `long` bytes, is not delivered in blocks of b bytes behind its first pieces. The order holds
+-- Why the raw image x, of `long` bytes, is not delivered in blocks of b bytes after its first pieces. The order holds
 -- for every source: the block size, too many blocks, the limit, the partition, planning, and then a stop alone.
 abbrev pub RawRefused : FlashFault → ℕ → List ℕ → ℕ → ℕ → ℕ → ℕ → Bool → Bool → Counts → Counts → Type 0
 RawRefused (BadBlock q) b x long limit size made source spool a z = (q ≡ b) × ((4 ≤ b) × (b ≤ 65536) × (b % 4 ≡ 0) → ⊥)
@@ -67,7 +67,7 @@ RawRefused (Sparse f) b x long limit size made source spool a z = ⊥
 RawRefused (Write d) b x long limit size made source spool a z = ⊥
 RawRefused (Sync d) b x long limit size made source spool a z = ⊥
 
--- What delivering the raw image that a source holds does, in blocks of n bytes, behind its first pieces.
+-- What delivering the raw image that a source holds does, in blocks of n bytes, after its first pieces.
 pub record RawDelivered {A B C : Type 0} (forward : Bool) (n limit made : ℕ)
     (s : sources.Ghosts A) (f : inputs.Ghosts B) (o : outputs.Ghosts B) (l : spools.Ghosts B) (q : sources.Ghosts C)
     (p : partitions.Ghosts C) (r : Result Delivered FlashFault) (a a' : A) (b b' : B) (c c' : C) (m m' : Meter)

@@ -1,4 +1,4 @@
--- Delivering the sparse image at the front of a source, in the words of reading it.
+-- The delivery of the sparse image at the beginning of a source, in terms of reading it.
 use Rattle.std.specs.Prelude.{◌≡◌, ℕ, ◌+◌, ◌-◌, ◌*◌, ◌≤◌, ◌<◌, Bool, true, false, IsTrue, List, [], length, Option}
 use Rattle.std.specs.Prelude.{Result, OnOk, IfOk, IfErr}
 use Rattle.abt_sparse.specs.Number.{number_of}
@@ -25,7 +25,7 @@ abbrev pub IsImageOutcome : Outcome → Type 0
 IsImageOutcome (Image h cs rest) = Unit {0}
 IsImageOutcome (Fault f cells) = ⊥
 
--- how many bytes its blocks have, and what stands behind it
+-- how many bytes its blocks have, and what is after it
 abbrev pub size_in : Outcome → ℕ
 size_in (Image h cs rest) = h.blk_sz
 size_in (Fault f cells) = 0
@@ -34,7 +34,7 @@ abbrev pub rest_in : Outcome → List ℕ
 rest_in (Image h cs rest) = rest
 rest_in (Fault f cells) = []
 
--- how many bytes the image at the front of x takes
+-- how many bytes the image at the beginning of x takes
 abbrev pub image_length : List ℕ → ℕ
 image_length x = length x - length (rest_in (outcome x))
 
@@ -47,8 +47,8 @@ pub record Fits (x : List ℕ) (limit size : ℕ) : Type 0 where
   pub image : IsImageOutcome (outcome x)
   pub room : Room limit (size_in (outcome x)) (length (blocks_in (outcome x))) size
 
--- Why the sparse image at the front of x is not delivered behind its first pieces, in order: its own fault, the limit,
--- the partition, planning, and then a stop alone. A source that fails or has changed is told of at any time.
+-- Why the sparse image at the beginning of x is not delivered after its first pieces, in order: its own fault, the
+-- limit, the partition, planning, and then a stop alone. A source that fails or has changed is reported at any time.
 abbrev pub SparseRefused : FlashFault → List ℕ → ℕ → ℕ → ℕ → Bool → Bool → Counts → Counts → Type 0
 SparseRefused (Sparse f) x limit size made source spool a z =
     (number_of f ≤ 10) × (IsTrue source → (cells : List (Option ℕ)) × (outcome x ≡ Fault f cells))
@@ -68,7 +68,7 @@ SparseRefused TooLarge x limit size made source spool a z = ⊥
 SparseRefused (BadBlock q) x limit size made source spool a z = ⊥
 SparseRefused (Sync d) x limit size made source spool a z = ⊥
 
--- What delivering the sparse image at the front of a source does, behind its first pieces.
+-- What delivering the sparse image at the beginning of a source does, after its first pieces.
 pub record SparseDelivered {A B C : Type 0} (limit made : ℕ)
     (s : sources.Ghosts A) (f : inputs.Ghosts B) (o : outputs.Ghosts B) (l : spools.Ghosts B) (q : sources.Ghosts C)
     (p : partitions.Ghosts C) (r : Result Delivered FlashFault) (a a' : A) (b b' : B) (c c' : C) (m m' : Meter)

@@ -1,4 +1,4 @@
--- One step of a flasher: what it lays, and where it stands behind it.
+-- One step of a flasher: what it writes, and its stage after it.
 use Rattle.std.specs.Prelude.{◌≡◌, ℕ, ◌+◌, ◌-◌, ◌*◌, ◌<◌, ◌≤◌, Bool, true, false, List, [], ◌++◌, length, Option, Some}
 use Rattle.std.specs.Prelude.{Result, Ok, Err, IsTrue, is_err, OnOk, nat_lt, ◌&&◌, ◌||◌, if◌then◌else◌}
 use Rattle.std.specs.Prelude.{◌^◌, take, drop, min}
@@ -33,7 +33,7 @@ use Rattle.abt_chunks.specs.Expanding.{OnMoreExpanding, OnDone}
 use Rattle.abt_chunks.specs.ListingAhead.{idle}
 use Rattle.abt_chunks.specs.Places.{from_place, said_by}
 
--- the stage that an answer leaves
+-- the stage that a result leaves
 abbrev pub stage_of : Result MachineProgress FlashFault → FlashStage
 stage_of (Ok answers.More) = stages.Going
 stage_of (Ok answers.Done) = stages.Done
@@ -63,7 +63,7 @@ abbrev pub IsOver : FlashStage → Type 0
 IsOver stages.Going = ⊥
 IsOver s = Unit {0}
 
--- the phase that an answer leaves the walk in
+-- the phase that a result leaves the walk in
 abbrev pub Leaves : Result MachineProgress FlashFault → Phase → Type 0
 Leaves (Ok answers.More) p = p ≡ phases.Body
 Leaves (Ok answers.Done) p = p ≡ phases.Done
@@ -71,7 +71,7 @@ Leaves (Err (Sparse f)) p = p ≡ phases.Failed f
 Leaves (Err (Sync d)) p = p ≡ phases.Done
 Leaves (Err f) p = Unit {0}
 
--- the bytes that all blocks of the image take, and whether its header is behind, with its extra bytes
+-- the bytes that all blocks of the image take, and whether its header has been passed, with its extra bytes
 abbrev pub need_of : Walk → ℕ
 need_of s = s.header.total_blks * s.header.blk_sz
 
@@ -105,15 +105,15 @@ abbrev pub OnShort : {X : Type 0} → Result X FlashFault → Type 0 → Type 0
 OnShort (Err (PartitionTooSmall need)) P = P
 OnShort r P = Unit {0}
 
--- What a step from walk s to walk s' lays over a partition that held p, once the bytes c are read and rest is left.
+-- What a step from walk s to walk s' writes over a partition that held p, once the bytes c are read and rest is left.
 pub record Laid (models : Bool) (stage : FlashStage) (r : Result MachineProgress FlashFault) (s s' : Walk)
     (c rest : List ℕ)
     (past past' : Past) (p p' : List ℕ) (taken taken' : ℕ) : Type 0 where
-  -- the cells that it lays, and what comes behind them where t follows
+  -- the cells that it writes, and what follows them where t follows
   pub cells : List (Option ℕ)
   pub more : List ℕ → List (Option ℕ)
   pub front : (t : List ℕ) → (ahead s (c ++ t)).cells ≡ cells ++ more t
-  -- what lay ahead is what it lays, and then what lies ahead behind it
+  -- what lay ahead is what it writes, and then what lies ahead after it
   pub told : (t : List ℕ) → (IsTrue (is_err r) → t ≡ rest)
       → UnlessFlashing r (ahead s (c ++ t) ≡ before cells (ahead s' t))
   pub moved : OnMoreExpanding r (place_of s' ≡ place_of s + length cells)
@@ -127,7 +127,7 @@ pub record Laid (models : Bool) (stage : FlashStage) (r : Result MachineProgress
   -- nothing is held over but words of a fill, and a gap
   pub held : Goes stage s.phase → OnOk r (more [] ≡ owed s')
 
--- what is known of the image's header along a step, where x is the rest of the input before it and y behind it
+-- what is known of the image's header along a step, where x is the rest of the input before it and y after it
 abbrev pub Heads : Result MachineProgress FlashFault → Walk → Walk → List ℕ → List ℕ → Type 0
 Heads (Ok answers.More) s s' x y = (upcoming s x).head ≡ (upcoming s' y).head
 Heads (Ok answers.Done) s s' x y = (upcoming s x).head ≡ Some (view s'.header)
@@ -136,14 +136,14 @@ Heads (Err (Sync d)) s s' x y = (upcoming s x).head ≡ Some (view s'.header)
 Heads (Err f) s s' x y = Unit {0}
 
 -- Where the flasher goes on: no chunk has been begun only where none had been and the partition was not called, the
--- header stays, and the first chunk is begun behind the header.
+-- header stays, and the first chunk is begun after the header.
 pub record GoesOn (r : Result MachineProgress FlashFault) (stage : FlashStage) (s s' : Walk) (untouched : Type 0) :
     Type 0 where
   pub fresh : Goes stage s.phase → OnMoreExpanding r (IsFresh s' → IsFresh s × untouched)
   pub header : OnMoreExpanding r (s.phase ≡ phases.Body → s'.header ≡ s.header)
   pub begins : OnMoreExpanding r (0 < s'.index → passed s ≡ true)
 
--- A sync that was called has succeeded, save where the answer says that it was refused, and then nothing is pending.
+-- A sync that was called has succeeded, save where the result says that it was refused, and then nothing is pending.
 pub record StepSyncs (models : Bool) (stage : FlashStage) (s : Walk) (r : Result MachineProgress FlashFault)
     (past past' : Past)
     (syncs syncs' : ℕ) : Type 0 where
@@ -164,7 +164,7 @@ pub record StepCosts (r : Result MachineProgress FlashFault) (s s' : Walk) (old 
 
 -- ---- a step
 
--- At most a window is read of an input, from its front on.
+-- At most a window is read of an input, from its beginning.
 pub record StepReads {A : Type 0} (i : inputs.Ghosts A) (old new : A) : Type 0 where
   pub asked : i.given new ≤ i.given old + 65536
   pub present : IsTrue i.models → i.given new - i.given old ≤ length (i.remaining old)
@@ -179,7 +179,7 @@ pub record FlashStep {A C : Type 0} (i : inputs.Ghosts A) (s : sources.Ghosts C)
   -- what is read: at most a window, and of the partition nothing
   pub read : StepReads i input input'
   pub unread : LeavesUnread s partition partition'
-  -- what it lays over the partition, and that it touches nothing else
+  -- what it writes over the partition, and that it touches nothing else
   pub told : IsTrue i.models → Laid s.models old.stage r old.walk new.walk
       (take (i.given input' - i.given input) (i.remaining input)) (i.remaining input') (p.past partition)
       (p.past partition') (s.content partition) (s.content partition') (p.taken partition) (p.taken partition')
@@ -190,7 +190,7 @@ pub record FlashStep {A C : Type 0} (i : inputs.Ghosts A) (s : sources.Ghosts C)
   -- it is too small only before the first chunk, and until then it is not called
   pub measures : Goes old.stage old.walk.phase → Measures r old.walk (s.size partition)
   pub short : OnShort r (partition' ≡ partition)
-  -- where the flasher stands
+  -- where the flasher is
   pub goes_on : GoesOn r old.stage old.walk new.walk (partition' ≡ partition)
   pub laid : Goes old.stage old.walk.phase
       → OnOk r (new.laid ≡ min (old.laid + (p.taken partition' - p.taken partition)) (2 ^ 64 - 1))

@@ -16,7 +16,7 @@ use Rattle.std.proofs.Common.{arith}
 use Rattle.abt_placed.specs.Unfinished.{IsNoImage}
 use Rattle.abt_placed.specs.Whole.{read_of}
 
--- What a piece may cost, whichever way it is written. Where telling the class of a block reads `one` bytes, its word
+-- What a piece may cost, whichever way it is written. Where finding the class of a block reads `one` bytes, its word
 -- may be looked through three times.
 pub record WayCosts (one : ℕ) (a z : Devices) (m m' : Meter) : Type 0 where
   pub given : a.given ≤ z.given
@@ -25,7 +25,7 @@ pub record WayCosts (one : ℕ) (a z : Devices) (m m' : Meter) : Type 0 where
   pub calls : z.reads + z.writes + 8 * (a.given + a.written) ≤ a.reads + a.writes + 8 * (z.given + z.written) + 140
   pub turns : m'.turns.number + 8 * (a.given + a.written) ≤ m.turns.number + 8 * (z.given + z.written) + 140 + 3 * one
 
--- Whatever the source gave, the piece p was written behind what stood there: an image, the next one. The source had
+-- Whatever the source gave, the piece p was written after what was stored there: an image, the next one. The source had
 -- given d bytes before, and d' then.
 pub record WritesNext {R : Type 0} (g : images.Ghosts R) (runs : R) (limit : ℕ) (start start' : Cursor)
     (made made' : ℕ) (st' : CutterStage) (d d' : ℕ) (old new : List ℕ) (m m' : Meter) (p : Piece) : Type 0 where
@@ -40,7 +40,7 @@ pub record WaySpent (before : Cursor → ℕ) (n each last : ℕ) (start start' 
   pub piece : d' + before start ≤ d + before start' + each
   pub end : n ≤ start'.block → d' + before start ≤ d + before start' + last
 
--- Headers last: what stood there stays, and where the piece is not finished, nothing stands behind it, or what is no
+-- Headers last: what was stored there stays, and where the piece is not finished, nothing is after it, or what is no
 -- image whatever follows it.
 pub record GrowsLate {X : Type 0} (r : Result X PieceFault) (old new : List ℕ) : Type 0 where
   pub before : take (length old) new ≡ old

@@ -1,4 +1,4 @@
-//! What a delivery answers.
+//! What a delivery returns.
 
 /// What was delivered.
 #[derive(Clone, Copy, Debug, PartialEq, Eq, Drop)]

@@ -1,4 +1,4 @@
-//! Delivering an opened image, whole or from one of its pieces on.
+//! Delivers an opened image, whole or from one of its pieces on.
 
 ghost use Rattle.std.specs.Prelude.{◌≡◌, ◌<◌, ◌≤◌, ◌+◌, ◌*◌, IsTrue, IfOk, MatchBool, length, max, true};
 ghost use Rattle.abt_flash.specs.Causes.{opening_fault};
@@ -76,7 +76,7 @@ pub(crate) fn deliver_behind<W: Way<R, L>, R: BlockRuns + Drop, S: Source, L: Sp
 }
 
 /// Cuts an opened image into pieces within a download limit, and flashes one after the other to a partition: each is
-/// written to the spool behind a clear, flashed from there, and synced.
+/// written to the spool after a clear, flashed from there, and synced.
 pub fn deliver_runs<R: BlockRuns + Drop, S: Source, L: Spool, P: Partition>(
     runs: R,
     source: &mut S,

@@ -1,4 +1,4 @@
-//! Planning the pieces that are passed over, and delivering all others.
+//! Plans the pieces that are passed over, and delivers all others.
 
 ghost use Rattle.std.specs.Prelude.{◌≡◌, ◌<◌, ◌≤◌, ◌+◌, ◌-◌, ◌*◌, ◌^◌, ◌++◌, [], IsTrue, MatchBool, IfOk, IfErr, OnOk};
 ghost use Rattle.std.specs.Prelude.{length, max, Ok, Err};
@@ -46,7 +46,7 @@ fn are_planned(made: u64, before: u32) -> bool
     made >= u64::from(before)
 }
 
-/// What is answered once all pieces behind the first ones are delivered.
+/// What is returned once all pieces after the first ones are delivered.
 fn delivered(before: u64, made: u64) -> Result<Delivered, FlashFault>
     requires order { before ≤ made }
     requires few { made < 2 ^ 32 }
@@ -65,7 +65,7 @@ fn next_number(made: u64) -> u32
     made as u32 + 1
 }
 
-/// How many pieces stand before this one, counted from 1.
+/// How many pieces come before this one, counted from 1.
 pub(crate) fn pieces_before(piece: u32) -> u32
     requires some { 1 ≤ piece }
     ensures { result ≡ piece - 1 }
@@ -73,7 +73,7 @@ pub(crate) fn pieces_before(piece: u32) -> u32
     piece - 1
 }
 
-/// Plans so many pieces from the first on and passes over them. It refuses with `NoSuchPiece` where none is left behind
+/// Plans so many pieces from the first on and passes over them. It refuses with `NoSuchPiece` where none is left after
 /// them, and as planning does.
 pub(crate) fn plan_pieces<R: BlockRuns + Drop, S: Source>(
     cutter: &mut Cutter<R>,
@@ -142,7 +142,7 @@ pub(crate) fn deliver_rest<W: Way<R, L>, R: BlockRuns + Drop, S: Source, L: Spoo
         cutter.old.start cutter.old.stage }
     requires capacity { cutter.old.limit ≤ L.size spool.old }
     requires room { R.count cutter.old.runs * R.size cutter.old.runs ≤ P.size partition.old }
-    // What is answered.
+    // What is returned.
     ensures fails { RestFails S.models L.models cutter.old.made result
         (counts S.Source L.Input L.Output L.Spool.own P.Partition.own source.old spool.old partition.old)
         (counts S.Source L.Input L.Output L.Spool.own P.Partition.own source.new spool.new partition.new) }

@@ -1,4 +1,4 @@
-//! Flashing a sparse image in steps.
+//! Flashes a sparse image in steps.
 
 ghost use Rattle.std.specs.Prelude.{◌≡◌, ◌<◌, ◌≤◌, ◌+◌, ◌-◌, ◌*◌, ◌/◌, ◌^◌, [], Err};
 ghost use Rattle.std.specs.Prelude.{length, max, min, nat_lt, ◌||◌, if◌then◌else◌};
@@ -65,7 +65,7 @@ fn most_asked() -> usize
     WINDOW
 }
 
-/// What a step answers once its part has been laid.
+/// What a step returns once its part has been written.
 #[inline(always)]
 fn answer(part: Part) -> Result<MachineProgress, FlashFault>
     ensures { result ≡ answer_by fault_of_sparse part }
@@ -134,7 +134,7 @@ impl Flasher {
         self.walk.index > 0 || self.walk.is_at_end()
     }
 
-    /// Whether a partition of this size is too small. Each step asks, since it may be lent another one.
+    /// Whether a partition of this size is too small. Each step asks, since it may borrow another one.
     #[inline(always)]
     fn is_short(&self, size: u64) -> bool
         ensures { result ≡ is_short_of self.now.walk size }
@@ -189,10 +189,15 @@ impl Flasher {
         }
     }
 
-    /// One step: at most a window is read, and what it gives is written, a fill whole and of a gap nothing. The step
-    /// that finds the end of the image syncs the partition. A partition that is too small is refused as soon as the
-    /// header has been read. An error is a fault of the image (1 to 10) or of a device (11 reading, 12 writing, 18
-    /// syncing), or that (17). After an error or Done every step answers that again and calls no device.
+    /// One step: at most a window is read, and what it gives is written, a fill as a whole and of a gap nothing. The
+    /// step that finds the end of the image syncs the partition. A partition that is too small is refused as soon as
+    /// the header has been read. An error is one of these:
+    ///
+    /// - a fault of the image (1 to 10);
+    /// - a fault of a device (11 reading, 12 writing, 18 syncing);
+    /// - a partition that is too small (17).
+    ///
+    /// After an error or Done every step returns that again and calls no device.
     #[inline(always)]
     pub fn step<I: Input, P: Partition>(
         &mut self,

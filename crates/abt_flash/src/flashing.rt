@@ -1,4 +1,4 @@
-//! Flashing a sparse image as a whole.
+//! Flashes a sparse image as a whole.
 
 ghost use Rattle.std.specs.Prelude.{◌≡◌, ◌-◌, IsTrue, take};
 ghost use Rattle.abt_io.specs.Moment.{Keeps, moment_of};
@@ -17,10 +17,13 @@ use abt_chunks::MachineProgress;
 use abt_flash_faults::FlashFault;
 use abt_io::{Input, Meter, Partition, Window};
 
-/// Writes the raw and fill blocks of the image at the front of the input to their places on the partition, each once,
-/// leaves all other bytes as they are, and syncs. It reads no further than the image, and of the partition nothing. An
-/// error is the first fault of the image (1 to 10), behind what comes before it, a device's (11 reading, 12 writing, 18
-/// syncing), or a partition that is too small for the image's blocks (17), of which nothing was written then.
+/// Writes the raw and fill blocks of the image at the beginning of the input to their places on the partition, each
+/// once, leaves all other bytes as they are, and syncs. It reads no further than the image, and reads nothing of the
+/// partition. An error is one of these:
+///
+/// - the first fault of the image (1 to 10), after what comes before it was written;
+/// - a device's fault (11 reading, 12 writing, 18 syncing);
+/// - a partition that is too small for the image's blocks (17); then nothing of it was written.
 pub fn flash<I: Input, P: Partition>(
     input: &mut I,
     partition: &mut P,
@@ -33,7 +36,7 @@ pub fn flash<I: Input, P: Partition>(
     // An image that fits is flashed, and anything else is refused with its own fault.
     ensures flashes { IsTrue I.models → Flashes result (P.size partition.old) (P.taken partition.old)
         (P.taken partition.new) (I.remaining input.old) (I.remaining input.new) }
-    // What the partition holds, and that no other byte was touched at any moment.
+    // What the partition holds, and that no other byte was touched in any intermediate state.
     ensures holds { IsTrue I.models → IsTrue P.models →
         Holds result (P.content partition.old) (P.content partition.new) (I.remaining input.old) }
     ensures touches { IsTrue I.models → IsTrue P.models → TouchesOnly (given (outcome (I.remaining input.old)))

@@ -62,7 +62,7 @@ fn not_written(fault: PieceFault) -> Cause
     }
 }
 
-/// What is answered to a piece that was not flashed: it is not finished, and why.
+/// What is returned for a piece that was not flashed: it is not finished, and why.
 fn not_flashed(fault: FlashFault) -> Result<(), Cause>
     ensures { result ≡ Err (flashing_cause fault) }
 {
@@ -96,7 +96,7 @@ pub(crate) fn deliver_piece<W: Way<R, L>, R: BlockRuns + Drop, S: Source, L: Spo
         cutter.old.start cutter.old.stage }
     requires capacity { cutter.old.limit ≤ L.size spool.old }
     requires room { R.count cutter.old.runs * R.size cutter.old.runs ≤ P.size partition.old }
-    // The cutter goes behind the piece.
+    // The cutter moves past the piece.
     ensures same { (cutter.new.runs ≡ cutter.old.runs) × (cutter.new.limit ≡ cutter.old.limit) }
     ensures told { IsTrue S.models → ToldCutter (R.place cutter.old.runs (S.content source.old))
         (R.together cutter.old.runs (S.content source.old)) (R.size cutter.old.runs)

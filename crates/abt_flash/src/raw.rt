@@ -1,4 +1,4 @@
-//! Delivering a raw image, whole or from one of its pieces on.
+//! Delivers a raw image, whole or from one of its pieces on.
 
 ghost use Rattle.std.specs.Prelude.{◌≤◌, ◌+◌, ◌-◌, ◌*◌, IsTrue, IfOk, length, max, true};
 ghost use Rattle.abt_sparse.specs.Block.{classify};

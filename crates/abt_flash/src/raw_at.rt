@@ -1,4 +1,4 @@
-//! Delivering a raw image in one pass over it, whole or from one of its pieces on.
+//! Delivers a raw image in one pass over it, whole or from one of its pieces on.
 
 ghost use Rattle.std.specs.Prelude.{◌≤◌, ◌+◌, ◌-◌, ◌*◌, IsTrue, IfOk, length, false};
 ghost use Rattle.abt_sparse.specs.Block.{classify};
@@ -15,8 +15,8 @@ use abt_io::{Meter, Overwrite, Partition, Source, Spool, Window};
 /// Delivers a raw image as `deliver_raw` does, by a spool that can be written over, and reads it once: the bytes of the
 /// image, and at most a window more for each piece.
 ///
-/// The header of a piece is laid behind its chunks, and its magic number last of all. So where a piece is not finished,
-/// what stands in the spool behind its last clear is nothing, or no image, whatever follows it.
+/// The header of a piece is written after its chunks, and its magic number last of all. So where a piece is not
+/// finished, what is stored in the spool after its last clear is nothing, or no image, whatever follows it.
 pub fn deliver_raw_at<S: Source, L: Spool + Overwrite, P: Partition>(
     source: &mut S,
     b: u32,

@@ -1,4 +1,4 @@
-//! Delivering a sparse image, whole or from one of its pieces on.
+//! Delivers a sparse image, whole or from one of its pieces on.
 
 ghost use Rattle.std.specs.Prelude.{◌≡◌, ◌≤◌, ◌+◌, ◌-◌, ◌*◌, IsTrue, IfOk};
 ghost use Rattle.abt_flash.specs.Causes.{run_fault_of};
@@ -25,7 +25,8 @@ pub(crate) fn not_read(fault: RunFault) -> FlashFault
     }
 }
 
-/// Delivers all pieces of the sparse image at the front of a source but so many of the first, which are only planned.
+/// Delivers all pieces of the sparse image at the beginning of a source but so many of the first, which are only
+/// planned.
 pub(crate) fn sparse_behind<S: Source, L: Spool, P: Partition>(
     source: &mut S,
     limit: u32,
@@ -59,8 +60,8 @@ pub(crate) fn sparse_behind<S: Source, L: Spool, P: Partition>(
     }
 }
 
-/// Cuts the sparse image at the front of a source into pieces within a download limit, and flashes one after the other
-/// to a partition: each is written to the spool behind a clear, flashed from there, and synced.
+/// Cuts the sparse image at the beginning of a source into pieces within a download limit, and flashes one after the
+/// other to a partition: each is written to the spool after a clear, flashed from there, and synced.
 pub fn deliver<S: Source, L: Spool, P: Partition>(
     source: &mut S,
     limit: u32,
@@ -80,9 +81,9 @@ pub fn deliver<S: Source, L: Spool, P: Partition>(
     sparse_behind(source, limit, 0, spool, partition, w, m)
 }
 
-/// Delivers from a piece on, counted from 1: those before it are planned and passed over. All others are written, over
-/// whatever stands there, also where they stood already; so what a stop in this piece or a later one left is mended.
-/// Those before it are neither read nor written: they have to stand.
+/// Delivers from a piece on, counted from 1. The pieces before it are planned and passed over. All others are written
+/// over whatever is there, also where they were whole already. So what a stop in this piece or a later one left is
+/// mended. The pieces before it are neither read nor written: the partition must already hold them.
 pub fn resume<S: Source, L: Spool, P: Partition>(
     source: &mut S,
     limit: u32,

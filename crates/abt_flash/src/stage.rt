@@ -1,15 +1,15 @@
-//! Where a flasher stands, and what a flash answers.
+//! The stage of a flasher, and what a flash returns.
 
 use abt_flash_faults::FlashFault;
 
-/// Where a flasher stands.
+/// The stage of a flasher.
 #[derive(Clone, Copy, Debug, PartialEq, Eq, Drop)]
 pub enum FlashStage {
     /// The image is read and written.
     Going,
     /// It has been written and synced.
     Done,
-    /// Every step answers this fault.
+    /// Every step returns this fault.
     Failed(FlashFault),
 }
 

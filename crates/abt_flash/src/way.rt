@@ -1,4 +1,4 @@
-//! How a piece is written to the spool: forward, in repeated passes, or in one pass, its headers last.
+//! How a piece is written to the spool: forward in repeated passes, or in one pass with its headers last.
 
 ghost use Rattle.std.specs.Prelude.{◌≡◌, ℕ, ◌<◌, ◌≤◌, ◌+◌, ◌-◌, ◌*◌, ◌++◌, Bool, IsTrue, IfOk, IfErr, length};
 ghost use Rattle.std.specs.Prelude.{true, false, ◌⊎◌};
@@ -24,8 +24,8 @@ use abt_runs::{BlockRuns, Cursor, RawRuns};
 
 /// How the next piece of an image is written to a spool.
 pub(crate) trait Way<R: BlockRuns + Drop, L: Spool> {
-    /// Whether it is written from its front on, so that what stands of one that was not finished is a beginning of it.
-    /// Otherwise that is nothing, or no image.
+    /// Whether the piece is written from its beginning on, so that what the spool has of an unfinished piece is a
+    /// beginning of it. Otherwise that is nothing, or no image.
     ghost is_forward: { Bool };
 
     /// How many bytes are read of the source for all pieces before a place, at most.
@@ -39,7 +39,7 @@ pub(crate) trait Way<R: BlockRuns + Drop, L: Spool> {
     /// How many for all of the image, but for those.
     ghost all: { R → ℕ };
 
-    /// Writes it behind what stands there, of a cutter that stands between two pieces.
+    /// Writes the piece after what is stored there. The cutter is between two pieces.
     fn write_piece<S: Source>(
         &self,
         cutter: &mut Cutter<R>,
@@ -59,7 +59,7 @@ pub(crate) trait Way<R: BlockRuns + Drop, L: Spool> {
             cutter.new.stage }
         ensures source { OnlyReads result S.Source source.old source.new }
         ensures writes { OnlyWrites result (full_cut result) L.Output spool.old spool.new }
-        // What stands in the spool, and the piece that it is told to be.
+        // What is stored in the spool, and the piece that is returned.
         ensures within { length (L.written spool.new) ≤ length (L.written spool.old) + cutter.old.limit }
         ensures begins { IsTrue is_forward → IsTrue S.models → Begins (L.written spool.new)
             (L.written spool.old ++ piece_at (R.size cutter.old.runs) cutter.old.limit
@@ -118,7 +118,7 @@ impl<R: BlockRuns + Drop, L: Spool> Way<R, L> for Forward {
     }
 }
 
-/// In one pass over a raw image, the headers laid behind what they tell of.
+/// In one pass over a raw image, each header after the data that it describes.
 pub(crate) struct Late {}
 
 impl<L: Spool + Overwrite> Way<RawRuns, L> for Late {

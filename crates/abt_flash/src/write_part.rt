@@ -1,4 +1,4 @@
-//! Writing what a part of an image gives to its place on a partition.
+//! Writes the bytes of a part of an image to their place on a partition.
 
 ghost use Rattle.std.specs.Prelude.{◌≡◌, ◌<◌, ◌≤◌, ◌+◌, ◌*◌, ◌^◌, IsTrue, OnOk, OnErr, false, is_ok, replicate};
 ghost use Rattle.std.specs.List.{concat};
@@ -24,7 +24,7 @@ use abt_io::{DeviceFault, Meter, Partition, WORDS, Window, lay_word, write_all_a
 /// What a part asks of the partition.
 #[derive(Clone, Copy, Debug, PartialEq, Eq, Drop)]
 pub enum PartTask {
-    /// So many bytes from the front of the window are written.
+    /// So many bytes from the beginning of the window are written.
     Bytes(usize),
     /// A word is written so many times.
     Words([u8; 4], u64),
@@ -34,7 +34,7 @@ pub enum PartTask {
     Nothing,
 }
 
-/// What is done for a part. A gap is left as it is, and so is what comes behind a fault.
+/// What is done for a part. A gap is left as it is, and so is what follows a fault.
 #[inline(always)]
 fn task_for(part: Part) -> PartTask
     ensures { result ≡ task_of part }
@@ -49,7 +49,7 @@ fn task_for(part: Part) -> PartTask
     }
 }
 
-/// What is answered once the partition has.
+/// What is returned once the partition has.
 #[inline(always)]
 fn answer_to(task: PartTask, done: Result<(), DeviceFault>) -> Result<(), FlashFault>
     ensures { result ≡ answered task done }
@@ -65,7 +65,7 @@ fn answer_to(task: PartTask, done: Result<(), DeviceFault>) -> Result<(), FlashF
     }
 }
 
-/// Where the words stand that come behind so many.
+/// Where the words are that follow so many.
 fn place_behind(at: u64, done: u64) -> u64
     requires below { at + 4 * done < 2 ^ 64 }
     ensures { result ≡ at + 4 * done }
@@ -73,7 +73,7 @@ fn place_behind(at: u64, done: u64) -> u64
     at + 4 * done
 }
 
-/// How many words have been written behind so many, and then some.
+/// How many words have been written after so many, and then some.
 fn count_behind(done: u64, some: usize) -> u64
     requires below { done + some < 2 ^ 64 }
     ensures { result ≡ done + some }
@@ -81,7 +81,7 @@ fn count_behind(done: u64, some: usize) -> u64
     done + some as u64
 }
 
-/// Writes a word so many times from a place on: it is laid over the window once, and the window written as often as it
+/// Writes a word so many times from a place on. The window is filled with the word once, and written as often as it
 /// takes.
 fn lay_words<P: Partition>(
     word: [u8; 4],
@@ -139,7 +139,7 @@ fn carry_out<P: Partition>(
     ensures unread { LeavesUnread P.Source partition.old partition.new }
     ensures laid { IsTrue P.models → UnlessUndone task result
         (P.content partition.new ≡ over (P.content partition.old) (from_place at (somes (bytes_by task w.old.bytes)))) }
-    // No byte outside the range that is written is touched at any moment.
+    // No byte outside the range that is written is touched in any intermediate state.
     ensures touches { IsTrue P.models → Touches (in_range at (put_in task)) (P.past partition.old)
         (P.past partition.new) (P.content partition.old) (P.content partition.new) }
     ensures settled { IsTrue P.models → OnOk result (SettlesIn task (P.past partition.new).pending) }
@@ -178,13 +178,13 @@ pub(crate) fn lay_part<P: Partition>(
     ensures laid { IsTrue P.models →
         UnlessUnwritten result (P.content partition.new
         ≡ over (P.content partition.old) (from_place at (cells_by part w.old.bytes))) }
-    // No byte outside the range that is written is touched at any moment.
+    // No byte outside the range that is written is touched in any intermediate state.
     ensures touches { IsTrue P.models → Touches (in_range at (put_by part)) (P.past partition.old)
         (P.past partition.new) (P.content partition.old) (P.content partition.new) }
     ensures settled { IsTrue P.models → OnOk result (Settles part (P.past partition.new).pending) }
     ensures synced { (P.past partition.new).synced ≡ (P.past partition.old).synced + syncs_by part result }
     ensures sound { OnErr result (is_fault part ≡ false) }
-    // A sync is refused behind the end of the image, and leaves what is written.
+    // A sync is refused after the end of the image, and leaves what is written.
     ensures ends { OnUnsynced result (part ≡ Part.End) }
     ensures refused_syncs { P.syncs partition.new + (P.past partition.old).synced
         ≡ P.syncs partition.old + (P.past partition.new).synced + refused_syncs result }

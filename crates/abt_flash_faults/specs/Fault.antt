@@ -1,4 +1,4 @@
--- The numbers of faults, and what causes each.
+-- The numbers of faults, and the cause of each.
 use Rattle.std.specs.Prelude.{◌≡◌, ℕ, ◌<◌, Result, Ok, Err}
 use Rattle.abt_io.specs.declared.device.DeviceFault.TheVariants.{Failed}
 use Rattle.abt_sparse.specs.Number.{number_of}

@@ -1,4 +1,4 @@
-//! Why flashing or delivering is refused.
+//! The reasons for which flashing or delivering is refused.
 
 ghost use Rattle.std.specs.Prelude.{◌≡◌};
 ghost use Rattle.abt_flash_faults.specs.Fault.{cause_number, flash_fault_number, fault_of_sparse};

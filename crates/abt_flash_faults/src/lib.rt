@@ -1,9 +1,9 @@
-//! Why flashing or delivering an image is refused, each fault with its number and text. What the commands say of faults
-//! stands on this, and need not wait for the flasher.
+//! The reasons for which flashing or delivering an image is refused, each with its number and text. They are a crate
+//! of their own, so that the messages of the commands depend on the faults and not on the flasher.
 //!
-//! | file | has |
+//! | file | content |
 //! |---|---|
-//! | `fault.rt` | `FlashFault`, and `Cause`: why a delivery stopped once its first piece was begun |
+//! | `fault.rt` | `FlashFault`, and `Cause`: why a delivery stopped after its first piece was begun |
 #![tactic(auto)]
 
 mod fault;

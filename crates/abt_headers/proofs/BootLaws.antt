@@ -1,4 +1,4 @@
--- A boot header that is written is read, and what is read is spelled so.
+-- A boot header that is written is read, and what is read is encoded so.
 use Rattle.std.proofs.Common.{◌≡◌, ℕ, ◌+◌, ◌≤◌, List, [], ◌∷◌, ◌++◌, length, drop, refl, sym, ap, subst, ◌∙◌, arith, lit<, lit≤, inl, inr, ◌⊎◌, Bool, true, false, cond, Result, Ok, Err, IfOk, not, ◌==◌, length-append}
 use Rattle.std.proofs.lemmas.Bool.{eq-eqb, eqb-true}
 use Rattle.byteorder.specs.Endian.{little_bytes}
@@ -70,7 +70,7 @@ pub not-false' : (t : Bool) → not t ≡ false → t ≡ true
 not-false' true e = refl
 not-false' false e = absurd cc
 
--- what stands of a header in x
+-- what is stored of a header in x
 pub record Stands (h : BootHeader) (x : List ℕ) : Type 0 where
   pub size : boot_size h ≤ length x
   pub bytes : joined_to (boot_field_list h) (drop (boot_size h) x) ≡ x
@@ -165,7 +165,7 @@ unfolding boot_record
 record_again h rest fits =
     boot_again h (joined_fields (boot_field_list h) ++ rest) rest fits (omega (arith, record_length h fits, length-append (joined_fields (boot_field_list h)) rest)) (joined_rest (boot_field_list h) rest)
 
--- what a header that stands in front decodes to
+-- what a header at the beginning decodes to
 pub boot_found : (x : List ℕ) (r : Result BootHeader HeaderFault) → r ≡ boot_at x → (h : BootHeader) (rest : List ℕ) → BootFits h → x ≡ boot_record h ++ rest → r ≡ Ok h
 boot_found x r e h rest fits is = e ∙ ap boot_at is ∙ record_again h rest fits
 

@@ -1,4 +1,4 @@
--- The parts of a boot header: a part that is written is read, and what is read is spelled so.
+-- The parts of a boot header: a part that is written is read, and what is read is encoded so.
 use Rattle.std.proofs.Common.{◌≡◌, ℕ, ◌<◌, ◌≤◌, ◌^◌, List, length, drop, refl, arith, lit<}
 use Rattle.abt_headers.specs.declared.page.PageSize.{PageSize}
 use Rattle.abt_headers.specs.declared.boot.BootFront.{BootFront}
@@ -103,7 +103,7 @@ short_again v f x rest small fits e0 =
     let e1580 = next 44 1536 x f.cmdline _ e44 fits.cmdline in
     record { magic = f0; version = f40; behind = e1580; front = rw (f8, f12, f16, f20, f24, f44) refl }
 
--- ---- what is read is spelled so
+-- ---- what is read is encoded so
 
 pub front_back : (v : ℕ) (p : PageSize) (x rest : List ℕ) → 1632 ≤ length x → IsBytes x → number_at 0 8 x ≡ 0x2144494f52444e41 → number_at 36 4 x ≡ page_bytes p → number_at 40 4 x ≡ v → rest ≡ drop 1632 x
     → joined_to (front_fields v (front_at p x)) rest ≡ x

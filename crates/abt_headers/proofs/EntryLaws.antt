@@ -1,4 +1,4 @@
--- An entry that is written is read, and what is read is spelled so.
+-- An entry that is written is read, and what is read is encoded so.
 use Rattle.std.proofs.Common.{◌≡◌, ℕ, zero, suc, ◌+◌, ◌*◌, ◌<◌, ◌≤◌, ◌^◌, List, [], ◌∷◌, ◌++◌, length, drop, get_or, refl, sym, ap, ◌∙◌, append-nil, arith, length-append}
 use Rattle.std.proofs.lemmas.List.{drop_all, drop-drop}
 use Rattle.std.proofs.lemmas.List.Concat.{flat_map-cons}
@@ -51,7 +51,7 @@ pub record_again : (e : RamdiskEntry) → EntryFits e → entry_at (entry_record
 unfolding entry_record
 record_again e fits = entry_again e (joined_fields (entry_fields e)) fits (sym (append-nil (joined_fields (entry_fields e))) ∙ joined_rest (entry_fields e) [])
 
--- numbers that stand one after another are the words there
+-- numbers that are stored one after another are the words there
 pub words_read : (ws : List ℕ) (p : ℕ) (x : List ℕ) → ((k : ℕ) → k < length ws → slice_index ws k ≡ number_at (4 * k) 4 (drop p x)) → ws ≡ words_at p (length ws) x
 words_read [] p x h = refl
 words_read (w ∷ ws) p x h =

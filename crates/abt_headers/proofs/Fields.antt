@@ -27,7 +27,7 @@ part_here p n x a b e l = ap (take n) e ∙ take_at a b n l
 pub number_here : (p n v : ℕ) (x b : List ℕ) → drop p x ≡ little_bytes n v ++ b → v < 256 ^ n → number_at p n x ≡ v
 number_here p n v x b e h = ap (little_number n) e ∙ little_number-reads_back n v b h
 
--- ---- what is read is spelled so
+-- ---- what is read is encoded so
 
 higher : (j a m : ℕ) → a < 256 → byte_at (suc j) (a + 256 * m) ≡ byte_at j m
 higher zero a m h = let e : (a + 256 * m) / 256 ^ suc zero ≡ m = omega arith in ap (λ (k : ℕ). k % 256) e
@@ -71,7 +71,7 @@ pub joined_rest : (fs : List (List ℕ)) (rest : List ℕ) → joined_fields fs 
 joined_rest [] rest = refl
 joined_rest (f ∷ fs) rest = append_assoc f (joined_fields fs) rest ∙ ap (λ (t : List ℕ). f ++ t) (joined_rest fs rest)
 
--- one write more, behind what was written
+-- one write more, after what was written
 pub put_more : (front base now new b : List ℕ) (p n : ℕ) → length front ≡ p → length b ≡ n → now ≡ front ++ drop p base → new ≡ take p now ++ (b ++ drop (p + length b) now) → new ≡ (front ++ b) ++ drop (p + n) base
 put_more front base now new b p n l m e f =
     f ∙ ap (λ (t : List ℕ). take p t ++ (b ++ drop (p + length b) t)) e

@@ -80,7 +80,7 @@ page_some : (n : ℕ) (o : Option PageSize) (p : PageSize) → page_or_fault n o
 page_some n None p e = absurd cc
 page_some n (Some q) p e = cc
 
--- a page size that is read is spelled so
+-- a page size that is read is encoded so
 pub page_was : (n place : ℕ) (x : List ℕ) (p : PageSize) → needing n x (page_at place x) ≡ Ok p → (n ≤ length x) × (number_at place 4 x ≡ page_bytes p)
 page_was n place x p e =
     let s = needing-from n x _ p e in

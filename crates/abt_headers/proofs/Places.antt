@@ -1,4 +1,4 @@
--- How sections are laid one after another.
+-- How sections are written one after another.
 use Rattle.std.proofs.Common.{◌≡◌, ℕ, zero, suc, ◌+◌, ◌-◌, ◌*◌, ◌<◌, ◌≤◌, ◌^◌, List, [], ◌∷◌, ◌++◌, length, get_or, take, drop, set, refl, sym, ap, ◌∙◌, append_assoc, arith, nat_lt, inl, inr}
 use Rattle.std.proofs.Math.Nat.{mul-le-mul_right, div-mul-le_self, lt-div-mul-add}
 use Rattle.std.proofs.lemmas.List.{take_more_set, drop_more}
@@ -44,7 +44,7 @@ each_more [] y h low (suc i) q lt is = absurd (omega arith)
 each_more (p ∷ ps) y h low zero q lt is = h zero q (omega arith) is
 each_more (p ∷ ps) y h low (suc i) q lt is = each_more ps y (λ j r m e. h (suc j) r (omega arith) e) low i q (omega arith) is
 
--- nor is that of a section behind few pages
+-- nor is that of a section after few pages
 pub near : (page k size : ℕ) → page ≤ 131072 → k ≤ 10485767 → size < 2 ^ 32 → page * k + size < 2 ^ 63
 near page k size h l s = let m : page * k ≤ 131072 * k = mul-le-mul_right k h in omega arith
 

@@ -1,4 +1,4 @@
--- A vendor header that is written is read, and what is read is spelled so.
+-- A vendor header that is written is read, and what is read is encoded so.
 use Rattle.std.proofs.Common.{◌≡◌, ℕ, ◌+◌, ◌*◌, ◌<◌, ◌≤◌, ◌^◌, List, ◌++◌, length, drop, refl, sym, ap, subst, ◌∙◌, arith, lit<, lit≤, inl, inr, Bool, true, false, cond, Result, Ok, Err, IfOk, IfErr, MatchResult, Option, Some, None, not, ◌==◌, ◌||◌, length-append}
 use Rattle.std.proofs.lemmas.Bool.{eq-eqb, eqb-true}
 use Rattle.abt_headers.specs.declared.fault.HeaderFault.{HeaderFault}
@@ -239,7 +239,7 @@ vendor_ok v = Ok v
 same_vendor : (v w : Vendor) → vendor_ok v ≡ vendor_ok w → v ≡ w
 same_vendor v w e = cc
 
--- what a header that stands in front decodes to
+-- what a header at the beginning decodes to
 pub vendor_found : (x : List ℕ) (r : Result VendorHeader HeaderFault) → MatchResult r (λ h. vendor_at x ≡ Ok (vendor_view h)) (λ f. vendor_at x ≡ Err f) → (v : Vendor) (rest : List ℕ) → VendorFits v → x ≡ vendor_record v ++ rest → MatchResult r (λ h. vendor_view h ≡ v) (λ _. ⊥)
 vendor_found x (Ok h) e v rest fits is = let same : vendor_at x ≡ Ok v = ap vendor_at is ∙ record_again v rest fits in same_vendor (vendor_view h) v (sym e ∙ same)
 vendor_found x (Err f) e v rest fits is = let same : vendor_at x ≡ Ok v = ap vendor_at is ∙ record_again v rest fits in absurd cc

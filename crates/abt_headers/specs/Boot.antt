@@ -1,5 +1,5 @@
 -- The boot header (`boot_img_hdr_v0` to `boot_img_hdr_v4` of AOSP's `bootimg.h`): its bytes, what reading them gives,
--- and the sections behind it.
+-- and the sections after it.
 use Rattle.std.specs.Prelude.{ℕ, ◌==◌, not, if◌then◌else◌, List, [], ◌∷◌, ◌++◌, Result, Ok, Err}
 use Rattle.byteorder.specs.Endian.{little_bytes}
 use Rattle.abt_headers.specs.declared.fault.HeaderFault.{HeaderFault}
@@ -134,14 +134,14 @@ boot_of version x =
     else if version == 4 then needing 1584 x (Ok (V4 (short_at x) (number_at 1580 4 x)))
     else Err (faults.Version version)
 
--- the header at the front of x, or the first fault: the magic (`boot_magic` as a number), the version, and then what
--- the version asks for
+-- the header at the beginning of x, or the first fault: the magic (`boot_magic` as a number), the version, and then
+-- what the version asks for
 unfoldable pub boot_at : List ℕ → Result BootHeader HeaderFault
 boot_at x =
     needing 8 x (if not (number_at 0 8 x == 0x2144494f52444e41) then Err faults.Magic
     else needing 44 x (boot_of (number_at 40 4 x) x))
 
--- ---- the sections behind the header
+-- ---- the sections after the header
 
 abbrev pub boot_page : BootHeader → ℕ
 boot_page (V0 f) = page_bytes f.page_size
@@ -160,6 +160,6 @@ boot_sections (V2 f d t) = (Kernel, f.kernel_size) ∷ (Ramdisk, f.ramdisk_size)
 boot_sections (V3 f) = (Kernel, f.kernel_size) ∷ (Ramdisk, f.ramdisk_size) ∷ []
 boot_sections (V4 f signature) = (Kernel, f.kernel_size) ∷ (Ramdisk, f.ramdisk_size) ∷ (Signature, signature) ∷ []
 
--- from the first page boundary behind the header on
+-- from the first page boundary after the header on
 abbrev pub boot_places : BootHeader → List SectionPlace
 boot_places h = places_from (boot_page h) (pages (boot_size h) (boot_page h)) (boot_sections h)

@@ -1,4 +1,4 @@
--- Faults of headers: their numbers, and the order in which they are found.
+-- The faults of headers: their numbers, and the order in which they are found.
 use Rattle.std.specs.Prelude.{ℕ, nat_lt, if◌then◌else◌, List, length, Result, Ok, Err}
 use Rattle.abt_headers.specs.declared.fault.HeaderFault.{HeaderFault}
 use Rattle.abt_headers.specs.declared.fault.HeaderFault.TheVariants.{Magic, Version, PageSize, Table, Short, Os}

@@ -1,4 +1,4 @@
--- Fields of records.
+-- The fields of records.
 use Rattle.std.specs.Prelude.{ℕ, List, [], ◌∷◌, ◌++◌, take, drop}
 use Rattle.byteorder.specs.Endian.{little_number}
 

@@ -1,4 +1,4 @@
--- Pages: an image is a sequence of them, and every section begins at the front of one.
+-- Pages: an image is a sequence of pages, and every section begins at a page boundary.
 use Rattle.std.specs.Prelude.{◌≡◌, ◌≤◌, ℕ, ◌+◌, ◌-◌, ◌/◌, ◌==◌, if◌then◌else◌, List, Option, Some, None, Result, Ok}
 use Rattle.std.specs.Prelude.{Err}
 use Rattle.abt_headers.specs.declared.fault.HeaderFault.{HeaderFault}

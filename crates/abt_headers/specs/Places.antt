@@ -1,4 +1,4 @@
--- The sections of an image: their names, and where they stand.
+-- The sections of an image: their names and their places.
 use Rattle.std.specs.Prelude.{◌≡◌, ℕ, ◌+◌, ◌*◌, ◌≤◌, ◌<◌, ◌^◌, List, [], ◌∷◌, length, get_or, codes}
 use Rattle.abt_headers.specs.declared.sections.Section.{Section}
 use Rattle.abt_headers.specs.declared.sections.Section.TheVariants.{Kernel, Ramdisk, Second, RecoveryDtbo, Dtb}
@@ -17,11 +17,11 @@ section_name VendorRamdisk = codes "vendor_ramdisk"
 section_name Table = codes "table"
 section_name Bootconfig = codes "bootconfig"
 
--- a section behind k pages of p bytes
+-- a section after k pages of p bytes
 abbrev pub section_place : ℕ → ℕ → Section × ℕ → SectionPlace
 section_place p k s = record { kind = s.0; at = p * k; size = s.1 }
 
--- sections of these sizes, the first behind k pages of p bytes, each at the first page boundary behind the one before
+-- sections of these sizes, the first after k pages of p bytes, each at the first page boundary after the one before
 abbrev pub places_from : ℕ → ℕ → List (Section × ℕ) → List SectionPlace
 places_from p k [] = []
 places_from p k (s ∷ ss) = section_place p k s ∷ places_from p (k + pages s.1 p) ss
@@ -30,7 +30,7 @@ places_from p k (s ∷ ss) = section_place p k s ∷ places_from p (k + pages s.
 abbrev pub EachLow : List SectionPlace → Type 0
 EachLow ps = (i : ℕ) (q : SectionPlace) → i < length ps → q ≡ get_or ps i q → q.at + q.size < 2 ^ 63
 
--- sections may be laid behind k pages of p bytes: the places of five fit 64 bits
+-- sections may be placed after k pages of p bytes: the places of five fit 64 bits
 pub record MayLay (p k : ℕ) : Type 0 where
   pub low : 2048 ≤ p
   pub high : p ≤ 131072

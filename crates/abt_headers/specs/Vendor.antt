@@ -1,5 +1,5 @@
 -- The vendor boot header (`vendor_boot_img_hdr_v3` and `vendor_boot_img_hdr_v4` of AOSP's `bootimg.h`): its bytes,
--- what reading them gives, and the sections behind it.
+-- what reading them gives, and the sections after it.
 use Rattle.std.specs.Prelude.{ℕ, ◌*◌, ◌==◌, ◌||◌, not, if◌then◌else◌, List, [], ◌∷◌, ◌++◌, Option, Some, None, Result}
 use Rattle.std.specs.Prelude.{Ok, Err}
 use Rattle.byteorder.specs.Endian.{little_bytes}
@@ -132,14 +132,14 @@ vendor_of version x =
     (λ p. record { front = vendor_front_at p.0 x; tail = Some p.1 })
     else Err (faults.Version version)
 
--- the header at the front of x, or the first fault: the magic (`vendor_magic` as a number), the version, and then what
--- the version asks for
+-- the header at the beginning of x, or the first fault: the magic (`vendor_magic` as a number), the version, and then
+-- what the version asks for
 unfoldable pub vendor_at : List ℕ → Result Vendor HeaderFault
 vendor_at x =
     needing 8 x (if not (number_at 0 8 x == 0x544f4f4252444e56) then Err faults.Magic
     else needing 12 x (vendor_of (number_at 8 4 x) x))
 
--- ---- the sections behind the header
+-- ---- the sections after the header
 
 abbrev pub vendor_page : Vendor → ℕ
 vendor_page h = page_bytes h.front.page_size
@@ -153,6 +153,6 @@ vendor_sections_with f (Some t) = (VendorRamdisk, f.vendor_ramdisk_size) ∷ (Dt
 abbrev pub vendor_sections : Vendor → List (Section × ℕ)
 vendor_sections h = vendor_sections_with h.front h.tail
 
--- from the first page boundary behind the header on
+-- from the first page boundary after the header on
 abbrev pub vendor_places : Vendor → List SectionPlace
 vendor_places h = places_from (vendor_page h) (pages (vendor_size h) (vendor_page h)) (vendor_sections h)

@@ -43,7 +43,7 @@ pub struct BootFront {
     /// The address of the kernel's tags, where it needs them.
     pub tags_addr: u32,
 
-    /// The page size of the flash, at whose boundaries the sections stand.
+    /// The page size of the flash, at whose boundaries the sections are.
     pub page_size: PageSize,
 
     /// The OS version and patch level.
@@ -69,7 +69,7 @@ pub struct DtboFields {
     pub recovery_dtbo_size: u32,
 
     /// Its offset in the image. It is kept as read: the order of the sections decides where the
-    /// recovery DTBO stands.
+    /// recovery DTBO is.
     pub recovery_dtbo_offset: u64,
 
     /// The size of this record as its maker gives it. It is kept as read.
@@ -130,7 +130,7 @@ pub enum BootHeader {
 }
 
 impl BootHeader {
-    /// The header whose record stands at the front of these bytes, whatever follows it.
+    /// The header whose record is at the beginning of these bytes, whatever follows it.
     ///
     /// Else the first of these faults: 25 with need 8; 20 where the first eight bytes are not
     /// `ANDROID!`; 25 with need 44; 21 for a version above 4; 25 with the record's size; and in
@@ -146,8 +146,8 @@ impl BootHeader {
         read_boot_header(bytes)
     }
 
-    /// Writes the record to the front of `out`, leaves the bytes behind it as they were, and
-    /// answers the record's size.
+    /// Writes the record to the beginning of `out`, leaves the bytes after it as they were, and
+    /// returns the record's size.
     pub fn encode(&self, out: &mut [u8; 1660]) -> usize
         ensures size { result ≡ boot_size self.now }
         ensures long { length (boot_record self.now) ≡ boot_size self.now }
@@ -197,7 +197,7 @@ impl BootHeader {
         }
     }
 
-    /// Where the sections behind the header stand, in order, empty ones too.
+    /// Where the sections after the header are, in order, empty ones too.
     pub fn sections(&self) -> Sections
         ensures value { result ≡ boot_places self.now }
         ensures low { EachLow (boot_places self.now) }

@@ -1,5 +1,5 @@
-//! From the bytes of a boot header to its fields. All tests come first, so that no field is copied
-//! for a header that is refused.
+//! Reads the fields of a boot header from its bytes. All tests come first, so that no field of a refused header is
+//! copied.
 
 ghost use Rattle.std.specs.Prelude.{◌≡◌, ◌+◌, ◌≤◌, ◌<◌, length, MatchResult};
 ghost use Rattle.abt_headers.specs.Boot.{boot_at, boot_of, dtb_at, dtbo_at, front_at, short_at};
@@ -125,7 +125,7 @@ fn read_version(bytes: &[u8], version: u32) -> Result<BootHeader, HeaderFault>
     }
 }
 
-/// The boot header at the front of these bytes, or the first fault.
+/// The boot header at the beginning of these bytes, or the first fault.
 #[tactic(auto, unfolding(crate::specs::Boot::boot_at))]
 pub(crate) fn read_boot_header(bytes: &[u8]) -> Result<BootHeader, HeaderFault>
     ensures { result ≡ boot_at bytes.now }

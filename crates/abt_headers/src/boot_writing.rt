@@ -1,5 +1,5 @@
-//! From the fields of a boot header to its bytes. The header is lent, and each text goes straight
-//! to its place in the lent array.
+//! Writes the bytes of a boot header from its fields. The header is borrowed. Each text is copied directly to its
+//! place in the borrowed array.
 
 ghost use Rattle.std.specs.Prelude.{◌≡◌, ◌+◌, ◌≤◌, ◌<◌, ◌^◌, ◌++◌, length, drop};
 ghost use Rattle.abt_headers.specs.Boot.{boot_record, boot_size, dtb_fields, dtbo_fields, front_fields};
@@ -87,7 +87,7 @@ fn put_short(out: &mut [u8], version: u32, front: &ShortFront)
     put(out, 44, &front.cmdline);
 }
 
-/// Writes the record of a header to the front, and answers its size.
+/// Writes the record of a header to the beginning, and returns its size.
 #[tactic(auto, unfolding(crate::specs::Boot::boot_record))]
 pub(crate) fn write_boot_header(header: &BootHeader, out: &mut [u8]) -> usize
     requires { 1660 ≤ length out.old }

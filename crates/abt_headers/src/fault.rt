@@ -1,4 +1,4 @@
-//! Why bytes are not a header.
+//! The reasons for which bytes are not a header.
 
 ghost use Rattle.std.specs.Prelude.{◌≡◌};
 ghost use Rattle.abt_headers.specs.Fault.{header_fault_number};

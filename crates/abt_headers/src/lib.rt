@@ -1,26 +1,29 @@
-//! The records at the front of Android boot images: boot headers of versions 0 to 4, vendor boot
-//! headers of versions 3 and 4, and the entries of the vendor ramdisk table, as AOSP's `bootimg.h`
-//! lays them out.
+//! The records at the beginning of Android boot images, in the layout of AOSP's `bootimg.h`: boot headers of versions
+//! 0 to 4, vendor boot headers of versions 3 and 4, and the entries of the vendor ramdisk table.
 //!
-//! A crate above relies on one contract: `decode` answers the header whose record stands at the
-//! front of the bytes, or the first fault in a fixed order; `encode` writes exactly that record;
-//! each undoes the other; and `sections` tells where each section of the image stands. No call
-//! takes memory, and a header is lent wherever it is only looked at.
+//! The contract for the crates above:
 //!
-//! - `boot.rt`: the boot header, its parts by version, and its public calls; `boot_reading.rt`
-//!   and `boot_writing.rt` go between its record and its fields.
-//! - `vendor.rt`, `vendor_reading.rt`, `vendor_writing.rt`: the same for the vendor boot header;
-//!   `vendor_tail.rt` has what its version 4 adds.
-//! - `entry.rt`: an entry of the vendor ramdisk table.
-//! - `os.rt`: the OS version and patch level in one number.
-//! - `page.rt`: the page sizes that a header may give.
-//! - `sections.rt`: the names of sections, and their places in an image.
-//! - `fault.rt`: why bytes are not a header.
-//! - `field.rt`: fields at their places in a record.
+//! - `decode` returns the header whose record is at the beginning of the bytes, or the first fault in a fixed order.
+//! - `encode` writes exactly that record. Each of the two undoes the other.
+//! - `sections` returns where each section of the image is.
 //!
-//! In `specs/`, `Boot`, `Vendor` and `Entry` define the records, field by field, and what reading
-//! them gives; `Places` and `Page` define the layout of an image, and `Os` the bits of an OS
-//! version.
+//! No call allocates memory. A call that only looks at a header borrows it.
+//!
+//! | file | content |
+//! |---|---|
+//! | `boot.rt` | the boot header: its parts by version, and its public calls |
+//! | `boot_reading.rt`, `boot_writing.rt` | its record to its fields, and back |
+//! | `vendor.rt`, `vendor_reading.rt`, `vendor_writing.rt` | the same for the vendor boot header |
+//! | `vendor_tail.rt` | the fields that version 4 adds to the vendor boot header |
+//! | `entry.rt` | an entry of the vendor ramdisk table |
+//! | `os.rt`, `page.rt` | the OS version and the patch level in one number; the page sizes that a header may have |
+//! | `sections.rt` | the names of sections, and their places in an image |
+//! | `fault.rt` | the reasons for which bytes are not a header |
+//! | `field.rt` | fields at their places in a record |
+//!
+//! In `specs/`, `Boot`, `Vendor` and `Entry` define the records, field by field, and what reading them gives.
+//! `Places` and `Page` define the layout of an image, `Os` the bits of an OS version, `Field`, `Fits` and
+//! `VendorFits` the fields and their values, and `Fault` the faults.
 #![tactic(auto)]
 
 mod boot;

@@ -47,7 +47,7 @@ impl OsVersion {
         self.number
     }
 
-    /// Version `a.b.c` with the patch level of a month. Refused as 28 where `a`, `b` or `c` is
+    /// Version `a.b.c` with the patch level of a month. It fails with error 28 where `a`, `b` or `c` is
     /// above 127, the year is not from 2000 to 2127, or the month not from 1 to 12.
     pub fn new(a: u32, b: u32, c: u32, year: u32, month: u32) -> Result<OsVersion, HeaderFault>
         ensures accepts { IsOk result ↔ IsOsVersion (os_of a b c year month) }

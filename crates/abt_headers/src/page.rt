@@ -1,4 +1,4 @@
-//! The page sizes that a header may give.
+//! The page sizes that a header may have.
 
 ghost use Rattle.std.specs.Prelude.{◌≡◌, ◌+◌, ◌≤◌, length};
 ghost use Rattle.abt_headers.specs.Page.{IsPage, page_at, page_bytes, page_from};

@@ -1,4 +1,4 @@
-//! The sections of an image: their names, and the places where they stand.
+//! The sections of an image: their names and their places.
 
 ghost use Rattle.std.specs.Prelude.{◌≡◌, ◌+◌, ◌*◌, ◌≤◌, ◌<◌, ◌^◌, List, length, slice_index_or};
 ghost use Rattle.abt_headers.specs.Page as of_page;
@@ -72,10 +72,10 @@ impl fmt::Display for Section {
     }
 }
 
-/// Where a section stands in an image.
+/// Where a section is in an image.
 #[derive(Clone, Copy, Debug, PartialEq, Eq)]
 pub struct SectionPlace {
-    /// What stands there.
+    /// What is stored there.
     pub kind: Section,
 
     /// The offset of its first byte in the image, a whole number of pages. It may be above 2^32.
@@ -111,7 +111,7 @@ impl Sections {
         self.count
     }
 
-    /// Where section `i` stands, counted from 0.
+    /// Where section `i` is, counted from 0.
     pub fn place(&self, i: usize) -> SectionPlace
         requires { i < length self.now }
         ensures { result ≡ slice_index_or self.now i result }
@@ -131,7 +131,7 @@ pub fn pages(size: u64, page: u32) -> u64
     size.div_ceil(page as u64)
 }
 
-/// How many pages are before the section behind one of this size, which is behind `before` pages itself.
+/// How many pages are before the section after one of this size, which itself follows `before` pages.
 fn pages_before(page: u32, before: u64, size: u32) -> u64
     requires low { 2048 ≤ page }
     requires few { before ≤ 8388614 }
@@ -141,7 +141,7 @@ fn pages_before(page: u32, before: u64, size: u32) -> u64
     before + pages(size as u64, page)
 }
 
-/// Where a section stands that is behind so many pages.
+/// Where a section is that follows so many pages.
 fn place_behind(page: u32, before: u64, section: (Section, u32)) -> SectionPlace
     requires high { page ≤ 131072 }
     requires few { before ≤ 8388614 }
@@ -155,8 +155,8 @@ fn place_behind(page: u32, before: u64, section: (Section, u32)) -> SectionPlace
     }
 }
 
-/// The first five places of sections of these sizes, one behind another, each from a page boundary on and the first
-/// behind `first` pages.
+/// The first five places of sections of these sizes, one after another, each from a page boundary on and the first
+/// after `first` pages.
 fn five_places(page: u32, first: u64, sections: &[(Section, u32); 5]) -> [SectionPlace; 5]
     requires { MayLay page first }
     ensures places { result ≡ places_from page first sections.now }
@@ -175,8 +175,8 @@ fn five_places(page: u32, first: u64, sections: &[(Section, u32); 5]) -> [Sectio
     ]
 }
 
-/// Lays sections of these sizes one behind another, each from a page boundary on and the first
-/// behind `first` pages.
+/// Places sections of these sizes one after another, each from a page boundary on and the first
+/// after `first` pages.
 pub(crate) fn lay(page: u32, first: u64, sections: &[(Section, u32)]) -> Sections
     requires count { length sections.now ≤ 5 }
     requires may { MayLay page first }

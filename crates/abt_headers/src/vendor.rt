@@ -24,7 +24,7 @@ pub const VENDOR_MAGIC: u64 = 0x544f_4f42_5244_4e56;
 /// addresses are physical load addresses.
 #[derive(Clone, Copy, Debug, PartialEq, Eq)]
 pub struct VendorFront {
-    /// The page size of the flash, at whose boundaries the sections stand.
+    /// The page size of the flash, at whose boundaries the sections are.
     pub page_size: PageSize,
 
     /// The address at which the kernel is loaded.
@@ -66,7 +66,7 @@ pub enum VendorHeader {
 }
 
 impl VendorHeader {
-    /// The header whose record stands at the front of these bytes, whatever follows it.
+    /// The header whose record is at the beginning of these bytes, whatever follows it.
     ///
     /// Else the first of these faults: 25 with need 8; 20 where the first eight bytes are not
     /// `VNDRBOOT`; 25 with need 12; 21 for a version other than 3 and 4; 25 with the record's
@@ -85,8 +85,8 @@ impl VendorHeader {
         read_vendor_header(bytes)
     }
 
-    /// Writes the record to the front of `out`, leaves the bytes behind it as they were, and
-    /// answers the record's size.
+    /// Writes the record to the beginning of `out`, leaves the bytes after it as they were, and
+    /// returns the record's size.
     pub fn encode(&self, out: &mut [u8; 2128]) -> usize
         ensures size { result ≡ vendor_size (vendor_view self.now) }
         ensures long { length (vendor_record (vendor_view self.now)) ≡ vendor_size (vendor_view self.now) }
@@ -129,7 +129,7 @@ impl VendorHeader {
         }
     }
 
-    /// Where the sections behind the header stand, in order, empty ones too. At a page size of
+    /// Where the sections after the header are, in order, empty ones too. At a page size of
     /// 2,048 the header takes two pages.
     pub fn sections(&self) -> Sections
         ensures value { result ≡ vendor_places (vendor_view self.now) }

@@ -1,5 +1,5 @@
-//! From the bytes of a vendor boot header to its fields. All tests come first, so that no field is
-//! copied for a header that is refused.
+//! Reads the fields of a vendor boot header from its bytes. All tests come first, so that no field of a refused
+//! header is copied.
 
 ghost use Rattle.std.specs.Prelude.{◌≡◌, ◌≤◌, length, MatchResult, Ok, Err};
 ghost use Rattle.abt_headers.specs.Fault.{needing};
@@ -91,7 +91,7 @@ fn read_version(bytes: &[u8], version: u32) -> Result<VendorHeader, HeaderFault>
     }
 }
 
-/// The vendor boot header at the front of these bytes, or the first fault.
+/// The vendor boot header at the beginning of these bytes, or the first fault.
 #[tactic(auto, unfolding(crate::specs::Vendor::vendor_at))]
 pub(crate) fn read_vendor_header(bytes: &[u8]) -> Result<VendorHeader, HeaderFault>
     ensures { MatchResult result (λ h. vendor_at bytes.now ≡ Ok (vendor_view h)) (λ f. vendor_at bytes.now ≡ Err f) }

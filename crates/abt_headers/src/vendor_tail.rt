@@ -1,4 +1,4 @@
-//! What version 4 adds to the vendor boot header.
+//! The fields that version 4 adds to the vendor boot header.
 
 ghost use Rattle.std.specs.Prelude.{◌≡◌, ◌*◌};
 

@@ -1,5 +1,5 @@
-//! From the fields of a vendor boot header to its bytes. The header is lent, and each text goes
-//! straight to its place in the lent array.
+//! Writes the bytes of a vendor boot header from its fields. The header is borrowed. Each text is copied directly to
+//! its place in the borrowed array.
 
 ghost use Rattle.std.specs.Prelude.{◌≡◌, ◌+◌, ◌≤◌, ◌++◌, length, drop};
 ghost use Rattle.abt_headers.specs.Field.{joined_fields};
@@ -26,7 +26,7 @@ fn front_head(version: u32, front: &VendorFront) -> [u8; 28]
     head
 }
 
-/// The 16 bytes behind the name.
+/// The 16 bytes after the name.
 fn front_end(front: &VendorFront) -> [u8; 16]
     ensures { result ≡ joined_fields (vendor_end front.now) }
 {
@@ -61,7 +61,7 @@ fn put_front(out: &mut [u8], version: u32, front: &VendorFront)
     put(out, 2096, &front_end(front));
 }
 
-/// Writes the record of a header to the front, and answers its size.
+/// Writes the record of a header to the beginning, and returns its size.
 pub(crate) fn write_vendor_header(header: &VendorHeader, out: &mut [u8]) -> usize
     requires { 2128 ≤ length out.old }
     ensures size { result ≡ vendor_size (vendor_view header.now) }

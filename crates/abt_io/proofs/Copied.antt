@@ -12,12 +12,12 @@ copied_more w0 w w' s s' from at d same before e =
     ∙ ap (λ (l : List ℕ). w0 ++ (take at (drop from s) ++ take d l)) (sym (drop-drop at from s))
     ∙ ap (λ (l : List ℕ). w0 ++ l) (take_plus at d (drop from s))
 
--- what is written is a front of the n bytes
+-- what is written is a prefix of the n bytes
 pub as_front_of : (w0 w' l : List ℕ) (k n : ℕ) → w' ≡ w0 ++ take k l → length w' - length w0 ≡ k → k ≤ n → w' ≡ w0 ++ take (length w' - length w0) (take n l)
 as_front_of w0 w' l k n e long le =
     e ∙ ap (λ (x : List ℕ). w0 ++ x) (sym (take-take k n l le)) ∙ ap (λ (j : ℕ). w0 ++ take j (take n l)) (sym long)
 
--- a part of a window whose front is zeros
+-- a part of a window whose beginning is zeros
 pub zeros_part : (bytes part : List ℕ) (front ask : ℕ) → take front bytes ≡ replicate front 0 → part ≡ take ask bytes → ask ≤ front → part ≡ replicate ask 0
 zeros_part bytes part front ask laid e le =
     e ∙ sym (take-take ask front bytes le) ∙ ap (λ (l : List ℕ). take ask l) laid ∙ take-replicate ask front 0 le
@@ -27,7 +27,7 @@ zeros_more w0 w w' part at ask before e same =
     e ∙ ap (λ (l : List ℕ). w ++ l) same ∙ ap (λ (l : List ℕ). l ++ replicate ask 0) before
     ∙ append_assoc w0 (replicate at 0) (replicate ask 0) ∙ ap (λ (l : List ℕ). w0 ++ l) (replicate-append-replicate at ask 0)
 
--- a front of the n zeros, where the last call wrote none
+-- a prefix of the n zeros, where the last call wrote none
 pub zeros_stay : (w0 w w' : List ℕ) (at n : ℕ) → w ≡ w0 ++ replicate at 0 → w' ≡ w ++ [] → at ≤ n → length w ≡ length w0 + at
     → w' ≡ w0 ++ take (length w' - length w0) (replicate n 0)
 zeros_stay w0 w w' at n before e room long =

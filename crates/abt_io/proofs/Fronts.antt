@@ -1,4 +1,4 @@
--- Zeros in the place of what is laid last.
+-- Zeros in the place of what is written last.
 use Rattle.std.proofs.Common.{◌≡◌, ℕ, ◌+◌, ◌≤◌, List, ◌++◌, length, take, replicate, sym, ◌∙◌, ap, arith}
 use Rattle.std.proofs.lemmas.List.{take_all, take-replicate, length-replicate, replicate-append-replicate, length-take-le}
 

@@ -1,4 +1,4 @@
--- What calls leave of what they are lent, one after the other.
+-- What calls leave of what they borrow, one after the other.
 use Rattle.std.proofs.Common.{◌≡◌, ℕ, ◌∙◌, arith, refl, subst, Result, Ok, Err, OnOk}
 use Rattle.std.proofs.Math.Nat.{le_refl, le_trans}
 use Rattle.abt_io.specs.Lent.{OnlyReads, OnlyWrites}
@@ -30,7 +30,7 @@ reads_then {r = r} {s = s} {z = z} k d = record {
   clean = subst (λ (j : ℕ). OnOk r (s.read_faults z ≡ j)) k.clean d.clean;
 }
 
--- what was refused stays so, whatever is answered
+-- what was refused stays so, whatever is returned
 pub reads_err : {X Y E F : Type 0} {e : E} (f : F) {A : Type 0} {s : sources.Ghosts A} {a z : A}
     → OnlyReads {X = X} (Err e) s a z → OnlyReads {X = Y} (Err f) s a z
 reads_err f d = record { content = d.content; size = d.size; frame = d.frame; faults = d.faults; clean = tt }

@@ -7,7 +7,7 @@ use Rattle.abt_io.proofs.Parts.{take_plus}
 use Rattle.std.specs.List.{AllByRecursion}
 use Rattle.abt_io.specs.Moment.{Moment, Past, Keeps, KeepsUnsynced, EachSince, Through, moment_of, wrote, settled, in_range, put_at}
 
--- one moment more, which is now
+-- one state more, which is now
 pub one_more : (old new : Past) (content : List ℕ) → new.moments ≡ moment_of new content ∷ old.moments → EachSince old.moments new.moments (λ m. m ≡ moment_of new content)
 one_more old new content e = record { fresh = moment_of new content ∷ []; joined = e; each = (refl, tt) }
 
@@ -40,7 +40,7 @@ since_then a b c P h k = record {
 pub since_weaker : (a b : List Moment) (P Q : Moment → Type 0) → ((m : Moment) → P m → Q m) → EachSince a b P → EachSince a b Q
 since_weaker a b P Q f h = record { fresh = h.fresh; joined = h.joined; each = All_weaker P Q f h.fresh h.each }
 
--- each moment of the calls is like the last, which has P
+-- each state of the calls is like the last, which has P
 pub since_last : (a b : List Moment) (last : Moment) (P : Moment → Type 0) → P last → EachSince a b (λ m. m ≡ last) → EachSince a b P
 since_last a b last P p = since_weaker a b (λ m. m ≡ last) P (λ m e. subst P (sym e) p)
 
@@ -107,6 +107,6 @@ through_from touched m0 m (n ∷ ns) h k =
     let now = keeps_then touched m0 m n h k.0 in
     (now, through_from touched m0 n ns now k.1)
 
--- each moment of a run keeps what isn't touched as it was at the first
+-- each state of a run keeps what isn't touched as it was at the first
 pub through_all : (touched : ℕ → Bool) (m : Moment) (ns : List Moment) → Through touched m ns → AllByRecursion (Keeps touched m) ns
 through_all touched m ns k = through_from touched m m ns (keeps_same touched m) k

@@ -26,7 +26,7 @@ put' c at x = take at c ++ (x ++ drop (at + length x) c)
 pub put'_is : (c : List ℕ) (at : ℕ) (x : List ℕ) → put' c at x ≡ put_at c at x
 put'_is c at x = sym (append_assoc (take at c) x (drop (at + length x) c))
 
--- within a front
+-- within a prefix
 none_there : (n : ℕ) → length (take {A = ℕ} n []) ≡ 0
 none_there zero = refl
 none_there (suc n) = refl
@@ -53,7 +53,7 @@ before_on c new at place x le fits e =
     let t : length (take place c) ≡ place = length-take-le place c (omega (arith, fits)) in
     ap (take at) (e ∙ sym (put'_is c place x)) ∙ take-append-le at (take place c) (x ++ drop (place + length x) c) (omega (arith, t, le)) ∙ sym (take-append-le at (take place c) (drop place c) (omega (arith, t, le))) ∙ ap (take at) (take-append-drop place c)
 
--- behind what is left out
+-- after what is left out
 drop_put' : (c x : List ℕ) (n k j at e : ℕ) → at ≡ k + n → e ≡ j + n → n ≤ length c → drop n (take at c ++ (x ++ drop e c)) ≡ take k (drop n c) ++ (x ++ drop j (drop n c))
 drop_put' c x zero k j at e here there le =
     ap (λ (i : ℕ). take i c ++ (x ++ drop e c)) (let z : at ≡ k = omega (arith, here) in z) ∙ ap (λ (i : ℕ). take k c ++ (x ++ drop i c)) (let z : e ≡ j = omega (arith, there) in z)
@@ -68,7 +68,7 @@ drop_put c x n at le fits =
     ∙ drop_put' c x n (at - n) (at - n + length x) at (at + length x) (omega (arith, le)) (omega (arith, le)) (omega (arith, le, fits))
     ∙ put'_is (drop n c) (at - n) x
 
--- what a room holds since the last clear, where it is laid over
+-- what a room holds since the last clear, where it is written over
 pub since_put : (room new all x : List ℕ) (used cut at : ℕ) → take used room ≡ drop cut all → new ≡ put_at room (at - cut) x → cut ≤ at → at + length x ≤ length all → take used new ≡ drop cut (put_at all at x)
 since_put room new all x used cut at now e le fits =
     let long : at - cut + length x ≤ length (take used room) = omega (arith, le, fits, ap length now, length-drop cut all) in

@@ -1,4 +1,4 @@
--- A word laid again and again.
+-- A word written again and again.
 use Rattle.std.proofs.Common.{◌≡◌, ℕ, zero, suc, ◌+◌, ◌-◌, ◌*◌, ◌^◌, ◌<◌, ◌≤◌, List, [], ◌∷◌, ◌++◌, length, take, replicate, refl, sym, ap, ◌∙◌, arith, length-append, append_assoc, zero-add, inl, inr, nat_lt, ltb-true, ltb-false}
 use Rattle.std.proofs.lemmas.Bool.{cases_Bool}
 use Rattle.std.specs.List.{concat}
@@ -17,7 +17,7 @@ pub length_words : (n : ℕ) (w : List ℕ) → length w ≡ 4 → length (conca
 length_words zero w l = refl
 length_words (suc n) w l = omega (arith, length-append w (concat (replicate n w)), length_words n w l)
 
--- so many words are a front of more
+-- so many words are a prefix of more
 pub front_words : (d more : ℕ) (w : List ℕ) → length w ≡ 4 → more ≤ d → take (4 * more) (concat (replicate d w)) ≡ concat (replicate more w)
 front_words d more w l le =
     ap (λ (j : ℕ). take (4 * more) (concat (replicate j w))) (let e : d ≡ more + (d - more) = omega arith in e)

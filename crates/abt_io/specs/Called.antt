@@ -1,4 +1,5 @@
--- What one call of a device does, of a type by what it tells as one: for a device that promises more than its trait.
+-- What one call of a device does, stated of a type by that type's own ghost members. It serves a device that promises
+-- more than its trait.
 use Rattle.std.specs.Prelude.{ℕ, List, Result, length, take}
 use Rattle.abt_io.specs.declared.device.DeviceFault.{DeviceFault}
 use Rattle.abt_io.specs.declared.device.Input as inputs

@@ -1,5 +1,5 @@
--- What one call of a device does, whatever it answers. Each record is over what a trait tells of the device, before the
--- call and after it: its first arguments are the trait's ghost members, in the trait's order.
+-- What one call of a device does, whatever it returns. Each record relates the ghost members of a trait before the
+-- call and after it. Its first arguments are these members, in the trait's order.
 use Rattle.std.specs.Prelude.{◌≡◌, ◌<◌, ◌≤◌, ◌+◌, ◌-◌, ◌^◌, ◌++◌, [], ◌∷◌, ℕ, List, Bool, IsTrue, Result, IfOk, IfErr}
 use Rattle.std.specs.Prelude.{OnOk, OnErr, IsErrOf, is_ok, false, if◌then◌else◌, length, take, drop}
 use Rattle.abt_io.specs.declared.device.DeviceFault.{DeviceFault}
@@ -9,8 +9,8 @@ use Rattle.abt_io.specs.Frame.{ReadFrame, WriteFrame, PartitionFrame}
 use Rattle.abt_io.specs.Moment.{Past, Keeps, EachSince, IsNewest, MayLeave, StaysPending, AllPending}
 use Rattle.abt_io.specs.Moment.{in_range, moment_of, put_at}
 
--- One call that reads forward passes over a front of what remains, at most `room` bytes. It passes over none only where
--- there was no room, or nothing remained.
+-- One call that reads forward passes over a prefix of what remains, at most `room` bytes. It passes over none only
+-- where there was no room, or nothing remained.
 pub record HasPassed {A : Type 0} (models : Bool) (its_remaining : A → List ℕ)
     (its_reads its_given its_read_faults : A → ℕ) (its_read_frame : A → ReadFrame) (r : Result ℕ DeviceFault)
     (old new : A) (room : ℕ) : Type 0 where
@@ -26,8 +26,8 @@ pub record HasPassed {A : Type 0} (models : Bool) (its_remaining : A → List �
   pub clean : OnOk r (its_read_faults new ≡ its_read_faults old)
   pub failed : IfErr r (λ e. e ≡ Failed)
 
--- One call that writes appends `taken`, a front of what it was asked to write, of `most` bytes. It takes
--- none only of none. It answers `Full` only where there is no room, before and after.
+-- One call that writes appends `taken`, a prefix of what it was asked to write, of `most` bytes. It takes
+-- none only of none. It returns `Full` only where there is no room, before and after.
 pub record HasWritten {A : Type 0} (its_written : A → List ℕ) (its_is_full : A → Bool)
     (its_writes its_write_faults its_full_faults : A → ℕ) (its_write_frame : A → WriteFrame)
     (r : Result ℕ DeviceFault) (old new : A) (most : ℕ) (taken : List ℕ) : Type 0 where
@@ -43,7 +43,7 @@ pub record HasWritten {A : Type 0} (its_written : A → List ℕ) (its_is_full :
   pub full : IsErrOf r Full → IsTrue (its_is_full old)
   pub still_full : IsErrOf r Full → IsTrue (its_is_full new)
 
--- One call that writes over lays a front of these bytes over what stands at a place.
+-- One call of `write_over` overwrites what is stored at a place with a prefix of these bytes.
 pub record HasWrittenOver {A : Type 0} (its_written : A → List ℕ)
     (its_writes its_write_faults its_full_faults : A → ℕ) (its_write_frame : A → WriteFrame)
     (r : Result ℕ DeviceFault) (old new : A) (at : ℕ) (bytes : List ℕ) : Type 0 where
@@ -58,7 +58,7 @@ pub record HasWrittenOver {A : Type 0} (its_written : A → List ℕ)
   pub full_faults : its_full_faults new ≡ its_full_faults old
   pub failed : IfErr r (λ e. e ≡ Failed)
 
--- One read at a place gives a front of what is there, of which `out` begins with the bytes. It gives none only for an
+-- One read at a place gives a prefix of what is there, of which `out` begins with the bytes. It gives none only for an
 -- empty ask, or where there is nothing.
 pub record HasReadAt {A : Type 0} (models : Bool) (its_content : A → List ℕ)
     (its_size its_reads its_given its_read_faults : A → ℕ) (its_read_frame : A → PartitionFrame)
@@ -78,7 +78,7 @@ pub record HasReadAt {A : Type 0} (models : Bool) (its_content : A → List ℕ)
   pub clean : OnOk r (its_read_faults new ≡ its_read_faults old)
   pub failed : IfErr r (λ e. e ≡ Failed)
 
--- What one write at a place leaves of a partition's bytes, as its moments tell them: a front of the bytes stands there,
+-- What one write at a place leaves of a partition's bytes, in each of its states: a prefix of the bytes is there,
 -- is pending, and may be lost by a crash; nothing outside the range changed.
 pub record HasLaid {A : Type 0} (models : Bool) (its_content : A → List ℕ) (its_past : A → Past)
     (r : Result ℕ DeviceFault) (old new : A) (at : ℕ) (bytes : List ℕ) : Type 0 where

@@ -1,4 +1,4 @@
--- Why a copy is refused: from the counts of faults before and after the call.
+-- Why a copy fails, by the counts of faults before and after the call.
 use Rattle.std.specs.Prelude.{ℕ, ◌<◌, Result, Ok, Err}
 use Rattle.abt_io.specs.Count.{full_in}
 use Rattle.abt_io.specs.declared.copying.CopyFault.{CopyFault}

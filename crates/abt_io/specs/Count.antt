@@ -1,4 +1,4 @@
--- How many bytes a call moved: none where it failed. And whether it answered that the device is full.
+-- How many bytes a call moved (none where it failed), and whether it reported that the device is full.
 use Rattle.std.specs.Prelude.{ℕ, Result, Ok, Err}
 use Rattle.abt_io.specs.declared.device.DeviceFault.{DeviceFault}
 use Rattle.abt_io.specs.declared.device.DeviceFault.TheVariants.{Failed, Full}
@@ -12,7 +12,7 @@ abbrev pub full_in : DeviceFault → ℕ
 full_in Failed = 0
 full_in Full = 1
 
--- 1 for a call that answered so
+-- 1 for a call that returned this
 abbrev pub full_of : {X : Type 0} → Result X DeviceFault → ℕ
 full_of (Ok x) = 0
 full_of (Err e) = full_in e

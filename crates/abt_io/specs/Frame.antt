@@ -1,6 +1,6 @@
--- What a call leaves as it was. A device may be several things: a spool is read and written, a partition is read and
--- written at places. A function that is generic over one of these alone would forget the others, so each call keeps a
--- frame.
+-- What a call leaves unchanged. A device may have several roles: a spool is read and written, a partition is read and
+-- written at places. A function that is generic over one role alone would lose the facts of the others. So each call
+-- keeps a frame.
 use Rattle.std.specs.Prelude.{ℕ, List, [], ◌∷◌, ◌++◌, length}
 use Rattle.abt_io.specs.Moment.{Past, no_past}
 

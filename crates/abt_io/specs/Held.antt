@@ -4,7 +4,7 @@ use Rattle.std.proofs.Common.{ap, ◌∙◌, arith, length-drop}
 use Rattle.std.proofs.lemmas.List.{take_all, drop-drop}
 use Rattle.std.proofs.lemmas.Bool.Decides.{nat_tests}
 
--- it gives what it was given since the last clear, behind what was read
+-- it gives what it was given since the last clear, after what was read
 pub held_is : (now all : List ℕ) (cut seen : ℕ) → now ≡ drop cut all → drop seen now ≡ drop (cut + seen) all
 held_is now all cut seen e = ap (λ (l : List ℕ). drop seen l) e ∙ drop-drop seen cut all
 

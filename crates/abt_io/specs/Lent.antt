@@ -1,4 +1,4 @@
--- What a call leaves of the devices and of the meter that it is lent, whatever it answers.
+-- What a call leaves of the devices and of the meter that it borrows, whatever it returns.
 use Rattle.std.specs.Prelude.{◌≡◌, ℕ, ◌+◌, ◌<◌, ◌≤◌, IsTrue, Result, OnOk, Option, IsNone, IfSome, List, length}
 use Rattle.std.specs.Prelude.{drop, map, max, sum_by}
 use Rattle.abt_io.specs.declared.device.DeviceFault.{DeviceFault}
@@ -27,7 +27,7 @@ pub record OnlyReadsAll {X E : Type 0} (r : Result X E) {A : Type 0} (s : source
     pub clean : OnOk r (sum_by s.read_faults new ≡ sum_by s.read_faults old)
 
 -- An output is only written to: it was given no less, and what no write changes is as it was. Its count of faults does
--- not fall; after an Ok it has not failed. It has answered that it is full as often more as `full` says.
+-- not fall; after an Ok it has not failed. It has reported that it is full as often more as `full` says.
 pub record OnlyWrites {X E : Type 0} (r : Result X E) (full : ℕ) {B : Type 0} (o : outputs.Ghosts B) (old new : B)
     : Type 0 where
   pub least : length (o.written old) ≤ length (o.written new)

@@ -1,4 +1,4 @@
--- What a crash may leave on a partition.
+-- What a crash may leave on a partition. A moment is an intermediate state: the state that one call left.
 use Rattle.std.specs.Prelude.{◌≡◌, ℕ, ◌+◌, Bool, true, false, ◌&&◌, ◌||◌, nat_le, nat_lt, List, [], ◌∷◌, ◌++◌, length}
 use Rattle.std.specs.Prelude.{take, drop, slice_get}
 use Rattle.std.specs.List.{AllByRecursion}
@@ -9,7 +9,7 @@ pub record Moment : Type 0 where
   pub pending : List (ℕ × ℕ)
   pub synced : ℕ
 
--- beside a partition's content: what was written since the last good sync, the good syncs, its moments, newest first
+-- beside a partition's content: what was written since the last good sync, the good syncs, its states, newest first
 pub record Past : Type 0 where
   pub pending : List (ℕ × ℕ)
   pub synced : ℕ
@@ -18,11 +18,11 @@ pub record Past : Type 0 where
 abbrev pub no_past : Past
 no_past = record { pending = []; synced = 0; moments = [] }
 
--- the moment with this content
+-- the state with this content
 abbrev pub moment_of : Past → List ℕ → Moment
 moment_of p content = record { content = content; pending = p.pending; synced = p.synced }
 
--- with one more moment, which is now
+-- with one more state, which is now
 abbrev pub seen_at : Past → List ℕ → Past
 seen_at p content = record p { moments = moment_of p content ∷ p.moments }
 
@@ -51,12 +51,12 @@ AllPending which ranges = (i : ℕ) → which i ≡ true → is_pending ranges i
 abbrev pub StaysPending : List (ℕ × ℕ) → List (ℕ × ℕ) → Type 0
 StaysPending old new = (i : ℕ) → is_pending old i ≡ true → is_pending new i ≡ true
 
--- of moments, newest first: the newest is this one
+-- of states, newest first: the newest is this one
 abbrev pub IsNewest : Moment → List Moment → Type 0
 IsNewest m [] = ⊥
 IsNewest m (n ∷ ns) = n ≡ m
 
--- a crash at this moment may leave q
+-- a crash in this state may leave q
 pub record MayLeave (m : Moment) (q : List ℕ) : Type 0 where
   pub size : length q ≡ length m.content
   pub kept : (i : ℕ) → is_pending m.pending i ≡ false → slice_get q i ≡ slice_get m.content i
@@ -76,13 +76,13 @@ pub record KeepsUnsynced (touched : ℕ → Bool) (m n : Moment) : Type 0 where
 abbrev pub put_at : List ℕ → ℕ → List ℕ → List ℕ
 put_at old at bytes = take at old ++ bytes ++ drop (at + length bytes) old
 
--- of moments, newest first: each that is in `new` and not yet in `old` has P, and nothing was forgotten
+-- of states, newest first: each that is in `new` and not yet in `old` has P, and nothing was forgotten
 pub record EachSince (old new : List Moment) (P : Moment → Type 0) : Type 0 where
   pub fresh : List Moment
   pub joined : new ≡ fresh ++ old
   pub each : AllByRecursion P fresh
 
--- through these moments, the oldest first, each call leaves what isn't touched as it was
+-- through these states, the oldest first, each call leaves what isn't touched as it was
 abbrev pub Through : (ℕ → Bool) → Moment → List Moment → Type 0
 Through touched m [] = Unit {0}
 Through touched m (n ∷ ns) = Keeps touched m n × Through touched n ns

@@ -1,10 +1,10 @@
-//! Runs of bytes: that they are bytes, and copying them from a place and to one.
+//! Facts about byte slices (each item is below 256), and copies from and to a place in a slice.
 
 ghost use Rattle.std.specs.Prelude.{◌≡◌, ◌<◌, ◌≤◌, ◌+◌, ◌-◌, length, min, take, drop};
 ghost use Rattle.abt_io.specs.Bytes.{AreBytes};
 ghost use Rattle.abt_io.specs.Moment.{put_at};
 
-/// Each item of a slice of bytes is below 256, which contracts alone need to be told.
+/// Each item of a slice of bytes is below 256. Only contracts need this fact.
 #[inline(always)]
 pub fn are_bytes(bytes: &[u8])
     ensures { AreBytes bytes.now }

@@ -1,4 +1,4 @@
-//! Bytes from a place of a source to an output, and zeros.
+//! Copies bytes from a place of a source to an output, and writes zeros to an output.
 
 ghost use Rattle.std.specs.Prelude.{◌≡◌, ◌<◌, ◌≤◌, ◌+◌, ◌-◌, ◌*◌, ◌^◌, ◌++◌, IsTrue, IfOk, IfErr, OnOk, OnErr, max};
 ghost use Rattle.std.specs.Prelude.{length, take, drop, replicate};
@@ -21,7 +21,7 @@ pub enum CopyFault {
 }
 
 /// One step: reads at most `ask` bytes from a place on, by one read, and writes what came. It
-/// answers how many came, which is never 0.
+/// returns how many came, which is never 0.
 pub fn copy_step<S: Source, O: Output>(
     source: &mut S,
     at: u64,

@@ -1,11 +1,13 @@
-//! What everything above reads from and writes to: five traits, and why a call of theirs fails.
+//! Five device traits, on which all other crates build, and the reasons why a call fails.
 //!
-//! The ghost members say what contracts know of a device; the records of `specs/Calls` say how each call
-//! changes them. `count_of result` is how many bytes the call moved, 0 where it failed. A call that
-//! answers Ok has not failed: its count of faults is as before. Only a `write` may find its device full;
-//! every other call that fails answers `Failed`. What is said under `IsTrue tells` speaks of bytes, and
-//! binds only a device that tells them. The laws below the last function of a trait hold between any two
-//! calls.
+//! The ghost members are what contracts know of a device. The records of `specs/Calls` state how each call changes
+//! them.
+//!
+//! - `count_of result` is how many bytes the call moved. It is 0 where the call failed.
+//! - A call that returns Ok has not failed: its count of faults is as before.
+//! - Only a `write` may find its device full. Every other call that fails returns `Failed`.
+//! - A clause under `IsTrue models` speaks of bytes. It binds only a device that models its content.
+//! - The laws below the last function of a trait hold between any two calls.
 
 ghost use Rattle.std.specs.Prelude.{◌≡◌, ◌<◌, ◌≤◌, ◌+◌, ◌-◌, ℕ, List, Bool, IsTrue, length, take, drop, replicate};
 ghost use Rattle.abt_io.specs.Bytes.{AreBytes};
@@ -26,12 +28,12 @@ pub enum DeviceFault {
     Full,
 }
 
-/// Gives bytes forward, in any cut. A read answers 0 only for an empty ask, or at the end.
+/// Gives bytes forward, in pieces of any length. A read returns 0 only for an empty request, or at the end.
 pub trait Input {
-    /// It tells its bytes.
+    /// Whether it models its content.
     ghost models: { Bool };
 
-    /// What it still has to give, where it tells.
+    /// What it still has to give, where it models its content.
     ghost remaining: { Self → List ℕ };
 
     /// How many calls it had.
@@ -53,8 +55,8 @@ pub trait Input {
             (length out.new) }
         ensures bytes { IsTrue models → take (count_of result) out.new ≡ take (count_of result) (remaining self.old) };
 
-    /// Passes over the next bytes, at most as many as `room` has room for: a read of which nobody wants the
-    /// bytes. What `room` holds behind it is anything.
+    /// Passes over the next bytes, at most as many as `room` has room for: a read whose bytes nobody wants. After the
+    /// call `room` may hold any bytes.
     fn pass(&mut self, room: &mut [u8]) -> Result<usize, DeviceFault>
         requires { length room.old ≤ 65536 }
         ensures passed { HasPassed models remaining reads given read_faults read_frame result self.old self.new
@@ -63,11 +65,11 @@ pub trait Input {
         self.read(room)
     }
 
-    /// What it tells are bytes.
+    /// The modelled content is a list of bytes.
     ghost are_bytes: { (s : Self) → IsTrue models → AreBytes (remaining s) };
 }
 
-/// Takes bytes, one after another. A write of a nonempty list takes at least 1 of them, from the front.
+/// Takes bytes, one after another. A write of a nonempty list takes at least 1 of them, from its beginning on.
 pub trait Output {
     /// All that was ever written.
     ghost written: { Self → List ℕ };
@@ -81,20 +83,20 @@ pub trait Output {
     /// How often it has failed.
     ghost write_faults: { Self → ℕ };
 
-    /// How often it has answered `Full`.
+    /// How often it has returned `Full`.
     ghost full_faults: { Self → ℕ };
 
     /// What no write changes.
     ghost write_frame: { Self → WriteFrame } = { λ _. writes_alone };
 
-    /// Writes a front of these bytes, and answers how many.
+    /// Writes a prefix of these bytes, and returns how many.
     fn write(&mut self, bytes: &[u8]) -> Result<usize, DeviceFault>
         requires { length bytes.now ≤ 65536 }
         ensures wrote { HasWritten written is_full writes write_faults full_faults write_frame result self.old self.new
             (length bytes.now) (take (count_of result) bytes.now) };
 
-    /// Writes at most so many zeros, as `write` would, and answers how many. `zeros` is what they may be taken
-    /// from: an output that can lay any number of them by one call does, and needs none of it.
+    /// Writes at most `n` zeros, as `write` would, and returns how many. `zeros` is memory that they may be taken
+    /// from; an output that can write any number of zeros by one call needs none of it.
     fn write_zeros(&mut self, n: u64, zeros: &[u8]) -> Result<u64, DeviceFault>
         requires window { length zeros.now ≤ 65536 }
         requires some { 0 < length zeros.now }
@@ -110,12 +112,12 @@ pub trait Output {
     }
 }
 
-/// Gives the bytes at any place. A read answers 0 only for an empty ask, or where there is nothing.
+/// Gives the bytes at any place. A read returns 0 only for an empty request, or where there are no bytes.
 pub trait Source {
-    /// It tells its bytes.
+    /// Whether it models its content.
     ghost models: { Bool };
 
-    /// What it contains, where it tells.
+    /// What it contains, where it models its content.
     ghost content: { Self → List ℕ };
 
     /// How long it says it is.
@@ -138,7 +140,7 @@ pub trait Source {
         ensures size { result ≡ size self.now }
         ensures told { IsTrue models → result ≡ length (content self.now) };
 
-    /// Reads bytes from a place on, at most as many as `out` has room for. A place behind the end gives
+    /// Reads bytes from a place on, at most as many as `out` has room for. A place past the end gives
     /// nothing.
     fn read_at(&mut self, at: u64, out: &mut [u8]) -> Result<usize, DeviceFault>
         requires { length out.old ≤ 65536 }
@@ -148,23 +150,24 @@ pub trait Source {
     /// It is as long as its content.
     ghost sized: { (s : Self) → IsTrue models → size s ≡ length (content s) };
 
-    /// What it tells are bytes.
+    /// The modelled content is a list of bytes.
     ghost are_bytes: { (s : Self) → IsTrue models → AreBytes (content s) };
 }
 
-/// A source that is written at any place within its length, which never changes.
+/// A source that can be written at any place within its length. The length never changes.
 ///
-/// Contracts know its moments: its content, which bytes were pending and how many syncs had succeeded,
-/// as a call left them. Behind a call that succeeds the newest moment is how the partition is now; a
-/// call that fails may add moments too, each as it left the partition.
+/// Contracts know its intermediate states (`moments` in its history). Each is what one call left: the content, the
+/// pending bytes and the number of syncs that had succeeded. After a call that succeeds the newest one is the present
+/// state. A call that fails may add states too, each as it left the partition.
 ///
-/// The bytes that a write took are pending from then on, until a sync succeeds; then none is. The rest
-/// of the range that a write was asked to write may have become pending too; where the write failed, any
-/// bytes may stand in that range. A byte that a write changed is pending, also where the write failed: a
-/// crash may still leave what stood before. No call changes a byte outside, or makes it pending. A crash
-/// leaves every byte that isn't pending as it is, and any value where one is.
+/// - The bytes that a write took are pending until a sync succeeds. Then no byte is pending.
+/// - The rest of the range of a write may have become pending too. Where the write failed, that range may hold any
+///   bytes.
+/// - A byte that a write changed is pending, also where the write failed: a crash may still leave its old value.
+/// - No call changes a byte outside its range, or makes it pending.
+/// - A crash leaves every byte that isn't pending as it is, and any value where one is pending.
 pub trait Partition: Source {
-    /// What it was through: the bytes that are pending, the syncs that succeeded and its moments.
+    /// Its history: the bytes that are pending, the syncs that succeeded and its states.
     ghost past: { Self → Past };
 
     /// How many calls of `write_at` it had.
@@ -179,7 +182,7 @@ pub trait Partition: Source {
     /// How often a `write_at` or a `sync` has failed.
     ghost put_faults: { Self → ℕ };
 
-    /// Writes a front of these bytes at a place, and answers how many. All of them have to fit.
+    /// Writes a prefix of these bytes at a place, and returns how many. All of them have to fit.
     fn write_at(&mut self, at: u64, bytes: &[u8]) -> Result<usize, DeviceFault>
         requires window { length bytes.now ≤ 65536 }
         requires fits { at + length bytes.now ≤ Self.size self.old }
@@ -204,7 +207,7 @@ pub trait Partition: Source {
     } };
 }
 
-/// Is written to, and then read from its front on, each byte once, until it is cleared.
+/// Takes bytes by writes, and gives each of them once by reads, from the first on, until it is cleared.
 pub trait Spool: Input + Output {
     /// How many bytes it has room for.
     ghost size: { Self → ℕ };

@@ -1,4 +1,4 @@
-//! Filling the window with one word, or one byte.
+//! Fills the window with one word, or with one byte.
 
 ghost use Rattle.std.specs.Prelude.{◌≡◌, ◌<◌, ◌≤◌, ◌+◌, ◌*◌, length, take, replicate};
 ghost use Rattle.std.specs.List.{concat};
@@ -9,8 +9,7 @@ use crate::{Meter, Window};
 /// How many words of four bytes the window holds.
 pub const WORDS: usize = 16_384;
 
-/// Lays a word over the first `n` words of the window, by doubling what is laid: in 14 turns at
-/// most.
+/// Fills the first `n` words of the window with one word, by doubling the filled part, in at most 14 turns.
 pub fn lay_word(w: &mut Window, word: [u8; 4], n: usize, m: &mut Meter)
     requires some { 0 < n }
     requires room { n ≤ 16384 }
@@ -30,7 +29,7 @@ pub fn lay_word(w: &mut Window, word: [u8; 4], n: usize, m: &mut Meter)
     }
 }
 
-/// Lays a byte over the first `n` bytes of the window.
+/// Fills the first `n` bytes of the window with one byte.
 pub fn lay_byte(w: &mut Window, n: usize, byte: u8)
     requires { n ≤ 65536 }
     ensures { take n w.new.bytes ≡ replicate n byte }

@@ -1,4 +1,4 @@
-//! A source read as an input, from byte 0 on.
+//! Reads a source as an input, from byte 0 on.
 
 ghost use Rattle.std.specs.Prelude.{◌≡◌, ◌≤◌, ◌+◌, IsTrue, min, length, take, drop};
 ghost use Rattle.abt_io.specs.BytesLaws.{bytes_of_drop};

@@ -1,5 +1,5 @@
-//! An output whose first bytes are laid last, so that no reader takes what was broken off for a whole
-//! image: an image without its magic is none.
+//! An output that writes its first bytes last. An image without its magic is no image, so no reader takes an image
+//! that was broken off for a whole one.
 
 ghost use Rattle.std.specs.Prelude.{◌≡◌, ◌<◌, ◌≤◌, ◌+◌, [], IsTrue, IfErr, OnOk, OnErr};
 ghost use Rattle.std.specs.Prelude.{length, take, replicate};
@@ -12,18 +12,18 @@ use crate::{DeviceFault, Meter, Output, Overwrite, write_over_all};
 /// How many bytes are kept back: those of the longest magic.
 pub const FRONT: usize = 8;
 
-/// Keeps back the first `FRONT` bytes that it is given, and writes zeros in their place, until `finish`
-/// lays them. All that comes behind them goes straight to the output.
+/// Keeps back the first `FRONT` bytes that it is given, and writes zeros in their place, until `finish` writes them.
+/// All later bytes go straight to the output.
 ///
-/// Up to `finish`, zeros stand in the place of all that is kept back: that is a fact of the type.
+/// Until `finish`, the place of all bytes that are kept back holds zeros: that is a fact of the type.
 #[derive(Drop)]
 pub struct FrontLast<O: Overwrite> {
     pub output: O,
-    /// What is kept back, in front.
+    /// The bytes that are kept back, from the beginning of this array on.
     pub front: [u8; FRONT],
     /// How many bytes are kept back.
     pub kept: usize,
-    /// Nothing was laid yet.
+    /// Nothing was written yet.
     pub is_open: bool,
     pub ghost room: { kept ≤ 8 },
     pub ghost stand: { kept ≤ length (O.written output) },
@@ -47,8 +47,8 @@ impl<O: Overwrite> FrontLast<O> {
         }
     }
 
-    /// Lays what was kept back over the zeros in its place, after which nothing is kept back. Where it
-    /// fails, a front of that is laid, shorter than all.
+    /// Overwrites the zeros with the bytes that were kept back, after which none is kept back. Where it fails, a
+    /// prefix of these bytes is written, and not all of them.
     pub fn finish(&mut self, m: &mut Meter) -> Result<(), DeviceFault>
         ensures laid { OnOk result (O.written self.new.output ≡ with_front self.old.front self.old.kept
             (O.written self.old.output)) }

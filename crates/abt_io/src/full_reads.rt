@@ -1,14 +1,14 @@
-//! Reading one ask to its end: from an input, and from a source at a place.
+//! Reads one request to its end, from an input or from a place of a source.
 
 ghost use Rattle.std.specs.Prelude.{◌≡◌, ◌<◌, ◌≤◌, ◌+◌, ◌-◌, ◌^◌, IsTrue, IsNone, min, length, take, drop};
 ghost use Rattle.abt_io.specs.Lent.{ReadsForward, ReadsFrom, ReadCosts};
 
 use crate::{DeviceFault, Input, Meter, Source};
 
-/// How many bytes came, and the fault that the device answered behind them, if there was one.
+/// How many bytes came, and the fault that the device returned after them, if there was one.
 #[derive(Clone, Copy, Debug, PartialEq, Eq, Drop)]
 pub struct FullRead {
-    /// Bytes that came, from the front of the ask on.
+    /// How many bytes came, from the beginning of the request on.
     pub count: usize,
     /// `None` where the ask was filled or the device had no more.
     pub fault: Option<DeviceFault>,

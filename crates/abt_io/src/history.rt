@@ -1,4 +1,4 @@
-//! What a partition was through, which only contracts see. It takes no bytes at run time.
+//! The history of a partition, as a ghost value. Only contracts see it; it takes no bytes at run time.
 
 ghost use Rattle.std.specs.Prelude.{◌≡◌};
 ghost use Rattle.std.specs.Borrow.{ftrue};
@@ -6,7 +6,7 @@ ghost use Rattle.abt_io.specs.Moment.{Past, no_past, wrote, settled};
 
 use std::marker::Model;
 
-/// The ranges that are pending, the syncs that succeeded, and every moment of a partition.
+/// The ranges that are pending, the syncs that succeeded, and every intermediate state of a partition.
 #[derive(Drop)]
 pub struct History {
     pub ghost past: { Past },

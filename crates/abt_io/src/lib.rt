@@ -1,27 +1,37 @@
-//! The devices that all bytes come from and go to, the window that they pass through, and the counts
-//! that say how much work was done.
+//! The devices that all bytes come from and go to, the window that the bytes pass through, and the counts of the work
+//! done.
 //!
-//! **What the layers above rely on** is `device`: five traits, whose clauses say of each call what it
-//! moves, what it leaves as it was, when it fails, and what a crash may leave. Everything above is
-//! generic over them, so what is proved there holds for every device. A device may tell its bytes:
-//! then contracts know its content. One that doesn't, as a file, is still bound by all clauses on
-//! counts, lengths and faults.
+//! **The contract for the layers above** is `device`, with five traits. For each call their clauses state what it
+//! moves, what it leaves unchanged, when it fails, and what a crash may leave. All layers above are generic over
+//! these traits, so their proofs hold for every device. A device may model its content; then contracts know its
+//! bytes. A device that does not, such as a file, is still bound by all clauses on counts, lengths and faults.
 //!
-//! No call of this crate takes memory. Values that only contracts see (`Tally`, `Log`, `History`) take
-//! no bytes at run time and change in no other way than by their own calls. They bind code that is
-//! generic over the traits: a caller that takes a concrete device apart could leave them behind.
+//! No call of this crate allocates memory. The values that only contracts see (`Tally`, `Log`, `History`) take no
+//! bytes at run time, and only their own calls change them. They bind code that is generic over the traits. A caller
+//! that takes a concrete device apart could leave them behind.
 //!
-//! Files, in reading order:
+//! | file, in reading order | content |
+//! |---|---|
+//! | `window.rt` | `Window`, the 65,536 bytes that every call borrows |
+//! | `fill_window.rt` | fills the window with one word, or with one byte |
+//! | `meter.rt`, `tally.rt`, `log.rt`, `history.rt` | what contracts count, with no bytes at run time |
+//! | `device.rt` | the five traits |
+//! | `overwrite.rt` | an output whose bytes can be overwritten |
+//! | `front_last.rt` | an output that writes its first bytes last |
+//! | `full_reads.rt`, `passing.rt`, `write_all.rt`, `copying.rt` | functions that move bytes, generic over the traits |
+//! | `slices.rt` | borrowed memory as a source and as an output, which model their content |
+//! | `bytes.rt` | facts about bytes, which `slices.rt` uses |
+//! | `forward.rt` | a source read as an input, from byte 0 on |
+//! | `laws.rt` | how intermediate states of a partition join |
 //!
-//! - `window`: the 65,536 bytes that are lent down to every call; `laying`: one word, or one byte, all over it.
-//! - `meter`, `tally`, `log`, `history`: what contracts count, with no bytes at run time.
-//! - `device`: the five traits, and `overwrite`, an output that can be written over; `front_last`: one whose first
-//!   bytes are laid last. Their words stand in `specs/`: `Count`, `Bytes`, `Frame` (what a read or a write leaves as it
-//!   was), `Moment` (what a crash may leave), `Over` (what writing over leaves), `Cause` (who failed).
-//! - `full_reads`, `passing`, `writing`, `copying`: the movers, generic over the traits.
-//! - `slices`: lent memory as a source and as an output, which tell their bytes; `bytes` serves them. `forward`: a
-//!   source read from its front.
-//! - `laws`: how moments of a partition join.
+//! | definitions | content |
+//! |---|---|
+//! | `Bytes`, `BytesLaws` | lists that are bytes |
+//! | `Count`, `Calls`, `Called` | how many bytes a call moves, and what each call does |
+//! | `Frame`, `Lent` | what a call leaves unchanged, and what it leaves of the devices that it borrows |
+//! | `Moment` | what a crash may leave |
+//! | `Over`, `Held`, `Window` | what an overwrite leaves, what a spool holds, what the window holds |
+//! | `Cause` | which device failed |
 #![tactic(auto)]
 
 mod bytes;

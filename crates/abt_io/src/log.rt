@@ -1,4 +1,4 @@
-//! All that a device was ever given, which only contracts see. It takes no bytes at run time.
+//! All bytes that a device was given, as a ghost value. Only contracts see it; it takes no bytes at run time.
 
 ghost use Rattle.std.specs.Prelude.{◌≡◌, replicate};
 ghost use Rattle.std.specs.Borrow.{ftrue};
@@ -37,7 +37,7 @@ impl Log {
         ensures { self.new.state ≡ and_bytes self.old.state (replicate _n 0) }
     {}
 
-    /// The device took these bytes over what stood at a place.
+    /// The device took these bytes, which overwrite what was stored at a place.
     #[inline(always)]
     pub fn put(&mut self, _bytes: &[u8], _at: u64)
         ensures { self.new.state ≡ and_put self.old.state _at _bytes.now }

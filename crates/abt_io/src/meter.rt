@@ -1,4 +1,4 @@
-//! What contracts know of the work done.
+//! Counts of the work done, as contracts know it.
 
 ghost use Rattle.std.specs.Prelude.{◌≡◌, ◌+◌, max};
 
@@ -16,8 +16,8 @@ pub struct Meter {
 }
 
 impl Meter {
-    /// Its counts begin anywhere: contracts say by how much they rise. So a call that put a new meter in the
-    /// place of the one that it was lent could promise nothing of what it did.
+    /// Its counts begin anywhere: contracts state by how much they rise. So a call that replaced the borrowed meter
+    /// by a new one could promise nothing about its work.
     pub fn new() -> Meter {
         Meter {
             turns: Tally::new(),

@@ -1,4 +1,4 @@
-//! An output whose written bytes can be written over, and a lent slice as one.
+//! An output whose written bytes can be overwritten, and a borrowed slice as such an output.
 
 ghost use Rattle.std.specs.Prelude.{◌≡◌, ◌≤◌, ◌+◌, length};
 ghost use Rattle.abt_io.specs.Calls.{HasWrittenOver};
@@ -6,17 +6,15 @@ ghost use Rattle.abt_io.specs.Calls.{HasWrittenOver};
 use crate::bytes::put_part;
 use crate::{DeviceFault, Output, SliceOutput};
 
-/// An output whose written bytes can be written over, so that a header is laid once all that it tells
-/// is known.
+/// An output whose written bytes can be overwritten, so that a header is written once all its fields are known.
 ///
-/// Writing over counts as one of the output's `writes`. It makes nothing longer, so it is never
-/// answered `Full`.
+/// An overwrite counts as one of the output's `writes`. It makes nothing longer, so it never fails with `Full`.
 pub trait Overwrite: Output {
     /// How many bytes were written: where the next one goes.
     fn position(&self) -> u64
         ensures { result ≡ length (Self.written self.now) };
 
-    /// Writes a front of these bytes over what stands at a place, and answers how many. All of them
+    /// Overwrites what is stored at a place with a prefix of these bytes, and returns how many. All of them
     /// have to fit there. A refused call moves nothing.
     fn write_over(&mut self, at: u64, bytes: &[u8]) -> Result<usize, DeviceFault>
         requires window { length bytes.now ≤ 65536 }

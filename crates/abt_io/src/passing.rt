@@ -1,4 +1,4 @@
-//! Passing over one ask to its end.
+//! Passes over one request to its end.
 
 ghost use Rattle.std.specs.Prelude.{◌≡◌, ◌≤◌, IsTrue, IsNone, min, length};
 ghost use Rattle.abt_io.specs.Lent.{ReadsForward, ReadCosts};

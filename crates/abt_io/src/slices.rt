@@ -1,4 +1,4 @@
-//! A lent slice as a source, and as an output.
+//! A borrowed slice as a source, and as an output.
 
 ghost use Rattle.std.specs.Prelude.{◌≡◌, ◌<◌, ◌≤◌, ◌-◌, OnOk, OnErr, min, length};
 ghost use Rattle.std.specs.Prelude.{take, drop, true, not, nat_lt, refl};
@@ -9,7 +9,7 @@ ghost use Rattle.abt_io.specs.Count.{count_of};
 use crate::bytes::{are_bytes, read_part};
 use crate::{DeviceFault, Output, Source, Tally};
 
-/// A lent slice to read from, at any place.
+/// A borrowed slice to read from, at any place.
 #[derive(Drop)]
 pub struct SliceSource<'a> {
     pub bytes: &'a [u8],
@@ -63,8 +63,8 @@ impl<'a> Source for SliceSource<'a> {
     }
 }
 
-/// A lent slice to write to, from its front on. It takes as many bytes of a write as have room, and
-/// answers `Full` only to a nonempty write when it has none.
+/// A borrowed slice to write to, from its beginning. It takes as many bytes of a write as have room, and
+/// returns `Full` only to a nonempty write when it has none.
 #[derive(Drop)]
 pub struct SliceOutput<'a> {
     pub room: &'a mut [u8],

@@ -1,4 +1,4 @@
-//! The one buffer that all bytes pass through.
+//! The one buffer through which all bytes pass.
 
 ghost use Rattle.std.specs.Prelude.{◌≡◌, ◌≤◌, ◌-◌, length, take, drop, slice_range, replicate};
 ghost use Rattle.std.specs.Borrow.{sem};
@@ -7,8 +7,8 @@ ghost use Rattle.abt_io.specs.Window.{LendsPart};
 /// How many bytes a window holds, and the most that a device is asked for in one call.
 pub const WINDOW: usize = 65_536;
 
-/// A buffer of `WINDOW` bytes. The program makes one, and lends it down to every call; between two
-/// steps what it holds counts for nothing.
+/// A buffer of `WINDOW` bytes. The program makes one, and every call borrows it. Between two steps its content has no
+/// meaning.
 #[derive(Drop)]
 pub struct Window {
     pub bytes: [u8; WINDOW],
@@ -20,7 +20,7 @@ impl Window {
         Window { bytes: [0; WINDOW] }
     }
 
-    /// A window is this long, which contracts alone need to be told.
+    /// A window is this long. Only contracts need this fact.
     #[inline(always)]
     pub fn is_whole(&self)
         ensures { length self.now.bytes ≡ 65536 }
@@ -28,7 +28,7 @@ impl Window {
         let _bytes: &[u8] = &self.bytes;
     }
 
-    /// The bytes from `a` up to and without `b`, lent and not copied.
+    /// The bytes from `a` up to and without `b`, borrowed and not copied.
     #[inline(always)]
     pub fn part(&self, a: usize, b: usize) -> &[u8]
         requires order { a ≤ b }

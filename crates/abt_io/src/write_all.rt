@@ -1,4 +1,4 @@
-//! Writing all of some bytes: to an output, over what stands in one, and to a place of a partition.
+//! Writes all of some bytes: to an output, over the written bytes of one, or to a place of a partition.
 
 ghost use Rattle.std.specs.Prelude.{◌≡◌, ◌<◌, ◌≤◌, ◌+◌, ◌-◌, ◌^◌, ◌++◌, IsTrue, OnOk, OnErr, IfErr, IsErrOf, length};
 ghost use Rattle.std.specs.Prelude.{take};
@@ -9,7 +9,7 @@ ghost use Rattle.abt_io.specs.Over.{WritesFront};
 
 use crate::{DeviceFault, Meter, Output, Overwrite, Partition};
 
-/// Writes all of these bytes. Where it fails, a front of them is written, as far as `front` says.
+/// Writes all of these bytes. Where it fails, a prefix of them is written, as far as `front` says.
 #[inline(always)]
 pub fn write_out<O: Output>(output: &mut O, bytes: &[u8], m: &mut Meter) -> Result<(), DeviceFault>
     requires { length bytes.now ≤ 65536 }
@@ -85,8 +85,8 @@ pub fn write_all_at<P: Partition>(
     Ok(())
 }
 
-/// Writes all of these bytes over what stands at a place. Where it fails, a front of them is written,
-/// shorter than all.
+/// Overwrites what is stored at a place with all of these bytes. Where it fails, a prefix of them is written, shorter
+/// than all.
 pub fn write_over_all<O: Overwrite>(
     output: &mut O,
     at: u64,

@@ -156,7 +156,7 @@ pub runs_count : (l : List Block) → length (runs l) ≡ chunks_of_kinds kinds.
 runs_count [] = refl
 runs_count (x ∷ l) = runs_behind x l ∙ (let z : suc (chunks_of_kinds (run_kind_of x) l) ≡ 1 + chunks_of_kinds (run_kind_of x) l = omega arith in z)
 
--- a block that goes with the one before it and a block that goes with the one behind it add the same
+-- a block that goes with the one before it and a block that goes with the one after it add the same
 swap : (b : ℕ) (y z : Block) → full b y + (opens_len (run_kind_of y) (run_kind_of z) + copy_len (run_kind_of z) 1 b) ≡ step b y z + full b z
 swap b (Raw x) (Raw y) = omega arith
 swap b (Raw x) (Fill w) = omega arith

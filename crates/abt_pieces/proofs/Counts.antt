@@ -323,7 +323,7 @@ gathers_end charge past given given' d at next n low over fits h =
     let e = entry_most at in
     rw (a, b) (omega (arith, e, fits, h))
 
--- one behind it
+-- one after it
 pub gathers_none : (charge : Cursor → ℕ) (past given : ℕ) (d at n : Cursor) → past ≤ at.block → past ≤ n.block → given +
     gathered_to charge past d at ≤ given + gathered_to charge past d n
 gathers_none charge past given d at n over over' =

@@ -172,7 +172,7 @@ untold : (P : Cursor → Type 0) (T : Cursor → ℕ) (b : ℕ) (l : List Block)
 untold P T b l limit s st (inl e) = rw e tt
 untold P T b l limit s st (inr e) = rw e tt
 
--- a cutter behind a piece more
+-- a cutter after a piece more
 pub told_more : (P : Cursor → Type 0) (T : Cursor → ℕ) (W : Cursor → Type 0) (b n limit made : ℕ) (l : List Block) (start : Cursor) (o : Outline) (old st : CutterStage) → has_more old ≡ true → ToldCutter P T b l limit made start old → SoundOutline W n limit start.block o → n ≡ length l → FirstPiece b l limit start.block o.piece.past → P o.next
     → (o.piece.past ≡ n → st ≡ Done) → (o.piece.past < n → st ≡ Between) → ToldCutter P T b l limit (made + 1) o.next st
 told_more P T W b n limit made l start o old st more h sound same first place done between = record {

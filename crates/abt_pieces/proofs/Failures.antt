@@ -13,7 +13,7 @@ pub writes_as : {X E : Type 0} {r : Result X E} {n k : ℕ} {B : Type 0} {o : ou
     → OnlyWrites r n o a b → OnlyWrites r k o a b
 writes_as {r = r} {o = o} {a = a} {b = b} is w = subst (λ (j : ℕ). OnlyWrites r j o a b) is w
 
--- after an Ok it has not answered that the output is full
+-- after an Ok it has not reported that the output is full
 pub full_at_ok : (st : CutterStage) → ◌≡◌ {A = ℕ} (if has_failed st then 0 else 0) 0
 full_at_ok Between = refl
 full_at_ok (Plan p) = refl
@@ -31,7 +31,7 @@ begun_unfailed (Write o w) begun = refl
 begun_unfailed Done begun = refl
 begun_unfailed (Failed f) begun = absurd cc
 
--- a call that began before a piece stands within it, or where it began
+-- a call that began before a piece is within it, or where it began
 pub full_at_fresh : {A B C : Type 0} (st st' : CutterStage) (f : PieceFault)
     → ((is_begun st ≡ true) × (st' ≡ Between)) ⊎ (A × B × C × (st ≡ st'))
     → (if has_failed st then 0 else full_in_cut f) ≡ (if has_failed st' then 0 else full_in_cut f)

@@ -62,7 +62,7 @@ frame_part l s e i q r r' order within here le part less blocks same next =
       ended = λ h. absurd (let stop : i ≡ length l = part.ended (rw same at h) in omega arith);
     }
 
--- what is behind the segment: don't care up to the end
+-- what follows the segment: don't care up to the end
 pub frame_behind : (l : List Block) (s e i : ℕ) (r : Run) → s ≤ e → e ≤ length l → e ≤ i → i ≤ length l
     → r.blocks ≡ length l - i → r.next.block ≡ i + r.blocks
     → (r.kind ≡ kinds.Skip) ⊎ ((r.kind ≡ kinds.End) × (i ≡ length l)) → PartOf (frame l s e) i r

@@ -1,4 +1,4 @@
--- What is written is a front of what was to come, call after call.
+-- What is written is a prefix of what was to come, call after call.
 use Rattle.std.proofs.Common.{◌≡◌, ℕ, ◌+◌, ◌-◌, ◌≤◌, ◌<◌, List, [], ◌∷◌, ◌++◌, length, take, drop, refl, sym, ap, ◌∙◌}
 use Rattle.std.proofs.Common.{append_assoc, append-nil, arith, length-append, length-drop, Bool, true, false, IsTrue}
 use Rattle.std.proofs.Common.{◌⊎◌, inl, inr}
@@ -39,7 +39,7 @@ pub wrote_rest : (old new x rest rest' : List ℕ) → new ≡ old ++ x → rest
 wrote_rest old new x rest rest' e r = sym (ap (λ (n : ℕ). drop n rest) (grown_by old new x e) ∙ ap
     (λ (y : List ℕ). drop (length x) y) r ∙ drop-append_seam x rest')
 
--- a front of the first of it is a front of it
+-- a prefix of the first of it is a prefix of it
 pub wrote_part : (old new x rest rest' : List ℕ) → new ≡ old ++ take (length new - length old) x → rest ≡ x ++ rest' →
     new ≡ old ++ take (length new - length old) rest
 wrote_part old new x rest rest' e r =

@@ -449,7 +449,7 @@ raw_known P T W reach b n l w c is sound same told =
     let there = frame_take l w.first w.past c.next.block (begins w.gatherer - c.next.block) (omega (arith, h.first, h.order)) (omega (arith, h.until, h.past)) (omega (arith, sound.gathering.past, same)) in
     rw there at (raw_back (frame_of l w) c.here.block c.next.block (begins w.gatherer) h.order h.until t.all)
 
--- a source that tells gives a raw part where a raw run was seen
+-- a source that models its content gives a raw part where a raw run was seen
 pub next_told : (P : Cursor → Type 0) (T : Cursor → ℕ) (W : Cursor → Type 0) (reach : Cursor → ℕ) (b o bytes : ℕ) (l : List Block) (s e u : ℕ) (c : Copying) (r : Run) → s ≤ e → e ≤ length l → AreBlocks b (frame l s e) → IsCopying W reach b s e u bytes c → c.done ≡ c.size → 0 < c.left
     → ToldCopy P T (frame l s e) u c → PartOf l c.next.block r → P r.next → P r.here → r.here.block ≡ c.next.block → (r.kind ≡ kinds.Raw → r.blocks ≤ T r.here) → (r.kind ≡ kinds.Raw → r.blocks ≤ u - c.next.block)
     → (d : Copying) × (next_copying c r b ≡ Some d) × ToldCopy P T (frame l s e) u d × (to_copy o (frame l s e) u (Some d) ≡ to_copy o (frame l s e) u (Some c))
@@ -641,7 +641,7 @@ copied_writer P T W reach b m l w c n is sound same good told room fits =
 pub part_front : (n : ℕ) (ys post : List ℕ) → n ≤ length ys → take (n - 0) (ys ++ post) ≡ take n ys
 part_front n ys post le = ap (λ (m : ℕ). take m (ys ++ post)) (let z : n - 0 ≡ n = omega arith in z) ∙ take-append-le n ys post le
 
--- nothing is left to be written of a source that tells its bytes, where no run is left
+-- nothing is left to be written of a source that models its content, where no run is left
 pub told_whole : (P : Cursor → Type 0) (T : Cursor → ℕ) (W : Cursor → Type 0) (n : ℕ) (l : List Block) (w : Writer) → SoundGatherer W n w.first w.past w.gatherer → n ≡ length l → w.copying ≡ None → is_end w.gatherer.kind ≡ true → ToldWriter P T l w → (w.bytes ≡ 0) × (w.chunks ≡ 0)
 told_whole P T W n l w sound same none end told =
     let f = frame_of l w in

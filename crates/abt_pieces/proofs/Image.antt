@@ -51,7 +51,7 @@ nothing_appended P old new e h = record { wrote = []; behind = e ∙ sym (append
 
 -- ---- the chunk of a run, whatever its bytes are
 
--- a front and bytes behind it are one chunk of q blocks
+-- a prefix and bytes after it are one chunk of q blocks
 pub record OneChunk (b q : ℕ) (x : List ℕ) : Type 0 where
   pub chunk : Chunk
   pub blocks : count chunk ≡ q
@@ -94,7 +94,7 @@ pub no_raw : (raw : List ℕ) → length raw ≡ 0 → raw ≡ []
 no_raw [] e = refl
 no_raw (x ∷ raw) e = absurd (omega arith)
 
--- one chunk in front of others
+-- one chunk before others
 pub joined_chunks : (b k j q : ℕ) (x rest : List ℕ) → OneChunk b q x → AreChunks b k j rest → AreChunks b (suc k) (q + j) (x ++ rest)
 joined_chunks b k j q x rest o h = record {
   chunks = o.chunk ∷ h.chunks;
@@ -106,7 +106,7 @@ joined_chunks b k j q x rest o h = record {
 
 -- ---- a run that has ended
 
--- one chunk more in front, of q blocks
+-- one chunk more, first, of q blocks
 one_more : (b n : ℕ) (w : Writer) (g : Gatherer) (k : RunKind) (q : ℕ) (front t : List ℕ) → w.copying ≡ None → n - begins w.gatherer ≡ q + (n - begins g) → 0 < w.chunks → OneChunk b q (front ++ []) → MayCome b n (front_begun (gathering w g) k) t → MayCome b n w (front ++ t)
 one_more b n w g k q front t none blocks some o h =
     let few : length h.raw ≡ 0 = h.long ∙ ap copy_to_come none in
@@ -232,7 +232,7 @@ can_write : (b m : ℕ) (cs : List Chunk) → AllByRecursion (IsPlain b) cs → 
 can_write b m [] all few le = tt
 can_write b m (c ∷ cs) all few le = (record { is = all.0.is; counts = omega arith; fits = all.0.fits }, can_write b m cs all.1 (omega arith) le)
 
--- chunks behind the header that counts them and their blocks
+-- chunks after the header that counts them and their blocks
 pub chunks_image : (b n k : ℕ) (x : List ℕ) → (0 < b) × (b % 4 ≡ 0) × (b < 2 ^ 32) → n < 2 ^ 32 → k < 2 ^ 32 → AreChunks b k n x → IsPlainImage b n (header_record (plain_header b n k) ++ x)
 chunks_image b n k x good few fewer a =
     let cs = a.chunks in
@@ -254,7 +254,7 @@ header_leads b n r start o old new good few fewer written = record {
 header_long : (h : Header) → length (header_record h) ≡ 28
 header_long h = refl
 
--- a header whose front of 28 bytes is written is whole
+-- a header whose first 28 bytes are written is whole
 pub whole_header : (h : Header) (old new : List ℕ) → new ≡ old ++ take (length new - length old) (header_record h) → length new ≡ length old + 28 → new ≡ old ++ header_record h
 whole_header h old new front whole =
     let all : take (length new - length old) (header_record h) ≡ header_record h = take_all (length new - length old) (header_record h) (omega (arith, header_long h, whole)) in

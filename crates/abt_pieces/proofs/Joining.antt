@@ -58,7 +58,7 @@ calls_most : (g0 g1 g2 w0 w1 w2 r0 r1 r2 o0 o1 o2 s : ℕ) → g0 ≤ g1 → g1 
 calls_most g0 g1 g2 w0 w1 w2 r0 r1 r2 o0 o1 o2 s a b c d reads writes step step' = omega
     (arith, a, b, c, d, reads, writes, step, step')
 
--- the step that ends the call, behind those that went on
+-- the step that ends the call, after those that went on
 pub costs_join : (one words silent : ℕ) (a y z : Devices) (m m' tick m'' : Meter) → CutStepCosts words (3 * one) y z
     tick m'' → a.given ≤ y.given → a.written ≤ y.written → y.given + 65536 * m.steps.number ≤ a.given + 65536 *
     m'.steps.number → m'.greatest.number ≤ max m.greatest.number 65536

@@ -207,7 +207,7 @@ run_cut b r kinds.Skip g some all more good =
     record { bytes = x.0; count = x.1; long = x.2; head = long }
 run_cut b r kinds.End g some all more good = absurd (omega (arith, more, ap length all))
 
--- the first run, in front of the others
+-- the first run, before the others
 pub record FirstCut (b r : ℕ) (k : RunKind) (g rest whole : List Block) : Type 0 where
   pub bytes : bytes_of r whole ≡ run_front k (length g) ++ (run_rest k r g ++ bytes_of r rest)
   pub count : length (chunks_of r whole) ≡ chunks_in k (length g) r + length (chunks_of r rest)

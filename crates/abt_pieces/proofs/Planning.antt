@@ -415,7 +415,7 @@ no_room t k q b room some raw behind little fits =
 
 -- ---- a piece that is planned
 
--- the numbers with what is skipped behind the segment
+-- the numbers with what is skipped after the segment
 pub outlined : (b : ℕ) (l : List Block) (p : Planner) → AreBlocks b l → Planned b l p → (c : PieceContents) →
     (p.at.block < length l → c ≡ with_blocks p.contents (last_kind p.tail p.at.block) kinds.Skip (length l - p.at.block)
     b) → (length l ≤ p.at.block → c ≡ p.contents)
@@ -458,7 +458,7 @@ outlined b l p good plan c more none = elim (cases_Bool (nat_lt p.at.block (leng
         let f = framed p.first (between l p.first p.at.block) (length l - p.at.block) in
         (h.chunks ∙ sym (runs_count f), h.written, h.bytes ∙ sym (length_is b f good_frame))
 
--- no block follows behind the last one
+-- no block follows after the last one
 pub ends_last : (b limit : ℕ) (l : List Block) (p : Planner) → p.at.block ≡ length l → PlanEnds b l limit p
 ends_last b limit l p e = record {
   over = λ x more is. absurd

@@ -177,7 +177,7 @@ spent_next Is charge copied held b u t e given given' c c' r low whole p is h =
 
 -- ---- bytes of a raw run
 
--- where the last byte of a run is copied, its last part is whole, and ends before the block behind it
+-- where the last byte of a run is copied, its last part is whole, and ends before the block after it
 run_ends : (W : Cursor → Type 0) (reach : Cursor → ℕ) (b s e u bytes n : ℕ) (c : Copying) → 0 < b → IsCopying W reach b s e u bytes c → c.done + n ≤ c.size → 0 < n → c.after ≡ 0 → c.left ≡ n → (c.next.block ≡ u) × (c.here.block < u)
 run_ends W reach b s e u bytes n c some h fits any last all =
     let m = mul_split c.here.block c.next.block u b h.order h.until in

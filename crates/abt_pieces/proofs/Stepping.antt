@@ -136,9 +136,9 @@ piece_covers_plan one n e = elim (cases_Bool (nat_lt (e + 1) n)) [
   ]
 ]
 
--- ---- behind a piece
+-- ---- after a piece
 
--- how a cutter stands behind a piece of an image of n blocks that ends before block e
+-- how a cutter is after a piece of an image of n blocks that ends before block e
 pub record Behind (n e : ℕ) (st : CutterStage) : Type 0 where
   pub end : e ≤ n
   pub done : e ≡ n → st ≡ Done

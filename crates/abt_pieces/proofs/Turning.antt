@@ -1,4 +1,4 @@
--- The next piece is the one behind those that are made.
+-- The next piece is the one after those that are made.
 use Rattle.std.proofs.Common.{◌≡◌, ℕ, zero, suc, ◌+◌, ◌-◌, nat_le, Bool, List, [], ◌∷◌, ◌++◌, length, map, take, drop, refl, sym, ap, ◌∙◌, arith, length-append, length-drop}
 use Rattle.std.proofs.lemmas.List.{length-take-le, take_at, drop_at, drop-map}
 use Rattle.std.proofs.lemmas.List.Concat.{flat_map-append}

@@ -1,4 +1,4 @@
--- The bytes of a chunk: what stands in front of its blocks, and the blocks.
+-- The bytes of a chunk: what comes before its blocks, and the blocks.
 use Rattle.std.proofs.Common.{◌≡◌, ℕ, zero, suc, ◌+◌, ◌-◌, ◌*◌, ◌<◌, ◌≤◌, List, [], ◌∷◌, ◌++◌, length, map, take, drop, replicate, refl, sym, ap, ◌∙◌, append-nil, arith, length-append, length-drop}
 use Rattle.std.specs.List.{AllByRecursion, concat}
 use Rattle.std.specs.Int.{w16, to_le_bytes}
@@ -54,7 +54,7 @@ raw-append g h = flat_map-append raw_bytes g h
 
 -- ---- the chunk of a run
 
--- the bytes of the blocks that stand in the chunk
+-- the bytes of the blocks in the chunk
 abbrev pub run_data : RunKind → List Block → List ℕ
 run_data kinds.Raw g = raw_of g
 run_data (kinds.Fill w) g = []
@@ -123,7 +123,7 @@ raw_front l s m e low high h = raws_front (between l s m) (between l m e) (rw (b
 pub raw_long : (b : ℕ) (l : List Block) (s e : ℕ) → e ≤ length l → AllOf kinds.Raw (between l s e) → AreBlocks b l → length (raw_of (between l s e)) ≡ (e - s) * b
 raw_long b l s e within h good = length_raw b (between l s e) h (blocks_take b (e - s) (drop s l) (blocks_drop b s l good)) ∙ ap (λ (n : ℕ). n * b) (length-take-le (e - s) (drop s l) (omega (arith, length-drop s l)))
 
--- behind the bytes of the first blocks come those of the others
+-- after the bytes of the first blocks come those of the others
 pub raw_behind : (b : ℕ) (l : List Block) (s m e n : ℕ) → s ≤ m → m ≤ e → e ≤ length l → AllOf kinds.Raw (between l s e) → AreBlocks b l → n ≡ (m - s) * b → drop n (raw_of (between l s e)) ≡ raw_of (between l m e)
 raw_behind b l s m e n low high within h good size =
     let long = raw_long b l s m (omega arith) (raw_front l s m e low high h) good in

@@ -1,4 +1,4 @@
--- That a cutter is sound has one proof at most, where that a place is within the image has.
+-- The invariant of a cutter has at most one proof, where the fact that a place is within the image has at most one.
 use Rattle.std.specs.Prelude.{ℕ, Option, Some, None}
 use Rattle.std.proofs.Props.{props}
 use Rattle.abt_runs.specs.declared.part.Cursor.{Cursor}

@@ -1,4 +1,4 @@
--- What a call that writes an image, or a piece of one, of a source has failed and costs.
+-- When a call that writes an image, or a piece of one, has failed, and what it costs.
 use Rattle.std.specs.Prelude.{◌≡◌, ℕ, ◌+◌, ◌-◌, ◌*◌, ◌≤◌, length, max, Result, OnOk, IfErr}
 use Rattle.abt_io.specs.Lent.{OnlyReads, OneStep}
 use Rattle.abt_io.specs.declared.device.Source as sources
@@ -49,7 +49,7 @@ pub record CallCosts (n : ℕ) (a z : Devices) (m m' : Meter) : Type 0 where
   pub calls : z.reads + z.writes ≤ a.reads + a.writes + 8 * ((z.given - a.given) + (z.written - a.written) + n) + 512
   pub turns : m'.turns.number ≤ m.turns.number + 8 * ((z.given - a.given) + (z.written - a.written) + n) + 512
 
--- The same of one piece. Where telling the class of a block reads `one` bytes, its word may be looked through three
+-- The same of one piece. Where finding the class of a block reads `one` bytes, its word may be looked through three
 -- times.
 pub record PieceCosts (one : ℕ) (a z : Devices) (m m' : Meter) : Type 0 where
   pub given : a.given ≤ z.given

@@ -1,4 +1,4 @@
--- What a piece holds, counted from left to right as its blocks are passed.
+-- The content of a piece, counted from left to right as its blocks are passed.
 use Rattle.std.specs.Prelude.{◌≡◌, ℕ, ◌+◌, ◌*◌, List, [], ◌∷◌, zero, suc, if◌then◌else◌}
 use Rattle.abt_sparse.specs.Block.{Block, Raw, Fill, Skip}
 use Rattle.abt_runs.specs.declared.part.RunKind.{RunKind}
@@ -11,7 +11,7 @@ run_kind_of (Raw x) = kinds.Raw
 run_kind_of (Fill w) = kinds.Fill w
 run_kind_of Skip = kinds.Skip
 
--- one chunk more, behind this class
+-- one chunk more, after this class
 abbrev pub opens : RunKind → RunKind → ℕ
 opens j k = if alike_kinds j k then 0 else 1
 
@@ -39,7 +39,7 @@ held (kinds.Fill w) q = q
 held kinds.Skip q = 0
 held kinds.End q = 0
 
--- with q blocks of class k more, behind class j
+-- with q blocks of class k more, after class j
 abbrev pub with_blocks : PieceContents → RunKind → RunKind → ℕ → ℕ → PieceContents
 with_blocks c j k q b = record {
   chunks = c.chunks + opens j k;
@@ -52,7 +52,7 @@ abbrev pub contents_before : ℕ → PieceContents
 contents_before zero = record { chunks = 0; written = 0; bytes = 28 }
 contents_before (suc n) = record { chunks = 1; written = 0; bytes = 40 }
 
--- ---- the same of lists, behind class j
+-- ---- the same of lists, after class j
 
 abbrev pub chunks_of_kinds : RunKind → List Block → ℕ
 chunks_of_kinds j [] = 0
@@ -71,7 +71,7 @@ abbrev pub last_of : RunKind → List Block → RunKind
 last_of j [] = j
 last_of j (x ∷ l) = last_of (run_kind_of x) l
 
--- the numbers of a piece of these blocks; End stands for nothing, since no block is like it
+-- the numbers of a piece of these blocks; End means none, since no block is like it
 pub record IsContents (b : ℕ) (l : List Block) (c : PieceContents) : Type 0 where
   pub chunks : c.chunks ≡ chunks_of_kinds kinds.End l
   pub written : c.written ≡ written_in l

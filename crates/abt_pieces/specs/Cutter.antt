@@ -1,4 +1,4 @@
--- Where a cutter stands, between pieces and within one.
+-- The state of a cutter, between pieces and within one.
 use Rattle.std.specs.Prelude.{◌≡◌, ℕ, ◌+◌, ◌-◌, ◌*◌, ◌/◌, ◌^◌, ◌≤◌, ◌<◌, Bool, true, false, List, [], ◌++◌, length}
 use Rattle.std.specs.Prelude.{drop, nat_le, None, ⊤, Result, Ok, Err, if◌then◌else◌, nat_lt}
 use Rattle.abt_sparse.specs.Block.{Block}
@@ -20,7 +20,7 @@ use Rattle.abt_pieces.specs.declared.stage.CutterStage.TheVariants.{Between, Pla
 use Rattle.abt_pieces.specs.declared.stage.PieceProgress.{PieceProgress}
 use Rattle.abt_pieces.specs.declared.stage.PieceProgress.TheVariants as answers
 
--- how many blocks a raw run of a piece has at most, behind two headers and the piece's own
+-- how many blocks a raw run of a piece has at most, after two headers and the piece's own
 abbrev pub most_raw : ℕ → ℕ → ℕ
 most_raw b limit = (limit - 40) / b
 
@@ -45,7 +45,7 @@ has_more (Write o w) = true
 has_more Done = false
 has_more (Failed f) = true
 
--- a piece is begun: the last step answered that it goes on
+-- a piece is begun: the last step returned that it goes on
 abbrev pub is_begun : CutterStage → Bool
 is_begun Between = false
 is_begun (Plan p) = true
@@ -54,7 +54,7 @@ is_begun (Write o w) = true
 is_begun Done = false
 is_begun (Failed f) = false
 
--- a call has refused, and each further one answers that again
+-- a call has refused, and each further one returns that again
 abbrev pub has_failed : CutterStage → Bool
 has_failed Between = false
 has_failed (Plan p) = false
@@ -63,7 +63,7 @@ has_failed (Write o w) = false
 has_failed Done = false
 has_failed (Failed f) = true
 
--- how often more a call answers that the output is full: one that answers a fault again calls no output
+-- how often more a call reports that the output is full: one that returns a fault again calls no output
 abbrev pub full_at : {X : Type 0} → CutterStage → Result X PieceFault → ℕ
 full_at st r = if has_failed st then 0 else full_cut r
 
@@ -76,7 +76,7 @@ so_far (Write o w) = o.piece.bytes - w.bytes
 so_far Done = 0
 so_far (Failed f) = 0
 
--- ---- what a step answers
+-- ---- what a step returns
 
 abbrev pub has_more_to_cut : Result PieceProgress PieceFault → Bool
 has_more_to_cut (Ok answers.More) = true
@@ -96,7 +96,7 @@ abbrev pub OnPiece : Result PieceProgress PieceFault → (Piece → Type 0) → 
 OnPiece (Ok (answers.Piece p)) P = P p
 OnPiece r P = ⊤
 
--- behind a piece from block s up to e, of an image of n blocks: only the last piece ends with the image, and each
+-- after a piece from block s up to e, of an image of n blocks: only the last piece ends with the image, and each
 -- other one has a block
 pub record Passed (n s e : ℕ) (st : CutterStage) : Type 0 where
   pub moves : e < n → s < e
@@ -167,7 +167,7 @@ pub record SoundCutter (W : Cursor → Type 0) (reach K : Cursor → ℕ) (n b l
   pub stage : SoundStage W reach n b limit start.block st
   pub taken : TakenStage K b limit start st
 
--- ---- what is known of a source that tells its bytes
+-- ---- what is known of a source that models its content
 
 -- what is still to come of the piece that begins at block s
 abbrev pub coming : ℕ → ℕ → List Block → ℕ → CutterStage → List ℕ

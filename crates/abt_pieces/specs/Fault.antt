@@ -1,4 +1,4 @@
--- The numbers of faults, and what causes each.
+-- The numbers of faults, and the cause of each.
 use Rattle.std.specs.Prelude.{◌≡◌, ◌<◌, ℕ, Bool, false, Result, Ok, Err}
 use Rattle.abt_io.specs.Count.{full_in}
 use Rattle.abt_io.specs.declared.device.DeviceFault.TheVariants.{Failed}
@@ -24,7 +24,7 @@ fault_of_run (of_runs.Sparse f) = SourceChanged
 fault_of_run (of_runs.BadBlock n) = BadBlock n
 
 -- While a piece is planned or written a device has failed, the source with the reason that is handed on, or a source
--- that does not tell its bytes has changed.
+-- that does not model its content has changed.
 abbrev pub CutCause : PieceFault → Bool → ℕ → ℕ → ℕ → ℕ → Type 0
 CutCause (Read f) models reads reads' writes writes' = (reads < reads') × (f ≡ Failed)
 CutCause (Write f) models reads reads' writes writes' = writes < writes'

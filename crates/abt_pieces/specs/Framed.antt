@@ -27,7 +27,7 @@ pub record PartFound {R : Type 0} (g : images.Ghosts R) (image : R) (past : ℕ)
       ≤ charge_and_copied (g.charge image) (g.copied image) r.here)
       × (g.charge image (afresh r.here) ≤ g.charge image r.here) × (r.here.used ≤ at.used)
 
--- of a source that tells
+-- of a source that models its content
 pub record PartTold {R A : Type 0} (g : images.Ghosts R) (s : sources.Ghosts A) (image : R) (source source' : A)
     (first past : ℕ) (at : Cursor) (r : Run) : Type 0 where
   pub part : PartOf (frame (g.list image (s.content source)) first past) at.block r

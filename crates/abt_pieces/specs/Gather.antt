@@ -11,17 +11,17 @@ use Rattle.abt_pieces.specs.Plan.{between}
 use Rattle.abt_runs.specs.Whole.{alike_kinds}
 use Rattle.abt_pieces.specs.declared.gather.Gatherer.{Gatherer}
 
--- the blocks of the piece from s up to e: skipped ones stand for all others
+-- the blocks of the piece from s up to e: skipped ones in the place of all others
 abbrev pub frame : List Block → ℕ → ℕ → List Block
 frame l s e = framed s (between l s e) (length l - e)
 
--- The blocks of the open run are of its class, and not yet all that stand together.
+-- The blocks of the open run are of its class, and not yet all adjacent ones.
 pub record Gathered (l : List Block) (g : Gatherer) : Type 0 where
   pub behind : g.count ≤ g.at.block
   pub within : g.at.block ≤ length l
   pub all : AllOf g.kind (between l (g.at.block - g.count) g.at.block)
 
--- The run r is the first of what was left, and the next one begins behind it, if there is one.
+-- The run r is the first of what was left, and the next one begins after it, if there is one.
 pub record Closed (l : List Block) (old new : Gatherer) (r : Run) : Type 0 where
   pub first : runs (drop (old.at.block - old.count) l)
       ≡ between l (old.at.block - old.count) old.at.block ∷ runs (drop old.at.block l)
@@ -54,7 +54,7 @@ pub record SoundGatherer (W : Cursor → Type 0) (n s e : ℕ) (g : Gatherer) : 
   pub ended : is_end g.kind ≡ true → (g.count ≡ 0) × (g.at.block ≡ n)
   pub raw : g.kind ≡ kinds.Raw → 0 < g.count → RawFrom W s e g
 
--- What a gatherer knows of a source that tells its bytes.
+-- What a gatherer knows of a source that models its content.
 pub record ToldGatherer (P : Cursor → Type 0) (l : List Block) (s e : ℕ) (g : Gatherer) : Type 0 where
   pub gathered : Gathered (frame l s e) g
   pub place : g.at.block < e → P g.at
@@ -83,7 +83,7 @@ abbrev pub look_left : (Cursor → ℕ) → ℕ → ℕ → Gatherer → ℕ
 look_left left n past g =
     if nat_lt g.at.block past then left g.at + 3 else if nat_lt g.at.block n then 2 else if is_end g.kind then 0 else 1
 
--- how many of these may read nothing: the part behind the segment, and the end
+-- how many of these may read nothing: the part after the segment, and the end
 abbrev pub silent_left : ℕ → ℕ → Gatherer → ℕ
 silent_left n past g = look_left (λ c. 0) n past g
 

@@ -1,5 +1,5 @@
--- What a piece is whatever the source gave: a sparse image of all blocks. And what may still come of one that is being
--- written.
+-- Whatever the source gave, a piece is a sparse image of all blocks. And what may still follow in a piece that is
+-- being written.
 use Rattle.std.specs.Prelude.{◌≡◌, ℕ, ◌+◌, ◌-◌, ◌^◌, ◌<◌, List, [], ◌++◌, length, Option, Some, None}
 use Rattle.std.specs.List.{flat_map, AllByRecursion}
 use Rattle.abt_sparse.specs.Chunk.{Chunk, IsChunk, data_of, plain, plain_header}
@@ -10,22 +10,22 @@ use Rattle.abt_pieces.specs.declared.write.Writer.{Writer}
 use Rattle.abt_pieces.specs.declared.stage.CutterStage.{CutterStage}
 use Rattle.abt_pieces.specs.declared.stage.CutterStage.TheVariants.{Between, Plan, Begin, Write, Done, Failed}
 
--- behind `old` stands more in `new`, of which P is so
+-- after `old` there is more in `new`, of which P is so
 pub record Appended (P : List ℕ → Type 0) (old new : List ℕ) : Type 0 where
   pub wrote : List ℕ
   pub behind : new ≡ old ++ wrote
   pub is : P wrote
 
--- Q may come behind what was written since: then P came behind what was there before
+-- Q may follow what was written since: then P came after what was there before
 abbrev pub Leads : (List ℕ → Type 0) → (List ℕ → Type 0) → List ℕ → List ℕ → Type 0
 Leads P Q old new = Appended (λ x. (t : List ℕ) → Q t → P (x ++ t)) old new
 
--- x is a sparse image of n blocks of b bytes, with as many chunks as its header says, and nothing behind it
+-- x is a sparse image of n blocks of b bytes, with as many chunks as its header says, and nothing after it
 pub record IsPlainImage (b n : ℕ) (x : List ℕ) : Type 0 where
   pub chunks : List Chunk
   pub spelled : Spells x (plain_header b n (length chunks)) chunks []
 
--- a chunk that is spelled plainly
+-- a chunk that is encoded plainly
 pub record IsPlain (b : ℕ) (c : Chunk) : Type 0 where
   pub is : IsChunk b c
   pub fits : 12 + length (data_of c) < 2 ^ 32
@@ -48,7 +48,7 @@ abbrev pub blocks_to_come : Option Copying → ℕ
 blocks_to_come None = 0
 blocks_to_come (Some c) = c.after
 
--- t may come behind what is written: the rest of the open chunk, and all chunks still to be begun, with all blocks that
+-- t may follow what is written: the rest of the open chunk, and all chunks still to be begun, with all blocks that
 -- are left
 pub record MayCome (b n : ℕ) (w : Writer) (t : List ℕ) : Type 0 where
   pub raw : List ℕ

@@ -30,8 +30,8 @@ pub record KeepsPlace {X R : Type 0} (r : Result X PieceFault) (image image' : R
   pub rest : (limit' ≡ limit) × (start' ≡ start) × (made' ≡ made)
   pub refused : IfErr r (λ e. st' ≡ Failed e)
 
--- A call that reads for the next piece leaves the cutter so, with what it knows of a source that tells; it refuses for
--- good.
+-- A call that reads for the next piece leaves the cutter so, with what it knows of a source that models its content; it
+-- refuses for good.
 pub record LeavesCutter {R A : Type 0} (g : images.Ghosts R) (s : sources.Ghosts A) {X : Type 0}
     (r : Result X PieceFault) (runs runs' : R) (limit limit' made' : ℕ) (start' : Cursor) (st' : CutterStage)
     (old new : A)
@@ -42,7 +42,7 @@ pub record LeavesCutter {R A : Type 0} (g : images.Ghosts R) (s : sources.Ghosts
       (g.size runs) (g.list runs (s.content old)) limit' made' start' st'
   pub refused : IfErr r (λ e. st' ≡ Failed e)
 
--- The piece p goes from the block where the cutter stood to the one where it stands now, of the n blocks of the image;
+-- The piece p goes from the block where the cutter was to the one where it is now, of the n blocks of the image;
 -- one piece more was made.
 pub record IsNext (n limit first next made made' : ℕ) (st : CutterStage) (p : Piece) : Type 0 where
   pub passed : Passed n p.first p.past st
@@ -52,15 +52,15 @@ pub record IsNext (n limit first next made made' : ℕ) (st : CutterStage) (p : 
   pub most : p.bytes ≤ limit
   pub one_more : made' ≡ made + 1
 
--- Behind what stood there, the piece p of these blocks: the one that the limit allows from this block on.
+-- After what was stored there, the piece p of these blocks: the one that the limit allows from this block on.
 pub record LaidNext (b limit : ℕ) (l : List Block) (first : ℕ) (p : Piece) (old new : List ℕ) : Type 0 where
   pub written : new ≡ old ++ piece b (piece_blocks l p)
   pub coming : new ≡ old ++ piece_at b limit l first
   pub exact : IsPieceOf b l p
   pub greatest : FirstPiece b l limit p.first p.past
 
--- Whatever the source gave, the piece p was written behind what stood there: an image, as long as it says. The source
--- had given d bytes before, and d' then.
+-- Whatever the source gave, the piece p was written after what was stored there: an image, as long as it says. The
+-- source had given d bytes before, and d' then.
 pub record PieceMade {R : Type 0} (g : images.Ghosts R) (runs : R) (limit : ℕ) (start start' : Cursor)
     (made made' : ℕ) (st' : CutterStage) (d d' : ℕ) (old new : List ℕ) (m m' : Meter) (p : Piece) : Type 0 where
   pub image : Appended (IsPlainImage (g.size runs) (g.count runs)) old new

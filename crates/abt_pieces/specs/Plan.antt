@@ -82,7 +82,7 @@ pub record Even (p : Planner) : Type 0 where
   pub least : 28 ≤ p.contents.bytes
   pub slim : Slim p.tail p.at.block p.contents.bytes p.weight
 
--- a plan of an image of so many blocks can rest where it stands
+-- a plan of an image of so many blocks can rest where it is
 pub record RestsWithin (count : ℕ) (p : Planner) : Type 0 where
   pub even : Even p
   pub room : p.weight < 2 ^ 32

@@ -36,7 +36,7 @@ pub record Charged (charge : Cursor → ℕ) (one n : ℕ) (from to : Cursor) (p
   pub charged : d' + charge from ≤ d + charge to + 48 + one
   pub charged_end : n ≤ past → d' + charge from ≤ d + charge to + 16
 
--- The plan that stood at the place `at` goes on or has ended, and the stage is st.
+-- The plan that was at the place `at` goes on or has ended, and the stage is st.
 pub record PlanStaged {R : Type 0} (g : images.Ghosts R) (image : R) (limit : ℕ) (start at : Cursor) (st : CutterStage)
     (d d' : ℕ) (m m' : Meter) : Type 0 where
   pub begun : (is_begun st ≡ true) × (so_far st ≡ 0)

@@ -1,5 +1,5 @@
--- What stands before a call that plans, gathers, writes or cuts: the numbers of what goes on fit one another, and what
--- is known of a source that tells its bytes is so.
+-- What holds before a call that plans, gathers, writes or cuts: the numbers of what goes on fit one another, and the
+-- facts about a source that models its content hold.
 use Rattle.std.specs.Prelude.{◌≡◌, ℕ, ◌≤◌, ◌<◌, IsTrue, Some}
 use Rattle.abt_io.specs.declared.device.Source as sources
 use Rattle.abt_runs.specs.declared.part.Cursor.{Cursor}
@@ -56,7 +56,7 @@ pub record ReadyPlanner {R A : Type 0} (g : images.Ghosts R) (s : sources.Ghosts
   pub told : IsTrue s.models → ToldPlanner (g.place image (s.content source)) (g.size image)
       (g.list image (s.content source)) p
 
--- a cutter plans the piece that begins at the place `start`, the one behind as many as are made
+-- a cutter plans the piece that begins at the place `start`, the one after as many as are made
 pub record ReadyPlan {R A : Type 0} (g : images.Ghosts R) (s : sources.Ghosts A) (image : R) (source : A)
     (limit made : ℕ) (start : Cursor) (p : Planner) : Type 0 where
   pub few : made ≤ start.block

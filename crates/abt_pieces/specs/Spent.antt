@@ -1,4 +1,4 @@
--- What writing one piece reads: a pass to gather its runs, a second over the raw ones, and their bytes.
+-- What writing one piece reads: one pass to gather its runs, a second over the raw runs, and their bytes.
 use Rattle.std.specs.Prelude.{◌≡◌, ℕ, ◌+◌, ◌-◌, ◌≤◌, ◌<◌, Option, Some, None, ◌⊎◌, min}
 use Rattle.abt_runs.specs.Part.{Earliest, afresh, entry}
 use Rattle.abt_runs.specs.declared.part.RunKind.TheVariants as kinds

@@ -21,7 +21,7 @@ pub record SpentPlan (charge copied : Cursor → ℕ) (b limit : ℕ) (start : C
   pub inside : 0 < p.at.used
       → ((p.tail ≡ tails.Raw) × (limit - p.weight < b)) ⊎ (t ≤ charge p.at + (2 * charge start + copied start))
 
--- the piece is planned, of an image of n blocks where telling the class of one reads `one` bytes
+-- the piece is planned, of an image of n blocks where finding the class of one reads `one` bytes
 pub record SpentOutline (charge copied : Cursor → ℕ) (n one : ℕ) (start : Cursor) (t : ℕ) (o : Outline) : Type 0 where
   pub fresh : o.next.ask ≡ 1
   pub behind : charge start ≤ charge o.next + 16

@@ -49,7 +49,7 @@ pub record PieceEnds {R : Type 0} (g : images.Ghosts R) (image : R) (start start
       ≤ m.turns.number + 2 * (z.given - a.given) + (z.written - a.written) + 3
       + piece_words (g.one image) (g.count image) p.past
 
--- What was to come of the piece stands behind what stood there, and p is the piece that the limit allows.
+-- What was to come of the piece is after what was stored there, and p is the piece that the limit allows.
 pub record CameWhole (b limit : ℕ) (l : List Block) (first : ℕ) (st : CutterStage) (p : Piece) (old new : List ℕ) :
     Type 0 where
   pub written : new ≡ old ++ coming b limit l first st

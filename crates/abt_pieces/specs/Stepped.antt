@@ -1,4 +1,4 @@
--- What one step of cutting promises: what is kept, what it writes, what it costs, and how it fails.
+-- The contract of one step of cutting: what it keeps, what it writes, what it costs, and how it fails.
 use Rattle.std.specs.Prelude.{◌≡◌, ℕ, ◌+◌, ◌-◌, ◌*◌, ◌≤◌, ◌<◌, ◌++◌, ◌⊎◌, length, take, drop, false, IsTrue}
 use Rattle.std.specs.Prelude.{Result, IfErr}
 use Rattle.abt_io.specs.Lent.{OnlyReads, OnlyWrites}
@@ -21,7 +21,7 @@ use Rattle.abt_pieces.specs.declared.stage.PieceProgress.{PieceProgress}
 use Rattle.abt_pieces.specs.declared.stage.CutterStage.{CutterStage}
 use Rattle.abt_pieces.specs.declared.stage.CutterStage.TheVariants.{Failed}
 
--- One step, from a cutter, a source and an output to what they are behind it.
+-- One step, from a cutter, a source and an output to what they are after it.
 pub record Stepped {R A B : Type 0} (g : images.Ghosts R) (s : sources.Ghosts A) (o : outputs.Ghosts B)
     (r : Result PieceProgress PieceFault) (image image' : R) (limit limit' : ℕ) (start start' : Cursor)
     (made made' : ℕ) (st st' : CutterStage) (source source' : A) (output output' : B) (m m' : Meter) : Type 0 where
@@ -55,7 +55,7 @@ pub record Stepped {R A B : Type 0} (g : images.Ghosts R) (s : sources.Ghosts A)
   pub refused : IfErr r (λ e. st' ≡ Failed e)
   pub costs : CutStepCosts (cut_words (g.one image) (g.count image) start st) (3 * g.one image)
       (devices s o source output) (devices s o source' output') m m'
-  -- where the stage had cost t bytes, what it has cost behind the step
+  -- where the stage had cost t bytes, what it has cost after the step
   pub spends : IsTrue s.models → (t : ℕ) →
       SpentStage (λ c. g.within image c × g.place image (s.content source) c) (g.charge image) (g.copied image)
       (g.held image) (g.size image) limit (g.count image) (g.one image) start t st →

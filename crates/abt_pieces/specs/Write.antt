@@ -1,4 +1,4 @@
--- A piece that is being written, and what of it is still to come.
+-- A piece that is being written, and what is still to be written of it.
 use Rattle.std.specs.Prelude.{◌≡◌, ℕ, ◌+◌, ◌-◌, ◌*◌, ◌/◌, ◌^◌, ◌≤◌, ◌<◌, List, [], ◌++◌, length, drop, map}
 use Rattle.std.specs.Prelude.{Option, Some, None, ⊤, ◌⊎◌, ◌==◌, ◌&&◌, not, min, nat_lt, if◌then◌else◌}
 use Rattle.std.specs.List.{flat_map}
@@ -47,7 +47,7 @@ cut_bytes r g = flat_map plain (cut_run r (Raws (map raw_bytes g)))
 abbrev pub begins : Gatherer → ℕ
 begins g = g.at.block - g.count
 
--- what is left of the raw run that goes up to block u: of its open chunk, and the chunks behind that
+-- what is left of the raw run that goes up to block u: of its open chunk, and the chunks after that
 abbrev pub to_copy : ℕ → List Block → ℕ → Option Copying → List ℕ
 to_copy r f u None = []
 to_copy r f u (Some c) = drop c.done (raw_of (between f c.here.block (u - c.after)))
@@ -93,7 +93,7 @@ pub record SoundWriter (W : Cursor → Type 0) (reach : Cursor → ℕ) (n b : �
   pub small : 12 + w.most * b < 2 ^ 32
   pub fits : w.bytes < 2 ^ 64
 
--- ---- what is known of a source that tells its bytes
+-- ---- what is known of a source that models its content
 
 pub record ToldCopy (P : Cursor → Type 0) (together : Cursor → ℕ) (f : List Block) (u : ℕ) (c : Copying) : Type 0 where
   pub here : P c.here
@@ -118,7 +118,7 @@ pub record ToldWriter (P : Cursor → Type 0) (together : Cursor → ℕ) (l : L
 abbrev pub chunk_len : RunKind → ℕ → ℕ → ℕ
 chunk_len k q b = head_len k + copy_len k q b
 
--- with the front of a chunk written
+-- with the beginning of a chunk written
 abbrev pub front_begun : Writer → RunKind → Writer
 front_begun w k = record {
   first = w.first;
@@ -189,7 +189,7 @@ chunk_opened w c b = record {
   bytes = w.bytes - 12;
 }
 
--- why the front of a chunk is not written
+-- why the beginning of a chunk is not written
 abbrev pub ChunkCause : PieceFault → ℕ → ℕ → ℕ → ℕ → ℕ → Type 0
 ChunkCause SourceChanged chunks bytes need faults faults' = (chunks ≡ 0) ⊎ (bytes < need)
 ChunkCause (Write f) chunks bytes need faults faults' = faults < faults'
@@ -198,7 +198,7 @@ ChunkCause TooLarge chunks bytes need faults faults' = ⊥
 ChunkCause (BadBlock n) chunks bytes need faults faults' = ⊥
 ChunkCause (LimitTooSmall n) chunks bytes need faults faults' = ⊥
 
--- with the part behind the one that is copied: None where that is not raw
+-- with the part after the one that is copied: None where that is not raw
 abbrev pub raw_part : RunKind → Copying → Run → ℕ → Option Copying
 raw_part kinds.Raw c r b = Some (record
     { here = r.here; next = r.next; size = r.blocks * b; done = 0; left = c.left; after = c.after })

@@ -1,4 +1,4 @@
--- What a step of writing a piece promises: what it leaves, what it writes, what it costs, and how it fails.
+-- The contract of a step of writing a piece: what it leaves, what it writes, what it costs, and how it fails.
 use Rattle.std.specs.Prelude.{◌≡◌, ℕ, ◌+◌, ◌-◌, ◌*◌, ◌≤◌, ◌<◌, List, ◌++◌, length, take, drop, IsTrue, Result, OnOk}
 use Rattle.std.specs.Prelude.{OnErr, IfErr, IsErrOf}
 use Rattle.abt_io.specs.Count.{full_of}
@@ -19,7 +19,7 @@ use Rattle.abt_pieces.specs.Write.{SoundWriter, ToldWriter, frame_of, rest_of, s
 use Rattle.abt_pieces.specs.declared.fault.PieceFault.{PieceFault}
 use Rattle.abt_pieces.specs.declared.write.Writer.{Writer}
 
--- The bytes x, n of them, were written behind what stood there, or after a refusal a part of them.
+-- The bytes x, n of them, were written after what was stored there, or after a refusal a part of them.
 pub record PutFront {X E : Type 0} (r : Result X E) (n : ℕ) (x old new : List ℕ) : Type 0 where
   pub ok : OnOk r (new ≡ old ++ x)
   pub front : new ≡ old ++ take (length new - length old) x
@@ -37,7 +37,7 @@ pub record WrittenFront {X : Type 0} (r : Result X DeviceFault) (n : ℕ) (x : L
   pub costs : WriteCosts o old new m m'
   pub no_step : NoStep m m'
 
--- A writer has written the front x of a chunk, n bytes, of no more than are counted.
+-- A writer has written the first bytes x of a chunk, n bytes, of no more than are counted.
 pub record ChunkBegun {X : Type 0} (r : Result X PieceFault) (n : ℕ) (x : List ℕ) {B : Type 0} (o : outputs.Ghosts B)
     (w w' : Writer) (output output' : B) (m m' : Meter) : Type 0 where
   pub segment : (w'.first ≡ w.first) × (w'.past ≡ w.past) × (w'.most ≡ w.most)

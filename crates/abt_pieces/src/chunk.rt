@@ -1,4 +1,4 @@
-//! What stands in front of a chunk's blocks.
+//! What comes before a chunk's blocks: its header, and the word of a fill.
 ghost use Rattle.std.specs.Prelude.{◌≡◌, ◌<◌, ◌%◌, ◌++◌, take};
 ghost use Rattle.abt_sparse.specs.Chunk.{header_record, plain_header};
 ghost use Rattle.abt_pieces.specs.Contents.{head_len as length_of_head};
@@ -20,7 +20,7 @@ fn side_by_side(header: [u8; 12], word: [u8; 4]) -> [u8; 16]
     out
 }
 
-/// The header of a chunk, and behind it the word of a fill.
+/// The header of a chunk, and after it the word of a fill.
 #[inline(always)]
 pub fn chunk_front(kind: RunKind, blocks: u32, total: u32) -> [u8; 16]
     ensures { take (length_of_head kind) result ≡ front_bytes kind blocks total }
@@ -38,7 +38,7 @@ pub fn chunk_front(kind: RunKind, blocks: u32, total: u32) -> [u8; 16]
     side_by_side(header.encode(), word)
 }
 
-/// Writes what stands in front of a chunk's blocks: its header (`chunk_header_t`), and the word of a fill.
+/// Writes what comes before a chunk's blocks: its header (`chunk_header_t`), and the word of a fill.
 #[inline(always)]
 pub fn write_front<O: Output>(
     output: &mut O,

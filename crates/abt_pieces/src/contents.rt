@@ -1,4 +1,4 @@
-//! What a piece holds: its chunks, its written blocks and its length, counted as blocks are passed.
+//! The content of a piece in numbers: its chunks, its written blocks and its length, counted as blocks are passed.
 ghost use Rattle.std.specs.Prelude.{◌≡◌, ◌<◌, ◌≤◌, ◌+◌, ◌*◌, ◌^◌};
 ghost use Rattle.abt_pieces.specs.Contents.{opens, opens_len, copy_len, held, head_len as length_of_head, with_blocks};
 ghost use Rattle.abt_pieces.specs.Contents.{contents_before};
@@ -79,7 +79,7 @@ impl PieceContents {
         }
     }
 
-    /// With so many blocks of a class more, behind a block of class `last`.
+    /// With so many blocks of a class more, after a block of class `last`.
     pub fn with(self, last: RunKind, kind: RunKind, blocks: u32, size: u32) -> PieceContents
         requires chunks { self.chunks + opens last kind < 2 ^ 32 }
         requires written { self.written + held kind blocks < 2 ^ 32 }

@@ -1,4 +1,4 @@
-//! Cutting an image into the fewest pieces for a download limit.
+//! Cuts an image into the fewest pieces for a download limit.
 ghost use Rattle.std.specs.Prelude.{◌≡◌, ◌<◌, ◌≤◌, ◌+◌, ◌-◌, ◌*◌, ◌++◌, ℕ, List, IsTrue, IfOk, IfErr, IfSome, IfNone};
 ghost use Rattle.std.specs.Prelude.{OnErr, Ok, Err, length, take, true, false, ◌⊎◌, if◌then◌else◌};
 ghost use Rattle.abt_sparse.specs.Block.{Block};
@@ -34,7 +34,7 @@ pub fn least_limit(block_size: u32) -> u64
     64 + block_size as u64
 }
 
-/// Cuts an image into pieces. It holds numbers alone, and is lent its devices at each call.
+/// Cuts an image into pieces. It holds numbers alone, and borrows its devices at each call.
 #[derive(Drop)]
 pub struct Cutter<R: BlockRuns + Drop> {
     /// The image.
@@ -43,9 +43,9 @@ pub struct Cutter<R: BlockRuns + Drop> {
     pub limit: u32,
     /// Where the next piece begins.
     pub start: Cursor,
-    /// How many pieces are behind it.
+    /// How many pieces it has finished.
     pub made: u64,
-    /// Where it stands.
+    /// Its stage.
     pub stage: CutterStage,
     /// The places are within the image, and the numbers of a begun piece fit one another and the limit.
     pub ghost sound: { SoundCutter (R.within runs) (R.reach runs) (R.taken runs) (R.count runs) (R.size runs) limit made
@@ -54,7 +54,7 @@ pub struct Cutter<R: BlockRuns + Drop> {
 }
 
 impl<R: BlockRuns + Drop> Cutter<R> {
-    /// A cutter at the front of an opened image. It refuses with `LimitTooSmall` exactly where the
+    /// A cutter at the beginning of an opened image. It refuses with `LimitTooSmall` exactly where the
     /// limit is below `least_limit`, whatever the image holds, and then hands nothing back.
     pub fn open(runs: R, limit: u32) -> Result<Cutter<R>, PieceFault>
         ensures runs { IfOk result (λ c. c.runs ≡ runs) }
@@ -131,13 +131,15 @@ impl<R: BlockRuns + Drop> Cutter<R> {
         }
     }
 
-    /// Writes the next piece, and answers what it is; `None` after the last. It refuses with
-    /// `Read` and `Write` where a device has failed, and with `SourceChanged` where the source is
-    /// no longer the one that was opened; then it answers the same fault again. What stands of a
-    /// piece after a fault is a beginning of it, and never more than the limit. Whatever the source
-    /// gave, a piece that was answered is a sparse image of all blocks, and nothing stands behind it.
-    /// `Write(Full)` comes only of an output that is full, and took less than the limit. No piece may
-    /// be begun: the last `step`, if there was one, did not answer `More`.
+    /// Writes the next piece, and returns what it is; `None` after the last. No piece may be begun: the last `step`,
+    /// if there was one, did not return `More`.
+    ///
+    /// - It fails with `Read` or `Write` where that device has failed.
+    /// - It fails with `SourceChanged` where the source is no longer the one that was opened.
+    /// - After a fault it returns the same fault again.
+    /// - After a fault the output has a beginning of the piece, and never more than the limit.
+    /// - Whatever the source gave, a piece that was returned is a sparse image of all blocks, with nothing after it.
+    /// - `Write(Full)` comes only of an output that is full, and that took less than the limit.
     pub fn next_piece<S: Source, O: Output>(
         &mut self,
         source: &mut S,
@@ -190,7 +192,7 @@ impl<R: BlockRuns + Drop> Cutter<R> {
         }
     }
 
-    /// Plans and passes over the next piece, writes nothing, and answers what `next_piece` would. No
+    /// Plans and passes over the next piece, writes nothing, and returns what `next_piece` would. No
     /// piece may be begun.
     pub fn skip_piece<S: Source>(
         &mut self,
@@ -246,7 +248,7 @@ pub fn no_fewer_pieces()
         made + (if has_more st then 1 else 0) ≤ length parts }
 {}
 
-/// What a cutter writes next, with so many pieces made, is the one behind them of all pieces of the
+/// What a cutter writes next, with so many pieces made, is the one after them of all pieces of the
 /// image.
 pub fn next_in_turn()
     ensures { NextInTurn }

@@ -1,4 +1,4 @@
-//! Why cutting or sparsing is refused.
+//! The reasons for which cutting or sparsing is refused.
 ghost use Rattle.std.specs.Prelude.{◌≡◌};
 ghost use Rattle.abt_pieces.specs.Fault.{piece_fault_number, fault_of_run};
 

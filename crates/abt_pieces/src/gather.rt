@@ -1,4 +1,4 @@
-//! The runs of a piece, each known whole before it is written.
+//! The runs of a piece, each known as a whole before it is written.
 ghost use Rattle.std.specs.Prelude.{◌≡◌, ℕ, ◌<◌, ◌≤◌, ◌+◌, ◌-◌, ◌*◌, ◌^◌, IsTrue, IfOk, IfSome, IfNone, min};
 ghost use Rattle.std.specs.Prelude.{true, false};
 ghost use Rattle.abt_runs.specs.Found.{ReadsImage};
@@ -15,7 +15,7 @@ ghost use Rattle.abt_pieces.specs.Framed.{PartFound, PartTold};
 use abt_io::{Meter, Source, Window};
 use abt_runs::{BlockRuns, Cursor, Run, RunFault, RunKind, are_alike};
 
-/// One part of a piece: of the image from `first` up to `past`, and don't care behind it. One step.
+/// One part of a piece: of the image from `first` up to `past`, and don't care after it. One step.
 #[inline(always)]
 pub fn framed_part<R: BlockRuns, S: Source>(
     runs: &R,
@@ -83,7 +83,7 @@ pub(crate) fn is_end(kind: RunKind) -> bool
 }
 
 /// A run of a piece that is not yet known whole: blocks of one class, the place of the first of
-/// them, and the place behind the last. With no blocks it is not begun.
+/// them, and the place after the last. With no blocks it is not begun.
 #[derive(Clone, Copy, Debug, PartialEq, Eq, Drop)]
 pub struct Gatherer {
     pub kind: RunKind,

@@ -1,19 +1,24 @@
-//! Cutting an image into pieces for a download limit: each piece is a sparse image of its own.
+//! Cuts an image into pieces for a download limit. Each piece is a sparse image of its own.
 //!
-//! A piece of the segment from block `first` up to `past` is a whole sparse image with the same
-//! block size and number of blocks: don't care before the segment and behind it, and the segment
-//! between, each maximal run one chunk. It weighs at most the limit, and its segment is the longest
-//! that does.
+//! A piece has a segment of the image, from block `first` up to `past`:
 //!
-//! - `segment_tail`, `plan`: weighing a segment part by part, and how far a piece goes;
-//! - `contents`, `outline`: the numbers of a piece, which its header needs first;
-//! - `gather`: the runs of a piece, each known whole before it is written;
-//! - `chunk`, `write`: headers, and writing a piece in steps that hold numbers alone;
-//! - `stage`, `piece_steps`, `cutter`: one step of cutting, and whole pieces;
-//! - `fault`: why all this is refused.
+//! - The piece is a whole sparse image with the same block size and number of blocks.
+//! - Its blocks before the segment and after it are don't care. The segment is between them, each maximal run as one
+//!   chunk.
+//! - The piece weighs at most the limit, and its segment is the longest that does.
 //!
-//! What a source that tells its bytes comes to is said exactly (`specs/Cutter`); whatever a source
+//! What the pieces of a source that models its content are is stated exactly (`specs/Cutter`). Whatever a source
 //! gives, each piece reads as a sparse image of all blocks (`specs/Image`).
+//!
+//! | file | content |
+//! |---|---|
+//! | `segment_tail.rt`, `plan.rt` | weigh a segment part by part, and find how far a piece goes |
+//! | `contents.rt`, `outline.rt` | the numbers of a piece, which its header needs first |
+//! | `gather.rt` | the runs of a piece, each known as a whole before it is written |
+//! | `chunk.rt`, `write.rt` | write headers, and write a piece in steps that hold numbers alone |
+//! | `stage.rt`, `piece_steps.rt` | one step of cutting |
+//! | `cutter.rt` | `Cutter`, which writes whole pieces |
+//! | `fault.rt` | the reasons for which all this is refused |
 #![tactic(auto)]
 
 mod chunk;

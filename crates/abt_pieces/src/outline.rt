@@ -1,4 +1,4 @@
-//! A piece as it is planned: how far it goes, and the numbers that its header needs first.
+//! A planned piece: how far it goes, and the numbers that its header needs first.
 ghost use Rattle.std.specs.Prelude.{◌≡◌, ◌<◌, ◌≤◌, ◌+◌, ◌-◌, List, length};
 ghost use Rattle.abt_sparse.specs.Block.{Block, AreBlocks};
 ghost use Rattle.abt_pieces.specs.Contents.{with_blocks};
@@ -15,7 +15,7 @@ use abt_runs::{Cursor, RunKind};
 pub struct Piece {
     /// The first block of its segment.
     pub first: u32,
-    /// The block behind its segment.
+    /// The block after its segment.
     pub past: u32,
     /// How many blocks of the segment are raw or fill.
     pub written: u32,
@@ -23,7 +23,7 @@ pub struct Piece {
     pub bytes: u64,
 }
 
-/// A planned piece, the number of its chunks and the place behind it.
+/// A planned piece, the number of its chunks and the place after it.
 #[derive(Clone, Copy, Drop)]
 pub struct Outline {
     pub piece: Piece,
@@ -56,7 +56,7 @@ pub fn outlined(planner: &Planner, count: u32, size: u32) -> Outline
     }
 }
 
-/// The numbers of the piece with what is skipped behind its segment.
+/// The numbers of the piece with what is skipped after its segment.
 fn whole(planner: &Planner, count: u32, size: u32) -> PieceContents
     requires rests { RestsWithin count planner.now }
     ensures more { planner.now.at.block < count →

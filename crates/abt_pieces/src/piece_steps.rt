@@ -56,7 +56,7 @@ impl<R: BlockRuns + Drop> Cutter<R> {
         Ok(outline)
     }
 
-    /// Goes behind a piece that is whole.
+    /// Moves past a piece that is whole.
     pub fn pass(&mut self, outline: Outline) -> Piece
         requires few { self.old.made ≤ self.old.start.block }
         requires outline { SoundOutline (R.within self.old.runs) (R.count self.old.runs) self.old.limit
@@ -80,7 +80,7 @@ impl<R: BlockRuns + Drop> Cutter<R> {
         outline.piece
     }
 
-    /// The fault, which is answered from now on.
+    /// The fault, which is returned from now on.
     pub fn fail(&mut self, fault: PieceFault) -> PieceFault
         requires few { self.old.made ≤ self.old.start.block }
         ensures fault { result ≡ fault }
@@ -217,7 +217,7 @@ impl<R: BlockRuns + Drop> Cutter<R> {
         }
     }
 
-    /// Writes one part more of a piece, or goes behind it where it is whole. One step.
+    /// Writes one part more of a piece, or moves past it where it is whole. One step.
     #[inline(always)]
     fn write<S: Source, O: Output>(
         &mut self,
@@ -249,9 +249,9 @@ impl<R: BlockRuns + Drop> Cutter<R> {
 
     /// One step of cutting: it plans a part more of the next piece, or writes its header, or writes
     /// a part more of its chunks. It holds nothing over: it writes at most 80 bytes more than it
-    /// received from the source. A piece is answered when it is whole, and `End` behind the last;
-    /// then that is answered again, and no device called. It refuses as `next_piece` does, and then
-    /// answers the same fault again and calls no device.
+    /// received from the source. A piece is returned when it is whole, and `End` after the last;
+    /// then that is returned again, and no device called. It refuses as `next_piece` does, and then
+    /// returns the same fault again and calls no device.
     #[inline(always)]
     pub fn step<S: Source, O: Output>(
         &mut self,
@@ -293,7 +293,7 @@ impl<R: BlockRuns + Drop> Cutter<R> {
     }
 }
 
-/// A place is before one of the blocks, or behind the last.
+/// A place is before one of the blocks, or after the last.
 #[inline(always)]
 fn within_count<R: BlockRuns>(_runs: &R, _at: Cursor)
     requires { R.within _runs.now _at }

@@ -1,4 +1,4 @@
-//! How far a piece goes.
+//! Finds how far a piece goes.
 ghost use Rattle.std.specs.Prelude.{◌≡◌, ◌<◌, ◌≤◌, ◌+◌, ◌-◌, ◌*◌, ℕ, List, length, IsTrue, IfOk, false, true};
 ghost use Rattle.abt_sparse.specs.Block.{Block};
 ghost use Rattle.abt_pieces.specs.Contents.{contents_before};

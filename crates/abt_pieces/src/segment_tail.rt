@@ -1,10 +1,10 @@
-//! What stands at the end of a segment that is being weighed, and what more blocks weigh behind it.
+//! The end of a segment that is being weighed, and what further blocks add to its weight.
 ghost use Rattle.std.specs.Prelude.{◌≡◌, ◌<◌, ◌≤◌, ◌+◌, ◌-◌, ◌*◌, ◌^◌};
 ghost use Rattle.abt_pieces.specs.Plan.{head_of, fill_gain_of, skip_tail, cap_of, gain_of, tail_after, last_kind};
 
 use abt_runs::RunKind;
 
-/// What stands at the end of a segment so far: nothing but skipped blocks, or this behind others.
+/// What is at the end of a segment so far: nothing but skipped blocks, or this after others.
 #[derive(Clone, Copy, Drop)]
 pub enum Tail {
     Fresh,
@@ -13,7 +13,7 @@ pub enum Tail {
     Fill([u8; 4]),
 }
 
-/// What a chunk header of raw blocks adds behind this.
+/// What a chunk header of raw blocks adds after this.
 pub fn head(tail: &Tail) -> u64
     ensures { result ≡ head_of tail.now }
 {
@@ -24,7 +24,7 @@ pub fn head(tail: &Tail) -> u64
     }
 }
 
-/// What blocks of this word add behind this.
+/// What blocks of this word add after this.
 pub fn fill_gain(tail: &Tail, word: [u8; 4]) -> u64
     ensures { result ≡ fill_gain_of tail.now word }
 {
@@ -41,7 +41,7 @@ pub fn fill_gain(tail: &Tail, word: [u8; 4]) -> u64
     }
 }
 
-/// What stands at the end behind skipped blocks.
+/// What is at the end after skipped blocks.
 pub fn after_skip(tail: &Tail) -> Tail
     ensures { result ≡ skip_tail tail.now }
 {
@@ -51,7 +51,7 @@ pub fn after_skip(tail: &Tail) -> Tail
     }
 }
 
-/// How many raw blocks may go behind this where there is so much room, but at least one.
+/// How many raw blocks may go after this where there is so much room, but at least one.
 pub fn raw_cap(tail: &Tail, room: u64, size: u32) -> u32
     requires some { 4 ≤ size }
     requires room { room < 2 ^ 32 }
@@ -65,7 +65,7 @@ pub fn raw_cap(tail: &Tail, room: u64, size: u32) -> u32
     }
 }
 
-/// What blocks of one class add behind this, and what then stands at the end.
+/// What blocks of one class add after this, and what is at the end then.
 pub fn added(tail: &Tail, kind: RunKind, blocks: u32, size: u32) -> (u64, Tail)
     ensures gain { result.0 ≡ gain_of tail.now kind blocks size }
     ensures tail { result.1 ≡ tail_after tail.now kind }

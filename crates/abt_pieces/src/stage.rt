@@ -1,10 +1,10 @@
-//! Where a cutter stands, and what a step of it answers.
+//! The stage of a cutter, and what a step of it returns.
 use crate::PieceFault;
 use crate::outline::{Outline, Piece};
 use crate::plan::Planner;
 use crate::write::Writer;
 
-/// Where a cutter stands between its calls.
+/// The stage of a cutter between its calls.
 #[derive(Clone, Copy, Drop)]
 pub enum CutterStage {
     /// Before a piece.
@@ -15,19 +15,19 @@ pub enum CutterStage {
     Begin(Outline),
     /// Writing the chunks of a planned piece.
     Write(Outline, Writer),
-    /// Behind the last piece.
+    /// After the last piece.
     Done,
-    /// Behind a fault, which is answered from now on.
+    /// After a fault, which is returned from now on.
     Failed(PieceFault),
 }
 
-/// What a step of cutting answers.
+/// What a step of cutting returns.
 #[derive(Clone, Copy, Debug, PartialEq, Eq, Drop)]
 pub enum PieceProgress {
     /// The piece is begun, and the next step goes on with it.
     More,
     /// This piece is whole.
     Piece(Piece),
-    /// The last piece is made. Every further step answers this again.
+    /// The last piece is made. Every further step returns this again.
     End,
 }

@@ -1,4 +1,4 @@
-//! Writing the chunks of an image: one for each of its runs, a raw run in several.
+//! Writes the chunks of an image: one chunk for each run, several for a long raw run.
 ghost use Rattle.std.specs.Prelude.{◌≡◌, ℕ, [], ◌<◌, ◌≤◌, ◌+◌, ◌-◌, ◌*◌, ◌^◌, IsTrue, IfOk, IfErr, OnOk, length, min};
 ghost use Rattle.std.specs.Prelude.{true, false};
 ghost use Rattle.abt_runs.specs.Part.{is_end as ends};
@@ -31,7 +31,7 @@ use abt_runs::{BlockRuns, Cursor, Run, RunKind};
 pub struct Copying {
     /// The place of the part that is being copied.
     pub here: Cursor,
-    /// The place of the part behind it.
+    /// The place of the part after it.
     pub next: Cursor,
     /// How many bytes the part has.
     pub size: u64,
@@ -48,11 +48,11 @@ pub struct Copying {
 pub struct Writer {
     /// The first block of the segment.
     pub first: u32,
-    /// The block behind the segment.
+    /// The block after the segment.
     pub past: u32,
     /// How many blocks a raw chunk has at most.
     pub most: u32,
-    /// The run that is being gathered, behind what is written.
+    /// The run that is being gathered, after what is written.
     pub gatherer: Gatherer,
     /// The raw run that is being copied, if one is.
     pub copying: Option<Copying>,
@@ -63,7 +63,7 @@ pub struct Writer {
 }
 
 impl Copying {
-    /// With the part behind the one that is copied, if that is raw.
+    /// With the part after the one that is copied, if that is raw.
     #[inline(always)]
     fn and_part(self, part: Run, size: u32) -> Option<Copying>
         ensures { result ≡ next_copying self part size }
@@ -132,8 +132,8 @@ impl Writer {
         }
     }
 
-    /// Writes what stands in front of a chunk's blocks, where what was counted has room for the
-    /// chunk. Else the source has changed since.
+    /// Writes what comes before a chunk's blocks, where the counted numbers have room for the chunk. Otherwise the
+    /// source has changed since.
     #[inline(always)]
     fn begin_chunk<O: Output>(
         &mut self,

@@ -12,7 +12,7 @@ use Rattle.abt_sparsify.specs.Sparsify.{chunks_in, bytes_of, cut_bytes}
 use Rattle.abt_pieces.proofs.Writing.{run_data}
 use Rattle.abt_sparsify.proofs.Sparsing.{no_cut, one_cut, first_cut, cut_next}
 
--- the raw blocks in front, and the others
+-- the leading raw blocks, and the others
 pub record RawFront (l : List Block) : Type 0 where
   pub front : List Block
   pub rest : List Block
@@ -38,12 +38,12 @@ blocks_back : (b : ℕ) (xs ys : List Block) → AreBlocks b (xs ++ ys) → AreB
 blocks_back b [] ys h = h
 blocks_back b (x ∷ xs) ys h = blocks_back b xs ys h.1
 
--- a chunk of q blocks stands first
+-- a chunk of q blocks is first
 pub record OneChunk (b r : ℕ) (k : RunKind) (g rest whole : List Block) : Type 0 where
   pub bytes : bytes_of r whole ≡ front_bytes k (length g) (chunk_len k (length g) b) ++ (run_data k g ++ bytes_of r rest)
   pub count : length (chunks_of r whole) ≡ suc (length (chunks_of r rest))
 
--- the chunks of raw blocks in front, and of the others
+-- the chunks of the leading raw blocks, and of the others
 pub record RawCut (r : ℕ) (g rest : List Block) : Type 0 where
   pub bytes : bytes_of r (g ++ rest) ≡ cut_bytes r g ++ bytes_of r rest
   pub count : length (chunks_of r (g ++ rest)) ≡ chunks_in kinds.Raw (length g) r + length (chunks_of r rest)
@@ -65,14 +65,14 @@ take_front : (g h : List Block) → take (length g) (g ++ h) ≡ g
 take_front [] h = refl
 take_front (x ∷ g) h = ap (λ (l : List Block). x ∷ l) (take_front g h)
 
--- where the rest begins with no raw block, there is none in front
+-- where the rest begins with no raw block, there is no leading one
 no_more : (rest h t : List Block) → Ended kinds.Raw rest → rest ≡ h ++ t → AllByRecursion IsRaw h → length h ≡ 0
 no_more rest [] t e whole raws = refl
 no_more rest (Raw x ∷ h) t e whole raws = let f : Ended kinds.Raw (Raw x ∷ (h ++ t)) = rw whole at e in absurd (let z : true ≡ false = f in cc)
 no_more rest (Fill w ∷ h) t e whole raws = absurd raws.0
 no_more rest (Skip ∷ h) t e whole raws = absurd raws.0
 
--- raw blocks that fill a chunk, or all that stand together
+-- raw blocks that fill a chunk, or all adjacent ones
 pub raw_chunk_first : (b r : ℕ) (g rest : List Block) → 0 < r → 0 < length g → length g ≤ r → AllByRecursion IsRaw g → AreBlocks b (g ++ rest) → (Ended kinds.Raw rest) ⊎ (length g ≡ r) → OneChunk b r kinds.Raw g rest (g ++ rest)
 raw_chunk_first b r g rest some more few raws good how =
     let f = raw_front rest in

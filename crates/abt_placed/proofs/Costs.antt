@@ -1,4 +1,4 @@
--- What taking costs, and how much it lays at most.
+-- What taking costs, and how much it writes at most.
 use Rattle.std.proofs.Common.{inl, inr, ◌≡◌, ℕ, zero, suc, ◌+◌, ◌-◌, ◌*◌, ◌^◌, ◌<◌, ◌≤◌, nat_lt, min, false, arith, refl, mul-le-mul_left, mul-le-mul_right, ◌/◌, ◌%◌, ap, ◌∙◌}
 use Rattle.std.proofs.lemmas.Bool.{cases_Bool, ltb-true, ltb-false}
 use Rattle.abt_runs.specs.Part.{is_end}

@@ -1,4 +1,4 @@
--- What a placer has laid, as it goes on.
+-- What a placer has written, as it goes on.
 use Rattle.std.proofs.Common.{inl, inr, ◌⊎◌, Bool, nat_lt, if◌then◌else◌, ◌≡◌, ℕ, zero, suc, ◌+◌, ◌-◌, ◌*◌, ◌<◌, ◌≤◌, true, false, List, [], ◌∷◌, ◌++◌, length, take, drop, map, replicate, refl, sym, ap, subst, ◌∙◌, arith, append_assoc, append-nil, length-append, length-drop}
 use Rattle.std.specs.Prelude.{slice_range}
 use Rattle.std.proofs.lemmas.List.{take_all, drop-drop, drop-append-le, length-map, length-replicate}
@@ -256,7 +256,7 @@ part_classes k b n from to past w x y le le' e f all =
 
 -- ---- the first and the last
 
--- behind the last block, with the header laid, the whole image stands
+-- after the last block, with the header written, the whole image is
 pub placed_whole : (b : ℕ) (g : List Block) (now now' : List ℕ) (s s' : Placer) → SoundPlacer b (length now) s → Placed b g now s → s' ≡ closed s → now' ≡ put_at (closing s b now) s.front (header_record (plain_header b (closed s).blocks (closed s).chunks))
     → (now' ≡ take s.front now ++ spelling b s.most g) × (s'.chunks ≡ length (chunks_of s.most g))
 placed_whole b g now now' s s' sound p e f =
@@ -303,7 +303,7 @@ begun_behind b at (suc first) r k old now place e none some = rw (some (omega ar
   good = blocks_skips b (suc first);
 })
 
--- blocks of the window, and those of a part behind them
+-- blocks of the window, and those of a part after them
 pub classes_more : (b d n from past : ℕ) (g : List Block) (w x : List ℕ) → from ≡ d * b → from + n * b ≤ past → x ≡ slice_range w from past → (g ++ classes b d w) ++ classes b n x ≡ g ++ classes b (d + n) w
 classes_more b d n from past g w x at le e =
     append_assoc g (classes b d w) (classes b n x) ∙ ap (λ (l : List Block). g ++ l) (ap (λ (l : List Block). classes b d w ++ l) (ap (classes b n) e ∙ classes_part b n from past w le ∙ ap (λ (m : ℕ). classes b n (drop m w)) at) ∙ classes_joined b d n w)

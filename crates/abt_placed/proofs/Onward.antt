@@ -49,7 +49,7 @@ cause_since : {X : Type 0} (r : Result X DeviceFault) (n m k : ℕ) → m ≡ n 
 cause_since (Ok x) n m k e h = tt
 cause_since (Err f) n m k e h = omega (arith, e, h)
 
--- one call behind another
+-- one call after another
 pub onward : {X Y : Type 0} {x : X} {r : Result Y DeviceFault} {k k' j j' : ℕ} {a m z : Stand} → Writes (Ok x) k j a m → Writes r k' j' m z → Writes r (k + k') (j + j') a z
 onward {r = r} {a = a} {m = m} {z = z} h g = record {
   grown = le_trans h.grown g.grown;
@@ -69,7 +69,7 @@ same_fault : {X Y : Type 0} (f : DeviceFault) → IsErrOf {T = X} {E = DeviceFau
 same_fault Failed h = absurd cc
 same_fault Full h = refl
 
--- the same fault in another answer, and another value
+-- the same fault in another result, and another value
 pub fails : {X Y : Type 0} {f : DeviceFault} {k n j i : ℕ} {a z : Stand} → Writes {X = X} (Err f) k j a z → k ≤ n → j ≤ i → Writes {X = Y} (Err f) n i a z
 fails {X = X} {Y = Y} {f = f} h calls turns = record {
   grown = h.grown;
@@ -124,7 +124,7 @@ written_out writes cause full calls turns no_step = record {
   greatest = no_step.greatest;
 }
 
--- bytes that are laid over others
+-- bytes that are written over others
 pub laid_over : {B X : Type 0} {r : Result X DeviceFault} (o : outputs.Ghosts B) (output output' : B) (m m' : Meter)
     (n k : ℕ) → n ≡ k → length (o.written output') ≡ length (o.written output) → OnlyWrites r 0 o output output'
     → OnErr r (o.write_faults output < o.write_faults output') → IfErr r (λ e. e ≡ Failed)

@@ -38,7 +38,7 @@ passed_as : (t : Bool) (s : Placer) (k : RunKind) (q : ℕ) → s.chunks ≤ s.b
 passed_as true s k q c none some = (omega arith, (refl, refl))
 passed_as false s k q c none some = let n = closed_numbers s.kind s c none some in (omega (arith, n.blocks), (n.most, n.front))
 
--- what stands of a placer that goes on
+-- what is written of a placer that goes on
 pub part_passed : (b long q : ℕ) (s s' : Placer) (k : RunKind) → SoundPlacer b long s → s' ≡ with_part s k q → (s'.blocks + s'.count ≡ s.blocks + s.count + q) × ((s'.most ≡ s.most) × (s'.front ≡ s.front))
 part_passed b long q s s' k h e = rw e (passed_as (goes_on_with s k) s k q h.chunks h.none h.some)
 

@@ -22,7 +22,7 @@ cause_on : {X : Type 0} (r : Result X PieceFault) (models : Bool) (a m z : Scene
 cause_on (Ok x) models a m z e h = tt
 cause_on (Err f) models a m z e h = rw (e.0, e.1) at h
 
--- one call behind another
+-- one call after another
 pub lays_then : {X Y : Type 0} {x : X} {r : Result Y PieceFault} {models : Bool} {a m z : Scene} → LaysOn (Ok x) models a m → LaysOn r models m z → LaysOn r models a z
 lays_then {r = r} {models = models} {a = a} {m = m} {z = z} h g = record {
   content = λ t. g.content t ∙ h.content t;
@@ -41,7 +41,7 @@ lays_then {r = r} {models = models} {a = a} {m = m} {z = z} h g = record {
   cause = cause_on r models a m z h.clean g.cause;
 }
 
--- the same fault in another answer, and another value
+-- the same fault in another result, and another value
 pub lays_fault : {X Y : Type 0} {f : PieceFault} {models : Bool} {a z : Scene} → LaysOn {X = X} (Err f) models a z → LaysOn {X = Y} (Err f) models a z
 lays_fault h = record {
   content = h.content;

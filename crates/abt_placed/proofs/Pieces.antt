@@ -1,4 +1,4 @@
--- A piece that is laid in one pass, whole.
+-- A piece that is written in one pass, whole.
 use Rattle.std.proofs.Common.{inl, inr, ◌⊎◌, ◌≡◌, ℕ, zero, suc, ◌+◌, ◌-◌, ◌*◌, ◌%◌, ◌^◌, ◌<◌, ◌≤◌, nat_lt, Bool, IsTrue, List, [], ◌∷◌, ◌++◌, length, take, drop, map, replicate, refl, sym, ap, subst, ◌∙◌, arith, append-nil, length-append, Result, Ok, Err, OnOk}
 use Rattle.std.proofs.lemmas.List.{length-take-le, length-drop, take_all}
 use Rattle.std.proofs.lemmas.Bool.{cases_Bool, ltb-true, ltb-false}
@@ -34,7 +34,7 @@ use Rattle.abt_pieces.proofs.Uncut.{uncut, uncut_spelling}
 
 -- ---- the end of a piece
 
--- what holds of two answers holds of one
+-- what holds of two results holds of one
 pub on_both : {X E : Type 0} (res : Result X E) (P Q R : Type 0) → (P → Q → R) → OnOk res P → OnOk res Q → OnOk res R
 on_both (Ok x) P Q R f p q = f p q
 on_both (Err e) P Q R f p q = tt
@@ -91,7 +91,7 @@ piece_image models x b n limit r first past chunks old new good some small few w
     let t : Spells (spelling b r f) (plain_header b n (length cs)) cs [] = subst (λ (m : ℕ). Spells (spelling b r f) (plain_header b m (length cs)) cs []) l.count q in
     record { wrote = spelling b r f; behind = l.stands; is = record { chunks = cs; spelled = t } }
 
--- ---- what it is where the source tells its bytes
+-- ---- what it is where the source models its content
 
 -- a whole image
 pub image_blocks : (models : Bool) (x : List ℕ) (b len n limit r past chunks : ℕ) (old new : List ℕ) → 4 ≤ b → len ≤ n * b → n * b < len + b → (IsTrue models → len ≡ length x) → IsTrue models → past ≡ n → (w : WholePiece models x b n limit r 0 past chunks old new) → framed 0 w.blocks (n - past) ≡ classify b x
@@ -151,7 +151,7 @@ first_told models x b first now s at all l = record {
 zeros_first : (f : ℕ) (old mid : List ℕ) → f ≡ length old → mid ≡ old ++ replicate 28 0 → take 28 (drop f mid) ≡ replicate 28 0
 zeros_first f old mid at e = ap (λ (n : ℕ). take 28 (drop n mid)) at ∙ ap (λ (l : List ℕ). take 28 (drop (length old) l)) e ∙ ap (take 28) (drop-append_seam old (replicate 28 0))
 
--- what stood before, and the zeros for the header, stand still
+-- what was stored before, and the zeros for the header, are unchanged
 pub front_kept : (f f' : ℕ) (old mid new : List ℕ) → f ≡ length old → f' ≡ f → mid ≡ old ++ replicate 28 0 → KeepsFront (f' + 28) mid new → take f new ≡ old
 front_kept f f' old mid new at same e k =
     (keeps_less f (f' + 28) mid new (omega (arith, same)) k).front ∙ ap (λ (n : ℕ). take n mid) at ∙ ap (take (length old)) e ∙ take-append_seam old (replicate 28 0)
@@ -162,7 +162,7 @@ zeros_stay f f' old mid new at same e k = zeros_kept f mid new (subst (λ (n : �
 pub unfinished_at : (f : ℕ) (old new : List ℕ) → f ≡ length old → IsUnfinished (drop f new) → IsUnfinished (drop (length old) new)
 unfinished_at f old new at h = subst (λ (n : ℕ). IsUnfinished (drop n new)) at h
 
--- ---- what is answered
+-- ---- what is returned
 
 pub piece_exact : (models : Bool) (x : List ℕ) (b n limit r first chunks : ℕ) (old new : List ℕ) (p : Piece) → IsUncut b limit r → IsTrue models → n ≡ length (classify b x) → p.first ≡ first → p.first ≤ p.past → p.past ≤ n → p.written ≡ p.past - p.first → length new ≡ length old + p.bytes → WholePiece models x b n limit r first p.past chunks old new → IsPieceOf b (classify b x) p
 piece_exact models x b n limit r first chunks old new p few t long at order within held bytes w =

@@ -66,7 +66,7 @@ take_less n at w le = sym (take-take n at w le)
 pub keeps_less : (n k : ℕ) (w w' : List ℕ) → n ≤ k → KeepsFront k w w' → KeepsFront n w w'
 keeps_less n k w w' le h = record { front = take_less n k w' le ∙ ap (take n) h.front ∙ sym (take_less n k w le); long = h.long }
 
--- what is laid over what stands behind
+-- what is written over what follows
 pub keeps_before : (n at : ℕ) (w w' : List ℕ) → n ≤ at → take at w' ≡ take at w → length w' ≡ length w → KeepsFront n w w'
 keeps_before n at w w' le h long = keeps_less n at w w' le (record { front = h; long = omega (arith, long) })
 
@@ -79,7 +79,7 @@ zeros_kept f w w' h z = front_part f 28 w' ∙ ap (drop f) h.front ∙ sym (fron
 pub zeros_refused : (f : ℕ) (w : List ℕ) → take 28 (drop f w) ≡ replicate 28 0 → IsUnfinished (drop f w)
 zeros_refused f w z = unfinished_by 28 (drop f w) (omega arith) z
 
--- ---- the magic number is laid last
+-- ---- the magic number is written last
 
 pub four_zeros : (f : ℕ) (w : List ℕ) → take 28 (drop f w) ≡ replicate 28 0 → take 4 (drop f w) ≡ replicate 4 0
 four_zeros f w z = take_less 4 28 (drop f w) (omega arith) ∙ ap (take 4) z
@@ -112,7 +112,7 @@ magic_last c new h at k is lt le z e =
     let y : drop at new ≡ take k (to_le_bytes w32 0xED26FF3A) ++ drop k (replicate 4 0 ++ drop 4 (drop at c)) = x ∙ ap (λ (l : List ℕ). take k l ++ drop k (drop at c)) is ∙ ap (λ (l : List ℕ). take k (to_le_bytes w32 0xED26FF3A) ++ drop k l) d in
     rw y (magic_part k (drop 4 (drop at c)) (omega (arith, lt, four)))
 
--- bytes that are laid in two parts, the last first
+-- bytes that are written in two parts, the last first
 pub laid_in_two : (c mid new x y h : List ℕ) (at : ℕ) → at + (length x + length y) ≤ length c → mid ≡ put_at c (at + length x) y → new ≡ put_at mid at x → h ≡ x ++ y → new ≡ put_at c at h
 laid_in_two c mid new x y h at le e f g =
     let t : length (take at c) ≡ at = length-take-le at c (omega (arith, le)) in

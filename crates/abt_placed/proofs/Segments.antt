@@ -1,4 +1,4 @@
--- A segment that takes blocks: its numbers, and what it has laid.
+-- A segment that takes blocks: its numbers, and what it has written.
 use Rattle.std.proofs.Common.{inl, inr, ◌⊎◌, ◌≡◌, ℕ, zero, suc, ◌^◌, ◌+◌, ◌-◌, ◌*◌, ◌/◌, ◌%◌, ◌<◌, ◌≤◌, nat_lt, Bool, true, false, List, [], ◌∷◌, ◌++◌, length, take, drop, map, refl, sym, ap, subst, ◌∙◌, arith, append_assoc, ◌&&◌, if◌then◌else◌, bytes_eq, mul-le-mul_right}
 use Rattle.std.proofs.lemmas.Bool.{cases_Bool, ltb-true, ltb-false}
 use Rattle.std.proofs.lemmas.List.{length-map}
@@ -28,7 +28,7 @@ use Rattle.abt_placed.proofs.Numbers.{goes}
 use Rattle.abt_placed.proofs.Laying.{classes_more, classes_next}
 use Rattle.std.specs.Prelude.{slice_range}
 
--- ---- what is laid is within the weight
+-- ---- what is written is within the weight
 
 raw_adds : (j : RunKind) (t : Bool) (q b : ℕ) → (j ≡ kinds.Raw → t ≡ true) → (if t && alike_kinds j kinds.Raw then 0 else closing_len j + 12) + q * b + 12 ≤ to_come j + (head_of (tail_of_open j) + q * b)
 raw_adds kinds.Raw t q b e = rw (e refl) (omega arith)
@@ -240,7 +240,7 @@ tail_same t (kinds.Fill w) e = refl
 tail_same t kinds.Skip e = absurd cc
 tail_same t kinds.End e = absurd cc
 
--- ---- what is laid
+-- ---- what is written
 
 pub laid_on : (b q gain : ℕ) (g : List Block) (x now now' : List ℕ) (s : Segment) (t : Placer) (k : RunKind) → 0 < q → AllOf k (classes b q x) → t ≡ with_part s.placer k q → gain ≡ gain_of (tail_of_open s.placer.kind) k q b → LaidSegment b g now s → Placed b ((skips s.first ++ g) ++ classes b q x) now' t
     → LaidSegment b (g ++ classes b q x) now' (record { placer = t; first = s.first; weight = s.weight + gain; limit = s.limit })
@@ -269,7 +269,7 @@ part_over b q g rest now s long k four some h l all cap above x more e =
     let o = over b all_of 0 (length g) q k t s.limit s.weight (omega (arith, four)) some (l.tail ∙ ap (λ (f : List Block). tail_of (behind_all Fresh f)) (sym bt)) (rw dr all) (l.heavy ∙ ap (weight b) (sym bt)) h.room (λ r. cap) above x more (dr ∙ e) in
     rw bt at o
 
--- the first blocks of the window, and those behind them
+-- the first blocks of the window, and those after them
 pub more_laid : (b d n from past : ℕ) (g : List Block) (w x now : List ℕ) (s : Segment) → from ≡ d * b → from + n * b ≤ past → x ≡ slice_range w from past → LaidSegment b ((g ++ classes b d w) ++ classes b n x) now s → LaidSegment b (g ++ classes b (d + n) w) now s
 more_laid b d n from past g w x now s at le e l =
     subst (λ (f : List Block). LaidSegment b f now s) (classes_more b d n from past g w x at le e) l

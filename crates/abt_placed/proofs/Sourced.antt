@@ -1,4 +1,4 @@
--- The blocks of a segment, as the source tells them.
+-- The blocks of a segment, as the source models them.
 use Rattle.std.proofs.Common.{◌≡◌, ℕ, zero, suc, ◌+◌, ◌-◌, ◌*◌, ◌^◌, ◌<◌, ◌≤◌, Bool, true, false, IsTrue, length-drop, List, ◌∷◌, ◌++◌, length, take, drop, replicate, min, refl, sym, ap, subst, ◌∙◌, arith, mul-le-mul_right}
 use Rattle.std.specs.Prelude.{slice_range}
 use Rattle.std.proofs.lemmas.List.{drop-drop, drop-take}
@@ -13,7 +13,7 @@ use Rattle.abt_placed.specs.Segment.{LaidSegment, ToldSegment, EndedSegment, One
 use Rattle.abt_placed.specs.declared.segment.Segment.{Segment}
 use Rattle.abt_placed.proofs.Laying.{classes_part}
 
--- what was read to the window's front, from block i on
+-- what was read to the window's beginning, from block i on
 pub record Loaded (b len i want room : ℕ) (x w : List ℕ) : Type 0 where
   pub long : len ≡ length x
   pub there : i * b ≤ len
@@ -88,7 +88,7 @@ none_over models x b len n s some covers last known all = record {
   over = λ t y more e. absurd (let l = raw_long len n b x some covers last (known t) in let z : length (drop (taken s.placer) (classify b x)) ≡ suc (length more) = ap length e in omega (arith, z, l, all, length-drop (taken s.placer) (classify b x)));
 }
 
--- a source that tells the same
+-- a source that models the same
 pub same_told : (models : Bool) (x x' : List ℕ) (b : ℕ) (now : List ℕ) (s : Segment) → (IsTrue models → x ≡ x') → ToldSegment models x b now s → ToldSegment models x' b now s
 same_told models x x' b now s e h = record {
   blocks = h.blocks;

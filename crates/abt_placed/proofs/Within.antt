@@ -17,7 +17,7 @@ taken_within b q gain long long' full s k h uncut some held grows fits adds =
     let w = h.fits uncut in
     omega (arith, y, w, h.room, adds, grows, fits)
 
--- a segment keeps room for what is skipped behind it
+-- a segment keeps room for what is skipped after it
 skipping_as : (on : Bool) (k : RunKind) → (if on then 0 else closing_len k + 0) + 12 ≤ to_come k
 skipping_as true kinds.Raw = omega arith
 skipping_as true (kinds.Fill w) = omega arith

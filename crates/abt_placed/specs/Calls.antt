@@ -39,7 +39,7 @@ stand o output m = record {
   greatest = m.greatest.number;
 }
 
--- A call that writes, with at most k calls of the output and j turns beside those of bytes: it is answered r exactly
+-- A call that writes, with at most k calls of the output and j turns beside those of bytes: it returns r exactly
 -- where the output has failed so.
 pub record Writes {X : Type 0} (r : Result X DeviceFault) (k j : ℕ) (a z : Stand) : Type 0 where
   pub grown : a.long ≤ z.long
@@ -73,7 +73,7 @@ scene s o source output m = record {
   output = stand o output m;
 }
 
--- A call that lays what it reads: no step receives more than a window, and it is answered r, Ok where neither device
+-- A call that writes what it reads: no step receives more than a window, and it returns r, Ok where neither device
 -- has failed, and else with the reason.
 pub record LaysOn {X : Type 0} (r : Result X PieceFault) (models : Bool) (a z : Scene) : Type 0 where
   pub content : IsTrue models → z.content ≡ a.content
@@ -91,14 +91,14 @@ pub record LaysOn {X : Type 0} (r : Result X PieceFault) (models : Bool) (a z : 
   pub full : full_cut r ≡ 1 → IsTrue z.output.is_full
   pub cause : IfErr r (λ e. CutCause e models a.faults z.faults a.output.faults z.output.faults)
 
--- Nothing is taken back. What stood in the output stays, and where the call is refused, nothing stands behind it, or
+-- Nothing is taken back. What was stored in the output stays, and where the call is refused, nothing is after it, or
 -- what is no image whatever follows it.
 pub record OutputGrows {X : Type 0} (r : Result X PieceFault) (old new : List ℕ) : Type 0 where
   pub grown : length old ≤ length new
   pub before : take (length old) new ≡ old
   pub unfinished : OnErr r ((new ≡ old) ⊎ IsNoImage (drop (length old) new))
 
--- A call that lays a header of k bytes over what stands at a place, and nothing before it.
+-- A call that writes a header of k bytes over what is stored at a place, and nothing before it.
 pub record LaysOver {X B : Type 0} (r : Result X DeviceFault) (at k : ℕ) (o : outputs.Ghosts B) (old new : B)
     (m m' : Meter) : Type 0 where
   pub before : take at (o.written new) ≡ take at (o.written old)
@@ -106,7 +106,7 @@ pub record LaysOver {X B : Type 0} (r : Result X DeviceFault) (at k : ℕ) (o : 
   pub failed : IfErr r (λ e. e ≡ Failed)
   pub writes : Writes r k k (stand o old m) (stand o new m')
 
--- A placer of blocks of b bytes takes q of them, with at most k calls of the output beside those of bytes: what stood
+-- A placer of blocks of b bytes takes q of them, with at most k calls of the output beside those of bytes: what was
 -- before its chunks stays.
 pub record PlacerGoes {X B : Type 0} (b q k : ℕ) (r : Result X DeviceFault) (s s' : Placer) (o : outputs.Ghosts B)
     (old new : B) (m m' : Meter) : Type 0 where

@@ -1,4 +1,4 @@
--- A piece that is laid in one pass, whole; an image is one without a limit.
+-- A whole piece that is written in one pass. An image is a piece without a limit.
 use Rattle.std.specs.Prelude.{◌≡◌, ℕ, ◌-◌, ◌≤◌, Bool, IsTrue, List, ◌++◌, length}
 use Rattle.std.specs.List.{AllByRecursion}
 use Rattle.abt_sparse.specs.Block.{Block, AreBlocks, classify}
@@ -24,14 +24,14 @@ use Rattle.abt_sparsify.specs.declared.count.Written.{Written}
 use Rattle.abt_placed.specs.Segment.{IsUncut}
 use Rattle.abt_placed.specs.Whole.{read_of}
 
--- behind `old` stands the image of these n blocks, in so many chunks, raw runs cut every r blocks
+-- after `old` comes the image of these n blocks, in so many chunks, raw runs cut every r blocks
 pub record LaidPiece (b n r chunks : ℕ) (f : List Block) (old now : List ℕ) : Type 0 where
   pub good : AreBlocks b f
   pub count : length f ≡ n
   pub chunks_are : chunks ≡ length (chunks_of r f)
   pub stands : now ≡ old ++ spelling b r f
 
--- So does that of some segment from block `first` up to `past` of an image of n blocks; where the source tells its
+-- So does that of some segment from block `first` up to `past` of an image of n blocks; where the source models its
 -- bytes x, it is the first piece of what begins there.
 pub record WholePiece (models : Bool) (x : List ℕ) (b n limit r first past chunks : ℕ) (old now : List ℕ) : Type 0 where
   pub blocks : List Block
@@ -40,8 +40,8 @@ pub record WholePiece (models : Bool) (x : List ℕ) (b n limit r first past chu
   pub fits : weight b blocks ≤ limit
   pub told : IsTrue models → (blocks ≡ between (classify b x) first past) × FirstPiece b (classify b x) limit first past
 
--- So is laid what an outline says, from block `first` of these runs on: the next piece, within its limit where no raw
--- run is cut, and whole where the limit is none.
+-- So is written what an outline says, from block `first` of these runs on: the next piece, within its limit where no
+-- raw run is cut, and whole where the limit is none.
 pub record OutlineLaid (models : Bool) (x : List ℕ) (runs : RawRuns) (limit r first : ℕ) (old new : List ℕ)
     (o : Outline)
     : Type 0 where
@@ -80,20 +80,20 @@ pub record PieceAt (runs : RawRuns) (limit first first' made made' : ℕ) (st' :
   pub going_turns : p.past < runs.blocks → m'.turns.number + a.written
       ≤ m.turns.number + z.written + 8 * (z.given - a.given) + 100
 
--- what any answer to it reads and costs
+-- what it reads and costs, whatever it returns
 pub record PieceAtWork (runs : RawRuns) (first : ℕ) (a z : Devices) (m m' : Meter) : Type 0 where
   pub economy : z.given + read_of runs.length runs.size first ≤ a.given + runs.length
   pub calls : z.reads + z.writes + a.written ≤ a.reads + a.writes + z.written + 6 * (z.given - a.given) + 100
   pub turns : m'.turns.number + a.written ≤ m.turns.number + z.written + 8 * (z.given - a.given) + runs.size + 100
 
--- before the call: the cutter is one of a source that holds x, and where it stands is so
+-- before the call: the cutter is one of a source that holds x, and its stage is so
 pub record ReadyRaw (models : Bool) (x : List ℕ) (runs : RawRuns) (limit made : ℕ) (start : Cursor) (st : CutterStage)
     : Type 0 where
   pub opened : IsTrue models → runs.length ≡ length x
   pub told : IsTrue models → ToldCutter (λ c. RawPlace runs.blocks runs.size c) (λ c. runs.blocks - c.block) runs.size
       (classify runs.size x) limit made start st
 
--- Behind the last piece none is answered, and no fault; behind a fault it is answered again, and nothing is done. A
+-- After the last piece none is returned, and no fault; after a fault it is returned again, and nothing is done. A
 -- fault is kept.
 pub record AnswersOver (st st' : CutterStage) (unchanged still : Type 0) (r : Result (Option Piece) PieceFault) : Type
     0 where
@@ -102,7 +102,7 @@ pub record AnswersOver (st st' : CutterStage) (unchanged still : Type 0) (r : Re
   pub again : (f : PieceFault) → st ≡ Failed f → (r ≡ Err f) × unchanged
   pub refused : IfErr r (λ e. st' ≡ Failed e)
 
--- An image of a blocks of b bytes in so many chunks stands behind `old`, as long as is told, and the blocks are what a
+-- An image of a blocks of b bytes in so many chunks is after `old`, as long as is reported, and the blocks are what a
 -- source of so many bytes fills.
 pub record ImageWritten (b size : ℕ) (a : Written) (old new : List ℕ) : Type 0 where
   pub blocks : (size ≤ a.blocks * b) × (a.blocks * b < size + b)

@@ -1,4 +1,4 @@
--- What a placer has laid of the blocks that it has taken.
+-- What a placer has written of the blocks that it has taken.
 use Rattle.std.specs.Prelude.{◌≡◌, ℕ, ◌+◌, List, ◌++◌, length, drop, map, replicate}
 use Rattle.abt_sparse.specs.Block.{Block, Skip, AreBlocks, class_of, split}
 use Rattle.abt_sparse.specs.Chunk.{chunks_of}
@@ -16,11 +16,11 @@ classes b n x = map class_of (split b n x)
 abbrev pub skips : ℕ → List Block
 skips n = replicate n Skip
 
--- what stands of the open chunk, whose header is not laid yet
+-- what is written of the open chunk, whose header is not written yet
 abbrev pub open_bytes : RunKind → List Block → List ℕ
 open_bytes k g = kept_for k ++ data_for k (raw_of g)
 
--- Of the blocks g all were taken: behind the bytes of before stand zeros for the image's header, the chunks that are
+-- Of the blocks g all were taken: after the earlier bytes come zeros for the image's header, the chunks that are
 -- whole, and of the open chunk what is written as its blocks come. Whatever blocks t follow, the chunks of all are
 -- those that are whole, and then those of the open chunk's blocks and t.
 pub record Placed (b : ℕ) (g : List Block) (now : List ℕ) (s : Placer) : Type 0 where

@@ -1,4 +1,4 @@
--- A placer in numbers, and the bytes that stand as it goes on.
+-- A placer in numbers, and the bytes that are written as it goes on.
 use Rattle.std.specs.Prelude.{◌≡◌, ℕ, ◌+◌, ◌-◌, ◌*◌, ◌^◌, ◌≤◌, ◌<◌, Bool, true, false, List, [], ◌++◌, length}
 use Rattle.std.specs.Prelude.{replicate, ◌&&◌, nat_lt, if◌then◌else◌}
 use Rattle.abt_runs.specs.Part.{is_end}
@@ -10,7 +10,7 @@ use Rattle.abt_pieces.specs.Contents.{copy_len}
 use Rattle.abt_io.specs.Moment.{put_at}
 use Rattle.abt_placed.specs.declared.placer.Placer.{Placer}
 
--- how many bytes of the open chunk stand already
+-- how many bytes of the open chunk are written already
 abbrev pub open_len : RunKind → ℕ → ℕ → ℕ
 open_len kinds.Raw q b = 12 + q * b
 open_len (kinds.Fill w) q b = 0

@@ -1,4 +1,4 @@
--- The segment of a piece that is laid in one pass: its numbers, and what stands of it.
+-- The segment of a piece that is written in one pass: its numbers, and what of it is written.
 use Rattle.std.specs.Prelude.{◌≡◌, ℕ, ◌+◌, ◌-◌, ◌*◌, ◌^◌, ◌≤◌, ◌<◌, Bool, true, false, IsTrue, List, [], ◌∷◌, ◌++◌}
 use Rattle.std.specs.Prelude.{drop, ⊤}
 use Rattle.std.specs.List.{AllByRecursion}
@@ -39,7 +39,7 @@ is_fresh (kinds.Fill w) = false
 is_fresh kinds.Skip = true
 is_fresh kinds.End = true
 
--- how many bytes of its weight are not laid, where this chunk is open: that chunk's header, and those of what is
+-- how many bytes of its weight are not written, where this chunk is open: that chunk's header, and those of what is
 -- skipped
 abbrev pub to_come : RunKind → ℕ
 to_come kinds.Raw = 12
@@ -71,14 +71,14 @@ IsHeldBlock (Raw x) = ⊤
 IsHeldBlock (Fill w) = ⊤
 IsHeldBlock Skip = ⊥
 
--- the blocks g of the segment stand behind as many skipped ones as are before it
+-- the blocks g of the segment are after as many skipped ones as are before it
 pub record LaidSegment (b : ℕ) (g : List Block) (now : List ℕ) (s : Segment) : Type 0 where
   pub placed : Placed b (skips s.first ++ g) now s.placer
   pub heavy : s.weight ≡ weight b g
   pub tail : tail_of_open s.placer.kind ≡ tail_of (behind_all Fresh g)
   pub held : AllByRecursion IsHeldBlock g
 
--- some blocks stand so, and where the source tells its bytes x they are those of x
+-- some blocks are written so, and where the source models its content x they are those of x
 pub record ToldSegment (models : Bool) (x : List ℕ) (b : ℕ) (now : List ℕ) (s : Segment) : Type 0 where
   pub blocks : List Block
   pub laid : LaidSegment b blocks now s
@@ -113,15 +113,15 @@ pub record PartBlocks (k : RunKind) (n b : ℕ) (x : List ℕ) : Type 0 where
   pub words : 4 ≤ b
   pub all : AllOf k (classes b n x)
 
--- The blocks of a segment of these runs, whose source holds x, are taken so far, and stand in the output.
+-- The blocks of a segment of these runs, whose source holds x, are taken so far, and are in the output.
 pub record ReadySegment (models : Bool) (x : List ℕ) (runs : RawRuns) (s : Segment) (now : List ℕ) : Type 0 where
   pub sound : SoundSegment runs.size (length now) s
   pub within : taken s.placer ≤ runs.blocks
   pub opened : IsTrue models → runs.length ≡ length x
   pub told : ToldSegment models x runs.size now s
 
--- A segment goes on, by which up to n blocks are laid in all. What stood before its chunks stays; where no raw run is
--- cut it stays within its limit, also where the output is full.
+-- A segment goes on, by which up to n blocks are written in all. What was stored before its chunks stays; where no raw
+-- run is cut it stays within its limit, also where the output is full.
 pub record SegmentGoes {X E : Type 0} (b n full : ℕ) (r : Result X E) (s s' : Segment) (old new : List ℕ) : Type 0
   where
     pub kept : KeepsFront (s.placer.front + 28) old new
@@ -152,7 +152,7 @@ pub record SegmentReads {X E : Type 0} (r : Result X E) (runs : RawRuns) (s s' :
     pub last : OnOk r (given' + read_of runs.length runs.size (taken s.placer)
         ≤ given + read_of runs.length runs.size (taken s'.placer) + 65536)
 
--- A segment takes blocks of its source, which is read for them: what stands is laid, and is told.
+-- A segment takes blocks of its source, which is read for them: what it reports is written.
 pub record SegmentLays {X : Type 0} (r : Result X PieceFault) (models : Bool) (runs : RawRuns) (s s' : Segment)
     (old new : List ℕ) (a z : Scene) : Type 0 where
   pub lays : LaysOn r models a z

@@ -1,4 +1,4 @@
--- What is no image, and what stays as it was.
+-- Bytes that are no image, and bytes that stay unchanged.
 use Rattle.std.specs.Prelude.{◌≡◌, ℕ, ◌≤◌, List, [], ◌++◌, length, take}
 use Rattle.abt_sparse.specs.declared.fault.SparseFault.{SparseFault}
 use Rattle.abt_sparse.specs.Reading.{outcome, Fault}
@@ -8,7 +8,7 @@ use Rattle.abt_sparse.specs.Field.{number_at}
 abbrev pub IsNoImage : List ℕ → Type 0
 IsNoImage x = (y : List ℕ) → (f : SparseFault) × (outcome (x ++ y) ≡ Fault f [])
 
--- whatever follows, the magic number does not stand in front
+-- whatever follows, the magic number is not at the beginning
 abbrev pub IsUnfinished : List ℕ → Type 0
 IsUnfinished x = (y : List ℕ) → number_at 0 4 (x ++ y) ≡ 0xED26FF3A → ⊥
 

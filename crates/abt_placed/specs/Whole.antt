@@ -1,4 +1,4 @@
--- What was taken of a source, and read for it.
+-- What was taken from a source, and what was read for it.
 use Rattle.std.specs.Prelude.{ℕ, ◌+◌, ◌*◌, nat_lt, min, if◌then◌else◌}
 use Rattle.abt_placed.specs.declared.placer.Placer.{Placer}
 

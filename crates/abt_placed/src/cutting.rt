@@ -1,4 +1,4 @@
-//! Cutting a raw image into pieces, each in one pass over its segment.
+//! Cuts a raw image into pieces, each in one pass over its segment.
 ghost use Rattle.std.specs.Prelude.{◌≡◌, ◌<◌, ◌≤◌, ◌+◌, ◌-◌, ◌*◌, ◌^◌, IsTrue, IfOk, IfErr, IfSome, OnErr};
 ghost use Rattle.std.specs.Prelude.{Err, length, take, drop, false, ◌⊎◌};
 ghost use Rattle.abt_sparse.specs.Block.{classify};
@@ -20,7 +20,7 @@ use abt_io::{Meter, Overwrite, Source, Window, write_out};
 use abt_pieces::{Cutter, CutterStage, Outline, Piece, PieceFault};
 use abt_runs::{Cursor, RawRuns};
 
-/// Lays the piece of what begins at a block, behind what stands in the output: no raw chunk has more than
+/// Writes the piece of what begins at a block, after what is stored in the output: no raw chunk has more than
 /// `most` blocks. A limit of `u64::MAX` is none, and the piece goes up to the last block.
 pub(crate) fn lay_piece<S: Source, O: Overwrite>(
     runs: &RawRuns,
@@ -84,17 +84,16 @@ pub(crate) fn lay_piece<S: Source, O: Overwrite>(
     })
 }
 
-/// Writes the next piece of a raw image, the same bytes as `Cutter::next_piece` writes, to an output
-/// whose written bytes can be written over: in one pass over its segment. At most a window of the
-/// source is read again for each piece.
+/// Writes the next piece of a raw image, with the same bytes as `Cutter::next_piece` writes. It writes to an output
+/// whose written bytes can be overwritten, in one pass over the segment. For each piece at most a window of the
+/// source is read again.
 ///
-/// It answers and refuses as `next_piece` does, and a cutter may go from one of the calls to the other
-/// with each piece. Whatever the source gives, no piece passes the limit, and `Write(Full)` comes only
-/// of an output that is full, and took less than the limit.
+/// It returns and fails as `next_piece` does. A cutter may use either call for each piece. Whatever the source gives,
+/// no piece passes the limit. `Write(Full)` comes only of an output that is full, and that took less than the limit.
 ///
-/// Headers are laid behind what they tell of, and the magic number of the piece's last of all. So
-/// where it is not answered Ok, what stands behind the bytes of before is nothing, or no image,
-/// whatever follows it.
+/// Each header is written after the data that it describes, and the magic number of the piece last of all. So where
+/// the call does not return Ok, what follows the earlier bytes of the output is nothing, or no image, whatever comes
+/// after it.
 pub fn next_piece_at<S: Source, O: Overwrite>(
     cutter: &mut Cutter<RawRuns>,
     source: &mut S,
@@ -112,7 +111,7 @@ pub fn next_piece_at<S: Source, O: Overwrite>(
         cutter.new.stage }
     ensures reads { OnlyReads result S.Source source.old source.new }
     ensures writes { OnlyWrites result (full_at cutter.old.stage result) O.Output output.old output.new }
-    // What stands in the output, and the piece that it is told to be.
+    // What is stored in the output, and the piece that is returned.
     ensures grows { OutputGrows result (O.written output.old) (O.written output.new) }
     ensures within { length (O.written output.new) ≤ length (O.written output.old) + cutter.old.limit }
     ensures made { IfOk result (λ o. IfSome o (λ p. PieceAt cutter.old.runs cutter.old.limit cutter.old.start.block

@@ -1,4 +1,4 @@
-//! Headers that are laid when what they tell is known.
+//! Headers that are written when their fields are known.
 ghost use Rattle.std.specs.Prelude.{◌≡◌, ◌<◌, ◌≤◌, ◌+◌, ◌*◌, ◌%◌, ◌^◌, OnOk, OnErr, length, drop, take, replicate};
 ghost use Rattle.abt_io.specs.Count.{full_of};
 ghost use Rattle.abt_io.specs.Moment.{put_at};
@@ -14,7 +14,7 @@ use abt_io::{DeviceFault, Meter, Overwrite, write_over_all};
 use abt_pieces::{chunk_front, image_header, write_front};
 use abt_runs::RunKind;
 
-/// Lays the header of a raw chunk over the place that was kept for it.
+/// Writes the header of a raw chunk over the place that was kept for it.
 pub fn lay_front<O: Overwrite>(
     output: &mut O,
     at: u64,
@@ -32,8 +32,8 @@ pub fn lay_front<O: Overwrite>(
     write_over_all(output, at, &bytes[..12], m)
 }
 
-/// Lays the header of an image over the place that was kept for it, its magic number last: the image
-/// is none before that stands.
+/// Writes the header of an image to the place that was kept for it, its magic number last. Before that the bytes are
+/// no image.
 pub fn lay_header<O: Overwrite>(
     output: &mut O,
     at: u64,
@@ -64,8 +64,8 @@ pub fn lay_header<O: Overwrite>(
 }
 
 impl Placer {
-    /// Lays what the open chunk still wants to be whole: a raw chunk's header where its place was
-    /// kept, any other chunk behind what is written.
+    /// Writes what the open chunk still wants to be whole: a raw chunk's header where its place was
+    /// kept, any other chunk after what is written.
     pub(crate) fn close<O: Overwrite>(
         &self,
         size: u32,

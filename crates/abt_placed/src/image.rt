@@ -1,4 +1,4 @@
-//! Writing a raw image as a sparse one in one pass.
+//! Writes a raw image as a sparse image in one pass.
 ghost use Rattle.std.specs.Prelude.{◌≡◌, ◌<◌, ◌≤◌, ◌+◌, ◌*◌, ◌^◌, ◌++◌, IsTrue, IfOk, OnOk, length};
 ghost use Rattle.abt_sparse.specs.Block.{classify};
 ghost use Rattle.abt_sparse.specs.Chunk.{spelling, chunks_of};
@@ -12,17 +12,20 @@ use abt_pieces::{PieceFault, run_fault};
 use abt_runs::RawRuns;
 use abt_sparsify::Written;
 
-/// Writes a raw image as a sparse image, the same bytes as `sparsify` writes, to an output whose
-/// written bytes can be written over: in one pass, that reads each byte of the source once.
+/// Writes a raw image as a sparse image, with the same bytes as `sparsify` writes. It writes to an output whose
+/// written bytes can be overwritten, in one pass that reads each byte of the source once.
 ///
-/// It refuses as `sparsify` does: with `BadBlock` exactly where `block_size` is no multiple of 4 from
-/// 4 to 65,536, then with `TooLarge` exactly where there are more than 2^32 - 1 blocks; both before
-/// anything is written. `Read` and `Write` come only where that device has failed; `SourceChanged`
-/// only of a source that does not tell its bytes.
+/// It fails as `sparsify` does:
 ///
-/// Headers are laid behind what they tell of, and the magic number of the image's last of all. So
-/// where it is not answered Ok, what stands behind the bytes of before is nothing, or no image,
-/// whatever follows it.
+/// - with `BadBlock` exactly where `block_size` is no multiple of 4 from 4 to 65,536;
+/// - otherwise with `TooLarge` exactly where there are more than 2^32 - 1 blocks; both come before anything is
+///   written;
+/// - with `Read` or `Write` only where that device has failed;
+/// - with `SourceChanged` only for a source that does not model its content.
+///
+/// Each header is written after the data that it describes, and the magic number of the image last of all. So where
+/// the call does not return Ok, what follows the earlier bytes of the output is nothing, or no image, whatever comes
+/// after it.
 pub fn sparsify_at<S: Source, O: Overwrite>(
     source: &mut S,
     block_size: u32,

@@ -1,11 +1,11 @@
-//! What is held of an image that is laid in one pass: numbers alone.
+//! The state of an image that is written in one pass: numbers alone.
 ghost use Rattle.std.specs.Prelude.{◌≡◌, ◌<◌, ◌≤◌, ◌+◌, ◌^◌, false};
 ghost use Rattle.abt_runs.specs.Part.{is_end};
 ghost use Rattle.abt_placed.specs.Placer.{closed, goes_on_with, with_part, room_of};
 
 use abt_runs::{RunKind, are_alike};
 
-/// Lays one sparse image, in steps. The last chunk is open until its run has ended or it has as many
+/// Writes one sparse image, in steps. The last chunk is open until its run has ended or it has as many
 /// raw blocks as a chunk may have.
 #[derive(Clone, Copy, Debug, PartialEq, Eq, Drop)]
 pub struct Placer {

@@ -1,4 +1,4 @@
-//! The segment of a piece that is laid in one pass: it takes blocks as long as they fit within the limit.
+//! The segment of a piece that is written in one pass. It takes blocks as long as they fit within the limit.
 ghost use Rattle.std.specs.Prelude.{◌≡◌, ℕ, ◌<◌, ◌≤◌, ◌+◌, ◌-◌, ◌*◌, ◌/◌, ◌%◌, ◌^◌, ◌++◌, IfOk, OnOk, OnErr};
 ghost use Rattle.std.specs.Prelude.{List, [], length, take, drop, replicate, true, false};
 ghost use Rattle.abt_io.specs.Count.{full_of};
@@ -21,10 +21,10 @@ use abt_io::{DeviceFault, Meter, Overwrite, Source, WINDOW, Window};
 use abt_pieces::{PieceFault, Tail, added, raw_cap, run_fault};
 use abt_runs::{RawRuns, RunKind, leading, load_filled};
 
-/// The segment of a piece that is being laid, and what it weighs.
+/// The segment of a piece that is being written, and what it weighs.
 #[derive(Clone, Copy, Drop)]
 pub struct Segment {
-    /// Lays the piece.
+    /// Writes the piece.
     pub placer: Placer,
     /// The first block.
     pub first: u32,
@@ -312,7 +312,7 @@ impl Segment {
         }
     }
 
-    /// Lays what is skipped behind the segment, and the headers that are left, the image's magic
+    /// Writes what is skipped after the segment, and the headers that are left, the image's magic
     /// number last.
     pub(crate) fn end<O: Overwrite>(
         &mut self,

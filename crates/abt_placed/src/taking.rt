@@ -1,4 +1,4 @@
-//! Blocks that are taken, class by class, as they stand in the window.
+//! Takes blocks, class by class, as they are in the window.
 ghost use Rattle.std.specs.Prelude.{◌≡◌, ◌≤◌, ◌+◌, ◌*◌, ◌++◌, OnOk, List, length};
 ghost use Rattle.abt_io.specs.Count.{full_of};
 ghost use Rattle.abt_sparse.specs.Block.{Block};
@@ -45,7 +45,7 @@ impl Placer {
         }
     }
 
-    /// Takes blocks of one class that stand behind all that were taken: these are their bytes.
+    /// Takes blocks of one class that follow all that were taken: these are their bytes.
     pub(crate) fn take<O: Overwrite>(
         &mut self,
         kind: RunKind,

@@ -1,4 +1,4 @@
--- Whether the words at the front of a block are all one.
+-- Whether the words at the beginning of a block are all one.
 use Rattle.std.proofs.Common.{◌≡◌, ℕ, zero, suc, ◌+◌, ◌-◌, ◌*◌, ◌/◌, ◌%◌, ◌≤◌, Bool, true, false, ◌&&◌, List, length, take, drop, refl, sym, ap, ◌∙◌, arith, inl, inr, bytes_eq, not, None}
 use Rattle.std.proofs.lemmas.Bool.{cases_Bool}
 use Rattle.std.proofs.lemmas.List.{drop-drop}
@@ -20,7 +20,7 @@ all-more w (suc n) bytes =
     ap (λ (b : Bool). bytes_eq w (take 4 bytes) && b) (all-more w n (drop 4 bytes) ∙ ap (λ (l : List ℕ). all_words w n (drop 4 bytes) && bytes_eq w (take 4 l)) e)
     ∙ and-assoc (bytes_eq w (take 4 bytes)) (all_words w n (drop 4 bytes)) (bytes_eq w (take 4 (drop (suc n * 4) bytes)))
 
--- what fails at the front fails
+-- what fails at the beginning fails
 pub all-fails : (w : List ℕ) (n k : ℕ) (bytes : List ℕ) → all_words w n bytes ≡ false → all_words w (n + k) bytes ≡ false
 all-fails w zero k bytes h = absurd cc
 all-fails w (suc n) k bytes h = elim (cases_Bool (bytes_eq w (take 4 bytes))) [

@@ -209,7 +209,7 @@ raw_takes k size used i q next some e =
 pub minus_zero : (n : ℕ) → n - 0 ≡ n
 minus_zero n = omega arith
 
--- what copying may have read before a place: behind raw blocks what of them is in the source more
+-- what copying may have read before a place: after raw blocks what of them is in the source more
 pub raw_copies : (len size i q next : ℕ) → next ≡ i + q → min len (i * size) + min (q * size) (len - i * size) ≤ min len (next * size)
 raw_copies len size i q next e =
     let d : (i + q) * size ≡ i * size + q * size = omega arith in
@@ -229,14 +229,14 @@ raw_first len blocks size c d some covers last place le = elim (cases_Bool (nat_
   | inr e ↦ rw e (raw_passed len blocks size c some covers last place).0
 ]
 
--- behind the last block a pass has read as much, whatever is asked for
+-- after the last block a pass has read as much, whatever is asked for
 pub charge_end : (len blocks size : ℕ) (c : Cursor) → c.block ≡ blocks → raw_charge len blocks size (afresh c) ≤ raw_charge len blocks size c
 charge_end len blocks size c e = elim (cases_Bool (nat_lt c.block blocks)) [
   | inl h ↦ absurd (let lt = ltb-true c.block blocks h in omega (arith, lt, e))
   | inr h ↦ rw h (omega arith)
 ]
 
--- the place behind q of a blocks that were asked for
+-- the place after q of a blocks that were asked for
 pub raw_next : (blocks size : ℕ) (from next : Cursor) (a q : ℕ) → RawPlace blocks size from → 0 < q → q ≤ a → from.block + a ≤ blocks → size ≤ 65536 → next.block ≡ from.block + q → next.used ≡ from.used → next.ask ≡ next_ask from.ask a q size → RawPlace blocks size next
 raw_next blocks size from next a q w some few room small at used ask = elim (cases_Bool (nat_lt q a)) [
   | inl h ↦

@@ -1,4 +1,4 @@
--- The chunk that stands at a place of an opened image, and its parts.
+-- The chunk that is at a place of an opened image, and its parts.
 use Rattle.std.proofs.Common.{◌≡◌, ℕ, zero, suc, ◌+◌, ◌-◌, ◌*◌, ◌<◌, ◌≤◌, Bool, true, false, IsTrue, ◌&&◌, List, [], ◌∷◌, ◌++◌, length, take, drop, map, replicate, Option, Some, refl, sym, ap, subst, ◌∙◌, arith, inl, inr, ◌==◌, nat_lt, ltb-false, ltb-true, eqb-true, length-drop, length-append, append_assoc, not, mul-le-mul_right}
 use Rattle.std.specs.List.{AllByRecursion, concat}
 use Rattle.std.proofs.lemmas.Bool.{cases_Bool, and_parts}
@@ -56,7 +56,7 @@ going_on b kinds.Fill n (suc u) d cs h some = absurd h
 going_on b kinds.Skip n (suc u) d cs h some = absurd h
 going_on b kinds.Crc n (suc u) d cs h some = absurd h
 
--- the chunk ch stands there, and the chunks ds behind it
+-- the chunk ch is there, and the chunks ds after it
 stand_on : (h : Header) (long image : ℕ) (x bytes : List ℕ) (c : Cursor) → SparseOpened h long image x → (p : SparsePlace h x c) → bytes ≡ take 12 (drop c.at x)
     → (left : ℕ) → left ≡ h.total_chunks - (c.chunk + 1) → (ch : Chunk) (m : ℕ) (next : List ℕ) → chunk_at h (length x) c.chunk (counted_in p.before) (drop c.at x) ≡ Got ch m next
     → (ds : List Chunk) (end : List ℕ) → chunks_at h (length x) (c.chunk + 1) (counted_in p.before + m) left next ≡ Done ds end → Done (ch ∷ ds) end ≡ Done p.after p.rest
@@ -144,7 +144,7 @@ none_inside : (n : ℕ) (cs : List Chunk) → [] ≡ cs → Inside n cs → n �
 none_inside zero cs e h = refl
 none_inside (suc n) cs e h = absurd (subst (λ (ds : List Chunk). Inside (suc n) ds) (sym e) h)
 
--- behind the last chunk all blocks are passed
+-- after the last chunk all blocks are passed
 pub at_last : (h : Header) (x : List ℕ) (c : Cursor) → SparsePlace h x c → c.chunk ≡ h.total_chunks → c.block ≡ h.total_blks
 at_last h x c p last =
     let z : h.total_chunks - c.chunk ≡ 0 = omega arith in
@@ -456,7 +456,7 @@ rest_is h size i have y cs rest e = elim (cases_Bool (have == h.total_blks)) [
   | inr t ↦ absurd (let f : Failed _ [] [] ≡ Done cs rest = rw (t, chunks_at) at e in cc)
 ]
 
--- the place behind the last chunk is the image's end
+-- the place after the last chunk is the image's end
 end_at : (h : Header) (long image : ℕ) (x : List ℕ) (c : Cursor) → SparseOpened h long image x → SparsePlace h x c → h.total_chunks ≤ c.chunk → image ≤ c.at
 end_at h long image x c o p last =
     let z : h.total_chunks - c.chunk ≡ 0 = omega arith in

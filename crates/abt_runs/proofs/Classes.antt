@@ -1,4 +1,4 @@
--- The classes of blocks that stand together.
+-- The classes of adjacent blocks.
 use Rattle.std.proofs.Common.{◌≡◌, ℕ, zero, suc, ◌+◌, ◌-◌, ◌*◌, ◌/◌, ◌≤◌, Bool, false, List, [], ◌∷◌, ◌++◌, length}
 use Rattle.std.proofs.Common.{take, drop, map, replicate, refl, sym, ap, ◌∙◌, arith, inl, inr, bytes_eq, Option, Some}
 use Rattle.std.proofs.Common.{None, min, IsTrue, subst, length-drop, append-nil, nat_le, leb-true, leb-false}
@@ -131,7 +131,7 @@ take_drop_classes b i q n y le =
     ∙ take-map class_of q (split b (n - i) (drop (i * b) y))
     ∙ ap (λ (l : List (List ℕ)). map class_of l) (take-split b q (n - i) (drop (i * b) y) (omega arith))
 
--- bytes with zeros behind them
+-- bytes with zeros after them
 padded : (k m want : ℕ) (y : List ℕ) → want ≡ min k (length y) → k ≤ length y + m → take want y ++ replicate (k - want)
     0 ≡ take k (y ++ replicate m 0)
 padded k m want y e le = elim (cases_Bool (nat_le k (length y))) [

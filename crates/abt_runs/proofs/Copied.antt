@@ -40,7 +40,7 @@ raw_copied b i q n at blocks x count within h le =
     ∙ take_drop_take n at (q * b) (drop (i * b) y) le
     ∙ ap (λ (l : List ℕ). take n l) (drop-drop at (i * b) y)
 
--- within the bytes, and behind them
+-- within the bytes, and after them
 pub filled_within : (x : List ℕ) (n pos total : ℕ) → pos + n ≤ length x → take n (drop pos (filled_to total x)) ≡ take n (drop pos x)
 filled_within x n pos total le =
     ap (λ (l : List ℕ). take n l) (drop-append-le pos x (replicate (total - length x) 0) (omega arith))

@@ -259,7 +259,7 @@ pub none_left : (r : Run) (from next count : ℕ) → (r.blocks ≡ 0 → r.kind
 none_left r from next count none ended at within left =
     (λ e. let n = ended e in omega (arith, n, left n, at), λ e. ap is_end (none (omega (arith, e, at, within))))
 
--- the part behind a run without a block is the end
+-- the part after a run without a block is the end
 pub rests_at : (r p : Run) → Rests r p → r.blocks ≡ 0 → is_end p.kind ≡ true
 rests_at r p (ends h) n = h
 rests_at r p (differs z s k) n = absurd (omega arith)

@@ -253,7 +253,7 @@ load_caused TooLarge models b a S h = absurd h
 load_caused SourceChanged models b a S h = λ p. absurd (let z : true ≡ false = sym p.0 ∙ h in cc)
 load_caused (BadBlock n) models b a S h = absurd h
 
--- a fault that is answered stands
+-- a fault that is returned is kept
 pub failed_takes : {least : ℕ} {o o' : Opening} (r : Result OpeningProgress RunFault) (f : RunFault) → r ≡ Err f
     → o'.stage ≡ stages.Failed f → IsFormat f → Takes least r o o'
 failed_takes r f e stage own = rw e (record { leaves = stage; on = tt; own = own })

@@ -47,7 +47,7 @@ inside_few (suc n) (Fills word k) cs i = absurd i
 inside_few (suc n) (Skips k) cs i = absurd i
 inside_few (suc n) (Crc word) cs i = absurd i
 
--- a place d is before the chunk k at c, in it or behind it
+-- a place d is before the chunk k at c, in it or after it
 pub data Order (c : Cursor) (k : ChunkHeader) (d : Cursor) : Type 0 where
   before : d.block + c.used ≤ c.block → Order c k d
   same : c.at ≡ d.at → d.block + c.used ≡ c.block + d.used → (0 < d.used → (k.kind ≡ kinds.Raw) × (d.used < k.blocks)) → Order c k d
@@ -81,7 +81,7 @@ order h long image x c d k o s p low =
         let n : counted k.kind k.blocks ≡ count m = sym (count_is h.blk_sz k.kind k.blocks payload) ∙ ap count (same_head f) in
         behind (omega (arith, here, there, l, rests, s.enough, low, o.image_is)) (omega (arith, n, ap counted_in e, counted-append s.before (m ∷ ms), s.block, p.block))
 
--- the place behind a part that has blocks is the first before its block
+-- the place after a part that has blocks is the first before its block
 pub next_first : (h : Header) (long image : ℕ) (x : List ℕ) (c : Cursor) (k : ChunkHeader) (word : List ℕ) (cap : ℕ) (r : Run) → SparseOpened h long image x → Standing h x image c k → 0 < cap → Parts k word c cap r → 0 < r.blocks
     → (d : Cursor) → SparseWithin h image d → SparsePlace h x d → r.next.block ≤ d.block → sparse_charge h r.next ≤ sparse_charge h d
 next_first h long image x c k word cap _ o s some (passes none) more d w p le = absurd (omega arith)

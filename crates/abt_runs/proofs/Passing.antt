@@ -21,7 +21,7 @@ pub raw_total : (h : Header) (image : ℕ) (c : Cursor) (k : ChunkHeader) → He
     k.total ≡ h.chunk_hdr_sz + k.blocks * h.blk_sz
 raw_total h image c k f e = f.total ∙ ap (λ (j : ChunkKind). h.chunk_hdr_sz + data_len h.blk_sz j k.blocks) e
 
--- a place's charge, in both its cases
+-- a place's read budget, in both its cases
 data Charged (h : Header) (c : Cursor) : ℕ → Type 0 where
   fresh : c.used ≡ 0 → Charged h c (c.at + 0)
   within : 0 < c.used → Charged h c (c.at + (h.chunk_hdr_sz + c.used * h.blk_sz))
@@ -207,7 +207,7 @@ entered c some = elim (cases_Bool (c.used == 0)) [
   | inr z ↦ rw z refl
 ]
 
--- the charge behind blocks of a raw chunk
+-- the read budget after blocks of a raw chunk
 pub charge_in : (h : Header) (c : Cursor) → 0 < c.used → sparse_charge h c ≡ c.at + (h.chunk_hdr_sz + c.used * h.blk_sz)
 charge_in h c some = elim (cases_Bool (c.used == 0)) [
   | inl z ↦ absurd (omega (arith, eqb-true c.used 0 z))
@@ -217,7 +217,7 @@ charge_in h c some = elim (cases_Bool (c.used == 0)) [
 pub charge_least : (h : Header) (c : Cursor) → c.at ≤ sparse_charge h c
 charge_least h c = omega arith
 
--- what a part adds to the charge: at least a chunk's header where it begins one, and the data that it passes
+-- what a part adds to the read budget: at least a chunk's header where it begins one, and the data that it passes
 pub data Adds (h : Header) (c : Cursor) (k : ChunkHeader) (before after : ℕ) (r : Run) : Type 0 where
   begun : c.used ≡ 0 → before + k.total ≤ after → Adds h c k before after r
   begun_raw : c.used ≡ 0 → k.kind ≡ kinds.Raw → r.kind ≡ classes.Raw → before + h.chunk_hdr_sz + r.blocks * h.blk_sz ≤
@@ -313,7 +313,7 @@ grown h c k before after r (begun z le) = omega arith
 grown h c k before after r (begun_raw z raw kind le) = omega arith
 grown h c k before after r (goes_on u kind le) = omega arith
 
--- from a part's first block to the place behind its last
+-- from a part's first block to the place after its last
 pub here_next : (h : Header) (image : ℕ) (c : Cursor) (k : ChunkHeader) (word : List ℕ) (cap : ℕ) (r : Run) → HeadFits h
     image c k → 0 < cap → Parts k word c cap r → sparse_charge h r.here ≤ sparse_charge h r.next
 here_next h image c k word cap _ f some (passes none) = omega arith

@@ -13,14 +13,14 @@ use Rattle.abt_runs.specs.declared.stage.OpeningStage.TheVariants.{Chunks}
 use Rattle.abt_runs.specs.Stage.{OpeningLeaves, is_more}
 use Rattle.abt_runs.specs.Verdict.{ComesTo, SameLength, CausedAt, IsFormat, to_do}
 
--- An opening stands before a chunk whose header is within the source, and has these bytes.
+-- An opening is before a chunk whose header is within the source, and has these bytes.
 pub record AtChunk (o : Opening) (bytes : List ℕ) : Type 0 where
   pub here : o.stage ≡ Chunks
   pub more : o.index < o.header.total_chunks
   pub there : o.at + 12 ≤ o.length
   pub whole : length bytes ≡ 12
 
--- A header was taken: the next one is at `least` or behind it, and refused was what its own bytes say.
+-- A header was taken: the next one is at `least` or after it, and refused was what its own bytes say.
 pub record Takes (least : ℕ) (r : Result OpeningProgress RunFault) (o o' : Opening) : Type 0 where
   pub leaves : OpeningLeaves r o'.stage
   pub on : OnOk r ((is_more r ≡ true) × (least ≤ o'.at) × (to_do o' < to_do o))
@@ -33,7 +33,7 @@ pub record TakesChunk (bytes : List ℕ) (r : Result OpeningProgress RunFault) (
   pub takes : Takes (o.at + 12) r o o'
 
 -- The opening has gone on by what was read, the source having given g bytes before and g' then; what the bytes x of a
--- source that tells come to stands.
+-- source that models its content come to is unchanged.
 pub record Advances (models : Bool) (x : List ℕ) (g g' : ℕ) (r : Result OpeningProgress RunFault) (o o' : Opening) :
     Type 0
   where
@@ -50,7 +50,7 @@ pub record HeaderCosts (c g c' g' : ℕ) (m m' : Meter) : Type 0 where
   pub turns : m'.turns.number ≤ m.turns.number + (g' - g) + 1
   pub one_step : OneStep (g' - g) m m'
 
--- One step of an opening, with the source that is lent. Among the chunks a refusal of the bytes is of a source that is
+-- One step of an opening, with the borrowed source. Among the chunks a refusal of the bytes is of a source that is
 -- as long as it was.
 pub record StepsOpening (r : Result OpeningProgress RunFault) {A : Type 0} (s : sources.Ghosts A) (old new : A)
     (o o' : Opening) (m m' : Meter) : Type 0 where

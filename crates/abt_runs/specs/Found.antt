@@ -1,4 +1,4 @@
--- What is known of a part or a run that was found, and what finding and copying cost.
+-- What is known of a part or a run that was found, and the costs of finding and copying.
 use Rattle.std.specs.Prelude.{◌≡◌, ℕ, ◌+◌, ◌-◌, ◌*◌, ◌≤◌, ◌<◌, ◌↔◌, Bool, true, false, IsTrue, List, max, min, Result}
 use Rattle.std.specs.Prelude.{IfOk, IfErr}
 use Rattle.abt_io.specs.Lent.{OnlyReads, OneStep}
@@ -12,13 +12,13 @@ use Rattle.abt_runs.specs.declared.part.RunKind.TheVariants.{Raw}
 use Rattle.abt_runs.specs.Part.{RunCaused, PartOf, MovesOn, Capped, Earliest, afresh, entry, is_end, piece_bytes}
 use Rattle.abt_runs.specs.Whole.{RunOf}
 
--- An image's source is only read. It is refused where the source has failed, or tells nothing and is another.
+-- An image's source is only read. It is refused where the source has failed, or models nothing and is another.
 pub record ReadsImage {X : Type 0} (r : Result X RunFault) {A : Type 0} (s : sources.Ghosts A) (old new : A) : Type 0
   where
     pub reads : OnlyReads r s old new
     pub cause : IfErr r (λ e. RunCaused e s.models (s.read_faults old) (s.read_faults new))
 
--- Some blocks are asked for from a place on, of an image that was opened over the bytes x of the source that is lent.
+-- Some blocks are asked for from a place on, of an image that was opened over the bytes x of the borrowed source.
 pub record AsksPart (W : Cursor → Type 0) (Opened : List ℕ → Type 0) (P : List ℕ → Cursor → Type 0) (models : Bool)
     (x : List ℕ) (from : Cursor) (cap : ℕ) : Type 0 where
   pub some : 0 < cap
@@ -47,7 +47,7 @@ pub record Found (W : Cursor → Type 0) (size count : ℕ) (lefts charge reach 
   pub onward : (copied from ≤ copied r.here) × (copied r.here ≤ copied r.next)
   pub filled_up : 0 < padding from → 0 < r.blocks
 
--- Of a source that tells: r is a part of the blocks l, between places of the image that the source is.
+-- Of a source that models its content: r is a part of the blocks l, between places of the image that the source is.
 pub record IsToldRun (l : List Block) (W P : Cursor → Type 0) (together copied charge : Cursor → ℕ) (from : Cursor)
     (cap : ℕ) (r : Run) : Type 0 where
   pub part : PartOf l from.block r
@@ -72,7 +72,7 @@ pub record PartCosts (more c g c' g' : ℕ) (m m' : Meter) : Type 0 where
   pub turns : m'.turns.number ≤ m.turns.number + 2 * (g' - g) + 2 + more
   pub one_step : OneStep (g' - g) m m'
 
--- A part from a place on was found in an image, with the source that is lent: all that is known of it.
+-- A part from a place on was found in an image, with the borrowed source: all that is known of it.
 pub record FindsPart (W : Cursor → Type 0) (size count : ℕ) (lefts charge reach taken copied padding : Cursor → ℕ)
     (held : Cursor → ℕ → ℕ) (list : List ℕ → List Block) (P : List ℕ → Cursor → Type 0)
     (together : List ℕ → Cursor → ℕ) (r : Result Run RunFault) {A : Type 0} (s : sources.Ghosts A) (old new : A)
@@ -92,7 +92,7 @@ pub record CopyCosts (held : ℕ → ℕ) (at n c g c' g' : ℕ) (m m' : Meter) 
   pub turns : m'.turns.number ≡ m.turns.number
   pub one_step : OneStep (g' - g) m m'
 
--- Of whatever source: the run r was found from a place on, and what was read is charged to what it passes.
+-- Of whatever source: the run r was found from a place on, and what was read is counted against what it passes.
 pub record FoundRun (W : Cursor → Type 0) (size count one : ℕ) (charge reach : Cursor → ℕ) (from : Cursor)
     (cap g g' : ℕ) (r : Run) : Type 0 where
   pub nowhere : r.blocks ≡ 0 → r.here ≡ r.next
@@ -103,7 +103,7 @@ pub record FoundRun (W : Cursor → Type 0) (size count one : ℕ) (charge reach
   pub end : IsTrue (is_end r.kind) ↔ from.block ≡ count
   pub charged : g' + charge from ≤ g + charge r.next + entry from + min 65536 (16 + cap * one)
 
--- Of a source that tells: r is the first run of the blocks l from a place on, between places of the image.
+-- Of a source that models its content: r is the first run of the blocks l from a place on, between places of the image.
 pub record ToldRun (l : List Block) (P : Cursor → Type 0) (together : Cursor → ℕ) (from : Cursor) (cap : ℕ) (r : Run)
     : Type 0 where
   pub run : RunOf cap l from.block r

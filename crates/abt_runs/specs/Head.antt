@@ -1,4 +1,4 @@
--- The twelve bytes of a chunk's header, as they are read again.
+-- The twelve bytes of a chunk's header, as each pass reads them again.
 use Rattle.std.specs.Prelude.{◌≡◌, ℕ, ◌+◌, ◌-◌, ◌≤◌, ◌<◌, ◌==◌, nat_lt, Bool, true, false, ◌&&◌, not, List, Option}
 use Rattle.std.specs.Prelude.{Some, None, if◌then◌else◌}
 use Rattle.abt_sparse.specs.declared.kind.ChunkKind.{ChunkKind}
@@ -23,7 +23,7 @@ abbrev pub is_raw : ChunkKind → Bool
 is_raw kinds.Raw = true
 is_raw k = false
 
--- the fields are as they were found at opening, as far as numbers tell
+-- the fields are as they were found at opening, as far as their numbers show
 pub record HeadFits (h : Header) (image : ℕ) (c : Cursor) (k : ChunkHeader) : Type 0 where
   pub total : k.total ≡ h.chunk_hdr_sz + data_len h.blk_sz k.kind k.blocks
   pub counted : c.block - c.used + counted k.kind k.blocks ≤ h.total_blks
@@ -41,7 +41,7 @@ class_of_kind kinds.Fill word = classes.Fill word
 class_of_kind kinds.Skip word = classes.Skip
 class_of_kind kinds.Crc word = classes.Skip
 
--- the place behind a chunk
+-- the place after a chunk
 abbrev pub behind_chunk : ChunkHeader → Cursor → Cursor
 behind_chunk k c = record {
   block = c.block - c.used + counted k.kind k.blocks;

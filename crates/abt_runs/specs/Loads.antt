@@ -7,7 +7,7 @@ use Rattle.abt_io.specs.declared.meter.Meter.{Meter}
 use Rattle.abt_runs.specs.declared.part.RunFault.{RunFault}
 use Rattle.abt_runs.specs.Part.{RunCaused}
 
--- A fault, or none, as an answer.
+-- A fault, or none, as a result.
 abbrev pub answer_with : Option RunFault → Result ⊤ RunFault
 answer_with None = Ok tt
 answer_with (Some f) = Err f
@@ -22,7 +22,7 @@ pub record Loads (fault : Option RunFault) (n : ℕ) {A : Type 0} (s : sources.G
   pub no_step : NoStep m m'
   pub cause : IfSome fault (λ e. RunCaused e s.models (s.read_faults old) (s.read_faults new))
 
--- They are asked for from a place on of a source that holds them, where it tells.
+-- They are asked for from a place on of a source that holds them, where it models its content.
 pub record AsksBytes (models : Bool) (x : List ℕ) (at want : ℕ) : Type 0 where
   pub below : at + want < 2 ^ 64
   pub there : IsTrue models → at + want ≤ length x

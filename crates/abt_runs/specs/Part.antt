@@ -43,7 +43,7 @@ MovesOn left from r = is_end r.kind ≡ false → left r.next < left from
 pub record Capped (cap : ℕ) (r : Run) : Type 0 where
   pub raw : r.kind ≡ Raw → r.blocks ≤ cap
 
--- a device has failed and answered so, or one that tells nothing has changed
+-- a device has failed and returned this, or one that models nothing has changed
 abbrev pub RunCaused : RunFault → Bool → ℕ → ℕ → Type 0
 RunCaused (Read f) models before after = (before < after) × (f ≡ Failed)
 RunCaused SourceChanged models before after = models ≡ false

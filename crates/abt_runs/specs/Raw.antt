@@ -19,7 +19,7 @@ RawPlace-prop blocks size c = Prim.hlevel props
 abbrev pub raw_charge : ℕ → ℕ → ℕ → Cursor → ℕ
 raw_charge long blocks size c = if nat_lt c.block blocks then (2 * c.block + 1 - c.ask) * size else 2 * long
 
--- how many of its bytes are before a place, and how many of the first n bytes behind it
+-- how many of its bytes are before a place, and how many of the first n bytes after it
 abbrev pub raw_before : ℕ → ℕ → Cursor → ℕ
 raw_before long size c = min long (c.block * size)
 

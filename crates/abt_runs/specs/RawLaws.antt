@@ -1,4 +1,4 @@
--- What holds of a raw image.
+-- The laws of a raw image.
 use Rattle.std.specs.Prelude.{◌≡◌, ℕ, zero, suc, ◌+◌, ◌-◌, ◌*◌, ◌/◌, ◌%◌, ◌^◌, ◌≤◌, ◌<◌, List, length, take, drop, map}
 use Rattle.std.specs.Prelude.{replicate, refl, bytes_eq, nat_le, nat_lt, ◌==◌}
 use Rattle.std.proofs.Common.{arith, ap, ◌∙◌, inl, inr, length-append, length-drop, length-take-le, mul-le-mul_left}

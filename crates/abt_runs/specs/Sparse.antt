@@ -1,4 +1,4 @@
--- A sparse image that was opened, and places in it.
+-- An opened sparse image, and places in it.
 use Rattle.std.specs.Prelude.{◌≡◌, ℕ, zero, suc, ◌+◌, ◌-◌, ◌*◌, ◌≤◌, ◌<◌, ◌==◌, List, [], ◌∷◌, ◌++◌, length, drop}
 use Rattle.std.specs.Prelude.{if◌then◌else◌, ⊤}
 use Rattle.std.specs.Coded.{le_prop}
@@ -77,6 +77,6 @@ abbrev pub raw_blocks : ChunkRead → ℕ
 raw_blocks (Got (Raws blocks) n rest) = length blocks
 raw_blocks r = 0
 
--- how many of them are behind the place
+-- how many of them are left from the place on
 abbrev pub blocks_together : Header → List ℕ → Cursor → ℕ
 blocks_together h x c = raw_blocks (chunk_at h (length x) c.chunk (c.block - c.used) (drop c.at x)) - c.used

@@ -1,4 +1,4 @@
--- What holds of a sparse image that was opened.
+-- The laws of an opened sparse image.
 use Rattle.std.specs.Prelude.{◌≡◌, ℕ, zero, suc, ◌+◌, ◌-◌, ◌*◌, ◌^◌, ◌≤◌, ◌<◌, ◌==◌, nat_lt, false, List, [], ◌∷◌, ◌++◌}
 use Rattle.std.specs.Prelude.{length, take, drop, map, replicate, Result, Ok, Err, refl}
 use Rattle.std.proofs.Common.{arith, ap, sym, subst, ◌∙◌, inl, inr, length-append, length-drop, length-take-le}
@@ -77,7 +77,7 @@ both_good b (x ∷ xs) ys h k = (h.0, both_good b xs ys h.1 k)
 
 -- ---- all chunks
 
--- chunks that were read to their end, behind so many blocks
+-- chunks that were read to their end, after so many blocks
 pub record ReadThrough (h : Header) (have : ℕ) (y : List ℕ) (cs : List Chunk) (rest : List ℕ) : Type 0 where
   pub total : have + counted_in cs ≡ h.total_blks
   pub good : AllByRecursion (IsBlock h.blk_sz) (classed cs)

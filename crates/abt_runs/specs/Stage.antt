@@ -1,4 +1,4 @@
--- What is so at each stage of an opening.
+-- What holds at each stage of an opening.
 use Rattle.std.specs.Prelude.{◌≡◌, Bool, true, false, Result, Ok, Err, ⊤}
 use Rattle.abt_runs.specs.declared.part.RunFault.{RunFault}
 use Rattle.abt_runs.specs.declared.stage.OpeningStage.{OpeningStage}
@@ -20,13 +20,13 @@ abbrev pub is_opening_done : OpeningStage → Bool
 is_opening_done Done = true
 is_opening_done s = false
 
--- it answers what it answered before
+-- it returns what it returned before
 abbrev pub IsOpeningOver : OpeningStage → Type 0
 IsOpeningOver Done = ⊤
 IsOpeningOver (Failed f) = ⊤
 IsOpeningOver s = ⊥
 
--- the stage that an answer leaves
+-- the stage that a result leaves
 abbrev pub OpeningLeaves : Result OpeningProgress RunFault → OpeningStage → Type 0
 OpeningLeaves (Ok answers.More) s = s ≡ Chunks
 OpeningLeaves (Ok answers.Done) s = s ≡ Done

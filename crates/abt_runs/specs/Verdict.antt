@@ -1,4 +1,4 @@
--- What reading the whole of a source as a sparse image comes to, and what an opening has seen of it.
+-- The result of reading all of a source as a sparse image, and how much of it an opening has seen.
 use Rattle.std.specs.Prelude.{◌≡◌, ℕ, ◌+◌, ◌-◌, ◌^◌, ◌<◌, ◌≤◌, List, length, drop, Result, Ok, Err, ⊤}
 use Rattle.abt_sparse.specs.declared.fault.SparseFault.{SparseFault}
 use Rattle.abt_sparse.specs.Number.{number_of}
@@ -13,7 +13,7 @@ use Rattle.abt_runs.specs.declared.stage.OpeningStage.{OpeningStage}
 use Rattle.abt_runs.specs.declared.stage.OpeningStage.TheVariants as stages
 use Rattle.abt_runs.specs.declared.opening_state.Opening.{Opening}
 
--- an image ends with its header and so many bytes behind it, and all else with a fault
+-- an image ends with its header and so many bytes after it, and all else with a fault
 abbrev pub ends : Outcome → Result (Header × ℕ) SparseFault
 ends (Image h cs rest) = Ok (h, length rest)
 ends (Fault f cells) = Err f
@@ -48,7 +48,7 @@ abbrev pub IsFormat : RunFault → Type 0
 IsFormat (Sparse f) = number_of f ≤ 10
 IsFormat f = ⊥
 
--- 1 to 10 alone come of the bytes: 11 where the source has failed in this call and answered so, 14 where it isn't the
+-- 1 to 10 alone come of the bytes: 11 where the source has failed in this call and returned this, 14 where it isn't the
 -- one whose length was found
 abbrev pub CausedIn : RunFault → ℕ → ℕ → Type 0 → Type 0
 CausedIn (Sparse f) before after Same = number_of f ≤ 10
@@ -71,7 +71,7 @@ steps_left s index total = 0
 abbrev pub to_do : Opening → ℕ
 to_do o = steps_left o.stage o.index o.header.total_chunks
 
--- an image was opened exactly where the bytes are one, and else the first fault is answered
+-- an image was opened exactly where the bytes are one, and else the first fault is returned
 abbrev pub Refuses : RunFault → Outcome → Type 0
 Refuses (Sparse f) (Fault g cells) = f ≡ g
 Refuses (Sparse f) (Image h cs rest) = ⊥

@@ -1,4 +1,4 @@
--- Runs: parts of one class put together, and when such a run is whole.
+-- Runs: joined parts of one class, and when such a run is whole.
 use Rattle.std.specs.Prelude.{◌≡◌, ℕ, ◌+◌, ◌-◌, ◌≤◌, Bool, true, false, IsTrue, List, [], ◌∷◌, length, take, drop, min}
 use Rattle.std.specs.Prelude.{bytes_eq, ◌==◌, Option, Some, None, if◌then◌else◌}
 use Rattle.abt_sparse.specs.Block.{Block}
@@ -37,7 +37,7 @@ pub record RunOf (cap : ℕ) (l : List Block) (i : ℕ) (r : Run) : Type 0 where
   pub ended : IsTrue (is_end r.kind) → i ≡ length l
   pub none : r.blocks ≡ 0 → IsTrue (is_end r.kind)
 
--- r and a part behind it as one: None where the part isn't of r's class, or is the end
+-- r and a part after it as one: None where the part isn't of r's class, or is the end
 abbrev pub and_part : Run → Run → Option Run
 and_part r p =
     if is_end p.kind then None

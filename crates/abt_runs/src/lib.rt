@@ -1,27 +1,29 @@
-//! An image as classed blocks: each block raw, filled with one word, or don't care, read again in
-//! each pass and never held.
+//! An image as classified blocks. Each block is raw, filled with one word, or don't care. Each pass reads the blocks
+//! again; none is held.
 //!
-//! Cutting and sparsing stand on one trait, [`BlockRuns`], and never see a chunk header: what is
-//! proved over it holds for sparse images (`sparse_format.h`) and for raw ones alike. Its contract
-//! for the layer above: there is one list of classed blocks; `next_part` and `next_run` give its
-//! blocks from a cursor on, `next_raw` those that are known to be raw, `copy` the bytes of these;
-//! and what is read is charged to what was passed, so that a whole pass reads at most the image
-//! (sparse) or twice it (raw), and copying all raw blocks at most the image, wherever it was broken
-//! off and taken up again. Several walks over one image join at `Earliest` places: behind a part
-//! that has blocks none is charged more than where another walk stands at that block or a later one.
+//! Cutting and sparsing use one trait, [`BlockRuns`], and never see a chunk header. So what is proved with it holds
+//! for sparse images (`sparse_format.h`) and for raw ones alike. Its contract for the layer above:
 //!
-//! The files, in reading order:
+//! - There is one list of classified blocks.
+//! - `next_part` and `next_run` give its blocks from a cursor on, `next_raw` those that are known to be raw, and
+//!   `copy` the bytes of these.
+//! - Every read is counted against the blocks that were passed. So a whole pass reads at most the image (sparse) or
+//!   twice the image (raw). Copying all raw blocks reads at most the image, wherever it was broken off and taken up
+//!   again.
+//! - Several walks over one image join at `Earliest` places: after a part that has blocks, the read budget that is
+//!   spent is at most that of another walk at the same block or a later one.
 //!
-//! - `part`: `Cursor`, `Run`, `RunKind`, and `RunFault` with its numbers and texts
-//! - `runs`: the trait `BlockRuns` with its laws, and `next_run`; `whole`: parts put together to runs
-//! - `words`: `equal_word`, by lanes; `reading`: bytes of the source brought to the window
-//! - `raw`: `RawRuns`, a raw image
-//! - `head`: a chunk's header; `stage`, `opening`, `opening_steps`: `Opening`, which goes through all
-//!   chunk headers step by step
-//! - `sparse`, `sparse_open`, `sparse_parts`: `SparseRuns`, a sparse image
+//! | file, in reading order | content |
+//! |---|---|
+//! | `part.rt` | `Cursor`, `Run`, `RunKind`, and `RunFault` with its numbers and texts |
+//! | `runs.rt`, `whole.rt` | the trait `BlockRuns` with its laws, and `next_run`, which joins parts to runs |
+//! | `words.rt`, `reading.rt` | `equal_word`, by lanes; bytes of the source loaded into the window |
+//! | `raw.rt`, `head.rt` | `RawRuns`, a raw image; the header of a chunk |
+//! | `stage.rt`, `opening_state.rt`, `opening_steps.rt` | `Opening`: goes through all chunk headers, in steps |
+//! | `sparse.rt`, `sparse_open.rt`, `sparse_parts.rt` | `SparseRuns`, a sparse image |
 //!
-//! `specs/` says what these mean (`Part` and `Whole` first, then `Raw`, and `Sparse`, `Head`,
-//! `Verdict` for sparse images), `proofs/` why they hold.
+//! `specs/` defines these terms (`Part` and `Whole` first, then `Raw`, and `Sparse`, `Head`, `Verdict` for sparse
+//! images), and `proofs/` proves the contracts.
 #![tactic(auto)]
 
 mod head;

@@ -135,7 +135,7 @@ impl Opening {
         Ok(OpeningProgress::More)
     }
 
-    /// The step behind the last chunk.
+    /// The step after the last chunk.
     fn end(&mut self) -> Result<OpeningProgress, RunFault>
         requires here { self.old.stage ≡ OpeningStage.Chunks }
         requires last { self.old.header.total_chunks ≤ self.old.index }
@@ -208,7 +208,7 @@ impl Opening {
         answer
     }
 
-    /// One step: reads one header and tests it. It answers `More` until all chunks were passed and
+    /// One step: reads one header and tests it. It returns `More` until all chunks were passed and
     /// their blocks counted, and `Done` or its fault again from then on, without a call of the
     /// source.
     ///

@@ -1,4 +1,4 @@
-//! Places of an image, parts of it that are of one class, and why reading one is refused.
+//! Places of an image, parts of it that have one class, and the reasons for which reading an image is refused.
 ghost use Rattle.std.specs.Prelude.{◌≡◌};
 ghost use Rattle.abt_runs.specs.Number.{run_fault_number};
 
@@ -6,8 +6,8 @@ use abt_io::DeviceFault;
 use abt_sparse::SparseFault;
 use thiserror::Error;
 
-/// A place in an image: before which block it is, and where in the source that stands. Numbers
-/// alone: it is handed out and taken back, and means the same in every pass.
+/// A place in an image: the block that follows it, and the position of that block in the source. It holds numbers
+/// alone. Calls return it and take it again, and it means the same in every pass.
 #[derive(Clone, Copy, Debug, PartialEq, Eq, Drop)]
 pub struct Cursor {
     /// How many blocks are before it.
@@ -35,7 +35,7 @@ pub enum RunKind {
     End,
 }
 
-/// Blocks of one class that stand together.
+/// Adjacent blocks of one class.
 #[derive(Clone, Copy, Debug, PartialEq, Eq, Drop)]
 pub struct Run {
     /// What they are.
@@ -44,7 +44,7 @@ pub struct Run {
     pub blocks: u32,
     /// The place of the first, with the headers before it passed. Where there is none it is `next`.
     pub here: Cursor,
-    /// The place behind the last.
+    /// The place after the last.
     pub next: Cursor,
 }
 

@@ -1,4 +1,4 @@
-//! A raw image as classed blocks: each block of one word all over is fill, any other is raw.
+//! A raw image as classified blocks. A block whose words are all equal is fill; every other block is raw.
 ghost use Rattle.std.specs.Prelude.{◌≡◌, ◌<◌, ◌≤◌, ◌+◌, ◌-◌, ◌*◌, ◌/◌, ◌%◌, ◌^◌, ◌++◌, IsTrue, false, IfOk, IfErr};
 ghost use Rattle.std.specs.Prelude.{IfNone, length, take, drop, map, replicate, slice_range};
 ghost use Rattle.abt_sparse.specs.Block.{split, class_of, classify};
@@ -16,7 +16,7 @@ use crate::reading::{Loaded, load};
 use crate::{BlockRuns, Cursor, Run, RunFault, RunKind, equal_word};
 use abt_io::{Meter, Source, Window};
 
-/// How many of the zeros behind the last byte one call of `copy` gives at most.
+/// How many of the zeros after the last byte one call of `copy` gives at most.
 const MOST_ZEROS: usize = 64;
 
 /// Ticks once for each of so many words.
@@ -80,7 +80,7 @@ pub fn leading(blocks: &[u8], size: usize, n: u32, m: &mut Meter) -> (RunKind, u
     (kind, count)
 }
 
-/// Reads so many bytes to the front of the window, and fills it up with zeros as far as `room`.
+/// Reads so many bytes to the beginning of the window, and fills it up with zeros as far as `room`.
 pub fn load_filled<S: Source>(
     source: &mut S,
     at: u64,
@@ -144,7 +144,7 @@ impl RawRuns {
         })
     }
 
-    /// Where a block stands.
+    /// Where a block is.
     pub fn place_of(&self, block: u32) -> u64
         requires { block < self.now.blocks }
         ensures place { result ≡ block * self.now.size }
@@ -166,7 +166,7 @@ impl RawRuns {
         from.ask.min(cap).min(self.blocks - from.block)
     }
 
-    /// The place behind so many blocks, of those that were asked for.
+    /// The place after so many blocks, of those that were asked for.
     fn after(&self, from: Cursor, asked: u32, blocks: u32) -> Cursor
         requires some { 0 < blocks }
         requires asked { blocks ≤ asked }

@@ -1,4 +1,4 @@
-//! Reading bytes of the source at a place into the window.
+//! Reads bytes at a place of the source into the window.
 ghost use Rattle.std.specs.Prelude.{◌≡◌, ◌≤◌, IsTrue, IfNone, take, drop};
 ghost use Rattle.abt_runs.specs.Loads.{AsksBytes, LoadsWanted};
 
@@ -12,7 +12,7 @@ pub struct Loaded {
     pub fault: Option<RunFault>,
 }
 
-/// Reads so many bytes from a place of the source to the front of the window.
+/// Reads so many bytes from a place of the source to the beginning of the window.
 #[inline(always)]
 pub fn load<S: Source>(
     source: &mut S,

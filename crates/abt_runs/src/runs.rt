@@ -1,4 +1,4 @@
-//! The trait of opened images: what is known of one, and how it is read in repeated passes.
+//! The trait of opened images: what is known of an image, and how it is read in repeated passes.
 ghost use Rattle.std.specs.Prelude.{◌≡◌, ◌<◌, ◌≤◌, ◌+◌, ◌-◌, ◌*◌, ◌%◌, ◌^◌, ℕ, List, IsTrue, IfOk, length, take, drop};
 ghost use Rattle.abt_io.specs.Count.{count_of};
 ghost use Rattle.abt_sparse.specs.Block.{Block, AreBlocks};
@@ -10,9 +10,8 @@ use crate::whole::{joined, none_yet, room};
 use crate::{Cursor, Run, RunFault, RunKind};
 use abt_io::{Meter, Source, Window};
 
-/// An opened image: its blocks in order, each raw, filled with a word or don't care. The source is
-/// lent at each call and no byte of it is kept, so what is known of the image takes the source's
-/// content as an argument.
+/// An opened image: its blocks in order, each raw, filled with a word or don't care. Each call borrows the source,
+/// and no byte of it is kept. So what is known of the image takes the source's content as an argument.
 pub trait BlockRuns {
     /// How many bytes a block has.
     ghost size: { Self → ℕ };
@@ -50,7 +49,7 @@ pub trait BlockRuns {
     /// How many bytes a whole pass may read.
     ghost pass: { Self → ℕ };
 
-    /// How many bytes of the source are read to tell one block's class.
+    /// How many bytes of the source are read to find one block's class.
     ghost one: { Self → ℕ };
 
     /// How many bytes of the source were read to open it.
@@ -68,7 +67,7 @@ pub trait BlockRuns {
     /// How many bytes of raw blocks there can be from a place on without a header between.
     ghost reach: { Self → Cursor → ℕ };
 
-    /// How many blocks do stand together there.
+    /// How many adjacent blocks there are from that place on.
     ghost together: { Self → List ℕ → Cursor → ℕ };
 
     /// How many bytes copying the raw blocks before a place may have read.
@@ -141,10 +140,10 @@ pub trait BlockRuns {
             (place self.now) (together self.now) result S.Source source.old source.new from cap m.old m.new }
         ensures fetched { IfOk result (λ r. S.given source.new ≡ S.given source.old → r.blocks ≡ cap) };
 
-    /// Bytes of the raw blocks that stand together at a place, from byte `at` of these on, by at
-    /// most one read: how many came to the front of `out`, 0 only where `out` is empty. The call is
-    /// one step: it ends with `close_step` of what was read. Bytes that no read gives, the zeros
-    /// that fill up a raw image's last block, come at most 80 at a time.
+    /// Reads bytes of the adjacent raw blocks at a place, from byte `at` of these on, by at most one read. It returns
+    /// how many came to the beginning of `out`, 0 only where `out` is empty. The call is one step: it ends with
+    /// `close_step` of what was read. Bytes that no read gives, the zeros that fill up a raw image's last block, come
+    /// at most 80 at a time.
     ///
     /// It refuses as `next_part` does.
     fn copy<S: Source>(
@@ -173,9 +172,9 @@ pub trait BlockRuns {
         ensures costs { CopyCosts (held self.now here) at (count_of result) (S.reads source.old) (S.given source.old)
             (S.reads source.new) (S.given source.new) m.old m.new };
 
-    /// The run of blocks of one class that begins at a place: all that stand together, but at most
-    /// `cap` of them where they are raw. It is `RunKind::End` exactly where no block is left, of
-    /// whatever source. Each turn is one step, that of `next_part`.
+    /// The run of blocks of one class that begins at a place: all adjacent ones, but at most `cap` of them where they
+    /// are raw. It is `RunKind::End` exactly where no block is left, whatever the source gives. Each turn is one
+    /// step, that of `next_part`.
     ///
     /// It refuses as `next_part` does.
     final fn next_run<S: Source>(
@@ -229,10 +228,10 @@ pub trait BlockRuns {
     /// A block is of whole words, and is not empty.
     ghost sized: { (s : Self) → (4 ≤ size s) × (size s % 4 ≡ 0) };
 
-    /// Telling one block's class reads no more than the block.
+    /// Finding one block's class reads no more than the block.
     ghost one_fits: { (s : Self) → one s ≤ size s };
 
-    /// A place is before one of the blocks, or behind the last.
+    /// A place is before one of the blocks, or after the last.
     ghost bounded: { (s : Self) (c : Cursor) → within s c → c.block ≤ count s };
 
     /// What there is to pass fits a number of 64 bits.
@@ -254,7 +253,7 @@ pub trait BlockRuns {
     /// So it is in the image that these bytes are.
     ghost afresh_place: { (s : Self) (x : List ℕ) (c : Cursor) → place s x c → place s x (afresh c) };
 
-    /// All blocks but one are within the image, of which so much is read to tell their classes.
+    /// All blocks but one are within the image, of which so much is read to find their classes.
     ghost spared: { (s : Self) → (count s - 1) * one s ≤ image s };
 
     /// The opening, three passes and two times the image's bytes are at most eight times the image.

@@ -1,4 +1,4 @@
-//! The numbers of a sparse image that was opened.
+//! The numbers of an opened sparse image.
 ghost use Rattle.std.specs.Prelude.{◌≡◌, ◌<◌, ◌≤◌, ◌+◌, ◌%◌, ◌^◌};
 
 use abt_sparse::SparseHeader;

@@ -1,4 +1,4 @@
-//! Opening a sparse image.
+//! Opens a sparse image.
 ghost use Rattle.std.specs.Prelude.{◌≡◌, ◌≤◌, ◌+◌, ◌-◌, ◌*◌, ℕ, List, IsTrue, IfOk, IfErr, max, true};
 ghost use Rattle.abt_io.specs.Lent.{OnlyReads};
 ghost use Rattle.abt_sparse.specs.Reading.{outcome};
@@ -27,7 +27,7 @@ impl Opening {
 }
 
 impl SparseRuns {
-    /// Opens the sparse image at the front of a source: goes through all its chunk headers.
+    /// Opens the sparse image at the beginning of a source: goes through all its chunk headers.
     ///
     /// It refuses as `Opening::opening_step` does.
     pub fn open<S: Source>(

@@ -1,4 +1,4 @@
-//! A sparse image as classed blocks: its chunks one after the other, each read where it stands.
+//! A sparse image as classified blocks: its chunks one after the other, each read at its place.
 ghost use Rattle.std.specs.Prelude.{◌≡◌, ◌<◌, ◌≤◌, ◌+◌, ◌-◌, ◌^◌, ◌↔◌, IsTrue, IfSome, IfNone, Some, length, take};
 ghost use Rattle.std.specs.Prelude.{drop, true, false};
 ghost use Rattle.abt_sparse.specs.Reading.{counted};
@@ -147,7 +147,7 @@ fn load_word<S: Source>(
 }
 
 impl SparseRuns {
-    /// Whether a chunk's header is as it was found at opening, as far as numbers tell.
+    /// Whether a chunk's header is as it was found at opening, as far as its numbers show.
     #[inline(always)]
     fn fits(&self, chunk: &ChunkHeader, from: Cursor) -> bool
         requires used { from.used ≤ from.block }

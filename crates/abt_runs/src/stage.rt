@@ -1,7 +1,7 @@
-//! How far the opening of a sparse image has come, and what a step of it answers.
+//! How far the opening of a sparse image has come, and what a step of it returns.
 use crate::RunFault;
 
-/// What a step answers that was not refused.
+/// What a step returns that was not refused.
 #[derive(Clone, Copy, Debug, PartialEq, Eq, Drop)]
 pub enum OpeningProgress {
     /// There is more to do.
@@ -15,7 +15,7 @@ pub enum OpeningProgress {
 pub enum OpeningStage {
     /// It reads the image's header.
     Header,
-    /// It reads the next chunk's header, or tests the count of blocks behind the last.
+    /// It reads the next chunk's header, or tests the count of blocks after the last.
     Chunks,
     /// The image is opened.
     Done,

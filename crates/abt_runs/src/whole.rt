@@ -1,4 +1,4 @@
-//! Parts of one class put together to runs.
+//! Joins parts of one class to runs.
 ghost use Rattle.std.specs.Prelude.{◌≡◌, ◌<◌, ◌+◌, ◌^◌};
 ghost use Rattle.abt_runs.specs.Part.{is_end as ends};
 ghost use Rattle.abt_runs.specs.declared.part.RunKind.{RunKind};
@@ -40,7 +40,7 @@ pub(crate) fn none_yet(from: Cursor) -> Run
     }
 }
 
-/// A run and a part behind it as one, if they are.
+/// A run and a part after it as one, if they are.
 pub(crate) fn joined(run: Run, part: Run) -> Option<Run>
     requires { run.blocks + part.blocks < 2 ^ 32 }
     ensures { result ≡ and_part run part }

@@ -1,4 +1,4 @@
-//! Whether all words of a block are one.
+//! Tests whether all words of a block are equal.
 ghost use Rattle.std.specs.Prelude.{◌≡◌, ◌<◌, ◌≤◌, ◌+◌, ◌%◌, ◌^◌, length, take, drop, bytes_eq, replicate};
 ghost use Rattle.std.specs.List.{concat};
 ghost use Rattle.abt_runs.specs.Words.{word_of, all_words};

@@ -33,14 +33,14 @@ pub ok_then : {X E : Type 0} (r : Result X E) (a b c x y : List ℕ) → b ≡ a
 ok_then (Ok v) a b c x y e h = then_all a b c x y e h
 ok_then (Err f) a b c x y e h = tt
 
--- the same of the n bytes of a source, and zeros behind n bytes
+-- the same of the n bytes of a source, and zeros after n bytes
 pub ok_padded : {X E : Type 0} (r : Result X E) (a b c s : List ℕ) (n page : ℕ) → length s ≡ n → b ≡ a ++ s
     → OnOk r (c ≡ b ++ zeros_behind n page) → OnOk r (c ≡ a ++ padded page s)
 ok_padded (Ok v) a b c s n page long e h = then_all a b c s (zeros_behind n page) e h
     ∙ ap (λ (k : ℕ). a ++ (s ++ zeros_behind k page)) (sym long)
 ok_padded (Err f) a b c s n page long e h = tt
 
--- where parts have the sizes that were told, those are the sizes that the parts had
+-- where parts have the sizes that were reported, those are the sizes that the parts had
 pub same_sizes : {S : Type 0} (f : S → ℕ) (ps ps' : List S) (sizes : List ℕ) (n : ℕ) → sizes ≡ filled 5 (map f ps)
     → n ≡ length ps → map f ps' ≡ take n sizes → map f ps' ≡ map f ps
 same_sizes f ps ps' sizes n is long e =

@@ -44,7 +44,7 @@ size_is s page sizes zs id h n low a b c d =
     ∙ ap (λ (q : ℕ). image_size (page_bytes (boot_page_for s)) q (take n sizes)) z
     ∙ ap (λ (l : List ℕ). image_size (page_bytes (boot_page_for s)) (boot_record_size s.version) l) t
 
--- ---- a header that is laid over zeros for its page
+-- ---- a header that is written over zeros for its page
 
 page_long : (p : PageSize) → 2048 ≤ page_bytes p
 page_long Of2048 = omega arith
@@ -61,7 +61,7 @@ record_some v h = elim (five v h) [ inl e ↦ rw e (omega arith) | inr e ↦ eli
 record_short : (v : ℕ) → v ≤ 4 → boot_record_size v ≤ 2048
 record_short v h = elim (five v h) [ inl e ↦ rw e (omega arith) | inr e ↦ elim e [ inl e ↦ rw e (omega arith) | inr e ↦ elim e [ inl e ↦ rw e (omega arith) | inr e ↦ elim e [ inl e ↦ rw e (omega arith) | inr e ↦ rw e (omega arith) ] ] ] ]
 
--- a page for the header, and the parts behind it
+-- a page for the header, and the parts after it
 pub once_size : (s : BootFields) (page : PageSize) (sizes zs : List ℕ) (n : ℕ) → s.version ≤ 4 → page ≡ boot_page_for s → sizes ≡ filled 5 zs → n ≡ length zs → page_bytes page + laid_size (page_bytes page) (take n sizes) ≡ boot_image_size s zs
 once_size s page sizes zs n low b c d =
     let t : take n sizes ≡ zs = ap (take n) c ∙ take_at zs (replicate (5 - length zs) 0) n (sym d) in

@@ -35,7 +35,7 @@ copy_full (copies.Read f) = refl
 copy_full (copies.Write f) = refl
 copy_full copies.Changed = refl
 
--- one of several that were lent in turn, at index i
+-- one of several that were borrowed in turn, at index i
 pub part_move : {S : Type 0} (f : S → ℕ) (ps : List S) (i t w0 w w' w1 : ℕ) (d s' : S) (e : SectionFault)
     (C D : Type 0) → i < length ps → t ≤ total f ps → w0 ≤ w → w' ≤ w1 → (C → D)
     → MoveCause e (f (get_or ps i d)) (f s') w w' C → MoveCause e t (total f (set ps i s')) w0 w1 D

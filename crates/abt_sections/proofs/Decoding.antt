@@ -1,4 +1,4 @@
--- A header that is read stands at the front, with fields that fit; and one that stands there is read.
+-- A header that is read is at the beginning, with fields that fit; and one that is there is read.
 use Rattle.std.proofs.Common.{◌≡◌, ℕ, zero, suc, ◌+◌, ◌*◌, ◌≤◌, ◌<◌, ◌^◌, Bool, true, false, cond, not, ◌||◌, ◌==◌, nat_le, inl, inr, List, ◌++◌, length, take, drop, sym, ap, subst, ◌∙◌, arith, lit<, None, Result, Ok, Err}
 use Rattle.std.specs.Prelude.{slice_index}
 use Rattle.std.proofs.Math.Nat.{pow-succ'}

@@ -59,7 +59,7 @@ pub there_length : (x : List ℕ) (at n : ℕ) → (0 < n → at + n ≤ length 
 there_length x at zero h = refl
 there_length x at (suc n) h = let k = h (omega arith) in length-take-le (suc n) (drop at x) (omega (arith, length-drop at x, k))
 
--- what stands at one place more
+-- what is stored at one place more
 pub hash_stored : (h : Sha1) (x x' : List ℕ) (ps : List SectionPlace) (i : ℕ) (p : SectionPlace) → x' ≡ x → i < length ps → p ≡ get_or ps i p → (0 < p.size → p.at + p.size ≤ length x') → Holds h ((sized_parts (take i (parts_of x ps)) ++ take p.size (drop p.at x')) ++ little_bytes 4 p.size)
     → Holds h (sized_parts (take (i + 1) (parts_of x ps)))
 hash_stored h x x' ps i p same lt is there held =

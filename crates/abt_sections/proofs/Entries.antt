@@ -1,4 +1,4 @@
--- Entries that stand at the window's front.
+-- Entries at the beginning of the window.
 use Rattle.std.proofs.Common.{◌≡◌, ℕ, ◌+◌, ◌-◌, ◌*◌, ◌≤◌, ◌<◌, List, take, drop, sym, ap, ◌∙◌, arith, drop-drop, None}
 use Rattle.std.proofs.lemmas.List.{take-take, drop-take}
 use Rattle.abt_sections.specs.Entries.{EntriesStand}
@@ -12,7 +12,7 @@ inner_part d n z h =
     let k : 108 ≤ n - d = omega arith in
     ap (λ (j : ℕ). take 108 (drop d (take j z))) e ∙ ap (take 108) (drop-take d (n - d) z) ∙ take-take 108 (n - d) (drop d z) k
 
--- an entry of those that stand there
+-- an entry of those that are there
 pub held_entry : (bytes x : List ℕ) (at first end i : ℕ) → first ≤ i → i < end → EntriesStand bytes x at first end → take 108 (drop (108 * (i - first)) bytes) ≡ take 108 (drop (at + 108 * i) x)
 held_entry bytes x at first end i from to stand =
     let d = 108 * (i - first) in

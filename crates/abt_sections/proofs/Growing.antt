@@ -31,7 +31,7 @@ begins_is a b x y same e = e ∙ ap (λ (l : List ℕ). a ++ take (length b - le
 pub then_all : (a b c x y : List ℕ) → b ≡ a ++ x → c ≡ b ++ y → c ≡ a ++ (x ++ y)
 then_all a b c x y e h = h ∙ ap (λ (l : List ℕ). l ++ y) e ∙ append_assoc a x y
 
--- what was written in the middle still stands there
+-- what was written in the middle still is there
 pub still_stands : (a t z now : List ℕ) (n : ℕ) → length t ≡ n → take (length (a ++ (t ++ z))) now ≡ a ++ (t ++ z)
     → take n (drop (length a) now) ≡ t
 still_stands a t z now n e same =
@@ -64,7 +64,7 @@ written_next a b c s s' at n same first then =
     ∙ ap (λ (l : List ℕ). a ++ (take at s ++ take n (drop at l))) same
     ∙ ap (λ (l : List ℕ). a ++ l) (take_plus at n s)
 
--- all of a source that has n bytes, and zeros behind n bytes
+-- all of a source that has n bytes, and zeros after n bytes
 pub padded_whole : (a b c s : List ℕ) (n page : ℕ) → n ≡ length s → b ≡ a ++ take n s → c ≡ b ++ zeros_behind n page
     → c ≡ a ++ padded page s
 padded_whole a b c s n page long first then =

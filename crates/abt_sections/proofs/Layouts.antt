@@ -1,4 +1,4 @@
--- Parts that are laid one after another, and how many bytes they take.
+-- Parts that are written one after another, and how many bytes they take.
 use Rattle.std.proofs.Common.{◌≡◌, ℕ, ◌+◌, ◌-◌, ◌*◌, ◌≤◌, List, [], ◌∷◌, ◌++◌, ◌<◌, length, get_or, sum, take, drop, refl, sym, ap, ◌∙◌, append_assoc, append-nil, arith, take-append-drop}
 use Rattle.std.specs.List.{concat}
 use Rattle.std.proofs.lemmas.List.Folds.{concat-append}
@@ -25,7 +25,7 @@ laid_at page all b i next =
     ∙ sym (laid-append page (take (i + 1) all) (drop (i + 1) all))
     ∙ ap (laid page) (take-append-drop (i + 1) all)
 
--- a front takes no more than a longer one
+-- a prefix takes no more than a longer one
 pub laid_less : (page : ℕ) (sizes : List ℕ) (j n : ℕ) → j ≤ n → laid_size page (take j sizes) ≤ laid_size page (take n sizes)
 laid_less page sizes j n h =
     let k : n ≡ j + (n - j) = omega arith in

@@ -49,7 +49,7 @@ and_false : (a : Bool) → (a && false) ≡ false
 and_false true = refl
 and_false false = refl
 
--- the two magics, as numbers, are not the one that stands there
+-- the two magics, as numbers, are not the one that is there
 refused : (x : List ℕ) (h : Header) → (number_at 0 8 x == 0x2144494f52444e41) ≡ false → (number_at 0 8 x == 0x544f4f4252444e56) ≡ false → image_header_at x ≡ Ok h → ⊥
 unfolding boot_at
 refused x h boot vendor is =

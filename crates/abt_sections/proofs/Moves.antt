@@ -1,4 +1,4 @@
--- Moving and reading that are refused behind what was done before.
+-- Moving and reading that are refused after what was done before.
 use Rattle.std.proofs.Common.{ℕ, ◌+◌, ◌<◌, List, length, get_or, set, Ok, Err, ap, sym, ◌∙◌}
 use Rattle.std.proofs.Math.Nat.{le_refl}
 use Rattle.abt_io.specs.Lent.{OnlyReads, OnlyReadsAll, OnlyWrites}
@@ -28,7 +28,7 @@ moves_on {f = f} {s = s} {o = o} {a = a} {b = b} {z = z} {p = p} {q = q} {t = t}
           e.cause;
     }
 
--- one of several was lent
+-- one of several was borrowed
 pub moves_part : {X Y : Type 0} {x : X} {f : SectionFault} {A B : Type 0} {s : sources.Ghosts A} {o : outputs.Ghosts B}
     {ps0 : List A} {p q t : B} {C D : Type 0} (ps : List A) (i : ℕ) (d a : A) → i < length ps
     → OnlyReadsAll {E = SectionFault} (Ok x) s ps0 ps → OnlyWrites {E = SectionFault} (Ok x) 0 o p q

@@ -1,4 +1,4 @@
--- Parts that are padded, and the bytes that they are laid as.
+-- Parts that are padded, and the bytes that they are laid out as.
 use Rattle.std.proofs.Common.{◌≡◌, ℕ, ◌+◌, ◌*◌, ◌≤◌, ◌<◌, true, ◌==◌, List, [], ◌∷◌, ◌++◌, length, take, drop, replicate, refl, sym, ap, ◌∙◌, append_assoc, arith, drop-drop, take-append-drop, None}
 use Rattle.std.proofs.Math.Nat.{mul-add}
 use Rattle.std.proofs.lemmas.Bool.{and_parts, and_from, eqb-true, eq-eqb}
@@ -87,7 +87,7 @@ laid_out_back x h fits size begins there e =
 
 -- ---- and back
 
--- what is laid is padded
+-- what is written is padded
 laid_padded : (p : ℕ) → 0 < p → (k : ℕ) (ss : List (Section × ℕ)) (parts : List (List ℕ)) (x rest : List ℕ) → drop (p * k) x ≡ laid p parts ++ rest → Sized ss parts → padded_places x p (places_from p k ss) ≡ true
 laid_padded p some k [] [] x rest e s = refl
 laid_padded p some k [] (q ∷ qs) x rest e s = absurd s

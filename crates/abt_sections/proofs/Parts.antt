@@ -1,4 +1,4 @@
--- Devices that are lent one after another, out of a slice.
+-- Devices that are borrowed one after another, out of a slice.
 use Rattle.std.proofs.Common.{◌≡◌, ℕ, zero, suc, ◌+◌, ◌<◌, ◌≤◌, List, [], ◌∷◌, ◌++◌, length, take, map, get_or, set}
 use Rattle.std.proofs.Common.{refl, sym, ap, ◌∙◌, arith, replicate, ◌-◌, Result, Ok, Err}
 use Rattle.std.proofs.lemmas.List.{length-map, map-set, set-get_or, take_all, take_more, take_more_set, get_or_default}
@@ -14,7 +14,7 @@ get_map f [] i d = refl
 get_map f (p ∷ ps) zero d = refl
 get_map f (p ∷ ps) (suc i) d = get_map f ps i d
 
--- what one that was lent keeps, all keep
+-- what one that was borrowed keeps, all keep
 pub kept : {S T : Type 0} (f : S → T) (ps : List S) (i : ℕ) (d s' : S) → f s' ≡ f (get_or ps i d)
     → map f (set ps i s') ≡ map f ps
 kept {S} {T} f ps i d s' same =
@@ -48,7 +48,7 @@ pub part_same : {S T : Type 0} (f : S → T) (ps ps0 : List S) (i : ℕ) (d : S)
 part_same {S} {T} f ps ps0 i d same = sym (get_map f ps i d) ∙ ap (λ (l : List T). get_or l i (f d)) same
     ∙ get_map f ps0 i d
 
--- the sizes of those that were lent so far, with one more
+-- the sizes of those that were borrowed so far, with one more
 pub sizes_next : {S : Type 0} (f : S → ℕ) (ps : List S) (i : ℕ) (s' : S) (sizes : List ℕ) → i < length ps
     → i < length sizes → take i (map f ps) ≡ take i sizes → f s' ≡ get_or sizes i 0
     → take (i + 1) (map f (set ps i s')) ≡ take (i + 1) sizes
@@ -79,7 +79,7 @@ all_part {r = r} s ps0 ps i d a within k e =
       clean = on_ok_then r (λ same. omega (arith, k.clean, risen, same)) e.clean;
     }
 
--- what was refused stays so, whatever is answered
+-- what was refused stays so, whatever is returned
 pub all_err : {X Y E F : Type 0} {e : E} (f : F) {A : Type 0} {s : sources.Ghosts A} {a z : List A}
     → OnlyReadsAll {X = X} (Err e) s a z → OnlyReadsAll {X = Y} (Err f) s a z
 all_err f k = record { content = k.content; size = k.size; frame = k.frame; faults = k.faults; clean = tt }

@@ -1,4 +1,4 @@
--- A record that is laid over zeros, its magic last.
+-- A record that is written over zeros, its magic last.
 use Rattle.std.proofs.Common.{◌≡◌, ℕ, zero, suc, ◌+◌, ◌-◌, ◌*◌, ◌<◌, ◌≤◌, inl, inr, List, [], ◌∷◌, ◌++◌, length, take, drop, replicate, get_or, refl, sym, ap, ◌∙◌, append_assoc, append-nil, arith, length-append, length-drop, length-take, drop-drop, nat_lt}
 use Rattle.std.proofs.lemmas.Bool.{cases_Bool, ltb-true, ltb-false}
 use Rattle.std.proofs.lemmas.List.{length-take-le, length-replicate, take_all, take_at, drop_at, drop-take, take-append-le, take-append-drop, drop-append-le, get_or-take, get_or-drop, get_or-replicate, get_or_append_left, get_or-append_right}
@@ -14,7 +14,7 @@ use Rattle.abt_sections.specs.Grown.{Grows}
 use Rattle.abt_sections.specs.Layout.{padded, zeros_behind}
 use Rattle.abt_sections.proofs.Magic.{opens_as_nothing}
 
--- what stands from a place on where bytes were put there
+-- what is stored from a place on where bytes were put there
 drop_put : (c : List ℕ) (at : ℕ) (y : List ℕ) → at ≤ length c → drop at (put_at c at y) ≡ y ++ drop (at + length y) c
 drop_put c at y le = ap (drop at) (sym (put'_is c at y)) ∙ drop_at (take at c) (y ++ drop (at + length y) c) at (length-take-le at c le)
 
@@ -39,7 +39,7 @@ put_two old mid new bytes at long fits first then =
 
 -- ---- zeros at a place
 
--- a longer front is the same
+-- a longer prefix is the same
 pub zeros_kept : (old mid : List ℕ) (at : ℕ) → take (at + 8) mid ≡ take (at + 8) old → take 8 (drop at old) ≡ replicate 8 0 → take 8 (drop at mid) ≡ replicate 8 0
 zeros_kept old mid at same zeros = sym (drop-take at 8 mid) ∙ ap (drop at) same ∙ drop-take at 8 old ∙ zeros
 
@@ -122,7 +122,7 @@ zeros_of zero n le = refl
 zeros_of (suc k) zero le = absurd (omega (arith, le))
 zeros_of (suc k) (suc n) le = ap (λ (l : List ℕ). 0 ∷ l) (zeros_of k n (omega arith))
 
--- where all of them came, and maybe more behind them
+-- where all of them came, and maybe more after them
 pub page_stands : (old now : List ℕ) (n : ℕ) → 8 ≤ n → Grows (old ++ replicate n 0) now → take 8 (drop (length old) now) ≡ replicate 8 0
 page_stands old now n long g =
     let z = replicate n 0 in
@@ -150,7 +150,7 @@ replicate_behind zero n le = ap (λ (k : ℕ). replicate {A = ℕ} k 0) (let e :
 replicate_behind (suc k) zero le = absurd (omega (arith, le))
 replicate_behind (suc k) (suc n) le = replicate_behind k n (omega arith) ∙ ap (λ (j : ℕ). replicate {A = ℕ} j 0) (let e : n - k ≡ suc n - suc k = omega arith in e)
 
--- zeros for a page, parts behind it, and then the record over the zeros
+-- zeros for a page, parts after it, and then the record over the zeros
 pub laid_over : (old mid new bytes behind : List ℕ) (page : ℕ) → mid ≡ (old ++ replicate page 0) ++ behind → new ≡ put_at mid (length old) bytes → 0 < length bytes → length bytes ≤ page → new ≡ old ++ (padded page bytes ++ behind)
 laid_over old mid new bytes behind page e put some fits =
     let z = replicate page 0 in

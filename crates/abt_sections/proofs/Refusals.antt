@@ -1,4 +1,4 @@
--- What is read or moved, behind what was read before.
+-- What is read or moved, after what was read before.
 use Rattle.std.proofs.Common.{Result, Ok, Err}
 use Rattle.std.proofs.Math.Nat.{le_refl}
 use Rattle.abt_io.specs.Lent.{OnlyReads}

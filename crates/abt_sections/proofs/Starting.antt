@@ -17,7 +17,7 @@ starts x y rest e = ap (take (length y)) e ∙ take_at y rest (length y) refl
 pub continues : (x y : List ℕ) → StartsWith x y → x ≡ y ++ drop (length y) x
 continues x y e = sym (take-append-drop (length y) x) ∙ ap (λ (l : List ℕ). l ++ drop (length y) x) e
 
--- what stands at the places of sections that are there has their sizes
+-- what is stored at the places of sections that are there has their sizes
 pub sized_there : (p k : ℕ) (ss : List (Section × ℕ)) (x : List ℕ) → beyond (places_from p k ss) (length x) ≡ None → Sized ss (parts_of x (places_from p k ss))
 sized_there p k [] x there = tt
 sized_there p k (s ∷ ss) x there =

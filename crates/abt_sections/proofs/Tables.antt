@@ -1,4 +1,4 @@
--- Sections that are there, and what stands in them.
+-- Sections that are there, and what is stored in them.
 use Rattle.std.proofs.Common.{◌≡◌, ℕ, zero, suc, ◌+◌, ◌*◌, ◌≤◌, ◌<◌, Bool, true, false, cond, List, [], ◌∷◌, length, get_or, refl, sym, ap, ◌∙◌, arith, Option, Some, None, nat_lt, ◌&&◌, ◌-◌, take, drop, drop-drop}
 use Rattle.std.proofs.lemmas.List.{take-take, drop-take, get_or_default}
 use Rattle.std.proofs.lemmas.Bool.{ltb-false, lt-ltb}

@@ -49,7 +49,7 @@ canon_is s p v e =
     ap (λ (u : Vendor). first_sections u (concat p.ramdisks) p.dtb ++ cond (s.version == 3) [] (laid (vendor_page h) (table_for p.fragments (map length p.ramdisks) 0 ∷ p.bootconfig ∷ []))) e
     ∙ split_at (s.version == 3) (vendor_page h) (vendor_record h) (concat p.ramdisks) p.dtb (table_for p.fragments (map length p.ramdisks) 0) p.bootconfig
 
--- version 3 has nothing behind them, version 4 the table and the bootconfig
+-- version 3 has nothing after them, version 4 the table and the bootconfig
 pub rest_3 : (s : VendorFields) (p : VendorParts) → s.version ≡ 3 → rest_for s p ≡ []
 unfolding rest_for
 rest_3 s p e = rw e refl
@@ -78,7 +78,7 @@ first_fits s page a b c d count e =
     let k2 = sum_by-cons f b (c ∷ d ∷ []) in
     rw e (elim (cases_Bool (s.version == 3)) [ inl t ↦ rw t (omega (arith, h1, h2)) | inr t ↦ rw t (omega (arith, k1, k2)) ])
 
--- and the table stands behind them
+-- and the table is after them
 pub first_place : (s : VendorFields) (page : PageSize) (a b c d count : ℕ) → page ≡ vendor_page_for s → (s.version ≡ 3 → ⊥) → first_size (vendor_header_for s page (a ∷ b ∷ c ∷ d ∷ []) count) a b ≡ table_place s (a ∷ b ∷ c ∷ d ∷ [])
 first_place s page a b c d count e four =
     let p = page_bytes (vendor_page_for s) in

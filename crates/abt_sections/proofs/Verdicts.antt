@@ -1,4 +1,4 @@
--- What is told of an image by the rules that hold of it.
+-- The verdict on an image, from the rules that hold of it.
 use Rattle.std.proofs.Common.{◌≡◌, Bool, true, false, ◌&&◌, ℕ, List, refl, sym, ◌∙◌}
 use Rattle.std.specs.Prelude.{IsTrue, ◌↔◌}
 use Rattle.std.proofs.lemmas.Bool.{false≢true}

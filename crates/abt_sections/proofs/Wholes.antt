@@ -27,13 +27,13 @@ ok_of h = Ok h
 pub ok_same : (g h : Header) → ok_of g ≡ ok_of h → g ≡ h
 ok_same g h e = cc
 
--- what is found at the front of an image that the packer wrote
+-- what is found at the beginning of an image that the packer wrote
 pub record IsPacked (x : List ℕ) (h : Header) : Type 0 where
   pub header : image_header_at x ≡ Ok h
   pub there : beyond (places_of h) (length x) ≡ None
   pub canonical : IsCanonical x h
 
--- ---- parts that stand whole are there, and back
+-- ---- parts that are whole are there, and back
 
 not_beyond : (x : List ℕ) (p : SectionPlace) → length (part_of x p) ≡ p.size → ends_beyond p (length x) ≡ false
 not_beyond x p e = elim (cases_lt 0 p.size) [

@@ -1,4 +1,4 @@
--- What calls ask for.
+-- The conditions on what calls ask for.
 use Rattle.std.specs.Prelude.{ℕ, ◌+◌, ◌<◌, ◌≤◌, ◌^◌, List, length}
 use Rattle.abt_sections.specs.Entries.{ComesNext}
 
@@ -12,7 +12,7 @@ pub record MayPad (n page : ℕ) : Type 0 where
   pub some : 0 < page
   pub bound : n + page < 2 ^ 64
 
--- at most five parts, which are laid each from a page boundary on
+-- at most five parts, which are placed each from a page boundary on
 pub record FewOnPages {A : Type 0} (page : ℕ) (parts : List A) : Type 0 where
   pub some : 0 < page
   pub few : length parts ≤ 5

@@ -1,4 +1,4 @@
--- The canonical boot image: the one that is packed of these fields and parts.
+-- The canonical boot image: the image that is packed from these fields and parts.
 use Rattle.std.specs.Prelude.{ℕ, ◌+◌, ◌*◌, ◌==◌, nat_lt, if◌then◌else◌, List, length, take, drop, replicate, map}
 use Rattle.std.specs.Prelude.{slice_index, Option, Some, None}
 use Rattle.abt_headers.specs.declared.page.PageSize.{PageSize}
@@ -35,7 +35,7 @@ front_for s page sizes id = record {
   extra_cmdline = filled 1024 (drop 512 s.cmdline);
 }
 
--- where the recovery dtbo stands, or 0 where it is empty
+-- where the recovery dtbo is, or 0 where it is empty
 abbrev pub dtbo_offset : ℕ → ℕ → ℕ → ℕ → ℕ → ℕ
 dtbo_offset page kernel ramdisk second dtbo =
     if dtbo == 0 then 0 else page * (1 + pages kernel page + pages ramdisk page + pages second page)

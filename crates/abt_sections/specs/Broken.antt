@@ -1,4 +1,4 @@
--- What stands where an image was broken off before its magic was whole.
+-- What an output holds where an image was broken off before its magic was whole.
 use Rattle.std.specs.Prelude.{◌≡◌, ℕ, ◌<◌, ◌⊎◌, List, ◌++◌, length, drop, slice_index}
 use Rattle.abt_io.specs.Bytes.{AreBytes}
 use Rattle.abt_sections.specs.Header.{Header}
@@ -16,6 +16,6 @@ pub record HasNoMagic (x : List ℕ) : Type 0 where
 abbrev pub OpensAsNothing : List ℕ → Type 0
 OpensAsNothing x = (rest : List ℕ) (h : Header) → AreBytes rest → HasImage (x ++ rest) h → ⊥
 
--- nothing stands in now behind old, or what opens as nothing
+-- nothing is in now after old, or what opens as nothing
 abbrev pub IsBrokenOff : List ℕ → List ℕ → Type 0
 IsBrokenOff old now = (now ≡ old) ⊎ OpensAsNothing (drop (length old) now)

@@ -50,7 +50,7 @@ pub record FragmentFits (f : FragmentSpec) : Type 0 where
   pub board_long : length f.board_id ≡ 16
   pub board_id : (i : ℕ) → slice_index f.board_id i < 2 ^ 32
 
--- what the packer takes: in version 3 one ramdisk and no more than a dtb behind it, in version 4 a fragment for each
+-- what the packer takes: in version 3 one ramdisk and no more than a dtb after it, in version 4 a fragment for each
 -- ramdisk; and nothing that it refuses
 pub record IsVendorInput (s : VendorFields) (p : VendorParts) : Type 0 where
   pub numbers : VendorNumbers s

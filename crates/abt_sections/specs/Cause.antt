@@ -1,4 +1,4 @@
--- Why a call was refused: each fault with what must have happened.
+-- The cause of each refusal: what must have happened for each fault.
 use Rattle.std.specs.Prelude.{◌≡◌, ℕ, ◌<◌, List, sum_by, Option, Some, None, Result, Ok, Err}
 use Rattle.abt_io.specs.Count.{full_in}
 use Rattle.abt_io.specs.declared.copying.CopyFault.{CopyFault}
@@ -48,7 +48,7 @@ full_in_section_fault (Read f) = full_in f
 full_in_section_fault (Write f) = full_in f
 full_in_section_fault _ = 0
 
--- 1 for a call that answered so
+-- 1 for a call that returned this
 abbrev pub full_handed : {X : Type 0} → Result X SectionFault → ℕ
 full_handed (Ok x) = 0
 full_handed (Err e) = full_in_section_fault e

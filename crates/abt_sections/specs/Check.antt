@@ -1,4 +1,4 @@
--- What checking an image tells.
+-- The results of checking an image.
 use Rattle.std.specs.Prelude.{◌≡◌, ℕ, zero, suc, IsSome, ◌+◌, ◌==◌, ◌&&◌, Bool, true, false, if◌then◌else◌, IsTrue}
 use Rattle.std.specs.Prelude.{List, [], ◌∷◌, ◌++◌, length, take, drop, ◌<◌, ◌↔◌}
 use Rattle.abt_headers.specs.declared.sections.SectionPlace.{SectionPlace}
@@ -25,12 +25,12 @@ all_zero (b ∷ x) = (b == 0) && all_zero x
 abbrev pub zeros_there : List ℕ → ℕ → ℕ → Bool
 zeros_there x at n = (length (take n (drop at x)) == n) && all_zero (take n (drop at x))
 
--- behind each of these places, up to a page boundary
+-- after each of these places, up to a page boundary
 abbrev pub padded_places : List ℕ → ℕ → List SectionPlace → Bool
 padded_places x page [] = true
 padded_places x page (p ∷ ps) = zeros_there x (p.at + p.size) (padding p.size page) && padded_places x page ps
 
--- behind the header and behind each section
+-- after the header and after each section
 abbrev pub padding_holds : List ℕ → Header → Bool
 padding_holds x h =
     zeros_there x (size_of h) (padding (size_of h) (page_of h)) && padded_places x (page_of h) (places_of h)
@@ -52,7 +52,7 @@ abbrev pub offset_holds : Header → Bool
 offset_holds (OfBoot h) = boot_offset_holds h
 offset_holds (OfVendor v) = v.front.header_size == vendor_size v
 
--- ---- id: the field is the id of what stands in the sections, where the version has one
+-- ---- id: the field is the id of what is stored in the sections, where the version has one
 
 abbrev pub BootIdHolds : List ℕ → BootHeader → Type 0
 BootIdHolds x (V0 f) = f.id ≡ id_of (parts_of x (places_of (OfBoot (V0 f))))

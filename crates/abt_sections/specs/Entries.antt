@@ -1,4 +1,4 @@
--- The entries of a table that stand at the front of a buffer.
+-- The entries of a table at the beginning of a buffer.
 use Rattle.std.specs.Prelude.{◌≡◌, ℕ, ◌+◌, ◌-◌, ◌*◌, ◌≤◌, ◌<◌, List, take, drop}
 
 -- bytes begin with the entries from `first` up to `end` of a table that begins at a place of x

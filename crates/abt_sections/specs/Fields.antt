@@ -1,4 +1,4 @@
--- What an image is packed from, beside its parts, and what a text field is.
+-- The fields that an image is packed from, beside its parts, and what a text field is.
 use Rattle.std.specs.Prelude.{ℕ, ◌-◌, ◌==◌, ◌&&◌, nat_le, not, Bool, true, List, [], ◌∷◌, ◌++◌, length, replicate}
 use Rattle.abt_headers.specs.declared.os.OsVersion.{OsVersion}
 use Rattle.abt_sections.specs.declared.spec.BootSpec.{BootSpec}

@@ -1,4 +1,4 @@
--- The header of an image of either kind, and what it is for some bytes to be an image.
+-- The header of an image of either kind, and what it means that bytes are an image.
 use Rattle.std.specs.Prelude.{◌≡◌, ℕ, ◌+◌, ◌*◌, ◌≤◌, ◌<◌, ◌==◌, ◌&&◌, nat_le, Bool, if◌then◌else◌, List, length, take}
 use Rattle.std.specs.Prelude.{drop, Option, Some, None, Result}
 use Rattle.abt_headers.specs.declared.fault.HeaderFault.{HeaderFault}
@@ -44,7 +44,7 @@ abbrev pub sections_of : Header → List (Section × ℕ)
 sections_of (OfBoot h) = boot_sections h
 sections_of (OfVendor v) = vendor_sections v
 
--- where the sections stand: each at the first page boundary behind the one before
+-- where the sections are: each at the first page boundary after the one before
 abbrev pub places_of : Header → List SectionPlace
 places_of h = places_from (page_of h) (pages (size_of h) (page_of h)) (sections_of h)
 
@@ -59,7 +59,7 @@ HeaderFits (OfVendor v) = VendorFits v
 abbrev pub is_vendor : List ℕ → Bool
 is_vendor x = nat_le 8 (length x) && (number_at 0 8 x == 0x544f4f4252444e56)
 
--- the header at the front of x, or the first fault: of a vendor boot image where the magic says so, else of a boot
+-- the header at the beginning of x, or the first fault: of a vendor boot image where the magic says so, else of a boot
 -- image
 abbrev pub image_header_at : List ℕ → Result Header HeaderFault
 image_header_at x = if is_vendor x then mapped (vendor_at x) (λ v. OfVendor v) else mapped (boot_at x) (λ h. OfBoot h)
@@ -93,7 +93,7 @@ abbrev pub ramdisk_size : Header → ℕ
 ramdisk_size (OfBoot h) = 0
 ramdisk_size (OfVendor v) = v.front.vendor_ramdisk_size
 
--- where the table begins: behind the vendor ramdisk and the dtb
+-- where the table begins: after the vendor ramdisk and the dtb
 abbrev pub table_at : Header → ℕ
 table_at (OfBoot h) = 0
 table_at (OfVendor v) = vendor_page v * (pages (vendor_size v) (vendor_page v)
@@ -111,7 +111,7 @@ IsWithin h e = e.ramdisk_offset + e.ramdisk_size ≤ ramdisk_size h
 abbrev pub EachWithin : List ℕ → Header → Type 0
 EachWithin x h = (i : ℕ) → i < fragment_count h → IsWithin h (entry_of x h i)
 
--- the record of h stands at the front of x, and each part whole at its place
+-- the record of h is at the beginning of x, and each part whole at its place
 pub record IsImage (x : List ℕ) (h : Header) (parts : List (List ℕ)) : Type 0 where
   pub fits : HeaderFits h
   pub begins : take (size_of h) x ≡ record_of h
@@ -121,6 +121,6 @@ pub record IsImage (x : List ℕ) (h : Header) (parts : List (List ℕ)) : Type 
 abbrev pub ramdisk_part : List ℕ → Header → RamdiskEntry → List ℕ
 ramdisk_part x h e = take e.ramdisk_size (drop e.ramdisk_offset (take (ramdisk_size h) (drop (ramdisk_at h) x)))
 
--- fragment i, as the table says where it stands within the vendor ramdisk
+-- fragment i, at the place that the table gives within the vendor ramdisk
 abbrev pub fragment_of : List ℕ → Header → ℕ → List ℕ
 fragment_of x h i = take (entry_of x h i).ramdisk_size (drop (ramdisk_at h + (entry_of x h i).ramdisk_offset) x)

@@ -3,7 +3,7 @@ use Rattle.std.specs.Prelude.{ℕ, List, [], ◌∷◌, ◌++◌, length, replic
 use Rattle.byteorder.specs.Endian.{little_bytes}
 use Rattle.sha1.specs.Sha1.{sha1}
 
--- each part, and behind it its size in four bytes
+-- each part, and after it its size in four bytes
 abbrev pub sized_parts : List (List ℕ) → List ℕ
 sized_parts [] = []
 sized_parts (x ∷ xs) = x ++ little_bytes 4 (length x) ++ sized_parts xs

@@ -1,4 +1,4 @@
--- How an image is laid out: its record first, then its parts, each from a page boundary on, zeros between.
+-- The layout of an image: its record first, then its parts, each at a page boundary, with zeros between.
 use Rattle.std.specs.Prelude.{◌≡◌, ℕ, ◌-◌, ◌*◌, List, [], ◌∷◌, ◌++◌, length, take, drop, map, replicate, sum_by}
 use Rattle.abt_headers.specs.declared.sections.Section.{Section}
 use Rattle.abt_headers.specs.declared.sections.SectionPlace.{SectionPlace}
@@ -8,7 +8,7 @@ use Rattle.abt_headers.specs.Page.{pages}
 abbrev pub padding : ℕ → ℕ → ℕ
 padding n page = pages n page * page - n
 
--- the zeros behind n bytes, up to a page boundary
+-- the zeros after n bytes, up to a page boundary
 abbrev pub zeros_behind : ℕ → ℕ → List ℕ
 zeros_behind n page = replicate (padding n page) 0
 
@@ -21,7 +21,7 @@ abbrev pub laid : ℕ → List (List ℕ) → List ℕ
 laid page [] = []
 laid page (x ∷ xs) = padded page x ++ laid page xs
 
--- a record and parts behind it
+-- a record and parts after it
 abbrev pub laid_out : ℕ → List ℕ → List (List ℕ) → List ℕ
 laid_out page header parts = padded page header ++ laid page parts
 
@@ -29,14 +29,14 @@ laid_out page header parts = padded page header ++ laid page parts
 abbrev pub laid_size : ℕ → List ℕ → ℕ
 laid_size page sizes = sum_by (λ n. pages n page * page) sizes
 
--- what stands at a place of x
+-- what is stored at a place of x
 abbrev pub part_of : List ℕ → SectionPlace → List ℕ
 part_of x p = take p.size (drop p.at x)
 
 abbrev pub parts_of : List ℕ → List SectionPlace → List (List ℕ)
 parts_of x places = map (part_of x) places
 
--- each part stands whole at its place, and has the size of the place
+-- each part is whole at its place, and has the size of the place
 abbrev pub PartsPlaced : List ℕ → List SectionPlace → List (List ℕ) → Type 0
 PartsPlaced x [] [] = Unit {0}
 PartsPlaced x [] (q ∷ qs) = ⊥

@@ -1,4 +1,4 @@
--- What calls that write, that move bytes, and that read several sources leave of them, and why they are refused.
+-- What calls leave that write, that move bytes, or that read several sources, and why they are refused.
 use Rattle.std.specs.Prelude.{◌≡◌, ◌+◌, ℕ, Result, List, ◌++◌, length, map, take, drop, IsTrue, OnOk, OnErr, IfErr}
 use Rattle.abt_io.specs.Lent.{OnlyReads, OnlyReadsAll, OnlyWrites}
 use Rattle.abt_io.specs.Moment.{put_at}
@@ -57,7 +57,7 @@ pub record Appends {X : Type 0} (r : Result X SectionFault) {B : Type 0} (o : ou
   pub front : AppendsFront (o.written old) (o.written new) x
   pub writes : WritesAlone r o old new
 
--- A record is laid over zeros that stand at a place of an output, or where it fails no whole magic stands there.
+-- A record overwrites zeros at a place of an output, or where it fails no whole magic is there.
 pub record LaysRecord {X : Type 0} (r : Result X SectionFault) {B : Type 0} (o : outputs.Ghosts B) (old new : B)
     (at : ℕ) (x : List ℕ) : Type 0 where
   pub written : OnOk r (o.written new ≡ put_at (o.written old) at x)

@@ -1,4 +1,4 @@
--- What packing a boot image leaves, whatever it answers.
+-- What packing a boot image leaves, whatever it returns.
 use Rattle.std.specs.Prelude.{◌≡◌, ◌≤◌, ◌+◌, Result, Err, List, ◌++◌, length, map, IsTrue, OnOk, IfOk, IfErr}
 use Rattle.abt_io.specs.Lent.{OnlyReadsAll, OnlyWrites}
 use Rattle.abt_io.specs.declared.device.Source as sources

@@ -20,7 +20,7 @@ pub record OpensUnless {X : Type 0} (r : Result X SectionFault) {A : Type 0} (s 
   pub cause : IfErr r (λ e. OpenCause e (s.read_faults old) (s.read_faults new) changed)
   pub failed : full_handed r ≡ 0
 
--- And where the source tells its bytes, the answer is what P says.
+-- And where the source models its content, the result is what P says.
 pub record FindsUnless {X : Type 0} (r : Result X SectionFault) {A : Type 0} (s : sources.Ghosts A) (old new : A)
     (changed : Type 0) (P : X → Type 0) : Type 0 where
   pub reads : ReadsUnless r s old new changed

@@ -1,4 +1,4 @@
--- What packing refuses before it writes, the first in order.
+-- What packing refuses before it writes: the first fault in order.
 use Rattle.std.specs.Prelude.{◌≡◌, ℕ, Result, MatchResult, ◌&&◌, ◌||◌, nat_lt, not, if◌then◌else◌, List}
 use Rattle.std.specs.Prelude.{[], ◌∷◌, ◌==◌, Option, Some, None, is_some}
 use Rattle.abt_headers.specs.declared.fault.HeaderFault.TheVariants as header
@@ -64,7 +64,7 @@ abbrev pub IfRefused : Option SectionFault → (SectionFault → Type 0) → Typ
 IfRefused None P = Unit {0}
 IfRefused (Some f) P = P f
 
--- A call is refused where there is a refusal, and by it; else its answer is what P says. No fault says that a device is
+-- A call is refused where there is a refusal, and by it; else its result is what P says. No fault says that a device is
 -- full.
 pub record RefusedBy {X : Type 0} (r : Result X SectionFault) (refusal : Option SectionFault) (P : X → Type 0)
     : Type 0 where

@@ -1,4 +1,4 @@
--- What stands in an image that is packed of some fields and parts.
+-- What an image holds that is packed from some fields and parts.
 use Rattle.std.specs.Prelude.{◌≡◌, ℕ, ◌<◌, List, [], length, take, slice_index_or}
 use Rattle.std.specs.List.{concat}
 use Rattle.abt_sections.specs.declared.spec.FragmentSpec.{FragmentSpec}
@@ -10,7 +10,7 @@ use Rattle.abt_sections.specs.Open.{HasImage}
 use Rattle.abt_sections.specs.BootCanon.{boot_header_of}
 use Rattle.abt_sections.specs.VendorCanon.{VendorParts, entry_for, vendor_header_of, vendor_sections_for}
 
--- x is opened as this header, and is an image of it and these parts: what stands in its sections is the parts
+-- x is opened as this header, and is an image of it and these parts: what is stored in its sections is the parts
 pub record HoldsParts (x : List ℕ) (h : Header) (parts : List (List ℕ)) : Type 0 where
   pub has : HasImage x h
   pub image : IsImage x h parts

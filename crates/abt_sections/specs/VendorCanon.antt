@@ -1,4 +1,4 @@
--- The canonical vendor boot image: the one that is packed of these fields, fragments and parts.
+-- The canonical vendor boot image: the image that is packed from these fields, fragments and parts.
 use Rattle.std.specs.Prelude.{ℕ, ◌+◌, ◌*◌, ◌==◌, if◌then◌else◌, List, [], ◌∷◌, ◌++◌, length, take, map, slice_index}
 use Rattle.std.specs.Prelude.{Some, None}
 use Rattle.std.specs.List.{concat}
@@ -101,11 +101,11 @@ abbrev pub vendor_image_size : VendorFields → List ℕ → ℕ
 vendor_image_size s sizes = if s.version == 3 then image_size (page_bytes (vendor_page_for s)) 2112 (take 2 sizes)
     else image_size (page_bytes (vendor_page_for s)) 2128 sizes
 
--- where its table stands in version 4: behind its record, the vendor ramdisk and the dtb
+-- where its table is in version 4: after its record, the vendor ramdisk and the dtb
 abbrev pub table_place : VendorFields → List ℕ → ℕ
 table_place s sizes = image_size (page_bytes (vendor_page_for s)) 2128 (take 2 sizes)
 
--- the front of an image: its record, the vendor ramdisk and the dtb, and how long that is
+-- the beginning of an image: its record, the vendor ramdisk and the dtb, and how long that is
 abbrev pub first_sections : Vendor → List ℕ → List ℕ → List ℕ
 first_sections v ramdisk dtb =
     padded (vendor_page v) (vendor_record v) ++ (padded (vendor_page v) ramdisk ++ padded (vendor_page v) dtb)

@@ -1,4 +1,4 @@
-//! Whether an image is what the packer would have written.
+//! Tests whether an image is what the packer would have written.
 
 ghost use Rattle.std.specs.Prelude.{◌≡◌, ◌<◌, ◌≤◌, ◌+◌, ◌-◌, ◌^◌, ◌++◌, ◌↔◌, ◌&&◌, IsTrue, IfOk, Err};
 ghost use Rattle.std.specs.Prelude.{None, length, take, drop, slice_range};
@@ -251,7 +251,7 @@ fn texts_hold(header: &ImageHeader, m: &mut Meter) -> bool
     }
 }
 
-/// What is told of an image by the rules that hold of it.
+/// The verdict on an image, from the rules that hold of it.
 fn verdict_of(padding: bool, id: bool, offset: bool, texts: bool, fill: bool) -> Verdict
     ensures padding { result.padding ≡ padding }
     ensures id { result.id ≡ id }

@@ -1,4 +1,4 @@
-//! Why an image is refused.
+//! The reasons for which an image is refused.
 
 ghost use Rattle.std.specs.Prelude.{◌≡◌};
 ghost use Rattle.abt_sections.specs.Fault.{section_fault_number};
@@ -19,7 +19,7 @@ pub enum SectionFault {
     /// A source's length changed, it gave nothing below its length, or its table reads otherwise than before.
     #[error("14 SourceChanged")]
     SourceChanged,
-    /// The bytes at the front are no header, or no header has these fields.
+    /// The bytes at the beginning are no header, or no header has these fields.
     #[error("{0}")]
     Header(HeaderFault),
     /// The ramdisk fragment of this index ends past the vendor ramdisk.

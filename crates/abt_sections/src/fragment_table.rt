@@ -1,4 +1,4 @@
-//! The table of ramdisk fragments, which a vendor boot image of version 4 has.
+//! The table of ramdisk fragments in a vendor boot image of version 4.
 
 ghost use Rattle.std.specs.Prelude.{◌≡◌, ◌<◌, ◌≤◌, ◌+◌, ◌-◌, ◌*◌, ◌^◌, ℕ, IsTrue, IfOk, OnOk, MatchBool};
 ghost use Rattle.std.specs.Prelude.{MatchResult, ◌↔◌, Err, None, length, take, drop};
@@ -75,7 +75,7 @@ pub(crate) fn entry_count(header: &ImageHeader) -> u32
     }
 }
 
-/// Where entry `i` of a table stands.
+/// Where entry `i` of a table is.
 fn place_of_entry(table: &Table, i: u32) -> u64
     requires { table.now.at < 2 ^ 62 }
     ensures { result ≡ table.now.at + 108 * i }
@@ -106,7 +106,7 @@ fn read_entry<S: Source>(
     Ok(entry)
 }
 
-/// The entries of a table that stand at the window's front: from `first` up to `end`. The step that read them ends once
+/// The entries of a table at the beginning of the window: from `first` up to `end`. The step that read them ends once
 /// they are used.
 #[derive(Clone, Copy)]
 struct LoadedEntries {
@@ -114,7 +114,7 @@ struct LoadedEntries {
     end: u32,
 }
 
-/// Ends the step that read the entries at the window's front.
+/// Ends the step that read the entries at the window's beginning.
 fn end_held(held: LoadedEntries, m: &mut Meter)
     requires from { held.first ≤ held.end }
     requires few { held.end ≤ held.first + 606 }
@@ -124,8 +124,8 @@ fn end_held(held: LoadedEntries, m: &mut Meter)
     }
 }
 
-/// Where entry `i` is not among the entries at the window's front: ends their step, and begins one that reads the entry
-/// there, and behind it as many as there are and fit.
+/// Where entry `i` is not among the entries at the window's beginning: ends their step, and begins one that reads the
+/// entry there, and after it as many as there are and fit.
 fn hold_entry<S: Source>(
     table: &Table,
     i: u32,
@@ -158,7 +158,7 @@ fn hold_entry<S: Source>(
     })
 }
 
-/// Entry `j` of those at the window's front.
+/// Entry `j` of those at the window's beginning.
 fn entry_in(w: &Window, j: u32) -> RamdiskEntry
     requires { j < 606 }
     ensures { result ≡ entry_at (take 108 (drop (108 * j) w.now.bytes)) }

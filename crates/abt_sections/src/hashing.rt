@@ -53,7 +53,7 @@ fn hash_range<S: Source>(
     Ok(())
 }
 
-/// A digest as the header's field holds it: behind it twelve zeros.
+/// A digest as the header's field holds it, with twelve zeros after it.
 pub(crate) fn id_field(digest: &[u8; 20]) -> [u8; 32]
     ensures { result ≡ digest.now ++ replicate 12 0 }
 {
@@ -62,14 +62,14 @@ pub(crate) fn id_field(digest: &[u8; 20]) -> [u8; 32]
     id
 }
 
-/// Hashes the size of a part, as it stands behind the part.
+/// Hashes the size of a part, which comes after the part.
 pub(crate) fn hash_size(size: u32, hasher: &mut Sha1)
     ensures { (t : List ℕ) → Holds hasher.old t → Holds hasher.new (t ++ little_bytes 4 size) }
 {
     hasher.update(&size.to_le_bytes());
 }
 
-/// Hashes one part, and behind it its size.
+/// Hashes one part, and after it its size.
 fn hash_part<S: Source>(
     part: &mut S,
     size: u32,
@@ -142,7 +142,7 @@ pub fn image_id<S: Source>(
     hash_parts(parts, &sizes, w, m)
 }
 
-/// The id of what stands at these places of a source.
+/// The id of what is stored at these places of a source.
 pub(crate) fn stored_id<S: Source>(
     source: &mut S,
     sections: &Sections,

@@ -1,4 +1,4 @@
-//! An image that was opened: its header, and where its sections stand.
+//! An opened image: its header, and the places of its sections.
 
 ghost use Rattle.std.specs.Prelude.{◌≡◌, ◌<◌, ◌≤◌, ◌+◌, ◌^◌, MatchBool, length, slice_index_or};
 ghost use Rattle.abt_headers.specs.Page.{IsPage};
@@ -37,7 +37,7 @@ impl ImageHeader {
         }
     }
 
-    /// The sections behind the header, in order.
+    /// The sections after the header, in order.
     pub fn sections(&self) -> Sections
         ensures value { result ≡ places_of (view_of self.now) }
         ensures low { EachLow (places_of (view_of self.now)) }
@@ -49,10 +49,10 @@ impl ImageHeader {
     }
 }
 
-/// A boot image or a vendor boot image that `open` found at the front of a source.
+/// A boot image or a vendor boot image that `open` found at the beginning of a source.
 ///
-/// It has the header and the source's length, and borrows nothing: each call on it is lent the source again, and
-/// answers `SourceChanged` where that source isn't the opened one any more.
+/// It has the header and the source's length, and borrows nothing: each call on it borrows the source again, and
+/// returns `SourceChanged` where that source isn't the opened one any more.
 #[derive(Clone, Copy, Debug, PartialEq, Eq)]
 pub struct Image {
     pub header: ImageHeader,
@@ -67,14 +67,14 @@ pub(crate) fn is_as_long<S: Source>(image: &Image, source: &S) -> bool
     source.length() == image.length
 }
 
-/// How many sections stand behind the header: two to five.
+/// How many sections are after the header: two to five.
 pub fn sections(image: &Image) -> usize
     ensures value { result ≡ length (places_of (view_of image.now.header)) }
 {
     image.header.sections().count()
 }
 
-/// Where section `i` stands, in the order of the image.
+/// Where section `i` is, in the order of the image.
 pub fn section(image: &Image, i: usize) -> SectionPlace
     requires { i < length (places_of (view_of image.now.header)) }
     ensures value { result ≡ slice_index_or (places_of (view_of image.now.header)) i result }

@@ -1,24 +1,26 @@
-//! Android boot and vendor boot images: packed from parts, opened, taken apart again and checked (`bootimg.h`,
-//! `mkbootimg`).
+//! Android boot and vendor boot images (`bootimg.h`, `mkbootimg`): packs them from parts, opens them, takes them
+//! apart again, and checks them.
 //!
-//! An image is a header record and sections behind it, each from a page boundary on. What this crate gives the layer
-//! above: `pack_boot` and `pack_vendor` write the one canonical image of the fields and parts (`specs/BootCanon`,
-//! `specs/VendorCanon`), `open` accepts exactly the images of `specs/Open`, and `unpack` writes a section's bytes.
-//! After any refusal the output holds a beginning of what would have been written. `pack_boot_once` reads each part
-//! once, where what was written can be written over.
+//! An image is a header record and sections after it. Each section begins at a page boundary. The layer above uses
+//! these contracts. `pack_boot` and `pack_vendor` write the one canonical image of the fields and parts
+//! (`specs/BootCanon`, `specs/VendorCanon`). `pack_boot_once` reads each part once; its output must be one whose
+//! written bytes can be overwritten. `open` accepts exactly the images of `specs/Open`. `unpack` writes the bytes of
+//! a section. After any refusal the output holds a beginning of what would have been written.
 //!
-//! No call takes memory: all bytes pass through the lent `Window`, in asks of up to its size, and an `Image` is a
-//! header and a length.
+//! No call allocates memory. All bytes pass through the borrowed `Window`, in requests of up to its size. An `Image`
+//! is a header and a length.
 //!
-//! - `fault`: why an image is refused, by number and text.
-//! - `spec`: the fields that an image is packed from.
-//! - `texts`, `sizes`: names and command lines; the sizes of parts, tested before anything is written.
-//! - `boot_header`, `vendor_header`: the header that fields and sizes give.
-//! - `reading`, `hashing`: one ask from a source; the id.
-//! - `writing`, `packing`, `vendor_packing`: parts with their padding; whole images. `moving`, `packing_once`: the same
-//!   in one pass.
-//! - `image`, `opening`, `fragment_table`: an opened image, its sections and its ramdisk fragments.
-//! - `unpacking`, `checking`: taking parts out; comparing an image with what the packer writes.
+//! | file | content |
+//! |---|---|
+//! | `fault.rt` | the reasons for which an image is refused, by number and text |
+//! | `spec.rt` | the fields that an image is packed from |
+//! | `texts.rt`, `sizes.rt` | names and command lines; the sizes of parts, tested before anything is written |
+//! | `boot_header.rt`, `vendor_header.rt` | the header that fields and sizes give |
+//! | `reading.rt`, `hashing.rt` | one request to a source; the id |
+//! | `write_padded.rt`, `packing.rt`, `vendor_packing.rt` | records and parts with their padding; whole images |
+//! | `moving.rt`, `packing_once.rt` | the same in one pass |
+//! | `image.rt`, `open_image.rt`, `fragment_table.rt` | an opened image, its sections and its ramdisk fragments |
+//! | `unpacking.rt`, `checking.rt` | takes parts out; compares an image with what the packer writes |
 #![tactic(auto)]
 
 mod boot_header;

@@ -1,7 +1,7 @@
-//! Moving parts to an output: each byte is read once, hashed where an id is wanted, and written in the same step.
+//! Moves parts to an output. Each byte is read once, hashed where an id is wanted, and written in the same step.
 //!
-//! What stands where a call here fails is said no closer than that the bytes before are kept (`grown`): its caller has
-//! zeros where the header will stand.
+//! Where a call here fails, its contract says no more of the output than that the earlier bytes are kept (`grown`).
+//! Its caller has zeros in the place of the header.
 
 ghost use Rattle.std.specs.Prelude.{◌≡◌, ◌<◌, ◌≤◌, ◌+◌, ◌*◌, ◌^◌, ◌++◌, ◌∷◌, [], ℕ, List, IsTrue, OnOk, length, map};
 ghost use Rattle.std.specs.Prelude.{take, drop, sum};
@@ -64,7 +64,7 @@ fn move_step<S: Source, O: Output>(
     }
 }
 
-/// Moves the `n` bytes at the front of a source, in steps of at most a window.
+/// Moves the `n` bytes at the beginning of a source, in steps of at most a window.
 fn move_bytes<S: Source, O: Output>(
     part: &mut S,
     n: u64,

@@ -1,4 +1,4 @@
-//! Opening an image: its header, its sections against the source's length, and its table of ramdisk fragments.
+//! Opens an image: tests its header, its sections against the source's length, and its table of ramdisk fragments.
 
 ghost use Rattle.std.specs.Prelude.{◌≡◌, ◌<◌, ◌≤◌, ◌+◌, ◌*◌, ◌^◌, IsTrue, IfOk, MatchResult, Ok, Err};
 ghost use Rattle.std.specs.Prelude.{length, take, drop, min};
@@ -17,7 +17,7 @@ use abt_headers::{
 use abt_io::{Meter, Source, Window};
 use byteorder::{ByteOrder, LittleEndian};
 
-/// How many bytes at the front of an image decide its header: the longest record has so many.
+/// How many bytes at the beginning of an image decide its header: the longest record has so many.
 const RECORD: u64 = 2128;
 
 /// Bytes begin with `VNDRBOOT`.
@@ -27,7 +27,7 @@ fn is_vendor(bytes: &[u8]) -> bool
     bytes.len() >= 8 && LittleEndian::read_u64(bytes) == VENDOR_MAGIC
 }
 
-/// The header whose record stands at the front, or the first fault.
+/// The header whose record is at the beginning, or the first fault.
 fn decode_header(bytes: &[u8]) -> Result<ImageHeader, HeaderFault>
     ensures { MatchResult result (λ h. header_spec.image_header_at bytes.now ≡ Ok (header_spec.view_of h))
         (λ f. header_spec.image_header_at bytes.now ≡ Err f) }
@@ -72,7 +72,7 @@ fn first_beyond(sections: &Sections, length: u64, m: &mut Meter) -> Option<Secti
     None
 }
 
-/// How many bytes at the front of so many decide the header.
+/// How many bytes at the beginning of so many decide the header.
 fn front_of(bytes: u64) -> usize
     ensures { result ≡ min bytes 2128 }
 {
@@ -107,14 +107,14 @@ fn read_header<S: Source>(
     }
 }
 
-/// Opens the image at the front of a source: a vendor boot image where the magic says so, else a boot image.
+/// Opens the image at the beginning of a source: a vendor boot image where the magic says so, else a boot image.
 ///
-/// Padding and what follows the image may be any bytes, and the last section may stand without its padding.
+/// Padding may be any bytes, and so may all that follows the image. The last section may lack its padding.
 ///
 /// # Errors
-/// `Read` and `SourceChanged` as they come; then the first of: `Header` with a fault of the record, `SectionTruncated`
-/// with the first section that isn't empty and ends past the source, `Entry` with the first ramdisk fragment that ends
-/// past the vendor ramdisk.
+/// `Read` and `SourceChanged` as they come. Then the first of these: `Header` with a fault of the record;
+/// `SectionTruncated` with the first section that isn't empty and ends past the source; `Entry` with the first ramdisk
+/// fragment that ends past the vendor ramdisk.
 pub fn open<S: Source>(source: &mut S, w: &mut Window, m: &mut Meter) -> Result<Image, SectionFault>
     ensures reads { OpensUnless result S.Source source.old source.new (IsTrue S.models → ⊥) }
     ensures opens { IsTrue S.models → OpensAs (S.content source.old) result }

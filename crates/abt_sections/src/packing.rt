@@ -1,4 +1,4 @@
-//! Packing a boot image.
+//! Packs a boot image.
 
 ghost use Rattle.std.specs.Prelude.{◌≡◌, ◌<◌, ◌≤◌, ◌+◌, ◌-◌, ◌*◌, ◌++◌, IsTrue, IfOk, length, map, take};
 ghost use Rattle.abt_headers.specs.Boot.{boot_page, boot_record, boot_size};
@@ -81,16 +81,16 @@ fn write_image<S: Source, O: Output>(
     write_parts(parts, sizes, header.page_size(), output, w, m)
 }
 
-/// Packs a boot image of these fields and parts: the bytes of `bootimg.h`, laid as `mkbootimg` lays them.
+/// Packs a boot image from these fields and parts: the bytes of `bootimg.h`, in the layout of `mkbootimg`.
 ///
-/// The parts stand in the order of the version's sections: kernel and ramdisk; then in versions 0 to 2 the second
+/// The parts are in the order of the version's sections: kernel and ramdisk; then in versions 0 to 2 the second
 /// stage, from version 1 the recovery dtbo, in version 2 the dtb; in version 4 the signature. An absent part has length
 /// 0. Versions 0 to 2 read each part twice: for the id, and for its bytes.
 ///
 /// # Errors
 /// Before anything is written, the first of: `Header(Version)`, `Header(PageSize)`, `Name`, `CommandLine`,
 /// `SectionTooLarge`. Then `Read`, `Write` and `SourceChanged` as they come, the last also where a part's length is no
-/// longer the first that it told: what stands is a beginning of the image.
+/// longer the first that it reported. After these faults the output holds a beginning of the image.
 pub fn pack_boot<S: Source, O: Output>(
     spec: &BootSpec,
     parts: &mut [S],

@@ -1,7 +1,8 @@
-//! Packing a boot image to an output whose written bytes can be written over: each part is read once.
+//! Packs a boot image to an output whose written bytes can be overwritten. Each part is read once.
 //!
-//! The id is hashed of the parts as they are written, so the header comes last. Zeros stand for its page until all else
-//! is written, and its magic comes last of all: what was broken off opens as no image, whatever follows it.
+//! The id is hashed from the parts as they are written, so the header comes last. Its page is filled with zeros until
+//! all else is written, and its magic comes last of all. So bytes that were broken off open as no image, whatever
+//! follows them.
 
 ghost use Rattle.std.specs.Prelude.{◌≡◌, ◌<◌, ◌≤◌, ◌+◌, ◌-◌, ◌++◌, ℕ, List, IsTrue, IfOk, OnOk, OnErr};
 ghost use Rattle.std.specs.Prelude.{length, map, take, drop, replicate, sum};
@@ -57,7 +58,7 @@ fn id_of_hashed(id: bool, hasher: Sha1) -> [u8; 32]
     }
 }
 
-/// Writes zeros for the header's page, and behind it the parts, which must have these sizes; answers the id of the
+/// Writes zeros for the header's page, and after it the parts, which must have these sizes; returns the id of the
 /// versions that have one, else zeros.
 fn write_behind<S: Source, O: Output>(
     version: u32,
@@ -91,7 +92,7 @@ fn write_behind<S: Source, O: Output>(
     }
 }
 
-/// Lays a record over the zeros that stand for it, its magic last of all.
+/// Overwrites the zeros in the place of a record with that record, its magic last of all.
 fn lay_record<O: Overwrite>(
     bytes: &[u8],
     at: u64,
@@ -115,7 +116,7 @@ fn lay_record<O: Overwrite>(
     }
 }
 
-/// Lays a header's record over the zeros that stand for it, its magic last of all.
+/// Overwrites the zeros in the place of a header's record with that record, its magic last of all.
 fn lay_header<O: Overwrite>(
     header: &BootHeader,
     at: u64,
@@ -132,12 +133,12 @@ fn lay_header<O: Overwrite>(
     lay_record(&record[..size], at, output, m)
 }
 
-/// Packs a boot image of these fields and parts as `pack_boot` does, to an output whose written bytes can be written
-/// over. Each part is read once, and the header's magic is written last of all.
+/// Packs a boot image from these fields and parts as `pack_boot` does, to an output whose written bytes can be
+/// overwritten. Each part is read once, and the header's magic is written last of all.
 ///
 /// # Errors
-/// Those of `pack_boot`. What stands behind the bytes that were there is then nothing, or opens as no image, whatever
-/// follows it.
+/// Those of `pack_boot`. Then what follows the earlier bytes of the output is nothing, or opens as no image, whatever
+/// comes after it.
 pub fn pack_boot_once<S: Source, O: Overwrite>(
     spec: &BootSpec,
     parts: &mut [S],

@@ -1,4 +1,4 @@
-//! Reading one ask from a source to the window's front.
+//! Reads one request from a source to the beginning of the window.
 
 ghost use Rattle.std.specs.Prelude.{◌≡◌, ◌<◌, ◌≤◌, ◌+◌, ◌^◌, IsTrue, OnOk, OnErr, length, take, drop};
 ghost use Rattle.std.specs.Prelude.{slice_range};
@@ -8,8 +8,8 @@ ghost use Rattle.abt_sections.specs.Reads.{ReadsUnless};
 use crate::fault::SectionFault;
 use abt_io::{Meter, Source, Window, read_full_at};
 
-/// The front of a step: reads the `ask` bytes from a place on. The caller ends the step once it has used them; where
-/// they don't come it is ended here.
+/// Begins a step: reads the `ask` bytes from a place on. The caller ends the step once it has used them. Where they
+/// don't come, the step is ended here.
 pub(crate) fn read_front<S: Source>(
     source: &mut S,
     at: u64,

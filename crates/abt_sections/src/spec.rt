@@ -1,4 +1,4 @@
-//! What an image is packed from, beside the bytes of its parts.
+//! The fields that an image is packed from, beside the bytes of its parts.
 
 use abt_headers::OsVersion;
 
@@ -46,13 +46,13 @@ pub struct VendorSpec<'a> {
 pub struct FragmentSpec {
     /// The type: 0 none, 1 platform, 2 recovery, 3 dlkm; any other number is kept.
     pub kind: u32,
-    /// The name, as its bytes stand in the table.
+    /// The name, as its bytes are in the table.
     pub name: [u8; 32],
     /// The board that the fragment is for.
     pub board_id: [u32; 16],
 }
 
-/// What packing answers.
+/// What packing returns.
 #[derive(Clone, Copy, Debug, PartialEq, Eq)]
 pub struct Packed {
     /// How many bytes the image has.

@@ -1,4 +1,4 @@
-//! Text fields: a name or a command line, and then zeros.
+//! Text fields: a name or a command line, with zeros after it.
 
 ghost use Rattle.std.specs.Prelude.{◌≡◌, ◌≤◌, ◌+◌, IsTrue, length, take, drop};
 ghost use Rattle.abt_sections.specs.Fields as fields;

@@ -1,4 +1,4 @@
-//! Taking sections and ramdisk fragments out of an image.
+//! Takes sections and ramdisk fragments out of an image.
 
 ghost use Rattle.std.specs.Prelude.{◌≡◌, ◌<◌, ◌≤◌, ◌+◌, ◌-◌, ◌^◌, ◌++◌, IsTrue, OnOk, Err, length, take, drop};
 ghost use Rattle.std.specs.Prelude.{slice_index_or};
@@ -46,8 +46,8 @@ fn copy_part<S: Source, O: Output>(
 /// Writes section `i` of an image.
 ///
 /// # Errors
-/// `Read` and `Write` as they come, `SourceChanged` where the source isn't the opened one any more: what stands is a
-/// beginning of the section.
+/// `Read` and `Write` as they come, and `SourceChanged` where the source isn't the opened one any more. After these
+/// the output holds a beginning of the section.
 pub fn unpack<S: Source, O: Output>(
     image: &Image,
     i: usize,
@@ -80,7 +80,7 @@ pub fn unpack<S: Source, O: Output>(
     copy_part(source, place.at, place.size, output, w, m)
 }
 
-/// Where the fragment of an entry stands in the image.
+/// Where the fragment of an entry is in the image.
 fn fragment_at(header: &ImageHeader, entry: &RamdiskEntry) -> u64
     ensures value { result ≡ header_spec.ramdisk_at (header_spec.view_of header.now) + entry.now.ramdisk_offset }
     ensures near { result < 2 ^ 63 }

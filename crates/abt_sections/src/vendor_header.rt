@@ -1,4 +1,4 @@
-//! The header that is packed of a vendor boot image's fields.
+//! The header that is packed from a vendor boot image's fields.
 
 ghost use Rattle.std.specs.Prelude.{◌≡◌, ◌<◌, ◌≤◌, ◌*◌, ◌^◌, OnOk, length, slice_index};
 ghost use Rattle.abt_headers.specs.Vendor.{vendor_view, tail_view};

@@ -1,4 +1,4 @@
-//! Packing a vendor boot image.
+//! Packs a vendor boot image.
 
 ghost use Rattle.std.specs.Prelude.{◌≡◌, ◌<◌, ◌≤◌, ◌+◌, ◌-◌, ◌*◌, ◌++◌, ◌∷◌, [], IsTrue, IfOk, IfErr, OnOk, Err};
 ghost use Rattle.std.specs.Prelude.{length, map, take, drop, slice_index};
@@ -200,8 +200,8 @@ fn write_first_sections<S: Source, O: Output>(
     write_part(dtb, sizes[1], page, output, w, m)
 }
 
-/// Packs a vendor boot image of these fields, fragments and parts: the bytes of `bootimg.h`, laid as `mkbootimg` lays
-/// them, the fragments end to end in the order of the table.
+/// Packs a vendor boot image from these fields, fragments and parts: the bytes of `bootimg.h`, in the layout of
+/// `mkbootimg`, with the fragments end to end in the order of the table.
 ///
 /// Version 3 has one ramdisk, no fragment and an empty bootconfig; version 4 a fragment for each ramdisk. An absent
 /// part has length 0.
@@ -209,7 +209,7 @@ fn write_first_sections<S: Source, O: Output>(
 /// # Errors
 /// Before anything is written, the first of: `Header(Version)`, `Header(PageSize)`, `Name`, `CommandLine`,
 /// `SectionTooLarge`. Then `Read`, `Write` and `SourceChanged` as they come, the last also where a part's length is no
-/// longer the first that it told: what stands is a beginning of the image.
+/// longer the first that it reported. After these faults the output holds a beginning of the image.
 pub fn pack_vendor<S: Source, O: Output>(
     spec: &VendorSpec,
     fragments: &[FragmentSpec],

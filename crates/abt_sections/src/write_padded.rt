@@ -1,7 +1,7 @@
-//! Writing records and parts, each with zeros up to a page boundary.
+//! Writes records and parts, each with zeros up to a page boundary.
 //!
-//! Each call here says of the output what stands after `Ok` (`written`), that after any answer a beginning of that
-//! stands (`front`), and for every source that no more bytes were given than the record or part has (`bytes`).
+//! Each call states what the output holds after `Ok` (`written`), and that after any result it holds a beginning of
+//! that (`front`). For every source, no more bytes are written than the record or part has (`bytes`).
 
 ghost use Rattle.std.specs.Prelude.{◌≡◌, ◌<◌, ◌≤◌, ◌+◌, ◌-◌, ◌*◌, ◌^◌, ◌++◌, IsTrue, OnOk, length, map, take};
 ghost use Rattle.abt_headers.specs.Page as of_page;
@@ -35,7 +35,7 @@ pub(crate) fn padding(n: u64, page: u32) -> u64
     pages(n, page) * page as u64 - n
 }
 
-/// Writes zeros behind `n` bytes, up to a page boundary.
+/// Writes zeros after `n` bytes, up to a page boundary.
 pub(crate) fn write_padding<O: Output>(
     n: u64,
     page: u32,

@@ -1,4 +1,4 @@
--- A chunk that is read is spelled so, and what is spelled so is read.
+-- A chunk that is read is encoded so, and what is encoded so is read.
 use Rattle.std.proofs.Common.{◌≡◌, ℕ, zero, suc, ◌+◌, ◌-◌, ◌*◌, ◌^◌, ◌<◌, ◌≤◌, Bool, true, false, cond, List, [], ◌∷◌, ◌++◌, length, take, drop, Option, Some, None, refl, sym, ap, subst, ◌∙◌, append_assoc, arith, inl, inr, ◌⊎◌, length-drop, length-take, length-append, drop-drop, take-append-drop, not, ◌==◌, nat_lt, ltb-false, le-ltb, eqb-true, eq-eqb}
 use Rattle.std.specs.Int.{w16, w32, to_le_bytes}
 use Rattle.std.specs.List.{AllByRecursion, concat}
@@ -182,7 +182,7 @@ got_made h size i have y c m rest g =
     let a = guard_got (nat_lt (length y) 12) (Truncated size) [] (chunk_known h size i have y (kind_at (number_at 0 2 y))) c m rest g in
     known_made h size i have y (kind_at (number_at 0 2 y)) c m rest (ltb-false _ _ a.0) refl a.1
 
--- ---- what is spelled is read
+-- ---- what is encoded is read
 
 pub spells_got : (h : Header) (size i have : ℕ) (c : Chunk) (front rest : List ℕ) → SpellsChunk h c front → have + count c ≤ h.total_blks → chunk_at h size i have (front ++ rest) ≡ Got c (count c) rest
 spells_got h size i have c front rest s room =
@@ -206,7 +206,7 @@ spells_got h size i have c front rest s room =
     } in
     rw is_front (good_got h size i have ((head ++ d) ++ rest) (kind c) s.blocks total d rest good ∙ rw (t.1, t.2) refl)
 
--- ---- what is read is spelled so
+-- ---- what is read is encoded so
 
 pub record Taken (h : Header) (have : ℕ) (y : List ℕ) (c : Chunk) (m : ℕ) (rest : List ℕ) : Type 0 where
   pub front : List ℕ

@@ -24,7 +24,7 @@ chunks-bad h size i have left bytes f came e = rw (e, chunks_at) refl
 
 -- ---- chunks
 
--- behind these many chunks and blocks, with so many chunks left, y goes wrong so
+-- after these many chunks and blocks, with so many chunks left, y goes wrong so
 abbrev pub GoesWrong : Header → ℕ → ℕ → ℕ → ℕ → List ℕ → SparseFault → List ℕ → Type 0
 GoesWrong h size i have zero y f came = (have ≡ h.total_blks → ⊥) × (f ≡ TooFewBlocks have) × (came ≡ [])
 GoesWrong h size i have (suc left) y f came = chunk_at h size i have y ≡ Bad f came
@@ -118,7 +118,7 @@ header_spelled x h fits long all e =
       spelled = sym (header-back x h long fits c) ∙ ap (λ (t : List ℕ). header_record h ++ t) tail;
     }
 
--- a fault behind the chunks, in its own words
+-- a fault after the chunks, in its own words
 ne_lt : (m n : ℕ) → m ≤ n → (m ≡ n → ⊥) → m < n
 ne_lt m n le ne = elim (cases_Bool (m == n)) [ inl t ↦ absurd (ne (eqb-true _ _ t)) | inr t ↦ let e = eqb-false _ _ t in omega arith ]
 
@@ -161,7 +161,7 @@ is_so x fits = elim (cases_Bool (nat_lt (length x) 28)) [
 
 -- ---- and nothing else is so
 
--- what stands behind a header that is spelled
+-- what is after a header that is encoded
 pub behind_header : (x : List ℕ) (h : Header) (after : List ℕ) → SpellsHeader x h after → (28 ≤ length x) × (checked_header x ≡ Ok h) × (h.file_hdr_sz ≤ length x) × (drop h.file_hdr_sz x ≡ after)
 behind_header x h after s =
     let parts : x ≡ (header_record h ++ s.extra) ++ after = s.spelled ∙ sym (append_assoc (header_record h) s.extra after) in

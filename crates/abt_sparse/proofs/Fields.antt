@@ -51,7 +51,7 @@ front_4 (a ∷ b ∷ []) h k = absurd (omega arith)
 front_4 (a ∷ b ∷ c ∷ []) h k = absurd (omega arith)
 front_4 (a ∷ b ∷ c ∷ d ∷ r) h k = ap (λ (t : List ℕ). t ++ r) (low_4 a b c d (k 0) (k 1) (k 2) (k 3))
 
--- a field and what stands behind it
+-- a field and what is after it
 pub field_2 : (p : ℕ) (x rest : List ℕ) → p + 2 ≤ length x → IsBytes x → rest ≡ drop (p + 2) x → to_le_bytes w16 (number_at p 2 x) ++ rest ≡ drop p x
 field_2 p x rest h k e = rw e (ap (λ (t : List ℕ). to_le_bytes w16 (number_at p 2 x) ++ t) (sym (drop-drop 2 p x)) ∙ front_2 (drop p x) (omega (arith, length-drop p x)) (IsBytes-drop p x k))
 
@@ -148,7 +148,7 @@ IsHeader-from x h k c = subst IsHeader c.is record {
   image_checksum = below_4 24 x k;
 }
 
--- what is read is spelled so
+-- what is read is encoded so
 pub header-back : (x : List ℕ) (h : Header) → 28 ≤ length x → IsBytes x → Checked x h → header_record h ++ drop 28 x ≡ x
 unfolding header_at
 header-back x h long k c =

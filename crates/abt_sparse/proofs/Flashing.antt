@@ -17,7 +17,7 @@ use Rattle.abt_sparse.proofs.Lengths.{piece_le}
 use Rattle.abt_sparse.proofs.Exactly.{spelled_is}
 use Rattle.abt_sparse.proofs.Spelling.{spelled_blocks, pieces_read}
 
--- ---- the blocks of an image that is spelled
+-- ---- the blocks of an image that is encoded
 
 pub given_is : (x : List ℕ) (h : Header) (cs : List Chunk) (rest : List ℕ) → Spells x h cs rest → given (outcome x) ≡ cells h.blk_sz (classed cs)
 given_is x h cs rest s = rw (spelled_is x h cs rest s) refl
@@ -128,7 +128,7 @@ joined-parts zero parts = refl
 joined-parts (suc i) [] = refl
 joined-parts (suc i) (s ∷ ss) = ap (λ (t : List Block). s ++ t) (joined-parts i ss) ∙ sym (append_assoc s (joined (take i ss)) (joined (drop i ss)))
 
--- pieces behind so many blocks, over any device
+-- pieces after so many blocks, over any device
 from_block : (b before : ℕ) (p : List ℕ) (parts : List (List Block)) → b % 4 ≡ 0 → AllByRecursion (AreBlocks b) parts → flashed_all b p (frames before parts) ≡ over p (cells b (replicate before Skip ++ joined parts))
 from_block b before p parts four h =
     let skips : over p (cells b (replicate before Skip)) ≡ p = ap (over p) (cells-skips b before) ∙ over-nones p (before * b) in

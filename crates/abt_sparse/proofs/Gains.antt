@@ -1,4 +1,4 @@
--- The weight from left to right, as a cutter adds it up: what each block adds behind those before it.
+-- The weight from left to right, as a cutter adds it up: what each block adds after those before it.
 use Rattle.std.proofs.Common.{◌≡◌, ℕ, ◌+◌, List, [], ◌∷◌, ◌++◌, refl, arith, inl, inr}
 use Rattle.std.proofs.lemmas.Bool.{cases_Bool}
 use Rattle.abt_sparse.specs.Block.{Block, Raw, Fill, Skip}

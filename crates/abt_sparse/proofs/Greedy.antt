@@ -1,4 +1,4 @@
--- Cutting a list greedily, by a test that stands for each part of what passes it.
+-- Cutting a list greedily, by a test that holds for each part of what passes it.
 use Rattle.std.proofs.Common.{◌≡◌, ℕ, zero, suc, take, drop, ◌≤◌, Bool, true, false, List, [], ◌∷◌, ◌++◌, length, refl, sym, ap, ◌∙◌, append_assoc, append-nil, arith, inl, inr}
 use Rattle.std.specs.List.{AllByRecursion}
 use Rattle.std.proofs.lemmas.Bool.{cases_Bool}

@@ -1,4 +1,4 @@
--- Laying cells over a device, one list after the other, and flashing the pieces of an image in turn.
+-- Writing cells over a device, one list after the other, and flashing the pieces of an image in turn.
 use Rattle.std.proofs.Common.{◌≡◌, ℕ, suc, zero, ◌+◌, ◌*◌, ◌/◌, ◌%◌, ◌<◌, List, [], ◌∷◌, ◌++◌, length, replicate, map, get_or, refl, sym, ap, ◌∙◌, nat_le, append_assoc, append-nil, arith, length-append, zero-mul, Some, None, Option}
 use Rattle.std.specs.Prelude.{unwrap_or}
 use Rattle.std.specs.List.{AllByRecursion, concat}
@@ -50,7 +50,7 @@ over_then_nones (y ∷ p) [] n = over-nones (y ∷ p) n
 over_then_nones (y ∷ p) (None ∷ cs) n = ap (λ (r : List ℕ). y ∷ r) (over_then_nones p cs n)
 over_then_nones (y ∷ p) (Some x ∷ cs) n = ap (λ (r : List ℕ). x ∷ r) (over_then_nones p cs n)
 
--- cells laid, and then others behind them
+-- cells written, and then others after them
 pub over_behind : (p : List ℕ) (cs ds : List (Option ℕ)) → over (over p cs) (nones (length cs) ++ ds) ≡ over p (cs ++ ds)
 over_behind [] cs ds = refl
 over_behind (y ∷ p) [] ds = refl

@@ -52,7 +52,7 @@ length-runs b (y ∷ z ∷ l) h =
 pub length-piece : (b : ℕ) (l : List Block) → AreBlocks b l → length (piece b l) ≡ 28 + total b l
 length-piece b l h = omega (arith, length-append (header_record (plain_header b (length l) (length (map chunk_of_run (runs l))))) (written (runs l)), length-runs b l h)
 
--- ---- what stands round a segment
+-- ---- what surrounds a segment
 
 pub skips_le : (b t : ℕ) → total b (replicate t Skip) ≤ 12
 skips_le b zero = omega arith

@@ -12,7 +12,7 @@ use Rattle.abt_sparse.proofs.AreAll.{AreBlocks-parts}
 use Rattle.abt_sparse.proofs.Lay.{nones, length-over, get_or-over, length-cells, cells-append, cells-skips, cells-framed}
 use Rattle.abt_sparse.proofs.Bytewise.{none_there}
 
--- ---- cells behind blocks that are skipped
+-- ---- cells after blocks that are skipped
 
 behind_none : (n i : ℕ) (cs : List (Option ℕ)) → i < n → get_or (nones n ++ cs) i None ≡ None
 behind_none n i cs lt = get_or-append (nones n) cs None i (omega (arith, lt, length-replicate {A = Option ℕ} n None)) ∙ none_there n i

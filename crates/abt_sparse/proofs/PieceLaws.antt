@@ -1,4 +1,4 @@
--- A piece is a spelled image of its blocks, and a raw image keeps its bytes as blocks.
+-- A piece is an encoded image of its blocks, and a raw image keeps its bytes as blocks.
 use Rattle.std.proofs.Common.{◌≡◌, ℕ, zero, suc, ◌+◌, ◌*◌, ◌/◌, ◌%◌, ◌^◌, ◌<◌, true, List, [], ◌∷◌, ◌++◌, length, take, drop, map, replicate, Some, refl, sym, ap, subst, ◌∙◌, append_assoc, arith, inl, inr, length-append, length-take, length-drop, take-append-drop, bytes_eq}
 use Rattle.std.specs.List.{flat_map, AllByRecursion, concat, list_all}
 use Rattle.std.proofs.lemmas.Bool.{cases_Bool, and_parts}
@@ -66,7 +66,7 @@ IsChunk-from b (Fills w (suc n)) ne h lt = h.0
 IsChunk-from b (Skips n) ne h lt = tt
 IsChunk-from b (Crc w) ne h lt = absurd (ne refl)
 
--- ---- chunks that are spelled plainly
+-- ---- chunks that are encoded plainly
 
 -- a chunk that can be written
 pub record CanWrite (b : ℕ) (c : Chunk) : Type 0 where
@@ -81,7 +81,7 @@ plains_spell : (b n k : ℕ) (cs : List Chunk) (rest : List ℕ) → AllByRecurs
 plains_spell b n k [] rest h = refl
 plains_spell b n k (c ∷ cs) rest h = (plain c, flat_map plain cs ++ rest, plain_spells b n k c h.0, append_assoc (plain c) (flat_map plain cs) rest, plains_spell b n k cs rest h.1)
 
--- what is written plainly is a spelled image
+-- what is written plainly is an encoded image
 pub image_spells : (b : ℕ) (cs : List Chunk) (rest : List ℕ) → (0 < b) × (b % 4 ≡ 0) × (b < 2 ^ 32) → counted_in cs < 2 ^ 32 → length cs < 2 ^ 32 → AllByRecursion (CanWrite b) cs
     → Spells (image_of b (counted_in cs) cs ++ rest) (plain_header b (counted_in cs) (length cs)) cs rest
 image_spells b cs rest good blocks chunks h = record {

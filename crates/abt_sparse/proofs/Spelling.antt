@@ -1,4 +1,4 @@
--- A list of blocks that is spelled reads back as that list, and so does a piece.
+-- A list of blocks that is encoded reads back as that list, and so does a piece.
 use Rattle.std.proofs.Common.{◌≡◌, ℕ, zero, suc, ◌+◌, ◌*◌, ◌^◌, ◌≤◌, ◌<◌, List, [], ◌∷◌, ◌++◌, length, take, drop, map, replicate, refl, sym, ap, subst, ◌∙◌, append-nil, arith, length-append, length-take, length-drop, take-append-drop}
 use Rattle.std.proofs.Math.Nat.{mul-le-mul_right}
 use Rattle.std.proofs.lemmas.List.{length-map, length-replicate, map-append}
@@ -15,7 +15,7 @@ use Rattle.abt_sparse.proofs.PieceLaws.{CanWrite, classed-piece, counted-classed
 use Rattle.abt_sparse.proofs.AreAll.{AreBlocks-append, AreBlocks-skips, AreBlocks-parts}
 use Rattle.abt_sparse.proofs.Lengths.{piece_le}
 
--- ---- the blocks of a spelled image
+-- ---- the blocks of an encoded image
 
 AreBlocks-raws : (b : ℕ) (xs : List (List ℕ)) → AllByRecursion (λ x. length x ≡ b) xs → AreBlocks b (map (λ x. Raw x) xs)
 AreBlocks-raws b [] h = tt
@@ -56,7 +56,7 @@ few_chunks : (cs : List Chunk) → AllByRecursion Solid cs → length cs ≤ cou
 few_chunks [] s = omega arith
 few_chunks (c ∷ cs) s = omega (arith, few_chunks cs s.1, s.0.some)
 
--- chunks of these blocks, spelled plainly
+-- chunks of these blocks, encoded plainly
 chunks_read_back : (b : ℕ) (l : List Block) (cs : List Chunk) (rest : List ℕ) → IsBlockSize b → classed cs ≡ l → AllByRecursion Solid cs → AreBlocks b l → length l < 2 ^ 32
     → Spells (image_of b (length l) cs ++ rest) (plain_header b (length l) (length cs)) cs rest
 chunks_read_back b l cs rest good same s h lt =

@@ -1,9 +1,9 @@
--- An image as a list of blocks of b bytes, what it lays over a device, and a raw image as such a list.
+-- An image as a list of blocks of b bytes, the cells that it writes to a device, and a raw image as such a list.
 use Rattle.std.specs.Prelude.{◌≡◌, ℕ, zero, suc, ◌+◌, ◌-◌, ◌*◌, ◌/◌, ◌%◌, ◌^◌, ◌<◌, List, [], ◌∷◌, ◌++◌, length, take}
 use Rattle.std.specs.Prelude.{drop, map, replicate, Option, Some, None, bytes_eq, if◌then◌else◌, ⊤}
 use Rattle.std.specs.List.{flat_map, concat, list_all, AllByRecursion}
 
--- What stands in a block: bytes of its own, one word of four bytes all over, or nothing that counts.
+-- What is stored in a block: bytes of its own, one word of four bytes all over, or nothing that counts.
 pub data Block : Type 0 where
   Raw : List ℕ → Block
   Fill : List ℕ → Block
@@ -23,7 +23,7 @@ cells_of b (Some bytes) = map (λ x. Some x) bytes
 abbrev pub cells : ℕ → List Block → List (Option ℕ)
 cells b blocks = flat_map (λ x. cells_of b (block_bytes b x)) blocks
 
--- What p holds once the cells are laid over it: a byte stays where no cell says another. It is as long as p.
+-- The content of p after the cells are written to it: a byte stays where no cell has another. Its length is that of p.
 abbrev pub over : List ℕ → List (Option ℕ) → List ℕ
 over [] cs = []
 over (y ∷ p) [] = y ∷ p
@@ -50,7 +50,7 @@ IsBlock b Skip = ⊤
 abbrev pub AreBlocks : ℕ → List Block → Type 0
 AreBlocks b blocks = AllByRecursion (IsBlock b) blocks
 
--- bytes filled up with zeros to a length of n, and n parts of b bytes from the front
+-- bytes filled up with zeros to a length of n, and n parts of b bytes from the beginning
 abbrev pub filled_to : ℕ → List ℕ → List ℕ
 filled_to n bytes = bytes ++ replicate (n - length bytes) 0
 

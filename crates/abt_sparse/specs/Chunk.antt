@@ -1,4 +1,4 @@
--- Sparse headers and chunks, and how they are spelled in bytes.
+-- Sparse headers and chunks, and their encoding in bytes.
 use Rattle.std.specs.Prelude.{◌≡◌, ℕ, zero, suc, ◌+◌, ◌*◌, ◌<◌, ◌≤◌, ◌^◌, List, [], ◌∷◌, ◌++◌, length, take, drop, map}
 use Rattle.std.specs.Prelude.{replicate, ⊤}
 use Rattle.std.specs.List.{flat_map, concat, AllByRecursion}
@@ -62,7 +62,7 @@ count (Fills word n) = n
 count (Skips n) = n
 count (Crc word) = 0
 
--- the bytes behind the chunk's header
+-- the bytes after the chunk's header
 abbrev pub data_of : Chunk → List ℕ
 data_of (Raws blocks) = concat blocks
 data_of (Fills word n) = word
@@ -76,14 +76,14 @@ IsChunk b (Fills word n) = length word ≡ 4
 IsChunk b (Skips n) = ⊤
 IsChunk b (Crc word) = length word ≡ 4
 
--- the bytes of data behind a chunk's header that counts n blocks of b bytes
+-- the bytes of data after a chunk's header that counts n blocks of b bytes
 abbrev pub data_len : ℕ → ChunkKind → ℕ → ℕ
 data_len b kinds.Raw n = n * b
 data_len b kinds.Fill n = 4
 data_len b kinds.Skip n = 0
 data_len b kinds.Crc n = 4
 
--- the blocks that such a header stands for: a checksum has none, whatever its header counts
+-- the blocks that such a header gives: a checksum has none, whatever its header counts
 abbrev pub counted : ChunkKind → ℕ → ℕ
 counted kinds.Crc n = 0
 counted k n = n
@@ -108,7 +108,7 @@ abbrev pub chunk_bytes : ℕ → List ℕ → ℕ → ℕ → List ℕ → List 
 chunk_bytes type reserved blocks total extra payload =
     to_le_bytes w16 type ++ (reserved ++ (to_le_bytes w32 blocks ++ (to_le_bytes w32 total ++ (extra ++ payload))))
 
--- The bytes spell the chunk: its reserved field, its header past 12 bytes and a checksum's count may be anything.
+-- The bytes encode the chunk: its reserved field, its header past 12 bytes and a checksum's count may be anything.
 pub record SpellsChunk (h : Header) (c : Chunk) (bytes : List ℕ) : Type 0 where
   pub reserved : ℕ
   pub blocks : ℕ
@@ -127,7 +127,7 @@ SpellsChunks h [] bytes rest = bytes ≡ rest
 SpellsChunks h (c ∷ cs) bytes rest = (front : List ℕ) × (after : List ℕ) × SpellsChunk h c front
     × (bytes ≡ front ++ after) × SpellsChunks h cs after rest
 
--- ---- the one spelling that is written
+-- ---- the one encoding that is written
 
 -- a chunk with a header of 12 bytes, and the header of 28 bytes of an image of such
 abbrev pub plain : Chunk → List ℕ

@@ -1,4 +1,4 @@
--- The twelve bytes of a chunk's header, and the header that twelve bytes are.
+-- The twelve bytes of a chunk's header, and the header that twelve bytes encode.
 use Rattle.std.specs.Prelude.{ℕ, List, ◌++◌, Option, Some, None, Result, Ok, Err}
 use Rattle.std.specs.Int.{w16, w32, to_le_bytes}
 use Rattle.abt_sparse.specs.declared.kind.ChunkKind.{ChunkKind}
@@ -6,12 +6,12 @@ use Rattle.abt_sparse.specs.Chunk.{code}
 use Rattle.abt_sparse.specs.Reading.{number_at, kind_at}
 use Rattle.abt_sparse.specs.declared.chunk_header.ChunkHeader.{ChunkHeader}
 
--- the three fields behind a type that is known, or the type that is not
+-- the three fields after a type that is known, or the type that is not
 abbrev pub header_of_kind : Option ChunkKind → List ℕ → Result ChunkHeader ℕ
 header_of_kind None bytes = Err (number_at 0 2 bytes)
 header_of_kind (Some k) bytes = Ok (record { kind = k; blocks = number_at 4 4 bytes; total = number_at 8 4 bytes })
 
--- the header at the front of bytes
+-- the header at the beginning of bytes
 abbrev pub chunk_header_at : List ℕ → Result ChunkHeader ℕ
 chunk_header_at bytes = header_of_kind (kind_at (number_at 0 2 bytes)) bytes
 

@@ -1,4 +1,4 @@
--- What it is to be a sparse image, and what it is to have a fault, apart from how either is found.
+-- What it means that bytes are a sparse image, and that they have a fault, independently of how either is found.
 use Rattle.std.specs.Prelude.{◌≡◌, ℕ, ◌+◌, ◌%◌, ◌≤◌, ◌<◌, ◌⊎◌, List, [], ◌∷◌, ◌++◌, length, map, drop, Option, Some}
 use Rattle.abt_sparse.specs.declared.fault.SparseFault.{SparseFault}
 use Rattle.abt_sparse.specs.declared.fault.SparseFault.TheVariants.{Magic, Major, FileHeaderSize, ChunkHeaderSize}
@@ -13,7 +13,7 @@ use Rattle.abt_sparse.specs.Reading.{Outcome, Image, Fault}
 
 -- ---- an image
 
--- x begins with this header and the bytes behind its 28th, and then the rest
+-- x begins with this header and the bytes after its 28th, and then the rest
 pub record SpellsHeader (x : List ℕ) (h : Header) (rest : List ℕ) : Type 0 where
   pub extra : List ℕ
   pub fits : IsHeader h
@@ -33,7 +33,7 @@ pub record Front (x : List ℕ) (h : Header) (cs : List Chunk) (rest : List ℕ)
   pub within : length cs ≤ h.total_chunks
   pub room : counted_in cs ≤ h.total_blks
 
--- a whole image at the front of x, and then the rest: all its chunks, with all its blocks
+-- a whole image at the beginning of x, and then the rest: all its chunks, with all its blocks
 pub record Spells (x : List ℕ) (h : Header) (cs : List Chunk) (rest : List ℕ) : Type 0 where
   pub front : Front x h cs rest
   pub whole : length cs ≡ h.total_chunks
@@ -63,7 +63,7 @@ pub record BeginsChunk (y : List ℕ) (k : ChunkKind) (n total : ℕ) : Type 0 w
   pub chunk_sz : number_at 4 4 y ≡ n
   pub total_sz : number_at 8 4 y ≡ total
 
--- The first check of chunk i that fails, `have` blocks and then y behind them, in size bytes; the raw bytes that came.
+-- The first check of chunk i that fails, `have` blocks and then y after them, in size bytes; the raw bytes that came.
 pub data ChunkFails (h : Header) (size i have : ℕ) (y : List ℕ) : SparseFault → List ℕ → Type 0 where
   no_header : length y < 12 → ChunkFails h size i have y (Truncated size) []
   unknown_type : 12 ≤ length y → ((k : ChunkKind) → number_at 0 2 y ≡ code k → ⊥)
@@ -76,7 +76,7 @@ pub data ChunkFails (h : Header) (size i have : ℕ) (y : List ℕ) : SparseFaul
       → have + counted k n ≤ h.total_blks → length y < total
       → ChunkFails h size i have y (Truncated size) (partial_of k (drop h.chunk_hdr_sz y))
 
--- x has this fault, behind these cells: those of the chunks before it, and the raw bytes that came of that chunk.
+-- x has this fault, after these cells: those of the chunks before it, and the raw bytes that came of that chunk.
 pub data Fails (x : List ℕ) : SparseFault → List (Option ℕ) → Type 0 where
   no_image : length x < 28 → Fails x (Truncated (length x)) []
   bad_header : (f : SparseFault) → 28 ≤ length x → HeaderFails x f → Fails x f []

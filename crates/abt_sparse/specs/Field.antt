@@ -1,4 +1,4 @@
--- A number that stands in bytes, least byte first, as every field of a sparse image does.
+-- A number that is stored in bytes, little-endian, as every field of a sparse image is.
 use Rattle.std.specs.Prelude.{ℕ, List, drop}
 use Rattle.byteorder.specs.Endian.{little_number}
 

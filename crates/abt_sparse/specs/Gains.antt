@@ -1,16 +1,16 @@
--- The weight of a segment from left to right: what each block adds to the weight of those before it. It is the same
--- weight (the law `weighs`), in the form in which it is added up while blocks pass.
+-- The weight of a segment from left to right: what each block adds to the weight of the blocks before it. It is the
+-- same weight (the law `weighs`), in the form in which code adds it up block by block.
 use Rattle.std.specs.Prelude.{ℕ, ◌+◌, List, [], ◌∷◌, if◌then◌else◌}
 use Rattle.abt_sparse.specs.Block.{Block, Raw, Fill, Skip}
 use Rattle.abt_sparse.specs.Runs.{alike}
 
--- What stands before a block: nothing but skipped blocks, which cost nothing at the front, or anything else with
+-- What comes before a block: nothing but skipped blocks, which cost nothing at the beginning, or anything else with
 -- this block at its end.
 pub data Behind : Type 0 where
   Fresh : Behind
   After : Block → Behind
 
--- the state behind one more block, and behind several
+-- the state after one more block, and after several
 abbrev pub moved : Behind → Block → Behind
 moved Fresh Skip = Fresh
 moved Fresh (Raw x) = After (Raw x)

@@ -1,4 +1,4 @@
--- What holds of all sparse images, each law the contract of a public function.
+-- The laws of all sparse images, each as the contract of a public function.
 use Rattle.std.specs.Prelude.{◌≡◌, ℕ, ◌+◌, ◌*◌, ◌/◌, ◌%◌, ◌^◌, ◌≤◌, ◌<◌, List, [], ◌∷◌, ◌++◌, ◌⊎◌, length, take, drop}
 use Rattle.std.specs.Prelude.{map, replicate, Option, Some, None, slice_index, slice_index_or}
 use Rattle.std.specs.List.{concat, AllByRecursion}
@@ -17,29 +17,29 @@ use Rattle.abt_sparse.specs.Pieces.{AreCuts, IsPiece, pieces, pieces_of, given, 
 
 -- ---- reading
 
--- Bytes have one outcome, an image at their front or a fault, and it is the one that reading finds.
+-- Bytes have one outcome, an image at their beginning or a fault, and it is the one that reading finds.
 pub record OneOutcome : Type 0 where
   pub found : (x : List ℕ) → AreBytes x → IsOutcome x (outcome x)
   pub only : (x : List ℕ) (a : Outcome) → IsOutcome x a → outcome x ≡ a
 
--- Bytes that end at m are refused there, and what came before is a front of these cells.
+-- Bytes that end at m are refused there, and what came before is a prefix of these cells.
 pub record CutShort (m : ℕ) (x : List ℕ) (cs : List (Option ℕ)) : Type 0 where
   pub came : List (Option ℕ)
   pub more : List (Option ℕ)
   pub read : outcome x ≡ Fault (Truncated m) came
   pub given : cs ≡ came ++ more
 
--- An image that ends before its last byte is refused where it ends, with a front of what it would give.
+-- An image that ends before its last byte is refused where it ends, with a prefix of what it would give.
 abbrev pub EndsEarly : Type 0
 EndsEarly = (x : List ℕ) (h : Header) (cs : List Chunk) (rest : List ℕ) (m : ℕ) → Spells x h cs rest
     → m + length rest < length x → CutShort m (take m x) (cells h.blk_sz (classed cs))
 
--- The blocks of an image that is spelled are blocks of its size, as many as its header says.
+-- The blocks of an image that is encoded are blocks of its size, as many as its header says.
 abbrev pub HasBlocks : Type 0
 HasBlocks = (x : List ℕ) (h : Header) (cs : List Chunk) (rest : List ℕ) → Spells x h cs rest
     → AreBlocks h.blk_sz (classed cs) × (length (classed cs) ≡ h.total_blks)
 
--- ---- laying
+-- ---- writing
 
 -- the byte j of a block that writes these bytes, over a byte that was there
 abbrev pub byte_over : Option (List ℕ) → ℕ → ℕ → ℕ
@@ -55,8 +55,8 @@ pub record LaysBlocks : Type 0 where
   pub kept : (p : List ℕ) (cs : List (Option ℕ)) → length (over p cs) ≡ length p
   pub expanded : (b : ℕ) (l : List Block) → IsBlockSize b → AreBlocks b l → length (expansion b l) ≡ length l * b
 
--- A raw image as blocks keeps its bytes, filled up with zeros to a whole block; laid over a device with room for all
--- blocks, it stands at its front.
+-- A raw image as blocks keeps its bytes, filled up with zeros to a whole block; written over a device with room for all
+-- blocks, it is at its beginning.
 pub record KeepsRaw : Type 0 where
   pub blocks : (b : ℕ) (x : List ℕ) → IsBlockSize b → AreBlocks b (classify b x)
   pub count : (b : ℕ) (x : List ℕ) → IsBlockSize b → length (classify b x) ≡ block_count b x
@@ -64,14 +64,14 @@ pub record KeepsRaw : Type 0 where
   pub laid : (b : ℕ) (x p : List ℕ) → IsBlockSize b → b * block_count b x ≤ length p
       → take (length x) (over p (cells b (classify b x))) ≡ x
 
--- ---- runs and spellings
+-- ---- runs and encodings
 
 -- The runs are the only maximal groups.
 pub record OneGrouping : Type 0 where
   pub found : (l : List Block) → IsRuns l (runs l)
   pub only : (l : List Block) (groups : List (List Block)) → IsRuns l groups → runs l ≡ groups
 
--- The spelling of a list reads back as that list, whatever stands behind it, where its numbers fit their fields.
+-- The encoding of a list reads back as that list, whatever is after it, where its numbers fit their fields.
 abbrev pub ReadsBack : Type 0
 ReadsBack = (b r : ℕ) (l : List Block) (rest : List ℕ) → IsBlockSize b → 1 ≤ r → 12 + r * b < 2 ^ 32 → AreBlocks b l
     → length l < 2 ^ 32
@@ -138,7 +138,7 @@ SameFromRaw = (limit b r : ℕ) (x : List ℕ) → IsBlockSize b → 1 ≤ r →
 
 -- ---- flashing
 
--- what a device holds once pieces of these blocks are laid over it one after the other
+-- what a device holds once pieces of these blocks are written over it one after the other
 abbrev pub flashed_all : ℕ → List ℕ → List (List Block) → List ℕ
 flashed_all b p [] = p
 flashed_all b p (f ∷ fs) = flashed_all b (over p (cells b f)) fs
@@ -152,7 +152,7 @@ pub record InTurn : Type 0 where
       → flashed_in_turn p (pieces_of limit (outcome x)) ≡ flashed p x
 
 -- A raw image goes through its sparse form: that expands to its bytes and zeros up to a whole block, and its pieces,
--- flashed in turn over any device with room for all blocks, leave it at the front.
+-- flashed in turn over any device with room for all blocks, leave it at the beginning.
 pub record CarriesRaw : Type 0 where
   pub expands : (b r : ℕ) (x : List ℕ) → IsBlockSize b → 1 ≤ r → 12 + r * b < 2 ^ 32 → block_count b x < 2 ^ 32
       → laid (given (outcome (spelling b r (classify b x)))) ≡ filled_to (b * block_count b x) x
@@ -160,15 +160,15 @@ pub record CarriesRaw : Type 0 where
       → 64 + b ≤ limit → limit < 2 ^ 32 → b * block_count b x ≤ length p
       → take (length x) (flashed_in_turn p (pieces_of limit (outcome (spelling b r (classify b x))))) ≡ x
 
--- Flashing all pieces but the first i lays the blocks behind those, and leaves what the first i pieces would write.
+-- Flashing all pieces but the first i writes the blocks after those, and leaves what the first i pieces would write.
 abbrev pub FromPiece : Type 0
 FromPiece = (limit b i : ℕ) (p : List ℕ) (l : List Block) → IsBlockSize b → AreBlocks b l → length l < 2 ^ 32
     → 64 + b ≤ limit → limit < 2 ^ 32
     → let before = length (joined (take i (segments limit b l))) in flashed_in_turn p (drop i (pieces limit b l))
     ≡ over p (cells b (replicate before Skip ++ drop before l))
 
--- A device is mendable before the first piece, stays so whatever happens to bytes that the image writes behind the
--- blocks that stand, and one piece more is; and flashing on from a block that stands makes it whole.
+-- A device is mendable before the first piece, stays so whatever happens to bytes that the image writes after the
+-- whole blocks, and stays so with one piece more. Flashing on from a block up to which all is whole makes it whole.
 pub record Mends : Type 0 where
   pub first : (b : ℕ) (l : List Block) (p : List ℕ) → Mendable b l p p 0
   pub touched : (b : ℕ) (l : List Block) (p q r : List ℕ) (done : ℕ) → Mendable b l p q done → length r ≡ length q

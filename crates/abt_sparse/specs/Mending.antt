@@ -1,4 +1,4 @@
--- What a stop may leave of a device that the pieces of an image are flashed to, so that flashing on mends it.
+-- What a stop may leave on a device to which the pieces of an image are flashed, so that a later flash mends it.
 use Rattle.std.specs.Prelude.{◌≡◌, ℕ, ◌*◌, ◌<◌, List, length, None, slice_index, slice_index_or}
 use Rattle.abt_sparse.specs.Block.{Block, cells, over}
 

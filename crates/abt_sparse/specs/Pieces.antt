@@ -1,4 +1,4 @@
--- An image cut in pieces for a download limit, and what a device holds once they are flashed.
+-- An image cut into pieces for a download limit, and the content of a device after they are flashed.
 use Rattle.std.specs.Prelude.{◌≡◌, ℕ, ◌≤◌, List, [], ◌∷◌, ◌++◌, length, take, map, Option}
 use Rattle.abt_sparse.specs.Block.{Block, cells, over}
 use Rattle.abt_sparse.specs.Runs.{weight, segments, frames}
@@ -8,7 +8,7 @@ use Rattle.abt_sparse.specs.Reading.{Outcome, Image, Fault, outcome}
 
 -- ---- cuts
 
--- the part stays within the limit, and no front of the blocks that does is longer
+-- the part stays within the limit, and no prefix of the blocks that does is longer
 abbrev pub IsGreatest : ℕ → ℕ → List Block → List Block → Type 0
 IsGreatest limit b blocks part = (weight b part ≤ limit)
     × ((e : ℕ) → e ≤ length blocks → weight b (take e blocks) ≤ limit → e ≤ length part)
@@ -39,7 +39,7 @@ pieces_of limit (Fault f given) = []
 
 -- ---- flashing
 
--- what bytes lay over a device: an image its blocks, and bytes with a fault what came before it
+-- what bytes write over a device: an image its blocks, and bytes with a fault what came before it
 abbrev pub given : Outcome → List (Option ℕ)
 given (Image h cs rest) = cells h.blk_sz (classed cs)
 given (Fault f before) = before

@@ -1,5 +1,5 @@
--- What bytes are as a sparse image, as one function of all bytes: an image and the rest behind it, or the first fault
--- from left to right, with what came before it. `Fails.antt` says the same without reading.
+-- The meaning of bytes as a sparse image, as one function of all bytes. It is an image and the rest after it, or the
+-- first fault from left to right with all that came before it. `Fails.antt` says the same without reading.
 use Rattle.std.specs.Prelude.{ℕ, zero, suc, ◌+◌, ◌%◌, List, [], ◌∷◌, ◌++◌, length, take, drop, map, Option, Some, None}
 use Rattle.std.specs.Prelude.{Result, Ok, Err, ◌==◌, nat_lt, ◌||◌, not, if◌then◌else◌}
 use Rattle.abt_sparse.specs.declared.fault.SparseFault.{SparseFault}
@@ -13,7 +13,7 @@ pub use Rattle.abt_sparse.specs.Field.{number_at}
 use Rattle.abt_sparse.specs.Chunk.{Header, Chunk, Raws, Fills, Skips, Crc, classed}
 pub use Rattle.abt_sparse.specs.Chunk.{data_len, counted, partial_of}
 
--- the fields of a header, as they stand
+-- the fields of a header, as they are stored
 unfoldable pub header_at : List ℕ → Header
 header_at bytes = record {
   minor = number_at 6 2 bytes;
@@ -45,7 +45,7 @@ kind_at n =
     else if n == 0xCAC4 then Some kinds.Crc
     else None
 
--- the chunk of this kind, with so many blocks in its header and these bytes behind it
+-- the chunk of this kind, with so many blocks in its header and these bytes after it
 abbrev pub chunk_from : ℕ → ChunkKind → ℕ → List ℕ → Chunk
 chunk_from b kinds.Raw n payload = Raws (split b n payload)
 chunk_from b kinds.Fill n payload = Fills payload n
@@ -57,7 +57,7 @@ pub data ChunkRead : Type 0 where
   Got : Chunk → ℕ → List ℕ → ChunkRead
   Bad : SparseFault → List ℕ → ChunkRead
 
--- Chunk i at the front of bytes, where the whole input has size bytes and the chunks before it have so many blocks:
+-- Chunk i at the beginning of bytes, where the whole input has size bytes and the chunks before it have so many blocks:
 -- first of a kind that is known, then of any, then with the header not yet there.
 abbrev pub chunk_body : Header → ℕ → ℕ → ℕ → List ℕ → ChunkKind → ChunkRead
 chunk_body h size i have bytes k =
@@ -77,17 +77,17 @@ chunk_at h size i have bytes =
     if nat_lt (length bytes) 12 then Bad (Truncated size) []
     else chunk_known h size i have bytes (kind_at (number_at 0 2 bytes))
 
--- The chunks and the rest, or the fault, the chunks before it and the raw bytes that came behind them.
+-- The chunks and the rest, or the fault, the chunks before it and the raw bytes that came after them.
 pub data ChunksRead : Type 0 where
   Done : List Chunk → List ℕ → ChunksRead
   Failed : SparseFault → List Chunk → List ℕ → ChunksRead
 
--- a chunk and what is read behind it
+-- a chunk and what is read after it
 abbrev pub behind : Chunk → ChunksRead → ChunksRead
 behind c (Done cs rest) = Done (c ∷ cs) rest
 behind c (Failed f cs came) = Failed f (c ∷ cs) came
 
--- the chunks at the front of bytes, where so many are left
+-- the chunks at the beginning of bytes, where so many are left
 unfoldable pub chunks_at : Header → ℕ → ℕ → ℕ → ℕ → List ℕ → ChunksRead
 chunks_at h size i have zero bytes = if have == h.total_blks then Done [] bytes else Failed (TooFewBlocks have) [] []
 chunks_at h size i have (suc left) bytes = elim (chunk_at h size i have bytes) [
@@ -95,7 +95,7 @@ chunks_at h size i have (suc left) bytes = elim (chunk_at h size i have bytes) [
   | Bad f came ↦ Failed f [] came
 ]
 
--- An image with its chunks and the bytes behind it, or a fault with the cells that came before it.
+-- An image with its chunks and the bytes after it, or a fault with the cells that came before it.
 pub data Outcome : Type 0 where
   Image : Header → List Chunk → List ℕ → Outcome
   Fault : SparseFault → List (Option ℕ) → Outcome
@@ -104,7 +104,7 @@ abbrev pub outcome_of : Header → ChunksRead → Outcome
 outcome_of h (Done cs rest) = Image h cs rest
 outcome_of h (Failed f cs came) = Fault f (cells h.blk_sz (classed cs) ++ map (λ x. Some x) came)
 
--- the chunks behind a header with its extra bytes
+-- the chunks after a header with its extra bytes
 unfoldable pub body_at : Header → List ℕ → ChunksRead
 body_at h bytes =
     if nat_lt (length bytes) h.file_hdr_sz then Failed (Truncated (length bytes)) [] []

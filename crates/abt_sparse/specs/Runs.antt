@@ -1,10 +1,10 @@
--- The runs of a list of blocks, the weight of a segment, and cutting by weight for a download limit.
+-- The runs of a list of blocks, the weight of a segment, and cuts by weight for a download limit.
 use Rattle.std.specs.Prelude.{◌≡◌, ℕ, suc, ◌+◌, ◌*◌, ◌≤◌, Bool, true, false, List, [], ◌∷◌, ◌++◌, length, replicate}
 use Rattle.std.specs.Prelude.{bytes_eq, nat_le, if◌then◌else◌, ⊤}
 use Rattle.std.specs.List.{flat_map, AllByRecursion, sum_by}
 use Rattle.abt_sparse.specs.Block.{Block, Raw, Fill, Skip}
 
--- the parts one behind the other
+-- the parts one after the other
 abbrev pub joined : {X : Type 0} → List (List X) → List X
 joined parts = flat_map (λ part. part) parts
 
@@ -17,7 +17,7 @@ alike x y = false
 
 -- ---- runs: maximal groups of blocks that are alike
 
--- a block in front of groups
+-- a block before groups
 abbrev pub grouped : Block → List (List Block) → List (List Block)
 grouped x [] = (x ∷ []) ∷ []
 grouped x ([] ∷ gs) = (x ∷ []) ∷ gs
@@ -58,7 +58,7 @@ abbrev pub begins_skip : List Block → Bool
 begins_skip (Skip ∷ g) = true
 begins_skip g = false
 
--- the runs without one of Skip at the end, and without one at the front
+-- the runs without one of Skip at the end, and without one at the beginning
 abbrev pub without_last : List (List Block) → List (List Block)
 without_last [] = []
 without_last (g ∷ []) = if begins_skip g then [] else g ∷ []
@@ -68,7 +68,7 @@ abbrev pub without_first : List (List Block) → List (List Block)
 without_first [] = []
 without_first (g ∷ gs) = if begins_skip g then gs else g ∷ gs
 
--- the weight of a segment: a header of 28 bytes, 12 for a chunk of Skip before it and behind it, the runs between
+-- the weight of a segment: a header of 28 bytes, 12 for a chunk of Skip before it and after it, the runs between
 abbrev pub weight : ℕ → List Block → ℕ
 weight b segment = 52 + sum_by (run_weight b) (without_last (without_first (runs segment)))
 
@@ -96,11 +96,11 @@ pub record Division (limit b : ℕ) (blocks : List Block) (parts : List (List Bl
   pub some : 1 ≤ length parts
   pub each : AllByRecursion (λ part. weight b part ≤ limit) parts
 
--- the whole image as a piece tells it: it skips the blocks before its segment and behind it
+-- the whole image as a piece has it: it skips the blocks before its segment and after it
 abbrev pub framed : ℕ → List Block → ℕ → List Block
 framed before segment after = replicate before Skip ++ segment ++ replicate after Skip
 
--- the blocks of each piece, where so many stand before the first
+-- the blocks of each piece, where so many come before the first
 abbrev pub frames : ℕ → List (List Block) → List (List Block)
 frames before [] = []
 frames before (s ∷ ss) = framed before s (length (joined ss)) ∷ frames (before + length s) ss

@@ -1,4 +1,4 @@
--- A header of the code as the header that the definitions speak of: the same numbers.
+-- The header type of the code as the header of the definitions: the same numbers.
 use Rattle.abt_sparse.specs.declared.header.SparseHeader.{SparseHeader}
 use Rattle.abt_sparse.specs.Chunk.{Header}
 

@@ -1,4 +1,4 @@
-//! The header of a chunk, from bytes and to bytes.
+//! The header of a chunk: decoding and encoding.
 
 ghost use Rattle.std.specs.Prelude.{◌≡◌, ◌<◌, ◌^◌, IfOk, IfErr, Ok};
 ghost use Rattle.abt_sparse.specs.declared.kind.ChunkKind.{ChunkKind};
@@ -16,7 +16,7 @@ use byteorder::{ByteOrder, LittleEndian};
 pub struct ChunkHeader {
     /// `chunk_type`.
     pub kind: ChunkKind,
-    /// `chunk_sz`: the number of blocks in the expanded image. A checksum has none, whatever stands here.
+    /// `chunk_sz`: the number of blocks in the expanded image. A checksum has none, whatever number this is.
     pub blocks: u32,
     /// `total_sz`: the length of the chunk in bytes, header and data.
     pub total: u32,

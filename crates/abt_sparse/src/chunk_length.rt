@@ -1,11 +1,11 @@
-//! How long a chunk's data is, and how many blocks it counts.
+//! The length of a chunk's data, and the number of blocks that a chunk counts.
 
 ghost use Rattle.std.specs.Prelude.{◌≡◌, ◌<◌, ◌-◌, ◌^◌};
 ghost use Rattle.abt_sparse.specs.Reading.{data_len, counted};
 
 use crate::kind::ChunkKind;
 
-/// How many bytes of data a chunk of so many blocks has behind its header.
+/// How many bytes of data a chunk of so many blocks has after its header.
 #[inline(always)]
 pub fn data_length(block_size: u32, kind: ChunkKind, blocks: u32) -> u64
     ensures value { result ≡ data_len block_size kind blocks }

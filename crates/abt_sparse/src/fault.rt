@@ -1,4 +1,4 @@
-//! Why a sparse image is refused.
+//! The reasons for which a sparse image is refused.
 
 ghost use Rattle.std.specs.Prelude.{◌≡◌};
 ghost use Rattle.abt_sparse.specs.Number.{number_of};

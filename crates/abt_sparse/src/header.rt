@@ -2,7 +2,7 @@
 
 ghost use Rattle.std.specs.Prelude.{◌≡◌, ◌≤◌, ◌<◌, ◌%◌};
 
-/// The header at the front of a sparse image, `sparse_header_t` without `magic` and `major_version`, which are
+/// The header at the beginning of a sparse image, `sparse_header_t` without `magic` and `major_version`, which are
 /// always 0xED26FF3A and 1. A value of this type passes all checks of a header.
 #[derive(Clone, Copy, Debug, PartialEq, Eq, Drop)]
 pub struct SparseHeader {

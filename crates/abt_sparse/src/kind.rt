@@ -1,4 +1,4 @@
-//! What kind of chunk a header begins.
+//! The kinds of chunks.
 
 ghost use Rattle.std.specs.Prelude.{◌≡◌, Some};
 ghost use Rattle.abt_sparse.specs.Chunk.{code};
@@ -7,7 +7,7 @@ ghost use Rattle.abt_sparse.specs.Reading.{kind_at};
 /// The kind of a chunk, `chunk_type` in `sparse_format.h`.
 #[derive(Clone, Copy, Debug, PartialEq, Eq, Drop)]
 pub enum ChunkKind {
-    /// Blocks whose bytes stand in the image (`CHUNK_TYPE_RAW`, 0xCAC1).
+    /// Blocks whose bytes are stored in the image (`CHUNK_TYPE_RAW`, 0xCAC1).
     Raw,
     /// Blocks filled with one word of four bytes (`CHUNK_TYPE_FILL`, 0xCAC2).
     Fill,

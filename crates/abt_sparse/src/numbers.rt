@@ -1,4 +1,4 @@
-//! Numbers at a place in bytes, least byte first.
+//! Little-endian numbers at a place in bytes.
 
 ghost use Rattle.std.specs.Prelude.{◌≡◌, ◌+◌, ◌≤◌, length};
 ghost use Rattle.abt_sparse.specs.Reading.{number_at};

@@ -1,4 +1,4 @@
-//! The header of a sparse image from bytes and to bytes.
+//! The header of a sparse image: decoding and encoding.
 
 ghost use Rattle.std.specs.Prelude.{◌≡◌, ◌≤◌, length, MatchResult, IfOk, IfErr, Ok, Err};
 ghost use Rattle.abt_sparse.specs.Chunk.{IsHeader, header_record};

@@ -102,7 +102,7 @@ first_told n b r l c a first place e chunks bytes =
       long = omega (arith, bytes, whole, ap length (first_rest n r l c a e));
     }
 
--- what comes behind nothing is all chunks
+-- what follows nothing is all chunks
 pub first_leads : (b n r : ℕ) (start : Cursor) (a : Written) (w : List ℕ) → start.block ≡ 0 → Leads
     (AreChunks b a.chunks n) (MayCome b n (writer_at_start n r start a)) w w
 first_leads b n r start a w first = leads_same (AreChunks b a.chunks n) (MayCome b n (writer_at_start n r start a)) w w
@@ -112,7 +112,7 @@ first_leads b n r start a w first = leads_same (AreChunks b a.chunks n) (MayCome
     (subst (λ (k : ℕ). AreChunks b a.chunks k m.rest)
     (let z : 0 + (n - (start.block - start.block)) ≡ n = omega arith in z) m.chunks))
 
--- the header in front of them
+-- the header before them
 pub header_chunks : (b n k : ℕ) (w0 w1 w2 : List ℕ) → (0 < b) × (b % 4 ≡ 0) × (b < 2 ^ 32) → n < 2 ^ 32 → k < 2 ^ 32 →
     w1 ≡ w0 ++ header_record (plain_header b n k) → Appended (AreChunks b k n) w1 w2 → Appended (IsPlainImage b n) w0 w2
 header_chunks b n k w0 w1 w2 good few fewer written h = record {
@@ -227,7 +227,7 @@ few_bytes x n b y le small window h =
     let p : x * (b + 16) ≤ x * 65552 = mul-le-mul_left x (let z : b + 16 ≤ 65552 = omega arith in z) in
     omega (arith, p)
 
--- the header in front of all chunks
+-- the header before all chunks
 pub header_first : (b r : ℕ) (l : List Block) (b' n k : ℕ) → b' ≡ b → n ≡ length l → k ≡ length (chunks_of r l) →
     spelling b r l ≡ header_record (plain_header b' n k) ++ bytes_of r l
 header_first b r l b' n k e f h = rw (e, f, h) refl
@@ -251,7 +251,7 @@ granted len n b c e = elim (cases_Bool (nat_lt c.block n)) [
   | inr h ↦ rw h (omega arith)
 ]
 
--- and behind the last block no more than twice the image
+-- and after the last block no more than twice the image
 pub granted_end : (len n b : ℕ) (c : Cursor) → c.block ≡ n → read_to len n b c ≡ 2 * len + 16
 granted_end len n b c e =
     let h : nat_lt c.block n ≡ false = not_below c.block n (omega (arith, e)) in

@@ -1,2 +1,2 @@
--- Raw runs in chunks, for what stands on this crate.
+-- Raw runs in chunks, for the crates that build on this one.
 pub use Rattle.abt_pieces.proofs.PieceCuts.{no_cut, one_cut, first_cut, cut_next}

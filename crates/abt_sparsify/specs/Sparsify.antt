@@ -92,13 +92,13 @@ pub record ChunkCosts (b : ℕ) {A B : Type 0} (s : sources.Ghosts A) (o : outpu
       + 5 * (length (o.written output') - length (o.written output)) + 15 + 2 * b
   pub greatest : m'.greatest.number ≤ max m.greatest.number 65536
 
--- n bytes stand behind w as a sparse image, in blocks of b
+-- n bytes are after w as a sparse image, in blocks of b
 pub record Sparsified (b n : ℕ) (w w' : List ℕ) (a : Written) : Type 0 where
   pub blocks : (n ≤ a.blocks * b) × (a.blocks * b < n + b)
   pub long : length w' ≡ length w + a.bytes
   pub image : Appended (IsPlainImage b a.blocks) w w'
 
--- Of a source that tells n bytes, the blocks l: what stands is their image, or after a refusal a beginning of it. The
+-- Of a source that models n bytes, the blocks l: what is written is their image, or after a refusal a prefix of it. The
 -- source had given g bytes before, and g' then.
 pub record ToldImage (r : Result Written PieceFault) (b most : ℕ) (l : List Block) (w w' : List ℕ) (n g g' : ℕ)
     : Type 0 where
@@ -121,7 +121,7 @@ writer_at_start n r c a = record {
 
 -- ---- what is read
 
--- the place behind the last of n blocks
+-- the place after the last of n blocks
 abbrev pub end_place : ℕ → Cursor
 end_place n = record { block = n; at = 0; chunk = 0; used = 0; ask = 1 }
 

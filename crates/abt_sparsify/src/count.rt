@@ -1,4 +1,4 @@
-//! The numbers of a sparse image, which its header needs first: a pass that counts runs.
+//! Counts the runs of a raw image in one pass. The header of a sparse image needs these numbers first.
 ghost use Rattle.std.specs.Prelude.{◌≡◌, ◌<◌, ◌≤◌, ◌+◌, ◌*◌, ◌^◌, IsTrue, IfOk, length};
 ghost use Rattle.abt_sparse.specs.Block.{classify};
 ghost use Rattle.abt_pieces.specs.Calls.{ReadsCut};

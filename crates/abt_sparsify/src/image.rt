@@ -1,4 +1,4 @@
-//! Writing a raw image as a sparse one.
+//! Writes a raw image as a sparse image.
 ghost use Rattle.std.specs.Prelude.{◌<◌, ◌≤◌, ◌+◌, ◌*◌, ◌^◌, IsTrue, IfOk, length};
 ghost use Rattle.abt_sparse.specs.Block.{classify};
 ghost use Rattle.abt_pieces.specs.Calls.{CallCosts, devices};
@@ -47,17 +47,18 @@ fn write_image<S: Source, O: Output>(
     }
 }
 
-/// Writes a raw image as a sparse image (`sparse_format.h`): its bytes, filled up with zeros to a
-/// whole block, in blocks of `block_size` bytes. Blocks whose words are all equal are fill, others
-/// raw; each maximal run is one chunk, a raw run chunks of at most `most` blocks. It reads the
-/// source in two passes, and counts in the first what the header says.
+/// Writes a raw image as a sparse image (`sparse_format.h`): its bytes, filled up with zeros to a whole block, in
+/// blocks of `block_size` bytes. A block whose words are all equal is fill, every other block is raw. Each maximal
+/// run is one chunk; a raw run is cut into chunks of at most `most` blocks. The call reads the source in two passes.
+/// In the first it counts the numbers of the header.
 ///
-/// It refuses with `BadBlock` exactly where `block_size` is no multiple of 4 from 4 to 65,536, then
-/// with `TooLarge` exactly where there are more than 2^32 - 1 blocks; both before anything is
-/// written. `Read` and `Write` come only where that device has failed, and what stands then is a
-/// beginning of the image; `SourceChanged` comes only of a source that does not tell its bytes.
-/// Whatever the source gave, what was written where it is answered is a sparse image of so many
-/// blocks, and nothing stands behind it.
+/// - It fails with `BadBlock` exactly where `block_size` is no multiple of 4 from 4 to 65,536.
+/// - Otherwise it fails with `TooLarge` exactly where there are more than 2^32 - 1 blocks. Both come before anything
+///   is written.
+/// - `Read` and `Write` come only where that device has failed. Then the output has a beginning of the image.
+/// - `SourceChanged` comes only of a source that does not model its content.
+/// - Where it returns Ok, what was written is a sparse image of so many blocks with nothing after it, whatever the
+///   source gave.
 pub fn sparsify<S: Source, O: Output>(
     source: &mut S,
     block_size: u32,

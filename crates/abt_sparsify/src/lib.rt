@@ -1,14 +1,16 @@
-//! Writing a raw image as a sparse image, in two passes over it.
+//! Writes a raw image as a sparse image, in two passes over it.
 //!
-//! The blocks whose words are all equal are fill, all others raw; each maximal run is one chunk, a
-//! raw run chunks of so many blocks at most. The header says how many chunks there are, so a first
-//! pass counts them, and a second writes them.
+//! A block whose words are all equal is fill; every other block is raw. Each maximal run is one chunk, except that a
+//! raw run is cut into chunks of a maximal number of blocks. The header has the number of chunks, so the first pass
+//! counts them and the second pass writes them.
 //!
-//! - `count`: the pass that counts;
-//! - `write`: the pass that writes, by the steps of the writer of pieces;
-//! - `image`: both, behind the header.
+//! | file | content |
+//! |---|---|
+//! | `count.rt` | the pass that counts |
+//! | `write.rt` | the pass that writes, by the steps of the writer of pieces |
+//! | `image.rt` | `sparsify`: the counting pass, the header, the writing pass |
 //!
-//! `specs/Sparsify` says what is counted at each step, `proofs/` why.
+//! `specs/Sparsify` defines what is counted at each step, and `proofs/` proves it.
 #![tactic(auto)]
 
 mod count;

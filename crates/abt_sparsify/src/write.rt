@@ -1,4 +1,4 @@
-//! The chunks of a sparse image that was counted, written in steps.
+//! Writes the chunks of a sparse image that was counted, in steps.
 ghost use Rattle.std.specs.Prelude.{◌≡◌, ◌≤◌, ◌+◌, ◌-◌, ◌*◌, ◌++◌, IsTrue, OnOk, length, take};
 ghost use Rattle.abt_sparse.specs.Block.{classify};
 ghost use Rattle.abt_pieces.specs.Image.{Appended, AreChunks};

@@ -31,7 +31,7 @@ use Rattle.abt_verify.specs.Stepping.{Compares, LeavesWalk, OnDiffers, OnStandin
 use Rattle.abt_verify.specs.Verifying.{RefusedVerify, SaysOfPartition, Verifies, WholeVerify, fault, image}
 use Rattle.abt_verify.proofs.Said.{first_more, held_le, said_by-append, said_cells, stands_more}
 
--- After k bytes of x these cells stand on a partition that holds p, and the walk stands at s.
+-- After k bytes of x these cells stand on a partition that holds p, and the walk is at s.
 pub record Come (models : Bool) (s : Walk) (k : ℕ) (x p : List ℕ) (given0 given compared : ℕ) : Type 0 where
   pub cells : List (Option ℕ)
   pub told : (t : List ℕ) → seen (outcome (take k x ++ t)) ≡ before cells (ahead s t)
@@ -82,7 +82,7 @@ ok_both : (r : Result MachineProgress VerifyFault) (P Q R : Type 0) → (P → Q
 ok_both (Ok v) P Q R go a b = go a b
 ok_both (Err f) P Q R go a b = tt
 
--- A step that answers r, where x was read as far as rest: all cells that were compared.
+-- A step that returns r, where x was read as far as rest: all cells that were compared.
 pub record Ends (models : Bool) (r : Result MachineProgress VerifyFault) (s' : Walk) (x read rest p : List ℕ) (given0 given' compared' : ℕ) : Type 0 where
   pub all : List (Option ℕ)
   pub whole : read ++ rest ≡ x

@@ -12,7 +12,7 @@ some_same x y e = cc
 behind : (p : List ℕ) (y : ℕ) (c : Option ℕ) (cs : List (Option ℕ)) → Stands (y ∷ p) (c ∷ cs) → Stands p cs
 behind p y c cs h = λ i x e. h (suc i) x e
 
--- where cells stand, laying them changes nothing
+-- where cells stand, writing them changes nothing
 pub unchanged : (p : List ℕ) (cs : List (Option ℕ)) → Stands p cs → over p cs ≡ p
 unchanged [] cs h = refl
 unchanged (y ∷ p) [] h = refl
@@ -21,7 +21,7 @@ unchanged (y ∷ p) (Some x ∷ cs) h =
     let same : y ≡ x = some_same y x (h 0 x refl) in
     ap (λ (b : ℕ). b ∷ over p cs) (sym same) ∙ ap (λ (l : List ℕ). y ∷ l) (unchanged p cs (behind p y (Some x) cs h))
 
--- once they are laid, they stand
+-- once they are written, they stand
 pub flashed_stands : (p : List ℕ) (cs : List (Option ℕ)) → length cs ≤ length p → Stands (over p cs) cs
 flashed_stands p [] le = stands_nothing (over p [])
 flashed_stands [] (c ∷ cs) le = absurd (omega (arith, le))

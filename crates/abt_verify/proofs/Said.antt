@@ -19,7 +19,7 @@ get_none (suc i) = refl
 pub none_some : (x : ℕ) → (let a : Option ℕ = None in let b : Option ℕ = Some x in a ≡ b) → ⊥
 none_some x e = cc
 
--- ---- cells behind others
+-- ---- cells after others
 
 pub said_front : (cs ds : List (Option ℕ)) (i x : ℕ) → get_or cs i None ≡ Some x → get_or (cs ++ ds) i None ≡ Some x
 said_front [] ds i x e = absurd (none_some x (sym (get_none i) ∙ e))
@@ -128,7 +128,7 @@ differs_at p bytes at k lt same other = record {
 pub missing_at : (p bytes : List ℕ) (at k : ℕ) → k < length bytes → take k (drop at p) ≡ take k bytes → length p - at ≤ k → FirstDiffers p (from_place at (somes bytes)) (at + k)
 missing_at p bytes at k lt same short = differs_at p bytes at k lt same (λ e. none_some (get_or bytes k 0) (sym (slice_get_past (drop at p) k (omega (arith, length-drop at p, short))) ∙ e ∙ slice_get-get_or bytes k 0 lt))
 
--- ---- a window whose front is the image's, and whose other half the partition's
+-- ---- a window whose beginning is the image's, and whose other half the partition's
 
 half_front : (n h : ℕ) (w x : List ℕ) → n ≤ h → h ≤ length w → take n (take h w ++ x) ≡ take n w
 half_front zero h w x le fits = refl

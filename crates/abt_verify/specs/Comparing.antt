@@ -1,4 +1,4 @@
--- A part of an image against what stands at its place.
+-- The comparison of a part of an image with its place on a partition.
 use Rattle.std.specs.Prelude.{◌≡◌, ℕ, ◌+◌, ◌-◌, ◌*◌, ◌<◌, ◌≤◌, List, Option, Some, None, Result, Ok, Err, IsTrue}
 use Rattle.std.specs.Prelude.{IfNone}
 use Rattle.abt_io.specs.Lent.{OnlyReads}
@@ -33,7 +33,7 @@ abbrev pub PartDiffers : Option VerifyFault → List ℕ → List (Option ℕ) �
 PartDiffers (Some (Differs n)) p cs = FirstDiffers p cs n
 PartDiffers r p cs = Unit {0}
 
--- what a comparison answers
+-- what a comparison returns
 abbrev pub answer_to : Option VerifyFault → Result (Unit {0}) VerifyFault
 answer_to None = Ok tt
 answer_to (Some f) = Err f
@@ -44,8 +44,8 @@ pub record ReadsBytes (n most : ℕ) {A : Type 0} (s : sources.Ghosts A) (old ne
   pub small : n ≤ most
   pub reads : s.reads new ≤ s.reads old + n + 1
 
--- Cells against what stands on a partition: they stand, or the first byte that differs is told, or the partition could
--- not be read. It stays as it is.
+-- Cells against what is stored on a partition: they stand there, or the first byte that differs is reported, or the
+-- partition could not be read. It stays as it is.
 pub record PartCompared {A : Type 0} (p : sources.Ghosts A) (fault : Option VerifyFault) (cells : List (Option ℕ))
     (old new : A) : Type 0 where
   pub stands : IsTrue p.models → IfNone fault (Stands (p.content old) cells)

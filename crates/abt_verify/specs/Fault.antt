@@ -1,4 +1,4 @@
--- The numbers of refusals, and what causes each.
+-- The numbers of refusals, and the cause of each.
 use Rattle.std.specs.Prelude.{◌≡◌, ℕ, ◌<◌, Bool, false, Result, Ok, Err, Option, Some, None, nat_lt, if◌then◌else◌}
 use Rattle.abt_io.specs.declared.device.DeviceFault.{DeviceFault}
 use Rattle.abt_io.specs.declared.device.DeviceFault.TheVariants.{Failed}
@@ -37,7 +37,7 @@ abbrev pub VerifyRises : {X : Type 0} → Result X VerifyFault → ℕ → ℕ �
 VerifyRises (Ok x) r r' p p' = (r' ≡ r) × (p' ≡ p)
 VerifyRises (Err f) r r' p p' = HasVerifyCause f r r' p p'
 
--- Of the bytes of a raw image: the same, and 14 comes where a source that doesn't tell its bytes gives fewer than it
+-- Of the bytes of a raw image: the same, and 14 comes where a source that doesn't model its content gives fewer than it
 -- has said. 1 to 10 never come, nor 15.
 abbrev pub HasRawCause : VerifyFault → Bool → ℕ → ℕ → ℕ → ℕ → Type 0
 HasRawCause (Sparse f) models r r' p p' = ⊥

@@ -1,11 +1,11 @@
--- What verifying has to do with flashing, and that it has one answer.
+-- How verifying and flashing are related; and that verifying has one result.
 use Rattle.std.specs.Prelude.{◌≡◌, ℕ, ◌≤◌, ◌⊎◌, List, length, Option}
 use Rattle.abt_sparse.specs.Block.{over}
 use Rattle.abt_verify.specs.Standing.{FirstDiffers, Stands}
 
--- Cells as an image lays them, and a partition that holds p.
+-- Cells as an image writes them, and a partition that holds p.
 pub record VerifyingIsRight : Type 0 where
-  -- where they stand, laying them changes nothing, and once they are laid they stand
+  -- where they stand, writing them changes nothing, and once they are written they stand
   pub unchanged : (p : List ℕ) (cs : List (Option ℕ)) → Stands p cs → over p cs ≡ p
   pub flashed : (p : List ℕ) (cs : List (Option ℕ)) → length cs ≤ length p → Stands (over p cs) cs
   -- they stand or there is a first byte that differs, and not both, and it is one byte

@@ -1,8 +1,9 @@
--- When an image stands on a partition, and which byte of it is the first that does not.
+-- When an image stands on a partition, and which byte is the first that differs. An image stands on a partition where
+-- each byte that its blocks give is at its place.
 use Rattle.std.specs.Prelude.{◌≡◌, ℕ, ◌+◌, ◌<◌, List, [], ◌∷◌, Option, Some, None, slice_get, slice_index_or}
 use Rattle.abt_sparse.specs.Block.{Block, Raw, Fill, Skip}
 
--- Byte i of a partition that holds p is what the cells say of it, or they say nothing. Behind its end no byte is there.
+-- Byte i of a partition that holds p is what the cells say of it, or they say nothing. After its end no byte is there.
 abbrev pub StandsAt : List ℕ → List (Option ℕ) → ℕ → Type 0
 StandsAt p cs i = (x : ℕ) → slice_index_or cs i None ≡ Some x → slice_get p i ≡ Some x
 

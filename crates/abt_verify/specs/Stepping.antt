@@ -1,4 +1,4 @@
--- One step of a verifier: what it compares, and where it stands behind it.
+-- One step of a verifier: what it compares, and its stage after it.
 use Rattle.std.specs.Prelude.{◌≡◌, ℕ, ◌+◌, ◌<◌, ◌≤◌, Bool, List, ◌++◌, length, Option, Some, None, Result, Ok, Err}
 use Rattle.std.specs.Prelude.{IsTrue}
 use Rattle.std.specs.Prelude.{is_err, OnOk, ◌==◌, if◌then◌else◌}
@@ -17,7 +17,7 @@ use Rattle.abt_verify.specs.declared.fault.VerifyFault.TheVariants.{Sparse, Read
 use Rattle.abt_verify.specs.declared.stage.VerifyStage.{VerifyStage}
 use Rattle.abt_verify.specs.declared.stage.VerifyStage.TheVariants as stages
 
--- the stage that an answer leaves
+-- the stage that a result leaves
 abbrev pub stage_after : Result MachineProgress VerifyFault → VerifyStage
 stage_after (Ok answers.More) = stages.Going
 stage_after (Ok answers.Done) = stages.Done
@@ -53,19 +53,19 @@ abbrev pub HasEnded : VerifyStage → Type 0
 HasEnded stages.Going = ⊥
 HasEnded s = Unit {0}
 
--- the phase that an answer leaves the walk in
+-- the phase that a result leaves the walk in
 abbrev pub LeavesWalk : Result MachineProgress VerifyFault → Phase → Type 0
 LeavesWalk (Ok answers.More) p = p ≡ phases.Body
 LeavesWalk (Ok answers.Done) p = p ≡ phases.Done
 LeavesWalk (Err (Sparse f)) p = p ≡ phases.Failed f
 LeavesWalk (Err f) p = Unit {0}
 
--- what is answered to n bytes of a raw image: nothing is left where none were
+-- what is returned for n bytes of a raw image: nothing is left where none were
 abbrev pub raw_answer : ℕ → Option VerifyFault → Result MachineProgress VerifyFault
 raw_answer n (Some f) = Err f
 raw_answer n None = if n == 0 then Ok answers.Done else Ok answers.More
 
--- how many of them stand, as far as is known
+-- how many of them stand there, as far as is known
 abbrev pub passed_by : ℕ → Option VerifyFault → ℕ
 passed_by n (Some f) = 0
 passed_by n None = n
@@ -78,14 +78,14 @@ IsUnderway s = ⊥
 -- left; what was given of the partition went from given to given'.
 pub record Compares (models : Bool) (r : Result MachineProgress VerifyFault) (s s' : Walk) (c rest p : List ℕ)
     (given given' : ℕ) : Type 0 where
-  -- the cells that it compares: what lay ahead is these, and then what lies ahead behind them, whatever t follows
+  -- the cells that it compares: what lay ahead is these, and then what lies ahead after them, whatever t follows
   pub cells : List (Option ℕ)
   pub told : (t : List ℕ) → (IsTrue (is_err r) → t ≡ rest)
       → UnlessUnread r (ahead s (c ++ t) ≡ before cells (ahead s' t))
   pub moved : OnMoreExpanding r (place_of s' ≡ place_of s + length cells)
   -- each byte that they say is read of the partition, once, and no other
   pub counted : OnOk r (given' ≡ given + said_by cells)
-  -- they stand at their place, or the first byte that does not is told
+  -- they are at their place, or the first byte that differs is reported
   pub stands : IsTrue models → OnStanding r (Stands p (from_place (place_of s) cells))
   pub differs : IsTrue models → OnDiffers r (λ n. FirstDiffers p (from_place (place_of s) cells) n)
 

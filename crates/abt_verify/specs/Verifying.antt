@@ -1,5 +1,4 @@
--- What verifying a whole input against a partition answers, in the words of what it is to be an image and to have a
--- fault.
+-- What verifying a whole input against a partition returns, in terms of what an image is and what a fault is.
 use Rattle.std.specs.Prelude.{◌≡◌, ℕ, ◌+◌, ◌*◌, Bool, List, Option, Result, Ok, Err, IsTrue}
 use Rattle.abt_sparse.specs.declared.fault.SparseFault.{SparseFault}
 use Rattle.abt_sparse.specs.Block.{cells}
@@ -10,8 +9,8 @@ use Rattle.abt_verify.specs.declared.fault.VerifyFault.{VerifyFault}
 use Rattle.abt_verify.specs.declared.fault.VerifyFault.TheVariants.{Sparse, Differs}
 use Rattle.abt_verify.specs.declared.stage.Verified.{Verified}
 
--- An image stands at the front of x, and rest behind it. Each byte of its raw and fill blocks is at its place of a
--- partition that holds p. The answer counts these blocks, and each of their bytes was read of the partition, once.
+-- An image is at the beginning of x, and rest after it. Each byte of its raw and fill blocks is at its place of a
+-- partition that holds p. The result counts these blocks, and each of their bytes was read of the partition, once.
 pub record WholeVerify (models : Bool) (e : Verified) (p x rest : List ℕ) (given given' : ℕ) : Type 0 where
   pub header : Header
   pub chunks : List Chunk
@@ -38,7 +37,7 @@ pub record Different (models : Bool) (n : ℕ) (p x : List ℕ) : Type 0 where
   pub says : SaysOfPartition x said
   pub first : IsTrue models → FirstDiffers p said n
 
--- what is answered over an input x of which rest is left, and a partition that holds p, save where bytes were not read
+-- what is returned over an input x of which rest is left, and a partition that holds p, save where bytes were not read
 abbrev pub Verifies : Bool → Result Verified VerifyFault → List ℕ → List ℕ → List ℕ → ℕ → ℕ → Type 0
 Verifies models (Ok e) p x rest given given' = WholeVerify models e p x rest given given'
 Verifies models (Err (Sparse f)) p x rest given given' = RefusedVerify models f p x

@@ -1,4 +1,4 @@
-//! How many leading bytes of two slices are the same.
+//! Counts the leading bytes that are the same in two slices.
 
 ghost use Rattle.std.specs.Prelude.{◌≡◌, ◌≤◌, ◌<◌, ◌+◌, length, take, min, slice_get};
 ghost use Rattle.abt_chunks.specs.Costs.{TurnsOnly};

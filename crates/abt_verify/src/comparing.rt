@@ -1,4 +1,4 @@
-//! A part of an image against what stands at its place on a partition.
+//! Compares a part of an image with its place on a partition.
 
 ghost use Rattle.std.specs.Prelude.{◌≡◌, ◌≤◌, ◌<◌, ◌+◌, ◌*◌, ◌^◌, IfNone, take};
 ghost use Rattle.abt_chunks.specs.Ahead.{somes};
@@ -12,18 +12,18 @@ use crate::fault::VerifyFault;
 use abt_chunks::Part;
 use abt_io::{Meter, Source, Window, lay_word, read_full_at};
 
-/// How many bytes of the window are the image's, from its front, and how many behind them the partition's.
+/// How many bytes of the window are the image's, from its beginning, and how many after them the partition's.
 pub(crate) const HALF: usize = 32_768;
 
 /// How many words of four bytes that are.
 pub(crate) const HALF_WORDS: u64 = 8_192;
 
-/// What comparing a part answers.
+/// What comparing a part returns.
 #[derive(Clone, Copy, Debug, PartialEq, Eq, Drop)]
 pub(crate) struct Compared {
     /// How many bytes were read of the partition.
     pub received: u32,
-    /// Why the part does not stand there, if it doesn't.
+    /// Why the partition does not hold the part, if it doesn't.
     pub fault: Option<VerifyFault>,
 }
 
@@ -73,8 +73,8 @@ pub(crate) fn compare_at<P: Source>(
     }
 }
 
-/// Compares what a part gives with what stands from a place on; of a gap nothing. Raw bytes stand in the front of the
-/// window, and a word is laid there.
+/// Compares what a part gives with what is stored from a place on; of a gap nothing. Raw bytes are at the beginning of
+/// the window, and a word is written there.
 #[inline(always)]
 pub(crate) fn compare_part<P: Source>(
     part: Part,

@@ -1,4 +1,4 @@
-//! Why an image is not found on a partition.
+//! The reasons for which an image is not found on a partition.
 
 ghost use Rattle.std.specs.Prelude.{◌≡◌};
 ghost use Rattle.abt_verify.specs.Fault.{verify_fault_number, verify_fault_of};

@@ -1,17 +1,17 @@
-//! What verifying has to do with flashing, as the contract of a function that does nothing.
+//! How verifying and flashing are related, as the contract of a function that does nothing.
 
 ghost use Rattle.std.specs.Prelude.{◌≡◌};
 ghost use Rattle.abt_verify.specs.Laws.{VerifyingIsRight};
 
 use abt_io::Partition;
 
-/// Where an image stands, flashing it changes nothing, and what was flashed stands. An image stands or there is one
-/// first byte that differs.
+/// Where a partition holds an image, flashing that image changes nothing, and a partition holds what was flashed to
+/// it. A partition holds an image, or there is one first byte that differs.
 pub fn verifying_is_right()
     ensures { VerifyingIsRight }
 {}
 
-/// What a read leaves of a partition that can be written: its length, its moments and pending bytes, and the counts of
+/// What a read leaves of a partition that can be written: its length, its states and pending bytes, and the counts of
 /// its writes and syncs are as before. So does verifying, whose clause `partition` says the premise.
 pub fn unwritten_partition_stays<P: Partition>(_before: &P, _after: &P)
     requires { P.read_frame _after.now ≡ P.read_frame _before.now }

@@ -1,4 +1,4 @@
-//! Verifying a raw image in steps.
+//! Verifies a raw image in steps.
 
 ghost use Rattle.std.specs.Prelude.{◌≡◌, ◌<◌, ◌≤◌, ◌+◌, ◌-◌, ◌*◌, ◌^◌, IsTrue, IsNone, IfNone, OnOk, length, take};
 ghost use Rattle.std.specs.Prelude.{drop, min};
@@ -18,7 +18,7 @@ use crate::verifier::stage_behind;
 use abt_chunks::MachineProgress;
 use abt_io::{FullRead, Meter, Source, Window, read_full_at};
 
-/// Compares the bytes of a raw image with what stands at their places on a partition. It holds no bytes: each step
+/// Compares the bytes of a raw image with what is stored at their places on a partition. It holds no bytes: each step
 /// compares what it read.
 #[derive(Drop)]
 pub struct RawVerifier {
@@ -46,7 +46,7 @@ fn fault_of(got: FullRead, n: usize) -> Option<VerifyFault>
     }
 }
 
-/// Reads n bytes of the source from a place on, and compares them with what stands there on the partition.
+/// Reads n bytes of the source from a place on, and compares them with what is stored there on the partition.
 fn compare_piece<S: Source, P: Source>(
     source: &mut S,
     n: usize,
@@ -90,7 +90,7 @@ fn compare_piece<S: Source, P: Source>(
     }
 }
 
-/// What a step answers once it has compared n bytes.
+/// What a step returns once it has compared n bytes.
 fn answer(n: usize, fault: Option<VerifyFault>) -> Result<MachineProgress, VerifyFault>
     ensures { result ≡ raw_answer n fault }
 {
@@ -141,9 +141,9 @@ impl RawVerifier {
     }
 
     /// One step: at most half a window is read of the source, and compared with as many bytes of the partition. An
-    /// error is a device's (11 reading the source, 37 the partition), the first byte that differs (35), as all behind
+    /// error is a device's (11 reading the source, 37 the partition), the first byte that differs (35), as all after
     /// the partition's end do, or 14 where the source gives fewer bytes than it has said. After an error or Done every
-    /// step answers that again and calls no device.
+    /// step returns that again and calls no device.
     pub fn step<S: Source, P: Source>(
         &mut self,
         source: &mut S,
@@ -152,7 +152,7 @@ impl RawVerifier {
         m: &mut Meter,
     ) -> Result<MachineProgress, VerifyFault>
         requires { IsTrue S.models → self.old.length ≡ length (S.content source.old) }
-        // What stood so far stands with what was compared, or the first byte that differs is told.
+        // What was held so far is held with what was compared, or the first byte that differs is reported.
         ensures stands { IsTrue S.models → IsTrue P.models → Stands (P.content partition.old)
             (somes (take self.old.at (S.content source.old))) →
             OnOk result (Stands (P.content partition.old) (somes (take self.new.at (S.content source.old)))) }

@@ -1,4 +1,4 @@
-//! Verifying a raw image as a whole.
+//! Verifies a raw image as a whole.
 
 ghost use Rattle.std.specs.Prelude.{◌≡◌, ◌≤◌, ◌+◌, ◌*◌, IsTrue, false};
 ghost use Rattle.abt_chunks.specs.Costs.{StepsWithin};
@@ -20,9 +20,9 @@ fn is_block_size(b: u32) -> bool
     4 <= b && b <= 65_536 && b % 4 == 0
 }
 
-/// Compares each byte of the raw image that is all of the source with what stands at its place on the partition, to
-/// which nothing is written. The answer counts blocks of b bytes, the last of which may be shorter. An error is the
-/// first byte that differs (35), as all behind the partition's end do, a device's (11 reading the source, 37 the
+/// Compares each byte of the raw image that is all of the source with what is stored at its place on the partition, to
+/// which nothing is written. The result counts blocks of b bytes, the last of which may be shorter. An error is the
+/// first byte that differs (35), as all after the partition's end do, a device's (11 reading the source, 37 the
 /// partition), 14 where the source gives fewer bytes than it has said, or 15 unless b is a multiple of 4 from 4 to
 /// 65,536.
 pub fn verify_raw<S: Source, P: Source>(

@@ -1,4 +1,4 @@
-//! Verifying a sparse image in steps.
+//! Verifies a sparse image in steps.
 
 ghost use Rattle.std.specs.Prelude.{◌≡◌, ◌<◌, ◌≤◌, ◌+◌, ◌-◌, ◌*◌, ◌/◌, ◌^◌, IsTrue, OnOk, take, min};
 ghost use Rattle.abt_io.specs.Lent.{OneStep};
@@ -17,8 +17,8 @@ use crate::stage::VerifyStage;
 use abt_chunks::{MachineProgress, Part, Phase, Walk};
 use abt_io::{Input, Meter, Source, Window};
 
-/// Compares the raw and fill blocks of a sparse image with what stands at their places on a partition, and passes over
-/// the blocks that do not matter. It holds no bytes: each step compares what it read.
+/// Compares the raw and fill blocks of a sparse image with what is stored at their places on a partition, and passes
+/// over the blocks that do not matter. It holds no bytes: each step compares what it read.
 #[derive(Drop)]
 pub struct Verifier {
     pub walk: Walk,
@@ -35,7 +35,7 @@ fn blocks_in(bytes: u64, block_size: u32, most: u32) -> u64
     (bytes / u64::from(block_size)).min(u64::from(most))
 }
 
-/// The blocks of all chunks so far end below 2^64, which contracts alone need to be told.
+/// The blocks of all chunks so far end below 2^64. Only contracts need this fact.
 #[inline(always)]
 fn is_in_range(walk: &Walk)
     ensures { upto_of walk.now < 2 ^ 64 }
@@ -44,7 +44,7 @@ fn is_in_range(walk: &Walk)
     let _size = walk.header.blk_sz;
 }
 
-/// What a step answers once its part stands.
+/// What a step returns once the partition was found to hold its part.
 #[inline(always)]
 fn answer(part: Part) -> Result<MachineProgress, VerifyFault>
     ensures { result ≡ answer_by verify_fault_of part }
@@ -95,8 +95,8 @@ impl Verifier {
 
     /// One step: at most half a window is read of the input, and what it gives is compared with as many bytes of the
     /// partition. Of a gap nothing is read. An error is a fault of the image (1 to 10) or of a device (11 reading the
-    /// input, 37 the partition), or the first byte that differs (35), as all behind the partition's end do. After an
-    /// error or Done every step answers that again and calls no device.
+    /// input, 37 the partition), or the first byte that differs (35), as all after the partition's end do. After an
+    /// error or Done every step returns that again and calls no device.
     #[inline(always)]
     pub fn step<I: Input, P: Source>(
         &mut self,
@@ -107,7 +107,7 @@ impl Verifier {
     ) -> Result<MachineProgress, VerifyFault>
         ensures input { ReadStep (I.given input.new - I.given input.old) 32768 self.old.walk I.models
             (input_state I.Input input.old) (input_state I.Input input.new) }
-        // What it compares, and whether that stands.
+        // What it compares, and whether the partition holds that.
         ensures told { IsTrue I.models → IsComparing self.old.stage self.old.walk.phase →
             Compares P.models result self.old.walk self.new.walk
             (take (I.given input.new - I.given input.old) (I.remaining input.old)) (I.remaining input.new)

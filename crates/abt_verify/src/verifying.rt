@@ -1,4 +1,4 @@
-//! Verifying a sparse image as a whole.
+//! Verifies a sparse image as a whole.
 
 ghost use Rattle.std.specs.Prelude.{◌≤◌, ◌+◌, ◌*◌, IsTrue};
 ghost use Rattle.abt_chunks.specs.Costs.{StepsWithin};
@@ -13,10 +13,10 @@ use crate::verifier::Verifier;
 use abt_chunks::MachineProgress;
 use abt_io::{Input, Meter, Source, Window};
 
-/// Compares the raw and fill blocks of the image at the front of the input with what stands at their places on the
-/// partition, to which nothing is written. It reads no further than the image, and of the partition each of these bytes
-/// once. An error is the first byte that differs (35), as all behind the partition's end do, or the first fault of the
-/// image (1 to 10), whichever comes first in it, or a device's (11 reading the input, 37 the partition).
+/// Compares the raw and fill blocks of the image at the beginning of the input with what is stored at their places on
+/// the partition, to which nothing is written. It reads no further than the image, and of the partition each of these
+/// bytes once. An error is the first byte that differs (35), as all after the partition's end do, or the first fault of
+/// the image (1 to 10), whichever comes first in it, or a device's (11 reading the input, 37 the partition).
 pub fn verify<I: Input, P: Source>(
     input: &mut I,
     partition: &mut P,
@@ -25,7 +25,7 @@ pub fn verify<I: Input, P: Source>(
 ) -> Result<Verified, VerifyFault>
     // What was read.
     ensures input { ReadsOn I.models (input_state I.Input input.old) (input_state I.Input input.new) }
-    // An image that stands is found, and anything else is refused with its first difference or its own fault.
+    // An image that the partition holds is found. All else is refused with its first difference or its own fault.
     ensures verifies { IsTrue I.models → Verifies P.models result (P.content partition.old) (I.remaining input.old)
         (I.remaining input.new) (P.given partition.old) (P.given partition.new) }
     ensures cause { VerifyRises result (I.read_faults input.old) (I.read_faults input.new) (P.read_faults partition.old)

@@ -86,7 +86,7 @@ returns-in-Err-plan_pieces-clause-delivered g c =
       long = tt;
     }
 
--- ---- where all pieces behind the first ones were delivered, or one was stopped
+-- ---- where all pieces after the first ones were delivered, or one was stopped
 
 pub returns-clause-delivered : goal.returns-clause-delivered
 returns-clause-delivered g c =

@@ -200,7 +200,7 @@ pieces-smaller g c =
     let is : c.pieces.cutter.stage ≡ Between = still_between _ _ _ _ i.unbroken (sym c.more.ensures ∙ c.if-not-more.false) in
     fewer_then (g.R.BlockRuns.count c.args.cutter.now.runs) c.pieces.cutter.made c.pieces.cutter.start.block c.deliver_piece.new.cutter.made (c.pieces.cutter.sound.left (ap has_more is)) (i.unbroken.between is) o.behind.made
 
--- ---- behind the last piece
+-- ---- after the last piece
 
 -- all that was written
 all_written : (g : Over) (c : Then-not-more g) → IsTrue g.S.Source.models → g.L.Output.written c.pieces.spool ≡ g.L.Output.written c.args.spool.now ++ concat (pieces_behind c.args.cutter.now.limit (g.R.BlockRuns.size c.args.cutter.now.runs) (g.R.BlockRuns.list c.args.cutter.now.runs (g.S.Source.content c.args.source.now)) c.args.cutter.now.made)
@@ -324,7 +324,7 @@ returns-then-not-more-clause-spent g c models =
     let order = i.order in
     rw c.delivered.ensures (spent_whole (g.S.Source.given c.args.source.now) (g.S.Source.given c.pieces.source) (g.W.Way.before runs c.args.cutter.now.start) (g.W.Way.before runs c.pieces.cutter.start) c.args.cutter.now.made c.pieces.cutter.made _ (g.W.Way.each runs) (g.W.Way.all runs) (g.W.Way.last runs) (omega (arith, order, same)) most (i.spent_end models is))
 
--- ---- what stands in the spool, headers last
+-- ---- what is stored in the spool, headers last
 
 pub returns-in-Err-clause-spool : goal.returns-in-Err-clause-spool
 returns-in-Err-clause-spool g c = record {
@@ -487,7 +487,7 @@ returns-in-Err-clause-stays g c models spool partition =
           size good inside i.synced i.order here.blocks (i.stays models spool partition p done le entry) moments syncs kept;
     }
 
--- ---- the rest behind the last piece
+-- ---- the rest after the last piece
 
 pub returns-then-not-more-clause-fails : goal.returns-then-not-more-clause-fails
 returns-then-not-more-clause-fails g c = record {

@@ -223,7 +223,7 @@ returns-in-Ok-Done-clause-cause g c =
 pub returns-in-Err-clause-cause : goal.returns-in-Err-clause-cause
 returns-in-Err-clause-cause g c = let i = c.steps.invariant in rw (i.read_faults, i.put_faults) at (c.in-Err.ensures.stepped.cause i.goes)
 
--- what is read of an input that tells is there, step after step
+-- what is read of an input that models its content is there, step after step
 read_on : (models : Bool) (n n1 n2 : ℕ) (rem r1 r2 : List ℕ) → n ≤ n1 → n1 ≤ n2 → (IsTrue models → n1 - n ≤ length rem) → (IsTrue models → r1 ≡ drop (n1 - n) rem) → Reads models n1 n2 r1 r2 → Reads models n n2 rem r2
 read_on models n n1 n2 rem r1 r2 a b before rest e = record {
   present = λ t. let k = before t in let q = e.present t in omega (arith, a, b, k, q, ap length (rest t), length-drop (n1 - n) rem);

@@ -70,7 +70,7 @@ comes g c models spool =
 touches : (g : Over) (c : In-Ok-write_piece g) → IsTrue g.S.Source.models → IsTrue g.L.Input.models → given (outcome (g.L.Input.remaining c.write_piece.new.spool)) ≡ cells (g.R.BlockRuns.size c.args.cutter.now.runs) (blocks_at c.args.cutter.now.limit (g.R.BlockRuns.size c.args.cutter.now.runs) (g.R.BlockRuns.list c.args.cutter.now.runs (g.S.Source.content c.args.source.now)) c.args.cutter.now.start.block)
 touches g c models spool = touched_reads _ _ _ _ _ _ _ _ (comes g c models spool) (reads g c models) (segment g c models)
 
--- ---- the spool behind a flash
+-- ---- the spool after a flash
 
 after_written : (g : Over) (c : After-flash g) → g.L.Output.written c.flash.new.input ≡ g.L.Output.written c.write_piece.new.spool
 after_written g c = ap (λ (f : ReadFrame). f.written) (sym (g.met.L.Spool.reading c.flash.new.input) ∙ c.flash.ensures.frame ∙ g.met.L.Spool.reading c.write_piece.new.spool)
@@ -601,7 +601,7 @@ returns-in-Err-flash-clause-takes g c = record {
   spent_end = λ models. rw c.not_flashed.ensures tt;
 }
 
--- ---- what a callee says as it stands
+-- ---- what a callee says, unchanged
 
 pub write_piece-requires-clause-ready : goal.write_piece-requires-clause-ready
 write_piece-requires-clause-ready g c = c.requires.ready

@@ -23,7 +23,7 @@ opens g c models =
     let o = c.in-Ok.ensures.opened models in
     record { image = rw (o.is_image) tt; size = ap size_in o.is_image; count = sparse_long (view c.in-Ok.runs.header) c.in-Ok.runs.length c.in-Ok.runs.image (g.S.Source.content c.args.source.now) o }
 
--- the opened image is the one in front
+-- the opened image is the first one
 same : (g : Over) (c : In-Ok g) → IsTrue g.S.Source.models → (let i : ImageBlocks = record { size = c.in-Ok.runs.header.blk_sz; blocks = blocks_in (outcome (g.S.Source.content c.open.new.source)) } in i ≡ sparse_image (g.S.Source.content c.args.source.now))
 same g c models = image_same _ _ _ _ (sym (opens g c models).size) (ap (λ x. blocks_in (outcome x)) (c.open.ensures.reads.content models))
 

@@ -12,7 +12,7 @@ use Rattle.abt_placed.specs.Segment.{IsUncut}
 use Rattle.abt_placed.proofs.Pieces.{piece_image, piece_told, piece_exact, unfinished_refused}
 use Rattle.abt_placed.proofs.cutting.next_piece_at.Goals as goal
 
--- the next piece is laid
+-- the next piece is written
 pub returns-in-Ok : goal.returns-in-Ok
 returns-in-Ok g c =
     let q = c.lay_piece.ensures in

@@ -3,7 +3,7 @@ use Rattle.abt_placed.proofs.Refusing.{keeps_before, unfinished_by, four_zeros, 
 use Rattle.abt_placed.proofs.Onward.{onward, at_most, laid_over}
 use Rattle.abt_placed.proofs.headers.lay_header.Goals as goal
 
--- what the magic number stands before is not laid
+-- what the magic number is before is not written
 pub returns-in-Err : goal.returns-in-Err
 returns-in-Err g c =
     let at = c.args.at in
@@ -23,7 +23,7 @@ returns-in-Err g c =
       };
     }
 
--- the header is laid
+-- the header is written
 pub returns-in-Ok-write_over_all : goal.returns-in-Ok-write_over_all
 returns-in-Ok-write_over_all g c =
     let at = c.args.at in
@@ -47,7 +47,7 @@ returns-in-Ok-write_over_all g c =
       };
     }
 
--- the magic number is not laid, or not all of it
+-- the magic number is not written, or not all of it
 pub returns-in-Err-write_over_all : goal.returns-in-Err-write_over_all
 returns-in-Err-write_over_all g c =
     let at = c.args.at in

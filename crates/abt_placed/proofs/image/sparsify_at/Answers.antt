@@ -45,7 +45,7 @@ returns-in-Err g c =
       };
     }
 
--- the opened image is laid
+-- the opened image is written
 pub returns-in-Ok-lay_piece : goal.returns-in-Ok-lay_piece
 returns-in-Ok-lay_piece g c =
     let r = c.in-Ok.runs in

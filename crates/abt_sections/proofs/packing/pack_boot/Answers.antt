@@ -26,7 +26,7 @@ canon g c models =
     c.boot_header_for-header.ensures c.in_ok-page.ensures.refused.value.1 sizes (c.in_ok-id.ensures.id models)
     (c.in_ok-id.ensures.reads.only.content models)
 
--- and has its size, told by so many sizes as there are parts
+-- and has its size, by so many reported sizes as there are parts
 sized : (g : Over) (c : After-boot_header_for-header g) (n : ℕ) → n ≡ length (map g.S.Source.size c.args.parts.now)
     → (let h = c.boot_header_for-header.result in
     image_size (boot_page h) (boot_size h) (take n c.in_ok-sizes.sizes)

@@ -17,7 +17,7 @@ use Rattle.abt_sections.proofs.packing_once.pack_boot_once.Given.{Over}
 use Rattle.abt_sections.proofs.packing_once.pack_boot_once.Goals.{In_ok-sizes}
 use Rattle.abt_sections.proofs.packing_once.pack_boot_once.Goals as goal
 
--- the sizes that were told are those of all parts
+-- the sizes that were reported are those of all parts
 told : (g : Over) (c : In_ok-sizes g)
     → (let ps = c.args.parts.now in sum (take (length ps) c.in_ok-sizes.sizes) ≡ total g.S.Source.size ps)
 told g c =

@@ -61,7 +61,7 @@ first_sized g c =
     ∙ ap (λ (l : List ℕ). vendor_header_for fields page l count) z)
     ∙ ap (λ (l : List ℕ). first_size (vendor_header_for fields page zs count) (get_or l 0 0) (get_or l 1 0)) z
 
--- behind them comes the rest of version 4
+-- after them comes the rest of version 4
 rest_is : (g : Over) (c : In_ok-write_first_sections g) → IsTrue g.S.Source.models → (c.args.spec.now.version ≡ 3 → ⊥)
     → (let s = g.S.Source in
     let parts = vendor_parts c.args.fragments.now (map s.content c.args.ramdisks.now) (s.content c.args.dtb.now)

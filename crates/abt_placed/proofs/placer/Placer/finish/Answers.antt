@@ -35,7 +35,7 @@ returns-in-Err g c =
       adds = e.adds;
     }
 
--- the header is not laid
+-- the header is not written
 pub returns-in-Err-lay_header : goal.returns-in-Err-lay_header
 returns-in-Err-lay_header g c =
     let s = c.args.self.now in

@@ -21,7 +21,7 @@ finish-requires-clause-zeros g c =
     let f = c.args.self.now.placer.front in
     subst (λ (n : ℕ). take 28 (drop n w') ≡ replicate 28 0) (sym c.skip.ensures.goes.same.1) (zeros_kept f w w' c.skip.ensures.goes.kept c.requires.zeros)
 
--- what is skipped behind the segment is not laid
+-- what is skipped after the segment is not written
 pub returns-in-Err : goal.returns-in-Err
 returns-in-Err g c =
     let s = c.args.self.now in
@@ -41,7 +41,7 @@ returns-in-Err g c =
       long = λ uncut. let fits = h.fits uncut in omega (arith, e.adds, room, fits);
     }
 
--- the headers that are left are laid, or not
+-- the headers that are left are written, or not
 pub returns : goal.returns
 returns g c =
     let s = c.args.self.now in

@@ -82,7 +82,7 @@ returns-then-ended g c =
       writes = succeeds (at_most (onward (onward i.writes (ticked g.O.Output c.loop-done.output c.loop-done.m c.leading-kind.new.m (n * (b / 2 + 17) - 14) look (c.leading-kind.ensures.no_step.steps ∙ c.tick.ensures.steps) (c.leading-kind.ensures.no_step.greatest ∙ c.tick.ensures.greatest))) e.writes) (omega (arith, c.leading-kind.ensures.some)) (omega (arith, more, some)));
     }
 
--- blocks are not laid
+-- blocks are not written
 pub returns-in-Err : goal.returns-in-Err
 returns-in-Err g c =
     let i = c.loop-done.invariant in

@@ -39,7 +39,7 @@ returns-then-gain-self g c =
       writes = still;
     }
 
--- they are not laid
+-- they are not written
 pub returns-in-Err : goal.returns-in-Err
 returns-in-Err g c =
     let t = c.take.ensures in
