@@ -101,12 +101,12 @@ pub fn from_piece()
     ensures { FromPiece }
 {}
 
-/// Flashing on from a piece that was not finished, or from any before it, mends what a stop left.
+/// Continuing a flash from a piece that was not finished, or from any before it, mends what a stop left.
 pub fn mends()
     ensures { Mends }
 {}
 
-/// What is read of worked images.
+/// The results of reading worked images.
 pub fn worked_images()
     ensures { WorkedImages }
 {}

@@ -78,7 +78,7 @@ impl Ahead {
         }
     }
 
-    /// Reads the bytes at a place ahead, over the part that was read first.
+    /// Reads ahead at an offset, over the part that was read first.
     fn fill<F: SystemFile>(&mut self, file: &F, at: u64)
         ensures { IsTrue F.models → HoldsBoth (F.stands file.now) self.old → HoldsBoth (F.stands file.now) self.new }
     {

@@ -122,7 +122,7 @@ pub trait Disk {
     /// The number of the system's error, if the last call of what is written in place failed.
     fn why_of_part(&self, part: &Self::InPlace) -> Option<i32>;
 
-    /// The same of what pieces go through.
+    /// The same for the file that pieces go through.
     fn why_of_spool(&self, through: &Self::Through) -> Option<i32>;
 
     /// Fails if a file that is read is not as it was when it was opened, as far as the system reports it: it has
