@@ -16,7 +16,7 @@ ready_if true h r = record {
 }
 ready_if false h r = r
 
--- a task is done from the moment when its order has begun
+-- a task is done from the state in which its order has begun
 pub does_from : (on : List ℕ → Bool) (task : SparseTask) (w w' : World) (h h' : OpenFiles) (r : Report) (z : State)
     → w' ≡ w
     → h' ≡ h → DoesTask on task (state w' h' r) z → DoesTask on task (state w h r) z

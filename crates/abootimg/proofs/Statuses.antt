@@ -1,4 +1,4 @@
--- What a status of 0 tells.
+-- What a status of 0 means.
 use Rattle.std.proofs.Common.{arith, ◌≡◌, ℕ, List, [], ◌∷◌, Bool, true, false, Some, None, map, sym, subst, cond}
 use Rattle.std.specs.Prelude.{Result, Ok, Err, IfErr, OnOk}
 use Rattle.words_orders.specs.declared.order.SparseTask.{SparseTask}
@@ -15,7 +15,7 @@ not_zero : (n : ℕ) (wrong : Bool) → n ≡ cond wrong 2 1 → n ≡ 0 → ⊥
 not_zero n true is zero_is = omega (arith, is, zero_is)
 not_zero n false is zero_is = omega (arith, is, zero_is)
 
--- status 0 is told of no refusal
+-- status 0 is the status of no error
 pub status_zero : {X E : Type 0} (r : Result X E) (n : ℕ) (P : Type 0) (wrong : E → Bool)
     → IfErr r (λ e. n ≡ cond (wrong e) 2 1) → n ≡ 0 → OnOk r P → P
 status_zero (Ok x) n P wrong refused zero_is is = is

@@ -1,4 +1,4 @@
--- What status 0 tells of a command over boot images.
+-- What status 0 means for a command over boot images.
 use Rattle.std.specs.Prelude.{ℕ, List, Bool}
 use Rattle.sys_disk.specs.World.{World, OpenFiles}
 use Rattle.sys_report.specs.declared.report.Report.{Report}
@@ -6,7 +6,7 @@ use Rattle.sys_host.specs.Answering.{PrintsNothing}
 use Rattle.cmd_boot_dispatch.specs.Commands.{DoesKind}
 use Rattle.cmd_boot_dispatch.specs.declared.command.Kind.{Kind}
 
--- it was done, where these outputs are where standard output goes, and nothing was printed behind what it told
+-- it was done, where these outputs are where standard output goes, and nothing was printed after its report
 pub record BootDone (on_output : List ℕ → Bool) (kind : Kind) (world : World) (held : OpenFiles) (report : Report)
     (world' : World) (held' : OpenFiles) (report' : Report) : Type 0 where
   pub told : Report

@@ -1,4 +1,4 @@
--- What status 0 tells of an order.
+-- What status 0 means for an order.
 use Rattle.std.specs.Prelude.{◌≡◌, ◌++◌, ℕ, List, None, Bool, true, if◌then◌else◌}
 use Rattle.sys_disk.specs.World.{World, OpenFiles, IsReading}
 use Rattle.sys_report.specs.declared.report.Report.{Report}
@@ -16,7 +16,7 @@ pub record IsReadyForOrder (held : OpenFiles) : Type 0 where
   pub part : held.part ≡ None
   pub spool : held.spool ≡ None
 
--- outputs are synced at their end, where that is asked for
+-- outputs are synced at their end, if that is asked for
 abbrev pub synced_if : Bool → OpenFiles → OpenFiles
 synced_if is_synced held = if is_synced then record held { is_synced = true } else held
 
@@ -29,7 +29,7 @@ TaskDone on_output (tasks.Boot task) world held report world' held' report' =
 TaskDone on_output (tasks.Completions shell) world held report world' held' report' =
     (text : List ℕ) × (report'.out.log.state.bytes ≡ report.out.log.state.bytes ++ text)
 
--- what an order asks for is done: its task, with outputs synced where it says so
+-- what an order asks for is done: its task, with outputs synced if it says so
 abbrev pub OrderDone : (List ℕ → Bool) → Order → World → OpenFiles → Report → World → OpenFiles → Report → Type 0
 OrderDone on_output order world held report world' held' report' =
     TaskDone on_output order.task world (synced_if order.is_synced held) report world' held' report'

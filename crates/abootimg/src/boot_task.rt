@@ -12,7 +12,7 @@ use sys_disk::Disk;
 use sys_host::Telling;
 use sys_report::Report;
 
-/// Does a command over boot images, and answers the exit status.
+/// Does a command over boot images, and returns the exit status.
 pub fn do_boot<D: Disk>(
     disk: &mut D,
     command: &BootCommand<'_>,
@@ -24,12 +24,12 @@ pub fn do_boot<D: Disk>(
 ) -> u8
     requires first { IsTrue D.models → IsReading (D.held disk.old) }
     ensures status { result ≤ 2 }
-    // the status is 0 only where it is done, and what was printed tells of it
+    // the status is 0 only if it is done, and what was printed tells of it
     ensures done { IsTrue D.models → result ≡ 0 → BootDone D.on_output command.now.kind (D.world disk.old)
         (D.held disk.old) report.old (D.world disk.new) (D.held disk.new) report.new }
-    // and where nothing failed
+    // and if nothing failed
     ensures clean { IsTrue D.models → result ≡ 0 → HasNotFailed (D.held disk.old) (D.held disk.new) }
-    // whatever the status, what it reads holds what it held, and none has changed but what it is to write
+    // whatever the status, what it reads holds what it held, and nothing has changed but what it is to write
     ensures spares { IsTrue D.models → SparesKind command.now.kind (D.world disk.old) (D.held disk.old)
         (D.world disk.new) (D.held disk.new) }
 {

@@ -8,7 +8,7 @@ use sys_report::Report;
 use sys_std::OsSystem;
 use words_program::{print, refused};
 
-// Where the id stands in the header.
+// The offset of the id in the header.
 const AT: u64 = 576;
 
 /// An id as it is printed, with the end of its line.
@@ -25,7 +25,8 @@ impl fmt::Display for ShownId {
     }
 }
 
-/// Prints the id that the boot image in this file has, and answers the exit status. Nothing else is printed by this report.
+/// Prints the id that the boot image in this file has, and returns the exit status. Nothing else is printed by this
+/// report.
 pub(crate) fn print_id(rt: HostRuntime, path: &str, how: Telling) -> u8 {
     let mut report = Report::new(rt);
     match id_in(rt, path) {
@@ -38,7 +39,7 @@ pub(crate) fn print_id(rt: HostRuntime, path: &str, how: Telling) -> u8 {
     }
 }
 
-// A file alone is read again: no pipe, and no device.
+// Only a file is read again: no pipe, and no device.
 fn id_in(rt: HostRuntime, path: &str) -> io::Result<[u8; 32]> {
     let mut system = OsSystem { rt };
     if system.look(path)?.kind != Kind::File {

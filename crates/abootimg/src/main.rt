@@ -3,13 +3,13 @@
 //! | file | has |
 //! |---|---|
 //! | `main.rt` | the standard streams, the window, and the words |
-//! | `running.rt` | what the words ask for, and the exit status |
-//! | `beginning.rt` | what is said of all outputs, before it is done |
+//! | `running.rt` | doing what the words ask for, and the exit status |
+//! | `beginning.rt` | the settings of all outputs, before a command begins |
 //! | `tool.rt` | the same under the name of one of AOSP's tools |
 //! | `image_id.rt` | printing the id of a boot image |
 //! | `unpack_image.rt` | unpacking an image as unpack_bootimg does |
-//! | `sparse_task.rt`, `boot_task.rt` | doing it, over any disk |
-//! | `outcome.rt` | telling what a command answered |
+//! | `sparse_task.rt`, `boot_task.rt` | doing a task, over any disk |
+//! | `outcome.rt` | the exit status and message of a command's result |
 #![tactic(auto)]
 
 mod beginning;
@@ -55,7 +55,7 @@ fn null_device(rt: HostRuntime) -> io::Result<File> {
     how.read(true).write(true).open(&rt, "/dev/null")
 }
 
-// Puts the window on the heap once, and does what the words ask for: of a tool of AOSP where they call one, or without
+// Puts the window on the heap once, and does what the words ask for: as a tool of AOSP if they call one, or without
 // words the demonstration.
 fn start(rt: HostRuntime) -> u8 {
     let mut report = Report::new(rt);
@@ -79,7 +79,7 @@ fn start(rt: HostRuntime) -> u8 {
     }
 }
 
-// The words can't be read: for want of memory, or one of them isn't text.
+// The words can't be read: an allocation failed, or one of them isn't text.
 fn unread(error: &io::Error, report: &mut Report) -> u8 {
     if error.kind() == io::ErrorKind::OutOfMemory {
         return no_memory(report);

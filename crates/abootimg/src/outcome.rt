@@ -1,4 +1,4 @@
-//! Telling what a command answered.
+//! The exit status and message of a command's result.
 
 ghost use Rattle.std.specs.Prelude.{◌≡◌, IfErr, OnOk, if◌then◌else◌};
 ghost use Rattle.sys_host.specs.Answering.{PrintsNothing};
@@ -7,8 +7,8 @@ use sys_host::{Telling, answer};
 use sys_refusals::{Refusal, Told};
 use sys_report::Report;
 
-/// The exit status of what a command answered, which is told. What the text takes of the stack is not taken while a command
-/// runs, since it has a call of its own.
+/// The exit status of a command's result, of which the user is told. This is a call of its own, so the stack for the
+/// text is not in use while a command runs.
 #[inline(never)]
 pub(crate) fn told<F: Told + Drop>(
     end: Result<(), Refusal<'_, F>>,

@@ -21,13 +21,13 @@ use words_orders::{Order, Task, WordsFault, order_of};
 use words_program::{print, read_word_files, refused, wrong_words};
 use words_values::expanded;
 
-// The name before the first line of a refusal.
+// The name before the first line of an error.
 const PROGRAM: &str = "abootimg";
 
-/// Does what the words ask for, of which the first is the program's name, and answers the exit status.
+/// Does what the words ask for, of which the first is the program's name, and returns the exit status.
 ///
-/// What a command prints goes to standard output, and the text of a fault to standard error, after it. Where data goes
-/// to standard output, what is printed goes to standard error. A word `@FILE` stands for the lines of that file.
+/// What a command prints goes to standard output, and the message of a fault to standard error, after it. If data goes
+/// to standard output, what is printed goes to standard error. A word `@FILE` is replaced by the lines of that file.
 pub fn run(
     rt: HostRuntime,
     words: &[String],
@@ -74,13 +74,13 @@ fn telling(is_verbose: bool) -> Telling {
     }
 }
 
-// The order that the words tell. What reading them takes of the stack is free again while it is carried out.
+// The order that the words give. The stack for reading them is free again while it is carried out.
 #[inline(never)]
 fn ordered<'a>(alloc: Global, words: &'a [&str]) -> Result<Order<'a>, WordsFault> {
     order_of(alloc, words)
 }
 
-// Whether words that are not read yet ask for the second line of a refusal.
+// Whether words that are not read yet ask for the second line of an error.
 fn ask_for_more(words: &[String]) -> bool {
     for word in words {
         let word = word.as_str();
@@ -105,7 +105,7 @@ pub fn demonstrate(rt: HostRuntime, report: &mut Report, w: &mut Window, m: &mut
     answer(outcome, telling(false), rt, report)
 }
 
-/// Does what an order asks for, and answers the exit status.
+/// Carries out an order, and returns the exit status.
 #[inline(never)]
 #[tactic(auto, using(crate::proofs::Orders::does_from, crate::proofs::Orders::boot_from))]
 pub(crate) fn carry_out<D: Beginning>(
@@ -119,7 +119,7 @@ pub(crate) fn carry_out<D: Beginning>(
 ) -> u8
     requires ready { IsTrue D.models → IsReadyForOrder (D.held disk.old) }
     ensures status { result ≤ 2 }
-    // the status is 0 only where all is done that the order says, and its outputs are synced where it says so
+    // the status is 0 only if all is done that the order says, and its outputs are synced if it says so
     ensures done { IsTrue D.models → result ≡ 0 → OrderDone D.on_output order.entry (D.world disk.old)
         (D.held disk.old) report.old (D.world disk.new) (D.held disk.new) report.new }
 {

@@ -12,7 +12,7 @@ use sys_host::Telling;
 use sys_report::Report;
 use words_orders::SparseTask;
 
-/// Does a task of sparse images, and answers the exit status.
+/// Does a task of sparse images, and returns the exit status.
 pub fn do_sparse<D: Disk>(
     disk: &mut D,
     task: SparseTask<'_>,
@@ -26,13 +26,13 @@ pub fn do_sparse<D: Disk>(
     requires one { IsTrue D.models → (D.held disk.old).part ≡ None }
     requires through { IsTrue D.models → (D.held disk.old).spool ≡ None }
     ensures status { result ≤ 2 }
-    // the status is 0 only where the task is done, and what was printed tells of it
+    // the status is 0 only if the task is done, and what was printed tells of it
     ensures done { IsTrue D.models → result ≡ 0 → DoesTask D.on_output task.entry
         (state (D.world disk.old) (D.held disk.old)
         report.old) (state (D.world disk.new) (D.held disk.new) report.new) }
-    // and where nothing failed
+    // and if nothing failed
     ensures clean { IsTrue D.models → result ≡ 0 → HasNotFailed (D.held disk.old) (D.held disk.new) }
-    // whatever the status, what it reads holds what it held, and none has changed but what it is to write
+    // whatever the status, what it reads holds what it held, and nothing has changed but what it is to write
     ensures spares { IsTrue D.models → SparesFiles task.entry (state (D.world disk.old) (D.held disk.old) report.old)
         (state (D.world disk.new) (D.held disk.new) report.new) }
 {

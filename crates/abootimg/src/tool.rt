@@ -20,11 +20,11 @@ use words_program::{refused, wrong_words};
 use words_tools::{Orders, Parted, Tool, orders_of, part_words, texts_of};
 use words_values::Value;
 
-/// Does what the words of a tool ask for, of which the first calls it, and answers the exit status.
+/// Does what the words of a tool ask for, of which the first calls it, and returns the exit status.
 ///
-/// A tool prints nothing that it isn't asked for. The text of a fault goes to standard error, behind the tool's name. No
-/// word stands for the lines of a file. What this takes of the stack is not taken of what the program does under its own
-/// name.
+/// A tool prints nothing that it isn't asked for. The message of a fault goes to standard error, after the tool's name.
+/// No word is replaced by the lines of a file. The stack that this takes is not taken from what the program does under
+/// its own name.
 #[inline(never)]
 pub fn run_tool(
     rt: HostRuntime,
@@ -52,7 +52,7 @@ pub fn run_tool(
     }
 }
 
-// The words apart: those of mkbootimg that say something of ramdisk fragments, and the others.
+// The words separated: those of mkbootimg that say something of ramdisk fragments, and the others.
 fn parted_for<'a>(
     alloc: Global,
     tool: Tool,
@@ -84,7 +84,7 @@ fn do_parted<'a>(
     }
 }
 
-// The orders that the words tell. What reading them takes of the stack is free again while they are carried out.
+// The orders that the words give. The stack for reading them is free again while they are carried out.
 #[inline(never)]
 fn ordered<'a>(
     alloc: Global,
@@ -96,7 +96,7 @@ fn ordered<'a>(
     orders_of(alloc, tool, words, said, texts)
 }
 
-// Does the first order, and the second where the first is done. Then an id is printed, where that is asked for.
+// Does the first order, and the second if the first is done. Then an id is printed, if that is asked for.
 fn do_orders(
     rt: HostRuntime,
     orders: Orders<'_>,
@@ -167,7 +167,7 @@ fn refusal_of_orders(
     None
 }
 
-// Why an image is not made of its files: mkbootimg refuses one of them that is empty, or gives it a place all the same.
+// Why an image is not made of its files: for one of them that is empty, mkbootimg fails, or reserves a place anyway.
 fn refusal_of_parts(rt: HostRuntime, task: &Task<'_>) -> Option<&'static str> {
     let Task::Boot(BootTask::Pack(order)) = task else {
         return None;
@@ -183,7 +183,7 @@ fn refusal_of_parts(rt: HostRuntime, task: &Task<'_>) -> Option<&'static str> {
     None
 }
 
-// What is told of an empty file of this option, where it is refused.
+// The message about an empty file of this option, if it is rejected.
 fn refusal_of_empty(name: &str, version: u32) -> Option<&'static str> {
     if name == "recovery-dtbo" {
         return Some("the recovery DTBO is not empty: leave it out");
@@ -229,7 +229,7 @@ fn is_file(rt: HostRuntime, path: &str) -> bool {
     }
 }
 
-// From now on standard output gets no report, where the system has a file that takes and forgets it.
+// From now on standard output gets no report, if the system has a file that takes and discards it.
 fn silence(rt: HostRuntime, report: &mut Report) {
     let mut how = OpenOptions::new();
     if let Ok(file) = how.write(true).open(&rt, "/dev/null") {

@@ -1,7 +1,12 @@
 //! Unpacking an image as unpack_bootimg does, and the exit status.
 //!
-//! The image is opened once for each of the steps, so that each has the stack for itself: what it needs is looked at, its
-//! folder is made, its parts are written, links are made to its ramdisk fragments, and its text is printed.
+//! The image is opened once for each of the steps, so that each step has the stack for itself:
+//!
+//! - the image is examined for what it needs;
+//! - its folder is made;
+//! - its parts are written;
+//! - links are made to its ramdisk fragments;
+//! - its text is printed.
 
 ghost use Rattle.std.specs.Prelude.{◌<◌};
 ghost use Rattle.abt_sections.specs.Header.{fragment_count, view_of};
@@ -28,7 +33,7 @@ use words_tools::{UnpackImage, UnpackText};
 // The folder of the links, in that of the parts.
 const BY_NAME: &str = "vendor-ramdisk-by-name";
 
-// The number of the system's error of a path that is not there.
+// The number of the system's error for a path that does not exist.
 const NOT_THERE: i32 = 2;
 
 /// A link to a ramdisk fragment.
@@ -38,7 +43,7 @@ struct Link {
     target: String,
 }
 
-/// Unpacks an image, prints its text, and answers the exit status. Where it is refused nothing was printed.
+/// Unpacks an image, prints its text, and returns the exit status. If it fails nothing was printed.
 #[inline(never)]
 pub(crate) fn unpack_image(
     rt: HostRuntime,
@@ -70,7 +75,7 @@ pub(crate) fn unpack_image(
     print_text(rt, image, how, report, w, m)
 }
 
-// Finds the links that the image wants. It is refused where it is no image, or where it is one of the files.
+// Finds the links that the image needs. Fails if it is no image, or if it is one of the files.
 #[inline(never)]
 fn look_at(
     rt: HostRuntime,
@@ -103,7 +108,7 @@ fn input_of<'a>(image: &UnpackImage<'a>) -> FileArg<'a> {
     FileArg::new("boot_img", image.input)
 }
 
-// What the image has is at fault.
+// The fault is in the content of the image.
 fn refusal_in<'t>(
     place: FileArg<'t>,
     fault: BootCommandFault<'static>,
@@ -179,7 +184,7 @@ fn link_of(alloc: Global, folder: &str, name: &str, file: &str) -> Result<Link, 
     })
 }
 
-// Refuses where a link would take the place of the image.
+// Fails if a link would replace the image.
 fn spare_input(
     rt: HostRuntime,
     disk: &mut Host<OsSystem>,
@@ -198,7 +203,7 @@ fn spare_input(
     DONE
 }
 
-// Makes a folder, where it is not there.
+// Makes a folder, if it does not exist.
 #[inline(never)]
 fn make_folder(rt: HostRuntime, path: &str, how: Telling, report: &mut Report) -> u8 {
     let why = if path.is_empty() {
@@ -231,7 +236,7 @@ fn write_parts(
     told(outcome, how, rt, report)
 }
 
-// Makes each link in the place of one that is there, in a folder of their own.
+// Makes each link, replacing one that exists, in a folder of their own.
 #[inline(never)]
 fn make_links(
     rt: HostRuntime,

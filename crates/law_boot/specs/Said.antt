@@ -29,7 +29,7 @@ use Rattle.cmd_common_texts.specs.Words.{flag_word, option_front, section_option
 
 -- ---- the value of an option
 
--- what stands behind a front
+-- what follows a prefix
 abbrev pub without_front : List ℕ → List ℕ → Option (List ℕ)
 without_front [] word = Some word
 without_front (a ∷ front) [] = None
@@ -58,7 +58,7 @@ values_of name (word ∷ words) = with_value (without_front (option_front name) 
 
 -- ---- what a word without a value says
 
--- nothing stands behind a front
+-- nothing follows a prefix
 abbrev pub is_whole : Option (List ℕ) → Bool
 is_whole None = false
 is_whole (Some []) = true
@@ -156,7 +156,7 @@ SaysEach folder [] i (f ∷ fs) = ⊥
 SaysEach folder (value ∷ values) i [] = ⊥
 SaysEach folder (value ∷ values) i (f ∷ fs) = SaysFragment folder value i f × SaysEach folder values (suc i) fs
 
--- each value is a word I:K=N, of one of so many fragments
+-- each value is a word I:K=N, of one of this many fragments
 abbrev pub AreBoards : ℕ → List (List ℕ) → List BoardWord → Type 0
 AreBoards count [] [] = Unit {0}
 AreBoards count [] (b ∷ bs) = ⊥

@@ -1,7 +1,7 @@
--- The way back: an image is unpacked, with the words that say it, and packed again of both.
+-- The way back: an image is unpacked, with the words that say it, and packed again from both.
 --
--- Its parts are what `unpack` and `unpack_fragment` write, its words are what `write_words` writes, and what packing
--- writes of fields and parts that it takes is the canonical image of them.
+-- Its parts are what `unpack` and `unpack_fragment` write. Its words are what `write_words` writes. If packing takes
+-- fields and parts, it writes the canonical image of them.
 use Rattle.std.specs.Prelude.{◌≡◌, ℕ, zero, suc, Bool, true, false, List, [], ◌∷◌, ◌++◌, Option, Some, None, codes}
 use Rattle.std.specs.Prelude.{slice_index_or}
 use Rattle.abt_headers.specs.declared.boot.BootHeader.{BootHeader}
@@ -19,7 +19,7 @@ use Rattle.cmd_common_texts.specs.Words.{has_table}
 
 -- ---- the parts that unpacking writes
 
--- what an entry of the table says of its fragment, beside where it stands
+-- what an entry of the table says of its fragment, except for the fragment's offset and length
 abbrev pub spec_of : RamdiskEntry → FragmentSpec
 spec_of e = record { kind = e.ramdisk_type; name = e.name; board_id = e.board_id }
 
@@ -36,7 +36,7 @@ ramdisks_of x h (suc k) = ramdisks_of x h k ++ (fragment_of x h k ∷ [])
 abbrev pub boot_parts_of : List ℕ → BootHeader → List (List ℕ)
 boot_parts_of x h = parts_of x (places_of (OfBoot h))
 
--- what stands in section i
+-- the bytes of section i
 abbrev pub vendor_part : List ℕ → Vendor → ℕ → List ℕ
 vendor_part x v i = slice_index_or (parts_of x (places_of (OfVendor v))) i []
 

@@ -1,5 +1,11 @@
-//! Laws about the way back: the words that `write_words` writes say what an image has, and packing makes the image
-//! again of them and of the parts that unpacking writes. Nothing of the program stands on them.
+//! Laws about the way back. The words that `write_words` writes say what an image has. Packing makes the image again
+//! from them and from the parts that unpacking writes. No other code depends on these laws.
+//!
+//! | file | has |
+//! |---|---|
+//! | `words_laws.rt` | the laws, each the contract of a function that does nothing |
+//! | `specs/Said.antt` | what the words of `pack` say of an image |
+//! | `specs/WayBack.antt` | the steps of the way back |
 #![tactic(auto)]
 
 mod words_laws;

@@ -1,5 +1,5 @@
-//! Laws about the words that pack an image again: what they say is what the image has, and packing what they say makes
-//! the image again. No call does anything.
+//! Laws about the words that pack an image again: they say what the image has, and packing what they say makes the
+//! image again. No function does anything.
 
 ghost use Rattle.std.specs.Prelude.{◌≡◌, ◌<◌, ◌^◌, ℕ, List, Some};
 ghost use Rattle.abt_io.specs.Bytes.{AreBytes};
@@ -16,8 +16,8 @@ use abt_sections::{Image, ImageHeader};
 use cmd_common_fields::{Address, TextField, address_of, os_version_of, text_field_of};
 use law_sections::{canonical_is_packed, image_is_whole, packed_holds_parts};
 
-/// The words of any header whose fields hold what fields can say each field as it is: numbers, the OS version and its
-/// patch level, and texts as far as their first zero byte.
+/// If the fields of a header hold what fields can, its words say each field as it is: numbers, the OS version and its
+/// patch level, and texts up to their first zero byte.
 pub fn words_say_the_header()
     ensures { (folder x : List ℕ) (h : Header) → IsHeld h → SaysHeader (image_words folder x h) h }
 {}
@@ -45,7 +45,7 @@ pub fn image_is_held()
 }
 
 /// A canonical image is packed again: packing takes the fields of its header with the parts that unpacking writes, and
-/// the image that it packs of them is the one that stands there, byte for byte.
+/// the image that it packs of them is the original one, byte for byte.
 pub fn canonical_packs_again()
     ensures { (x : List ℕ) (h : Header) → AreBytes x → HasImage x h → IsCanonical x h → PacksFromParts x h }
 {

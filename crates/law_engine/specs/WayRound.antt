@@ -1,9 +1,11 @@
 -- The whole way round: an image is packed of parts, sent to a partition, and unpacked from there.
 --
--- Each step is what the contracts of its functions say: `pack_boot` and `pack_vendor` write the canonical image;
--- `sparsify` writes the spelling of its blocks; `deliver` and `deliver_raw` leave what `LaysBlocks` says, `resume` and
--- `resume_raw` what `MendsBlocks` says; `open` finds an image, and `unpack` and `unpack_fragment` write what stands
--- in it.
+-- Each step is what the contracts of its functions state:
+--
+-- - `pack_boot` and `pack_vendor` write the canonical image.
+-- - `sparsify` writes the encoding of its blocks.
+-- - `deliver` and `deliver_raw` leave what `LaysBlocks` states, `resume` and `resume_raw` what `MendsBlocks` states.
+-- - `open` finds an image, and `unpack` and `unpack_fragment` write the content of its sections.
 use Rattle.std.specs.Prelude.{◌≡◌, ℕ, ◌+◌, ◌*◌, ◌^◌, ◌<◌, ◌≤◌, true, List, length, Ok}
 use Rattle.abt_sparse.specs.Block.{IsBlockSize, block_count, classify}
 use Rattle.abt_sparse.specs.Chunk.{spelling}
@@ -34,8 +36,8 @@ pub data SentAs (x : List ℕ) : ImageBlocks → Type 0 where
   sparse : (b r : ℕ) (y : List ℕ) → Sparsed b r x y → SentAs x (sparse_image y)
   raw : (b : ℕ) → IsBlockSize b → SentAs x (raw_image b x)
 
--- An image arrives on a partition that held p before, which then holds the last list: delivered at once, or by going on
--- from a piece that a stop left unfinished, or from any before it.
+-- An image arrives on a partition that held p before, which then holds the last list: delivered at once, or by
+-- continuing from a piece that a stop left unfinished, or from any before it.
 pub data Arrives (i : ImageBlocks) (limit : ℕ) (p : List ℕ) : List ℕ → Type 0 where
   at_once : (d : Delivered) (old new : PartitionState) → old.content ≡ p
       → LaysBlocks true true true i limit 0 (Ok d) old new → Arrives i limit p new.content

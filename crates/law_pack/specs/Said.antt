@@ -22,23 +22,23 @@ abbrev pub text_options : List (List ℕ)
 text_options = codes "kernel" ∷ codes "ramdisk" ∷ codes "second" ∷ codes "recovery-dtbo" ∷ codes "dtb"
     ∷ codes "signature" ∷ codes "bootconfig" ∷ codes "os" ∷ codes "name" ∷ codes "cmdline" ∷ []
 
--- the option has the number that the value writes
+-- the option has the number that the value encodes
 abbrev pub GivesNumber : List ℕ → OptionText → Type 0
 GivesNumber value option = (n : ℕ) → IsNumberWord value n → option.number ≡ n
 
--- the option has the value, and the bytes that it stands for: itself, where no bytes are escaped
+-- the option has the value, and the bytes that it encodes: the value itself, if no bytes are escaped
 pub record GivesText (is_escaped : Bool) (value : List ℕ) (option : OptionText) : Type 0 where
   pub word : option.word.now ≡ value
   pub bytes : option.bytes.items ≡ (if is_escaped then unescaped value else value)
 
--- an option is given exactly where a word has a value for it
+-- an option is given exactly if a word has a value for it
 abbrev pub IsGivenBy : (List ℕ → OptionText → Type 0) → Option (List ℕ) → Option OptionText → Type 0
 IsGivenBy Has None None = Unit {0}
 IsGivenBy Has None (Some option) = ⊥
 IsGivenBy Has (Some value) None = ⊥
 IsGivenBy Has (Some value) (Some option) = Has value option
 
--- the fragment is what a value TYPE:NAME:FILE says, and FILE stands for the path of its file
+-- the fragment is what a value TYPE:NAME:FILE says, and FILE encodes the path of its file
 abbrev pub IsFragmentBy : Bool → List ℕ → FragmentText → Type 0
 IsFragmentBy true value text = (spec : FragmentSpec) (path : List ℕ) → IsEscapedFragment value spec path
     → (text.spec ≡ Some spec) × (text.path.items ≡ unescaped path)

@@ -1,4 +1,4 @@
-//! What the packer takes: that what it refuses nothing of is what the laws ask for. None of these calls does anything.
+//! What the packer accepts fulfils the premises of the laws. No function does anything.
 
 ghost use Rattle.std.specs.Prelude.{◌≡◌, ◌<◌, ◌^◌, ℕ, IsTrue, None, length, map, slice_index};
 ghost use Rattle.std.specs.List.{All};
@@ -65,8 +65,8 @@ fn fragments_fit(fragments: &[FragmentSpec], m: &mut Meter)
     }
 }
 
-/// Says of fields and parts that `pack_boot` refuses nothing of that they are an input of it, so that its image is
-/// opened and is canonical.
+/// If `pack_boot` accepts these fields and parts, they are an input of it, so that its image is opened and is
+/// canonical.
 pub fn boot_input<S: Source>(spec: &BootSpec, parts: &[S])
     requires { length parts.now ≡ length (boot_names spec.now.version) }
     ensures { IsTrue S.models → pack_boot_refusal (cmd_common_fields spec.now) (map S.size parts.now) ≡ None →
@@ -75,7 +75,7 @@ pub fn boot_input<S: Source>(spec: &BootSpec, parts: &[S])
     boot_numbers(spec);
 }
 
-/// Says the same of fields, fragments and parts that `pack_vendor` refuses nothing of.
+/// The same for fields, fragments and parts that `pack_vendor` accepts.
 pub fn vendor_input<S: Source>(
     spec: &VendorSpec,
     fragments: &[FragmentSpec],

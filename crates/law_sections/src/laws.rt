@@ -21,23 +21,23 @@ pub fn packed_is_image()
         IsImage (laid_out (page_of h) (record_of h) parts ++ rest) h parts }
 {}
 
-/// An image is canonical exactly where it begins with one that the packer writes of some fields and parts that it
-/// takes; and every image that the packer writes of what it takes is opened and is canonical.
+/// An image is canonical exactly if it begins with one that the packer writes of some fields and parts that it takes;
+/// and every image that the packer writes of what it takes is opened and is canonical.
 pub fn canonical_is_packed()
     ensures exact { (x : List ℕ) (h : Header) → AreBytes x → HasImage x h → (IsCanonical x h ↔ StartsAsPacked x) }
     ensures opens { (x : List ℕ) → StartsAsPacked x → (h : Header) × HasImage x h × IsCanonical x h }
 {}
 
-/// What opening asks of the bytes is that they are an image of a header and some parts, each whole at its place, and
-/// that every ramdisk fragment ends within the vendor ramdisk; and what it refuses is no image, unless a device failed.
+/// Opening requires that the bytes are an image of a header and some parts, each whole at its place, and that every
+/// ramdisk fragment ends within the vendor ramdisk. If opening fails, the bytes are no image, or a device failed.
 pub fn image_is_whole()
     ensures exact { (x : List ℕ) (h : Header) → AreBytes x → (HasImage x h ↔ IsWholeImage x h) }
     ensures refused { (x : List ℕ) (f : SectionFault) (h : Header) → RefusedAs x f → HasImage x h → IsReadFault f }
 {}
 
-/// What is packed of fields and parts that the packer takes is an image of just these, whatever follows it: it is
-/// opened as their header, and what stands in its sections is the parts; in version 4 of a vendor boot image ramdisk
-/// fragment i is ramdisk i, and entry i of the table is that of fragment i. So unpacking gives back each part.
+/// What is packed of fields and parts that the packer takes is an image of exactly these, whatever follows it: it is
+/// opened as their header, and its sections hold the parts; in version 4 of a vendor boot image ramdisk fragment i is
+/// ramdisk i, and entry i of the table is that of fragment i. So unpacking gives back each part.
 pub fn packed_holds_parts()
     ensures boot { (s : BootFields) (parts : List (List ℕ)) (rest : List ℕ) → IsBootInput s parts →
         HoldsBoot (boot_canon s parts ++ rest) s parts }
@@ -48,7 +48,7 @@ pub fn packed_holds_parts()
         (OfVendor (vendor_header_of s p)) p.fragments p.ramdisks i }
 {}
 
-/// Bytes with a zero where the magic of an image stands are no beginning of an image, whatever follows them.
+/// Bytes with a zero where an image has its magic are no prefix of an image, whatever follows them.
 pub fn no_magic_is_no_image()
     ensures { (x : List ℕ) → HasNoMagic x → OpensAsNothing x }
 {}

@@ -1,9 +1,9 @@
-//! Laws of boot images and vendor boot images, for the layers above and for tests. Nothing that runs stands on them.
+//! Laws of boot images and vendor boot images, for the layers above and for tests. No code that runs depends on them.
 //!
 //! | file | has |
 //! |---|---|
 //! | `laws.rt` | laws about the definitions of `abt_sections`, each the contract of a function that does nothing |
-//! | `inputs.rt` | that what the packer does not refuse is what these laws ask for |
+//! | `inputs.rt` | that what the packer accepts fulfils the premises of these laws |
 #![tactic(auto)]
 
 mod inputs;

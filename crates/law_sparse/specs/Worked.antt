@@ -13,12 +13,12 @@ use Rattle.abt_sparse.specs.Reading.{Outcome, Image, Fault, outcome}
 use Rattle.abt_sparse.specs.ChunkHead.{chunk_record}
 use Rattle.abt_sparse.specs.Pieces.{pieces, flashed_in_turn, flashed}
 
--- ---- bytes by hexadecimal digits in lower case; spaces are passed over
+-- ---- bytes by hexadecimal digits in lower case; spaces are skipped
 
 abbrev pub digit : ℕ → ℕ
 digit c = if nat_lt c 97 then c - 48 else c - 87
 
--- behind the high digit of a byte, or behind none
+-- after the high digit of a byte, or after none
 abbrev pub hex_behind : Option ℕ → List ℕ → List ℕ
 hex_behind high [] = []
 hex_behind None (c ∷ text) = elim (c == 32) [ true ↦ hex_behind None text | false ↦ hex_behind (Some (digit c)) text ]
@@ -60,7 +60,7 @@ small_image = three_blocks ++ raw_abcd ++ fill_4321 ++ skip_one
 abbrev pub small_chunks : List Chunk
 small_chunks = Raws (codes "ABCD" ∷ []) ∷ Fills (4 ∷ 3 ∷ 2 ∷ 1 ∷ []) 1 ∷ Skips 1 ∷ []
 
--- the same with a checksum behind it, and a byte that is no part of it
+-- the same followed by a checksum, and a byte that is no part of it
 abbrev pub checksum_image : List ℕ
 checksum_image = hex (codes "3aff26ed 01000000 1c000c00 04000000 03000000 04000000 00000000") ++ raw_abcd ++ fill_4321
     ++ skip_one ++ checksum ++ 0x7f ∷ []
@@ -150,13 +150,13 @@ pub record WorkedImages : Type 0 where
   pub large_raw : chunk_record (record { kind = kinds.Raw; blocks = 16385; total = 65552 }) 0
       ≡ hex (codes "c1ca0000 01400000 10000100")
 
--- ---- what is refused
+-- ---- which images have a fault
 
--- a header of 28 bytes that fails, and nothing behind it
+-- a header of 28 bytes that fails, and nothing after it
 abbrev pub header_fault : List ℕ → Outcome
 header_fault text = outcome (hex text)
 
--- chunks behind a header of two blocks of four bytes and two chunks
+-- chunks after a header of two blocks of four bytes and two chunks
 abbrev pub chunk_fault : List ℕ → Outcome
 chunk_fault text = outcome (hex (codes "3aff26ed 01000000 1c000c00 04000000 02000000 02000000 00000000") ++ hex text)
 

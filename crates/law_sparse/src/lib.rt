@@ -1,5 +1,5 @@
-//! The laws of sparse images, each the contract of a function that does nothing, and worked images. Nothing that runs
-//! stands on them.
+//! The laws of sparse images, each the contract of a function that does nothing, and worked images. No code that runs
+//! depends on them.
 //!
 //! | file | has |
 //! |---|---|

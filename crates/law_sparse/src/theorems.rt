@@ -1,4 +1,4 @@
-//! Laws of sparse images, each the contract of a function that does nothing. What they say stands in `specs/Laws.antt`.
+//! Laws of sparse images, each the contract of a function that does nothing. `abt_sparse/specs/Laws.antt` states them.
 
 ghost use Rattle.abt_sparse.specs.Laws.{OneOutcome, HasBlocks, LaysBlocks, EndsEarly, KeepsRaw, OneGrouping};
 ghost use Rattle.abt_sparse.specs.Laws.{ReadsBack, PiecesRead, EachPiece, Weighs, OneCutting, Fewest, FewBytes};
@@ -15,17 +15,17 @@ pub fn one_code()
     ensures { OneCode }
 {}
 
-/// The blocks of an image that is spelled are blocks of its size, as many as its header says.
+/// The blocks of an image that is encoded are blocks of its size, as many as its header says.
 pub fn has_blocks()
     ensures { HasBlocks }
 {}
 
-/// An image that ends early is refused where it ends, and what came of it is a front of what it would give.
+/// For an image that ends early reading fails where it ends, and what was written is a prefix of what it would give.
 pub fn ends_early()
     ensures { EndsEarly }
 {}
 
-/// What blocks lay over a device, byte by byte.
+/// What blocks write over a device, byte by byte.
 pub fn lays_blocks()
     ensures { LaysBlocks }
 {}
@@ -40,7 +40,7 @@ pub fn one_grouping()
     ensures { OneGrouping }
 {}
 
-/// The spelling of a list of blocks reads back as that list.
+/// The encoding of a list of blocks reads back as that list.
 pub fn reads_back()
     ensures { ReadsBack }
 {}
@@ -76,7 +76,7 @@ pub fn few_bytes()
     ensures { FewBytes }
 {}
 
-/// Two spellings of one list of blocks have the same pieces.
+/// Two encodings of one list of blocks have the same pieces.
 pub fn same_pieces()
     ensures { SamePieces }
 {}
@@ -96,17 +96,17 @@ pub fn carries_raw()
     ensures { CarriesRaw }
 {}
 
-/// Flashing all pieces but the first ones lays the blocks behind those.
+/// Flashing all pieces but the first ones writes the blocks after those.
 pub fn from_piece()
     ensures { FromPiece }
 {}
 
-/// Flashing on from a piece that was not finished, or from any before it, mends what a stop left.
+/// Continuing a flash from a piece that was not finished, or from any before it, mends what a stop left.
 pub fn mends()
     ensures { Mends }
 {}
 
-/// What is read of worked images.
+/// The results of reading worked images.
 pub fn worked_images()
     ensures { WorkedImages }
 {}

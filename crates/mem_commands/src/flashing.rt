@@ -1,4 +1,4 @@
-//! A command over the disk in memory, which tells what its files hold: no clause is left that says nothing.
+//! `flash` over the disk in memory, which models its files, so that every clause binds it.
 
 ghost use Rattle.std.specs.Prelude.{OnOk, IfErr};
 ghost use Rattle.sys_refusals.specs.Paths.{path_in, path_of};
@@ -16,7 +16,7 @@ use mem_disk::MemoryDisk;
 use sys_refusals::FileArg;
 use sys_report::Report;
 
-/// `flash` at a disk in memory.
+/// `flash` over a disk in memory.
 pub fn flash_in_memory<'a>(
     disk: &mut MemoryDisk,
     report: &mut Report,

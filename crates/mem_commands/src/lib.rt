@@ -1,5 +1,9 @@
-//! A command over the disk in memory, which tells what its files hold: no clause is left that says nothing. The program does
-//! not use it. It shows that what is proved of a command over any disk can be had of one.
+//! A command over the disk in memory, which models its files, so that every clause binds it. The program does not use
+//! it. It shows that a disk exists for which the statements about a command over any disk hold in full.
+//!
+//! | file | has |
+//! |---|---|
+//! | `flashing.rt` | `flash` over a disk in memory |
 #![tactic(auto)]
 
 mod flashing;

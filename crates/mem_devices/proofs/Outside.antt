@@ -1,4 +1,5 @@
--- What a write at a place leaves of a list, and of a partition's moments: outside its range nothing changes.
+-- What a write at an offset leaves of a list, and of a partition's intermediate states: outside its range nothing
+-- changes.
 use Rattle.std.proofs.Common.{◌≡◌, ℕ, ◌+◌, ◌-◌, ◌<◌, ◌≤◌, Bool, true, false, List, ◌++◌, length, take, drop}
 use Rattle.std.proofs.Common.{get_or, sym, ap, subst, ◌∙◌, arith, inl, inr, length-append}
 use Rattle.std.proofs.Common.{◌||◌, nat_lt, ltb-true, ltb-false}

@@ -22,13 +22,13 @@ pub record IsTracked (now stable touched : List ℕ) (pending : List (ℕ × ℕ
   pub untouched : (i : ℕ) → slice_index touched i ≡ 0 → is_pending pending i ≡ false
   pub only : (i : ℕ) → i < length now → is_pending pending i ≡ false → slice_index touched i ≡ 0
 
--- of the n bytes from `at` on, a front is this byte now: at least one of them
+-- of the n bytes from `at` on, a prefix is this byte now: at least one of them
 pub record IsTorn (mark at n : ℕ) (old new : List ℕ) : Type 0 where
   pub count : ℕ
   pub some : 0 < count
   pub within : count ≤ n
   pub filled : new ≡ put_at old at (replicate count mark)
 
--- which of two lists the next call reads, where so many calls are left of the first
+-- which of two lists the next call reads, where this many calls are left of the first
 abbrev pub switched : ℕ → List ℕ → List ℕ → List ℕ
 switched left first second = cond (nat_lt 0 left) first second

@@ -1,4 +1,4 @@
--- What a failing device ends as, where the device in it is lent.
+-- The final value of a failing device, where the device in it is borrowed.
 use Rattle.std.specs.Borrow.{Lends, MutBor, Fml, RattleType}
 use Rattle.mem_devices.specs.declared.faulty.Faulty.{Faulty}
 use Rattle.mem_devices.specs.contracts.faulty.Faulty.{the_row}

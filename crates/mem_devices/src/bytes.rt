@@ -1,4 +1,4 @@
-//! Writing over runs of bytes, which are bytes after it.
+//! Writing over runs of bytes. The results are bytes.
 
 ghost use Rattle.std.specs.Prelude.{◌≡◌, ◌≤◌, ◌+◌, length, replicate};
 ghost use Rattle.abt_io.specs.Bytes.{AreBytes};
@@ -6,7 +6,7 @@ ghost use Rattle.abt_io.specs.Moment.{put_at};
 
 use abt_io::are_bytes;
 
-/// Writes one byte again and again, from a place on.
+/// Writes one byte repeatedly, from an offset on.
 pub(crate) fn fill_part(into: &mut [u8], at: u64, n: usize, byte: u8)
     requires { at + n ≤ length into.old }
     ensures value { into.new ≡ put_at into.old at (replicate n byte) }
@@ -17,7 +17,7 @@ pub(crate) fn fill_part(into: &mut [u8], at: u64, n: usize, byte: u8)
     are_bytes(into);
 }
 
-/// Makes all of them 0.
+/// Sets all of them to 0.
 pub(crate) fn clear_part(into: &mut [u8])
     ensures value { into.new ≡ replicate (length into.old) 0 }
     ensures told { AreBytes into.new }
@@ -26,7 +26,7 @@ pub(crate) fn clear_part(into: &mut [u8])
     are_bytes(into);
 }
 
-/// Takes over as many other bytes.
+/// Copies as many other bytes over them.
 pub(crate) fn copy_part(into: &mut [u8], from: &[u8])
     requires { length from.now ≡ length into.old }
     ensures value { into.new ≡ from.now }

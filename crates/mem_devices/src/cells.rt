@@ -1,4 +1,4 @@
-//! A lent slice in a struct of its own, so that all of it can be lent beside the other fields of a device.
+//! A borrowed slice in a struct of its own, so that all of it can be borrowed beside the other fields of a device.
 
 ghost use Rattle.std.specs.Prelude.{◌≡◌, ◌≤◌, ◌+◌, ℕ, length, replicate, slice_index};
 ghost use Rattle.abt_io.specs.Bytes.{AreBytes};
@@ -38,7 +38,7 @@ impl<'a> Cells<'a> {
         &*self.bytes
     }
 
-    /// Writes bytes at a place.
+    /// Writes bytes at an offset.
     pub(crate) fn put(&mut self, at: u64, bytes: &[u8])
         requires { at + length bytes.now ≤ length self.old.bytes.now }
         ensures same_reference { self.new.bytes.ghost_name ≡ self.old.bytes.ghost_name }
@@ -47,7 +47,7 @@ impl<'a> Cells<'a> {
         put_part(self.bytes, at, bytes);
     }
 
-    /// Writes one byte again and again, from a place on.
+    /// Writes one byte repeatedly, from an offset on.
     pub(crate) fn fill(&mut self, at: u64, n: usize, byte: u8)
         requires { at + n ≤ length self.old.bytes.now }
         ensures same_reference { self.new.bytes.ghost_name ≡ self.old.bytes.ghost_name }
@@ -56,7 +56,7 @@ impl<'a> Cells<'a> {
         fill_part(self.bytes, at, n, byte);
     }
 
-    /// Makes all of them 0.
+    /// Sets all of them to 0.
     pub(crate) fn clear(&mut self)
         ensures same_reference { self.new.bytes.ghost_name ≡ self.old.bytes.ghost_name }
         ensures value { self.new.bytes.now ≡ replicate (length self.old.bytes.now) 0 }
@@ -64,7 +64,7 @@ impl<'a> Cells<'a> {
         clear_part(self.bytes);
     }
 
-    /// Takes over as many other bytes.
+    /// Copies as many other bytes over them.
     pub(crate) fn copy(&mut self, from: &[u8])
         requires { length from.now ≡ length self.old.bytes.now }
         ensures same_reference { self.new.bytes.ghost_name ≡ self.old.bytes.ghost_name }
@@ -73,7 +73,7 @@ impl<'a> Cells<'a> {
         copy_part(self.bytes, from);
     }
 
-    /// Makes every byte what a crash leaves of it.
+    /// Sets every byte to what a crash leaves of it.
     pub(crate) fn leave(&mut self, stable: &[u8], touched: &[u8], pick: Pick)
         requires stable { length stable.now ≡ length self.old.bytes.now }
         requires touched { length touched.now ≡ length self.old.bytes.now }

@@ -1,5 +1,4 @@
-//! A partition over memory that can crash: it keeps what is stable, and which bytes were written
-//! since.
+//! A partition over memory that can crash: it keeps the stable content, and which bytes were written since.
 
 ghost use Rattle.std.specs.Prelude.{◌≡◌, ◌<◌, ◌+◌, ℕ, [], false, length, slice_get, slice_index, replicate, true, refl};
 ghost use Rattle.mem_devices.specs.Crash.{IsTracked, left_of, picked};
@@ -9,8 +8,8 @@ use crate::cells::Cells;
 use crate::{Pick, SlicePartition};
 use abt_io::{DeviceFault, History, Partition, Source};
 
-/// Three lent slices of one length: what a read gives, what is stable, and 1 for each byte that was
-/// written since the last sync, else 0.
+/// Three borrowed slices of one length: what a read gives, what is stable, and 1 for each byte that was written since
+/// the last sync, else 0.
 #[derive(Drop)]
 pub struct CrashPartition<'a> {
     pub now: SlicePartition<'a>,
@@ -39,8 +38,8 @@ impl<'a> CrashPartition<'a> {
         }
     }
 
-    /// Loses power, and comes up again: each byte that was written since the last sync is as `pick`
-    /// says, all others are as they were. What is left is stable, and its history begins anew.
+    /// Loses power, and starts again: each byte that was written since the last sync is as `pick` says, all others are
+    /// as they were. What is left is stable, and the history begins anew.
     pub fn crash(&mut self, pick: Pick)
         ensures same_reference { self.new.now.cells.bytes.ghost_name ≡ self.old.now.cells.bytes.ghost_name }
         ensures left { MayLeave (moment_of self.old.now.history.past self.old.now.cells.bytes.now)

@@ -8,8 +8,8 @@ ghost use Rattle.mem_devices.specs.Testing.{MovesAtMost};
 
 use abt_io::{DeviceFault, Input, Output, Overwrite, Partition, Source, Spool};
 
-/// Gives or takes at most `most` bytes a call, which is at least 1. It is of each kind that its device
-/// is of.
+/// Gives or takes at most `most` bytes a call, which is at least 1. It implements each device trait that its device
+/// implements.
 #[derive(Drop)]
 pub struct Cut<D> {
     pub device: D,
@@ -18,7 +18,7 @@ pub struct Cut<D> {
 }
 
 impl<D> Cut<D> {
-    /// Cuts the calls of this device.
+    /// Limits the calls of this device.
     pub fn new(device: D, most: usize) -> Cut<D>
         requires { 0 < most }
         ensures device { result.device ≡ device }
@@ -27,7 +27,7 @@ impl<D> Cut<D> {
         Cut { device, most }
     }
 
-    // How much of an ask of `n` bytes is passed on.
+    // How much of a request of `n` bytes is passed on.
     fn share(&self, n: usize) -> usize
         ensures most { result ≤ self.now.most }
         ensures within { result ≤ n }

@@ -12,9 +12,9 @@ ghost use Rattle.mem_devices.specs.Testing.{FailsOnce};
 
 use abt_io::{DeviceFault, Input, Output, Overwrite, Partition, Source, Spool, Tally};
 
-/// Fails its call number `at` (from 1): that call answers `Failed` and doesn't reach the device. All
-/// other calls pass. `read`, `read_at`, `write`, `write_over`, `write_at`, `sync` and `clear` count;
-/// `length`, `capacity` and `position` don't. It is of each kind that its device is of.
+/// Fails its call number `at` (from 1): that call returns `Failed` and doesn't reach the device. All other calls pass.
+/// `read`, `read_at`, `write`, `write_over`, `write_at`, `sync` and `clear` count; `length`, `capacity` and `position`
+/// don't. It implements each device trait that its device implements.
 #[derive(Drop)]
 pub struct Faulty<D> {
     pub device: D,
@@ -45,7 +45,7 @@ impl<D> Faulty<D> {
         }
     }
 
-    /// The device in it, which is reached without a failure and without a count.
+    /// The device in it, which is called without a failure and without a count.
     pub fn inner(&mut self) -> &mut D
         ensures* writes_back { sem 𝓛 (LendsInner D.row self.entry result) }
         ensures value { result.now ≡ self.old.device }
@@ -53,7 +53,7 @@ impl<D> Faulty<D> {
         &mut self.device
     }
 
-    // Counts a call, and says whether it is the one that fails.
+    // Counts a call, and returns whether it is the one that fails.
     fn fails(&mut self) -> bool
         ensures device { self.new.device ≡ self.old.device }
         ensures reads { self.new.reads.number ≡ self.old.reads.number }

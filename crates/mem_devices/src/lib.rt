@@ -1,13 +1,14 @@
-//! Devices for tests and statements: a partition and a spool over lent memory, which tell their bytes, and devices over
-//! any other one, which move little, fail, tear, lie or lose power, and say by contract exactly when. The program uses
-//! none of them.
+//! Devices for tests and statements. There are a partition and a spool over borrowed memory, which model their bytes.
+//! The others move few bytes a call, fail, tear a write, claim a length, change or lose power. Their contracts state
+//! exactly when. The program uses none of these devices.
 //!
 //! | file | has |
 //! |---|---|
-//! | `partition.rt`, `spool.rt` | a lent slice as a partition, and as a spool; `cells.rt` and `bytes.rt` serve them |
+//! | `partition.rt`, `spool.rt` | a borrowed slice as a partition, and as a spool |
+//! | `cells.rt`, `bytes.rt` | a borrowed slice in a struct of its own; writing over runs of bytes |
 //! | `crash.rt`, `pick.rt` | a partition that loses power, and what it then leaves |
-//! | `cut.rt` | a device that moves little at once |
-//! | `faulty.rt` | one of which a call fails |
+//! | `cut.rt` | a device that moves few bytes a call |
+//! | `faulty.rt` | a device of which one call fails |
 //! | `marred.rt` | a partition that tears a write |
 //! | `long.rt`, `switch.rt` | a source that claims a length, and one that changes |
 #![tactic(auto)]

@@ -6,8 +6,8 @@ ghost use Rattle.abt_io.specs.Called.{ReadsPlaceOnce};
 
 use abt_io::{DeviceFault, Source};
 
-/// Says that it is `length` bytes long, whatever its source says, and tells nothing. A read gives what its source gives
-/// from that place.
+/// Says that it is `length` bytes long, whatever its source says, and models nothing. A read gives what its source
+/// gives from that offset.
 #[derive(Drop)]
 pub struct Long<S> {
     pub source: S,

@@ -1,4 +1,4 @@
-//! A partition whose first write over one byte fails and leaves something else there.
+//! A partition whose first write over one byte fails, and leaves other bytes there.
 
 ghost use Rattle.std.specs.Prelude.{◌≡◌, ◌<◌, ◌≤◌, ◌+◌, IsTrue, IsErrOf, false, true, length};
 ghost use Rattle.abt_io.specs.Calls.{HasLaid, HasPut};
@@ -7,11 +7,11 @@ ghost use Rattle.mem_devices.specs.FrameLaws.{marred_partition};
 
 use abt_io::{DeviceFault, Partition, Source, Tally, Window, lay_byte};
 
-/// The first `write_at` whose range holds byte `at` fills that range with `mark` and answers
-/// `Failed`. All else passes.
+/// The first `write_at` whose range holds byte `at` fills that range with `mark` and returns `Failed`. All other calls
+/// pass.
 ///
-/// The mark is written by one `write_at` of the partition, so it fills as much of the range as the
-/// partition takes at once.
+/// The mark is written by one `write_at` of the partition, so it fills as much of the range as the partition takes at
+/// once.
 #[derive(Drop)]
 pub struct Marred<P> {
     pub partition: P,

@@ -1,4 +1,4 @@
-//! A lent slice as a partition.
+//! A borrowed slice as a partition.
 
 ghost use Rattle.std.specs.Prelude.{◌≡◌, ◌≤◌, ◌+◌, length, true, refl};
 ghost use Rattle.abt_io.specs.Calls.{HasLaid, HasPut, HasSettled, HasSynced};
@@ -8,7 +8,7 @@ use crate::cells::Cells;
 use abt_io::{DeviceFault, History, Partition, Source, Tally, read_part};
 use std::mem;
 
-/// A lent slice that is read and written at any place, and never fails.
+/// A borrowed slice that is read and written at any offset, and never fails.
 #[derive(Drop)]
 pub struct SlicePartition<'a> {
     pub cells: Cells<'a>,

@@ -6,7 +6,7 @@ ghost use Rattle.mem_devices.specs.Crash.{left_of};
 
 use abt_io::are_bytes;
 
-/// Which of the contents that a crash may leave it leaves.
+/// Which of the possible contents a crash leaves.
 #[derive(Clone, Copy, Debug, PartialEq, Eq, Drop)]
 pub enum Pick {
     /// Touched bytes are as they were after the last sync.
@@ -33,7 +33,7 @@ impl Pick {
     }
 }
 
-/// Makes every byte what the crash leaves of it.
+/// Sets every byte to what the crash leaves of it.
 pub(crate) fn leave(now: &mut [u8], stable: &[u8], touched: &[u8], pick: Pick)
     requires stable { length stable.now ≡ length now.old }
     requires touched { length touched.now ≡ length now.old }

@@ -1,4 +1,4 @@
-//! A lent slice as a spool.
+//! A borrowed slice as a spool.
 
 ghost use Rattle.std.specs.Prelude.{◌≡◌, ◌<◌, ◌≤◌, ◌+◌, ◌^◌, length, take, drop, true, not, nat_lt, refl};
 ghost use Rattle.abt_io.specs.BytesLaws.{bytes_of_part};
@@ -8,7 +8,7 @@ ghost use Rattle.abt_io.specs.Held.{held_is, filled_is};
 use crate::cells::Cells;
 use abt_io::{DeviceFault, Input, Log, Output, Overwrite, Spool, Tally, read_part};
 
-/// A lent slice that is written from its front on, and read from its front on.
+/// A borrowed slice that is written from its beginning on, and read from its beginning on.
 #[derive(Drop)]
 pub struct SliceSpool<'a> {
     pub cells: Cells<'a>,
@@ -141,7 +141,7 @@ impl<'a> Overwrite for SliceSpool<'a> {
         self.cleared + self.used as u64
     }
 
-    /// A place before the last clear is refused: nothing stands there any more.
+    /// An offset before the last clear is an error: nothing is there any more.
     fn write_over(&mut self, at: u64, bytes: &[u8]) -> Result<usize, DeviceFault> {
         self.writes.add(1);
         let cleared = self.cleared;

@@ -6,8 +6,8 @@ ghost use Rattle.mem_devices.specs.Crash.{switched};
 
 use abt_io::{DeviceFault, Source, Tally, read_part};
 
-/// Reads `first` in its first `n` calls, and `second` from then on. Its length is that of the list
-/// which the next call reads. It tells nothing.
+/// Reads `first` in its first `n` calls, and `second` from then on. Its length is that of the list which the next call
+/// reads. It models nothing.
 #[derive(Drop)]
 pub struct SwitchSource<'a> {
     pub first: &'a [u8],
@@ -37,7 +37,7 @@ impl<'a> SwitchSource<'a> {
         }
     }
 
-    // Reads the list whose turn it is, which is one call less behind it.
+    // Reads the present list. One call less of `first` is left after it.
     fn read_next(&mut self, at: u64, out: &mut [u8]) -> usize
         ensures within { result ≤ length out.new }
         ensures present { result ≤ length (switched self.old.left self.old.first.now self.old.second.now) - at }

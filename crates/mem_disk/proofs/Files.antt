@@ -178,7 +178,7 @@ refuses_created path file a b c held holds there made free same = record {
   same = λ f. ap (λ w. w.holds f) same.world ∙ holds f;
 }
 
--- it is so of a disk before that differs in nothing that is told
+-- it is so of a disk before that does not differ in what is modelled
 pub refuses_at : (path path' : List ℕ) (old old' new : MemoryDisk) → held_of old' ≡ held_of old
     → world_of old' ≡ world_of old → path ≡ path' → RefusesAt path old new → RefusesAt path' old' new
 refuses_at path path' old old' new held same e refused = record {

@@ -1,4 +1,4 @@
--- What a disk in memory opens to be written.
+-- The outputs that a disk in memory opens.
 use Rattle.std.specs.Prelude.{◌≡◌, ℕ, List, [], Result, IfOk, OnOk, OnErr, replicate}
 use Rattle.abt_io.specs.Moment.{no_past}
 use Rattle.sys_disk.specs.InPlace.{MakesZeros}
@@ -12,7 +12,7 @@ pub record CreatesMemory {E : Type 0} (r : Result MemoryOutput E) (path : List �
   pub unused : IfOk r (λ onto. IsUnused [] onto.bytes.items onto.failed)
   pub begins : OpensOutput r path old new
 
--- so many zeros, of the file at this path
+-- this many zeros, of the file at this path
 pub record MakesMemory {E : Type 0} (r : Result MemoryPartition E) (n : ℕ) (path : List ℕ) (old new : MemoryDisk)
     : Type 0 where
   pub made : OnOk r (MakesZeros n path (held_of old) (held_of new) (world_of old) (world_of new))

@@ -70,7 +70,7 @@ pub record Fills {X E : Type 0} (r : Result X E) (file : ℕ) (bytes : List ℕ)
   pub spares : OnOk r (Spares file (world_of old) (world_of new))
   pub paths : new.paths ≡ old.paths
 
--- no file has changed, and where the call is refused nothing was opened
+-- no file has changed, and if the call fails nothing was opened
 pub record OpensOnly {X E : Type 0} (r : Result X E) (old new : MemoryDisk) : Type 0 where
   pub kept : OnErr r (held_of new ≡ held_of old)
   pub world : world_of new ≡ world_of old
@@ -84,13 +84,13 @@ pub record OpensMemory {A E : Type 0} (r : Result A E) (path : List ℕ) (its_by
   pub world : world_of new ≡ world_of old
 
 -- A file at this path could not be begun: nothing was opened, no file holds anything else, and nothing else has changed
--- but what stands at this path.
+-- except the file at this path.
 pub record RefusesAt (path : List ℕ) (old new : MemoryDisk) : Type 0 where
   pub kept : held_of new ≡ held_of old
   pub only : OnlyAt old.read.items path (world_of old) (world_of new)
   pub same : HoldsSame (world_of old) (world_of new)
 
--- the file at this path is the output that is open, or could not be begun
+-- the file at this path is the open output, or could not be begun
 pub record OpensOutput {X E : Type 0} (r : Result X E) (path : List ℕ) (old new : MemoryDisk) : Type 0 where
   pub created : OnOk r (Creates path (held_of old) (held_of new) (world_of old) (world_of new))
   pub refused : OnErr r (RefusesAt path old new)
@@ -100,7 +100,7 @@ pub record IsUnused {B : Type 0} (expected found : B) (failed : Failures) : Type
   pub bytes : found ≡ expected
   pub clean : failed.tally.number ≡ 0
 
--- so many bytes from this place on were copied to the front of what is lent: none only where there are none
+-- this many bytes from this offset on were copied to the beginning of the borrowed slice: none only if there are none
 pub record CopiesFrom (at : ℕ) (source : List ℕ) (n : ℕ) (out : List ℕ) : Type 0 where
   pub within : n ≤ length out
   pub present : n ≤ length source - at

@@ -9,7 +9,7 @@ use crate::disk::{MemoryDisk, MemoryFile, MemoryPath};
 use sys_refusals::HostFault;
 
 impl MemoryDisk {
-    // Begins an output at this path, which is created where none is there, and else emptied.
+    // Begins an output at this path. The file is created if there is none, and else emptied.
     pub(crate) fn begin(&mut self, path: String) -> Result<(), HostFault>
         requires { self.old.output ≡ None }
         ensures begins { OpensOutput result (string_bytes path) self.old self.new }
@@ -23,7 +23,7 @@ impl MemoryDisk {
         }
     }
 
-    // Begins the file at this path, which is created where none is there, and answers its number. It holds these bytes.
+    // Begins the file at this path, which is created if there is none, and returns its number. It holds these bytes.
     pub(crate) fn start(&mut self, path: String, bytes: Vec<u8>) -> Result<u64, HostFault>
         ensures starts { IfOk result (λ file. Starts file (string_bytes path) bytes.items (held_of self.old)
             (held_of self.new) (world_of self.old) (world_of self.new)) }
@@ -47,7 +47,7 @@ impl MemoryDisk {
         }
     }
 
-    // Begins a file that is there, which holds these bytes then.
+    // Begins an existing file, which then holds these bytes.
     fn fill(&mut self, file: u64, bytes: Vec<u8>) -> Result<(), HostFault>
         ensures { Fills result file bytes.items self.old self.new }
     {
@@ -64,7 +64,7 @@ impl MemoryDisk {
         Ok(())
     }
 
-    // Creates an empty file at a path where none is, and answers its number. It is none that was opened.
+    // Creates an empty file at a path that leads to none, and returns its number. It is none that was opened.
     fn create(&mut self, path: String) -> Result<u64, HostFault>
         requires { leads self.old.paths.items (string_bytes path) ≡ None }
         ensures held { held_of self.new ≡ held_of self.old }
@@ -91,7 +91,7 @@ impl MemoryDisk {
         Ok(file)
     }
 
-    // Puts these bytes into the output that is open, which is closed. Whether it was there.
+    // Puts these bytes into the open output, which is closed. Returns whether it existed.
     pub(crate) fn put(&mut self, bytes: Vec<u8>) -> bool
         ensures ended { IsTrue result → Ends self.old.output bytes.items (world_of self.old) (world_of self.new) }
         ensures closed { held_of self.new ≡ ended false 0 (held_of self.old) }

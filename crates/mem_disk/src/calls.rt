@@ -1,4 +1,4 @@
-//! The calls of a disk in memory. Each counts whether it was refused, and what failed that is given back.
+//! The calls of a disk in memory. Each counts its own failure, and the failures of a device that is given back.
 
 ghost use Rattle.std.specs.Prelude.{false, true};
 ghost use Rattle.sys_disk.specs.Images.{is_over};

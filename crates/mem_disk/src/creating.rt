@@ -1,4 +1,4 @@
-//! How a disk in memory creates an output, and which path it refuses before that.
+//! How a disk in memory creates an output, and which path it rejects before that.
 
 ghost use Rattle.std.specs.Prelude.{◌≡◌, [], None, IfOk, OnOk, OnErr, Contains};
 ghost use Rattle.sys_refusals.specs.Paths.{path_of, path_out};
@@ -12,7 +12,7 @@ use sys_disk::ImageTo;
 use sys_refusals::{FileArg, HostFault, HostRefusal};
 
 impl MemoryDisk {
-    // Refuses a path that leads to a file that is read, or that was begun.
+    // Fails for a path that leads to a file that is read, or that was begun.
     pub(crate) fn refuse_taken_at<'a>(&self, place: FileArg<'a>) -> Result<(), HostRefusal<'a>>
         ensures { OnOk result (IsFree (path_of place.entry) (held_of self.now) (world_of self.now)) }
     {
@@ -25,7 +25,7 @@ impl MemoryDisk {
         }
     }
 
-    // Refuses a file that is read, or that was begun.
+    // Fails for a file that is read, or that was begun.
     fn refuse_file<'a>(&self, file: u64, place: FileArg<'a>) -> Result<(), HostRefusal<'a>>
         ensures read { OnOk result (¬ Contains self.now.read.items file) }
         ensures begun { OnOk result (¬ Contains self.now.begun.items file) }

@@ -1,4 +1,4 @@
-//! A disk in memory, which tells what its files hold.
+//! A disk in memory, which models its files.
 
 ghost use Rattle.std.specs.Prelude.{◌≡◌, [], None, false, IfOk, Contains, get_or};
 ghost use Rattle.mem_disk.specs.Memory.{contents, leads, CountsFailed};
@@ -35,7 +35,7 @@ pub struct MemoryDisk {
     pub(crate) spool: Option<u64>,
     pub(crate) is_synced: bool,
     pub(crate) syncs: Tally,
-    /// How often a call was refused, or a device failed that was given back.
+    /// How often a call failed, or a device failed that was given back.
     pub failed: Failures,
 }
 
@@ -79,7 +79,7 @@ impl MemoryDisk {
         found(self.paths.as_slice(), path)
     }
 
-    /// What a file holds.
+    /// The content of a file.
     pub fn copy_of(&self, file: u64) -> Result<Vec<u8>, AllocError>
         ensures { IfOk result (λ bytes. bytes.items ≡ get_or (contents self.now.files.items) file []) }
     {
@@ -97,7 +97,7 @@ impl MemoryDisk {
         self.read.as_slice().contains(&file) || self.begun.as_slice().contains(&file)
     }
 
-    // Counts a refusal.
+    // Counts a failed call.
     pub(crate) fn refused<'a>(&mut self, refusal: HostRefusal<'a>) -> HostRefusal<'a>
         ensures { CountsFailed 1 self.old self.new }
     {
@@ -105,7 +105,7 @@ impl MemoryDisk {
         refusal
     }
 
-    // Counts how often a device has failed that is given back.
+    // Counts how often a device that is given back has failed.
     pub(crate) fn add_failures(&mut self, failures: &Failures)
         ensures { CountsFailed failures.now.tally.number self.old self.new }
     {

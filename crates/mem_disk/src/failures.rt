@@ -8,7 +8,7 @@ use abt_io::Tally;
 #[derive(Drop)]
 pub struct Failures {
     pub tally: Tally,
-    /// The same, as far as the number goes.
+    /// The same count, as far as the number goes.
     pub seen: u64,
 }
 

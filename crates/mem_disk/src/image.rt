@@ -1,4 +1,4 @@
-//! What a disk in memory opens to be written over.
+//! The output of an image on a disk in memory, which can be overwritten.
 
 ghost use Rattle.std.specs.Prelude.{◌≡◌, ◌≤◌, ◌+◌, false, length};
 ghost use Rattle.sys_disk.specs.Images.{HasNoFront};
@@ -8,7 +8,7 @@ use crate::{Countdown, Failures};
 use abt_io::{DeviceFault, Output, Overwrite, Tally, put_part};
 use sys_disk::{Late, Reasons};
 
-/// Bytes that were written, and that can be written over. A write fails where there is no memory for it.
+/// Bytes that were written, and that can be overwritten. A write fails if there is no memory for it.
 #[derive(Drop)]
 pub struct MemoryImage {
     pub bytes: Vec<u8>,

@@ -1,4 +1,4 @@
-//! What a disk in memory opens to be read forward.
+//! An input of a disk in memory that is read forward.
 
 ghost use Rattle.std.specs.Prelude.{◌≡◌, true, drop};
 ghost use Rattle.abt_io.specs.Bytes.{AreBytes};
@@ -65,7 +65,7 @@ impl Input for MemoryInput {
     }
 }
 
-// Copies bytes from a place on, as many as there are and have room.
+// Copies bytes from an offset on, as many as there are and have room.
 pub(crate) fn copied(bytes: &[u8], at: usize, out: &mut [u8]) -> usize
     ensures { CopiesFrom at bytes.now result out.new }
 {

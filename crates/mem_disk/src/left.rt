@@ -1,4 +1,4 @@
-//! What a disk in memory has left of numbered files.
+//! Which numbered files a disk in memory has left.
 
 ghost use Rattle.std.specs.Prelude.{◌≡◌, ◌∷◌, ◌++◌, IfOk, IfErr, decimal};
 ghost use Rattle.sys_disk.specs.LeftOver.{IsNextLeft, path_with};
@@ -10,7 +10,7 @@ use sys_numbered_names::{lesser, number_behind};
 use sys_refusals::FileArg;
 
 impl MemoryDisk {
-    // The least number above this one at which a file is.
+    // The least number above this one at which a file exists.
     pub(crate) fn next_left(
         &self,
         place: FileArg<'_>,
@@ -27,7 +27,7 @@ impl MemoryDisk {
     }
 }
 
-// The least number above this one that stands behind a name and a point.
+// The least number above this one that follows a name and a point.
 fn least_of(paths: &[MemoryPath], front: &str, behind: u32) -> Option<u32>
     ensures { IsNextLeft (λ n. leads paths.now (front.now ++ (46 ∷ decimal n))) behind result }
 {

@@ -1,19 +1,19 @@
-//! A disk in memory, which tells what its files hold: at it, each clause of a command that is written over any `Disk`
-//! speaks. Any call of it can be made to fail, and any read or write of what it opens.
+//! A disk in memory, which models its files: it is bound by each clause of a command that is generic over any `Disk`.
+//! Any call of it can be made to fail, and any read or write of what it opens.
 //!
 //! | file | has |
 //! |---|---|
 //! | `disk.rt` | its files, the paths that lead to them, and what was opened |
-//! | `calls.rt` | its calls: each counts whether it was refused, and what failed that is given back |
-//! | `open_to_read.rt` | how it opens what is read |
-//! | `beginning.rt` | how a file is created or emptied, and closed |
-//! | `creating.rt` | how it creates an output, and which path it refuses before that |
-//! | `open_in_place.rt` | how it opens what is written in place, and closes it |
+//! | `calls.rt` | its calls: each counts its own failure, and the failures of a device that is given back |
+//! | `open_to_read.rt` | how it opens inputs |
+//! | `beginning.rt` | how it creates or empties a file, and closes one |
+//! | `creating.rt` | how it creates an output, and which path it rejects before that |
+//! | `open_in_place.rt` | how it opens a file to be written in place, and closes it |
 //! | `passing.rt` | how it opens the file that pieces go through, and closes it |
-//! | `input.rt`, `source.rt` | what it opens to be read: forward, and at any place |
-//! | `output.rt`, `image.rt` | what it opens to be written: from its front on, and over |
-//! | `partition.rt`, `spool.rt` | what is written in place, and what pieces go through |
-//! | `left.rt` | what it has left of numbered files |
+//! | `input.rt`, `source.rt` | its inputs: read forward, and read at any offset |
+//! | `output.rt`, `image.rt` | its outputs: written from the beginning on, and overwritten |
+//! | `partition.rt`, `spool.rt` | a file that is written in place, and one that pieces go through |
+//! | `left.rt` | which numbered files it has left |
 //! | `failures.rt`, `countdown.rt` | how often something has failed, and which call fails |
 #![tactic(auto)]
 

@@ -1,4 +1,4 @@
-//! How a disk in memory opens what is written in place, and closes it.
+//! How a disk in memory opens a file to be written in place, and closes it.
 
 ghost use Rattle.std.specs.Prelude.{◌≡◌, None, IfOk, length, replicate, if◌then◌else◌};
 ghost use Rattle.abt_io.specs.Moment.{no_past};
@@ -13,7 +13,7 @@ use std::alloc::{AllocError, Global};
 use sys_refusals::{FileArg, HostFault, HostRefusal};
 
 impl MemoryDisk {
-    // Opens a file that is there, to be written in place.
+    // Opens an existing file, to be written in place.
     pub(crate) fn partition_at<'a>(
         &mut self,
         place: FileArg<'a>,
@@ -45,7 +45,7 @@ impl MemoryDisk {
         Ok(MemoryPartition::new(bytes, self.faults.reads, self.faults.writes))
     }
 
-    // Creates or empties a file, makes it so many zeros, and opens it to be written in place.
+    // Creates or empties a file, makes it this many zeros, and opens it to be written in place.
     pub(crate) fn zeros_at<'a>(
         &mut self,
         place: FileArg<'a>,
@@ -91,7 +91,7 @@ impl MemoryDisk {
         }
     }
 
-    // A file holds these bytes, if it is there; one that is not holds none.
+    // A file holds these bytes, if it exists; one that does not exist holds none.
     fn lay(&mut self, file: u64, bytes: Vec<u8>)
         requires { length bytes.items ≡ length ((world_of self.old).holds file) }
         ensures holds { (world_of self.new).holds file ≡ bytes.items }
@@ -111,7 +111,7 @@ fn once(is_so: bool) -> u64
     if is_so { 1 } else { 0 }
 }
 
-// So many zeros.
+// This many zeros.
 fn zeros(alloc: Global, n: u64) -> Result<Vec<u8>, AllocError>
     ensures { IfOk result (λ zeros. zeros.items ≡ replicate n 0) }
 {

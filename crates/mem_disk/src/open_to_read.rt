@@ -1,4 +1,4 @@
-//! How a disk in memory opens what is read.
+//! How a disk in memory opens inputs.
 
 ghost use Rattle.std.specs.Prelude.{◌≡◌, string_bytes, IfOk, OnErr};
 ghost use Rattle.sys_refusals.specs.Paths.{path_in, path_of};
@@ -8,7 +8,7 @@ ghost use Rattle.mem_disk.specs.Memory.{world_of, held_of, Untouched, OpensMemor
 use crate::{MemoryDisk, MemoryInput, MemorySource};
 use sys_refusals::{FileArg, HostFault, HostRefusal};
 
-// How long a text may be.
+// The most bytes of a text.
 const TEXT: usize = 1 << 20;
 
 impl MemoryDisk {
@@ -39,7 +39,7 @@ impl MemoryDisk {
         }
     }
 
-    // Opens what is read at any place.
+    // Opens what is read at any offset.
     pub(crate) fn source_at<'a>(
         &mut self,
         place: FileArg<'a>,
@@ -64,7 +64,7 @@ impl MemoryDisk {
         }
     }
 
-    // What is open, once more.
+    // An open source, once more.
     pub(crate) fn again_at<'a>(
         &mut self,
         at: &MemorySource,

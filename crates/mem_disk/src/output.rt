@@ -1,4 +1,4 @@
-//! What a disk in memory opens to be written from its front on.
+//! An output of a disk in memory that is written from its beginning on.
 
 ghost use Rattle.std.specs.Prelude.{false};
 ghost use Rattle.mem_disk.specs.Memory.{IsUnused};
@@ -7,7 +7,7 @@ use crate::{Countdown, Failures};
 use abt_io::{DeviceFault, Output, Tally};
 use sys_disk::Reasons;
 
-/// Bytes that were written. A write fails where there is no memory for it.
+/// Bytes that were written. A write fails if there is no memory for it.
 #[derive(Drop)]
 pub struct MemoryOutput {
     pub bytes: Vec<u8>,

@@ -1,4 +1,4 @@
-//! What a disk in memory opens to be written in place.
+//! A file of a disk in memory that is written in place.
 
 ghost use Rattle.std.specs.Prelude.{◌≡◌, ◌≤◌, ◌+◌, true, refl, length};
 ghost use Rattle.abt_io.specs.Bytes.{AreBytes};
@@ -18,7 +18,7 @@ pub struct MemoryPartition {
     pub history: History,
     /// How often a write or a sync has failed.
     pub failed: Failures,
-    /// Whether it was synced behind its last write.
+    /// Whether it was synced after its last write.
     pub is_stable: bool,
     reads: Tally,
     given: Tally,
@@ -145,7 +145,7 @@ impl Partition for MemoryPartition {
     }
 }
 
-// Writes bytes at a place.
+// Writes bytes at an offset.
 pub(crate) fn put_part(into: &mut Vec<u8>, at: u64, bytes: &[u8])
     requires { at + length bytes.now ≤ length into.old.items }
     ensures value { into.new.items ≡ put_at into.old.items at bytes.now }

@@ -43,7 +43,7 @@ impl MemoryDisk {
         }
     }
 
-    // Puts these bytes into the file that pieces go through, which is closed. Whether it was there.
+    // Puts these bytes into the file that pieces go through, which is closed. Returns whether it existed.
     pub(crate) fn put_through(&mut self, bytes: Vec<u8>) -> bool
         ensures ended { IsTrue result → Ends self.old.spool bytes.items (world_of self.old) (world_of self.new) }
         ensures closed { held_of self.new ≡ closed_spool 0 (held_of self.old) }

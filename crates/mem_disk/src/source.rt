@@ -1,4 +1,4 @@
-//! What a disk in memory opens to be read at any place.
+//! An input of a disk in memory that is read at any offset.
 
 ghost use Rattle.std.specs.Prelude.{true, refl, length};
 ghost use Rattle.abt_io.specs.Bytes.{AreBytes};
@@ -8,7 +8,7 @@ use crate::{Countdown, Failures};
 use abt_io::{DeviceFault, Source, Tally, are_bytes};
 use sys_disk::Lasting;
 
-/// Bytes that are read at any place.
+/// Bytes that are read at any offset.
 #[derive(Drop)]
 pub struct MemorySource {
     pub bytes: Vec<u8>,
@@ -82,7 +82,7 @@ impl Lasting for MemorySource {
     }
 }
 
-// Copies bytes from a place on, as many as there are and have room.
+// Copies bytes from an offset on, as many as there are and have room.
 pub(crate) fn copied_from(bytes: &[u8], at: u64, out: &mut [u8]) -> usize
     ensures { CopiesFrom at bytes.now result out.new }
 {

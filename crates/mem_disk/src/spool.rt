@@ -1,4 +1,4 @@
-//! What a disk in memory opens for pieces to go through.
+//! A file of a disk in memory that pieces go through.
 
 ghost use Rattle.std.specs.Prelude.{◌≡◌, ◌<◌, ◌≤◌, ◌+◌, ◌^◌, length, drop, [], true, not, nat_lt, refl};
 ghost use Rattle.abt_io.specs.Bytes.{AreBytes};
@@ -12,7 +12,8 @@ use crate::partition::put_part;
 use crate::{Countdown, Failures};
 use abt_io::{DeviceFault, Input, Log, Output, Overwrite, Spool, Tally, are_bytes};
 
-/// Bytes that were written since the last clear, which are read from their front on. It holds no more than its limit.
+/// Bytes that were written since the last clear, which are read from their beginning on. It holds no more than its
+/// limit.
 #[derive(Drop)]
 pub struct MemorySpool {
     pub bytes: Vec<u8>,
@@ -167,7 +168,7 @@ impl Overwrite for MemorySpool {
         self.cleared + self.bytes.len() as u64
     }
 
-    /// A place before the last clear is refused: nothing stands there any more.
+    /// An offset before the last clear is an error: nothing is there any more.
     fn write_over(&mut self, at: u64, bytes: &[u8]) -> Result<usize, DeviceFault> {
         self.writes.add(1);
         let cleared = self.cleared;

@@ -1,4 +1,8 @@
-//! Files in memory, which tell what they hold. Devices over files are tested over them.
+//! Files in memory, which model their content. They are used to test devices over files.
+//!
+//! | file | has |
+//! |---|---|
+//! | `memory_file.rt` | a file in memory |
 #![tactic(auto)]
 
 mod memory_file;

@@ -1,4 +1,4 @@
-//! A file in memory, which tells what it holds.
+//! A file in memory, which models its content.
 
 ghost use Rattle.std.specs.Prelude.{◌≡◌, ◌≤◌, ◌+◌, ◌-◌, ◌++◌, IsTrue, false, true, length, take, replicate};
 ghost use Rattle.abt_io.specs.Bytes.{AreBytes};
@@ -9,7 +9,7 @@ use std::io;
 use std::io::ErrorKind;
 use sys_file::{Stamp, SystemFile};
 
-/// Bytes that are read and written as a file is. The call of this number fails, counted down from there, and behind it
+/// Bytes that are read and written as a file is. The call of this number fails, counted down from there, and after it
 /// none does.
 #[derive(Drop)]
 pub struct MemoryFile {
@@ -125,7 +125,7 @@ impl SystemFile for MemoryFile {
     }
 }
 
-// Lays bytes at a place of these, and answers whether there was room for them.
+// Writes bytes at an offset of these, and returns whether there was room for them.
 fn lay(bytes: &mut Vec<u8>, at: u64, part: &[u8]) -> bool
     requires { at ≤ length bytes.old.items }
     ensures laid { IsTrue result → bytes.new.items ≡ put_at bytes.old.items at part.now }

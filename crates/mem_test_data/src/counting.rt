@@ -1,11 +1,11 @@
-//! A device that counts the bytes that it hands out and takes.
+//! A device that counts the bytes that it gives and takes.
 
 ghost use Rattle.std.specs.Prelude.{◌≡◌};
 
 use abt_io::{DeviceFault, Input, Output, Overwrite, Source, Spool};
 
-/// Counts the bytes that its device hands out and takes, in plain numbers. It is of each kind but a partition that its
-/// device is of.
+/// Counts the bytes that its device gives and takes, in plain numbers. It implements each device trait that its device
+/// implements, except that of a partition.
 #[derive(Drop)]
 pub struct Counting<D> {
     pub device: D,
@@ -14,7 +14,7 @@ pub struct Counting<D> {
 }
 
 impl<D> Counting<D> {
-    /// The device, of which nothing is counted yet.
+    /// The device, with nothing counted yet.
     pub fn new(device: D) -> Counting<D>
         ensures device { result.device ≡ device }
         ensures handed { result.handed ≡ 0 }

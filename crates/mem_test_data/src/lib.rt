@@ -1,10 +1,10 @@
 //! What the crates of tests share.
 //!
-//! | file | what it has |
+//! | file | has |
 //! |---|---|
 //! | `vectors.rt` | sparse images and raw bytes, byte for byte |
-//! | `counting.rt` | a device that counts the bytes that it hands out and takes |
-//! | `standing.rt` | what stands in room that was filled with dots |
+//! | `counting.rt` | a device that counts the bytes that it gives and takes |
+//! | `standing.rt` | whether a buffer that was filled with dots holds given bytes |
 #![tactic(auto)]
 
 pub mod counting;

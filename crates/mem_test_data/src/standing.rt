@@ -1,6 +1,6 @@
-//! What stands in room that was filled with dots.
+//! Whether a buffer that was filled with dots holds given bytes.
 
-/// Whether these bytes stand at the front, and dots behind them.
+/// Whether the buffer begins with these bytes, followed by dots.
 pub fn holds(room: &[u8], stands: &[u8]) -> bool {
     for (i, byte) in room.iter().enumerate() {
         let want = match stands.get(i) {

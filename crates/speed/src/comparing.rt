@@ -1,4 +1,4 @@
-//! Comparing images with what stands on a partition.
+//! Comparing images with the content of a partition.
 
 use crate::devices::Memory;
 use crate::digest::Digest;
@@ -11,14 +11,14 @@ use abt_verify::{Verified, VerifyFault, verify, verify_raw};
 use anyhow::Result;
 use std::alloc::{AllocError, Global};
 
-// What has room for any image here.
+// The bytes that any image here fits in.
 const ROOM: usize = 64 << 20;
 
-// How many bytes the partition has on which one differs: no image here has fewer, and comparing them takes little of
-// the time of comparing a whole image.
+// The length of the partition on which one byte differs: no image here has fewer bytes, and comparing them takes little
+// of the time of comparing a whole image.
 const FRONT: u32 = 128 << 10;
 
-/// Adds how much of an image stands, or why it doesn't, and where it differs.
+/// Adds how much of an image is on the partition, or why it isn't, and where it differs.
 fn note(answer: Result<Verified, VerifyFault>, digest: &mut Digest) {
     match answer {
         Ok(verified) => digest.note(verified.blocks),
@@ -30,7 +30,7 @@ fn note(answer: Result<Verified, VerifyFault>, digest: &mut Digest) {
     }
 }
 
-/// Compares a sparse image and the raw one with what stands on a partition.
+/// Compares a sparse image and the raw one with the content of a partition.
 fn both(
     image: &[u8],
     raw: &[u8],
@@ -46,7 +46,7 @@ fn both(
     note(verify_raw(&mut raw, BLOCK, &mut partition, w, m), digest);
 }
 
-/// Makes bytes the front of others, but for the byte at a place.
+/// Makes bytes a prefix of others, except for the byte at an offset.
 fn alter(bytes: &mut Vec<u8>, whole: &[u8], at: usize) -> Result<(), AllocError> {
     let front = whole.get(..FRONT as usize).unwrap_or(&[]);
     bytes.clear();

@@ -54,7 +54,7 @@ fn cut<S: Source>(
     Ok(())
 }
 
-/// Images of the least blocks, each a chunk of its own: at limits that make thousands of pieces, and a few.
+/// Images of the smallest blocks, each a chunk of its own: at limits that make thousands of pieces, and a few.
 pub fn cut_single(
     alloc: Global,
     seed: u64,

@@ -9,7 +9,7 @@ use abt_io::{DeviceFault, Input, Partition, Source, Tally};
 use std::io;
 use std::io::Write;
 
-/// Bytes that are read, forward or at any place.
+/// Bytes that are read, forward or at any offset.
 #[derive(Drop)]
 pub struct Memory<'a> {
     bytes: &'a [u8],
@@ -28,7 +28,7 @@ impl<'a> Memory<'a> {
         }
     }
 
-    // Gives bytes from a place on.
+    // Gives bytes from an offset on.
     fn give(&mut self, at: usize, out: &mut [u8]) -> usize
         ensures within { result ≤ length out.new }
         ensures reads { self.new.reads.number ≡ self.old.reads.number }
@@ -121,7 +121,7 @@ impl Write for Sink {
     }
 }
 
-/// Is written at any place.
+/// Is written at any offset.
 #[derive(Drop)]
 pub struct Board {
     size: u64,
@@ -133,7 +133,7 @@ pub struct Board {
 }
 
 impl Board {
-    /// So many bytes.
+    /// This many bytes.
     pub fn new(size: u64) -> Board {
         Board {
             size,

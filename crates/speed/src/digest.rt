@@ -1,4 +1,4 @@
-//! A digest of bytes by their places.
+//! A digest of bytes by their offsets.
 
 /// The sum of all words of four bytes, and the sum of each word times its place: the same however the bytes are cut.
 #[derive(Clone, Copy, Drop)]
@@ -12,7 +12,7 @@ impl Digest {
         Digest { sum: 0, placed: 0 }
     }
 
-    /// Adds bytes that stand at a place.
+    /// Adds the bytes at an offset.
     pub fn put(&mut self, at: u64, bytes: &[u8]) {
         let (pairs, rest) = bytes.as_chunks::<8>();
         if at % 4 != 0 {
@@ -22,20 +22,20 @@ impl Digest {
         self.put_bytes(at.wrapping_add(8 * pairs.len() as u64), rest);
     }
 
-    /// Adds a number that was answered.
+    /// Adds a number that was returned.
     pub fn note(&mut self, number: u64) {
         self.sum = self.sum.rotate_left(9).wrapping_add(number);
         self.placed = self.placed.rotate_left(5) ^ self.sum;
     }
 
-    /// Adds all of another digest, as an answer.
+    /// Adds all of another digest, as a result.
     pub fn join(&mut self, other: &Digest) {
         self.note(other.sum);
         self.note(other.placed);
     }
 
-    // Of a pair the first word and the second are summed apart, so that four sums go on side by side: each word, and
-    // for each word how many pairs stand from it on.
+    // The first and the second word of a pair are summed separately, so that four sums proceed side by side: each word,
+    // and for each word how many pairs there are from it on.
     fn put_pairs(&mut self, place: u64, pairs: &[[u8; 8]]) {
         let mut first = 0u64;
         let mut second = 0u64;

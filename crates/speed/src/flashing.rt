@@ -14,7 +14,7 @@ use std::alloc::Global;
 // How many bytes the spool holds.
 const ROOM: u32 = 8 << 20;
 
-/// Delivers an image in pieces of at most so many bytes.
+/// Delivers an image in pieces of at most this many bytes.
 fn deliver_image(
     image: &[u8],
     expanded: u64,
@@ -35,8 +35,8 @@ fn deliver_image(
     Ok(digest)
 }
 
-/// Images of chunks of one to three blocks, as those of an ext4 file system have them, at limits that make some dozens
-/// of pieces.
+/// Images of chunks of one to three blocks, such as those of an ext4 file system, at limits that make some dozens of
+/// pieces.
 pub fn deliver_mixed(
     alloc: Global,
     seed: u64,

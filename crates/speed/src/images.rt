@@ -10,7 +10,7 @@ use std::alloc::{AllocError, Global};
 /// The blocks of images that tools write, in bytes.
 pub const BLOCK: u32 = 4096;
 
-/// The least blocks.
+/// The smallest blocks.
 pub const WORD: u32 = 4;
 
 /// An image that is being made.
@@ -58,7 +58,7 @@ impl Maker {
         self.bytes.extend_from_slice(&header.encode())
     }
 
-    // So many blocks from anywhere in the page.
+    // This many blocks from anywhere in the page.
     fn data(&mut self, blocks: u32) -> Result<(), AllocError> {
         let from = 4 * self.random.below(8192) as usize;
         let length = blocks as usize * self.size as usize;
@@ -100,7 +100,8 @@ impl Maker {
         }
     }
 
-    /// A sparse image of blocks of so many bytes, and so many chunks of at most so many blocks: raw between fills and gaps.
+    /// A sparse image of blocks of this many bytes, and this many chunks of at most this many blocks: raw between fills
+    /// and gaps.
     pub fn sparse(&mut self, size: u32, chunks: u32, most: u32) -> Result<(), AllocError>
         requires some { 0 < most }
         requires block { 0 < size }
@@ -131,7 +132,7 @@ impl Maker {
         u64::from(self.blocks) * u64::from(self.size)
     }
 
-    // A block of one word, but for the last word in a block that only looks so.
+    // A block of one word; in a block that only looks so the last word differs.
     fn equal(&mut self, word: u32, is_whole: bool) -> Result<(), AllocError> {
         let words = self.size / 4;
         let last = if is_whole { word } else { !word };
@@ -157,7 +158,7 @@ impl Maker {
         Ok(())
     }
 
-    /// A raw image of so many runs, in blocks as tools write them.
+    /// A raw image of this many runs, in blocks of the size that tools write.
     pub fn flat(&mut self, runs: u32) -> Result<(), AllocError> {
         self.bytes.clear();
         self.size = BLOCK;

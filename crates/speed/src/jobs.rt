@@ -1,4 +1,4 @@
-//! Which jobs there are, and how large each is.
+//! The jobs, and the size of each.
 
 use crate::comparing::compare;
 use crate::cutting::{cut_file, cut_single};
@@ -12,7 +12,7 @@ use std::alloc::Global;
 use std::fs::File;
 use sys_devices::FileSource;
 
-/// How large a job is.
+/// The size of a job.
 #[derive(Clone, Copy, Drop)]
 pub struct Size {
     /// How many images or limits it goes through.

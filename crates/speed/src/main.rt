@@ -1,11 +1,10 @@
-//! The jobs that users wait for, on images of real shapes, for `bench/run`: each prints one line, digests of all that
-//! the calls of the libraries answered and wrote. The words are a job, the file of an image where the job reads one,
-//! and a number, of which each other one gives other images or other limits. Without words each job is done on a small
-//! image.
+//! The jobs that users wait for, on images of real shapes, for `bench/run`. Each job prints one line of digests: of all
+//! that the calls of the libraries returned and wrote. The words are a job, the file of an image if the job reads one,
+//! and a number. Each number gives other images or other limits. Without words each job is done on a small image.
 //!
 //! | file | has |
 //! |---|---|
-//! | `main.rt`, `jobs.rt` | which job the words name, and how large each is |
+//! | `main.rt`, `jobs.rt` | which job the words name, and the size of each job |
 //! | `images.rt`, `random.rt` | the images |
 //! | `devices.rt`, `digest.rt` | devices in memory that keep a digest of what is written |
 //! | `cutting.rt`, `flashing.rt`, `reading.rt`, `raw.rt`, `comparing.rt` | the jobs |

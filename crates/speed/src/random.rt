@@ -1,4 +1,4 @@
-//! Numbers that are as good as random, and the same at each run.
+//! Numbers that are as good as random, and the same in each run.
 
 ghost use Rattle.std.specs.Prelude.{◌<◌};
 

@@ -17,7 +17,7 @@ use std::alloc::Global;
 // How many bytes a piece has at most.
 const LIMIT: u32 = 4 << 20;
 
-// What has room for the sparse image of any raw one here.
+// The bytes that the sparse image of any raw one here fits in.
 const ROOM: usize = 64 << 20;
 
 // How many blocks of 4096 a chunk has at most.
@@ -74,7 +74,7 @@ fn delivered(image: &[u8], room: &mut [u8], w: &mut Window, m: &mut Meter) -> Re
     Ok(digest)
 }
 
-/// Delivers an image from a piece on, and adds what was written to a digest. How many pieces that were.
+/// Delivers an image from a piece on, and adds what was written to a digest. Returns the number of pieces.
 fn deliver_from(
     image: &[u8],
     from: u32,
@@ -117,8 +117,8 @@ fn delivered_once(image: &[u8], room: &mut [u8], w: &mut Window, m: &mut Meter) 
     Ok(digest)
 }
 
-/// Raw images, of which half is as good as random, and a part only looks like equal words. Where each is to be read
-/// once, the calls for that deliver it.
+/// Raw images: one half is as good as random, and a part only looks like equal words. Where each is to be read once,
+/// the calls for that deliver it.
 pub fn write_raw(
     alloc: Global,
     seed: u64,

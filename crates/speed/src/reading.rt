@@ -1,4 +1,4 @@
-//! Reading sparse images forward: expanding them, listing them, and feeding them piece by piece as a C program does.
+//! Reading sparse images forward: expanding them, listing them, and feeding them in parts as a C program does.
 
 use crate::devices::{Memory, Sink};
 use crate::digest::Digest;
@@ -78,7 +78,7 @@ fn fed(image: &[u8]) -> Digest {
     digest
 }
 
-/// Images of blocks as tools write them, and of the least ones, each read in three ways.
+/// Images of blocks of the size that tools write, and of the smallest ones, each read in three ways.
 pub fn read_all(
     alloc: Global,
     seed: u64,

@@ -1,4 +1,4 @@
-//! A source that is read ahead: of small reads, as those of headers, one call of the system brings many.
+//! A source that is read ahead: one call of the system serves many small reads, such as those of headers.
 
 ghost use Rattle.std.specs.Prelude.{◌≡◌, ◌<◌, ◌^◌, ℕ, List, IsTrue, IfOk, IfSome, length, take, drop};
 ghost use Rattle.std.proofs.Props.{props};
@@ -15,17 +15,17 @@ use std::io;
 use std::rc::Rc;
 use sys_file::{SystemFile, read_at};
 
-/// How many bytes are read at once where reads follow one another.
+/// The number of bytes read at once where reads follow one another.
 const ROOM: usize = 4096;
 
-/// How many are read at another place, since data may stand behind them that goes past this buffer.
+/// The number of bytes read ahead at a new offset. It is small, because data that bypasses this buffer may follow.
 const FEW: usize = 256;
 
-/// A read that asks for more goes to the file, past what is held.
+/// A read of more bytes goes to the file and bypasses the buffer.
 const MOST: usize = 256;
 
-/// Two parts of a file that were read ahead. Who copies the data of a chunk has read the header behind it already, so
-/// the part before the last one is kept.
+/// Two parts of a file that were read ahead. The part before the last one is kept, because whoever copies the data of a
+/// chunk has read the header after it already.
 #[derive(Drop)]
 pub(crate) struct Ahead {
     one: CachedBytes,
@@ -35,7 +35,7 @@ pub(crate) struct Ahead {
 }
 
 impl Ahead {
-    /// Nothing is held. Nothing is there to hold it where there is no memory: then each read is made as it is asked for.
+    /// Nothing is buffered. `None` where there is no memory for the buffer: then each read is made as it is asked for.
     pub(crate) fn new(alloc: Global) -> Option<Ahead>
         ensures { (c : List ℕ) → HoldsAny c result }
     {
@@ -49,7 +49,7 @@ impl Ahead {
         }
     }
 
-    /// Holds nothing any more, since the file was written, or may have been.
+    /// Empties the buffer, because the file was written, or may have been.
     pub(crate) fn forget(&mut self)
         ensures { (c : List ℕ) → HoldsBoth c self.new }
     {
@@ -57,8 +57,8 @@ impl Ahead {
         self.other.forget();
     }
 
-    /// Gives the bytes at a place, where all that are asked for are held or can be read ahead. Where not, a read of just
-    /// these bytes is to be made: it alone tells a fault, and where the file ends.
+    /// Returns the bytes at an offset, if all that are asked for are buffered or can be read ahead. If not, the caller
+    /// makes a read of just these bytes: only that read reports a fault, and the end of the file.
     pub(crate) fn give<F: SystemFile>(&mut self, file: &F, at: u64, out: &mut [u8]) -> bool
         requires { IsTrue F.models → HoldsBoth (F.stands file.now) self.old }
         ensures holds { IsTrue F.models → HoldsBoth (F.stands file.now) self.new }
@@ -78,7 +78,7 @@ impl Ahead {
         }
     }
 
-    /// Reads the bytes at a place ahead, over the part that was read first.
+    /// Reads ahead at an offset, over the part that was read first.
     fn fill<F: SystemFile>(&mut self, file: &F, at: u64)
         ensures { IsTrue F.models → HoldsBoth (F.stands file.now) self.old → HoldsBoth (F.stands file.now) self.new }
     {
@@ -97,14 +97,14 @@ impl Ahead {
     }
 }
 
-/// A file or a block device whose bytes are given as they stand there. A read of at most 256 bytes asks for up to 4 KiB,
-/// and what is held of them answers the reads behind it. What longer reads gave last is kept, so that a raw image is read
-/// once, however small its pieces are.
+/// A file or a block device whose bytes are given unchanged. A read of at most 256 bytes asks for up to 4 KiB, and the
+/// buffered rest serves later reads. The bytes that longer reads gave last are kept, so that a raw image is read once,
+/// however small its pieces are.
 #[derive(Drop)]
 pub struct AheadSource<F: SystemFile + Drop> {
     from: Rc<AheadFile<F>>,
     alloc: Global,
-    // What is held, once a read may be answered from it.
+    // The buffer, once a read may be served from it.
     ahead: Option<Ahead>,
     kept: Kept,
     reads: Tally,
@@ -115,7 +115,7 @@ pub struct AheadSource<F: SystemFile + Drop> {
 }
 
 impl<F: SystemFile + Drop> AheadSource<F> {
-    /// Nothing is held.
+    /// Nothing is buffered.
     pub fn new(alloc: Global, file: FileSource<F>) -> Result<AheadSource<F>, AllocError>
         ensures file { IfOk result (λ source. source.from.value.source ≡ file) }
         ensures clean { IfOk result (λ source. source.faults.number ≡ 0) }
@@ -141,20 +141,20 @@ impl<F: SystemFile + Drop> AheadSource<F> {
         self.from.as_ref()
     }
 
-    /// Its file, for what goes through a spool.
+    /// The file, for what goes through a spool.
     pub fn shared(&self) -> Result<Rc<AheadFile<F>>, AllocError>
         ensures { IfOk result (λ file. file.value ≡ self.now.from.value) }
     {
         self.from.clone()
     }
 
-    /// A piece begins: what is held of the file for small reads is read again before it is given. What is kept of longer
-    /// ones is given in the next piece too, so that each byte is read once.
+    /// A piece begins: what is buffered for small reads is read again before it is given. What is kept of longer reads
+    /// is given in the next piece too, so that each byte is read once.
     pub fn forget(&self) {
         self.file().forget();
     }
 
-    /// As it began: nothing is held, and it has no memory for that until it is read again.
+    /// Restores the initial state: nothing is buffered, and the buffer has no memory until the source is read again.
     pub fn rest(&mut self)
         ensures file { self.new.from.value ≡ self.old.from.value }
         ensures reads { self.new.reads ≡ self.old.reads }
@@ -166,8 +166,8 @@ impl<F: SystemFile + Drop> AheadSource<F> {
         self.forget();
     }
 
-    /// How long the file is now, if it is not as it was when it was opened, or has fewer bytes than were given of it from
-    /// memory since the piece began.
+    /// The file's present length, if one of these holds: the file is not as it was when it was opened, or it has fewer
+    /// bytes than were given of it from memory since the piece began.
     pub fn shorter(&self) -> Option<u64>
         ensures { IsTrue F.models → IfSome result (λ n. n ≡ length
             (file_bytes F.stands self.now.from.value.source.file)) }
@@ -219,7 +219,7 @@ impl<F: SystemFile + Drop> Source for AheadSource<F> {
     }
 }
 
-// One read of the file, or of what is held or kept of it.
+// One read of the file, or of what is buffered or kept of it.
 fn read_of<F: SystemFile + Drop>(
     ahead: &mut Option<Ahead>,
     kept: &mut Kept,
@@ -252,8 +252,8 @@ fn read_of<F: SystemFile + Drop>(
     }
 }
 
-// Gives the bytes at a place from what is held of a file, where all of them are. The first few that are asked for have
-// memory made to hold any; where there is none, each read is made as it is asked for.
+// Gives the bytes at an offset from the buffer, if it has all of them. The first small read allocates the buffer. Where
+// there is no memory for it, each read is made as it is asked for.
 fn given_of<F: SystemFile + Drop>(
     ahead: &mut Option<Ahead>,
     alloc: Global,
@@ -285,7 +285,7 @@ fn given_of<F: SystemFile + Drop>(
     true
 }
 
-/// One read of a file, or of what is held of it.
+/// One read of a file, or of what is buffered of it.
 pub(crate) fn read_ahead<F: SystemFile>(
     ahead: &mut Option<Ahead>,
     file: &F,
@@ -304,7 +304,7 @@ pub(crate) fn read_ahead<F: SystemFile>(
     read_at(file, at, out)
 }
 
-/// What was read ahead is no longer so.
+/// The bytes that were read ahead are no longer valid.
 pub(crate) fn forget(ahead: &mut Option<Ahead>)
     ensures { (c : List ℕ) → HoldsAny c ahead.new }
 {

@@ -1,4 +1,4 @@
-//! A file that is read ahead, and whether it still has what was given of it from memory.
+//! A file that is read ahead, and the check that it still has what was given of it from memory.
 
 ghost use Rattle.std.specs.Prelude.{◌≡◌, IsTrue, IfSome, length};
 ghost use Rattle.sys_file.specs.File.{file_bytes};
@@ -7,21 +7,21 @@ use crate::FileSource;
 use std::cell::Cell;
 use sys_file::{Stamp, SystemFile};
 
-/// A file or a block device whose small reads are answered from what was read before. What it gave so may be in the file
-/// no longer: so it is asked once for each piece, where the piece ends, by `shorter`, or by `is_changed`.
+/// A file or a block device whose small reads are served from earlier reads. The file may no longer hold what it gave
+/// so. Therefore it is checked once for each piece, at the piece's end, by `shorter` or by `is_changed`.
 #[derive(Drop)]
 pub struct AheadFile<F: SystemFile + Drop> {
     pub source: FileSource<F>,
     // As it was opened, if it is a regular file.
     opened: Option<Stamp>,
-    // How far into the file the bytes reach that were given from memory.
+    // The end of the bytes that were given from memory.
     reached: Cell<u64>,
-    // What is held is not to be given any more.
+    // What is buffered is not to be given any more.
     is_old: Cell<bool>,
 }
 
 impl<F: SystemFile + Drop> AheadFile<F> {
-    /// Nothing is held of it.
+    /// Nothing of it is buffered.
     pub fn new(source: FileSource<F>) -> AheadFile<F>
         ensures { result.source ≡ source }
     {
@@ -34,13 +34,13 @@ impl<F: SystemFile + Drop> AheadFile<F> {
         }
     }
 
-    /// A piece begins: what is held of the file is read again before it is given.
+    /// A piece begins: what is buffered of the file is read again before it is given.
     pub fn forget(&self) {
         self.is_old.set(true);
         self.reached.set(0);
     }
 
-    /// How long the file is now, if that is less than what was given of it from memory since the piece began.
+    /// The file's present length, if that is less than what was given of it from memory since the piece began.
     pub fn shorter(&self) -> Option<u64>
         ensures { IsTrue F.models → IfSome result (λ n. n ≡ length (file_bytes F.stands self.now.source.file)) }
     {
@@ -54,7 +54,8 @@ impl<F: SystemFile + Drop> AheadFile<F> {
         }
     }
 
-    /// Whether a regular file is not as it was when it was opened: it has another length or another time of modification.
+    /// Whether a regular file is not as it was when it was opened: it has another length, or another time of
+    /// modification.
     pub fn is_changed(&self) -> bool {
         match (self.opened, stamp_of(&self.source)) {
             (Some(opened), Some(now)) => {

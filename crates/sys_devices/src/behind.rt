@@ -1,5 +1,5 @@
-//! What a spool holds back of what it took, and its file. The file may keep its pages where it is cleared: then what
-//! stands there of before is written over, and cut off before a magic number is laid.
+//! The buffer of a spool, and its file. The spool may keep the pages of the file when it is cleared. Then it overwrites
+//! the old content, and truncates the rest before it writes a magic number.
 
 ghost use Rattle.std.specs.Prelude.{◌≡◌, ◌≤◌, ◌+◌, ◌<◌, ◌^◌, ◌++◌, [], true, false, IsTrue};
 ghost use Rattle.std.specs.Prelude.{OnOk, OnErr, length, take, max};
@@ -13,29 +13,29 @@ use abt_io::{DeviceFault, Log, WINDOW};
 use std::alloc::Global;
 use sys_file::{SystemFile, put_held, write_all, write_at};
 
-/// A write of so many bytes or more is not held: what copying them costs is what a call does.
+/// A write of this many bytes or more is not buffered: copying them would cost as much as a call.
 const LARGE: usize = 16_384;
 
-/// How long what stands at the front is that makes an image of what stands behind it.
+/// The length of the magic number at the beginning, which makes an image of what follows it.
 const MAGIC: u64 = 4;
 
-/// A file, and bytes that were taken and go there later, behind those that it was given. None is held where there was no
-/// memory for it.
+/// A file, and bytes that were taken and will be appended to what the file was given. Nothing is buffered where there
+/// was no memory for it.
 #[derive(Drop)]
 pub(crate) struct Behind<F: SystemFile + Drop> {
     pub(crate) file: F,
-    /// How many bytes were taken since it was cleared.
+    /// The number of bytes taken since the last clear.
     pub(crate) used: u64,
     pub(crate) held: Vec<u8>,
-    /// What the file took since it was cleared.
+    /// What the file took since the last clear.
     pub(crate) sent: Log,
-    /// From here on nothing stands in the file but what it took. 0 where it was emptied, or cut off since it was cleared.
+    /// From this offset on the file holds only what it took. 0 where it was emptied, or truncated since the last clear.
     pub(crate) stale: u64,
-    /// Some of what was taken could not be written, or may have been marred.
+    /// Some of what was taken could not be written, or may have been overwritten wrongly.
     pub(crate) is_lost: bool,
-    /// A call was refused for that.
+    /// A call has failed because of that.
     pub(crate) is_told: bool,
-    /// The file was emptied, since it could not be cut off or blanked: so what it took is lost.
+    /// The file was emptied, because it could not be truncated or blanked: so what it took is lost.
     pub(crate) is_empty: bool,
     /// Why the last call of the system failed, where one did.
     pub(crate) why: Option<i32>,
@@ -47,7 +47,7 @@ pub(crate) struct Behind<F: SystemFile + Drop> {
 }
 
 impl<F: SystemFile + Drop> Behind<F> {
-    /// Nothing is held yet, and the file has so many bytes, which are of before.
+    /// Nothing is buffered yet, and the file has this many bytes of old content.
     pub(crate) fn new(alloc: Global, file: F, stale: u64) -> Behind<F>
         requires { IsTrue F.models → length (F.stands file) ≤ stale }
         ensures held { result.held.items ≡ [] }
@@ -73,8 +73,8 @@ impl<F: SystemFile + Drop> Behind<F> {
         }
     }
 
-    /// Takes a front of these bytes, and answers how many: all where they are held, and else what one write took of them,
-    /// behind what was held.
+    /// Takes a prefix of these bytes, and returns how many: all if they are buffered, else what one write took of them,
+    /// after the buffered bytes.
     pub(crate) fn take(&mut self, bytes: &[u8]) -> Result<usize, DeviceFault>
         requires { self.old.used + length bytes.now < 2 ^ 64 }
         ensures takes { TakesSome result bytes.now self.old.is_lost self.new.is_lost }
@@ -103,8 +103,8 @@ impl<F: SystemFile + Drop> Behind<F> {
         self.send(bytes)
     }
 
-    /// Writes all that is held, and cuts off what stands behind it. Refused where some of it could not be written, now or
-    /// before; then the file ends behind what was.
+    /// Writes all buffered bytes, and truncates the file after them. Fails if some of them could not be written, now or
+    /// before. Then the file ends after those that were written.
     pub(crate) fn settle(&mut self) -> Result<(), DeviceFault>
         ensures flushes { Flushes result self.old.held.items self.new.held.items self.old.sent.state.bytes
             self.new.sent.state.bytes self.old.is_lost self.new.is_lost self.old.used self.new.used }
@@ -118,7 +118,7 @@ impl<F: SystemFile + Drop> Behind<F> {
         }
     }
 
-    // Writes all that is held. Refused where some of it could not be written, now or before.
+    // Writes all buffered bytes. Fails if some of them could not be written, now or before.
     fn flush(&mut self) -> Result<(), DeviceFault>
         ensures flushes { Flushes result self.old.held.items self.new.held.items self.old.sent.state.bytes
             self.new.sent.state.bytes self.old.is_lost self.new.is_lost self.old.used self.new.used }
@@ -148,8 +148,8 @@ impl<F: SystemFile + Drop> Behind<F> {
         }
     }
 
-    // Cuts the file off behind what it took, if anything may stand there. Where that cannot be done it is emptied, if that
-    // can be. Why a write failed before is kept.
+    // Truncates the file after what it took, if anything may be there. If that fails, the file is emptied where
+    // possible. The reason why an earlier write failed is kept.
     fn cut_off(&mut self) -> Result<(), DeviceFault>
         ensures { CutsBehind result self.old.held.items self.new.held.items self.old.sent.state self.new.sent.state
             self.old.is_lost self.new.is_lost self.old.used self.new.used self.new.stale }
@@ -170,7 +170,7 @@ impl<F: SystemFile + Drop> Behind<F> {
         Ok(())
     }
 
-    // One write to the file, behind all that it was given.
+    // One write to the file, after all that it was given.
     fn send(&mut self, bytes: &[u8]) -> Result<usize, DeviceFault>
         requires none { self.old.held.items ≡ [] }
         requires fits { self.old.used + length bytes.now < 2 ^ 64 }
@@ -193,9 +193,10 @@ impl<F: SystemFile + Drop> Behind<F> {
         }
     }
 
-    /// Lays a front of these bytes over those that were taken, from a place on, and answers how many: in what is held where
-    /// all of them fall there, and else by one write, behind what was held. So what stands at the front, as the magic number
-    /// does, is laid once all else is in the file, and nothing behind that.
+    /// Overwrites bytes that were taken, from an offset on, with a prefix of these bytes, and returns how many. This
+    /// changes the buffer if all of them fall there. Else it is one write, after the buffered bytes were written. The
+    /// first four bytes, such as the magic number, are written once everything else is in the file, with nothing after
+    /// that.
     pub(crate) fn put_over(&mut self, at: u64, bytes: &[u8]) -> Result<usize, DeviceFault>
         requires { at + length bytes.now ≤ self.old.used }
         ensures takes { TakesSome result bytes.now self.old.is_lost self.new.is_lost }
@@ -228,7 +229,8 @@ impl<F: SystemFile + Drop> Behind<F> {
         }
     }
 
-    // Writes all that is held, before something is laid at a place. At the front nothing is to stand behind it.
+    // Writes all buffered bytes, before something is written at an offset. For the first four bytes, the file must have
+    // nothing after what it took.
     fn make_way(&mut self, at: u64) -> Result<(), DeviceFault>
         ensures flushes { Flushes result self.old.held.items self.new.held.items self.old.sent.state.bytes
             self.new.sent.state.bytes self.old.is_lost self.new.is_lost self.old.used self.new.used }
@@ -241,7 +243,7 @@ impl<F: SystemFile + Drop> Behind<F> {
         }
     }
 
-    // Lays bytes over those that are held, if all of them are, and they are not at the front.
+    // Overwrites buffered bytes, if all of the range is buffered, and it is not at the beginning of the file.
     fn lays(&mut self, at: u64, bytes: &[u8]) -> bool
         requires { at + length bytes.now ≤ self.old.used }
         ensures laid { IsTrue result → self.new.sent.state.bytes ++ self.new.held.items
@@ -258,7 +260,7 @@ impl<F: SystemFile + Drop> Behind<F> {
         true
     }
 
-    /// Whether the file may be emptied: not where something was lost for which no call was refused yet.
+    /// Whether the file may be emptied: not where something was lost and no call has failed because of it yet.
     pub(crate) fn may_clear(&mut self) -> bool
         ensures still { IsTrue self.old.is_lost → self.old.is_told ≡ false → result ≡ false }
         ensures told { IsTrue result → IsTrue self.new.is_lost → IsTrue self.new.is_told }
@@ -273,9 +275,9 @@ impl<F: SystemFile + Drop> Behind<F> {
         true
     }
 
-    /// Forgets what it took, and empties the file, or lays zeros over its front and leaves the rest to be written over.
-    /// Where that fails, all that it took is lost. This refusal tells so, but where the file was emptied in the place of
-    /// getting zeros.
+    /// Forgets what was taken. Empties the file, or writes zeros over its first bytes and leaves the rest to be
+    /// overwritten. Where that fails, all that was taken is lost, and this error reports it, except where the file was
+    /// emptied instead of getting zeros.
     pub(crate) fn clear(&mut self, is_keeping: bool) -> Result<(), DeviceFault>
         requires told { IsTrue self.old.is_lost → IsTrue self.old.is_told }
         ensures clears { Clears result self.old.held.items self.new.held.items self.old.sent.state.bytes
@@ -304,8 +306,8 @@ impl<F: SystemFile + Drop> Behind<F> {
         Ok(())
     }
 
-    // Lays zeros over the front of a file that may hold something, so that nothing there makes an image of it, and leaves
-    // the rest to be written over. Where that cannot be done it is emptied, if that can be.
+    // Writes zeros over the first bytes of a file that may hold something, so that nothing there makes an image of it.
+    // The rest is left to be overwritten. If that fails, the file is emptied where possible.
     fn blank(&mut self) -> bool
         requires { IsTrue self.old.is_lost }
         ensures blank { IsTrue result → IsTrue F.models → LeavesNoMagic (F.stands self.new.file) }
@@ -332,7 +334,7 @@ impl<F: SystemFile + Drop> Behind<F> {
         }
     }
 
-    // Cuts the file off at its front.
+    // Truncates the file to length 0.
     fn empty(&mut self) -> bool
         requires { IsTrue self.old.is_lost }
         ensures empty { IsTrue result → IsTrue F.models → length (F.stands self.new.file) ≡ 0 }

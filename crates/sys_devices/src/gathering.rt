@@ -1,4 +1,4 @@
-//! A spool that takes small writes together, and is read ahead.
+//! A spool that collects small writes, and is read ahead.
 
 ghost use Rattle.std.specs.Prelude.{◌≡◌, ◌≤◌, ◌<◌, ◌+◌, ◌^◌, ◌++◌, [], ℕ, List, not, nat_lt, length, drop, refl};
 ghost use Rattle.std.specs.Prelude.{IsTrue, IfErr, OnOk, OnErr, IsErr};
@@ -19,16 +19,17 @@ use std::alloc::Global;
 use std::rc::Rc;
 use sys_file::SystemFile;
 
-/// A spool over a file, that holds up to 64 KiB of what it took: they are written where no more have room, where it is
-/// read, and by `settle`. Where that fails, it is the read that fails, or the write that found no room; and then every
-/// call fails until it was cleared, of which the first try fails too. A read of at most 256 bytes asks for up to 4 KiB.
+/// A spool over a file, with a buffer of up to 64 KiB for what it took. The buffer is written when it has no room, when
+/// the spool is read, and by `settle`. Where that fails, the read fails, or the write that found no room. Then every
+/// call fails until the spool is cleared, and the first try to clear it fails too. A read of at most 256 bytes asks for
+/// up to 4 KiB.
 ///
-/// Where it is `keeping` the file's pages, a clear lays zeros over its first four bytes in the place of emptying it. What
-/// then stands behind what it takes is cut off before bytes are laid over those four, before it is read, and by `settle`.
-/// So this is for who lays a magic number last: a file that has one has nothing of before behind it.
+/// Where it is `keeping` the file's pages, a clear writes zeros over the first four bytes instead of emptying the file.
+/// What then follows the taken bytes is truncated before those four are overwritten, before the file is read, and by
+/// `settle`. So this is for callers that write a magic number last: a file that has one has no old content after it.
 ///
-/// What it is given may come from a file that is read ahead. It gives nothing of it back where that file is another one
-/// then: it has another length or time of modification than when it was opened.
+/// The bytes that it is given may come from a file that is read ahead. It gives none of them back if that file has
+/// changed: if its length or its time of modification is another one than when it was opened.
 #[derive(Drop)]
 pub struct GatheringSpool<F: SystemFile + Drop> {
     behind: Behind<F>,
@@ -52,8 +53,8 @@ pub struct GatheringSpool<F: SystemFile + Drop> {
 }
 
 impl<F: SystemFile + Drop> GatheringSpool<F> {
-    /// A spool of at most `capacity` bytes, over a file that has so many bytes, which are written over, or cut off. Nothing
-    /// is held yet. Where there is no memory to hold anything, each call is one of the file.
+    /// A spool of at most `capacity` bytes over a file of this many bytes, which are overwritten, or truncated. Nothing
+    /// is buffered yet. Where there is no memory for the buffer, each call is one of the file.
     pub fn new(
         alloc: Global,
         file: F,
@@ -79,8 +80,8 @@ impl<F: SystemFile + Drop> GatheringSpool<F> {
         }
     }
 
-    /// A spool that keeps the pages of its file, which has so many bytes. The first four are zeros, or are laid over by the
-    /// first clear.
+    /// A spool that keeps the pages of its file, which has this many bytes. The first four are zeros, or the first
+    /// clear overwrites them.
     pub fn keeping(
         alloc: Global,
         file: F,
@@ -103,14 +104,14 @@ impl<F: SystemFile + Drop> GatheringSpool<F> {
         self.behind.why
     }
 
-    /// Whether a read was refused since the file has changed from which all comes.
+    /// Whether a read has failed because the file has changed from which all bytes come.
     pub fn is_from_short(&self) -> bool {
         self.is_from_short
     }
 
-    /// Writes what is held, and cuts the file off behind it. Refused where a byte that was taken since the last clear
-    /// could not be written, now or by an earlier call, so that a read which failed for that reason is told from one which
-    /// did not.
+    /// Writes the buffer, and truncates the file after it. Fails if a byte taken since the last clear could not be
+    /// written, now or by an earlier call. So a read that failed for that reason is distinguished from other reads that
+    /// failed.
     pub fn settle(&mut self) -> Result<(), DeviceFault>
         ensures exact { OnOk result (IsTrue F.models → F.stands self.new.behind.file ≡ since_cut self.new.log.state) }
         ensures all { OnOk result (self.new.behind.sent.state.bytes ≡ since_cut self.new.log.state) }
@@ -237,7 +238,7 @@ impl<F: SystemFile + Drop> Overwrite for GatheringSpool<F> {
         self.cleared + self.behind.used
     }
 
-    /// A place before the last clear is refused: nothing stands there any more.
+    /// An offset before the last clear is an error: nothing is there any more.
     fn write_over(&mut self, at: u64, bytes: &[u8]) -> Result<usize, DeviceFault> {
         self.counts.writes.add(1);
         let cleared = self.cleared;
@@ -284,7 +285,7 @@ impl<F: SystemFile + Drop> Spool for GatheringSpool<F> {
         self.capacity
     }
 
-    /// Cuts the file off at its front, or leaves it its pages; it stays open. What comes next begins a piece.
+    /// Truncates the file to length 0, or leaves it its pages. The file stays open. A new piece begins.
     fn clear(&mut self) -> Result<(), DeviceFault> {
         self.counts.clears.add(1);
         if !self.behind.may_clear() {
@@ -308,7 +309,7 @@ impl<F: SystemFile + Drop> Spool for GatheringSpool<F> {
     }
 }
 
-/// How many calls a spool had, what they gave, and how often they failed.
+/// The number of calls of a spool, what they gave, and how often they failed.
 #[derive(Drop)]
 struct Counts {
     reads: Tally,
@@ -337,7 +338,7 @@ impl Counts {
     }
 }
 
-// One read of the file, once all that was taken is in it.
+// One read of the file, once all taken bytes are in it.
 fn read_behind<F: SystemFile + Drop>(
     behind: &mut Behind<F>,
     ahead: &mut Option<Ahead>,
@@ -373,8 +374,8 @@ fn read_behind<F: SystemFile + Drop>(
     }
 }
 
-// A piece ends: what was read ahead of the file is no longer so, and what is held of the one from which all comes is read
-// again before it is given.
+// A piece ends: what was read ahead of the file is no longer valid, and what is buffered of the file from which all
+// bytes come is read again before it is given.
 fn forget_piece<F: SystemFile + Drop>(ahead: &mut Option<Ahead>, from: &Option<Rc<AheadFile<F>>>)
     ensures { (c : List ℕ) → HoldsAny c ahead.new }
 {
@@ -384,7 +385,7 @@ fn forget_piece<F: SystemFile + Drop>(ahead: &mut Option<Ahead>, from: &Option<R
     }
 }
 
-// Whether a file from which all comes is not as it was when it was opened.
+// Whether a file from which all bytes come is not as it was when it was opened.
 fn is_changed<F: SystemFile + Drop>(from: &Option<Rc<AheadFile<F>>>) -> bool {
     match from {
         Some(from) => from.as_ref().is_changed(),

@@ -1,4 +1,4 @@
-//! Bytes of a file that were read before they were asked for.
+//! Bytes of a file that were read ahead.
 
 ghost use Rattle.std.specs.Prelude.{◌≡◌, ◌<◌, ◌≤◌, ◌+◌, ◌-◌, ℕ, List, IsTrue, IfOk, length, take, drop};
 ghost use Rattle.abt_io.specs.Count.{count_of};
@@ -9,7 +9,7 @@ use std::alloc::{AllocError, Global};
 use std::io;
 use sys_file::{SystemFile, read_at};
 
-/// Bytes of a file, and where they stand there. Those behind the first `count` are nothing.
+/// Bytes of a file, and their offset there. The bytes after the first `count` have no meaning.
 #[derive(Drop)]
 pub(crate) struct CachedBytes {
     bytes: Vec<u8>,
@@ -18,7 +18,7 @@ pub(crate) struct CachedBytes {
 }
 
 impl CachedBytes {
-    /// Nothing is held, and it has no memory for that.
+    /// Nothing is buffered, and no memory is allocated.
     pub(crate) fn empty(alloc: Global) -> CachedBytes
         ensures { (c : List ℕ) → HoldsPart c result }
     {
@@ -29,7 +29,7 @@ impl CachedBytes {
         }
     }
 
-    /// Nothing is held, and it has memory for so many bytes.
+    /// Nothing is buffered, and there is memory for this many bytes.
     pub(crate) fn new(alloc: Global, room: usize) -> Result<CachedBytes, AllocError>
         ensures { IfOk result (λ h. (c : List ℕ) → HoldsPart c h) }
     {
@@ -47,14 +47,14 @@ impl CachedBytes {
         self.bytes.is_empty()
     }
 
-    /// Holds nothing any more.
+    /// Empties the buffer.
     pub(crate) fn forget(&mut self)
         ensures { (c : List ℕ) → HoldsPart c self.new }
     {
         self.count = 0;
     }
 
-    // The bytes that are held from a place on.
+    // The buffered bytes from an offset on.
     fn found(&self, at: u64) -> &[u8]
         ensures { (c : List ℕ) → HoldsPart c self.now → FoundAt c at result.now }
     {
@@ -66,7 +66,7 @@ impl CachedBytes {
         &self.bytes[from..held]
     }
 
-    /// Gives the bytes at a place, where all that are asked for are held.
+    /// Gives the bytes at an offset, if all that are asked for are buffered.
     pub(crate) fn give(&self, at: u64, out: &mut [u8]) -> bool
         ensures { IsTrue result → (c : List ℕ) → HoldsPart c self.now → FoundAt c at out.new }
     {
@@ -79,7 +79,7 @@ impl CachedBytes {
         true
     }
 
-    /// Gives the first bytes at a place that are held, and answers how many.
+    /// Gives the first buffered bytes at an offset, and returns how many.
     pub(crate) fn give_some(&self, at: u64, out: &mut [u8]) -> usize
         ensures within { result ≤ length out.new }
         ensures given { (c : List ℕ) → HoldsPart c self.now → FoundAt c at (take result out.new) }
@@ -90,7 +90,7 @@ impl CachedBytes {
         n
     }
 
-    /// Gives the first bytes at a place that are held, behind the first ones of these, and answers how many.
+    /// Gives the first buffered bytes at an offset after the first ones of `out`, and returns how many.
     pub(crate) fn give_behind(&self, at: u64, first: usize, out: &mut [u8]) -> usize
         requires { first ≤ length out.old }
         ensures first { take first out.new ≡ take first out.old }
@@ -100,12 +100,12 @@ impl CachedBytes {
         self.give_some(at, &mut out[first..])
     }
 
-    /// Whether a place is the one behind the bytes that are held, or among them.
+    /// Whether an offset is within the buffered bytes, or just after them.
     pub(crate) fn leads_to(&self, at: u64) -> bool {
         self.count > 0 && at >= self.at && at - self.at <= self.count as u64
     }
 
-    /// Reads the bytes at a place, at most so many. Nothing is held where that fails.
+    /// Reads at most this many bytes at an offset. Nothing is buffered if that fails.
     pub(crate) fn fill<F: SystemFile>(&mut self, file: &F, at: u64, most: usize)
         ensures { IsTrue F.models → HoldsPart (F.stands file.now) self.new }
     {
@@ -114,8 +114,8 @@ impl CachedBytes {
         self.count = n;
     }
 
-    /// Reads the bytes at a place, at most so many: behind those that are held where they lead to it, and in their
-    /// place where not. At most so many of them stay, the last ones.
+    /// Reads at most this many bytes at an offset. They are appended to the buffered bytes if these lead to the offset,
+    /// and else replace them. At most this many buffered bytes stay, the last ones.
     pub(crate) fn go_on<F: SystemFile>(&mut self, file: &F, at: u64, most: usize) -> io::Result<()>
         ensures { IsTrue F.models → HoldsPart (F.stands file.now) self.old → HoldsPart (F.stands file.now) self.new }
     {
@@ -130,7 +130,7 @@ impl CachedBytes {
         }
     }
 
-    // All that are held, if they lead to a place, or none.
+    // All buffered bytes, if they lead to an offset, or none.
     fn last(&self, at: u64, held: usize) -> usize
         ensures within { result ≤ held }
         ensures fits { result ≤ at }
@@ -143,8 +143,8 @@ impl CachedBytes {
         }
     }
 
-    // Moves the last bytes that are held to the front, at most so many, where they lead to a place. No others are held
-    // any more.
+    // Moves the last buffered bytes to the beginning, at most this many, if they lead to an offset. No others are
+    // buffered any more.
     fn stay(&mut self, at: u64, most: usize)
         ensures holds { (c : List ℕ) → HoldsPart c self.old → HoldsPart c self.new }
         ensures place { self.new.at + self.new.count ≡ at }
@@ -158,7 +158,7 @@ impl CachedBytes {
     }
 }
 
-// Moves so many bytes from a place to the front.
+// Moves this many bytes from an offset to the beginning.
 fn move_front(bytes: &mut [u8], from: usize, n: usize)
     requires { from + n ≤ length bytes.old }
     ensures long { length bytes.new ≡ length bytes.old }
@@ -167,7 +167,7 @@ fn move_front(bytes: &mut [u8], from: usize, n: usize)
     bytes.copy_within(from..from + n, 0);
 }
 
-// Reads the bytes at a place into these, at most so many, behind the first ones. Answers how many.
+// Reads at most this many bytes at an offset into `out`, after its first ones. Returns how many.
 fn read_past<F: SystemFile>(
     file: &F,
     at: u64,

@@ -1,4 +1,5 @@
-//! What was last read of a raw image: a piece ends before the block that has no room in it, and the next one begins there.
+//! The bytes last read of a raw image. A piece ends before the block that has no room in it, and the next piece begins
+//! there.
 
 ghost use Rattle.std.specs.Prelude.{◌<◌, ◌≤◌, ◌^◌, ℕ, List, IsTrue, length, take};
 ghost use Rattle.abt_io.specs.Count.{count_of};
@@ -13,20 +14,21 @@ use sys_file::SystemFile;
 /// How many bytes are read at once.
 const ROOM: usize = 65_536;
 
-/// A read that asks for no more goes past what is kept.
+/// A read of no more bytes bypasses what is kept.
 const FEW: usize = 256;
 
-/// So many times a piece is read to be kept, since it may end soon. Of a longer one a little of its end is read again.
+/// The number of reads of a piece that are kept, because it may end soon. Of a longer piece a little of its end is read
+/// again.
 const TIMES: u32 = 8;
 
-/// What is kept of a file from piece to piece, and when. It is kept from its front, and from each place that was just
-/// read and is read again: a piece has ended before that, and another begins.
+/// The bytes that are kept of a file from piece to piece, and when. Reads are kept from offset 0 on, and from each
+/// offset that was just read and is read again: a piece has ended before that, and another begins.
 #[derive(Drop)]
 pub(crate) struct Kept {
-    // Bytes of the file, the last ones that were given among them: as many as a window has, and as many behind them. Where
+    // Bytes of the file, with the last given bytes among them: as many as a window has, and as many after them. Where
     // there is no memory for them, each read is made as it is asked for.
     held: CachedBytes,
-    // How many times more the file is read to be kept.
+    // The number of further reads that are kept.
     left: u32,
     // Where the last read began, and where it ended.
     from: u64,
@@ -34,7 +36,7 @@ pub(crate) struct Kept {
 }
 
 impl Kept {
-    /// Nothing is kept, and it has no memory for that.
+    /// Nothing is kept, and no memory is allocated.
     pub(crate) fn new(alloc: Global) -> Kept
         ensures { (c : List ℕ) → HoldsPart c result.held }
     {
@@ -46,8 +48,9 @@ impl Kept {
         }
     }
 
-    /// Gives the first bytes at a place, where they are kept or read to be, and answers how many. Those behind them are to
-    /// be read as they are asked for: that tells where the file ends. Why the call failed, where it did.
+    /// Gives the first bytes at an offset, if they are kept or read to be kept, and returns how many. The bytes after
+    /// them are to be read as they are asked for: only that read reports the end of the file. Returns the reason if the
+    /// call failed.
     pub(crate) fn give<F: SystemFile>(
         &mut self,
         alloc: Global,
@@ -75,7 +78,7 @@ impl Kept {
         Ok(n + self.held.give_behind(next, n, out))
     }
 
-    // So many bytes are read at a place. It is looked whether a piece begins there, which is read to be kept.
+    // This many bytes are read at an offset. If a piece begins there, its reads are kept.
     fn look(&mut self, alloc: Global, at: u64, bytes: usize)
         ensures { (c : List ℕ) → HoldsPart c self.old.held → HoldsPart c self.new.held }
     {

@@ -1,12 +1,13 @@
-//! Devices over any open file of the system, that tell what the file tells.
+//! Devices over any open file of the system. A device models its content if its file does.
 //!
 //! | file | has |
 //! |---|---|
-//! | `source.rt`, `partition.rt` | a file that is read, and one that is written, at any place; each call is one of the file |
-//! | `ahead.rt`, `ahead_file.rt` | a source whose small reads are read ahead, and whether its file still has them |
-//! | `held.rt` | bytes of a file that were read before they were asked for |
-//! | `kept.rt` | what was last read of a raw image, in which the next piece begins |
-//! | `gathering.rt`, `behind.rt` | a spool that takes small writes together, and what it holds |
+//! | `source.rt` | a file that is read at any offset; each call makes one call of the file |
+//! | `partition.rt` | a file that is written at any offset; each call makes one call of the file |
+//! | `ahead.rt`, `ahead_file.rt` | a source whose small reads are read ahead; whether its file still has those bytes |
+//! | `held.rt` | bytes of a file that were read ahead |
+//! | `kept.rt` | the bytes last read of a raw image, in which the next piece begins |
+//! | `gathering.rt`, `behind.rt` | a spool that collects small writes, and its buffer |
 #![tactic(auto)]
 
 mod ahead;

@@ -1,4 +1,5 @@
-//! A file or a block device that is written at any place, within the length that it had. Each call is one of the file.
+//! A file or a block device that is written at any offset, within the length that it had. Each call makes one call of
+//! the file.
 
 ghost use Rattle.std.specs.Prelude.{◌≡◌, IsTrue, IfOk, length, refl};
 ghost use Rattle.abt_io.specs.Moment.{no_past};
@@ -7,7 +8,7 @@ ghost use Rattle.sys_devices.specs.Past.{past_of};
 use abt_io::{DeviceFault, Partition, Source, Tally};
 use sys_file::{SystemFile, read_at, write_at};
 
-/// It tells what its file tells, and is what its file is: it keeps no copy of any byte.
+/// It models its content if its file does, with the file's content. It keeps no copy of any byte.
 #[derive(Drop)]
 pub struct FilePartition<F: SystemFile + Drop> {
     pub file: F,
@@ -27,7 +28,7 @@ pub struct FilePartition<F: SystemFile + Drop> {
 }
 
 impl<F: SystemFile + Drop> FilePartition<F> {
-    /// Takes the file's length, once. Nothing of it is pending. A refusal drops the file.
+    /// Takes the file's length, once. No byte of it is pending. On an error the file is dropped.
     pub fn new(file: F) -> Result<FilePartition<F>, DeviceFault>
         requires { IsTrue F.models → F.past file ≡ no_past }
         ensures begins { IfOk result (λ s. (s.puts.number ≡ 0) × (s.taken.number ≡ 0) × (s.synced.number ≡ 0)) }

@@ -1,4 +1,4 @@
-//! A file or a block device that is read at any place. Each call is one read of the file, without a buffer.
+//! A file or a block device that is read at any offset. Each call makes one read of the file, without a buffer.
 
 ghost use Rattle.std.specs.Prelude.{◌≡◌, ◌<◌, ◌^◌, [], IsTrue, IfOk, IsSome, length};
 ghost use Rattle.sys_file.specs.File.{ReadsAt, are_bytes_of, file_bytes};
@@ -19,7 +19,7 @@ pub struct FileSource<F: SystemFile + Drop> {
 }
 
 impl<F: SystemFile + Drop> FileSource<F> {
-    /// Takes the file's length, once. A refusal drops the file.
+    /// Takes the file's length, once. On an error the file is dropped.
     pub fn new(file: F) -> Result<FileSource<F>, DeviceFault>
         ensures begins { IfOk result (λ s. (s.reads.number ≡ 0) × (s.given.number ≡ 0) × (s.faults.number ≡ 0)) }
         ensures kept { IfOk result (λ s. IsSome s.file) }

@@ -1,22 +1,22 @@
--- Files that stand under given names, and that nothing else was changed.
+-- The files under given names, and that nothing else was changed.
 use Rattle.std.specs.Prelude.{◌≡◌, ◌⊎◌, ℕ, List, [], ◌∷◌, Option, Some, None, Contains}
 use Rattle.sys_disk.specs.World.{World, OpenFiles, KeepsBegun}
 
--- a file stands at this path, and holds these bytes
+-- this path leads to a file that holds these bytes
 pub record FileHolds (world : World) (path bytes : List ℕ) : Type 0 where
   pub file : ℕ
   pub there : world.at path ≡ Some file
   pub holds : world.holds file ≡ bytes
 
--- a file stands at one of these paths, and is none that is read
+-- the file is at one of these paths, and is none that is read
 pub record IsAmong (named : List ℕ → Type 0) (read : List ℕ) (world : World) (file : ℕ) : Type 0 where
   pub path : List ℕ
   pub is_named : named path
   pub there : world.at path ≡ Some file
   pub free : ¬ Contains read file
 
--- every path leads where it led; each file holds what it held, or stands at one of these paths; and so does each file
--- that was created or opened to be written
+-- every path leads where it led; each file holds what it held, or is at one of these paths; and so is each file that
+-- was created or opened to be written
 pub record OnlyAmong (named : List ℕ → Type 0) (read begun : List ℕ) (old new : World) : Type 0 where
   pub leads : (p : List ℕ) (f : ℕ) → old.at p ≡ Some f → new.at p ≡ Some f
   pub files : (f : ℕ) → (new.holds f ≡ old.holds f) ⊎ IsAmong named read new f
@@ -24,7 +24,7 @@ pub record OnlyAmong (named : List ℕ → Type 0) (read begun : List ℕ) (old 
 
 -- ---- for outputs that are written one after another
 
--- the same, from one moment of a run to another
+-- the same, from one state of a run to a later one
 pub record GoesAmong (named : List ℕ → Type 0) (held held' : OpenFiles) (old new : World) : Type 0 where
   pub read : held'.read ≡ held.read
   pub leads : (p : List ℕ) (f : ℕ) → old.at p ≡ Some f → new.at p ≡ Some f

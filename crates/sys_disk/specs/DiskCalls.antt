@@ -1,5 +1,6 @@
--- What one call of a disk does, whatever it answers, as far as the disk tells. Each record is over what the disk tells
--- of its files and of what was opened, before the call and after it, and over what a device tells that was opened.
+-- What one call of a disk does, whatever it returns, as far as the disk models its files. Each record is over the
+-- disk's model of its files and of what was opened, before the call and after it, and over the model of the device that
+-- was opened.
 use Rattle.std.specs.Prelude.{◌≡◌, ℕ, ◌+◌, List, [], None, Bool, IsTrue, Result, IfOk, OnOk, OnErr, is_ok, false}
 use Rattle.std.specs.Prelude.{replicate}
 use Rattle.abt_io.specs.Moment.{Past, no_past}
@@ -10,7 +11,7 @@ use Rattle.sys_disk.specs.World.{World, OpenFiles, OpensFile, Creates, OnlyAt, K
 use Rattle.sys_disk.specs.World.{SparesRest, HasNotFailed, failing, unless}
 use Rattle.sys_disk.specs.World as worlds
 
--- a file is opened to be read, or the call is refused; no file has changed
+-- a file is opened to be read, or the call fails; no file has changed
 pub record OpensToRead {A F : Type 0} (models : Bool) (r : Result A F) (path : List ℕ) (its_content : A → List ℕ)
     (its_faults : A → ℕ) (h h' : OpenFiles) (before after : World) : Type 0 where
   pub opened : IsTrue models → IfOk r (λ a. OpensFile before path (its_content a) h h')
@@ -23,14 +24,14 @@ pub record FailsOnly (models : Bool) (n : ℕ) (h h' : OpenFiles) (before after 
   pub held : IsTrue models → h' ≡ failing n h
   pub world : IsTrue models → after ≡ before
 
--- no file that is read or was begun is at this path, or the call is refused
+-- no file that is read or was begun is at this path, or the call fails
 pub record RefusesTaken {A F : Type 0} (models : Bool) (r : Result A F) (path : List ℕ) (h h' : OpenFiles)
     (before after : World) : Type 0 where
   pub free : IsTrue models → OnOk r (IsFree path h before)
   pub held : IsTrue models → h' ≡ failing (unless (is_ok r)) h
   pub world : IsTrue models → after ≡ before
 
--- a file is opened to be written in place, or the call is refused; no file has changed
+-- a file is opened to be written in place, or the call fails; no file has changed
 pub record OpensInPlace {A F : Type 0} (models : Bool) (r : Result A F) (path : List ℕ) (its_content : A → List ℕ)
     (its_past : A → Past) (its_faults : A → ℕ) (h h' : OpenFiles) (before after : World) : Type 0 where
   pub opened : IsTrue models → IfOk r (λ a. OpensPart before path (its_content a) h h')
@@ -39,7 +40,7 @@ pub record OpensInPlace {A F : Type 0} (models : Bool) (r : Result A F) (path : 
   pub kept : IsTrue models → OnErr r (h' ≡ failing 1 h)
   pub world : IsTrue models → after ≡ before
 
--- a file of so many zeros is made, to be written in place, or the call is refused: then only the file at this path may
+-- a file of this many zeros is made, to be written in place, or the call fails: then only the file at this path may
 -- hold anything else
 pub record MakesPart {A F : Type 0} (models : Bool) (r : Result A F) (n : ℕ) (path : List ℕ) (its_content : A → List ℕ)
     (its_past : A → Past) (its_faults : A → ℕ) (h h' : OpenFiles) (before after : World) : Type 0 where
@@ -51,7 +52,7 @@ pub record MakesPart {A F : Type 0} (models : Bool) (r : Result A F) (n : ℕ) (
   pub only : IsTrue models → OnErr r (OnlyAt h.read path before after)
   pub begun : IsTrue models → OnErr r (KeepsBegun h.begun before after)
 
--- pieces of so many bytes go through the file at this path, or the call is refused in the same way
+-- pieces of this many bytes go through the file at this path, or the call fails in the same way
 pub record OpensThrough {A F : Type 0} (models : Bool) (r : Result A F) (n : ℕ) (path : List ℕ) (its_size : A → ℕ)
     (its_written its_cuts : A → List ℕ) (its_faults : A → ℕ) (h h' : OpenFiles) (before after : World) : Type 0 where
   pub capacity : IfOk r (λ a. its_size a ≡ n)
@@ -63,7 +64,7 @@ pub record OpensThrough {A F : Type 0} (models : Bool) (r : Result A F) (n : ℕ
   pub only : IsTrue models → OnErr r (OnlyAt h.read path before after)
   pub begun : IsTrue models → OnErr r (KeepsBegun h.begun before after)
 
--- the file at this path is the output that is open, or the call is refused in the same way
+-- the file at this path is the open output, or the call fails in the same way
 pub record CreatesOutput {A F : Type 0} (models : Bool) (r : Result A F) (path : List ℕ) (its_written : A → List ℕ)
     (its_faults : A → ℕ) (h h' : OpenFiles) (before after : World) : Type 0 where
   pub empty : IfOk r (λ a. its_written a ≡ [])
@@ -73,8 +74,8 @@ pub record CreatesOutput {A F : Type 0} (models : Bool) (r : Result A F) (path :
   pub only : IsTrue models → OnErr r (OnlyAt h.read path before after)
   pub begun : IsTrue models → OnErr r (KeepsBegun h.begun before after)
 
--- the output that is open is brought to its end, and holds these bytes, or the call is refused; it is answered whether
--- that is where standard output goes
+-- the open output is finished, and holds these bytes, or the call fails; it returns whether that is where standard
+-- output goes
 pub record FinishesOutput {F : Type 0} (models : Bool) (r : Result Bool F) (is_on_output : Bool) (bytes : List ℕ)
     (failures : ℕ) (h h' : OpenFiles) (before after : World) : Type 0 where
   pub ended : IsTrue models → OnOk r (Ends h.output bytes before after)
@@ -82,12 +83,12 @@ pub record FinishesOutput {F : Type 0} (models : Bool) (r : Result Bool F) (is_o
   pub rest : IsTrue models → SparesRest h.output before after
   pub stream : IsTrue models → IfOk r (λ is. is ≡ is_on_output)
 
--- the output that is open is let go
+-- the open output is closed
 pub record LetsGo (models : Bool) (failures : ℕ) (h h' : OpenFiles) (before after : World) : Type 0 where
   pub closed : IsTrue models → h' ≡ worlds.ended false failures h
   pub rest : IsTrue models → SparesRest h.output before after
 
--- and it holds these bytes, or its front isn't there
+-- and it holds these bytes, or has no magic at its beginning
 pub record LetsImageGo (models : Bool) (bytes : List ℕ) (failures : ℕ) (h h' : OpenFiles) (before after : World) :
     Type 0
   where

@@ -1,4 +1,4 @@
--- A file that is written in place: it was there, is opened, and is closed.
+-- A file that is written in place: it existed, is opened, and is closed.
 use Rattle.std.specs.Prelude.{◌≡◌, ℕ, ◌+◌, List, [], ◌∷◌, length, Option, Some, None, Bool, false, Contains, nat_lt}
 use Rattle.std.specs.Prelude.{◌<◌, IsTrue, if◌then◌else◌, replicate}
 use Rattle.abt_io.specs.Moment.{Past}
@@ -17,7 +17,7 @@ pub record OpensPart (world : World) (path bytes : List ℕ) (old new : OpenFile
   pub held : bytes ≡ world.holds file
   pub taken : new ≡ in_place file old
 
--- a sync has succeeded, and nothing was written behind it
+-- a sync has succeeded, and nothing was written after it
 abbrev pub is_settled_in : List (ℕ × ℕ) → ℕ → Bool
 is_settled_in [] synced = nat_lt 0 synced
 is_settled_in (r ∷ rs) synced = false
@@ -25,7 +25,7 @@ is_settled_in (r ∷ rs) synced = false
 abbrev pub is_settled : Past → Bool
 is_settled past = is_settled_in past.pending past.synced
 
--- it is closed, and has failed so often; one sync more, where it was synced behind its last byte
+-- it is closed, and has failed this often; one sync more, if it was synced after its last byte
 abbrev pub closed_part : Past → ℕ → OpenFiles → OpenFiles
 closed_part past failures h = record h {
   part = None;
@@ -33,16 +33,16 @@ closed_part past failures h = record h {
   failed = h.failed + failures;
 }
 
--- The file that was written in place is closed, and the call that wrote it was answered so. It is done only where
--- nothing failed at the end, and where the call had done its work it is refused only where something has.
+-- The file that was written in place is closed, and this is the result of the call that wrote it. The result is Ok only
+-- if nothing failed at the end. If the call had done its work, the result is an error only if something has failed.
 pub record ClosesPart (is_written is_done : Bool) (past : Past) (failures : ℕ) (old new : OpenFiles) : Type 0 where
   pub more : ℕ
   pub closed : new ≡ failing more (closed_part past failures old)
   pub clean : IsTrue is_done → more ≡ 0
   pub cause : IsTrue is_written → is_done ≡ false → 0 < more
 
--- the file at this path was created or emptied, and is so many zeros, to be written in place: none that is read or was
--- begun, and all others are as before
+-- the file at this path was created or emptied, and is this many zeros, to be written in place: none that is read or
+-- was begun, and all others are as before
 pub record MakesZeros (n : ℕ) (path : List ℕ) (held held' : OpenFiles) (old new : World) : Type 0 where
   pub file : ℕ
   pub begins : held' ≡ in_place file held
@@ -57,7 +57,7 @@ abbrev pub IsAsLong : Option ℕ → List ℕ → World → Type 0
 IsAsLong None bytes world = Unit {0}
 IsAsLong (Some file) bytes world = length bytes ≡ length (world.holds file)
 
--- every path leads where it led, and each file holds what it held, but maybe the one at this path
+-- every path leads where it led, and each file holds what it held, except perhaps the one at this path
 pub record SparesOthers (path : List ℕ) (old new : World) : Type 0 where
   pub paths : new.at ≡ old.at
   pub files : (f : ℕ) → ¬ (old.at path ≡ Some f) → new.holds f ≡ old.holds f

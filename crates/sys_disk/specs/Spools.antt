@@ -7,7 +7,7 @@ use Rattle.sys_disk.specs.World.{World, OpenFiles, Spares}
 abbrev pub through : ℕ → OpenFiles → OpenFiles
 through file h = record h { begun = file ∷ h.begun; spool = Some file }
 
--- it is closed, and has failed so often
+-- it is closed, and has failed this often
 abbrev pub closed_spool : ℕ → OpenFiles → OpenFiles
 closed_spool failures h = record h { spool = None; failed = h.failed + failures }
 
@@ -21,6 +21,6 @@ pub record OpensSpool (path : List ℕ) (held held' : OpenFiles) (old new : Worl
   pub fresh : ¬ Contains held.begun file
   pub spares : Spares file old new
 
--- what was written behind the last clear
+-- what was written after the last clear
 abbrev pub behind_clear : List ℕ → List ℕ → List ℕ
 behind_clear cuts written = drop (last_cut cuts) written

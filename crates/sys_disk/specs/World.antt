@@ -1,4 +1,4 @@
--- The files of a disk, which of them are open, and what the calls of a run leave of them.
+-- The files of a disk, which of them are open, and how the calls of a run change them.
 use Rattle.std.specs.Prelude.{◌≡◌, ◌≢◌, ◌<◌, ℕ, ◌+◌, List, [], ◌∷◌, ◌++◌, Option, Some, None, Bool, true, false}
 use Rattle.std.specs.Prelude.{Contains, IsTrue, ◌&&◌, if◌then◌else◌}
 
@@ -7,9 +7,9 @@ pub record World : Type 0 where
   pub at : List ℕ → Option ℕ
   pub holds : ℕ → List ℕ
 
--- What was opened: the files that are read; those that were created or opened to be written, the newest first; the
--- output that is open, the file that is written in place, and the one that pieces go through; whether outputs are
--- synced at their end, and how often one was; how often a call was refused, or a device failed that was given back.
+-- What was opened: the files that are read; those that were created or opened to be written, the newest first; the open
+-- output, the file that is written in place, and the one that pieces go through; whether outputs are synced at their
+-- end, and how often one was; how often a call failed, or a device failed that was given back.
 pub record OpenFiles : Type 0 where
   pub read : List ℕ
   pub begun : List ℕ
@@ -25,20 +25,20 @@ pub record IsReading (h : OpenFiles) : Type 0 where
   pub begun : h.begun ≡ []
   pub output : h.output ≡ None
 
--- 1 where a call was refused
+-- 1 where a call failed
 abbrev pub unless : Bool → ℕ
 unless true = 0
 unless false = 1
 
--- a call was refused, or a device failed, so many times more
+-- a call failed, or a device failed, this many times more
 abbrev pub failing : ℕ → OpenFiles → OpenFiles
 failing n h = record h { failed = h.failed + n }
 
--- in this run a call was refused, or a device failed
+-- in this run a call failed, or a device failed
 abbrev pub HasFailed : OpenFiles → OpenFiles → Type 0
 HasFailed old new = old.failed < new.failed
 
--- none was, and none did
+-- no call failed, and no device did
 abbrev pub HasNotFailed : OpenFiles → OpenFiles → Type 0
 HasNotFailed old new = new.failed ≡ old.failed
 
@@ -46,11 +46,11 @@ HasNotFailed old new = new.failed ≡ old.failed
 abbrev pub reading : ℕ → OpenFiles → OpenFiles
 reading file h = record h { read = h.read ++ (file ∷ []) }
 
--- this file more is written, and is the output that is open
+-- this file more is written, and is the open output
 abbrev pub creating : ℕ → OpenFiles → OpenFiles
 creating file h = record h { begun = file ∷ h.begun; output = Some file }
 
--- the output that was open is closed, and synced where it was brought to its end and outputs are; so much has failed
+-- the output that was open is closed, and synced if it was finished and outputs are synced; this much has failed
 abbrev pub ended : Bool → ℕ → OpenFiles → OpenFiles
 ended is_done failures h = record h {
   output = None;
@@ -58,14 +58,14 @@ ended is_done failures h = record h {
   failed = h.failed + failures;
 }
 
--- the output that was open is closed: it was brought to its end exactly where nothing has failed
+-- the output that was open is closed: it was finished exactly if nothing has failed
 pub record ClosesOutput (is_done : Bool) (old new : OpenFiles) : Type 0 where
   pub failures : ℕ
   pub closed : new ≡ ended is_done failures old
   pub clean : IsTrue is_done → failures ≡ 0
   pub cause : is_done ≡ false → 0 < failures
 
--- 1 where the end was refused of what was done before
+-- 1 where the end failed of what was done before
 abbrev pub unended : Bool → Bool → ℕ
 unended true is_done = unless is_done
 unended false is_done = 0
@@ -102,7 +102,7 @@ abbrev pub IsFree : List ℕ → OpenFiles → World → Type 0
 IsFree path held world =
     (file : ℕ) → world.at path ≡ Some file → (¬ Contains held.read file) × (¬ Contains held.begun file)
 
--- the output that is open holds these bytes, and all other files are as before
+-- the open output holds these bytes, and all other files are as before
 abbrev pub Ends : Option ℕ → List ℕ → World → World → Type 0
 Ends None bytes old new = Unit {0}
 Ends (Some file) bytes old new = (new.holds file ≡ bytes) × Spares file old new
@@ -112,7 +112,7 @@ abbrev pub SparesRest : Option ℕ → World → World → Type 0
 SparesRest None old new = new ≡ old
 SparesRest (Some file) old new = Spares file old new
 
--- the file at this path, if one is there, holds what it held
+-- the file at this path, if there is one, holds what it held
 abbrev pub KeepsFile : List ℕ → World → World → Type 0
 KeepsFile path old new = (file : ℕ) → old.at path ≡ Some file → new.holds file ≡ old.holds file
 

@@ -1,4 +1,4 @@
-//! What a call answered that wrote a file in place, once that is closed.
+//! The result of a call that wrote a file in place, once that file is closed.
 
 ghost use Rattle.std.specs.Prelude.{◌≡◌, IsTrue, IsOk, IfOk, IfErr, Ok, is_ok};
 ghost use Rattle.sys_disk.specs.InPlace.{ClosesPart, IsAsLong};
@@ -9,8 +9,8 @@ ghost use Rattle.sys_refusals.specs.declared.refusal.HostFault.{HostFault};
 use crate::Disk;
 use sys_refusals::{FileArg, HostFault, Refusal, Sides, Told};
 
-/// What a call answered that wrote a file in place, which is closed, and whether that is where standard output goes. Where
-/// the call was refused, its fault is told.
+/// Returns the result of a call that wrote a file in place, which is closed now, and whether that file is where
+/// standard output goes. If the call failed, its fault is returned.
 pub fn closed<'a, D: Disk, T: Drop, F: Told + From<HostFault> + Drop>(
     disk: &mut D,
     answer: Result<T, F>,

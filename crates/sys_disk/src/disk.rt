@@ -1,4 +1,4 @@
-//! What a command asks of the system, and what contracts know of it.
+//! The calls of a disk, which a command makes, and what contracts know of its files.
 
 ghost use Rattle.std.specs.Prelude.{◌≡◌, ◌+◌, ℕ, List, [], None, Bool, IsTrue, IfOk, IfErr, OnOk, OnErr, is_ok};
 ghost use Rattle.std.specs.Prelude.{is_some, string_bytes, false};
@@ -17,43 +17,43 @@ use abt_io::{Input, Output, Overwrite, Partition, Source, Spool};
 use std::alloc::AllocError;
 use sys_refusals::{FileArg, HostFault, HostRefusal};
 
-/// A device that knows why its last call failed.
+/// A device that has the reason why its last call failed.
 pub trait Reasons {
-    /// The number of the system's error, where its last call failed.
+    /// The number of the system's error, if the last call failed.
     fn why(&self) -> Option<i32>;
 }
 
-/// An input that may know how long it is.
+/// An input whose length may be known.
 pub trait Measured {
-    /// How many bytes it has from its front on, where that is known before they are read.
+    /// The number of bytes from its beginning on, if that is known before they are read.
     fn known_length(&self) -> Option<u64>;
 }
 
-/// The files of a run. All that is read is opened before anything is written, and at most one output is open.
+/// The files of a run. All inputs are opened before anything is written, and at most one output is open.
 ///
-/// A clause under `IsTrue tells` speaks of what files hold, and binds only a disk that tells it. What was opened is
-/// given back: an output by `finish` or `give_up`, what was read by `let_go` or `let_go_source`. So a disk counts what
-/// has failed: each call of it that was refused, and each fault of a device.
+/// A clause under `IsTrue models` is about the content of files, and binds only a disk that models it. What was opened
+/// is given back: an output by `finish` or `give_up`, an input by `let_go` or `let_go_source`. So a disk counts the
+/// failures: each of its calls that failed, and each fault of a device.
 pub trait Disk {
     /// What is read forward.
     type From: Input + Reasons + Measured + Drop;
 
-    /// What is written from its front on.
+    /// What is written from its beginning on.
     type Onto: Output + Reasons + Drop;
 
-    /// What is read at any place.
+    /// What is read at any offset.
     type At: Source + Lasting + Drop;
 
     /// What is written in place.
     type InPlace: Partition + Drop;
 
-    /// A regular file that an image goes to, which is written over.
+    /// A regular file for an image, which can be overwritten.
     type Image: Late + Reasons + Drop;
 
     /// What pieces go through.
     type Through: Spool + Overwrite + Drop;
 
-    /// It tells what its files hold.
+    /// Whether it models the content of its files.
     ghost models: { Bool };
 
     /// Its files.
@@ -62,7 +62,7 @@ pub trait Disk {
     /// What was opened.
     ghost held: { Self → OpenFiles };
 
-    /// Which paths lead to regular files, where an image can be written over.
+    /// Which paths lead to regular files, where an image can be overwritten.
     ghost is_over: { List ℕ → Bool };
 
     /// Which paths lead to where standard output goes.
@@ -74,20 +74,20 @@ pub trait Disk {
         ensures { OpensToRead models result (path_in place.entry) Self.From.remaining Self.From.read_faults
             (held self.old) (held self.new) (world self.old) (world self.new) };
 
-    /// Opens what is read at any place. `-` is a file of that name.
+    /// Opens what is read at any offset. `-` is a file of that name.
     fn source<'a>(&mut self, place: FileArg<'a>) -> Result<Self::At, HostRefusal<'a>>
         requires first { IsTrue models → (held self.old).begun ≡ [] }
         ensures { OpensToRead models result (path_of place.entry) Self.At.content Self.At.read_faults
             (held self.old) (held self.new) (world self.old) (world self.new) };
 
-    /// Opens the same, of which small reads may be answered from what was read before: so it is to be asked whether the
-    /// file has become shorter.
+    /// Opens the same. Small reads may be served from earlier reads, so the caller must ask whether the file has become
+    /// shorter.
     fn ahead<'a>(&mut self, place: FileArg<'a>) -> Result<Self::At, HostRefusal<'a>>
         requires first { IsTrue models → (held self.old).begun ≡ [] }
         ensures { OpensToRead models result (path_of place.entry) Self.At.content Self.At.read_faults
             (held self.old) (held self.new) (world self.old) (world self.new) };
 
-    /// What is open, to be read a second time beside the first.
+    /// Opens a source once more, to be read beside the first.
     fn again<'a>(&mut self, at: &Self::At, place: FileArg<'a>) -> Result<Self::At, HostRefusal<'a>>
         ensures content { IsTrue Self.At.models → IfOk result
             (λ again. Self.At.content again ≡ Self.At.content at.now) }
@@ -103,38 +103,37 @@ pub trait Disk {
         ensures kept { IsTrue models → OnErr result (held self.new ≡ failing 1 (held self.old)) }
         ensures world { IsTrue models → world self.new ≡ world self.old };
 
-    /// Lets go what was read forward.
+    /// Closes what was read forward.
     fn let_go(&mut self, from: Self::From)
         ensures { FailsOnly models (Self.From.read_faults from) (held self.old) (held self.new) (world self.old)
             (world self.new) };
 
-    /// Lets go what was read at any place.
+    /// Closes what was read at any offset.
     fn let_go_source(&mut self, at: Self::At)
         ensures { FailsOnly models (Self.At.read_faults at) (held self.old) (held self.new) (world self.old)
             (world self.new) };
 
-    /// Opens a file that is there, to be written in place.
+    /// Opens an existing file, to be written in place.
     fn partition<'a>(&mut self, place: FileArg<'a>) -> Result<Self::InPlace, HostRefusal<'a>>
         requires one { IsTrue models → (held self.old).part ≡ None }
         ensures { OpensInPlace models result (path_of place.entry) Self.InPlace.content Self.InPlace.past
             Self.InPlace.put_faults (held self.old) (held self.new) (world self.old) (world self.new) };
 
-    /// The number of the system's error, where the last call of what is written in place failed.
+    /// The number of the system's error, if the last call of what is written in place failed.
     fn why_of_part(&self, part: &Self::InPlace) -> Option<i32>;
 
-    /// The same of what pieces go through.
+    /// The same for the file that pieces go through.
     fn why_of_spool(&self, through: &Self::Through) -> Option<i32>;
 
-    /// Refuses where a file that is read is not as it was when it was opened, as far as the system tells: it has another
-    /// length, or another time of modification. To be asked where the work ends that writes nothing: what closes an output
-    /// or brings it to its end asks it too.
+    /// Fails if a file that is read is not as it was when it was opened, as far as the system reports it: it has
+    /// another length, or another time of modification. Work that writes nothing asks this at its end. What closes or
+    /// finishes an output asks it too.
     fn unchanged<'a>(&mut self) -> Result<(), HostRefusal<'a>>
         ensures { FailsOnly models (unless (is_ok result)) (held self.old) (held self.new) (world self.old)
             (world self.new) };
 
-    /// Closes the file that is open in place. It holds what the partition holds, which is as long as it was. Answers
-    /// whether it is where standard output goes. Refused where the system refuses to close it, or where what was read for
-    /// it has changed.
+    /// Closes the file that is open in place. It holds what the partition holds, and is as long as it was. Returns
+    /// whether it is where standard output goes. Fails if the system fails to close it, or if an input has changed.
     fn close<'a>(
         &mut self,
         part: Self::InPlace,
@@ -149,7 +148,8 @@ pub trait Disk {
         ensures rest { IsTrue models → SparesRest (held self.old).part (world self.old) (world self.new) }
         ensures stream { IsTrue models → IfOk result (λ is. is ≡ on_output (path_of place.entry)) };
 
-    /// Creates or empties a regular file, and makes it so many zeros, to be written in place. Nothing else will do.
+    /// Creates or empties a regular file, and makes it this many zeros, to be written in place. Fails for any other
+    /// kind of file.
     fn zeros<'a>(
         &mut self,
         place: FileArg<'a>,
@@ -159,9 +159,9 @@ pub trait Disk {
         ensures { MakesPart models result bytes (path_of place.entry) Self.InPlace.content Self.InPlace.past
             Self.InPlace.put_faults (held self.old) (held self.new) (world self.old) (world self.new) };
 
-    /// Creates or empties the file that pieces of so many bytes go through, which is read again. All that goes through it
-    /// comes from a source: it is not given back where that has become shorter. Where the file is `keeping` its pages, it
-    /// begins with four zeros and may have anything behind them, until the first byte is read.
+    /// Creates or empties the file that pieces of this many bytes go through, which is read again. All bytes in it come
+    /// from a source: they are not given back if that has become shorter. Where the file is `keeping` its pages, it
+    /// begins with four zeros and may have anything after them, until the first byte is read.
     fn spool<'a>(
         &mut self,
         place: FileArg<'a>,
@@ -175,8 +175,8 @@ pub trait Disk {
             + (Self.Through.Input.read_faults through + Self.Through.Spool.clear_faults through))
             (held self.old) (held self.new) (world self.old) (world self.new) };
 
-    /// Closes the file that pieces went through, which holds what it took since it was cleared last. Refused where a
-    /// byte of that could not be written. Answers whether it was not given back since its source had changed.
+    /// Closes the file that pieces went through, which holds what it took since the last clear. Fails if a byte of that
+    /// could not be written. Returns whether bytes were not given back because its source had changed.
     fn close_spool<'a>(
         &mut self,
         through: Self::Through,
@@ -191,18 +191,18 @@ pub trait Disk {
             + Self.Through.Spool.clear_faults through))) (held self.old) }
         ensures rest { IsTrue models → SparesRest (held self.old).spool (world self.old) (world self.new) };
 
-    /// Whether a file is there.
+    /// Whether a file exists.
     fn is_there<'a>(&self, place: FileArg<'a>) -> Result<bool, HostRefusal<'a>>
         ensures there { IsTrue models → IfOk result (λ is. is ≡ is_some ((world self.now).at (path_of place.entry))) }
         ensures memory { IfErr result (λ refusal. refusal.fault ≡ HostFault.Memory) };
 
-    /// The least number above this one at which a file is, with that number behind the name that this place has. A system
-    /// that does not show what a folder holds may answer as if only the next number were there.
+    /// The least number above this one at which a file exists, with that number after the name of this place. A system
+    /// that does not list a folder may answer as if only the next number existed.
     fn left_over(&self, place: FileArg<'_>, behind: u32) -> Result<Option<u32>, AllocError>
         ensures { IsTrue models → IfOk result (IsNextLeft (λ n. (world self.now).at (path_with place.entry n))
             behind) };
 
-    /// Refuses a path that is going to be written where it leads to a file that is read, or that was begun.
+    /// Fails if a path that is going to be written leads to a file that is read, or that was begun.
     fn refuse_taken<'a>(&mut self, place: FileArg<'a>) -> Result<(), HostRefusal<'a>>
         ensures { RefusesTaken models result (path_of place.entry) (held self.old) (held self.new) (world self.old)
             (world self.new) };
@@ -219,8 +219,8 @@ pub trait Disk {
         ensures { CreatesOutput models result (path_out place.entry) Self.Onto.written Self.Onto.write_faults
             (held self.old) (held self.new) (world self.old) (world self.new) };
 
-    /// Creates or empties the file of an image that has a magic. `-` is standard output. Where it is gathered, a file may
-    /// hold much of what it took until its end, so that is for who waits for nobody meanwhile.
+    /// Creates or empties the file of an image that has a magic. `-` is standard output. Where it is gathered, much of
+    /// what it took may be buffered until its end. So that is for outputs that nobody waits for meanwhile.
     fn image<'a>(
         &mut self,
         place: FileArg<'a>,
@@ -242,19 +242,19 @@ pub trait Disk {
         ensures empties { IsTrue models → OnErr result (EmptiesAt (path_out place.entry) (world self.old)
             (world self.new)) };
 
-    /// Brings the output that is open to its end: all that it took is in its file, and synced where that is wanted.
-    /// Answers whether it is where standard output goes.
+    /// Finishes the open output: all that it took is in its file, and synced if that is wanted. Returns whether it is
+    /// where standard output goes.
     fn finish<'a>(&mut self, onto: Self::Onto, place: FileArg<'a>) -> Result<bool, HostRefusal<'a>>
         ensures { FinishesOutput models result (on_output (path_out place.entry)) (Self.Onto.written onto)
             (Self.Onto.write_faults onto) (held self.old) (held self.new) (world self.old) (world self.new) };
 
-    /// Lets the output go that is open, where the work before failed.
+    /// Closes the open output after the work before has failed.
     fn give_up(&mut self, onto: Self::Onto)
         ensures { LetsGo models (Self.Onto.write_faults onto) (held self.old) (held self.new) (world self.old)
             (world self.new) };
 
-    /// Brings the image that is open to its end, as `finish` does. Where that cannot be done, its file holds all the
-    /// same, or nothing at its front.
+    /// Finishes the open image, as `finish` does. If that fails, its file holds all of it anyway, or has no magic at
+    /// its beginning.
     fn finish_image<'a>(
         &mut self,
         image: Self::Image,
@@ -269,20 +269,20 @@ pub trait Disk {
         ensures rest { IsTrue models → SparesRest (held self.old).output (world self.old) (world self.new) }
         ensures stream { IsTrue models → IfOk result (λ is. is ≡ on_output (path_out place.entry)) };
 
-    /// Lets the image go that is open, where the work before failed. Its file holds what was written, or nothing at its
-    /// front.
+    /// Closes the open image after the work before has failed. Its file holds what was written, or has no magic at its
+    /// beginning.
     fn give_up_image(&mut self, image: Self::Image)
         ensures { LetsImageGo models (Self.Image.Output.written image) (Self.Image.Output.write_faults image)
             (held self.old) (held self.new) (world self.old) (world self.new) };
 
-    /// What it opens to be read tells its bytes.
+    /// The inputs that it opens model their content.
     ghost told: { IsTrue models → IsTrue Self.From.models };
 
     ghost source_told: { IsTrue models → IsTrue Self.At.models };
 
-    /// What it opens to be written in place does.
+    /// What it opens to be written in place models its content.
     ghost part_told: { IsTrue models → IsTrue Self.InPlace.models };
 
-    /// And what pieces go through.
+    /// And so does what pieces go through.
     ghost through_told: { IsTrue models → IsTrue Self.Through.Input.models };
 }

@@ -1,4 +1,4 @@
-//! What a call answered, once its output is at its end.
+//! The result of a call, once its output is finished.
 
 ghost use Rattle.std.specs.Prelude.{◌≡◌, ◌+◌, IsTrue, IsOk, IfOk, IfErr, OnOk, Ok, is_ok};
 ghost use Rattle.sys_disk.specs.World.{Ends, SparesRest, ended, unended};
@@ -8,8 +8,8 @@ ghost use Rattle.sys_refusals.specs.declared.refusal.HostFault.{HostFault};
 use crate::{Disk, Reasons};
 use sys_refusals::{FileArg, HostFault, Refusal, Sides, Told};
 
-/// What a call answered that wrote an output, and whether the output is where standard output goes. Where the call was
-/// refused, the output is sent what it took, and the fault of the call is told.
+/// Returns the result of a call that wrote an output, and whether the output is where standard output goes. If the call
+/// failed, what the output took is sent, and the fault of the call is returned.
 pub fn ended<'a, D: Disk, T: Drop, F: Told + From<HostFault> + Drop>(
     disk: &mut D,
     answer: Result<T, F>,

@@ -1,21 +1,21 @@
-//! Where an image goes that has a magic.
+//! The output of an image that has a magic.
 
 ghost use Rattle.std.specs.Prelude.{◌≡◌, ◌<◌, ◌≤◌, IfErr, OnOk, OnErr};
 
 use abt_io::{DeviceFault, Overwrite};
 
-/// A file that an image goes to, which is written over.
+/// The output of an image, which can be overwritten.
 #[derive(Drop)]
 pub enum ImageTo<F, S> {
-    /// A regular file, in which the magic is laid last: what is broken off has none.
+    /// A regular file, in which the magic is written last: an image that was broken off has none.
     File(F),
-    /// A pipe, a device or standard output, which is written from its front on.
+    /// A pipe, a device or standard output, which is written from its beginning on.
     Stream(S),
 }
 
-/// An output that is written over, and may have taken what its file does not hold yet.
+/// An output that can be overwritten, and may have buffered what it took.
 pub trait Late: Overwrite {
-    /// Has all written that it took. Where that cannot be done, a write is refused that came before the call at hand.
+    /// Writes all that it took. If that fails, a write before the present call has failed.
     fn settle(&mut self) -> Result<(), DeviceFault>
         ensures kept { Self.written self.new ≡ Self.written self.old }
         ensures faults { Self.write_faults self.old ≤ Self.write_faults self.new }

@@ -1,14 +1,14 @@
-//! The disk of a run: what is opened to be read, and then what is created, written and brought to its end.
+//! The disk of a run: a command opens its inputs, and then creates, writes and finishes its outputs.
 //!
-//! A command that is written over any `Disk` can be proved to leave the files that it should: at a disk that tells what
-//! its files hold, as `mem_disk` has one, each clause speaks. The program's own disk, over the system's files, tells nothing.
+//! A command is generic over any `Disk`, so the files that it leaves can be proved. A disk that models its files, such
+//! as `mem_disk`, is bound by every clause. The program's own disk, over the system's files, models nothing.
 //!
 //! | file | has |
 //! |---|---|
 //! | `disk.rt` | the calls of a disk, and what contracts know of its files |
 //! | `lasting.rt` | a source whose file may change while it is read |
-//! | `image_to.rt` | where an image goes that has a magic |
-//! | `ending.rt`, `closing.rt` | what a call answered, once its output is at its end, or its file in place is closed |
+//! | `image_to.rt` | the output of an image that has a magic |
+//! | `ending.rt`, `closing.rt` | the result of a call, once its output is finished, or its file in place is closed |
 #![tactic(auto)]
 
 mod closing;

@@ -1,11 +1,11 @@
--- What a call leaves of a file's pending bytes and moments. They are those of a partition.
+-- How a call changes a file's pending bytes and intermediate states. They are those of a partition.
 use Rattle.std.specs.Prelude.{◌≡◌, ◌+◌, [], ℕ, List, Result, OnOk, OnErr, is_ok, false, if◌then◌else◌}
 use Rattle.abt_io.specs.Count.{count_of}
 use Rattle.abt_io.specs.Moment.{Past, Keeps, EachSince, IsNewest, MayLeave, StaysPending, AllPending}
 use Rattle.abt_io.specs.Moment.{in_range, moment_of}
 
--- A write within the length of a file. What it took is pending, and a crash may leave what was there before. Nothing
--- outside the range changes.
+-- A write within the length of a file. The bytes that it wrote are pending, and a crash may restore what was there
+-- before. Nothing outside the range changes.
 pub record LaysWithin {E : Type 0} (old new : List ℕ) (past past' : Past) (r : Result ℕ E) (at n : ℕ) : Type 0 where
   pub kept : Keeps (in_range at n) (moment_of past old) (moment_of past' new)
   pub moments : EachSince past.moments past'.moments (λ m. m ≡ moment_of past' new)

@@ -1,16 +1,16 @@
-//! One open file of the system: its calls as a trait, and what POSIX promises of each as their contracts.
+//! An open file of the system: its calls are a trait, and the contracts of the calls are what POSIX promises of each.
 //!
-//! Devices stand on this trait. They are proved for every file that tells what it holds. A file in memory tells; a file
-//! of the system tells nothing, and is the same code.
+//! The devices are generic over this trait. They are proved for every file that models its content. A file in memory
+//! models its content. A file of the system models nothing, and runs the same code.
 //!
 //! | file | has |
 //! |---|---|
-//! | `system_file.rt` | one open file |
-//! | `os_file.rt` | a file of the system, which is trusted |
-//! | `system.rt` | what opens files, and tells which file it is |
-//! | `stat.rt` | what the system tells of a file |
-//! | `tries.rt` | the one place where a call that a signal interrupted is made again |
-//! | `held_bytes.rt` | a write over bytes that are held |
+//! | `system_file.rt` | the trait of one open file |
+//! | `os_file.rt` | the calls of a file of std, which are trusted to meet the contracts |
+//! | `system.rt` | the trait of a system, which opens files and identifies them |
+//! | `stat.rt` | what `stat` returns for a file |
+//! | `tries.rt` | one call that is repeated when a signal interrupts it |
+//! | `held_bytes.rt` | a write over buffered bytes |
 #![tactic(auto)]
 
 mod held_bytes;

@@ -1,4 +1,5 @@
-//! A file of the system. Each call is one of std; what it is trusted to do is the trait's contract.
+//! The calls of a file of std. Each function makes one call of std. The file is trusted to meet the contracts of the
+//! trait.
 
 ghost use Rattle.std.specs.Prelude.{[], false};
 ghost use Rattle.std.proofs.lemmas.Bool.{false≢true};

@@ -1,6 +1,6 @@
-//! What the system tells of a file.
+//! What the system returns for a file: its kind, its identity, its length and its time of modification.
 
-/// What a file is.
+/// The kind of a file.
 #[derive(Clone, Copy, PartialEq, Eq)]
 pub enum Kind {
     File,
@@ -11,19 +11,19 @@ pub enum Kind {
     Other,
 }
 
-/// What the system tells of a file, as `stat` does.
+/// What the system returns for a file, as `stat` does.
 #[derive(Clone, Copy, Drop)]
 pub struct Stat {
     pub kind: Kind,
-    /// The number of the device that it is on.
+    /// The number of the device that the file is on.
     pub on: u64,
-    /// Its number there.
+    /// The file's number on that device.
     pub number: u64,
-    /// The number of the device that it is, if it is one.
+    /// The number of the device that the file itself is, if it is a device.
     pub device: u64,
-    /// How long a regular file is.
+    /// The length of a regular file.
     pub length: u64,
-    /// When it was last written, as its file system tells.
+    /// The time of the last write, as the file system reports it.
     pub second: i64,
     pub nanosecond: i64,
 }

@@ -1,4 +1,4 @@
-//! One call of the system, which is made again where a signal came in between. Nowhere else is one tried again.
+//! One call of the system, which is repeated when a signal interrupts it. No other code repeats a call.
 
 ghost use Rattle.std.specs.Prelude.{◌≡◌, ◌<◌, ◌≤◌, ◌+◌, ◌^◌, IsTrue, IfOk, length};
 ghost use Rattle.abt_io.specs.Count.{count_of};
@@ -26,7 +26,7 @@ pub fn read_at<F: SystemFile>(file: &F, at: u64, out: &mut [u8]) -> io::Result<u
     Err(io::Error::from(ErrorKind::Interrupted))
 }
 
-/// One write. It takes some of what there is.
+/// One write. It writes some of the given bytes.
 pub fn write_at<F: SystemFile>(file: &mut F, at: u64, bytes: &[u8]) -> io::Result<usize>
     requires { IsTrue F.models → at ≤ length (F.stands file.old) }
     ensures writes { WritesAt F.models (F.stands file.old) (F.stands file.new) result at bytes.now }
@@ -49,7 +49,7 @@ pub fn write_at<F: SystemFile>(file: &mut F, at: u64, bytes: &[u8]) -> io::Resul
     Err(io::Error::from(ErrorKind::Interrupted))
 }
 
-/// One read at the file's place.
+/// One read at the file's position.
 pub fn read<F: SystemFile>(file: &mut F, out: &mut [u8]) -> io::Result<usize>
     ensures { ReadsAtPlace F.models (F.stands file.old) (F.stands file.new) (F.place file.old) (F.place file.new) result
         out.new }
@@ -67,7 +67,7 @@ pub fn read<F: SystemFile>(file: &mut F, out: &mut [u8]) -> io::Result<usize>
     Err(io::Error::from(ErrorKind::Interrupted))
 }
 
-/// One write at the file's place. It takes some of what there is.
+/// One write at the file's position. It writes some of the given bytes.
 pub fn write<F: SystemFile>(file: &mut F, bytes: &[u8]) -> io::Result<usize>
     requires { IsTrue F.models → F.place file.old ≤ length (F.stands file.old) }
     ensures writes { WritesAt F.models (F.stands file.old) (F.stands file.new) result (F.place file.old) bytes.now }
@@ -88,7 +88,7 @@ pub fn write<F: SystemFile>(file: &mut F, bytes: &[u8]) -> io::Result<usize>
     Err(io::Error::from(ErrorKind::Interrupted))
 }
 
-/// Writes these bytes at a place, and answers how many were written, and whether all.
+/// Writes these bytes at an offset. Returns how many were written, and whether all were.
 pub fn write_front<F: SystemFile>(file: &mut F, at: u64, bytes: &[u8]) -> (usize, io::Result<()>)
     requires stands { IsTrue F.models → at ≤ length (F.stands file.old) }
     requires fits { at + length bytes.now < 2 ^ 64 }
@@ -104,7 +104,7 @@ pub fn write_front<F: SystemFile>(file: &mut F, at: u64, bytes: &[u8]) -> (usize
     (done, Ok(()))
 }
 
-/// Writes all of these bytes at a place.
+/// Writes all of these bytes at an offset.
 pub fn write_all<F: SystemFile>(file: &mut F, at: u64, bytes: &[u8]) -> io::Result<()>
     requires stands { IsTrue F.models → at ≤ length (F.stands file.old) }
     requires fits { at + length bytes.now < 2 ^ 64 }

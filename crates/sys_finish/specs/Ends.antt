@@ -1,10 +1,10 @@
--- What an output came to that is at its end.
+-- The result of finishing an output.
 use Rattle.std.specs.Prelude.{◌≡◌, [], ℕ, List, Bool, IsTrue}
 use Rattle.abt_io.specs.Moment.{Past}
 use Rattle.sys_finish.specs.declared.target.Ended.{Ended}
 
--- It took all that was given. Where its file tells, the file holds just that; and where it was to be synced, nothing of
--- it is pending.
+-- It took all that was given. If its file models its content, the file holds exactly that. If it was to be synced,
+-- nothing of it is pending.
 pub record EndsWith {F : Type 0} (models : Bool) (stands : F → List ℕ) (past : F → Past) (is_synced : Bool)
     (given : List ℕ) (ended : Ended F) : Type 0 where
   pub took : ended.sent.state.bytes ≡ given

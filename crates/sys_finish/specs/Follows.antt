@@ -19,19 +19,19 @@ given_to (Held held) = held.given.state.bytes
 abbrev pub Follows : {F : Type 0} {g : _} → Target F g → List ℕ → Type 0
 Follows target given = given_to target ≡ given
 
--- all that it was given is the system's
+-- the system has all that it was given
 abbrev pub HoldsNothing : {F : Type 0} {g : _} → Target F g → Type 0
 HoldsNothing (Stream stream) = Unit {0}
 HoldsNothing (Holes holes) = Unit {0}
 HoldsNothing (Held held) = held.held.items ≡ []
 
--- a target takes a front of these bytes behind all that it was given, or nothing
+-- a target appends a prefix of these bytes to all that it was given, or nothing
 pub record PutsFront {E F : Type 0} {g : _} (r : Result ℕ E) (bytes : List ℕ) (old new : Target F g) : Type 0 where
   pub bound : WritesAtMost r bytes
   pub taken : IfOk r (λ n. (given : List ℕ) → Follows old given → Follows new (given ++ take n bytes))
   pub kept : OnErr r ((given : List ℕ) → Follows old given → Follows new given)
 
--- the same over those that stand from a place on, and no empty front of some bytes
+-- the same over the bytes from an offset on, with a nonempty prefix if there are bytes
 pub record PutsBelow {E F : Type 0} {g : _} (r : Result ℕ E) (at : ℕ) (bytes : List ℕ) (old new : Target F g)
     : Type 0 where
   pub within : count_of r ≤ length bytes
@@ -39,14 +39,14 @@ pub record PutsBelow {E F : Type 0} {g : _} (r : Result ℕ E) (at : ℕ) (bytes
   pub taken : IfOk r (λ n. (given : List ℕ) → Follows old given → Follows new (put_at given at (take n bytes)))
   pub kept : OnErr r ((given : List ℕ) → Follows old given → Follows new given)
 
--- all that it was given is the system's, or the call fails; and it was given the same
+-- the system has all that it was given, or the call fails; and it was given the same
 pub record SettlesTarget {X F : Type 0} {g : _} (r : Result X DeviceFault) (new : Target F g) (log log' : Logged)
     : Type 0 where
   pub none : OnOk r (HoldsNothing new)
   pub kept : log' ≡ log
   pub failed : IfErr r (λ e. e ≡ Failed)
 
--- a front of these bytes was written, and no empty one of some bytes; and no fault but a failure is answered
+-- a prefix of these bytes was written, a nonempty one if there are bytes; and no fault but a failure is returned
 pub record WritesOrFails (r : Result ℕ DeviceFault) (bytes : List ℕ) : Type 0 where
   pub within : count_of r ≤ length bytes
   pub progress : IfOk r (λ n. 0 < length bytes → 0 < n)

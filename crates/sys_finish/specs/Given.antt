@@ -1,4 +1,4 @@
--- What a writer was given that takes small writes together.
+-- What a writer was given that collects small writes.
 use Rattle.std.specs.Prelude.{◌≡◌, ◌<◌, ◌≤◌, ℕ, List, ◌++◌, length, take, replicate, Result, IfOk, IfErr, OnOk, OnErr}
 use Rattle.abt_io.specs.Count.{count_of}
 use Rattle.abt_io.specs.Moment.{put_at}
@@ -9,15 +9,15 @@ use Rattle.std.specs.declared.io.buffered.BufWriter.{BufWriter}
 use Rattle.sys_finish.specs.declared.sink.Sink.{Sink}
 use Rattle.sys_finish.specs.Follows.{HoldsNothing}
 
--- what the system took, and then what it holds still
+-- what the system took, followed by the buffer
 abbrev pub given_by_writer : {F A : Type 0} {g : _} → BufWriter (Sink F g) A → List ℕ
 given_by_writer writer = (writer_inner writer).log.state.bytes ++ writer_buffer writer
 
--- all that its sink was given is the system's
+-- the system has all that its sink was given
 abbrev pub IsSettled : {F A : Type 0} {g : _} → BufWriter (Sink F g) A → Type 0
 IsSettled writer = HoldsNothing (writer_inner writer).target
 
--- A front of these bytes was laid over what it was given, from a place on, and no empty front of some bytes; or the
+-- A prefix of these bytes overwrote what it was given, from an offset on, a nonempty one if there are bytes; or the
 -- call fails.
 pub record PutsOver {F A : Type 0} {g : _} (r : Result ℕ DeviceFault) (at : ℕ) (bytes : List ℕ)
     (old new : BufWriter (Sink F g) A) : Type 0 where
@@ -27,14 +27,14 @@ pub record PutsOver {F A : Type 0} {g : _} (r : Result ℕ DeviceFault) (at : �
   pub written : IfOk r (λ n. given_by_writer new ≡ put_at (given_by_writer old) at (take n bytes))
   pub kept : OnErr r (given_by_writer new ≡ given_by_writer old)
 
--- at most so many zeros were given to it, or the call fails
+-- at most this many zeros were given to it, or the call fails
 pub record LaysZeros {F A : Type 0} {g : _} (r : Result ℕ DeviceFault) (n : ℕ) (old new : BufWriter (Sink F g) A)
     : Type 0 where
   pub within : count_of r ≤ n
   pub written : given_by_writer new ≡ given_by_writer old ++ replicate (count_of r) 0
   pub failed : IfErr r (λ e. e ≡ Failed)
 
--- all that its sink was given is the system's, or the call fails; and it was given the same
+-- the system has all that its sink was given, or the call fails; and it was given the same
 pub record SettlesWriter {F A X : Type 0} {g : _} (r : Result X DeviceFault) (old new : BufWriter (Sink F g) A)
     : Type 0 where
   pub none : OnOk r (IsSettled new)

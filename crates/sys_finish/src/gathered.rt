@@ -1,4 +1,4 @@
-//! An output that takes small writes together. What it was given is what the system took and what it holds still.
+//! An output that collects small writes. What it was given is what the system took, followed by its buffer.
 
 ghost use Rattle.std.specs.Prelude.{◌≡◌, ◌+◌, false, IfOk, OnErr};
 ghost use Rattle.sys_finish.specs.Ends.{EndsWith};
@@ -10,7 +10,7 @@ use abt_io::{DeviceFault, Output, Tally};
 use std::io::{BufWriter, Write};
 use sys_file::SystemFile;
 
-/// A file, a pipe, a device or standard output, which is written from its front on.
+/// A file, a pipe, a device or standard output, which is written from its beginning on.
 #[derive(Drop)]
 pub struct Gathered<F: SystemFile + Drop> {
     pub writer: BufWriter<Sink<F>>,
@@ -34,7 +34,7 @@ impl<F: SystemFile + Drop> Gathered<F> {
         self.writer.get_ref().why
     }
 
-    /// Sends what it holds, and writes a front of these bytes over what stands at a place. All of them have to fit there.
+    /// Sends the buffer, and overwrites the bytes at an offset with a prefix of these. All of these have to fit there.
     pub(crate) fn put(&mut self, at: u64, bytes: &[u8]) -> Result<usize, DeviceFault>
         ensures puts { PutsOver result at bytes.now self.old.writer self.new.writer }
         ensures calls { self.new.calls.number ≡ self.old.calls.number + 1 }
@@ -51,7 +51,7 @@ impl<F: SystemFile + Drop> Gathered<F> {
         }
     }
 
-    /// Has all written that was sent to the sink.
+    /// Writes all that was sent to the sink.
     pub(crate) fn settle(&mut self) -> Result<(), DeviceFault>
         ensures settles { SettlesWriter result self.old.writer self.new.writer }
         ensures faults { self.new.faults ≡ self.old.faults }
@@ -59,14 +59,14 @@ impl<F: SystemFile + Drop> Gathered<F> {
         self.writer.get_mut().settle()
     }
 
-    /// Sends what it holds, where the work before failed.
+    /// Sends the buffer, after the work before has failed.
     pub(crate) fn give_up(self) {
         let _ = given_up(self.writer);
     }
 
-    /// Sends what it holds, and has it synced, where that is wanted. Answers all that it was given, and the file that holds
-    /// that, where there is one. Why that could not be done, by the number of the system's error; then it is sent as far as
-    /// that goes.
+    /// Sends the buffer, and syncs the output if that is wanted. Returns all that it was given, and the file that holds
+    /// that, where there is one. On a failure it returns the number of the system's error; then the buffer is sent as
+    /// far as possible.
     pub(crate) fn finish(self, is_synced: bool) -> Result<Ended<F>, Option<i32>>
         ensures { IfOk result (EndsWith F.models F.stands F.past is_synced (given_by_writer self.writer)) }
     {
@@ -77,7 +77,7 @@ impl<F: SystemFile + Drop> Gathered<F> {
     }
 }
 
-// Sends what a writer holds, as far as that goes, and answers why its last call had failed.
+// Sends the buffer of a writer, as far as possible, and returns why its last call had failed.
 fn given_up<F: SystemFile + Drop>(writer: BufWriter<Sink<F>>) -> Option<i32> {
     let mut writer = writer;
     let why = writer.get_ref().why;
@@ -86,7 +86,7 @@ fn given_up<F: SystemFile + Drop>(writer: BufWriter<Sink<F>>) -> Option<i32> {
     why
 }
 
-// Sends what a writer holds, and writes at a place.
+// Sends the buffer of a writer, and writes at an offset.
 fn put_through<F: SystemFile + Drop>(
     writer: &mut BufWriter<Sink<F>>,
     at: u64,
@@ -100,7 +100,7 @@ fn put_through<F: SystemFile + Drop>(
     writer.get_mut().put_at(at, bytes)
 }
 
-// Sends what a writer holds, and makes its file longer by a hole. How many zeros that gave it.
+// Sends the buffer of a writer, and extends its file by a hole. Returns how many zeros that gave it.
 fn lay_through<F: SystemFile + Drop>(
     writer: &mut BufWriter<Sink<F>>,
     n: u64,

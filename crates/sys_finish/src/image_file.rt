@@ -1,5 +1,5 @@
-//! The file of an image that has a magic. It takes small writes together, as those of chunk headers, and can be written
-//! over.
+//! The file of an image that has a magic. It collects small writes, such as those of chunk headers, and can be
+//! overwritten.
 
 ghost use Rattle.std.specs.Prelude.{◌≡◌, [], false, length, IfOk};
 ghost use Rattle.sys_finish.specs.Ends.{EndsWith};
@@ -11,7 +11,7 @@ use sys_disk::{Late, Reasons};
 use sys_file::SystemFile;
 use sys_refusals::{FileArg, HostRefusal};
 
-/// A regular file that is written from its front on, and over what was written.
+/// A regular file that is written from its beginning on, and can be overwritten.
 #[derive(Drop)]
 pub struct ImageFile<F: SystemFile + Drop> {
     pub output: OutputFile<F>,
@@ -20,7 +20,7 @@ pub struct ImageFile<F: SystemFile + Drop> {
 }
 
 impl<F: SystemFile + Drop> ImageFile<F> {
-    /// Begins at the front of this output, which is an empty file.
+    /// Begins at offset 0 of this output, which is an empty file.
     pub fn new(output: OutputFile<F>) -> ImageFile<F>
         requires { given_by_writer output.to.writer ≡ [] }
         ensures { result.output ≡ output }
@@ -33,7 +33,7 @@ impl<F: SystemFile + Drop> ImageFile<F> {
         self.output.why()
     }
 
-    /// Brings it to its end.
+    /// Finishes it.
     pub fn finish<'a>(self, place: FileArg<'a>) -> Result<Finished<F>, HostRefusal<'a>>
         ensures { IfOk result (λ finished. EndsWith F.models F.stands F.past self.output.is_synced
             (given_by_writer self.output.to.writer) finished.ended) }
@@ -41,7 +41,7 @@ impl<F: SystemFile + Drop> ImageFile<F> {
         self.output.finish(place)
     }
 
-    /// Sends what it took together, where the work before failed.
+    /// Sends the buffer, after the work before has failed.
     pub fn give_up(self) {
         self.output.give_up()
     }

@@ -1,13 +1,13 @@
-//! Outputs that are brought to their end. It opens nothing.
+//! Outputs, and how they are finished. This crate opens nothing.
 //!
-//! An output is at its end where it gave a `Finished`, which nothing else makes. Where its file tells what it holds, that is
-//! just what the output was given.
+//! An output is finished once it has returned a `Finished`, which nothing else makes. If its file models its content,
+//! that is exactly what the output was given.
 //!
 //! | file | has |
 //! |---|---|
-//! | `target.rt`, `sink.rt` | where bytes go, with holes for zeros, or held back; all that was given there |
-//! | `gathered.rt` | small writes that go out together |
-//! | `output_file.rt`, `image_file.rt` | an output, and one that has a magic, brought to their end |
+//! | `target.rt`, `sink.rt` | where bytes go, with holes for zeros, or a buffer; a log of all that was given |
+//! | `gathered.rt` | small writes that are written together |
+//! | `output_file.rt`, `image_file.rt` | an output, and the output of an image with a magic; finishing them |
 #![tactic(auto)]
 
 mod gathered;

@@ -1,4 +1,4 @@
-//! An output that is written from its front on, and how it is brought to its end.
+//! An output that is written from its beginning on, and how it is finished.
 
 ghost use Rattle.std.specs.Prelude.{◌≡◌, [], false, IfOk};
 ghost use Rattle.sys_finish.specs.Ends.{EndsWith};
@@ -16,10 +16,10 @@ use sys_disk::Reasons;
 use sys_file::SystemFile;
 use sys_refusals::{FileArg, HostFault, HostRefusal};
 
-// How many bytes are taken together at most: a page, since no hole is smaller.
+// The most bytes that are collected: a page, since no hole is smaller.
 const PAGE: usize = 4096;
 
-/// A file, a pipe, a device or standard output, which takes small writes together.
+/// A file, a pipe, a device or standard output, which collects small writes.
 #[derive(Drop)]
 pub struct OutputFile<F: SystemFile + Drop> {
     pub to: Gathered<F>,
@@ -29,7 +29,7 @@ pub struct OutputFile<F: SystemFile + Drop> {
     is_data_on_output: bool,
 }
 
-/// An output that is at its end.
+/// A finished output.
 #[derive(Drop)]
 pub struct Finished<F> {
     /// All that it was given, and its file.
@@ -45,7 +45,7 @@ impl<F: Drop> Finished<F> {
 }
 
 impl<F: SystemFile + Drop> OutputFile<F> {
-    /// An output that takes small writes together, and is synced at its end where that is wanted.
+    /// An output that collects small writes, and is synced at its end if that is wanted.
     pub fn new<'a>(
         alloc: Global,
         place: FileArg<'a>,
@@ -73,8 +73,8 @@ impl<F: SystemFile + Drop> OutputFile<F> {
         self.to.why()
     }
 
-    /// Has all written that a gathered file holds, but for the small writes that any output takes together. Where that
-    /// cannot be done, a write is refused that came before the call at hand.
+    /// Writes all that a gathered file has buffered, except for the small writes that any output collects. If that
+    /// fails, a write before the present call has failed.
     pub fn settle(&mut self) -> Result<(), DeviceFault>
         ensures settles { SettlesWriter result self.old.to.writer self.new.to.writer }
         ensures faults { self.new.to.faults ≡ self.old.to.faults }
@@ -82,7 +82,7 @@ impl<F: SystemFile + Drop> OutputFile<F> {
         self.to.settle()
     }
 
-    /// Brings it to its end: what it holds is sent, and it is synced, where that is wanted.
+    /// Finishes it: the buffer is sent, and the output is synced, if that is wanted.
     pub fn finish<'a>(self, place: FileArg<'a>) -> Result<Finished<F>, HostRefusal<'a>>
         ensures { IfOk result (λ finished. EndsWith F.models F.stands F.past self.is_synced
             (given_by_writer self.to.writer) finished.ended) }
@@ -97,7 +97,7 @@ impl<F: SystemFile + Drop> OutputFile<F> {
         }
     }
 
-    /// Sends what it took together, where the work before failed.
+    /// Sends the buffer, after the work before has failed.
     pub fn give_up(self) {
         self.to.give_up()
     }
@@ -129,11 +129,12 @@ impl<F: SystemFile + Drop> Reasons for OutputFile<F> {
     }
 }
 
-/// Where an image goes that has a magic.
+/// The output of an image that has a magic.
 #[derive(Drop)]
 pub enum ImageOutput<F: SystemFile + Drop> {
-    /// A regular file, which can be written over: so the magic is laid last, and what is broken off has none.
+    /// A regular file, which can be overwritten: so the magic is written last, and an image that was broken off has
+    /// none.
     File(ImageFile<F>),
-    /// A pipe, a device or standard output, which is written from its front on.
+    /// A pipe, a device or standard output, which is written from its beginning on.
     Stream(OutputFile<F>),
 }

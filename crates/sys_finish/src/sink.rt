@@ -1,4 +1,4 @@
-//! Where bytes go, and all that was given there.
+//! Where bytes go, and a log of all that was given.
 
 ghost use Rattle.std.specs.Prelude.{◌≡◌, [], Some, IsTrue, take, IfOk, OnErr};
 ghost use Rattle.abt_io.specs.Frame.{nothing_logged};
@@ -16,8 +16,8 @@ use std::io::Write;
 use sys_file::SystemFile;
 use sys_outputs::{HeldFile, HoleFile, Room, StreamFile};
 
-/// A writer that keeps all that it was given, and why it failed. The system took all of that, but for what a gathered file
-/// holds until its end.
+/// A writer that keeps all that it was given, and the reason of its last failure. The system took all of that, except
+/// for what a gathered file buffers until its end.
 #[derive(Drop)]
 pub struct Sink<F: SystemFile + Drop> {
     target: Target<F>,
@@ -36,7 +36,7 @@ impl<F: SystemFile + Drop> Sink<F> {
         Sink::of(Target::Stream(StreamFile::new(file)))
     }
 
-    /// A regular file that is empty, in which zeros may be holes.
+    /// An empty regular file, in which zeros may be holes.
     pub fn holes(file: F) -> Sink<F>
         requires { IsTrue F.models → F.stands file ≡ [] }
         ensures { result.log.state ≡ nothing_logged }
@@ -44,8 +44,8 @@ impl<F: SystemFile + Drop> Sink<F> {
         Sink::of(Target::Holes(HoleFile::new(file)))
     }
 
-    /// A regular file that is empty. It holds up to 64 KiB of what it was given last, and lays headers there in memory;
-    /// where there is no memory for that, each write goes to the file at once.
+    /// An empty regular file. It buffers up to 64 KiB of what it was given last, and writes headers in the buffer.
+    /// Where there is no memory for that, each write goes to the file at once.
     pub fn gathered(alloc: Global, file: F) -> Sink<F>
         requires { IsTrue F.models → F.stands file ≡ [] }
         ensures { result.log.state ≡ nothing_logged }
@@ -64,7 +64,7 @@ impl<F: SystemFile + Drop> Sink<F> {
         }
     }
 
-    /// Writes a front of these bytes over what stands at a place of a file.
+    /// Overwrites the bytes at an offset of a file with a prefix of these bytes.
     pub(crate) fn put_at(&mut self, at: u64, bytes: &[u8]) -> Result<usize, DeviceFault>
         ensures writes { WritesOrFails result bytes.now }
         ensures taken { IfOk result (λ n. self.new.log.state ≡ and_put self.old.log.state at (take n bytes.now)) }
@@ -83,12 +83,12 @@ impl<F: SystemFile + Drop> Sink<F> {
         }
     }
 
-    /// Whether so many zeros may be a hole.
+    /// Whether this many zeros may be a hole.
     pub(crate) fn takes_hole(&self, n: u64) -> bool {
         self.target.takes_hole(n)
     }
 
-    /// Makes the file longer by a hole of at most so many zeros, and answers how many: 0 where that cannot be done.
+    /// Extends the file by a hole of at most this many zeros, and returns how many: 0 if that fails.
     pub(crate) fn lay_hole(&mut self, n: u64) -> u64
         ensures { LaysHole n result self.old.log.state self.new.log.state }
     {
@@ -97,7 +97,7 @@ impl<F: SystemFile + Drop> Sink<F> {
         laid
     }
 
-    /// Has all written that it holds.
+    /// Writes all that is buffered.
     pub(crate) fn settle(&mut self) -> Result<(), DeviceFault>
         ensures { SettlesTarget result self.new.target self.old.log.state self.new.log.state }
     {
@@ -110,8 +110,8 @@ impl<F: SystemFile + Drop> Sink<F> {
         }
     }
 
-    /// Has all written that it holds, and synced, where that is wanted. It answers all that it was given, and its file. Why
-    /// that could not be done, by the number of the system's error: then its file is closed. Standard output stays open.
+    /// Writes all that is buffered, and syncs it if that is wanted. Returns all that it was given, and its file. On a
+    /// failure it returns the number of the system's error: then its file is closed. Standard output stays open.
     pub(crate) fn end(self, is_synced: bool) -> Result<Ended<F>, Option<i32>>
         ensures { IfOk result (EndsWith F.models F.stands F.past is_synced self.log.state.bytes) }
     {

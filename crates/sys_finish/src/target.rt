@@ -1,5 +1,5 @@
-//! What bytes are written to: what is written from its front on, a file with holes for its zeros, or one that holds bytes
-//! back.
+//! The targets of writes: an output that is written from its beginning on, a file with holes for its zeros, or a file
+//! with a buffer.
 
 ghost use Rattle.std.specs.Prelude.{◌≡◌, ◌≤◌, ◌++◌, ℕ, List, IsTrue, replicate, IfOk, OnOk};
 ghost use Rattle.sys_finish.specs.Ends.{EndsWith};
@@ -10,21 +10,21 @@ use std::io;
 use sys_file::SystemFile;
 use sys_outputs::{HeldFile, HoleFile, StreamFile};
 
-// No hole of a file is smaller.
+// A hole has at least this many bytes.
 const PAGE: u64 = 4096;
 
 #[derive(Drop)]
 pub(crate) enum Target<F: SystemFile + Drop> {
     /// A file, a pipe or a device, which is given all bytes.
     Stream(StreamFile<F>),
-    /// A regular file that was just created or emptied. Zeros are a hole, which takes no room and no time; so it holds
-    /// exactly what was written, after every call that did not fail.
+    /// A regular file that was just created or emptied. Zeros are a hole, which takes no room and no time. After every
+    /// call that did not fail it holds exactly what was written.
     Holes(HoleFile<F>),
-    /// A regular file that was just created or emptied, and holds what it was given last.
+    /// A regular file that was just created or emptied. What it was given last is buffered.
     Held(HeldFile<F>),
 }
 
-/// An output that is at its end.
+/// A finished output.
 #[derive(Drop)]
 pub struct Ended<F> {
     /// All that it was given.
@@ -34,7 +34,7 @@ pub struct Ended<F> {
 }
 
 impl<F: SystemFile + Drop> Target<F> {
-    /// One write, once more where a signal came in between.
+    /// One write, which is repeated when a signal interrupts it.
     pub(crate) fn put(&mut self, bytes: &[u8]) -> io::Result<usize>
         ensures { PutsFront result bytes.now self.old self.new }
     {
@@ -45,7 +45,7 @@ impl<F: SystemFile + Drop> Target<F> {
         }
     }
 
-    /// One write over what stands at a place. Why the call failed, by its number, where it did.
+    /// One write over the bytes at an offset. On a failure it returns the number of the system's error.
     pub(crate) fn put_over(&mut self, at: u64, bytes: &[u8]) -> Result<usize, Option<i32>>
         ensures { PutsBelow result at bytes.now self.old self.new }
     {
@@ -56,7 +56,7 @@ impl<F: SystemFile + Drop> Target<F> {
         }
     }
 
-    /// Whether so many zeros may be a hole.
+    /// Whether this many zeros may be a hole.
     pub(crate) fn takes_hole(&self, n: u64) -> bool {
         match self {
             Target::Holes(_) => n >= PAGE,
@@ -65,7 +65,7 @@ impl<F: SystemFile + Drop> Target<F> {
         }
     }
 
-    /// Makes the file longer by a hole of at most so many zeros, and answers how many: 0 where that cannot be done.
+    /// Extends the file by a hole of at most this many zeros, and returns how many: 0 if that fails.
     pub(crate) fn lay_hole(&mut self, n: u64) -> u64
         ensures within { result ≤ n }
         ensures laid { (given : List ℕ) → Follows self.old given → Follows self.new (given ++ replicate result 0) }
@@ -77,7 +77,7 @@ impl<F: SystemFile + Drop> Target<F> {
         }
     }
 
-    /// Has all written that it holds.
+    /// Writes all that is buffered.
     pub(crate) fn settle(&mut self) -> io::Result<()>
         ensures none { OnOk result (HoldsNothing self.new) }
         ensures kept { (given : List ℕ) → Follows self.old given → Follows self.new given }
@@ -89,8 +89,8 @@ impl<F: SystemFile + Drop> Target<F> {
         }
     }
 
-    /// Has all written that it holds, and synced, where that is wanted. It answers all that it was given, which is this
-    /// log, and its file.
+    /// Writes all that is buffered, and syncs it if that is wanted. Returns all that it was given, which is this log,
+    /// and its file.
     pub(crate) fn end(self, given: Log, is_synced: bool) -> io::Result<Ended<F>>
         requires { Follows self given.state.bytes }
         ensures { IfOk result (EndsWith F.models F.stands F.past is_synced given.state.bytes) }

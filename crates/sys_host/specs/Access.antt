@@ -14,7 +14,7 @@ may_write ways.Create = true
 may_write ways.CreateFile = true
 may_write ways.Spool = true
 
--- it is created where it is not there
+-- it is created if it does not exist
 abbrev pub may_create : Access → Bool
 may_create ways.Forward = false
 may_create ways.AnyPlace = false
@@ -23,7 +23,7 @@ may_create ways.Create = true
 may_create ways.CreateFile = true
 may_create ways.Spool = true
 
--- the system is asked for more than to read
+-- the system is asked for more than reading
 abbrev pub asks_to_write : Opening → Bool
 asks_to_write openings.Read = false
 asks_to_write openings.Write = true

@@ -1,4 +1,4 @@
--- What a command begins to write.
+-- The output that a command begins to write.
 use Rattle.std.specs.Prelude.{◌≡◌, ◌≤◌, ℕ, [], Result, IfOk, OnOk}
 use Rattle.sys_finish.specs.Blank.{IsBlank}
 use Rattle.sys_finish.specs.Given.{given_by_writer}
@@ -22,13 +22,14 @@ pub record BeginsImage {E F : Type 0} {g : _} (r : Result (ImageOutput F g) E) (
   pub writes : OnOk r (WritesOne streams taken taken')
   pub blank : IfOk r IsBlank
 
--- one more file is written, that pieces of at most so many bytes go through, and in which no more than that stands
+-- one more file is written, for pieces of at most this many bytes, and it holds no more than that
 pub record BeginsKeptSpool {X F : Type 0} (n : ℕ) (r : Result (X × ℕ) F) (streams : Streams) (taken taken' : Taken)
     : Type 0 where
   pub stands : IfOk r (λ kept. kept.1 ≤ n)
   pub writes : OnOk r (WritesOne streams taken taken')
 
--- what is opened is none of the files of this run, and is one of them from then on; and nothing is told among its data
+-- what is opened is none of the files of this run, and is one of them from then on; and no message is mixed with its
+-- data
 pub record Admits {E F : Type 0} (r : Result (OpenedFile F) E) (streams : Streams) (taken taken' : Taken) : Type 0 where
   pub free : IfOk r (λ opened. ¬ Forbidden taken opened.found.identity)
   pub apart : IfOk r (λ opened. ¬ Mixed streams opened.found.identity)

@@ -1,11 +1,11 @@
--- A file that was just opened, as far as it tells.
+-- A file that was just opened, as far as it models its content.
 use Rattle.std.specs.Prelude.{◌≡◌, ℕ, List, [], Bool, IsTrue, length}
 use Rattle.abt_io.specs.Moment.{Past}
 use Rattle.sys_file.specs.System.{IsJustOpened}
 use Rattle.sys_file.specs.declared.stat.Kind.TheVariants as kinds
 use Rattle.sys_host.specs.declared.open_file.OpenedFile.{OpenedFile}
 
--- Nothing was written to it. It is told how long a regular file is. Anything else that was opened to be created is
+-- Nothing was written to it. The length of a regular file is returned. Anything else that was opened to be created is
 -- empty.
 pub record WasOpened {F : Type 0} (models : Bool) (stands : F → List ℕ) (place : F → ℕ) (past : F → Past)
     (is_created : Bool) (opened : OpenedFile F) : Type 0 where

@@ -1,4 +1,4 @@
--- In which files a report would land.
+-- Into which files a report would be written.
 use Rattle.std.specs.Prelude.{◌≡◌, ◌⊎◌, IsTrue}
 use Rattle.sys_identity.specs.declared.identity.Identity.{Identity}
 use Rattle.sys_host.specs.declared.streams.Streams.{Streams}
@@ -7,7 +7,7 @@ use Rattle.sys_host.specs.declared.streams.Streams.{Streams}
 abbrev pub Reported : Streams → Identity → Type 0
 Reported streams file = IsTrue file.holds_data × ((streams.out ≡ file) ⊎ (streams.err ≡ file))
 
--- what is told would stand among what others write there: it is standard error, and a file, a block device, a pipe or
--- a socket
+-- a message would be mixed with what others write there: it is standard error, and a file, a block device, a pipe or a
+-- socket
 abbrev pub Mixed : Streams → Identity → Type 0
 Mixed streams file = IsTrue file.mixes × (streams.err ≡ file)

@@ -1,4 +1,4 @@
-//! The exit status of an outcome, and what standard error tells of it.
+//! The exit status of an outcome, and the message on standard error.
 
 ghost use Rattle.std.specs.Prelude.{◌≡◌, IfErr, OnOk, if◌then◌else◌};
 ghost use Rattle.sys_host.specs.Answering.{PrintsNothing};
@@ -16,13 +16,13 @@ use sys_text::Text;
 /// Done.
 pub const DONE: u8 = 0;
 
-/// Refused, for the fault that standard error tells.
+/// The run failed. Standard error tells why.
 pub const REFUSED: u8 = 1;
 
-/// The words are wrong, as standard error tells.
+/// The words are wrong. Standard error tells why.
 pub const USAGE: u8 = 2;
 
-/// How a fault is told.
+/// How a message about a fault is printed.
 #[derive(Clone, Copy)]
 pub struct Telling {
     /// The name that the program was called by, before the first line.
@@ -31,8 +31,8 @@ pub struct Telling {
     pub is_verbose: bool,
 }
 
-/// The exit status of an outcome, whose fault is told to the user: in one line, and where it was asked for in a second
-/// one, which names the file and says why. Nothing is told where it would land in a file that is read.
+/// The exit status of an outcome. The user is told of a fault in one line, and if it was asked for in a second one,
+/// which names the file and gives the reason. Nothing is printed if it would be written into a file that is read.
 pub fn answer<F: Told + Drop>(
     outcome: Result<(), Refusal<'_, F>>,
     how: Telling,
@@ -122,7 +122,8 @@ fn with_mending(
     }
 }
 
-// Whether the system's number says that there is no room: on the device, in a quota, or in a file of that length.
+// Whether the number of the system's error means that there is no room: on the device, in a quota, or in a file of that
+// length.
 fn is_of_room(number: Option<i32>) -> bool {
     matches!(number, Some(28 | 122 | 27))
 }
@@ -141,7 +142,8 @@ fn with_unfinished(
     }
 }
 
-// What the file is that was refused for its magic, where it is an image of another kind. Its front is read anew.
+// The kind of image that a file is, if it was rejected because the expected magic is missing. Its first bytes are read
+// again.
 fn other_image<F: Told, S: System>(
     system: &mut S,
     refusal: &Refusal<'_, F>,
@@ -178,7 +180,7 @@ fn image_of(missing: Magic, front: [u8; 8]) -> Option<&'static str> {
     }
 }
 
-// What the system says of a call that failed, without its number; else what can be done.
+// The system's text for a call that failed, without its number; else the advice.
 fn why<F: Told>(alloc: Global, number: Option<i32>, fault: &F) -> Result<String, AllocError> {
     match number {
         Some(number) if fault.is_of_a_device() => told_by_system(alloc, number),

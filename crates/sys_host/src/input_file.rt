@@ -1,4 +1,4 @@
-//! What is read forward: a file, or standard input.
+//! An input that is read forward: a file, or standard input.
 
 ghost use Rattle.std.specs.Io.Buffered.{reader_buffer, reader_capacity, reader_inner, reader_remaining};
 ghost use Rattle.std.specs.Prelude.{◌≡◌, ◌<◌, ◌≤◌, false, length, take, drop, IsTrue, is_some};
@@ -16,13 +16,13 @@ use sys_disk::{Measured, Reasons};
 use sys_file::SystemFile;
 use sys_refusals::{FileArg, HostRefusal};
 
-/// A file or standard input. It is read through a buffer, so that headers of chunks, which are small, come many at a time. A
-/// read that asks for as much as the buffer holds, as those of raw data do, goes around it once it is empty. Bytes that nobody
-/// wants are not read: a file that has a place goes on behind them.
+/// A file or standard input. It is read through a buffer, so that one call serves many small reads, such as those of
+/// chunk headers. A read of at least the buffer's size, such as those of raw data, bypasses the buffer once it is
+/// empty. Skipped bytes are not read: a file that has a position moves it past them.
 #[derive(Drop)]
 pub struct InputFile<F: SystemFile + Drop> {
     reader: BufReader<Origin<F>>,
-    /// How long a regular file is.
+    /// The length of a regular file.
     length: Option<u64>,
     calls: Tally,
     count: Tally,
@@ -142,8 +142,8 @@ impl<F: SystemFile + Drop> Measured for InputFile<F> {
     }
 }
 
-// Gives what is asked for where the buffer holds all of it, as it does of most headers: what a read of the reader gives
-// then.
+// Gives the requested bytes if the buffer holds all of them, as it does of most headers: what a read of the reader
+// would give.
 fn take_held<F: SystemFile + Drop>(reader: &mut BufReader<Origin<F>>, out: &mut [u8]) -> bool
     ensures found { IsTrue result → (0 < length out.old) × (length out.old ≤ length (reader_buffer reader.old)) }
     ensures bytes { IsTrue result → out.new ≡ take (length out.old) (reader_buffer reader.old) }
@@ -165,7 +165,7 @@ fn take_held<F: SystemFile + Drop>(reader: &mut BufReader<Origin<F>>, out: &mut 
     true
 }
 
-// GoesPast over bytes that the buffer holds, or where it holds none over those that come next: at most so many.
+// Skips bytes that the buffer holds, or if it holds none those that come next: at most this many.
 fn passed<F: SystemFile + Drop>(reader: &mut BufReader<Origin<F>>, most: usize) -> usize
     ensures { ReaderGoesPast F.models result most (reader_buffer reader.old) (reader_buffer reader.new)
         (reader_capacity reader.old) (reader_capacity reader.new) (F.stands (reader_inner reader.old).file)

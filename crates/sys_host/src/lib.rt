@@ -1,16 +1,16 @@
-//! The files of a run: which are read, which are written, and the exit status.
+//! The files of a run: its inputs, its outputs, and the exit status.
 //!
-//! Whatever a command moves goes through here. `Reading` opens what is read; once all of that is open it becomes
-//! `Writing`, which opens and creates what is written, and looks at each file, by device and inode, before it is
-//! emptied. `answer` makes the exit status of an outcome.
+//! All that a command reads or writes goes through this crate. `Reading` opens the inputs. Once all of them are open it
+//! becomes `Writing`, which opens and creates the outputs. It checks each file, by device and inode, before it empties
+//! the file. `answer` makes the exit status of an outcome.
 //!
 //! | file | has |
 //! |---|---|
 //! | `taken.rt`, `streams.rt` | the files that no output may be; where reports go |
-//! | `open_file.rt` | one file that is opened: how, and what it has to be |
-//! | `reading.rt`, `open_outputs.rt` | all that is read, and then all that is written |
-//! | `input_file.rt`, `origin.rt` | what is read forward: a file or standard input; a file is passed over by its place |
-//! | `answering.rt` | the exit status, and what standard error tells |
+//! | `open_file.rt` | opening one file: how, and what kind of file it has to be |
+//! | `reading.rt`, `open_outputs.rt` | all inputs, and then all outputs |
+//! | `input_file.rt`, `origin.rt` | an input that is read forward: a file that can skip bytes, or standard input |
+//! | `answering.rt` | the exit status, and the message on standard error |
 #![tactic(auto)]
 
 mod answering;

@@ -1,4 +1,4 @@
-//! One file that is opened: how, and what it has to be.
+//! Opening one file: how it is opened, and what kind of file it has to be.
 
 ghost use Rattle.std.specs.Prelude.{◌≡◌, IfOk};
 ghost use Rattle.sys_file.specs.System.{creates};
@@ -10,21 +10,21 @@ use sys_file::{Kind, Opening, System};
 use sys_identity::{Found, found_at};
 use sys_refusals::{FileArg, HostFault, HostRefusal};
 
-// The number of 'Is a directory'.
+// The system's error number of 'Is a directory'.
 const IS_A_FOLDER: i32 = 21;
 
 /// What a command does with a file.
 #[derive(Clone, Copy, Drop)]
 pub enum Access {
-    /// It is read from its front on.
+    /// It is read from its beginning on.
     Forward,
-    /// It is read at any place, so that it has a length.
+    /// It is read at any offset, so that it must have a length.
     AnyPlace,
     /// It is written in place, and has a length.
     InPlace,
-    /// It is created, or emptied where it is there.
+    /// It is created, or emptied if it exists.
     Create,
-    /// The same, where nothing but a regular file will do.
+    /// The same, and it must be a regular file.
     CreateFile,
     /// It is created or emptied, written, and read again: a regular file.
     Spool,
@@ -42,7 +42,7 @@ impl Access {
         }
     }
 
-    // Nothing but a regular file will do.
+    // It must be a regular file.
     fn needs_file(self) -> bool {
         match self {
             Access::Forward => false,
@@ -60,14 +60,14 @@ impl Access {
 pub struct OpenedFile<F> {
     pub file: F,
     pub found: Found,
-    /// Whether it was there before.
+    /// Whether it existed before.
     pub was_there: bool,
 }
 
-/// WasOpened a file. A folder is refused, which opens to be read and then gives no bytes, and what is not of the kind that
-/// the access needs.
+/// Opens a file. It fails for a folder, which can be opened to be read and then gives no bytes, and for a file that is
+/// not of the kind that the access needs.
 ///
-/// A pipe is told by its path, before it is opened, where a file is needed: opening one can wait for ever.
+/// Where a file is needed, a pipe is recognized by its path before it is opened: opening one can wait for ever.
 pub fn open_file<'a, S: System>(
     system: &mut S,
     place: FileArg<'a>,
@@ -90,7 +90,7 @@ pub fn open_file<'a, S: System>(
     }
 }
 
-/// The refusal of a file that the system did not open.
+/// The error for a file that the system did not open.
 pub fn not_opened<'a>(error: &io::Error, place: FileArg<'a>) -> HostRefusal<'a> {
     if error.kind() == io::ErrorKind::OutOfMemory {
         return HostRefusal::memory();
@@ -98,12 +98,12 @@ pub fn not_opened<'a>(error: &io::Error, place: FileArg<'a>) -> HostRefusal<'a> 
     HostRefusal::at(HostFault::CannotOpen, place, error.raw_os_error())
 }
 
-// Whether a file was not created for want of its folder.
+// Whether a file was not created because its folder is missing.
 fn is_folder_missing(error: &io::Error, path: &str, access: Access) -> bool {
     access.creates() && error.kind() == io::ErrorKind::NotFound && !path.is_empty()
 }
 
-// Whether a file was refused for what it is, and not by the system.
+// Whether a file was rejected for its kind, and not by the system.
 fn is_of_wrong_kind(error: &io::Error) -> bool {
     error.kind() == io::ErrorKind::InvalidInput && error.raw_os_error().is_none()
 }
@@ -129,7 +129,7 @@ fn opened_at<S: System>(
     })
 }
 
-// How the system is asked. What is only read is not opened for more.
+// How the file is opened. What is only read is not opened for more.
 fn opening(access: Access) -> Opening
     ensures writes { asks_to_write result ≡ may_write access }
     ensures creates { creates result ≡ may_create access }

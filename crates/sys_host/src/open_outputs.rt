@@ -1,4 +1,4 @@
-//! All that a command writes, once all that it reads is open.
+//! The outputs of a command, which are opened once all its inputs are open.
 
 ghost use Rattle.std.specs.Prelude.{◌≡◌, ◌↔◌, ◌⊎◌, ◌≤◌, [], true, IsTrue, OnOk, OnErr, IfOk, IfErr, length, replicate};
 ghost use Rattle.sys_finish.specs.Given.{given_by_writer};
@@ -22,30 +22,30 @@ use sys_identity::{
 };
 use sys_refusals::{FileArg, HostFault, HostRefusal};
 
-// The number of 'Invalid argument'.
+// The system's error number of 'Invalid argument'.
 const INVALID: i32 = 22;
 
-// What can be done where it is not known what standard input is, which an output may be.
+// The advice where standard input is unknown, so that an output may be the same file.
 const NOT_KNOWN: &str =
     "what standard input is can't be known here, without /dev and /proc; name IN by its path";
 
-// Why standard output is not synced where it is not known what it is.
+// Why standard output is not synced where its identity is not known.
 const NOT_SYNCED: &str = "it can't be synced here, without /dev and /proc";
 
-// What can be done where an output is one that is written already.
+// The advice where an output is one that is written already.
 const WRITTEN: &str = "it is written already; name another file";
 
-/// WasOpened and creates what is written. Each file is looked at, by device and inode, before it is emptied: none is one
-/// that is read, or that is written already.
+/// Opens and creates the outputs. Each file is checked, by device and inode, before it is emptied: none is one that is
+/// read, or that is written already.
 #[derive(Drop)]
 pub struct Writing<S: System + Drop> {
     pub alloc: Global,
     pub reading: Reading<S>,
     // Data goes to where standard output goes: then no report does.
     is_data_on_output: bool,
-    // What is written, or was.
+    // The outputs, open or closed.
     written: Vec<Identity>,
-    // Whether the output that is open was created, and what is open to be written in place.
+    // Whether the open output was created, and what is open to be written in place.
     is_output_new: bool,
     is_part_new: bool,
 }
@@ -64,7 +64,7 @@ impl<S: System + Drop> Writing<S> {
         }
     }
 
-    /// WasOpened what is written in place, which must be there.
+    /// Opens what is written in place, which must exist.
     pub fn partition<'a>(
         &mut self,
         place: FileArg<'a>,
@@ -98,8 +98,8 @@ impl<S: System + Drop> Writing<S> {
     }
 
     /// Creates or empties the file of an image that has a magic. `-` is standard output. Where it is gathered, a
-    /// regular file holds up to 64 KiB of what it took, which are written together where no more have room and at its
-    /// end: that is for who waits for nobody meanwhile.
+    /// regular file buffers up to 64 KiB of what it took, which are written together when the buffer is full and at its
+    /// end: that is for outputs that nobody waits for meanwhile.
     pub fn image<'a>(
         &mut self,
         place: FileArg<'a>,
@@ -134,7 +134,8 @@ impl<S: System + Drop> Writing<S> {
         self.buffered(place, Sink::stream(file), found.identity.holds_data)
     }
 
-    /// Creates or empties a regular file, and makes it so many zeros, to be written in place. Nothing else will do.
+    /// Creates or empties a regular file, and makes it this many zeros, to be written in place. Fails for any other
+    /// kind of file.
     pub fn zeros<'a>(
         &mut self,
         place: FileArg<'a>,
@@ -163,8 +164,8 @@ impl<S: System + Drop> Writing<S> {
         Ok(created.file)
     }
 
-    /// The same, of which a file that is no longer than a piece keeps its pages: its first four bytes are zeros then,
-    /// and how many stand in it is answered too. So this is for who cuts off what he does not write over.
+    /// The same, but a file that is no longer than a piece keeps its pages. Then its first four bytes are zeros, and
+    /// its length is returned too. So this is for callers that truncate what they do not overwrite.
     pub fn kept_spool<'a>(
         &mut self,
         place: FileArg<'a>,
@@ -190,8 +191,8 @@ impl<S: System + Drop> Writing<S> {
         self.is_data_on_output
     }
 
-    /// Closes what was written in place, by a call that synced it at its end. Where outputs are synced and it was
-    /// created, its folder is, so that its name stands there.
+    /// Closes what was written in place, by a call that synced it at its end. If outputs are synced and it was created,
+    /// its folder is synced, so that its name is stored there.
     pub fn close<'a>(
         &mut self,
         part: FilePartition<S::File>,
@@ -202,8 +203,8 @@ impl<S: System + Drop> Writing<S> {
         self.sync_folder_if(is_new, place)
     }
 
-    /// What belongs to the end of an output that was closed: where outputs are synced and it was created, its folder
-    /// is, so that its name stands there.
+    /// The last step for an output that was closed: if outputs are synced and it was created, its folder is synced, so
+    /// that its name is stored there.
     pub fn end_output<'a>(&mut self, place: FileArg<'a>) -> Result<(), HostRefusal<'a>> {
         let is_new = mem::replace(&mut self.is_output_new, false);
         self.sync_folder_if(is_new, place)
@@ -228,7 +229,7 @@ impl<S: System + Drop> Writing<S> {
         }
     }
 
-    /// Refuses a path that is going to be written where it is a file that is read, or written already.
+    /// Fails if a path that is going to be written is a file that is read, or written already.
     pub fn refuse_taken<'a>(&self, place: FileArg<'a>) -> Result<(), HostRefusal<'a>> {
         let Ok(path) = place.path(self.alloc) else {
             return Err(HostRefusal::memory());
@@ -240,7 +241,7 @@ impl<S: System + Drop> Writing<S> {
         }
     }
 
-    /// Whether something is there.
+    /// Whether something is at this path.
     pub fn is_there<'a>(&self, place: FileArg<'a>) -> Result<bool, HostRefusal<'a>>
         ensures { IfErr result (λ refusal. refusal.fault ≡ HostFault.Memory) }
     {
@@ -250,7 +251,7 @@ impl<S: System + Drop> Writing<S> {
         }
     }
 
-    /// The least number above this one at which a file is, with that number behind the name that this place has.
+    /// The least number above this one at which a file exists, with that number after the name of this place.
     pub fn left_over(&self, place: FileArg<'_>, behind: u32) -> Result<Option<u32>, AllocError> {
         let prefix = FileArg {
             number: None,
@@ -280,7 +281,7 @@ impl<S: System + Drop> Writing<S> {
         }
     }
 
-    // A second handle of the file that standard output is, where it is synced at its end.
+    // A second handle of the file that standard output is, if it is synced at its end.
     fn to_sync<'a>(
         &mut self,
         output: Identity,
@@ -301,8 +302,7 @@ impl<S: System + Drop> Writing<S> {
         }
     }
 
-    // Where standard output is no file there is nothing to sync, and where it is not known what it is, it can't be
-    // synced.
+    // If standard output is not a file there is nothing to sync. If its identity is not known, it can't be synced.
     fn none_to_sync<'a>(&self, place: FileArg<'a>) -> Result<Option<S::File>, HostRefusal<'a>> {
         let system = &self.reading.system;
         if is_shown(system) || found_of(system, OUTPUT).is_ok() {
@@ -311,7 +311,7 @@ impl<S: System + Drop> Writing<S> {
         Err(HostRefusal::at(HostFault::CannotOpen, place, None).advised(NOT_SYNCED))
     }
 
-    // An output that takes small writes together.
+    // An output that collects small writes.
     fn buffered<'a>(
         &self,
         place: FileArg<'a>,
@@ -326,7 +326,7 @@ impl<S: System + Drop> Writing<S> {
         OutputFile::new(self.alloc, place, sink, is_synced, self.is_data_on_output)
     }
 
-    // WasOpened an output as it is, and empties it once it is known that it is no other file of this run.
+    // Opens an output as it is, and empties it once it is known that it is no other file of this run.
     fn created<'a>(
         &mut self,
         place: FileArg<'a>,
@@ -350,7 +350,7 @@ impl<S: System + Drop> Writing<S> {
         }
     }
 
-    // WasOpened an output as it is.
+    // Opens an output as it is.
     fn admitted<'a>(
         &mut self,
         place: FileArg<'a>,
@@ -371,7 +371,7 @@ impl<S: System + Drop> Writing<S> {
         Ok(opened)
     }
 
-    // Refuses a file that holds something where it may be the one that is read as standard input.
+    // Fails for a file that holds something if it may be the one that is read as standard input.
     fn refuse_if_unknown<'a>(
         &self,
         found: Found,
@@ -383,8 +383,8 @@ impl<S: System + Drop> Writing<S> {
         Ok(())
     }
 
-    // Refuses an output that is open under this descriptor where opening it has made a file that is read this one, and
-    // a block device that is in use.
+    // Fails for an output that is open under this descriptor if opening it has made a file that is read this one, and
+    // for a block device that is in use.
     fn look_again<'a>(
         &self,
         identity: Identity,
@@ -408,7 +408,7 @@ impl<S: System + Drop> Writing<S> {
         }
     }
 
-    // Refuses a file that is read, or that is written already; no further output may be this one.
+    // Fails for a file that is read, or that is written already; no further output may be this one.
     fn admit<'a>(&mut self, identity: Identity, place: FileArg<'a>) -> Result<(), HostRefusal<'a>>
         ensures free { OnOk result (¬ Forbidden self.old.reading.taken identity) }
         ensures apart { OnOk result (¬ Mixed self.old.reading.streams identity) }
@@ -438,7 +438,7 @@ impl<S: System + Drop> Writing<S> {
         }
     }
 
-    // Whether a file is one of this run, or one in which what is told would stand among data.
+    // Whether a file is one of this run, or one in which a message would be mixed with data.
     fn is_refused(&self, identity: Identity) -> bool
         ensures { IsTrue result ↔ (Forbidden self.now.reading.taken identity
             ⊎ Mixed self.now.reading.streams identity) }
@@ -446,7 +446,7 @@ impl<S: System + Drop> Writing<S> {
         self.reading.taken.forbids(identity) || self.reading.streams.mixes_with(identity)
     }
 
-    // The refusal of such a file. Nothing is told of one in which that would stand.
+    // The error for such a file. No message is printed if it would be mixed with data.
     fn same_file<'a>(&self, identity: Identity, place: FileArg<'a>) -> HostRefusal<'a>
         ensures fault { result.fault ≡ HostFault.SameFile }
         ensures untold { IsTrue result.about.is_untold ↔ Mixed self.now.reading.streams identity }
@@ -461,7 +461,7 @@ impl<S: System + Drop> Writing<S> {
         refusal.untold_if(is_untold)
     }
 
-    // Refuses what stands on a file of this run, or has one stand on it, under another name.
+    // Fails for a file that shares its storage, under another name, with a file of this run.
     fn refuse_shared<'a>(
         &self,
         identity: Identity,
@@ -484,7 +484,7 @@ impl<S: System + Drop> Writing<S> {
     }
 }
 
-// WasOpened standard output once more: to write, or where that is denied to read.
+// Opens standard output once more: to write, or if that is denied to read.
 fn opened_output<S: System>(system: &mut S) -> io::Result<S::File> {
     match open_again(system, OUTPUT, Opening::Write) {
         Ok(file) => Ok(file),
@@ -495,7 +495,7 @@ fn opened_output<S: System>(system: &mut S) -> io::Result<S::File> {
     }
 }
 
-// Syncs the folder that a file stands in. There are file systems that sync no folders.
+// Syncs the folder of a file. Some file systems sync no folders.
 fn sync_folder_of<S: System>(system: &mut S, path: &str) -> io::Result<()> {
     let whole = system.whole_path(path)?;
     let Some((folder, _)) = whole.as_str().rsplit_once('/') else {
@@ -509,7 +509,7 @@ fn sync_folder_of<S: System>(system: &mut S, path: &str) -> io::Result<()> {
     }
 }
 
-// Makes an empty file so many zeros. Why it could not be done, by the number of the system's error.
+// Makes an empty file this many zeros. On a failure it returns the number of the system's error.
 fn zeros_in<F: SystemFile + Drop>(file: F, bytes: u64) -> Result<FilePartition<F>, Option<i32>>
     requires { OpensEmpty F.models F.stands F.place F.past file }
     ensures { IsTrue F.models → IfOk result (λ part. F.stands part.file ≡ replicate bytes 0) }

@@ -1,4 +1,4 @@
-//! What an input's buffer is filled from: a file that has a place, or what is only read.
+//! What fills the buffer of an input: a file that has a position, or a stream.
 
 ghost use Rattle.std.proofs.Props.{props};
 ghost use Rattle.std.specs.Prelude.{◌≡◌, ◌≤◌, ◌-◌, ◌^◌, false, length, drop, min, IsTrue, IfSome, IfOk, option_and_then};
@@ -10,23 +10,23 @@ use std::io;
 use std::io::Read;
 use sys_file::{SystemFile, read};
 
-/// How long a file is.
+/// The length of a file.
 #[derive(Clone, Copy, Drop)]
 pub(crate) enum Size {
-    /// A regular file tells it, and may change.
+    /// A regular file, which reports its length and may change.
     Told,
-    /// A block device is always as long.
+    /// A block device, whose length does not change.
     Fixed(u64),
 }
 
-/// Where the next byte of a file is, and how long it is.
+/// The offset of the next byte of a file, and the file's length.
 #[derive(Clone, Copy, Drop)]
 pub(crate) struct Placed {
     at: u64,
     size: Size,
 }
 
-/// A reader that keeps why it failed.
+/// A reader that keeps the reason of its last failure.
 #[derive(Drop)]
 pub struct Origin<F: SystemFile + Drop> {
     pub(crate) file: F,
@@ -38,7 +38,7 @@ pub struct Origin<F: SystemFile + Drop> {
 }
 
 impl<F: SystemFile + Drop> Origin<F> {
-    /// What is only read, as a pipe.
+    /// A stream, such as a pipe.
     pub(crate) fn stream(file: F) -> Origin<F>
         ensures { result.file ≡ file }
     {
@@ -49,7 +49,7 @@ impl<F: SystemFile + Drop> Origin<F> {
         }
     }
 
-    /// A file that was just opened. A regular file and a block device have a place, which is at their front.
+    /// A file that was just opened. A regular file and a block device have a position, which is 0.
     pub(crate) fn of_opened(opened: OpenedFile<F>) -> io::Result<Origin<F>>
         requires { WasOpened F.models F.stands F.place F.past false opened }
         ensures { IsTrue F.models → IfOk result (λ origin. (F.stands origin.file ≡ F.stands opened.file)
@@ -73,8 +73,7 @@ impl<F: SystemFile + Drop> Origin<F> {
         })
     }
 
-    /// Goes on behind at most so many bytes, none of them beyond the end. It answers how many: none where only a read
-    /// can tell.
+    /// Skips at most this many bytes, none of them beyond the end. It returns how many: none if only a read can tell.
     pub(crate) fn pass(&mut self, most: usize) -> usize
         ensures { GoesPast F.models result most (F.stands self.old.file) (F.stands self.new.file)
             (F.place self.old.file)

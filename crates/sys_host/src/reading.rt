@@ -1,4 +1,4 @@
-//! All that a command reads, which is open before it writes.
+//! The inputs of a command, which are open before it writes.
 
 ghost use Rattle.std.specs.Prelude.{◌≡◌, ◌≤◌, ◌^◌, [], false, true, IsTrue, length, string_bytes, OnOk, IfOk, IfErr};
 ghost use Rattle.sys_file.specs.File.{file_bytes};
@@ -23,13 +23,13 @@ use sys_identity::{
 };
 use sys_refusals::{FileArg, HostFault, HostRefusal};
 
-// How many bytes a file of words has at most.
+// The most bytes of a file of words.
 const TEXT: u64 = 1 << 20;
 
-// The number of 'Too many open files'.
+// The system's error number of 'Too many open files'.
 const TOO_MANY: i32 = 24;
 
-/// WasOpened what is read. No output may be one of these files, and no report may land in one.
+/// Opens the inputs. No output may be one of these files, and no report may be written into one.
 #[derive(Drop)]
 pub struct Reading<S: System + Drop> {
     pub system: S,
@@ -40,7 +40,7 @@ pub struct Reading<S: System + Drop> {
     pub(crate) read: ReadFiles,
     // Whether standard input is read, and the system does not show what it is.
     pub(crate) is_input_unknown: bool,
-    // Whether block devices may be written that are in use.
+    // Whether block devices that are in use may be written.
     pub(crate) is_mounted_allowed: bool,
     // Whether each output is synced at its end.
     pub(crate) is_synced: bool,
@@ -72,21 +72,21 @@ impl<S: System + Drop> Reading<S> {
         self.is_synced = true;
     }
 
-    /// Block devices may be written that are in use: mounted, or swap.
+    /// Block devices that are in use may be written: mounted, or swap.
     pub fn allow_mounted(&mut self)
         ensures { self.new ≡ record self.old { is_mounted_allowed = true } }
     {
         self.is_mounted_allowed = true;
     }
 
-    /// Looks again at what is open under this descriptor, which is going to be closed.
+    /// Examines again what is open under this descriptor, which is going to be closed.
     pub fn let_go(&mut self, descriptor: i32)
         ensures { self.new ≡ record self.old { read = self.new.read } }
     {
         self.read.let_go(&self.system, descriptor);
     }
 
-    /// Refuses where a file that was opened to be read has changed since, as far as the system tells.
+    /// Fails if a file that was opened to be read has changed since, as far as the system reports it.
     pub fn unchanged<'a>(&self) -> Result<(), HostRefusal<'a>>
         ensures { IfErr result (λ refusal. refusal.fault ≡ HostFault.Changed) }
     {
@@ -96,7 +96,7 @@ impl<S: System + Drop> Reading<S> {
         }
     }
 
-    /// WasOpened what is read forward: `-` is standard input, which is no file of ours.
+    /// Opens what is read forward: `-` is standard input, which is no file of ours.
     pub fn input<'a>(&mut self, place: FileArg<'a>) -> Result<InputFile<S::File>, HostRefusal<'a>>
         ensures reads { OnOk result (ReadsOne self.old.streams self.old.taken self.new.taken) }
     {
@@ -121,7 +121,7 @@ impl<S: System + Drop> Reading<S> {
         InputFile::standard(self.alloc, self.system.input())
     }
 
-    /// WasOpened what is read at any place. What is neither a file nor a block device has no length, and is refused.
+    /// Opens what is read at any offset. Fails for what is neither a file nor a block device, and so has no length.
     pub fn source<'a>(&mut self, place: FileArg<'a>) -> Result<FileSource<S::File>, HostRefusal<'a>>
         ensures reads { OnOk result (ReadsOne self.old.streams self.old.taken self.new.taken) }
     {
@@ -129,8 +129,8 @@ impl<S: System + Drop> Reading<S> {
         source_of(file, place)
     }
 
-    /// Standard input as it stands, to be read at any place. Where it is neither a file nor a block device, it has no
-    /// length and is refused.
+    /// Standard input from its position on, to be read at any offset. Fails if it is neither a file nor a block device,
+    /// and so has no length.
     pub fn standard_source<'a>(
         &mut self,
         place: FileArg<'a>,
@@ -192,7 +192,7 @@ impl<S: System + Drop> Reading<S> {
         Writing::new(self)
     }
 
-    // WasOpened a file that is read.
+    // Opens a file that is read.
     fn opened<'a>(
         &mut self,
         place: FileArg<'a>,
@@ -214,7 +214,7 @@ impl<S: System + Drop> Reading<S> {
         Ok(opened)
     }
 
-    // Keeps how a file was when it was opened to be read.
+    // Records how a file was when it was opened to be read.
     fn keep<'a>(
         &mut self,
         descriptor: i32,
@@ -230,7 +230,7 @@ impl<S: System + Drop> Reading<S> {
         }
     }
 
-    // No report may land in this file, and no output may be it.
+    // No report may be written into this file, and no output may be it.
     fn take<'a>(&mut self, identity: Identity, place: FileArg<'a>) -> Result<(), HostRefusal<'a>>
         ensures spared { OnOk result (¬ Reported self.old.streams identity) }
         ensures taken { OnOk result (Adds self.old.taken self.new.taken identity) }
@@ -245,7 +245,7 @@ impl<S: System + Drop> Reading<S> {
     }
 }
 
-// Of too many open files the system says no more than that.
+// For too many open files the message says no more than that.
 fn if_too_many(refusal: HostRefusal<'_>) -> HostRefusal<'_>
     ensures { result.fault ≡ refusal.entry.fault }
 {
@@ -269,7 +269,7 @@ fn source_of<'a, F: SystemFile + Drop>(
     }
 }
 
-// All bytes of a file, as a text of at most so many.
+// All bytes of a file, as a text of at most this many.
 fn text_of<S: System + Drop>(
     system: &S,
     read: &mut ReadFiles,

@@ -1,4 +1,4 @@
-//! Where reports go, which must be no file that is read, and none that data goes to.
+//! Where reports go: not into a file that is read, and not into one that data goes to.
 
 ghost use Rattle.std.specs.Prelude.{◌≡◌, ◌↔◌, IsTrue, OnOk, IfErr};
 ghost use Rattle.sys_host.specs.Streams.{Reported, Mixed};
@@ -7,7 +7,7 @@ use sys_file::System;
 use sys_identity::{ERRORS, Identity, OUTPUT, identity_of_stream};
 use sys_refusals::{FileArg, HostFault, HostRefusal};
 
-/// What standard output and standard error are.
+/// The identities of standard output and standard error.
 #[derive(Clone, Copy, Drop)]
 pub struct Streams {
     pub out: Identity,
@@ -22,7 +22,8 @@ impl Streams {
         }
     }
 
-    /// Refuses to read a file with data in which a report would land. Of what would land there itself nothing is told.
+    /// Fails for a file with data that is to be read and into which a report would be written. No message is printed
+    /// that would be written there itself.
     pub fn spare<'a>(&self, identity: Identity, place: FileArg<'a>) -> Result<(), HostRefusal<'a>>
         ensures spared { OnOk result (¬ Reported self.now identity) }
         ensures reported { IfErr result (λ _. Reported self.now identity) }
@@ -39,7 +40,7 @@ impl Streams {
         Ok(())
     }
 
-    /// Whether what is told would stand among the data of an output that is this file.
+    /// Whether a message would be mixed with the data of an output that is this file.
     pub fn mixes_with(&self, identity: Identity) -> bool
         ensures { IsTrue result ↔ Mixed self.now identity }
     {

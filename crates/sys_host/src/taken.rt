@@ -10,7 +10,7 @@ use std::io;
 use sys_file::{SystemFile, write_all};
 use sys_identity::{Found, Identity};
 
-/// What is read, and what is being written: no further output may be one of them.
+/// The inputs, and the outputs so far: no further output may be one of them.
 #[derive(Drop)]
 pub struct Taken {
     pub files: Vec<Identity>,
@@ -43,7 +43,7 @@ impl Taken {
         }
     }
 
-    /// Empties a file that is one of these; a pipe and a device have nothing to empty.
+    /// Empties a file that is one of these; for a pipe and a device there is nothing to do.
     pub(crate) fn empty<F: SystemFile>(&self, file: &mut F, found: Found) -> io::Result<()>
         requires taken { Contains self.now.files.items found.identity }
         requires long { IsTrue F.models → found.kind ≡ Kind.File → found.length ≡ length (F.stands file.old) }
@@ -59,8 +59,8 @@ impl Taken {
         }
     }
 
-    /// Lays zeros over the first four bytes of a file that is one of these, so that it is no image, and answers how
-    /// many bytes stand in it. One with fewer, or with more than `most`, or that does not take them, is emptied.
+    /// Writes zeros over the first four bytes of a file that is one of these, so that it is no image, and returns the
+    /// file's length. A file with fewer bytes, or with more than `most`, or that does not take the zeros, is emptied.
     pub(crate) fn blank<F: SystemFile>(
         &self,
         file: &mut F,

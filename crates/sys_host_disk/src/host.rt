@@ -14,19 +14,19 @@ use sys_host::{InputFile, Reading, Writing, not_opened};
 use sys_identity::{INPUT, is_standard_input, standard_source_again};
 use sys_refusals::{FileArg, HostFault, HostRefusal};
 
-// How long the magic of an image is at most.
+// The most bytes of the magic of an image.
 const MAGIC: usize = 8;
 
-/// What a run does with files. It tells nothing of what they hold.
+/// The file calls of a run. It models nothing.
 #[derive(Drop)]
 pub struct Host<S: System + Drop> {
     writing: Writing<S>,
-    // What goes through a spool is looked at where each piece ends: what changes behind the last one does no harm.
+    // What goes through a spool is checked at the end of each piece: a change after the last one does no harm.
     is_looked_at: bool,
 }
 
 impl<S: System + Drop> Host<S> {
-    /// Begins with what is open to be read, if anything is.
+    /// Begins with the inputs that are open, if there are any.
     pub fn new(reading: Reading<S>) -> Host<S> {
         Host {
             writing: reading.all_open(),
@@ -34,7 +34,7 @@ impl<S: System + Drop> Host<S> {
         }
     }
 
-    /// What opens its files.
+    /// The system that opens its files.
     pub fn system(&mut self) -> &mut S {
         &mut self.writing.reading.system
     }
@@ -44,12 +44,12 @@ impl<S: System + Drop> Host<S> {
         self.writing.reading.sync_outputs();
     }
 
-    /// Block devices may be written that are in use: mounted, or swap.
+    /// Block devices that are in use may be written: mounted, or swap.
     pub fn allow_all(&mut self) {
         self.writing.reading.allow_mounted();
     }
 
-    // Refuses where a file that is read has changed which is not looked at where each piece ends.
+    // Fails if a file that is read has changed, and is not one that is checked at the end of each piece.
     fn unchanged_at_end<'a>(&self) -> Result<(), HostRefusal<'a>> {
         if self.is_looked_at {
             return Ok(());
@@ -57,7 +57,7 @@ impl<S: System + Drop> Host<S> {
         self.writing.reading.unchanged()
     }
 
-    // Reads standard input at any place.
+    // Reads standard input at any offset.
     fn standard<'a>(&mut self, place: FileArg<'a>) -> Result<HostSource<S::File>, HostRefusal<'a>> {
         match self.writing.reading.standard_source(place) {
             Ok(source) => Ok(HostSource::Standard(source)),
@@ -318,7 +318,7 @@ impl<S: System + Drop> Disk for Host<S> {
     }
 }
 
-// Lets an image go that is not to be taken for one: zeros are laid where its magic is.
+// Closes an image that must not be taken for one: zeros are written over its magic.
 fn blank_front<F: SystemFile + Drop>(image: ImageFile<F>) {
     let mut image = image;
     let front = image.position().min(MAGIC as u64) as usize;

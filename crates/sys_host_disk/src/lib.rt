@@ -1,10 +1,11 @@
-//! The program's disk: the files of the system, opened by `sys_host` and held by buffers. It tells nothing of what they
-//! hold, so no contract knows that it makes the calls which it stands for: it is short, and read.
+//! The program's disk: the files of the system, opened by `sys_host` and read and written through buffers. It models
+//! nothing. So no contract states that it makes the calls which it has to make. Its code is short, and has to be
+//! reviewed by reading.
 //!
 //! | file | has |
 //! |---|---|
 //! | `host.rt` | the calls of the disk |
-//! | `source.rt` | what is read at any place, maybe ahead |
+//! | `source.rt` | what is read at any offset, maybe ahead |
 #![tactic(auto)]
 
 mod host;

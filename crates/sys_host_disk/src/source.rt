@@ -1,4 +1,4 @@
-//! What is read at any place: a file or a block device.
+//! An input that is read at any offset: a file or a block device.
 
 ghost use Rattle.std.specs.Prelude.{[], false};
 ghost use Rattle.std.proofs.lemmas.Bool.{false≢true};
@@ -17,14 +17,14 @@ use sys_identity::StandardSource;
 pub enum HostSource<F: SystemFile + Drop> {
     /// Each read is made as it is asked for.
     Plain(FileSource<F>),
-    /// Small reads are answered from what was read before.
+    /// Small reads are served from earlier reads.
     Ahead(AheadSource<F>),
-    /// Standard input, from where it stands.
+    /// Standard input, from its position on.
     Standard(StandardSource<F>),
 }
 
 impl<F: SystemFile + Drop> HostSource<F> {
-    /// The same, of which small reads are answered from what was read before.
+    /// The same, with small reads served from earlier reads.
     pub(crate) fn ahead(alloc: Global, source: FileSource<F>) -> Result<HostSource<F>, AllocError> {
         match AheadSource::new(alloc, source) {
             Ok(source) => Ok(HostSource::Ahead(source)),
@@ -41,7 +41,7 @@ impl<F: SystemFile + Drop> HostSource<F> {
         }
     }
 
-    /// Its file, if it is one of its own: standard input is not, and neither is nothing at all.
+    /// The file, if it has one of its own: standard input has not, and neither has an empty source.
     pub(crate) fn file(&self) -> Option<&F> {
         match self {
             HostSource::Plain(source) => source.file.as_ref(),

@@ -1,11 +1,11 @@
--- Which file it is of which the system tells something.
+-- The identity of a file, from what the system reports about it.
 use Rattle.std.specs.Prelude.{ℕ, Bool, true, false, Some, None}
 use Rattle.sys_file.specs.declared.stat.Kind.{Kind}
 use Rattle.sys_file.specs.declared.stat.Kind.TheVariants as kinds
 use Rattle.sys_file.specs.declared.stat.Stat.{Stat}
 use Rattle.sys_identity.specs.declared.identity.Identity.{Identity}
 
--- A regular file holds data, which writing it would lose. What is written to it, to a pipe or to a socket stands among
+-- A regular file holds data, which writing it would lose. What is written to it, to a pipe or to a socket is mixed with
 -- what others write there. A terminal and the null device are neither.
 abbrev on_device : Bool → Bool → Stat → Identity
 on_device holds among stat =

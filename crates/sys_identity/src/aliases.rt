@@ -1,11 +1,11 @@
-//! What a file or a block device stands on, so that one storage is known by each of its names.
+//! The storage below a file or a block device, so that one storage is known by each of its names.
 
 use crate::identity::{Identity, found_at};
 use crate::sysfs::{add_devices, told_bytes, told_device, told_number, told_sectors};
 use std::alloc::AllocError;
 use sys_file::System;
 
-// How deep devices stand on one another at most, and how many are looked at.
+// The most devices that are stacked on one another, and the most that are examined.
 const MOST: usize = 64;
 
 /// A part of a file or of a block device that is written or read with another one.
@@ -15,7 +15,7 @@ pub struct Layer {
     pub from: u64,
     /// Where it ends.
     pub end: u64,
-    /// Whether all of that part is: of what is mapped it is known only that some of it is.
+    /// Whether all of that part is: of a mapped device it is known only that some of it is.
     pub is_exact: bool,
 }
 
@@ -30,15 +30,15 @@ impl Layer {
         }
     }
 
-    /// Whether two have bytes in common. Of two mapped devices on one disk that is not known: they are taken to be
-    /// apart.
+    /// Whether two have bytes in common. For two mapped devices on one disk that is not known: they are taken to be
+    /// separate.
     pub fn meets(&self, other: &Layer) -> bool {
         let is_one = self.identity == other.identity;
         let is_common = self.from < other.end && other.from < self.end;
         is_one && is_common && (self.is_exact || other.is_exact)
     }
 
-    // The same bytes in what it stands on, behind so many others, where it has so many.
+    // The same bytes in the storage below, after this many others, if it has that many.
     fn on(&self, identity: Identity, offset: u64, length: u64) -> Layer {
         Layer {
             identity,
@@ -49,7 +49,7 @@ impl Layer {
     }
 }
 
-/// Whether a file stands on what one of these stands on, or is it.
+/// Whether a file shares its storage with one of these, or is one of them.
 pub fn is_shared<S: System>(
     system: &S,
     identity: Identity,
@@ -84,7 +84,7 @@ fn any_meets(ours: &[Layer], theirs: &[Layer]) -> bool {
     false
 }
 
-// A file, and all that it stands on.
+// A file, and all storage below it.
 fn layers_of<S: System>(system: &S, identity: Identity) -> Result<Vec<Layer>, AllocError> {
     let mut layers = Vec::new(system.alloc());
     add_layer(&mut layers, Layer::whole(identity))?;
@@ -109,7 +109,7 @@ fn add_layer(layers: &mut Vec<Layer>, layer: Layer) -> Result<(), AllocError> {
     }
 }
 
-// A loop device stands on a file.
+// A loop device is backed by a file.
 fn add_backing<S: System>(
     system: &S,
     layer: Layer,
@@ -130,7 +130,7 @@ fn add_backing<S: System>(
     add_layer(layers, layer.on(backing.identity, offset, length))
 }
 
-// A partition stands on its disk.
+// A partition is a part of its disk.
 fn add_disk<S: System>(
     system: &S,
     layer: Layer,
@@ -148,7 +148,7 @@ fn add_disk<S: System>(
     add_layer(layers, layer.on(Identity::of_block(disk), start, length))
 }
 
-// A mapped device, and one of several disks, stands somewhere on others.
+// A mapped device, or one of several disks, is somewhere on others.
 fn add_mapped<S: System>(
     system: &S,
     device: u64,

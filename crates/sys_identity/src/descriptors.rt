@@ -1,5 +1,5 @@
-//! What is open under a descriptor, which std asks by paths alone: a stream by `/dev/stdin` and the like, and where
-//! that is not there, and what else is open, by `/proc/self/fd`.
+//! What is open under a descriptor. std can ask that only by paths: a stream by `/dev/stdin` and the like. If that does
+//! not exist, and for other descriptors, the path is in `/proc/self/fd`.
 
 use std::io;
 use sys_file::{Opening, Stat, System};
@@ -13,7 +13,7 @@ pub const OUTPUT: i32 = 1;
 /// Standard error.
 pub const ERRORS: i32 = 2;
 
-/// What the system tells of what is open under a descriptor.
+/// What the system reports about the file that is open under a descriptor.
 pub fn stat_of_open<S: System>(system: &S, descriptor: i32) -> io::Result<Stat> {
     if let Some(stream) = stream_at(descriptor)
         && let Ok(told) = system.look(stream)
@@ -41,7 +41,7 @@ pub fn is_shown<S: System>(system: &S) -> bool {
     system.look("/proc/self/fd").is_ok()
 }
 
-/// Where standard input stands: 0 where the system does not show that.
+/// The position of standard input: 0 if the system does not show it.
 pub fn place_of_input<S: System>(system: &S) -> u64 {
     let Ok(bytes) = system.contents("/proc/self/fdinfo/0") else {
         return 0;

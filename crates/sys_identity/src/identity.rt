@@ -1,4 +1,4 @@
-//! Which file it is, whatever path, link or descriptor it was reached by, and what else the system tells of it.
+//! The identity of a file, whatever path, link or descriptor led to it, and what else the system reports about it.
 
 ghost use Rattle.std.specs.Prelude.{◌≡◌, ◌↔◌, Some, None, IsTrue, true};
 ghost use Rattle.sys_file.specs.declared.stat.Kind.{Kind};
@@ -8,16 +8,15 @@ use crate::descriptors::stat_of_open;
 use std::io;
 use sys_file::{Kind, Stat, System};
 
-/// A file, told from all others.
+/// The identity of a file, which distinguishes it from all others.
 #[derive(Clone, Copy, PartialEq, Eq)]
 pub struct Identity {
-    // The device that it is on, or nothing of a block device, which is its own.
+    // The device that it is on. A block device has none: it is its own device.
     device: Option<u64>,
     number: u64,
-    /// Whether writing it would lose what it holds: not of a pipe, a terminal or the null device.
+    /// Whether writing it would lose its content: false for a pipe, a terminal and the null device.
     pub holds_data: bool,
-    /// Whether what is written there stands among what others write there: a terminal and the null device are no such
-    /// thing.
+    /// Whether what is written there is mixed with what others write there: false for a terminal and the null device.
     pub mixes: bool,
 }
 
@@ -32,7 +31,7 @@ impl Identity {
         }
     }
 
-    /// Of a file of which the system tells this.
+    /// The identity of a file for which the system reports this.
     pub fn of(stat: &Stat) -> Identity
         ensures { result ≡ identity_of stat.now }
     {
@@ -83,19 +82,19 @@ impl Identity {
     }
 }
 
-/// When a file was last written, as its file system tells.
+/// The time of the last write of a file, as its file system reports it.
 #[derive(Clone, Copy, PartialEq, Eq)]
 pub struct Modified {
     seconds: i64,
     nanoseconds: i64,
 }
 
-/// What the system tells of a file.
+/// What the system reports about a file.
 #[derive(Clone, Copy, Drop)]
 pub struct Found {
     pub identity: Identity,
     pub kind: Kind,
-    /// How long a regular file is.
+    /// The length of a regular file.
     pub length: u64,
     pub modified: Modified,
 }
@@ -136,7 +135,7 @@ pub fn found_of<S: System>(system: &S, descriptor: i32) -> io::Result<Found> {
     }
 }
 
-/// What is at this path, behind any links.
+/// What is at this path, after following links.
 pub fn found_at<S: System>(system: &S, path: &str) -> io::Result<Found> {
     match system.look(path) {
         Ok(stat) => Ok(Found::new(&stat)),
@@ -144,8 +143,8 @@ pub fn found_at<S: System>(system: &S, path: &str) -> io::Result<Found> {
     }
 }
 
-/// What standard input, standard output or standard error is. Where that is closed, or the system does not show it, it
-/// is like no file.
+/// The identity of standard input, standard output or standard error. If that is closed, or the system does not show
+/// it, it is like no file.
 pub fn identity_of_stream<S: System>(system: &S, descriptor: i32) -> Identity {
     match found_of(system, descriptor) {
         Ok(found) => found.identity,
@@ -153,7 +152,7 @@ pub fn identity_of_stream<S: System>(system: &S, descriptor: i32) -> Identity {
     }
 }
 
-/// What is at this path, where something is.
+/// The identity of the file at this path, if there is one.
 pub fn identity_at<S: System>(system: &S, path: &str) -> Option<Identity> {
     match found_at(system, path) {
         Ok(found) => Some(found.identity),
@@ -161,7 +160,7 @@ pub fn identity_at<S: System>(system: &S, path: &str) -> Option<Identity> {
     }
 }
 
-/// The number of a device, of its two, as Linux makes it.
+/// The number of a device, from its two numbers, as Linux makes it.
 pub fn device_number(major: u32, minor: u32) -> u64 {
     let high = ((major & 0xffff_f000) as u64) << 32;
     let middle = ((minor & 0xffff_ff00) as u64) << 12;

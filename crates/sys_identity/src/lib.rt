@@ -1,14 +1,15 @@
-//! What the system tells of files: which file it is, what it stands on, whether it is in use, and whether it has changed. It
-//! opens none, but standard input once more.
+//! What the system reports about files: their identity, the storage below them, and whether they are in use or have
+//! changed. This crate opens no file, except standard input once more.
 //!
 //! | file | has |
 //! |---|---|
-//! | `identity.rt` | which file it is, and what else is told of it |
-//! | `descriptors.rt` | what is open under a descriptor, by the paths that the system has for that |
-//! | `read_files.rt` | the files that are read, as they were: whether one changed, or is an output by now |
-//! | `aliases.rt`, `mounts.rt`, `sysfs.rt` | what a file stands on; whether a block device is in use; what tells that |
-//! | `numbered.rt` | what a folder has of numbered files |
-//! | `standard_input.rt` | standard input that is read at any place |
+//! | `identity.rt` | the identity of a file, and what else the system reports about it |
+//! | `descriptors.rt` | what is open under a descriptor, by the system's paths for that |
+//! | `read_files.rt` | the input files, as they were: whether one changed, or is an output by now |
+//! | `aliases.rt` | the storage below a file or a block device |
+//! | `mounts.rt`, `sysfs.rt` | whether a block device is in use; what Linux reports about block devices |
+//! | `numbered.rt` | which numbered files a folder has |
+//! | `standard_input.rt` | standard input that is read at any offset |
 #![tactic(auto)]
 
 mod aliases;

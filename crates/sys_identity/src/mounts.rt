@@ -1,5 +1,5 @@
-//! Whether a block device is in use: a file system on it is mounted, or it is swap. Where `/proc` is not there, none
-//! is.
+//! Whether a block device is in use: a file system on it is mounted, or it is swap. If `/proc` does not exist, no
+//! device is.
 
 use crate::identity::found_at;
 use crate::sysfs::{add_devices, device_in};
@@ -7,10 +7,10 @@ use std::alloc::{AllocError, Global};
 use std::io;
 use sys_file::System;
 
-// How many devices are looked at.
+// The most devices that are examined.
 const MOST: usize = 1024;
 
-/// Whether this block device is in use, or a partition of it, or what stands on one of these.
+/// Whether this block device is in use, or a partition of it, or a device on one of these.
 pub fn is_in_use<S: System>(system: &S, device: u64) -> Result<bool, AllocError> {
     let devices = devices_on(system, device)?;
     let devices = devices.as_slice();
@@ -20,7 +20,7 @@ pub fn is_in_use<S: System>(system: &S, device: u64) -> Result<bool, AllocError>
     is_swap(system, devices)
 }
 
-// This device, its partitions, and all that stand on one of these.
+// This device, its partitions, and all devices on them.
 fn devices_on<S: System>(system: &S, device: u64) -> Result<Vec<u64>, AllocError> {
     let mut devices = Vec::new(system.alloc());
     if devices.push(device).is_err() {
@@ -88,7 +88,7 @@ fn is_swap<S: System>(system: &S, devices: &[u64]) -> Result<bool, AllocError> {
     Ok(false)
 }
 
-// The word of a line that so many others come before.
+// The word of a line after this many others.
 fn word_at(line: &str, before: usize) -> Option<&str> {
     let mut rest = line;
     for _ in 0..before {
@@ -103,7 +103,7 @@ fn word_at(line: &str, before: usize) -> Option<&str> {
     }
 }
 
-// Whether a path, in which `\040` stands for a blank, leads to one of these block devices.
+// Whether a path, in which `\040` means a blank, leads to one of these block devices.
 fn is_one_of<S: System>(system: &S, path: &str, devices: &[u64]) -> Result<bool, AllocError> {
     let path = unescaped(system.alloc(), path.as_bytes())?;
     let Ok(path) = str::from_utf8(path.as_slice()) else {
@@ -118,7 +118,7 @@ fn is_one_of<S: System>(system: &S, path: &str, devices: &[u64]) -> Result<bool,
     }
 }
 
-// The bytes of a path, in which a backslash and three digits stand for one byte.
+// The bytes of a path, in which a backslash and three digits encode one byte.
 fn unescaped(alloc: Global, path: &[u8]) -> Result<Vec<u8>, AllocError> {
     let mut bytes = Vec::new(alloc);
     let mut skip = 0usize;
@@ -159,7 +159,7 @@ fn digit(letter: u8) -> Option<u32> {
     }
 }
 
-// What stands in a file of /proc, where that is there.
+// The content of a file of /proc, if it exists.
 fn text_at<S: System>(system: &S, path: &str) -> Result<Option<String>, AllocError> {
     match system.contents(path) {
         Ok(bytes) => Ok(Some(String::from_utf8_lossy(system.alloc(), bytes.as_slice())?)),

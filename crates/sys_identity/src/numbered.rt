@@ -1,12 +1,12 @@
-//! What a folder has of numbered files: `PREFIX.1` and so on.
+//! Which numbered files a folder has: `PREFIX.1` and so on.
 
 use std::alloc::AllocError;
 use std::io;
 use sys_file::System;
 use sys_numbered_names::{lesser, number_behind};
 
-/// The least number above this one at which a file is, behind the path of its prefix and a point. Where the system
-/// does not show what the folder holds, only the next number is looked at.
+/// The least number above this one at which a file exists, after the path of its prefix and a point. If the system does
+/// not list the folder, only the next number is examined.
 pub fn next_number<S: System>(
     system: &S,
     prefix: &str,

@@ -22,7 +22,7 @@ struct ReadFile {
 }
 
 impl ReadFile {
-    // Whether a regular file that is open is not as it was when it was opened, as far as the system tells.
+    // Whether a regular file that is open is not as it was when it was opened, as far as the system reports it.
     fn is_changed<S: System>(&self, system: &S) -> bool {
         if self.descriptor == CLOSED || !self.found.is_file() {
             return false;
@@ -36,7 +36,7 @@ impl ReadFile {
         }
     }
 
-    // What is open now, or where the system does not show that, what its path leads to.
+    // What is open now, or if the system does not show that, what its path leads to.
     fn found_now<S: System>(&self, system: &S) -> Option<Found> {
         match found_of(system, self.descriptor) {
             Ok(now) => Some(now),
@@ -76,7 +76,7 @@ impl ReadFile {
 pub struct ReadFiles {
     alloc: Global,
     files: Vec<ReadFile>,
-    // One that had changed when it was let go.
+    // A file that had changed when it was closed.
     changed: Option<FileArg<'static>>,
 }
 
@@ -136,7 +136,7 @@ impl ReadFiles {
         }
     }
 
-    // What was open under this descriptor is not any more.
+    // The file that was open under this descriptor is not open any more.
     fn forget(&mut self, descriptor: i32) {
         for file in self.files.iter_mut() {
             if file.descriptor == descriptor {
@@ -145,7 +145,7 @@ impl ReadFiles {
         }
     }
 
-    /// Looks again at the file that is open under this descriptor, which is going to be closed.
+    /// Examines again the file that is open under this descriptor, which is going to be closed.
     pub fn let_go<S: System>(&mut self, system: &S, descriptor: i32) {
         if let Some(file) = self.under(descriptor)
             && file.is_changed(system)
@@ -155,7 +155,8 @@ impl ReadFiles {
         self.forget(descriptor);
     }
 
-    /// One that has changed since it was opened: it was so when it was let go, or is open and is so now.
+    /// A file that has changed since it was opened: it had changed when it was closed, or is open and has changed by
+    /// now.
     pub fn changed<S: System>(&self, system: &S) -> Option<FileArg<'static>> {
         if self.changed.is_some() {
             return self.changed;
@@ -169,7 +170,7 @@ impl ReadFiles {
     }
 
     /// Whether one of them is this file by now, which is open under a descriptor of its own: opening it to be written
-    /// may have made it another one.
+    /// may have changed it.
     pub fn is_one_now<S: System>(&self, system: &S, identity: Identity, own: i32) -> bool {
         for file in self.files.iter() {
             if file.is_now(system, identity, own) {
@@ -180,7 +181,7 @@ impl ReadFiles {
     }
 }
 
-// A place that lasts as long as the program does, as what is told of a file at the end of the work.
+// A place that lasts as long as the program does, for a message at the end of the work.
 fn kept_place(alloc: Global, place: FileArg<'_>) -> Result<FileArg<'static>, AllocError> {
     let role = String::from_str(alloc, place.role)?;
     let path = place.path(alloc)?;

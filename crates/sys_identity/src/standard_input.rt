@@ -1,4 +1,4 @@
-//! Standard input where it is a file or a block device, which is read at any place: from where it stands.
+//! Standard input that is a file or a block device. It is read at any offset, counted from its position.
 
 ghost use Rattle.std.specs.Prelude.{◌-◌, drop};
 ghost use Rattle.abt_io.specs.BytesLaws.{bytes_of_drop};
@@ -13,15 +13,15 @@ use sys_devices::FileSource;
 use sys_file::{Opening, System, SystemFile};
 use sys_refusals::FileArg;
 
-/// Standard input, of which the byte at its place is the first.
+/// Standard input. The byte at its position is the first.
 #[derive(Drop)]
 pub struct StandardSource<F: SystemFile + Drop> {
     pub source: FileSource<F>,
-    // Where it stands.
+    // Its position.
     base: u64,
 }
 
-/// Standard input as it stands, where it has a length.
+/// Standard input from its position on, if it has a length.
 pub fn standard_source<S: System>(
     system: &mut S,
     found: Found,
@@ -45,7 +45,7 @@ pub fn standard_source_again<S: System>(
 }
 
 impl<F: SystemFile + Drop> StandardSource<F> {
-    // A file from a place on.
+    // A file from an offset on.
     fn new(file: F, base: u64) -> io::Result<StandardSource<F>> {
         let Ok(source) = FileSource::new(file) else {
             return Err(io::Error::from(io::ErrorKind::InvalidInput));
@@ -53,7 +53,7 @@ impl<F: SystemFile + Drop> StandardSource<F> {
         Ok(StandardSource { source, base })
     }
 
-    /// How long it is now.
+    /// The present length.
     pub fn length_now(&self) -> u64 {
         match &self.source.file {
             Some(file) => file.length().unwrap_or(0).saturating_sub(self.base),
@@ -62,7 +62,7 @@ impl<F: SystemFile + Drop> StandardSource<F> {
     }
 }
 
-/// Whether this is standard input, which is read at any place.
+/// Whether this is standard input, which is read at any offset.
 pub fn is_standard_input(place: &FileArg<'_>) -> bool {
     let is_path = match place.folder {
         Some(folder) => folder == "/dev" && place.name == "stdin",

@@ -1,14 +1,15 @@
-//! What Linux tells of block devices, below `/sys/dev/block/MAJOR:MINOR`. Where that is not there, it tells nothing.
+//! What Linux reports about block devices, below `/sys/dev/block/MAJOR:MINOR`. If that does not exist, it reports
+//! nothing.
 
 use crate::identity::{device_number, device_parts};
 use std::alloc::{AllocError, Global};
 use std::io;
 use sys_file::System;
 
-// How many bytes a sector has, in which lengths are told there.
+// The number of bytes of a sector, in which lengths are given there.
 const SECTOR: u64 = 512;
 
-/// What stands in a file there, without the line's end.
+/// The content of a file there, without the line's end.
 pub fn told_bytes<S: System>(
     system: &S,
     device: u64,
@@ -68,8 +69,8 @@ pub fn told_device<S: System>(
     }
 }
 
-/// The devices that a folder there names, each in a folder of its own: those of these, where they are to be of a disk's
-/// partitions, that have a file `partition`.
+/// The devices that a folder there names, each in a folder of its own. If they are to be the partitions of a disk, only
+/// those that have a file `partition`.
 pub fn add_devices<S: System>(
     system: &S,
     device: u64,

@@ -1,8 +1,8 @@
-//! Names with a number behind them and a point between, as the pieces of a cut have: `PREFIX.1` and so on.
+//! Names with a number after them and a point between, such as the pieces of a cut: `PREFIX.1` and so on.
 //!
 //! | file | has |
 //! |---|---|
-//! | `names.rt` | the number behind a name, and the least of several |
+//! | `names.rt` | the number after a name, and the least of several |
 #![tactic(auto)]
 
 mod names;

@@ -1,4 +1,4 @@
-//! The number behind a name, and the least of several.
+//! The number after a name, and the least of several.
 
 ghost use Rattle.std.specs.Prelude.{◌≡◌, ◌≢◌, ◌<◌, ◌^◌, ℕ, ◌∷◌, ◌++◌, None, IfSome, decimal, get_or, nat_lt};
 ghost use Rattle.sys_numbered_names.specs.Lesser.{lesser_of};
@@ -14,7 +14,7 @@ pub fn lesser(least: Option<u32>, behind: u32, number: Option<u32>) -> Option<u3
     }
 }
 
-/// The number that stands behind a name and a point, as it is written: without a sign, and without zeros in front.
+/// The number that follows a name and a point, in its usual form: without a sign, and without leading zeros.
 pub fn number_behind(path: &str, front: &str) -> Option<u32>
     ensures some { IfSome result (λ k. (k < 2 ^ 32) × (path.now ≡ front.now ++ (46 ∷ decimal k))) }
     ensures none { result ≡ None → (n : ℕ) → 0 < n → n < 2 ^ 32 → path.now ≢ front.now ++ (46 ∷ decimal n) }
@@ -28,7 +28,7 @@ pub fn number_behind(path: &str, front: &str) -> Option<u32>
     }
 }
 
-// A number that is not 0, as it is written.
+// A number that is not 0, in its usual form.
 fn number_of(digits: &str) -> Option<u32>
     ensures some { IfSome result (λ k. (k < 2 ^ 32) × (digits.now ≡ decimal k)) }
     ensures none { result ≡ None → (n : ℕ) → 0 < n → n < 2 ^ 32 → digits.now ≢ decimal n }
@@ -42,7 +42,7 @@ fn number_of(digits: &str) -> Option<u32>
     }
 }
 
-// Whether it begins with a digit that is not 0, or what comes behind the digits.
+// Whether it begins with a digit that is not 0, or with what follows the digits.
 fn is_led(text: &str) -> bool
     ensures { result ≡ nat_lt 48 (get_or text.now 0 0) }
 {

@@ -1,30 +1,31 @@
--- What a call gives a file, of which a log tells.
+-- What a call gives a file. A log records it.
 use Rattle.std.specs.Prelude.{◌≡◌, ◌<◌, ◌≤◌, ℕ, List, Bool, IsTrue, false, Result, IfOk, OnErr, length, take, replicate}
 use Rattle.std.specs.Io.{WritesAtMost}
 use Rattle.abt_io.specs.Count.{count_of}
 use Rattle.abt_io.specs.Frame.{Logged, and_bytes}
 use Rattle.abt_io.specs.Over.{and_put}
 
--- a front of these bytes goes behind all that it was given, or nothing
+-- a prefix of these bytes is appended to all that it was given, or nothing is
 pub record PutsBehind {E : Type 0} (r : Result ℕ E) (bytes : List ℕ) (log log' : Logged) : Type 0 where
   pub bound : WritesAtMost r bytes
   pub progress : IfOk r (λ n. 0 < length bytes → 0 < n)
   pub taken : IfOk r (λ n. log' ≡ and_bytes log (take n bytes))
   pub kept : OnErr r (log' ≡ log)
 
--- a front of these bytes goes over what it was given from a place on, and no empty one of some bytes; or nothing
+-- a prefix of these bytes overwrites what it was given from an offset on, a nonempty one if there are bytes; or nothing
+-- does
 pub record PutsFrom {E : Type 0} (r : Result ℕ E) (at : ℕ) (bytes : List ℕ) (log log' : Logged) : Type 0 where
   pub within : count_of r ≤ length bytes
   pub progress : IfOk r (λ n. 0 < length bytes → 0 < n)
   pub taken : IfOk r (λ n. log' ≡ and_put log at (take n bytes))
   pub kept : OnErr r (log' ≡ log)
 
--- so many zeros go behind it, and no more than were asked
+-- this many zeros are appended, and no more than were asked for
 pub record LaysHole (asked laid : ℕ) (log log' : Logged) : Type 0 where
   pub within : laid ≤ asked
   pub zeros : log' ≡ and_bytes log (replicate laid 0)
 
--- It was given more, all of which is held. Or the log is the same, and as many bytes are held.
+-- The file was given more, and all of it is buffered. Or the log is the same, and as many bytes are buffered.
 pub record TakesOrKeeps (taken : Bool) (log log' more : Logged) (sent sent' : ℕ) (held held' : List ℕ) : Type 0 where
   pub more_given : IsTrue taken → log' ≡ more
   pub kept : taken ≡ false → log' ≡ log

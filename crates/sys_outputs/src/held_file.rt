@@ -1,9 +1,9 @@
-//! A regular file that takes small writes together, and lays headers in memory over what it holds still: so the header
-//! of a chunk, which is laid once the chunk's length is known, mostly takes no call of its own.
+//! A regular file that collects small writes, and writes late headers in its buffer where they are still there. So the
+//! header of a chunk, which is written once the chunk's length is known, mostly needs no call of its own.
 //!
-//! Where a write fails, the file is as if each header had been laid by a call of its own, behind all that was given
-//! before it: a header is taken back where not all of that was written. Such a file comes to no end, and neither does one
-//! of which a write of many bytes failed, or one over bytes that it was given.
+//! Where a write fails, the file is as if a separate call had written each header, after all bytes that were given
+//! before it. A header is taken back if not all of those bytes were written. `end` fails for a file of this kind. It
+//! also fails where a write of many bytes failed, or one over bytes that the file was given.
 
 ghost use Rattle.std.specs.Prelude.{◌≡◌, ◌<◌, ◌≤◌, ◌+◌, ◌^◌, [], false, IsTrue, length, IfOk, OnOk, OnErr};
 ghost use Rattle.abt_io.specs.Frame.{nothing_logged, and_bytes};
@@ -17,30 +17,30 @@ use std::io;
 use std::io::ErrorKind;
 use sys_file::{SystemFile, put_held, write_at, write_front};
 
-// How many bytes are held at most.
+// The most bytes that are buffered.
 pub(crate) const ROOM: usize = WINDOW;
 
-// A write of so many bytes or more is not held: what copying them costs is what a call does.
+// A write of this many bytes or more is not buffered: copying them would cost as much as a call.
 const LARGE: usize = 16_384;
 
-// How long a header is that is laid in memory.
+// The length of a header that is written in the buffer.
 const HEADER: usize = 12;
 
-// How many are laid before all is sent.
+// The number of headers that are written there before all is sent.
 pub(crate) const MOST: usize = 256;
 
-/// A header that was laid over bytes that are held.
+/// A header that was written over buffered bytes.
 #[derive(Clone, Copy, Drop)]
 pub(crate) struct Laid {
     from: usize,
-    /// How many bytes were held then.
+    /// The number of bytes buffered at that time.
     behind: usize,
-    /// What stood there.
+    /// The bytes that were there before.
     before: [u8; HEADER],
 }
 
 impl Laid {
-    // Takes it back where fewer bytes were written than it was laid behind, in the file too.
+    // Takes the header back if fewer bytes were written than preceded it, in the file too.
     fn take_back<F: SystemFile>(&self, file: &mut F, sent: u64, done: usize, held: &mut Vec<u8>)
         requires { HasRoomBehind F.models sent done (F.stands file.old) held.old.items }
         ensures { TakesBack F.models sent (F.stands file.old) (F.stands file.new) held.old.items held.new.items }
@@ -57,16 +57,16 @@ impl Laid {
     }
 }
 
-/// A file that was just created or emptied. What is held goes behind the bytes that were sent: by `settle` and `end`, and
-/// not where it is dropped.
+/// A file that was just created or emptied. `settle` and `end` append the buffered bytes to those that were sent;
+/// dropping the file does not.
 #[derive(Drop)]
 pub struct HeldFile<F: SystemFile + Drop> {
     file: F,
     sent: u64,
     held: Vec<u8>,
     laid: Vec<Laid>,
-    /// A write failed of what is held, and a header may have been taken back; or one of many bytes, or over others, which
-    /// may have left anything.
+    /// A write of buffered bytes failed, and a header may have been taken back; or a write of many bytes or over others
+    /// failed, and may have left anything.
     is_failed: bool,
     /// All that it was given.
     pub given: Log,
@@ -77,7 +77,7 @@ pub struct HeldFile<F: SystemFile + Drop> {
 }
 
 impl<F: SystemFile + Drop> HeldFile<F> {
-    /// Nothing is held yet, and nothing stands in the file.
+    /// Nothing is buffered yet, and the file is empty.
     pub fn new(file: F, room: Room) -> HeldFile<F>
         requires { IsTrue F.models → F.stands file ≡ [] }
         ensures { result.given.state ≡ nothing_logged }
@@ -93,8 +93,8 @@ impl<F: SystemFile + Drop> HeldFile<F> {
         }
     }
 
-    /// Takes some of these bytes: it holds them, or where they have no room, or are many, it sends what it holds, and some
-    /// of them.
+    /// Takes some of these bytes: it buffers them. If they have no room, or are many, it sends what it has buffered,
+    /// and some of them.
     pub fn put(&mut self, bytes: &[u8]) -> io::Result<usize>
         ensures { PutsBehind result bytes.now self.old.given.state self.new.given.state }
     {
@@ -119,7 +119,7 @@ impl<F: SystemFile + Drop> HeldFile<F> {
         }
     }
 
-    // Holds these bytes behind those that are held, if they are few and have room.
+    // Appends these bytes to the buffer, if they are few and have room.
     fn holds(&mut self, bytes: &[u8]) -> bool
         requires { self.old.sent + length self.old.held.items + length bytes.now < 2 ^ 64 }
         ensures { TakesOrKeeps result self.old.given.state self.new.given.state
@@ -143,8 +143,8 @@ impl<F: SystemFile + Drop> HeldFile<F> {
         }
     }
 
-    /// Writes a front of these bytes over what was taken. What stands at the front, as the magic does, is laid once all
-    /// else is in the file. Why the call failed, by its number, where it did.
+    /// Overwrites what was taken with a prefix of these bytes. What is at the beginning, such as the magic, is written
+    /// once everything else is in the file. On a failure it returns the number of the system's error.
     pub fn put_over(&mut self, at: u64, bytes: &[u8]) -> Result<usize, Option<i32>>
         ensures { PutsFrom result at bytes.now self.old.given.state self.new.given.state }
     {
@@ -170,7 +170,7 @@ impl<F: SystemFile + Drop> HeldFile<F> {
         }
     }
 
-    // Lays a header over bytes that are held, if all of them are, and it is not at the front.
+    // Writes a header over buffered bytes, if all of them are buffered, and it is not at the beginning of the file.
     fn lays(&mut self, at: u64, bytes: &[u8]) -> bool
         ensures { TakesOrKeeps result self.old.given.state self.new.given.state
             (and_put self.old.given.state at bytes.now) self.old.sent self.new.sent self.old.held.items
@@ -200,7 +200,7 @@ impl<F: SystemFile + Drop> HeldFile<F> {
         true
     }
 
-    /// Sends what it holds. Where that fails it is held on, and sent to the same place by the next call.
+    /// Sends the buffered bytes. If that fails they stay buffered, and the next call sends them to the same offset.
     pub fn settle(&mut self) -> io::Result<()>
         ensures none { OnOk result (self.new.held.items ≡ []) }
         ensures reach { OnOk result (self.new.sent ≡ self.old.sent + length self.old.held.items) }
@@ -229,7 +229,7 @@ impl<F: SystemFile + Drop> HeldFile<F> {
         &self.file
     }
 
-    // Takes the headers back that were laid behind more than was written.
+    // Takes back the headers that were written after more bytes than the file took.
     fn take_back(&mut self, done: usize)
         requires { IsTrue F.models → self.old.sent + done ≤ length (F.stands self.old.file) }
         ensures { HoldsAsMuch self.old.held.items self.new.held.items self.old.sent self.new.sent self.old.given.state
@@ -249,7 +249,8 @@ impl<F: SystemFile + Drop> HeldFile<F> {
         self.laid.clear();
     }
 
-    /// The file, where it took all that was given. Where it did not, what it holds is sent once more, as far as that goes.
+    /// The file, if it took all that was given. If it did not, the buffered bytes are sent once more, as far as
+    /// possible.
     pub fn end(self) -> io::Result<F>
         ensures { IsTrue F.models → IfOk result (λ file. F.stands file ≡ self.given.state.bytes) }
     {

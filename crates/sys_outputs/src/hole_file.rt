@@ -1,8 +1,8 @@
 //! A regular file in which zeros may be a hole, which takes no room and no time.
 //!
-//! A hole is laid by a change of the file's length, behind all that it was given. Where that fails, or a write does,
-//! anything may stand there: it is cut off before the next hole, and at the end. Where a write over given bytes failed,
-//! the file comes to no end.
+//! A hole is made by a change of the file's length, after all that it was given. Where that fails, or a write does, any
+//! bytes may be there. They are truncated before the next hole, and at the end. Where a write over given bytes failed,
+//! `end` fails.
 
 ghost use Rattle.std.specs.Prelude.{◌≡◌, ◌<◌, ◌≤◌, ◌+◌, ◌^◌, [], false, IsTrue, length, replicate, max};
 ghost use Rattle.std.specs.Prelude.{IfOk, OnOk};
@@ -15,16 +15,16 @@ use std::io;
 use std::io::ErrorKind;
 use sys_file::{SystemFile, write_at};
 
-// No hole of a file is smaller.
+// A hole has at least this many bytes.
 const PAGE: u64 = 4096;
 
-/// A file that was just created or emptied. It holds what it was given after every call that did not fail.
+/// A file that was just created or emptied. After every call that did not fail it holds what it was given.
 #[derive(Drop)]
 pub struct HoleFile<F: SystemFile + Drop> {
     file: F,
-    /// How many bytes it was given.
+    /// The number of bytes that it was given.
     used: u64,
-    /// Up to here anything may stand behind them, since a call failed.
+    /// Up to this offset any bytes may follow them, because a call failed.
     stale: u64,
     /// A write failed over bytes that it was given.
     is_failed: bool,
@@ -37,7 +37,7 @@ pub struct HoleFile<F: SystemFile + Drop> {
 }
 
 impl<F: SystemFile + Drop> HoleFile<F> {
-    /// Nothing stands in the file.
+    /// The file is empty.
     pub fn new(file: F) -> HoleFile<F>
         requires { IsTrue F.models → F.stands file ≡ [] }
         ensures { result.given.state ≡ nothing_logged }
@@ -51,7 +51,8 @@ impl<F: SystemFile + Drop> HoleFile<F> {
         }
     }
 
-    /// Takes some of these bytes, by one write behind all that it was given. Zeros are a hole, if the file can have one.
+    /// Takes some of these bytes, by one write after all that it was given. Zeros become a hole, if the file can have
+    /// one.
     pub fn put(&mut self, bytes: &[u8]) -> io::Result<usize>
         ensures { PutsBehind result bytes.now self.old.given.state self.new.given.state }
     {
@@ -74,8 +75,8 @@ impl<F: SystemFile + Drop> HoleFile<F> {
         }
     }
 
-    /// Makes the file longer by so many zeros at once, or where it cannot be so long by half as many, and so on. It answers
-    /// by how many: 0 where it is by no page.
+    /// Extends the file by this many zeros at once, or if it cannot be that long by half as many, and so on. Returns by
+    /// how many: 0 if not even by a page.
     pub fn lay_hole(&mut self, n: u64) -> u64
         ensures { LaysHole n result self.old.given.state self.new.given.state }
     {
@@ -89,7 +90,7 @@ impl<F: SystemFile + Drop> HoleFile<F> {
         0
     }
 
-    // Makes the file longer by so many zeros, if it can be so long and nothing else stands there.
+    // Extends the file by this many zeros, if it can be that long and nothing else is there.
     fn grows(&mut self, n: u64) -> bool
         requires { self.old.used + n < 2 ^ 64 }
         ensures grown { IsTrue result → self.new.given.state ≡ and_bytes self.old.given.state (replicate n 0) }
@@ -109,7 +110,7 @@ impl<F: SystemFile + Drop> HoleFile<F> {
         true
     }
 
-    // Cuts off what may stand behind all that it was given.
+    // Truncates what may follow all that it was given.
     fn cut_off(&mut self) -> io::Result<()>
         ensures cut { OnOk result (self.new.stale ≤ self.new.used) }
         ensures keeps { StaysGiven self.old.given.state self.new.given.state self.old.used self.new.used
@@ -127,7 +128,8 @@ impl<F: SystemFile + Drop> HoleFile<F> {
         }
     }
 
-    /// Writes a front of these bytes over what it was given. Why the call failed, by its number, where it did.
+    /// Overwrites what it was given with a prefix of these bytes. On a failure it returns the number of the system's
+    /// error.
     pub fn put_over(&mut self, at: u64, bytes: &[u8]) -> Result<usize, Option<i32>>
         ensures { PutsFrom result at bytes.now self.old.given.state self.new.given.state }
     {
@@ -146,7 +148,7 @@ impl<F: SystemFile + Drop> HoleFile<F> {
         }
     }
 
-    /// The file, which holds all that was given and nothing behind it.
+    /// The file, which holds all that was given and nothing after it.
     pub fn end(self) -> io::Result<F>
         ensures { IsTrue F.models → IfOk result (λ file. F.stands file ≡ self.given.state.bytes) }
     {

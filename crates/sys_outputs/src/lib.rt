@@ -2,9 +2,9 @@
 //!
 //! | file | has |
 //! |---|---|
-//! | `stream_file.rt` | an output that is written from its front on, as a pipe is |
+//! | `stream_file.rt` | an output that is written from its beginning on, such as a pipe |
 //! | `hole_file.rt` | an output in which zeros may be a hole |
-//! | `held_file.rt`, `room.rt` | an output that takes small writes together, and has headers laid late; its memory |
+//! | `held_file.rt`, `room.rt` | an output that collects small writes and has headers written late; its memory |
 #![tactic(auto)]
 
 mod held_file;

@@ -1,11 +1,11 @@
-//! The memory that a file holds bytes in.
+//! The memory in which a file buffers bytes.
 
 ghost use Rattle.std.specs.Prelude.{◌≡◌, []};
 
 use crate::held_file::{Laid, MOST, ROOM};
 use std::alloc::Global;
 
-/// Nothing is held there yet. Where there was no memory, nothing ever is: then each write goes to the file at once.
+/// Nothing is buffered there yet. Where there was no memory, nothing ever is: then each write goes to the file at once.
 #[derive(Drop)]
 pub struct Room {
     pub(crate) held: Vec<u8>,

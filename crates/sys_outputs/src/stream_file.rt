@@ -1,7 +1,7 @@
-//! An output that is written from its front on, by writes at its place: a pipe, a device, or a file that was just created or
-//! emptied.
+//! An output that is written from its beginning on, by writes at its position: a pipe, a device, or a file that was
+//! just created or emptied.
 //!
-//! Where a write failed, anything may stand behind what it was given, or over it: then it comes to no end.
+//! Where a write failed, any bytes may follow what it was given, or have overwritten it. Then `end` fails.
 
 ghost use Rattle.std.specs.Prelude.{◌≡◌, ◌≤◌, [], false, IsTrue, length, IfOk};
 ghost use Rattle.abt_io.specs.Frame.{nothing_logged};
@@ -12,11 +12,11 @@ use std::io;
 use std::io::ErrorKind;
 use sys_file::{SystemFile, write, write_at};
 
-/// What is written from its front on. It holds what it was given after every call that did not fail.
+/// An output that is written from its beginning on. After every call that did not fail it holds what it was given.
 #[derive(Drop)]
 pub struct StreamFile<F: SystemFile + Drop> {
     file: F,
-    /// How many bytes it was given.
+    /// The number of bytes that it was given.
     used: u64,
     /// A write failed.
     is_failed: bool,
@@ -29,7 +29,7 @@ pub struct StreamFile<F: SystemFile + Drop> {
 }
 
 impl<F: SystemFile + Drop> StreamFile<F> {
-    /// Nothing was written yet, from its place on.
+    /// Nothing was written yet, from its position on.
     pub fn new(file: F) -> StreamFile<F>
         requires empty { IsTrue F.models → F.stands file ≡ [] }
         requires front { IsTrue F.models → F.place file ≡ 0 }
@@ -43,7 +43,7 @@ impl<F: SystemFile + Drop> StreamFile<F> {
         }
     }
 
-    /// Takes some of these bytes, by one write behind all that it was given.
+    /// Takes some of these bytes, by one write after all that it was given.
     pub fn put(&mut self, bytes: &[u8]) -> io::Result<usize>
         ensures { PutsBehind result bytes.now self.old.given.state self.new.given.state }
     {
@@ -63,8 +63,8 @@ impl<F: SystemFile + Drop> StreamFile<F> {
         }
     }
 
-    /// Writes a front of these bytes over what it was given, if it has places. Why the call failed, by its number, where it
-    /// did.
+    /// Overwrites what it was given with a prefix of these bytes, if it has positions. On a failure it returns the
+    /// number of the system's error.
     pub fn put_over(&mut self, at: u64, bytes: &[u8]) -> Result<usize, Option<i32>>
         ensures { PutsFrom result at bytes.now self.old.given.state self.new.given.state }
     {

@@ -1,10 +1,10 @@
-//! Readers and writers as the devices of `abt_io`. They tell nothing of what they hold, and are bound by all clauses on
-//! counts, lengths and faults.
+//! Readers and writers of std as devices of `abt_io`. They do not model their content. All clauses on counts, lengths
+//! and faults bind them.
 //!
 //! | file | has |
 //! |---|---|
 //! | `streams.rt` | a reader as an input, and a writer as an output |
-//! | `tries.rt` | one call of the system, which is made again where a signal cut it off |
+//! | `tries.rt` | one call of the system, which is repeated when a signal interrupts it |
 #![tactic(auto)]
 
 mod streams;

@@ -1,4 +1,4 @@
-//! A reader as an input, and a writer as an output. They tell nothing.
+//! A reader as an input, and a writer as an output. They model nothing.
 
 ghost use Rattle.std.specs.Prelude.{◌≡◌, [], false};
 ghost use Rattle.abt_io.specs.Frame.{nothing_logged};
@@ -8,7 +8,7 @@ use crate::tries;
 use abt_io::{DeviceFault, Input, Log, Output, Tally};
 use std::io::{Read, Write};
 
-/// A writer to write to. An error, and a write that takes nothing, is `Failed`.
+/// A writer as an output. An error, and a write that takes no byte, is `Failed`.
 #[derive(Drop)]
 pub struct ToWrite<W> {
     pub writer: W,
@@ -59,7 +59,7 @@ impl<W: Write> Output for ToWrite<W> {
     }
 }
 
-/// A reader to read from. An error is `Failed`.
+/// A reader as an input. An error is `Failed`.
 #[derive(Drop)]
 pub struct FromRead<R> {
     pub reader: R,

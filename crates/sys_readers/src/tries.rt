@@ -1,8 +1,8 @@
-//! System calls that are tried again where a signal came in between.
+//! System calls that are repeated when a signal interrupts them.
 //!
-//! Each is tried at most 2^64 - 1 times: the loops are `for` loops over a range, so they end. Every
-//! error, and a write of a nonempty list that took nothing, is a failure, with the number of the
-//! system's error where there is one.
+//! Each call is tried at most 2^64 - 1 times: the loops are `for` loops over a range, so they end. Every error is a
+//! failure, and so is a write of a nonempty list that took no byte. A failure has the number of the system's error
+//! where there is one.
 
 ghost use Rattle.std.specs.Prelude.{◌≡◌, ◌≢◌, ◌<◌, ◌≤◌, Some, None, Ok, Err, IfOk, IfErr, IfSome, length};
 ghost use Rattle.std.specs.IoError.{error_kind, raw_os_error};
@@ -11,8 +11,8 @@ ghost use Rattle.abt_io.specs.Count.{count_of};
 use std::io;
 use std::io::{ErrorKind, Read, Write};
 
-// What the answer of a call that has to move at least `least` bytes comes to: nothing where a signal
-// came in between, so that the call is tried again.
+// The outcome of a call that has to move at least `least` bytes. It is `None` where a signal interrupted the call, so
+// that it is tried again.
 fn moved(answer: io::Result<usize>, least: usize) -> Option<Result<usize, Option<i32>>>
     ensures within { IfSome result (λ r. count_of r ≤ count_of answer) }
     ensures progress { IfSome result (λ r. IfOk r (λ n. least ≤ n)) }

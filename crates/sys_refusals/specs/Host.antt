@@ -1,4 +1,4 @@
--- Which faults of files are of the words.
+-- Which faults of files are about the words.
 use Rattle.std.specs.Prelude.{Bool, true, false}
 use Rattle.sys_refusals.specs.declared.refusal.HostFault.{HostFault}
 use Rattle.sys_refusals.specs.declared.refusal.HostFault.TheVariants as faults

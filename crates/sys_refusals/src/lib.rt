@@ -1,13 +1,14 @@
-//! Why a command is refused, and what a user is told of it. It opens nothing.
+//! The errors of commands, and the messages about them. This crate opens nothing.
 //!
-//! A `Refusal` has the fault, the file that it is about, and why the system says so, in one value. A fault of a crate
-//! above says by `Told` what its first line is and which device it is of; the faults of files are `HostFault`.
+//! A `Refusal` has three things in one value: the fault, the file that it is about, and the system's reason. A fault of
+//! a crate above implements `Told`, which gives the first line of its message and the device that it is about.
+//! `HostFault` has the faults of files.
 //!
 //! | file | has |
 //! |---|---|
-//! | `place.rt` | a file, as the words name it and as a refusal shows it |
-//! | `refusal.rt` | why a command is refused, and of which file |
-//! | `told.rt` | what a user is told of a fault |
+//! | `place.rt` | a file, as the words name it and as a message shows it |
+//! | `refusal.rt` | why a command fails, and for which file |
+//! | `told.rt` | the message about a fault |
 #![tactic(auto)]
 
 mod place;

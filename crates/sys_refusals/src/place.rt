@@ -7,15 +7,16 @@ use std::alloc::{AllocError, Global};
 use std::fmt;
 use sys_text::ShownPath;
 
-/// The word that gave a file, and its path: a word, or one of the files that a command makes names for, as `PREFIX.1`.
+/// The word that gave a file, and its path: a word, or one of the files that a command makes names for, such as
+/// `PREFIX.1`.
 #[derive(Clone, Copy, Drop)]
 pub struct FileArg<'a> {
-    /// The word of the usage line, as `IN`.
+    /// The word of the usage line, such as `IN`.
     pub role: &'a str,
-    /// The folder, where that is a word by itself.
+    /// The folder, if that is a word by itself.
     pub folder: Option<&'a str>,
     pub name: &'a str,
-    /// The number behind the name, with a point between.
+    /// The number that follows the name, after a point.
     pub number: Option<u32>,
 }
 
@@ -40,7 +41,7 @@ impl<'a> FileArg<'a> {
         }
     }
 
-    /// The same with a number behind its name.
+    /// The same with a number after its name.
     pub fn numbered(self, number: u32) -> FileArg<'a> {
         FileArg {
             number: Some(number),
@@ -48,7 +49,7 @@ impl<'a> FileArg<'a> {
         }
     }
 
-    /// Whether it is `-`, which stands for standard input or standard output.
+    /// Whether it is `-`, which means standard input or standard output.
     pub fn is_standard(&self) -> bool
         ensures { result ≡ is_standard self.now }
     {

@@ -1,22 +1,22 @@
-//! Why a command is refused: the fault, the file that it is about, and why the system says so, in one value.
+//! Why a command fails: the fault, the file that it is about, and the system's reason, in one value.
 
 ghost use Rattle.std.specs.Prelude.{◌≡◌};
 
 use crate::place::FileArg;
 use crate::told::{Side, Told};
 
-/// What a refusal is about.
+/// What an error is about.
 #[derive(Clone, Copy, Drop)]
 pub struct About<'a> {
     /// The file.
     pub place: Option<FileArg<'a>>,
-    /// Why the system call failed, by its number.
+    /// Why the system call failed, by the number of the error.
     pub why: Option<i32>,
-    /// The output that was begun and isn't whole.
+    /// The output that was begun and isn't complete.
     pub unfinished: Option<FileArg<'a>>,
-    /// Whether nothing is told, since what would be told would land in this file.
+    /// Whether no message is printed, because it would be written into this file.
     pub is_untold: bool,
-    /// What can be done, where the fault alone does not say it.
+    /// Advice, where the fault alone does not give it.
     pub advice: Option<&'a str>,
 }
 
@@ -52,16 +52,16 @@ impl<'a, F> Refusal<'a, F> {
     }
 }
 
-/// Why files are refused, whatever they hold.
+/// Why an operation on a file fails, whatever the file's content.
 #[derive(Clone, Copy, Drop)]
 pub enum HostFault {
     /// This file can't be opened.
     CannotOpen,
     /// This file can't be created: its folder is missing.
     NoFolder,
-    /// What would be written is a file that is read, or written already.
+    /// The output is a file that is read, or written already.
     SameFile,
-    /// What would be written is a block device that is in use: its file system is mounted, or it is swap.
+    /// The output is a block device that is in use: its file system is mounted, or it is swap.
     Mounted,
     /// A file has changed while it was read.
     Changed,
@@ -71,13 +71,13 @@ pub enum HostFault {
     TooLong,
     /// A file of words can't be read.
     Read,
-    /// What was written can't be brought to its end, or the report can't be written.
+    /// The output can't be finished, or the report can't be written.
     Write,
-    /// Memory was wanted and refused.
+    /// An allocation failed.
     Memory,
 }
 
-/// A fault of files, and which of them.
+/// A fault of files, and the file.
 #[derive(Clone, Copy, Drop)]
 pub struct HostRefusal<'a> {
     pub fault: HostFault,
@@ -85,14 +85,14 @@ pub struct HostRefusal<'a> {
 }
 
 impl<'a> HostRefusal<'a> {
-    /// Memory was refused.
+    /// An allocation failed.
     pub fn memory() -> HostRefusal<'a>
         ensures { result.fault ≡ HostFault.Memory }
     {
         HostRefusal::of(HostFault::Memory, None)
     }
 
-    /// About no file, with the number of the system's error.
+    /// An error about no file, with the number of the system's error.
     pub fn of(fault: HostFault, why: Option<i32>) -> HostRefusal<'a>
         ensures { result.fault ≡ fault }
     {
@@ -103,7 +103,7 @@ impl<'a> HostRefusal<'a> {
         HostRefusal { fault, about }
     }
 
-    /// A file, with the number of the system's error.
+    /// An error about a file, with the number of the system's error.
     pub fn at(fault: HostFault, place: FileArg<'a>, why: Option<i32>) -> HostRefusal<'a>
         ensures { result.fault ≡ fault }
     {
@@ -115,7 +115,7 @@ impl<'a> HostRefusal<'a> {
         HostRefusal { fault, about }
     }
 
-    /// The same, where this output was begun.
+    /// The same, after this output was begun.
     pub fn begun(self, output: FileArg<'a>) -> HostRefusal<'a>
         ensures { result.fault ≡ self.entry.fault }
     {
@@ -129,7 +129,7 @@ impl<'a> HostRefusal<'a> {
         }
     }
 
-    /// The same, of which this says what can be done.
+    /// The same, with this advice.
     pub fn advised(self, advice: &'a str) -> HostRefusal<'a>
         ensures { result ≡ record self.entry { about = record self.entry.about { advice = result.about.advice } } }
     {
@@ -143,7 +143,7 @@ impl<'a> HostRefusal<'a> {
         }
     }
 
-    /// The same, where nothing may be told of it.
+    /// The same, with no message where the argument says so.
     pub fn untold_if(self, is_untold: bool) -> HostRefusal<'a>
         ensures fault { result.fault ≡ self.entry.fault }
         ensures untold { result.about.is_untold ≡ is_untold }
@@ -165,25 +165,25 @@ impl<'a, F: From<HostFault>> From<HostRefusal<'a>> for Refusal<'a, F> {
     }
 }
 
-/// A file that is worked on, and why its last call failed.
+/// A file in use, and why its last call failed.
 #[derive(Clone, Copy, Drop)]
 struct At<'a> {
     place: Option<FileArg<'a>>,
     why: Option<i32>,
 }
 
-/// What is worked on when a fault comes, which is about one of these.
+/// The files in use when a fault occurs. The fault is about one of them.
 #[derive(Clone, Copy, Drop)]
 pub struct Sides<'a> {
     input: At<'a>,
     output: At<'a>,
     spool: At<'a>,
-    // The output that was begun and isn't whole.
+    // The output that was begun and isn't complete.
     unfinished: Option<FileArg<'a>>,
 }
 
 impl<'a> Sides<'a> {
-    /// No file is worked on.
+    /// No file is in use.
     pub fn none() -> Sides<'a> {
         let nothing = At {
             place: None,
@@ -232,7 +232,7 @@ impl<'a> Sides<'a> {
         }
     }
 
-    /// This one is written, and isn't whole.
+    /// This one is written, and isn't complete.
     pub fn begun(self, place: FileArg<'a>, why: Option<i32>) -> Sides<'a> {
         let place = Some(place);
         Sides {
@@ -242,7 +242,7 @@ impl<'a> Sides<'a> {
         }
     }
 
-    /// Refuses for this fault, which says which of these files it is about.
+    /// The error for this fault. The fault says which of these files it is about.
     pub fn refuse<F: Told>(self, fault: F) -> Refusal<'a, F>
         ensures { result.fault ≡ fault }
     {

@@ -1,4 +1,4 @@
-//! What a user is told of a fault.
+//! The message about a fault.
 
 ghost use Rattle.std.specs.Prelude.{◌≡◌, Bool, List, ℕ};
 ghost use Rattle.sys_refusals.specs.Host.{is_not_text};
@@ -9,7 +9,7 @@ use crate::refusal::HostFault;
 use abt_io::Output;
 use sys_text::Text;
 
-/// Which of the files at hand a fault is about.
+/// Which of the files in use a fault is about.
 #[derive(Clone, Copy, Drop)]
 pub enum Side {
     /// What is read.
@@ -31,7 +31,7 @@ pub enum Magic {
     Boot,
 }
 
-/// A fault that a user is told of.
+/// A fault that has a message for the user.
 pub trait Told {
     /// The words are wrong, rather than what they name.
     ghost wrong_words: { Self → Bool };
@@ -40,28 +40,28 @@ pub trait Told {
     fn is_usage(&self) -> bool
         ensures { result ≡ wrong_words self.now };
 
-    /// Which of the files at hand it is about.
+    /// Which of the files in use it is about.
     fn side(&self) -> Side;
 
-    /// Whether a device or the opening of a file failed, of which the system tells why.
+    /// Whether a device or the opening of a file failed, so that the system gives the reason.
     fn is_of_a_device(&self) -> bool;
 
-    /// What can be done, where the system gives no reason.
+    /// Advice, where the system gives no reason.
     fn advice(&self) -> &'static str;
 
-    /// The kind of image that a file was taken for, and has not the magic of.
+    /// The kind of image that was expected of a file that lacks its magic.
     fn missing_magic(&self) -> Option<Magic>;
 
-    /// The piece from which on a flash that was stopped goes on.
+    /// The piece from which a stopped flash continues.
     fn mending_piece(&self) -> Option<u32>;
 
-    /// Adds what the first line says of it, behind `abootimg: `.
+    /// Adds what the first line says of it, after `abootimg: `.
     fn put<O: Output>(&self, place: Option<FileArg<'_>>, text: &mut Text<'_, O>)
         ensures { (told : List ℕ) × Prints O.written O.write_faults text.old text.new told };
 }
 
 impl HostFault {
-    /// What can be done, where the system gives no reason.
+    /// Advice, where the system gives no reason.
     pub fn advice(self) -> &'static str {
         match self {
             HostFault::CannotOpen => "it is neither a file nor a block device",
@@ -78,7 +78,7 @@ impl HostFault {
         }
     }
 
-    /// Whether a device or the opening of a file failed, of which the system tells why.
+    /// Whether a device or the opening of a file failed, so that the system gives the reason.
     pub fn is_of_a_device(self) -> bool {
         match self {
             HostFault::CannotOpen => true,

@@ -1,10 +1,12 @@
-//! A device that is held together with how far the command is, so that contracts know the device through every call.
+//! A device together with the progress of the command. It owns the device, so contracts know the device through every
+//! call.
 
 use crate::progress::Progress;
 use abt_io::{DeviceFault, Input, Output, Overwrite, Source};
 
-/// Does what its device does, and counts the bytes that it moves, so that a terminal shows how far the command is. It
-/// is of each kind that its device is of, and holds it: a device that is lent would be another one behind each call.
+/// Does what its device does, and counts the bytes that it moves, so that a terminal shows the progress of the command.
+/// It implements each device trait that its device implements, and owns the device: a borrowed device would be another
+/// one after each call.
 #[derive(Drop)]
 pub struct Carried<'a, D> {
     pub device: D,

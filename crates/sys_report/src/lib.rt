@@ -1,10 +1,10 @@
-//! What a command prints, and how far it is. It opens nothing.
+//! What a command prints, and its progress. This crate opens nothing.
 //!
 //! | file | has |
 //! |---|---|
-//! | `standard_output.rt` | standard output, and all that it was given |
+//! | `standard_output.rt` | standard output, and a log of all that it was given |
 //! | `report.rt` | the lines that a command prints, and on which stream |
-//! | `progress.rt` | how far a command is: a line on a terminal |
+//! | `progress.rt` | the progress of a command: a line on a terminal |
 //! | `carried.rt` | devices whose bytes are counted for that line |
 #![tactic(auto)]
 

@@ -1,6 +1,6 @@
-//! How far a command is: one line on a terminal, which is written over as the work goes on, and erased at its end. A
-//! terminal that is narrower cuts it at its margin, since it is drawn while the terminal wraps nothing. The cursor is at its
-//! front, so what comes behind a command that is broken off goes over it.
+//! The progress of a command: one line on a terminal, which is overwritten as the work goes on, and erased at its end.
+//! The line is drawn while the terminal does not wrap, so a narrow terminal cuts it at its margin. The cursor stays at
+//! the beginning of the line, so what follows an interrupted command overwrites it.
 
 ghost use Rattle.std.specs.Prelude.{◌≡◌, ◌+◌, ◌*◌, ◌-◌, ◌^◌, IsTrue, false, true, max, min, Some, option_map, unwrap_or};
 ghost use Rattle.sys_report.specs.Moved.{Expects};
@@ -10,34 +10,34 @@ use std::time::{Duration, Instant};
 use sys_readers::ToWrite;
 use sys_text::{ProgressLine, Text};
 
-// The line comes after so many milliseconds, and anew after so many.
+// Milliseconds until the line is first shown, and between updates.
 const FIRST: u64 = 1000;
 
 const NEXT: u64 = 200;
 
-// To the front of the line, where what has no room on it is left out.
+// Moves to the beginning of the line, and turns wrapping off.
 const BEGINS: &str = "\r\x1b[?7l";
 
-// The rest of the line erased, and back to its front, where what has no room goes on in the next line again.
+// Erases the rest of the line, moves back to its beginning, and turns wrapping on.
 const ENDS: &str = "\x1b[K\x1b[?7h\r";
 
-// To the front of the line, and all of it erased.
+// Moves to the beginning of the line, and erases all of it.
 const ERASED: &[u8] = b"\r\x1b[K";
 
-/// How far a command is.
+/// The progress of a command.
 #[derive(Clone, Copy, Drop)]
 pub struct Progress {
     rt: HostRuntime,
     command: &'static str,
-    /// How many bytes are to be moved, where that is known.
+    /// The number of bytes to be moved, if that is known.
     pub total: Option<u64>,
-    /// How many bytes were moved.
+    /// The number of bytes moved.
     pub done: u64,
-    // They are those before the place to which its source was read: what is read again does not count again.
+    // These bytes are those before the offset up to which the source was read: what is read again does not count again.
     is_by_place: bool,
-    // When it began, where it is to be shown.
+    // The time at which it began, if it is to be shown.
     begun: Option<Instant>,
-    // When the line was last written, where it stands.
+    // The time at which the line was last written, if it is shown now.
     shown: Option<Instant>,
 }
 
@@ -68,7 +68,7 @@ impl Progress {
         }
     }
 
-    /// So many bytes more are to be moved, so many times.
+    /// This many bytes more are to be moved, this many times.
     pub fn expect(&mut self, bytes: u64, times: u64)
         ensures { Expects (Some (min (unwrap_or self.old.total 0 + min (bytes * times) (2 ^ 64 - 1)) (2 ^ 64 - 1)))
             self.old self.new }
@@ -77,7 +77,7 @@ impl Progress {
         self.total = Some(self.total.unwrap_or(0).saturating_add(more));
     }
 
-    /// So many bytes more are to be moved, where that is known.
+    /// This many bytes more are to be moved, if that is known.
     pub fn expect_if(&mut self, bytes: Option<u64>)
         ensures done { self.new.done ≡ self.old.done }
     {
@@ -86,7 +86,7 @@ impl Progress {
         }
     }
 
-    /// All that is to be moved is moved so many times.
+    /// All bytes that are to be moved are moved this many times.
     pub fn repeat(&mut self, times: u64)
         ensures { Expects (option_map (λ n. min (n * times) (2 ^ 64 - 1)) self.old.total) self.old self.new }
     {
@@ -95,14 +95,14 @@ impl Progress {
         }
     }
 
-    /// From now on it is as far as the place to which its source was read.
+    /// From now on the progress is the offset up to which the source was read.
     pub fn follow(&mut self)
         ensures { self.new ≡ record self.old { is_by_place = true } }
     {
         self.is_by_place = true;
     }
 
-    /// So many bytes more were read, up to this place.
+    /// This many bytes more were read, up to this offset.
     pub fn reach(&mut self, place: u64, bytes: usize)
         ensures followed { IsTrue self.old.is_by_place → self.new.done ≡ max self.old.done place }
         ensures counted { self.old.is_by_place ≡ false → self.new.done ≡ min (self.old.done + bytes) (2 ^ 64 - 1) }
@@ -115,7 +115,7 @@ impl Progress {
         }
     }
 
-    /// So many bytes more were moved.
+    /// This many bytes more were moved.
     pub fn advance(&mut self, bytes: usize)
         ensures done { self.new.done ≡ min (self.old.done + bytes) (2 ^ 64 - 1) }
         ensures total { self.new.total ≡ self.old.total }
@@ -133,7 +133,7 @@ impl Progress {
         }
     }
 
-    /// Erases the line, where it stands.
+    /// Erases the line, if it is shown.
     pub fn erase(&mut self)
         ensures { Expects self.old.total self.old self.new }
     {

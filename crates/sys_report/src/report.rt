@@ -15,18 +15,18 @@ use sys_readers::ToWrite;
 use sys_refusals::{FileArg, HostFault, HostRefusal};
 use sys_text::print_line;
 
-// How many bytes a line has at most. Those of numbers and names have a fifth of it.
+// The most bytes of a line. A line of numbers and names has at most a fifth of it.
 const LINE: usize = 512;
 
-/// Standard output and standard error, and how far the command is.
+/// Standard output and standard error, and the progress of the command.
 #[derive(Drop)]
 pub struct Report {
     pub out: ToWrite<StandardOutput>,
     pub err: ToWrite<Stderr>,
     pub progress: Progress,
-    // Data went to standard output: then no report does.
+    // Whether data went to standard output: then no line does.
     is_data_on_output: bool,
-    // Lines that are no text, or are longer than any that a command prints.
+    // Lines that are not text, or are longer than any line that a command prints.
     unshown: Tally,
 }
 
@@ -41,7 +41,7 @@ impl Report {
         }
     }
 
-    /// Prints a line: to standard output, or to standard error where data goes to where standard output goes.
+    /// Prints a line to standard output, or to standard error if data goes where standard output goes.
     pub fn line_beside<'a, D: fmt::Display + Drop>(
         &mut self,
         is_data_on_output: bool,
@@ -91,7 +91,7 @@ impl Report {
         }
     }
 
-    /// Prints a line to standard error, which nothing rests on.
+    /// Prints a line to standard error. No contract depends on it.
     pub fn note<D: fmt::Display + Drop>(&mut self, line: D)
         ensures { IsNoted self.old self.new }
     {
@@ -99,12 +99,12 @@ impl Report {
         let _ = print_line(&mut self.err, line);
     }
 
-    /// Whether each line of a text is awaited that goes to standard output: it is a terminal.
+    /// Whether standard output is a terminal, so that each line of a text is awaited.
     pub fn is_awaited(&self) -> bool {
         self.out.writer.is_terminal()
     }
 
-    /// The refusal of a text that could not be printed to standard output.
+    /// The error for a text that could not be printed to standard output.
     pub fn cannot_print<'a>(&self) -> HostRefusal<'a> {
         HostRefusal::of(HostFault::Write, self.out.writer.why)
     }

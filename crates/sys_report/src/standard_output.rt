@@ -1,4 +1,4 @@
-//! Standard output, as a report is printed to it, or a file in its place.
+//! Standard output, to which a report is printed, or a file instead of it.
 
 ghost use Rattle.std.specs.Prelude.{◌≡◌, Some};
 ghost use Rattle.std.specs.Io.{WritesAtMost};
@@ -28,7 +28,7 @@ impl PrintedTo {
     }
 }
 
-/// Standard output. It keeps all that it was given, and why it failed.
+/// Standard output. It keeps all that it was given, and the reason of its last failure.
 #[derive(Drop)]
 pub struct StandardOutput {
     place: PrintedTo,
@@ -44,7 +44,7 @@ impl StandardOutput {
         StandardOutput::to(PrintedTo::Standard(stdout))
     }
 
-    /// A file that is given in its place what is printed.
+    /// A file that is given what is printed, instead of standard output.
     pub fn in_file(file: File) -> StandardOutput
         ensures { result.log.state ≡ nothing_logged }
     {

@@ -1,9 +1,10 @@
-//! The system, as std has it. Each call is one of std, without a branch but on what it is asked for or on what it answers.
+//! The system, by calls of std. Each function makes one call of std. It branches only on its arguments, or on what the
+//! call returns.
 //!
 //! | file | has |
 //! |---|---|
 //! | `os_file.rt` | one open file, or a standard stream |
-//! | `system.rt` | what opens files, and tells which file it is |
+//! | `system.rt` | opening files, and identifying them |
 #![tactic(auto)]
 
 mod os_file;

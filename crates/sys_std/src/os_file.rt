@@ -1,4 +1,4 @@
-//! One open file of the system, or a standard stream, which has no places.
+//! One open file of the system, or a standard stream, which has no positions.
 
 ghost use Rattle.std.specs.Prelude.{[], false};
 ghost use Rattle.std.proofs.lemmas.Bool.{false≢true};
@@ -15,12 +15,12 @@ use sys_file::{Stamp, SystemFile};
 pub enum OsFile {
     File(File),
     Input(Stdin),
-    /// Standard output, and the file that is synced in its place.
+    /// Standard output, and the file that is synced instead of it.
     Output(Stdout, Option<File>),
 }
 
 impl OsFile {
-    // The file, which has places.
+    // The file, which has positions.
     pub(crate) fn file(&self) -> io::Result<&File> {
         match self {
             OsFile::File(file) => Ok(file),

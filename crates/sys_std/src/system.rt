@@ -1,4 +1,4 @@
-//! What opens files of the system, and tells which file it is.
+//! Opening files of the system, and identifying them.
 
 ghost use Rattle.std.specs.Prelude.{◌≡◌, [], IsTrue, false};
 ghost use Rattle.sys_file.specs.System.{IsJustOpened};
@@ -79,7 +79,7 @@ impl System for OsSystem {
         fs::read(&self.rt, path)
     }
 
-    // What reads a folder holds 8 KiB, which a call and each that hands it on would have on the stack.
+    // The reader of a folder has 8 KiB. A call, and each function that passes it on, would have them on the stack.
     #[inline(never)]
     fn names(&self, folder: &str) -> io::Result<Box<ReadDir>> {
         let names = fs::read_dir(&self.rt, folder)?;

@@ -5,7 +5,7 @@ ghost use Rattle.sys_text.specs.Shown.{text_in};
 
 use std::fmt;
 
-/// How many bytes are held at most.
+/// The most bytes that are buffered.
 pub const ROOM: usize = 8192;
 
 /// Bytes that wait to be written.
@@ -39,7 +39,7 @@ impl TextBuffer {
         self.used
     }
 
-    /// Holds nothing any more.
+    /// Empties the buffer.
     pub fn clear(&mut self)
         ensures text { text_in self.new.bytes self.new.used ≡ [] }
         ensures used { self.new.used ≡ 0 }
@@ -47,7 +47,7 @@ impl TextBuffer {
         self.used = 0;
     }
 
-    /// Takes as many of these bytes as have room, and says how many.
+    /// Takes as many of these bytes as have room, and returns how many.
     pub fn put(&mut self, bytes: &[u8]) -> usize
         ensures count { result ≡ min (length bytes.now) (8192 - self.old.used) }
         ensures text { text_in self.new.bytes self.new.used ≡ text_in self.old.bytes self.old.used ++ take

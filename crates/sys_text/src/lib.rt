@@ -1,14 +1,15 @@
-//! Text into an output, without memory.
+//! Text into an output, without allocation.
 //!
-//! A text gathers in a small buffer and goes out in whole lines. What the layers above rely on: what is added to a
-//! `Text` stands in its output once `finish` answers Ok, in that order and nothing else; after a write that failed the
-//! output holds a beginning of it, and the fault is told.
+//! A `Text` collects text in a small buffer and sends it in whole lines. The layers above rely on this:
+//!
+//! - Once `finish` returns Ok, the output has taken everything that was added, in that order, and nothing else.
+//! - After a write that failed, the output holds a prefix of the text, and `finish` returns the fault.
 //!
 //! | file | has |
 //! |---|---|
-//! | `text_output.rt`, `held.rt` | text into an output, and the buffer that it waits in |
+//! | `text_output.rt`, `held.rt` | text into an output, and its buffer |
 //! | `shown_path.rt` | a path as a terminal can show it |
-//! | `progress_line.rt` | how far a command is |
+//! | `progress_line.rt` | the line that shows the progress of a command |
 #![tactic(auto)]
 
 mod held;

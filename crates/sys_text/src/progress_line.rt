@@ -1,4 +1,4 @@
-//! The line that shows how far a command is.
+//! The line that shows the progress of a command.
 
 ghost use Rattle.std.specs.Prelude.{◌≡◌, ◌≤◌, ◌<◌, ◌*◌, ◌/◌, ◌^◌};
 
@@ -6,7 +6,7 @@ use std::fmt;
 
 const MEBIBYTE: u64 = 1_048_576;
 
-/// How far a command is, as a terminal shows it: on one line, without its end.
+/// The progress of a command, as a terminal shows it: on one line, without its end.
 #[derive(Clone, Copy, Drop)]
 pub struct ProgressLine<'a> {
     pub command: &'a str,
@@ -14,7 +14,7 @@ pub struct ProgressLine<'a> {
     pub done: u64,
     /// How many bytes there are to move, where that is known.
     pub total: Option<u64>,
-    /// How many milliseconds it took.
+    /// How many milliseconds the command has taken.
     pub passed: u64,
 }
 
@@ -39,7 +39,7 @@ impl fmt::Display for ProgressLine<'_> {
     }
 }
 
-// How much of the whole is done, in hundredths.
+// The part of the total that is done, in hundredths.
 fn percent_of(done: u64, total: u64) -> u64
     requires { done < total }
     ensures { result < 100 }
@@ -55,7 +55,7 @@ fn rate_of(done: u64, passed: u64) -> u64 {
     done.saturating_mul(1000) / passed.max(1)
 }
 
-// A number of bytes in mebibytes, with one digit behind the point.
+// A number of bytes in mebibytes, with one digit after the point.
 #[derive(Clone, Copy, Drop)]
 struct Mebibytes(u64);
 

@@ -2,7 +2,7 @@
 
 use std::fmt;
 
-/// A path in which each byte of a control character, and of a mark that turns the direction of text, is `\x` and two
+/// A path in which each byte of a control character, and of a mark that changes the direction of text, is `\x` and two
 /// hexadecimal digits.
 #[derive(Clone, Copy, Drop)]
 pub struct ShownPath<'a>(pub &'a str);
@@ -20,7 +20,7 @@ impl fmt::Display for ShownPath<'_> {
     }
 }
 
-// A control character, or one of the marks of direction that stand around other text.
+// A control character, or one of the marks of direction that enclose other text.
 fn acts_on_a_terminal(letter: char) -> bool {
     letter.is_control() || matches!(letter, '\u{202a}'..='\u{202e}' | '\u{2066}'..='\u{2069}')
 }

@@ -1,4 +1,4 @@
-//! Text into an output, without memory.
+//! Text into an output, without allocation.
 
 ghost use Rattle.std.specs.Prelude.{◌≡◌, ◌≤◌, ◌<◌, ◌++◌, ◌∷◌, [], Some, IfErr, IfSome, IsNone, OnOk};
 ghost use Rattle.std.specs.Prelude.{List, ℕ, decimal, length, take};
@@ -11,19 +11,20 @@ use abt_io::{DeviceFault, Meter, Output, write_out};
 use std::fmt;
 use std::fmt::Write;
 
-// Once this much is held, the end of a line sends it.
+// Once this many bytes are buffered, the end of a line sends them.
 const ENOUGH: usize = ROOM / 2;
 
-/// Text that gathers in a small buffer and goes out in whole lines. A line of more than 4,096 bytes may go in parts.
+/// Text that is collected in a small buffer and sent in whole lines. A line of more than 4,096 bytes may be sent in
+/// parts.
 ///
-/// Where a write fails, the output holds a beginning of the text, and what is added later goes nowhere: `finish` tells
-/// the fault. What is held goes out in `finish`, which must be called: a `Text` that is dropped loses it.
+/// Where a write fails, the output holds a prefix of the text, and what is added later is dropped: `finish` returns the
+/// fault. `finish` sends the rest of the buffer. It must be called: a `Text` that is dropped loses the rest.
 #[derive(Drop)]
 pub struct Text<'a, O> {
     pub output: &'a mut O,
     pub held: TextBuffer,
     pub fault: Option<DeviceFault>,
-    // Once so much is held, the end of a line sends it.
+    // Once this many bytes are buffered, the end of a line sends them.
     enough: usize,
 }
 
@@ -43,7 +44,7 @@ impl<'a, O: Output> Text<'a, O> {
         }
     }
 
-    /// From now on each line is sent as it ends, for who waits for it, as on a terminal.
+    /// From now on each line is sent as it ends, for a reader who waits for it, such as a terminal's user.
     pub fn send_each_line(&mut self)
         ensures { self.new ≡ record self.old { enough = 0 } }
     {
@@ -75,7 +76,7 @@ impl<'a, O: Output> Text<'a, O> {
         self.word(digits.format(n));
     }
 
-    /// Ends a line, and sends what is held where it is enough.
+    /// Ends a line, and sends the buffer if it holds enough.
     pub fn end_line(&mut self)
         ensures { Prints O.written O.write_faults self.old self.new (10 ∷ []) }
     {
@@ -97,7 +98,7 @@ impl<'a, O: Output> Text<'a, O> {
         }
     }
 
-    /// Sends what is held, and holds nothing any more, also where it can't be written.
+    /// Sends the buffer, and empties it, even if it can't be written.
     pub fn finish(&mut self) -> Result<(), DeviceFault>
         ensures prints { Prints O.written O.write_faults self.old self.new [] }
         ensures emptied { text_in self.new.held.bytes self.new.held.used ≡ [] }
@@ -108,7 +109,7 @@ impl<'a, O: Output> Text<'a, O> {
         self.is_whole()
     }
 
-    // Takes some of these bytes, and first sends what is held where nothing else has room.
+    // Takes some of these bytes. If they have no room, it first sends the buffer.
     fn put_some(&mut self, bytes: &[u8]) -> usize
         ensures within { result ≤ length bytes.now }
         ensures progress { 0 < length bytes.now → 0 < result }
@@ -121,7 +122,7 @@ impl<'a, O: Output> Text<'a, O> {
         self.held.put(bytes)
     }
 
-    // Sends what is held, and holds nothing any more. Once a write has failed, none follows.
+    // Sends the buffer, and empties it. After a failed write there is no other write.
     fn send(&mut self)
         ensures prints { Prints O.written O.write_faults self.old self.new [] }
         ensures used { self.new.held.used ≡ 0 }
@@ -141,7 +142,7 @@ impl<'a, O: Output> Text<'a, O> {
         }
     }
 
-    /// Adds a line that shows itself.
+    /// Adds a value as a line.
     pub fn line<D: fmt::Display + Drop>(&mut self, line: D) -> Result<(), DeviceFault>
         ensures { OnOk
             result (IfSome (with_newline (D.output line)) (Prints O.written O.write_faults self.old self.new)) }
@@ -152,7 +153,7 @@ impl<'a, O: Output> Text<'a, O> {
         }
     }
 
-    /// Adds a short text that shows itself, of at most 8,192 bytes. It is gathered first, so that no write depends on it.
+    /// Adds a value whose text has at most 8,192 bytes. The text is collected first, so that no write depends on it.
     pub fn short<D: fmt::Display + Drop>(&mut self, shown: D)
         ensures { (told : List ℕ) × Prints O.written O.write_faults self.old self.new told }
     {
@@ -161,7 +162,7 @@ impl<'a, O: Output> Text<'a, O> {
         self.put(held.all());
     }
 
-    // Sends what is held where it is enough.
+    // Sends the buffer if it holds enough.
     fn end_shown_line(&mut self) -> Result<(), DeviceFault>
         ensures { Prints O.written O.write_faults self.old self.new [] }
     {
@@ -172,7 +173,7 @@ impl<'a, O: Output> Text<'a, O> {
         }
     }
 
-    /// Adds text that shows itself and need not end a line.
+    /// Adds the text of a value, which need not end a line.
     pub fn add<D: fmt::Display + Drop>(&mut self, text: D) -> Result<(), DeviceFault>
         ensures { OnOk result (IfSome (D.output text) (Prints O.written O.write_faults self.old self.new)) }
     {

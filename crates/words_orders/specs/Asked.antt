@@ -1,4 +1,4 @@
--- What the answers to the rows of a command's table ask for.
+-- The order that the answers to the rows of a command's table ask for.
 use Rattle.std.specs.Prelude.{◌≡◌, ℕ, ◌++◌, List, [], Bool, false, Option, Some, None, map, codes, bytes_eq, is_some}
 use Rattle.std.specs.Prelude.{unwrap_or, option_map, IsTrue, IfSome, ◌∷◌, ◌||◌}
 use Rattle.std.specs.Prelude.{if◌then◌else◌, nat_lt}
@@ -20,7 +20,7 @@ use Rattle.words_orders.specs.declared.order.Given.{Given}
 use Rattle.words_orders.specs.Table.{Shape, name_of, option_rows, rows_of, shape_of, telling_rows, work_of}
 use Rattle.words_orders.specs.Words.{AreRead, Saying, answers_due, says_name, left_over, of_row, words_by_place}
 
--- whether it answers the row of this name
+-- whether this is an answer to the row of this name
 abbrev pub is_named : List ℕ → Answer → Bool
 is_named name a = bytes_eq a.row.now.name.now name
 
@@ -86,7 +86,7 @@ AsksSparse all (sparse.Verify input partition raw) = (input.now ≡ word_named (
     × (partition.now ≡ word_named (codes "PARTITION") all) × (raw ≡ number_named (codes "raw") all)
 
 -- OUT, the kind and the version, what each option of the table was given, in its order, and the ramdisk fragments:
--- those of --fragment, then those behind OUT
+-- those of --fragment, followed by those after OUT
 pub record AsksPack (all : List Answer) (order : PackOrder) : Type 0 where
   pub output : order.output.now ≡ word_named (codes "OUT") all
   pub vendor : order.is_vendor ≡ flag_named (codes "vendor") all
@@ -119,7 +119,7 @@ Asks all (tasks.Completions shell) = shell ≡ shell_named (word_named (codes "S
 
 -- ---- an order
 
--- a row that must be answered is; beside what it needs, and without what it excludes
+-- a row that must have an answer has one, with the row that it needs, and without the one that it excludes
 pub record IsEnough (all : List Answer) (row : Shape) : Type 0 where
   pub required : IsTrue row.required → IsTrue (is_some (answer_named row.name all))
   pub needs : IsTrue (is_some (answer_named row.name all)) → IfSome row.needs (λ other.
@@ -134,14 +134,14 @@ abbrev pub IsReadRight : Answer → Type 0
 IsReadRight a = IsRead a.row.now.value a.word.now a.number
 
 -- the answers are what is said of each row, else its default; no word is left, and each number is the one that its word
--- writes
+-- encodes
 pub record AreAnswers (table : List Shape) (said : List Saying) (all : List Answer) : Type 0 where
   pub are : map saying_of_answer all ≡ answers_due table said (words_by_place said)
   pub none_left : left_over table (words_by_place said) ≡ []
   pub read : All IsReadRight all
   pub enough : All (IsEnough all) table
 
--- the words are the program's, options, the command's name, and those behind it
+-- the words are the program's, options, the command's name, and those after it
 pub record IsSplit (words : List (List ℕ)) (command : List ℕ) (front behind : List (List ℕ)) : Type 0 where
   pub program : List ℕ
   pub parts : words ≡ program ∷ (front ++ (command ∷ behind))
@@ -156,7 +156,7 @@ pub record IsOrderOf (words : List (List ℕ)) (order : Order) : Type 0 where
   pub before : List Saying
   pub first : AreRead telling_rows front before
   pub options : words_by_place before ≡ []
-  -- what is said behind it, and the answers
+  -- what is said after it, and the answers
   pub said : List Saying
   pub reads : AreRead (rows_of (work_of order.task)) behind said
   pub all : List Answer

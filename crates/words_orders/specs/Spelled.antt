@@ -1,4 +1,4 @@
--- Answers that stand among words.
+-- Answers that are among words.
 use Rattle.std.specs.Prelude.{◌≡◌, ◌⊎◌, ℕ, List, [], ◌∷◌, ◌++◌, Bool, true, false, Option, Some, codes}
 use Rattle.std.specs.Prelude.{map}
 use Rattle.std.specs.Prelude.{bytes_eq, if◌then◌else◌, Contains, option_map}
@@ -7,9 +7,9 @@ use Rattle.words_values.specs.declared.rows.WordPlace.{WordPlace}
 use Rattle.words_values.specs.declared.rows.WordPlace.TheVariants as places
 use Rattle.words_orders.specs.declared.answers.Answer.{Answer}
 
--- ---- words by their place
+-- ---- positional words
 
--- whether a row is a word by its place
+-- whether a row is a positional word
 abbrev pub is_word : WordPlace → Bool
 is_word places.Word = true
 is_word places.Words = true
@@ -24,7 +24,7 @@ is_word places.Letter = false
 abbrev pub placed_words : List Answer → List (List ℕ)
 placed_words all = map (λ a. a.word.now) (filter (λ a. is_word a.row.now.place) all)
 
--- these, without the first where it is this word
+-- these, without the first if it is this word
 abbrev pub struck : List (List ℕ) → List ℕ → List (List ℕ)
 struck [] word = []
 struck (first ∷ rest) word = if bytes_eq first word then rest else first ∷ rest
@@ -36,7 +36,7 @@ left_of found (word ∷ words) = left_of (struck found word) words
 
 -- ---- options and flags
 
--- an option has this value: `--NAME=VALUE`, or `--NAME` and then VALUE; `--` is its front, or `-`
+-- an option has this value: `--NAME=VALUE`, or `--NAME` and then VALUE; `--` is its prefix, or `-`
 pub data SaysValue (front name value : List ℕ) : List (List ℕ) → Type 0 where
   joined : (rest : List (List ℕ)) → SaysValue front name value ((front ++ (name ++ (61 ∷ value))) ∷ rest)
   apart : (rest : List (List ℕ)) → SaysValue front name value ((front ++ name) ∷ (value ∷ rest))

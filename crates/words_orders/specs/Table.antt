@@ -17,13 +17,13 @@ use Rattle.words_orders.specs.declared.order.Task.TheVariants as tasks
 use Rattle.words_orders.specs.declared.rows.Work.{Work}
 use Rattle.words_orders.specs.declared.rows.Work.TheVariants as works
 
--- what a row says of the words that answer it; of a choice of names it is not said which these are
+-- what a row says of the words of its answers; it does not say which names a choice has
 pub record Shape : Type 0 where
   pub name : List ℕ
   pub place : WordPlace
   pub value : Option Value
   pub default : Option (List ℕ)
-  -- it must be answered; what must be answered beside it, and what must not
+  -- it must have an answer; the row that must have one too, and the row that must not
   pub required : Bool
   pub needs : Option (List ℕ)
   pub excludes : Option (List ℕ)
@@ -151,7 +151,7 @@ shared_rows_of work = telling_rows
 abbrev pub rows_of : Work → List Shape
 rows_of work = own_rows_of work ++ (filling_rows_of work ++ shared_rows_of work)
 
--- each of these rows stands in the table, or each of these answers is one to a row of it
+-- each of these rows is in the table, or each of these answers is one to a row of it
 abbrev pub AreRows : List Shape → List Row → Type 0
 AreRows table rows = All (λ row. Contains table (shape_of row)) rows
 

@@ -11,7 +11,7 @@ use Rattle.words_orders.specs.Table.{Shape, shape_of}
 
 -- ---- what is said
 
--- a word by its place, of no row yet; or the value of an option, or `true` of a flag
+-- a positional word, of no row yet; or the value of an option, or `true` of a flag
 pub record Saying : Type 0 where
   pub row : Option Shape
   pub word : List ℕ
@@ -44,14 +44,14 @@ written name (Some value) = name ++ (61 ∷ value)
 abbrev pub IsNoOption : List ℕ → Type 0
 IsNoOption word = (word ≡ codes "-") ⊎ ((rest : List ℕ) → word ≢ 45 ∷ rest)
 
--- what a letter behind a hyphen says: that its flag is given
+-- what a letter after a hyphen says: that its flag is given
 pub record IsLetter (table : List Shape) (letter : ℕ) (said : Saying) : Type 0 where
   pub row : Shape
   pub stands : Contains table row
   pub letter_is : row.place ≡ places.ShortFlag letter
   pub said_is : said ≡ of_row row (codes "true")
 
--- what the first of these words says, alone or with the value behind it, and which are left
+-- what the first of these words says, alone or with the value after it, and which are left
 pub data SaysNext (table : List Shape) : List (List ℕ) → List Saying → List (List ℕ) → Type 0 where
   plain : (word : List ℕ) (rest : List (List ℕ)) → IsNoOption word
       → SaysNext table (word ∷ rest) (by_place word ∷ []) rest
@@ -67,7 +67,7 @@ pub data SaysNext (table : List Shape) : List (List ℕ) → List Saying → Lis
   letters : (letter : ℕ) (more : List ℕ) (said : List Saying) (rest : List (List ℕ))
       → AllZip (IsLetter table) (letter ∷ more) said
       → SaysNext table ((45 ∷ (letter ∷ more)) ∷ rest) said rest
-  -- behind `--` all are words by their place
+  -- after `--` all are positional words
   ended : (rest : List (List ℕ)) → SaysNext table (codes "--" ∷ rest) (map by_place rest) []
 
 -- what all of these words say, in turn
@@ -97,7 +97,7 @@ said_words name said = map (λ s. s.word) (filter (λ s. is_of_name name s.row) 
 abbrev pub says_name : List ℕ → List Saying → Bool
 says_name name said = not (length (said_words name said) == 0)
 
--- the words by their place, in turn
+-- the positional words, in turn
 abbrev pub words_by_place : List Saying → List (List ℕ)
 words_by_place said = map (λ s. s.word) (filter (λ s. not (is_some s.row)) said)
 
@@ -114,16 +114,16 @@ pub record AreRead (table : List Shape) (words : List (List ℕ)) (said : List S
   pub says : WordsSay table words said
   pub once : All (IsOnce said) table
 
--- ---- the words that answer a row
+-- ---- the words for a row
 
--- how many of so many words by their place go to a row: one, all but the last, or all
+-- how many of this many positional words go to a row: one, all but the last, or all
 abbrev pub words_due : WordPlace → ℕ → ℕ
 words_due places.Word many = if many == 0 then 0 else 1
 words_due places.Words many = many - 1
 words_due places.LastWords many = many
 words_due place many = 0
 
--- where nothing is said of an option or a flag: its default, or that it is not given
+-- if nothing is said of an option or a flag: its default, or that it is not given
 abbrev pub option_list : Option (List ℕ) → List (List ℕ)
 option_list None = []
 option_list (Some word) = word ∷ []
@@ -137,20 +137,20 @@ abbrev pub else_default : List (List ℕ) → List (List ℕ) → List (List ℕ
 else_default [] other = other
 else_default (word ∷ words) other = word ∷ words
 
--- what is said of an option or a flag, else its default; of a row by its place the words that go to it
+-- what is said of an option or a flag, else its default; for a positional row the words that go to it
 abbrev pub words_of_row : Shape → List Saying → List (List ℕ) → List (List ℕ)
 words_of_row row said placed =
     if is_word row.place then take (words_due row.place (length placed)) placed
     else else_default (said_words row.name said) (default_words row.place row.default)
 
--- the same of each row of a table, where a row by its place has the words that those before it left
+-- the same for each row of a table, where a positional row gets words that those before it left
 abbrev pub answers_due : List Shape → List Saying → List (List ℕ) → List Saying
 answers_due [] said placed = []
 answers_due (row ∷ rows) said placed =
     map (of_row row) (words_of_row row said placed)
     ++ answers_due rows said (drop (words_due row.place (length placed)) placed)
 
--- the words by their place that no row has
+-- the positional words that no row has
 abbrev pub left_over : List Shape → List (List ℕ) → List (List ℕ)
 left_over [] placed = placed
 left_over (row ∷ rows) placed = left_over rows (drop (words_due row.place (length placed)) placed)

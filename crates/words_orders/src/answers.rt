@@ -1,4 +1,4 @@
-//! What was given for each row of a command's table.
+//! The answers of a command: what was given for each row of its table.
 
 ghost use Rattle.std.specs.Prelude.{◌≡◌, ◌++◌, IfOk, IfErr, OnOk, map, option_map, unwrap_or, nat_lt, Some, None};
 ghost use Rattle.std.specs.Prelude.{Contains, List, [], ◌∷◌, ◌≤◌, if◌then◌else◌, IfSome, IsTrue, is_some, false};
@@ -20,17 +20,17 @@ use clap::ArgMatches;
 use std::alloc::{AllocError, Global};
 use words_values::{Row, Value, WordPlace, number_in, number_word};
 
-/// A word that was given, or that a row has where none is.
+/// A word that was given for a row, or the row's default.
 #[derive(Clone, Copy)]
 pub struct Answer<'a> {
     pub row: &'static Row,
     pub word: &'a str,
-    /// The number that the word writes, where the row is one of numbers, else 0.
+    /// The number that the word encodes, if the row is one of numbers, else 0.
     pub number: u64,
 }
 
 impl<'a> Answer<'a> {
-    /// What a word answers to a row.
+    /// The answer of a word to a row.
     fn new(
         alloc: Global,
         row: &'static Row,
@@ -58,7 +58,7 @@ impl<'a> Answer<'a> {
 #[derive(Drop)]
 pub struct Answers<'a> {
     pub all: Vec<Answer<'a>>,
-    /// Whether a refusal is to have its second line.
+    /// Whether an error is to have its second line.
     pub is_verbose: bool,
 }
 
@@ -104,8 +104,8 @@ impl<'a> Answers<'a> {
         Ok(())
     }
 
-    /// Adds what is said of each of these rows, else its default, where these are the words by their place; whether none
-    /// of these is left.
+    /// Adds what is said of each of these rows, else its default, with these positional words. Returns whether none of
+    /// these is left.
     pub(crate) fn read_rows(
         &mut self,
         alloc: Global,
@@ -174,7 +174,7 @@ impl<'a> Answers<'a> {
         Some(self.find(name)?.word)
     }
 
-    /// The same of a word that a parse always finds.
+    /// The same for a word that a parse always finds.
     pub fn given_word(&self, name: &str) -> &'a str
         ensures { result.now ≡ word_named name.now self.now.all.items }
     {
@@ -191,7 +191,7 @@ impl<'a> Answers<'a> {
         }
     }
 
-    /// The same of a number that a parse always finds.
+    /// The same for a number that a parse always finds.
     pub fn given_number(&self, name: &str) -> u32
         ensures { result ≡ unwrap_or (number_named name.now self.now.all.items) 0 }
     {
@@ -226,7 +226,7 @@ impl<'a> Answers<'a> {
         }
     }
 
-    /// Whether these rows are answered as they must be.
+    /// Whether these rows have the answers that they must have.
     pub(crate) fn are_enough(&self, rows: &[&'static Row]) -> bool
         ensures { IsTrue result → All (IsEnough self.now.all.items) (map (λ row. shape_of row.now) rows.now) }
     {
@@ -238,7 +238,7 @@ impl<'a> Answers<'a> {
         true
     }
 
-    // Whether a row that must be answered is; beside what it needs, and without what it excludes.
+    // Whether a row that must have an answer has one, with the row that it needs, and without the one that it excludes.
     fn is_enough(&self, row: &'static Row) -> bool
         ensures { IsTrue result → IsEnough self.now.all.items (shape_of row.now) }
     {
@@ -281,7 +281,7 @@ impl<'a> Answers<'a> {
         self.given_word(name) == "true"
     }
 
-    /// Every word of this name, behind those that are there already.
+    /// Appends every word of this name.
     pub fn push_words(&self, name: &str, words: &mut Vec<&'a str>) -> Result<(), AllocError>
         ensures { OnOk result (map (λ s. s.now) words.new.items ≡ map (λ s. s.now) words.old.items
             ++ words_named name.now self.now.all.items) }
@@ -304,7 +304,7 @@ fn is_not_taken(value: Value) -> bool {
     }
 }
 
-// The words that answer a row, where these are the words by their place that are left for it.
+// The words for a row, where these positional words are left for it.
 fn words_for<'a>(
     alloc: Global,
     row: &'static Row,
@@ -336,7 +336,7 @@ fn next_words<'b, 'a>(place: WordPlace, placed: &'b [&'a str]) -> &'b [&'a str]
     &placed[..count_of(place, placed.len())]
 }
 
-// Those that are left behind it.
+// Those that are left after it.
 fn later_words<'b, 'a>(place: WordPlace, placed: &'b [&'a str]) -> &'b [&'a str]
     ensures { map (λ s. s.now) result.now ≡ drop (words_due place (length (map (λ s. s.now) placed.entry.now)))
         (map (λ s. s.now) placed.entry.now) }
@@ -344,7 +344,7 @@ fn later_words<'b, 'a>(place: WordPlace, placed: &'b [&'a str]) -> &'b [&'a str]
     &placed[count_of(place, placed.len())..]
 }
 
-// How many of so many words by their place go to a row.
+// How many of this many positional words go to a row.
 fn count_of(place: WordPlace, many: usize) -> usize
     ensures count { result ≡ words_due place many }
     ensures most { result ≤ many }
@@ -361,7 +361,7 @@ fn count_of(place: WordPlace, many: usize) -> usize
     }
 }
 
-// What an option or a flag has where nothing is said of it.
+// The default of an option or a flag.
 fn default_word(place: WordPlace, default: Option<&'static str>) -> Option<&'static str>
     ensures { option_list (option_map (λ s. s.now) result) ≡ default_words place (option_map (λ s. s.now) default.entry) }
 {

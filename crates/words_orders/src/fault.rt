@@ -1,4 +1,4 @@
-//! Why words are refused.
+//! Why words are rejected.
 
 ghost use Rattle.std.specs.Prelude.{◌≡◌};
 ghost use Rattle.words_orders.specs.declared.fault.WordsFault.TheVariants.{Memory};
@@ -7,22 +7,22 @@ use clap::Error;
 use clap::error::ErrorKind;
 use std::alloc::{AllocError, AllocFailed};
 
-/// Why words are refused.
+/// Why words are rejected.
 #[derive(Drop)]
 pub enum WordsFault {
     /// A mistake, or `--help` or `--version`: the text for the user.
     Usage(Error),
-    /// This word is no number, or one that has no room where it stands.
+    /// This word is no number, or one that does not fit its value.
     BadNumber {
         word: String,
-        /// Whether it writes a number of 64 bits, which then is one of 4 GiB or more.
+        /// Whether it encodes a number of 64 bits, which then is one of 4 GiB or more.
         is_number: bool,
-        /// Whether the refusal is to have its second line.
+        /// Whether the error is to have its second line.
         is_verbose: bool,
     },
-    /// A tool does what is asked for and this program doesn't: what does it.
+    /// AOSP's tool does what is asked for, and this program doesn't. The text names what does it instead.
     NotTaken(&'static str),
-    /// Memory was wanted and refused.
+    /// An allocation failed.
     Memory,
 }
 

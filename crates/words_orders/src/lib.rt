@@ -1,4 +1,16 @@
-//! The words of the command line: what they ask for.
+//! The words of the command line, and the order that they give.
+//!
+//! | file | has |
+//! |---|---|
+//! | `order.rt` | the orders and their tasks |
+//! | `table.rt`, `rows.rt` | the table of the command line: its commands, and a command's row |
+//! | `parser.rt` | the parser that clap makes of the table |
+//! | `reading.rt` | reading the words: the order that the answers ask for |
+//! | `saying.rt` | what words say, by the rows of a table |
+//! | `answers.rt` | the answers of a command: what was given for each row of its table |
+//! | `spelling.rt` | whether answers are among the words |
+//! | `fault.rt` | why words are rejected |
+//! | `completions.rt`, `completion_texts.rt` | the shells that can complete words, and what they read for that |
 #![tactic(auto)]
 
 mod answers;

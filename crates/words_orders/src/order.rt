@@ -1,17 +1,17 @@
-//! What the words of the command line ask for.
+//! The order that the words of the command line give.
 
 use crate::completions::Shell;
 use words_values::Row;
 
-/// What the words ask for.
+/// The order that the words give.
 #[derive(Drop)]
 pub struct Order<'a> {
     /// The command's name.
     pub command: &'static str,
     pub task: Task<'a>,
-    /// Whether a refusal is to have its second line.
+    /// Whether an error is to have its second line.
     pub is_verbose: bool,
-    /// Whether a terminal is not to show how far the command is.
+    /// Whether a terminal is not to show the progress of the command.
     pub is_quiet: bool,
     /// Whether each output is to be synced before the command is done.
     pub is_synced: bool,
@@ -33,7 +33,7 @@ pub enum Task<'a> {
 /// What is to be done with a sparse image.
 #[derive(Drop)]
 pub enum SparseTask<'a> {
-    /// Write the raw image that a sparse image stands for, or several laid over one another.
+    /// Write the raw image that a sparse image encodes, or several that are overlaid in order.
     Expand {
         inputs: Vec<&'a str>,
         output: &'a str,
@@ -42,29 +42,29 @@ pub enum SparseTask<'a> {
     List {
         input: &'a str,
     },
-    /// Write a raw image as a sparse one, in blocks of so many bytes.
+    /// Write a raw image as a sparse one, in blocks of this many bytes.
     Sparse {
         input: &'a str,
         output: &'a str,
         block: u32,
     },
-    /// Cut an image into pieces of at most so many bytes; a raw one where the bytes of its blocks are given.
+    /// Cut an image into pieces of at most this many bytes; a raw one if the bytes of its blocks are given.
     Cut {
         input: &'a str,
         limit: u32,
         prefix: &'a str,
-        /// Whether the first piece has the number 0, in the place of 1.
+        /// Whether the first piece has the number 0, instead of 1.
         is_from_zero: bool,
         raw: Option<u32>,
     },
-    /// Flash an image to a partition, whole or in pieces; a raw one where the bytes of its blocks are given.
+    /// Flash an image to a partition, whole or in pieces; a raw one if the bytes of its blocks are given.
     Flash {
         input: &'a str,
         partition: &'a str,
         raw: Option<u32>,
         pieces: Option<Pieces<'a>>,
     },
-    /// Compare an image with what stands on a partition.
+    /// Compare an image with the content of a partition.
     Verify {
         input: &'a str,
         partition: &'a str,
@@ -75,7 +75,7 @@ pub enum SparseTask<'a> {
 /// How an image is flashed in pieces.
 #[derive(Clone, Copy)]
 pub struct Pieces<'a> {
-    /// Bytes that a piece has at most.
+    /// The most bytes of a piece.
     pub limit: u32,
     /// The file that each piece goes through.
     pub spool: &'a str,
@@ -93,13 +93,14 @@ pub enum BootTask<'a> {
         input: &'a str,
         order: PackOrder<'a>,
     },
-    /// Write the sections to files of a folder, and maybe the words that pack them again.
+    /// Write the sections to files of a folder, and optionally the words that pack them again.
     Unpack {
         input: &'a str,
         folder: &'a str,
         with_words: bool,
     },
-    /// Print what the header says, maybe with numbers in hexadecimal, and maybe why an answer of its check is no.
+    /// Print what the header says, optionally with numbers in hexadecimal, and optionally why an answer of its check is
+    /// no.
     Info {
         input: &'a str,
         with_check: bool,
@@ -107,7 +108,7 @@ pub enum BootTask<'a> {
     },
 }
 
-/// What `pack` and `repack` are told.
+/// The order of `pack` and `repack`.
 #[derive(Drop)]
 pub struct PackOrder<'a> {
     pub output: &'a str,
@@ -118,7 +119,7 @@ pub struct PackOrder<'a> {
     /// What each of `options()` was given, in its order.
     pub given: Vec<Given<'a>>,
     pub board_ids: Vec<&'a str>,
-    /// Those of `--fragment`, then those behind OUT.
+    /// The fragments of `--fragment`, followed by those after OUT.
     pub fragments: Vec<&'a str>,
     pub keeps_trailing: bool,
     pub is_escaped: bool,
@@ -130,6 +131,6 @@ pub struct Given<'a> {
     /// Its row in the table.
     pub row: &'static Row,
     pub word: Option<&'a str>,
-    /// The number that the word writes, of an option that is one; else 0.
+    /// The number that the word encodes, if the option is one of numbers; else 0.
     pub number: u64,
 }

@@ -57,7 +57,7 @@ fn argument<'a>(alloc: Global, row: &'static Row) -> Result<Arg<'a>, AllocError>
     Ok(arg)
 }
 
-// The argument with its place.
+// The argument with its position.
 fn placed<'a>(arg: Arg<'a>, row: &'static Row) -> Arg<'a> {
     let arg = named(arg, row).action(action_of(row.place));
     match row.place {
@@ -67,7 +67,7 @@ fn placed<'a>(arg: Arg<'a>, row: &'static Row) -> Arg<'a> {
     }
 }
 
-// The argument with the name that it is given by, where it is an option or a flag.
+// The argument with the name of its option or flag, if it is one.
 fn named<'a>(arg: Arg<'a>, row: &'static Row) -> Arg<'a> {
     match row.place {
         WordPlace::Option | WordPlace::Options => arg.long(row.name).value_name(row.value_name),

@@ -1,4 +1,4 @@
-//! Reading the words: what the answers to a command's rows ask for.
+//! Reading the words: the order that the answers to a command's rows ask for.
 
 ghost use Rattle.std.specs.Prelude.{◌≡◌, ◌||◌, [], ℕ, List, IfOk, IfSome, map};
 ghost use Rattle.std.specs.List.{AllZip};
@@ -22,8 +22,8 @@ use std::alloc::{AllocError, Global};
 use std::convert::AsStr;
 use words_values::Row;
 
-/// Reads the words, of which the first is the program's name. Clap tells what is wrong with them; what they ask for is
-/// read here, and nothing rests on how clap read them.
+/// Reads the words, of which the first is the program's name. Clap reports what is wrong with them. The order is read
+/// here, and no contract depends on how clap read them.
 pub fn order_of<'a, S: AsStr>(alloc: Global, words: &'a [S]) -> Result<Order<'a>, WordsFault>
     ensures { IfOk result (IsOrderOf (map S.text words.entry.now)) }
 {
@@ -37,7 +37,7 @@ pub fn order_of<'a, S: AsStr>(alloc: Global, words: &'a [S]) -> Result<Order<'a>
     }
 }
 
-/// The options before a command, the command, and the words behind it.
+/// The options before a command, the command, and the words after it.
 #[derive(Clone, Copy)]
 struct Parts<'a, S> {
     front: &'a [S],
@@ -45,7 +45,7 @@ struct Parts<'a, S> {
     behind: &'a [S],
 }
 
-// The words at the first name of a command.
+// The words, split at the first name of a command.
 fn split<'a, S: AsStr>(words: &'a [S]) -> Option<Parts<'a, S>>
     ensures command { IfSome result (λ parts. parts.command.now.name.now ≡ name_of parts.command.now.work) }
     ensures words { IfSome result (λ parts. IsSplit (map S.text words.entry.now) parts.command.now.name.now
@@ -63,7 +63,7 @@ fn split<'a, S: AsStr>(words: &'a [S]) -> Option<Parts<'a, S>>
     None
 }
 
-// What these ask for; none where a word says nothing, or is left over.
+// The order that these ask for; none if a word says nothing, or is left over.
 fn read_parts<'a, S: AsStr>(
     alloc: Global,
     parts: Parts<'a, S>,
@@ -94,14 +94,14 @@ fn read_parts<'a, S: AsStr>(
     }))
 }
 
-// Whether a flag is said before a command or behind it.
+// Whether a flag is said before a command or after it.
 fn is_said_in(name: &str, before: &[Said<'_>], said: &[Said<'_>]) -> bool
     ensures { result ≡ (says_name name.now (map saying_of before.now) || says_name name.now (map saying_of said.now)) }
 {
     is_said(name, before) || is_said(name, said)
 }
 
-// What is said before a command; none where that is not options alone.
+// What is said before a command; none if that is not options alone.
 fn read_front<'a, S: AsStr>(
     alloc: Global,
     front: &'a [S],
@@ -141,7 +141,7 @@ fn answers_to<'a>(
     }
 }
 
-// The words were read as others: which no parser does that is right.
+// Clap read the words differently, which no correct parser does.
 fn misread(alloc: Global) -> Result<WordsFault, AllocError> {
     let error = program(alloc)?.error(ErrorKind::InvalidValue, "the words were read as others")?;
     Ok(WordsFault::Usage(error))

@@ -1,4 +1,4 @@
-//! A command of the table of the command line. (What a row of it is, `words_values` says.)
+//! A command of the table of the command line. (`words_values` has the rows of its words and options.)
 
 /// A command of the program.
 pub(crate) struct CommandRow {

@@ -14,16 +14,16 @@ use std::alloc::{AllocError, Global};
 use std::convert::AsStr;
 use words_values::{Row, WordPlace};
 
-/// What a word says, alone or with the value behind it.
+/// What a word says, alone or with the value after it.
 #[derive(Clone, Copy)]
 pub struct Said<'a> {
-    /// The row of an option or a flag; none of a word by its place.
+    /// The row of an option or a flag; `None` for a positional word.
     pub row: Option<&'static Row>,
     /// The value of an option, `true` of a flag, or the word itself.
     pub word: &'a str,
 }
 
-/// What these words say; none where one of them says nothing, or an option is said again.
+/// What these words say; none if one of them says nothing, or an option is said again.
 pub(crate) fn read<'a, S: AsStr>(
     alloc: Global,
     rows: &[&'static Row],
@@ -61,7 +61,7 @@ fn said_by<'a, S: AsStr>(
     Ok(Some(said))
 }
 
-// Adds what a word says, alone or with the value behind it; gives the words that are left.
+// Adds what a word says, alone or with the value after it; returns the words that are left.
 fn push_next<'a, S: AsStr>(
     rows: &[&'static Row],
     word: &'a str,
@@ -100,7 +100,7 @@ fn is_plain(word: &str) -> bool
     }
 }
 
-// What stands behind a hyphen.
+// What follows a hyphen.
 fn behind_hyphen<'a>(word: &'a str) -> Option<&'a str>
     ensures some { IfSome result (λ rest. word.entry.now ≡ 45 ∷ rest.now) }
     ensures none { result ≡ None → (rest : List ℕ) → word.entry.now ≢ 45 ∷ rest }
@@ -108,7 +108,7 @@ fn behind_hyphen<'a>(word: &'a str) -> Option<&'a str>
     word.strip_prefix('-')
 }
 
-// Adds these as words by their place.
+// Adds these as positional words.
 fn push_placed<'a, S: AsStr>(words: &'a [S], said: &mut Vec<Said<'a>>) -> Result<(), AllocError>
     ensures { OnOk result (map saying_of said.new.items ≡ map saying_of said.old.items ++ map by_place (map S.text
         words.entry.now)) }
@@ -163,7 +163,7 @@ fn found_as<'a>(row: &'static Row, text: &'a str) -> Option<Found<'a>>
     })
 }
 
-// Adds what an option or a flag says, where it has a value if it is an option; gives the words that are left.
+// Adds what an option or a flag says, if it has a value where it is an option; returns the words that are left.
 fn push_found<'a, S: AsStr>(
     found: Found<'a>,
     rest: &'a [S],
@@ -235,7 +235,7 @@ fn letters_in<'a>(word: &'a str) -> Option<&'a [u8]>
     Some(behind_hyphen(word)?.as_bytes())
 }
 
-// Adds the flags that these letters stand for; false where one stands for none, or there is no letter.
+// Adds the flags of these letters; false if one has no flag, or there is no letter.
 fn push_letters<'a>(
     rows: &[&'static Row],
     letters: &[u8],
@@ -257,7 +257,7 @@ fn push_letters<'a>(
     Ok(!letters.is_empty())
 }
 
-// The flag that a letter stands for.
+// The flag of a letter.
 fn flag_of(rows: &[&'static Row], letter: u8) -> Option<&'static Row>
     ensures stands { IfSome result (λ row. Contains (map (λ row. shape_of row.now) rows.now) (shape_of row.now)) }
     ensures letter { IfSome result (λ row. row.now.place ≡ places.ShortFlag letter) }
@@ -350,7 +350,7 @@ fn is_of(said: &Said<'_>, name: &str) -> bool
     }
 }
 
-/// The words by their place.
+/// The positional words.
 pub(crate) fn placed_words<'a>(alloc: Global, said: &[Said<'a>]) -> Result<Vec<&'a str>, AllocError>
     ensures { IfOk result (λ words. map (λ s. s.now) words.items ≡ words_by_place (map saying_of said.now)) }
 {

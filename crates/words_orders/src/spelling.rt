@@ -1,4 +1,4 @@
-//! Whether answers stand among words, so that nothing rests on how these were read.
+//! Whether answers are among the words, so that no contract depends on how the words were read.
 
 ghost use Rattle.std.specs.Prelude.{◌≡◌, [], ◌∷◌, IfOk, IfSome, IsTrue, Contains, ◌++◌, codes, drop, map};
 ghost use Rattle.words_values.specs.NumberWord.{IsRead};
@@ -10,7 +10,7 @@ use std::alloc::{AllocError, Global};
 use std::convert::AsStr;
 use words_values::{WordPlace, number_in};
 
-/// The name of the command, and the words that answer rows by their place.
+/// The name of the command, and the positional words of the answers.
 pub fn placed_in<'a>(
     alloc: Global,
     command: &'a str,
@@ -42,7 +42,7 @@ pub(crate) fn is_placed(place: WordPlace) -> bool
     }
 }
 
-/// Whether these stand among the words in turn.
+/// Whether these are among the words, in this order.
 pub fn are_in_turn<S: AsStr>(words: &[S], placed: &[&str]) -> bool
     ensures { IsTrue result → left_of (map (λ s. s.now) placed.now) (map S.text words.now) ≡ [] }
 {
@@ -53,7 +53,7 @@ pub fn are_in_turn<S: AsStr>(words: &[S], placed: &[&str]) -> bool
     left.is_empty()
 }
 
-// These, without the first where it is this word.
+// These, without the first if it is this word.
 fn behind<'b, 'a>(left: &'b [&'a str], word: &str) -> &'b [&'a str]
     ensures { map (λ s. s.now) result.now ≡ struck (map (λ s. s.now) left.now) word.now }
 {
@@ -64,7 +64,7 @@ fn behind<'b, 'a>(left: &'b [&'a str], word: &str) -> &'b [&'a str]
     }
 }
 
-/// Whether its number is the one that its word writes.
+/// Whether the answer's number is the one that its word encodes.
 pub fn is_read(answer: &Answer<'_>) -> bool
     ensures { IsTrue result → IsRead answer.now.row.now.value answer.now.word.now answer.now.number }
 {
@@ -120,7 +120,7 @@ pub fn says_value_at<S: AsStr>(words: &[S], at: usize, front: &str, name: &str, 
     words[at + 1].as_str() == value
 }
 
-// What stands behind the `=` in `=VALUE`.
+// What follows the `=` in `=VALUE`.
 fn value_in<'a>(rest: &'a str) -> Option<&'a str>
     ensures { IfSome result (λ said. rest.now ≡ 61 ∷ said.now) }
 {
@@ -139,7 +139,7 @@ fn says_flag<S: AsStr>(words: &[S], name: &str) -> bool
     false
 }
 
-// What stands behind `--NAME` in a word, or behind another front and the name.
+// What follows `--NAME` in a word, or another prefix and the name.
 fn behind_name<'a>(word: &'a str, front: &str, name: &str) -> Option<&'a str>
     ensures { IfSome result (λ rest. word.now ≡ (front.now ++ (name.now ++ rest.now))) }
 {

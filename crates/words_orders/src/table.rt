@@ -1,7 +1,7 @@
 //! The table of the command line: every command, with its words and options and their help. Parsing, help, the answers,
-//! completions and the check of `docs/COMMANDS.md` all go by it.
+//! completions and the check of `docs/COMMANDS.md` all use it.
 //!
-//! A row stands on one line, but for its help: `tools/make_completions.py` reads this file too.
+//! A row is on one line, except for its help: `tools/make_completions.py` reads this file too.
 
 ghost use Rattle.std.specs.Prelude.{◌≡◌, ◌++◌, IfOk, OnOk, map};
 ghost use Rattle.words_orders.specs.Table.{filling_rows_of, name_of, option_rows, own_rows_of, shape_of};
@@ -42,7 +42,7 @@ pub const PATH: Row = Row {
     help: "",
 };
 
-// A number of 32 bits behind `--NAME`.
+// A number of 32 bits after `--NAME`.
 const NUMBER: Row = Row {
     place: WordPlace::Option,
     value: Value::Number,
@@ -67,7 +67,7 @@ pub const PART: Row = Row {
     ..PATH
 };
 
-/// A text behind `--NAME`.
+/// A text after `--NAME`.
 pub const TEXT: Row = Row {
     place: WordPlace::Option,
     value: Value::Text,
@@ -101,7 +101,7 @@ const SYNC: Row = Row { name: "sync", help: "Syncs what it wrote, so that it sta
 #[rattlefmt::skip]
 const MOUNTED: Row = Row { name: "mounted", help: "Writes a block device though it is mounted, or in use as swap", ..FLAG };
 
-// What stands before the command as well, and what most commands have behind their own rows.
+// The options that may also precede the command, and that most commands have after their own rows.
 static TELLING: [Row; 2] = [VERBOSE, QUIET];
 
 // The same of those that write files.
@@ -134,7 +134,7 @@ static OPTIONS: [Row; 22] = [
     Row { name: "cmdline", value: Value::CommandLine, boot: &[0, 1, 2, 3, 4], vendor: &[3, 4], help: "The kernel's command line, at most 1535 bytes (vendor: 2047)", ..TEXT },
 ];
 
-// What pack and repack have behind these.
+// What pack and repack have after these.
 #[rattlefmt::skip]
 static PACKING: [Row; 9] = [
     Row { name: "board-id", place: WordPlace::Options, value_name: "I:K=N", help: "Number K, from 0 to 15, of the board id of fragment I, counted from 0, is N (vendor 4)", ..TEXT },
@@ -148,7 +148,7 @@ static PACKING: [Row; 9] = [
     QUIET,
 ];
 
-/// The options that may stand before the command.
+/// The options that may precede the command.
 pub(crate) fn telling() -> &'static [Row]
     ensures { map shape_of result.now ≡ telling_rows }
 {

@@ -1,11 +1,10 @@
-//! What stands before a command of the program: the files that words name are read, and a user is told of words that are
-//! wrong.
+//! The steps before a command of the program: the files that words name are read, and the user is told of wrong words.
 //!
 //! | file | has |
 //! |---|---|
-//! | `word_files.rt` | the words that stand for the lines of a file |
-//! | `mistakes.rt` | what is told of words that are wrong |
-//! | `telling.rt` | what else is told beside what a command tells |
+//! | `word_files.rt` | reading the files of words `@FILE` |
+//! | `mistakes.rt` | the messages about wrong words |
+//! | `telling.rt` | other texts and messages that no command prints |
 #![tactic(auto)]
 
 mod mistakes;

@@ -1,4 +1,4 @@
-//! What is told of words that are wrong. No word reaches a terminal as it is: each is shown as paths are.
+//! The messages about wrong words. No word is sent to a terminal as it is: each is shown as paths are.
 
 ghost use Rattle.std.specs.Prelude.{◌≡◌, ◌≢◌, ◌≤◌};
 ghost use Rattle.words_program.specs.Mistake.{IsMistake};
@@ -14,7 +14,7 @@ use sys_text::{ShownPath, Text};
 use words_orders::{WordsFault, order_of};
 use words_tools::{Tool, orders_of};
 
-/// Tells of a mistake in the words, or prints a text that they ask for, as `--help` does, and answers the exit status.
+/// Tells of a mistake in the words, or prints a text that they ask for, as `--help` does, and returns the exit status.
 /// The words may be those of a tool.
 #[inline(never)]
 pub fn wrong_words<S: AsStr>(
@@ -88,7 +88,7 @@ fn tell_bad_number(word: &str, advice: &str, how: Telling, report: &mut Report) 
     }
 }
 
-// A line of what a tool does and this program doesn't, with what does it.
+// A line about what a tool does and this program doesn't, with what does it.
 fn tell_not_taken(instead: &str, how: Telling, report: &mut Report) {
     let mut text = Text::new(&mut report.err);
     text.word(how.program);
@@ -124,7 +124,7 @@ fn wrong_use(
     }
 }
 
-// Why these words are refused.
+// Why these words are rejected.
 fn fault_of(alloc: Global, tool: Option<Tool>, words: &[String]) -> Option<WordsFault> {
     match tool {
         Some(tool) => orders_of(alloc, tool, words, &[], &[]).err(),

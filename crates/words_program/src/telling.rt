@@ -1,4 +1,4 @@
-//! What is told beside what a command tells itself.
+//! Texts and messages that no command prints itself.
 
 ghost use Rattle.std.specs.Prelude.{◌≡◌, ◌≤◌, ◌++◌, IfSome, if◌then◌else◌};
 ghost use Rattle.sys_refusals.specs.Host.{is_not_text};
@@ -10,7 +10,7 @@ use sys_refusals::HostRefusal;
 use sys_report::Report;
 use sys_text::Text;
 
-/// Prints a text that is asked for, and answers the exit status.
+/// Prints a text that is asked for, and returns the exit status.
 pub fn print<D: fmt::Display + Drop>(
     rt: HostRuntime,
     shown: D,
@@ -33,7 +33,7 @@ pub fn print<D: fmt::Display + Drop>(
     refused(rt, report.cannot_print(), how, report)
 }
 
-/// Tells why a run is refused before its command begins, and answers the exit status.
+/// Tells why a run fails before its command begins, and returns the exit status.
 #[inline(never)]
 pub fn refused(rt: HostRuntime, refusal: HostRefusal<'_>, how: Telling, report: &mut Report) -> u8
     ensures { result ≡ (if is_not_text refusal.entry.fault then 2 else 1) }

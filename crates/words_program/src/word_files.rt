@@ -1,4 +1,4 @@
-//! Words that stand for the lines of a file: `@FILE`.
+//! Words `@FILE`, which are replaced by the lines of a file.
 
 ghost use Rattle.std.specs.Prelude.{◌≡◌, ◌⊎◌, [], IsTrue, IfOk, IfErr, OnOk, map, string_bytes};
 ghost use Rattle.sys_disk.specs.World.{HasFailed};
@@ -19,12 +19,12 @@ pub fn read_word_files<'a, D: Disk>(
     alloc: Global,
 ) -> Result<Vec<String>, HostRefusal<'a>>
     requires first { IsTrue D.models → (D.held disk.old).begun ≡ [] }
-    // the texts are what the files hold, in order, and no other file was opened
+    // the texts are the contents of the files, in order, and no other file was opened
     ensures texts { IsTrue D.models → IfOk result (λ texts. ReadsWordFiles (map string_bytes words.now)
         (map string_bytes texts.items) (D.world disk.old) (D.held disk.old) (D.held disk.new)) }
     // every file stays as it is
     ensures world { IsTrue D.models → D.world disk.new ≡ D.world disk.old }
-    // it is refused where a file could not be read, or for want of memory
+    // it fails if a file could not be read, or an allocation failed
     ensures refused { IsTrue D.models → IfErr result (λ refusal.
         HasFailed (D.held disk.old) (D.held disk.new) ⊎ (refusal.fault ≡ Memory)) }
 {
@@ -64,7 +64,7 @@ fn read_next<'a, D: Disk>(
     }
 }
 
-// The file behind an `@`: `@-` is standard input.
+// The file after an `@`: `@-` is standard input.
 fn word_file<'a>(path: &'a str) -> FileArg<'a>
     ensures { path_in result ≡ image_path path.now }
 {

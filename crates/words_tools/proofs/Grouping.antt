@@ -1,4 +1,4 @@
--- What is told of ramdisk fragments, one answer further.
+-- The state of ramdisk fragments, one answer further.
 use Rattle.std.proofs.Common.{◌≡◌, ◌∙◌, ◌+◌, ◌<◌, ℕ, List, [], ◌∷◌, ◌++◌, sym, ap, subst, drop, length, get_or}
 use Rattle.std.specs.Borrow.{Bor}
 use Rattle.std.specs.List.{AllZip}

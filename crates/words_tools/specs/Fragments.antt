@@ -1,4 +1,4 @@
--- The words of ramdisk fragments, apart from the others, and what they ask for. They stand in groups: each ends with
+-- The words of ramdisk fragments, separated from the others, and what they ask for. They are in groups: each ends with
 -- the fragment's file.
 use Rattle.std.specs.Prelude.{◌≡◌, ◌⊎◌, ◌+◌, ◌||◌, ℕ, List, [], ◌∷◌, ◌++◌, Bool, not, Option, Some, None, codes}
 use Rattle.std.specs.Borrow.{Bor}
@@ -32,13 +32,13 @@ fragment_rows =
     ∷ board (codes "board_id12") ∷ board (codes "board_id13") ∷ board (codes "board_id14") ∷ board (codes "board_id15")
     ∷ []
 
--- ---- the words, apart
+-- ---- the words, separated
 
--- a name of the table, or a beginning of it and of no other
+-- a name of the table, or a prefix of it and of no other
 abbrev pub IsNameOf : List ℕ → List ℕ → Type 0
 IsNameOf short name = (short ≡ name) ⊎ IsShortOf fragment_rows short name
 
--- what a word answers to a row
+-- the answer of a word to a row
 pub record IsAnswerTo (row : Row) (word : List ℕ) (a : Answer) : Type 0 where
   pub same_row : a.row.now ≡ row
   pub same_word : a.word.now ≡ word
@@ -172,7 +172,7 @@ abbrev pub boards_said : ℕ → List Answer → List BoardSaid
 boards_said n [] = []
 boards_said n (a ∷ said) = board_by n a ++ boards_said (count_behind n a) said
 
--- ---- as `pack` is told
+-- ---- as words of `pack`
 
 -- the word TYPE:NAME:FILE of a fragment, whose type is written as a number
 pub record IsSpelledFragment (kind : ℕ) (name path text : List ℕ) : Type 0 where

@@ -147,7 +147,7 @@ version_asked all = unwrap_or (number_named (codes "header_version") all) 0
 abbrev pub id_asked : List Answer → Option (List ℕ)
 id_asked all = if flag_named (codes "id") all && nat_lt (version_asked all) 3 then output_word all else None
 
--- an image is asked for where its output is named
+-- an image is asked for if its output is named
 abbrev pub IsImageAsked : List Answer → Bool → Option (List ℕ) → Option Image → Type 0
 IsImageAsked all is_vendor None None = Unit {0}
 IsImageAsked all is_vendor (Some word) (Some image) =

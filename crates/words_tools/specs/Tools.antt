@@ -1,4 +1,4 @@
--- The words of AOSP's tools, and the orders that they ask for.
+-- The words of AOSP's tools, and the orders that they give.
 use Rattle.std.specs.Prelude.{◌≡◌, ◌⊎◌, ℕ, List, [], ◌∷◌, ◌++◌, Option, Some, None, true, false, codes, get_or}
 use Rattle.std.specs.Prelude.{unwrap_or, bytes_eq, if◌then◌else◌, option_map}
 use Rattle.words_values.specs.declared.rows.WordPlace.TheVariants as places
@@ -31,21 +31,21 @@ tool_name tools.UnpackBootimg = codes "unpack_bootimg"
 tool_name tools.Append2simg = codes "append2simg"
 tool_name tools.SimgDump = codes "simg_dump"
 
--- a path ends in this name, alone or behind a folder
+-- a path ends in this name, alone or after a folder
 abbrev pub IsLastPart : List ℕ → List ℕ → Type 0
 IsLastPart name path = (path ≡ name) ⊎ ((folder : List ℕ) × (path ≡ folder ++ (47 ∷ name)))
 
 abbrev pub IsBehindAs : List (List ℕ) → List (List ℕ) → Type 0
 IsBehindAs words own = (program : List ℕ) × (words ≡ program ∷ (codes "as" ∷ own))
 
--- the words call a tool, and these are its own: all, or those behind `as`
+-- the words call a tool, and these are its own: all, or those after `as`
 pub record IsCalled (words : List (List ℕ)) (tool : Tool) (own : List (List ℕ)) : Type 0 where
   pub name : IsLastPart (tool_name tool) (get_or own 0 [])
   pub behind : (own ≡ words) ⊎ IsBehindAs words own
 
 -- ---- the tables
 
--- a number as Python reads it, with the one that stands where none is given
+-- a number as Python reads it, with its default
 abbrev pub python : List ℕ → List ℕ → Shape
 python name word = usual word (row places.Option values.PythonNumber name)
 
@@ -84,7 +84,7 @@ tool_rows tool = []
 
 -- ---- what the answers ask for
 
--- the path of what a word names, where `-` is the file that standard input is
+-- the path of the file that a word names, where `-` is the file that standard input is
 abbrev pub standard_or : List ℕ → List ℕ
 standard_or word = if bytes_eq word (codes "-") then codes "/proc/self/fd/0" else word
 
@@ -167,8 +167,8 @@ AsksOrders tools.Simg2simg all said orders = AsksAlone tools.Simg2simg all order
 AsksOrders tools.UnpackBootimg all said orders = AsksUnpacking all orders
 AsksOrders tool all said orders = ⊥
 
--- the words ask for them: answers to rows of the tool's table stand among the words, and ask for these, with what was
--- said of ramdisk fragments by other words
+-- the words give these orders: answers to rows of the tool's table are among the words, and ask for these, with what
+-- was said of ramdisk fragments by other words
 pub record AreOrdersOf (tool : Tool) (words : List (List ℕ)) (said : List Answer) (orders : Orders) : Type 0 where
   pub all : List Answer
   pub from : AreFrom (tool_rows tool) all

@@ -11,7 +11,7 @@ use Rattle.words_tools.specs.declared.unpack_bootimg.UnpackText.TheVariants as k
 
 -- ---- the table
 
--- an option whose value is one of several names, and this one where none is given
+-- an option whose value is one of several names, with this default
 abbrev pub named_choice : List ℕ → List ℕ → Shape
 named_choice name word = record (usual word (part name)) { value = None }
 
@@ -22,8 +22,8 @@ unpack_rows =
 
 -- ---- what is asked for
 
--- the words of mkbootimg where `--format mkbootimg` is given, each with a zero byte behind it where `-0` is; else what
--- the header says
+-- the words of mkbootimg if `--format mkbootimg` is given, each followed by a zero byte if `-0` is; else what the
+-- header says
 abbrev pub text_asked : List Answer → UnpackText
 text_asked all =
     if bytes_eq (word_named (codes "format") all) (codes "mkbootimg")

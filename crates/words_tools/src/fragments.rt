@@ -1,4 +1,4 @@
-//! The words of ramdisk fragments, apart from the others of a call of mkbootimg.
+//! The words of ramdisk fragments, separated from the other words of a call of mkbootimg.
 
 ghost use Rattle.std.specs.Prelude.{◌≡◌, ◌++◌, ℕ, List, [], ◌∷◌, IfOk, IfSome, IsTrue, OnOk, Contains, codes, map};
 ghost use Rattle.words_orders.specs.Table.{shape_of};
@@ -16,7 +16,7 @@ pub(crate) const FRAGMENT: &str = "vendor_ramdisk_fragment";
 
 const NO_VALUE: &str = "an option of a fragment has no value";
 
-/// The words of a call, apart.
+/// The words of a call, separated.
 #[derive(Drop)]
 pub struct Parted<'a> {
     /// What those of fragments say, in their order.
@@ -47,8 +47,8 @@ impl<'a> Parted<'a> {
         Ok(parted)
     }
 
-    // Takes the next word, behind an option that awaits its value or behind none. The option that awaits one now. As an
-    // option does, no value begins with a hyphen.
+    // Takes the next word, which may follow an option that awaits its value. Returns the option that awaits one now. A
+    // value does not begin with a hyphen: only an option does.
     fn take(
         &mut self,
         alloc: Global,
@@ -101,7 +101,7 @@ impl<'a> Parted<'a> {
 #[derive(Clone, Copy)]
 pub(crate) enum WordKind<'a> {
     Other,
-    /// An option with its value behind `=`.
+    /// An option with its value after `=`.
     WithEquals(&'static Row, &'a str),
     /// An option whose value is the next word.
     WithNext(&'static Row),
@@ -123,7 +123,7 @@ pub fn part_words<'a, S: AsStr>(alloc: Global, words: &'a [S]) -> Result<Parted<
     }
 }
 
-// What a word answers to a row.
+// The answer of a word to a row.
 fn answer_of<'a>(alloc: Global, row: &'static Row, word: &'a str) -> Result<Answer<'a>, WordsFault>
     ensures { IfOk result (IsAnswerTo row.now word.now) }
 {
@@ -155,7 +155,7 @@ fn kind_of<'a>(word: &'a str) -> WordKind<'a>
     }
 }
 
-/// What stands before a text and behind it.
+/// The parts before and after a text.
 pub(crate) fn cut<'a>(text: &'a str, by: &str) -> Option<(&'a str, &'a str)>
     ensures { IfSome result (λ parts. text.now ≡ parts.0.now ++ (by.now ++ parts.1.now)) }
 {
@@ -174,7 +174,7 @@ fn row_named(short: &str) -> Option<&'static Row>
     None
 }
 
-// Whether this is the name, or a beginning of it and of no other. The name of the file is written whole.
+// Whether this is the name, or a prefix of it and of no other. The name of the file must be given in full.
 fn is_name_of(short: &str, name: &str) -> bool
     ensures { IsTrue result → IsNameOf short.now name.now }
 {

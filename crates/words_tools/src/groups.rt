@@ -62,7 +62,7 @@ impl<'a> Group<'a> {
         Group { kind, name }
     }
 
-    /// What is said behind an answer: nothing yet, where it ends a group.
+    /// What is said after an answer: nothing yet, if it ends a group.
     pub fn behind(self, said: &Answer<'a>) -> Group<'a>
         ensures { group_of result ≡ group_behind (group_of self.entry) said.now }
     {
@@ -108,7 +108,7 @@ fn is_board(said: &Answer<'_>) -> bool
     !(name == FRAGMENT || (name == "ramdisk_type" || name == "ramdisk_name"))
 }
 
-/// The words of `pack` for the fragments, which the texts begin with: of `--vendor_ramdisk`, and those behind it.
+/// The words of `pack` for the fragments, with which the texts begin: for `--vendor_ramdisk`, and for those after it.
 pub(crate) fn fragment_words<'a>(
     alloc: Global,
     ramdisk: Option<Answer<'a>>,
@@ -131,7 +131,7 @@ pub(crate) fn fragment_words<'a>(
     Ok(Some(all))
 }
 
-// Adds the word of the fragment that an answer ends, where it ends one. Whether its text is there.
+// Adds the word of the fragment that an answer ends, if it ends one. Returns whether its text is there.
 fn push_ended<'a>(
     all: &mut Vec<&'a str>,
     group: Group<'_>,
@@ -152,7 +152,7 @@ fn push_ended<'a>(
     Ok(true)
 }
 
-// That of `--vendor_ramdisk`, where it is given.
+// That of `--vendor_ramdisk`, if it is given.
 fn platform_words<'a>(
     alloc: Global,
     ramdisk: Option<Answer<'a>>,
@@ -171,7 +171,7 @@ fn platform_words<'a>(
     Ok(Some(all))
 }
 
-// The text at this place, where it is that of a fragment with this file.
+// The text at this place, if it is that of a fragment with this file.
 fn fragment_text<'a>(
     group: Group<'_>,
     path: &str,
@@ -203,7 +203,7 @@ fn says_fragment(text: &str, kind: u64, name: &str, path: &str) -> bool
     number_in(Value::Count(0), digits) == Some(kind) && named == name && file == path
 }
 
-/// The words of `pack` for the numbers of board ids, where so many fragments come first: they are the texts from a place
+/// The words of `pack` for the numbers of board ids, if this many fragments come first: they are the texts from a place
 /// on.
 pub(crate) fn board_words<'a>(
     alloc: Global,
@@ -229,7 +229,7 @@ pub(crate) fn board_words<'a>(
     Ok(Some(all))
 }
 
-// Adds the word of a number of a board id, where an answer is one. Whether its text is there.
+// Adds the word of a number of a board id, if an answer is one. Returns whether its text is there.
 fn push_board<'a>(
     all: &mut Vec<&'a str>,
     fragment: u64,
@@ -251,7 +251,7 @@ fn push_board<'a>(
     Ok(true)
 }
 
-// How many fragments come before what is behind an answer.
+// How many fragments come before what follows an answer.
 fn counted(fragment: u64, said: &Answer<'_>) -> Option<u64>
     ensures { IfSome result (λ n. n ≡ count_behind fragment said.now) }
 {
@@ -295,9 +295,9 @@ fn says_board(text: &str, fragment: u64, place: &str, number: u64) -> bool
         && number_in(Value::Count(0), digits) == Some(number)
 }
 
-// ---- what is refused
+// ---- what is rejected
 
-/// Why these fragments are refused, with or without that of `--vendor_ramdisk` before them.
+/// Why these fragments are rejected, with or without that of `--vendor_ramdisk` before them.
 pub(crate) fn fragments_refusal(said: &[Answer<'_>], has_ramdisk: bool) -> Option<&'static str> {
     let mut group = Group::new();
     for i in 0..said.len() {
@@ -315,7 +315,7 @@ pub(crate) fn fragments_refusal(said: &[Answer<'_>], has_ramdisk: bool) -> Optio
     }
 }
 
-// Why the fragment is refused that an answer behind these ends, where it ends one.
+// Why the fragment is rejected that an answer after these ends, if it ends one.
 fn end_refusal(
     group: Group<'_>,
     before: &[Answer<'_>],
@@ -329,7 +329,7 @@ fn end_refusal(
     }
 }
 
-// Why a group is refused that comes behind these answers.
+// Why a group is rejected that comes after these answers.
 fn group_refusal(
     group: Group<'_>,
     before: &[Answer<'_>],

@@ -1,14 +1,14 @@
-//! The words of AOSP's tools: the orders that they ask for.
+//! The words of AOSP's tools, and the orders that they give.
 //!
 //! | file | has |
 //! |---|---|
 //! | `tools.rt` | the tools, and which of them the words call |
-//! | `table.rt`, `parser.rt` | the words and options of each, and their parser |
-//! | `fragments.rt` | the words of ramdisk fragments, apart from the others |
-//! | `orders.rt`, `mkbootimg.rt`, `groups.rt` | what the answers ask for |
+//! | `table.rt`, `parser.rt` | the words and options of each tool, and their parser |
+//! | `fragments.rt` | the words of ramdisk fragments, separated from the others |
+//! | `orders.rt`, `mkbootimg.rt`, `groups.rt` | the orders that the answers ask for |
 //! | `unpack_bootimg.rt` | the image that unpack_bootimg is to unpack |
-//! | `texts.rt` | the texts that orders need and no word is |
-//! | `shortening.rt` | whether the answers stand among the words |
+//! | `texts.rt` | texts that the orders need and that are no words |
+//! | `shortening.rt` | whether the answers are among the words |
 #![tactic(auto)]
 
 mod fragments;

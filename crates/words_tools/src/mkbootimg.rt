@@ -28,7 +28,7 @@ pub(crate) struct Image<'a> {
 pub(crate) struct Filler {
     pub option: &'static str,
     pub boot: &'static str,
-    /// The other that may stand in its place.
+    /// The other option that may be given instead of it.
     pub other: &'static str,
     pub vendor: &'static str,
 }
@@ -245,7 +245,7 @@ fn all_filled<'a>(
     Ok(Some(given))
 }
 
-// What an option was given: nothing, where the image doesn't carry it.
+// What an option was given: nothing, if the image doesn't carry it.
 fn filled<'a>(answers: &Answers<'a>, image: Image<'a>, filler: &'static Filler) -> Option<Given<'a>>
     ensures { IfSome result (IsOptionOf answers.now.all.items image.entry (filler_of filler.now)) }
 {

@@ -1,4 +1,4 @@
-//! Reading the words of AOSP's tools: the orders that they ask for.
+//! Reading the words of AOSP's tools: the orders that they give.
 
 ghost use Rattle.std.specs.Prelude.{◌≡◌, [], IfOk, get_or, map};
 ghost use Rattle.words_tools.specs.Tools.{AreOrdersOf, AsksBlocks, AsksCut, AsksImages, AsksOrders, AsksUnpacking};
@@ -16,21 +16,21 @@ use std::alloc::{AllocError, Global};
 use std::convert::AsStr;
 use words_orders::{Answer, Answers, Order, SparseTask, Task, WordsFault, expand};
 
-/// What the words of a tool ask for: orders that are done one after the other, or none.
+/// The orders of a tool's words, which are done one after the other, or none.
 #[derive(Drop)]
 pub struct Orders<'a> {
     pub first: Option<Order<'a>>,
-    /// Done where the first is.
+    /// Done if the first is done.
     pub second: Option<Order<'a>>,
-    /// The boot image whose id is printed where all are done.
+    /// The boot image whose id is printed once all are done.
     pub id_of: Option<&'a str>,
-    /// The image that is unpacked in the place of orders.
+    /// The image that is unpacked instead of orders.
     pub unpack: Option<UnpackImage<'a>>,
 }
 
-/// Reads the words of a tool, of which the first calls it, without those that say something of ramdisk fragments. How clap
-/// reads them is not trusted: each answer is found again among the words. `texts` are what `texts_of` makes of them, which
-/// is not trusted either.
+/// Reads the words of a tool, of which the first calls it, without those that say something of ramdisk fragments. How
+/// clap reads them is not trusted: each answer is found again among the words. `texts` are what `texts_of` makes of
+/// them, which is not trusted either.
 pub fn orders_of<'a, S: AsStr>(
     alloc: Global,
     tool: Tool,
@@ -53,7 +53,8 @@ pub fn orders_of<'a, S: AsStr>(
     Ok(orders)
 }
 
-/// The texts that no word of a tool is, and that its orders need: of mkbootimg the words of `pack` for ramdisk fragments.
+/// The texts that no word of a tool is, and that its orders need: of mkbootimg the words of `pack` for ramdisk
+/// fragments.
 pub fn texts_of<S: AsStr>(
     alloc: Global,
     tool: Tool,
@@ -115,14 +116,14 @@ fn caller<S: AsStr>(words: &[S]) -> &str
     }
 }
 
-// The words were read as others: which no parser does that is right.
+// Clap read the words differently, which no correct parser does.
 fn misread(alloc: Global, tool: Tool) -> Result<WordsFault, AllocError> {
     let mut program = tool_program(alloc, tool)?;
     let error = program.error(ErrorKind::InvalidValue, "the words were read as others")?;
     Ok(WordsFault::Usage(error))
 }
 
-// The order of a task that a tool asks for, which shows nothing of how far it is.
+// The order of a task of a tool, which shows no progress.
 fn order_for<'a>(tool: Tool, task: Task<'a>) -> Order<'a>
     ensures task { result.task ≡ task.entry }
     ensures plain { IsToolOrder tool result }
@@ -159,7 +160,7 @@ fn cut<'a>(answers: &Answers<'a>) -> Task<'a>
     })
 }
 
-// The path of what a word names, where `-` is the file that standard input is.
+// The path of the file that a word names, where `-` is the file that standard input is.
 fn standard_or<'a>(word: &'a str) -> &'a str
     ensures { result.now ≡ standard_or word.now }
 {
@@ -206,7 +207,7 @@ fn refusal_of_call(
     refusal_of_said(said, image.version)
 }
 
-// Why words of fragments are refused, where the vendor boot image has this version, or 0 for none.
+// Why words of fragments are rejected, where the vendor boot image has this version, or 0 for none.
 fn refusal_of_said(said: &[Answer<'_>], version: u32) -> Option<&'static str> {
     if said.is_empty() || version > 3 {
         None

@@ -13,7 +13,7 @@ pub(crate) fn tool_program<'a>(alloc: Global, tool: Tool) -> Result<Command<'a>,
     with_rows(alloc, program, tool.rows())
 }
 
-// A parser that takes the beginning of an option for the option, where no other begins so, and the last of its values.
+// A parser that takes a prefix of an option for the option, if no other begins so, and the last of its values.
 fn described<'a>(alloc: Global, name: &'a str, about: &'a str) -> Command<'a> {
     Command::new(alloc, name)
         .about(about)

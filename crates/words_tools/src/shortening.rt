@@ -1,4 +1,4 @@
-//! Whether the answers of a tool stand among its words, where the name of an option may be written short.
+//! Whether the answers of a tool are among its words, where the name of an option may be abbreviated.
 
 ghost use Rattle.std.specs.Prelude.{◌≡◌, ◌⊎◌, ◌++◌, ℕ, List, Contains, IfOk, IfSome, IsTrue, codes, drop, map};
 ghost use Rattle.std.specs.List.{All};
@@ -10,8 +10,8 @@ use std::convert::AsStr;
 use words_orders::{Answer, are_in_turn, is_read, is_said, placed_in, says_value_at};
 use words_values::{Row, WordPlace};
 
-/// Whether the word that calls a tool and each of these answers stand among its words, and each number is the one that its
-/// word writes.
+/// Whether the word that calls a tool and each of these answers are among its words, and each number is the one that
+/// its word encodes.
 pub(crate) fn are_spelled_in<S: AsStr>(
     alloc: Global,
     words: &[S],
@@ -26,7 +26,7 @@ pub(crate) fn are_spelled_in<S: AsStr>(
     Ok(are_in_turn(words, placed.as_slice()) && stand_in(words, rows, answers))
 }
 
-// Whether each of these stands there.
+// Whether each of these is there.
 fn stand_in<S: AsStr>(words: &[S], rows: &[Row], answers: &[Answer<'_>]) -> bool
     ensures { IsTrue result → All (StandsAs (map shape_of rows.now) (map S.text words.now)) answers.now }
 {
@@ -44,7 +44,7 @@ fn stands_in<S: AsStr>(words: &[S], rows: &[Row], answer: &Answer<'_>) -> bool
     is_read(answer) && (is_said(words, answer) || is_said_short(words, rows, answer))
 }
 
-// Whether an option is said by a beginning of its name, or a letter in one word with its value.
+// Whether an option is said by a prefix of its name, or a letter in one word with its value.
 fn is_said_short<S: AsStr>(words: &[S], rows: &[Row], answer: &Answer<'_>) -> bool
     ensures { IsTrue result → IsSaidShort (map shape_of rows.now) (map S.text words.now) answer.now.row.now.place
         answer.now.row.now.name.now answer.now.word.now }
@@ -107,7 +107,7 @@ fn says_short_at<S: AsStr>(words: &[S], at: usize, rows: &[Row], name: &str, val
     is_short_of(rows, short, name) && says_value_at(words, at, "--", short, value)
 }
 
-// What stands between `--` and `=`, or the end of the word.
+// The part between `--` and `=`, or the end of the word.
 fn short_in(word: &str) -> Option<&str> {
     let option = word.strip_prefix("--")?;
     match option.split_once('=') {
@@ -116,7 +116,7 @@ fn short_in(word: &str) -> Option<&str> {
     }
 }
 
-/// Whether this is a beginning of the name, and of no other.
+/// Whether this is a prefix of the name, and of no other.
 pub(crate) fn is_short_of(rows: &[Row], short: &str, name: &str) -> bool
     ensures { IsTrue result → IsShortOf (map shape_of rows.now) short.now name.now }
 {
@@ -126,7 +126,7 @@ pub(crate) fn is_short_of(rows: &[Row], short: &str, name: &str) -> bool
     }
 }
 
-// What is behind a beginning of a name.
+// What follows a prefix of a name.
 fn behind<'a>(name: &'a str, short: &str) -> Option<&'a str>
     ensures { IfSome result (λ rest. name.now ≡ short.now ++ rest.now) }
 {

@@ -40,7 +40,7 @@ const NUMBER: Row = Row {
     ..PATH
 };
 
-// An option that is refused.
+// An option that is rejected.
 const REFUSED: Row = Row {
     place: WordPlace::Option,
     value: Value::NotTaken,

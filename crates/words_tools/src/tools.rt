@@ -43,7 +43,7 @@ impl Tool {
         }
     }
 
-    /// What to use in the place of a tool whose words are not read.
+    /// What to use instead of a tool whose words are not read.
     pub(crate) fn instead(self) -> Option<&'static str> {
         match self {
             Tool::Append2simg => Some(
@@ -77,7 +77,7 @@ static TOOLS: [Tool; 7] = [
     Tool::SimgDump,
 ];
 
-// Whether a path ends in this name, behind a folder or alone.
+// Whether a path ends in this name, after a folder or alone.
 fn is_last_part(name: &str, path: &str) -> bool
     ensures { IsTrue result → IsLastPart name.now path.now }
 {
@@ -87,7 +87,7 @@ fn is_last_part(name: &str, path: &str) -> bool
     }
 }
 
-/// The tool that the words call, and its words, of which the first calls it: the program's own name, or the word behind
+/// The tool that the words call, and its words, of which the first calls it: the program's own name, or the word after
 /// `as`.
 pub fn called<S: AsStr>(words: &[S]) -> Option<(Tool, &[S])>
     ensures { IfSome result (λ call. IsCalled (map S.text words.now) call.0 (map S.text call.1.now)) }
@@ -110,7 +110,7 @@ fn first_tool<S: AsStr>(words: &[S]) -> Option<Tool>
     }
 }
 
-// The words behind the program's name and `as`.
+// The words after the program's name and `as`.
 fn behind_as<S: AsStr>(words: &[S]) -> Option<&[S]>
     ensures { IfSome result (λ own. IsBehindAs (map S.text words.now) (map S.text own.now)) }
 {

@@ -23,7 +23,7 @@ pub enum UnpackText {
     Info,
     /// The words that make it again, as a shell reads them.
     Words,
-    /// The same words, each behind it with a zero byte.
+    /// The same words, each followed by a zero byte.
     ZeroWords,
 }
 

@@ -1,4 +1,4 @@
--- Numbers as mkbootimg takes them: those of Python's `int(word, 0)`, an OS version and a patch level.
+-- Numbers as mkbootimg reads them: those of Python's `int(word, 0)`, an OS version and a patch level.
 use Rattle.std.specs.Prelude.{◌==◌, ◌&&◌, ◌+◌, ◌-◌, ◌*◌, ◌^◌, ℕ, List, [], ◌∷◌, Bool, true, false, Option, Some, None}
 use Rattle.std.specs.Prelude.{if◌then◌else◌, nat_lt, nat_le}
 use Rattle.std.specs.Char.{digit_value}
@@ -9,13 +9,13 @@ use Rattle.words_values.specs.declared.aosp_numbers.Digits.{Digits}
 abbrev pub digits : ℕ → Bool → Digits
 digits number is_ended = record { number = number; is_ended = is_ended }
 
--- the digits so far, and one more, where the number still has room in 64 bits
+-- the digits so far, and one more, if the number still fits in 64 bits
 abbrev pub with_digit : ℕ → ℕ → ℕ → Option Digits
 with_digit radix number c =
     if nat_lt (digit_value c) radix && nat_lt (number * radix + digit_value c) (2 ^ 64)
     then Some (digits (number * radix + digit_value c) true) else None
 
--- an underscore stands behind a digit
+-- an underscore after a digit
 abbrev pub with_underscore : Digits → Option Digits
 with_underscore d = if d.is_ended then Some (digits d.number false) else None
 
@@ -44,12 +44,12 @@ radix_of c =
     else if c == 111 then Some 8 else if c == 79 then Some 8
     else if c == 98 then Some 2 else if c == 66 then Some 2 else None
 
--- without an underscore at its front
+-- without an underscore at its beginning
 abbrev pub behind_underscore : List ℕ → List ℕ
 behind_underscore [] = []
 behind_underscore (c ∷ rest) = if c == 95 then rest else c ∷ rest
 
--- a zero stands before no other digit than zeros
+-- a leading zero is followed by no other digit than zeros
 abbrev pub only_zero : Option ℕ → Option ℕ
 only_zero None = None
 only_zero (Some n) = if n == 0 then Some 0 else None
@@ -64,9 +64,9 @@ python_number (c ∷ []) = python_digits 10 (c ∷ [])
 python_number (c ∷ (letter ∷ rest)) =
     if c == 48 then number_behind_zero (radix_of letter) letter rest else python_digits 10 (c ∷ (letter ∷ rest))
 
--- ---- a few digits at the front of a text
+-- ---- a few digits at the beginning of a text
 
--- the number that they write, how many they are, and what is behind them
+-- the number that they encode, how many they are, and what follows them
 pub record FrontDigits : Type 0 where
   pub number : ℕ
   pub count : ℕ
@@ -78,7 +78,7 @@ front_digits number count rest = record { number = number; count = count; rest =
 abbrev pub is_digit : ℕ → Bool
 is_digit c = nat_le 48 c && nat_le c 57
 
--- with the next letter, where it is a digit
+-- with the next letter, if it is a digit
 abbrev pub more_from : ℕ → ℕ → List ℕ → FrontDigits
 more_from number count [] = front_digits number count []
 more_from number count (c ∷ rest) =
@@ -96,9 +96,9 @@ three text = more (two text)
 abbrev pub four : List ℕ → FrontDigits
 four text = more (three text)
 
--- ---- an OS version, `A`, `A.B` or `A.B.C`, and what is behind it says nothing; 0, where there is none
+-- ---- an OS version, `A`, `A.B` or `A.B.C`, whatever follows it; 0, where there is none
 
--- one to three digits behind a dot
+-- one to three digits after a dot
 abbrev pub behind_dot : List ℕ → Option FrontDigits
 behind_dot [] = None
 behind_dot (c ∷ rest) = if (c == 46) && nat_lt 0 (three rest).count then Some (three rest) else None
@@ -119,7 +119,7 @@ abbrev pub os_version : List ℕ → Option ℕ
 os_version word =
     if (three word).count == 0 then Some 0 else version_from_b (three word).number (behind_dot (three word).rest)
 
--- ---- a patch level, `YYYY-MM`, and what is behind it says nothing; 0, where there is none
+-- ---- a patch level, `YYYY-MM`, whatever follows it; 0, where there is none
 
 abbrev pub packed_level : ℕ → ℕ → Option ℕ
 packed_level year month =

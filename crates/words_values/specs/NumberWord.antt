@@ -1,4 +1,4 @@
--- Words that write a number: `4096`, `0x1000`, `4K`.
+-- Words that encode a number: `4096`, `0x1000`, `4K`.
 use Rattle.std.specs.Prelude.{◌≡◌, ℕ, ◌*◌, ◌<◌, ◌^◌, List, [], ◌∷◌, ◌++◌, ◌⊎◌, Some, codes}
 use Rattle.words_values.specs.declared.rows.Value.{Value}
 use Rattle.words_values.specs.declared.rows.Value.TheVariants.{File, Number, LongNumber, Count, Text, CommandLine, Os}
@@ -7,12 +7,12 @@ use Rattle.words_values.specs.declared.rows.Value.TheVariants.{PatchLevel, NotTa
 use Rattle.words_values.specs.AospNumber.{os_version, patch_level, python_number}
 use Rattle.std.specs.Str.Parse.{IsNumeral, digits_value}
 
--- digits of a radix alone, at least one, and the number that they write
+-- digits of a radix alone, at least one, and the number that they encode
 pub record IsDigits (radix : ℕ) (word : List ℕ) (n : ℕ) : Type 0 where
   pub digits : IsNumeral radix word
   pub value : digits_value radix word ≡ n
 
--- a letter behind the digits, and what it stands for: K, M and G
+-- a letter after the digits, and the factor that it means: K, M and G
 abbrev pub IsScale : ℕ → ℕ → Type 0
 IsScale letter n = ((letter ≡ 75) × (n ≡ 1024))
     ⊎ (((letter ≡ 77) × (n ≡ 1048576)) ⊎ ((letter ≡ 71) × (n ≡ 1073741824)))
@@ -40,7 +40,7 @@ pub record IsHexadecimal (word : List ℕ) (n : ℕ) : Type 0 where
 abbrev pub IsNumber : List ℕ → ℕ → Type 0
 IsNumber word n = IsDecimal word n ⊎ IsHexadecimal word n
 
--- the number that a word gives to a value of this kind, with room in its width; 0 where the value is no number
+-- the number that a word gives to a value of this kind, which fits in its width; 0 if the value is no number
 abbrev pub IsRead : Value → List ℕ → ℕ → Type 0
 IsRead Number word n = IsNumber word n × (n < 2 ^ 32)
 IsRead LongNumber word n = IsNumber word n × (n < 2 ^ 64)

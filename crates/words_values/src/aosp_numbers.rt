@@ -1,4 +1,4 @@
-//! Numbers as mkbootimg takes them: those of Python's `int(word, 0)`, an OS version and a patch level.
+//! Numbers as mkbootimg reads them: those of Python's `int(word, 0)`, an OS version and a patch level.
 
 ghost use Rattle.std.specs.Prelude.{◌≡◌, ◌∷◌, ◌≤◌, ◌+◌, ◌*◌, ◌^◌, ◌<◌, IfSome, option_map};
 ghost use Rattle.words_values.specs.AospNumber.{behind_dot, behind_underscore, four, is_digit, level_from};
@@ -10,15 +10,15 @@ ghost use Rattle.std.specs.Char.{digit_value};
 
 // ---- Python's numbers
 
-/// What digits so far write, and whether the last letter is one of them, and no underscore.
+/// The number that the digits so far encode, and whether the last letter is one of them, and no underscore.
 #[derive(Clone, Copy, PartialEq)]
 pub(crate) struct Digits {
     pub number: u64,
     pub is_ended: bool,
 }
 
-/// The number that Python's `int(word, 0)` reads: decimal, or behind `0x`, `0o` or `0b`, with an underscore between two
-/// digits or none. Blanks and a sign are refused, and a number that has no room in 64 bits.
+/// The number that Python's `int(word, 0)` reads: decimal, or after `0x`, `0o` or `0b`, with an underscore between two
+/// digits or none. `None` for blanks and a sign, and for a number that does not fit in 64 bits.
 pub(crate) fn python_number(word: &str) -> Option<u64>
     ensures { result ≡ python_number word.now }
 {
@@ -30,7 +30,7 @@ pub(crate) fn python_number(word: &str) -> Option<u64>
     }
 }
 
-// What is written behind a zero: the letter of a radix and digits, or only zeros.
+// What follows a zero: the letter of a radix and digits, or only zeros.
 fn behind_zero(letter: u8, rest: &[u8], all: &[u8]) -> Option<u64>
     requires { all.now ≡ letter ∷ rest.now }
     ensures { result ≡ number_behind_zero (radix_of letter) letter rest.now }
@@ -64,7 +64,7 @@ fn behind_underscore(bytes: &[u8]) -> &[u8]
     }
 }
 
-// The number that these digits write.
+// The number that these digits encode.
 fn number_of(bytes: &[u8], radix: u64) -> Option<u64>
     ensures { result ≡ python_digits radix bytes.now }
 {
@@ -124,9 +124,9 @@ fn digit_value(letter: u8) -> u64
     }
 }
 
-// ---- digits at the front of a text
+// ---- digits at the beginning of a text
 
-// What the digits at the front write, how many they are, and what is behind them.
+// The number that the first digits encode, how many they are, and what follows them.
 #[derive(Clone, Copy)]
 struct Front<'a> {
     number: u64,
@@ -134,7 +134,7 @@ struct Front<'a> {
     rest: &'a [u8],
 }
 
-// With the next letter, where it is a digit.
+// With the next letter, if it is a digit.
 fn more<'a>(front: Front<'a>) -> Front<'a>
     requires small { front.number ≤ 999 }
     requires few { front.count ≤ 3 }
@@ -188,8 +188,8 @@ fn four<'a>(text: &'a [u8]) -> Front<'a>
 
 // ---- an OS version and a patch level
 
-/// The number of an OS version, `A`, `A.B` or `A.B.C`, whatever is behind it; 0 for a word that begins with none. Refused
-/// where one of the three is above 127.
+/// The number of an OS version, `A`, `A.B` or `A.B.C`, whatever follows it; 0 for a word that begins with none. `None`
+/// if one of the three is above 127.
 pub(crate) fn os_version(word: &str) -> Option<u64>
     ensures { result ≡ os_version word.now }
 {
@@ -206,7 +206,7 @@ pub(crate) fn os_version(word: &str) -> Option<u64>
     }
 }
 
-// One to three digits behind a dot.
+// One to three digits after a dot.
 fn behind_dot<'a>(text: &'a [u8]) -> Option<Front<'a>>
     ensures value { option_map (λ f. spec.front_digits f.number f.count f.rest.now) result ≡ behind_dot text.now }
     ensures small { IfSome result (λ f. f.number ≤ 999) }
@@ -230,8 +230,8 @@ fn packed_version(a: u64, b: u64, c: u64) -> Option<u64>
     }
 }
 
-/// The number of a patch level, `YYYY-MM`, whatever is behind it; 0 for a word that begins with none. Refused where the
-/// year is not from 2000 to 2127, or the month is none.
+/// The number of a patch level, `YYYY-MM`, whatever follows it; 0 for a word that begins with none. `None` if the year
+/// is not from 2000 to 2127, or the month is none.
 pub(crate) fn patch_level(word: &str) -> Option<u64>
     ensures { result ≡ patch_level word.now }
 {

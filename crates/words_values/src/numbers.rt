@@ -1,4 +1,4 @@
-//! Numbers as guides write them.
+//! Numbers in the notation of flashing guides.
 
 ghost use Rattle.std.specs.Prelude.{◌≡◌, ◌≢◌, ◌<◌, ◌≤◌, ◌^◌, ℕ, List, [], ◌∷◌, ◌++◌, Some, None, IfSome};
 ghost use Rattle.words_values.specs.NumberWord.{IsDecimal, IsDigits, IsNumber, IsRead, IsScale};
@@ -6,8 +6,8 @@ ghost use Rattle.words_values.specs.NumberWord.{IsDecimal, IsDigits, IsNumber, I
 use crate::aosp_numbers::{os_version, patch_level, python_number};
 use crate::rows::Value;
 
-/// Reads a number: `4096`, `0x1000`, or `4K`, `1M` and `2G` in powers of 1024. Nothing stands before it or behind it,
-/// no sign either. `None` for every other word, and for a number that has no room in 64 bits.
+/// Reads a number: `4096`, `0x1000`, or `4K`, `1M` and `2G` in powers of 1024. Nothing may precede or follow it, and it
+/// has no sign. `None` for every other word, and for a number that does not fit in 64 bits.
 pub fn number_word(word: &str) -> Option<u64>
     ensures value { IfSome result (λ n. IsNumber word.now n) }
     ensures accepts { (n : ℕ) → IsNumber word.now n → n < 2 ^ 64 → result ≡ Some n }
@@ -18,7 +18,7 @@ pub fn number_word(word: &str) -> Option<u64>
     }
 }
 
-// The digits behind `0x`.
+// The digits after `0x`.
 fn hexadecimal(word: &str) -> Option<&str>
     ensures value { IfSome result (λ digits. word.now ≡ 48 ∷ (120 ∷ digits.now)) }
     ensures none { result ≡ None → (digits : List ℕ) → word.now ≢ 48 ∷ (120 ∷ digits) }
@@ -37,7 +37,7 @@ fn decimal(word: &str) -> Option<u64>
     }
 }
 
-// What stands before the letter of a scale, and what the letter stands for.
+// The digits before the letter of a scale, and the factor that the letter means.
 fn scaled(word: &str) -> Option<(&str, u64)>
     ensures value { IfSome result (λ cut. (letter : ℕ) × IsScale letter cut.1 ×
         (word.now ≡ cut.0.now ++ (letter ∷ []))) }
@@ -56,7 +56,7 @@ fn scaled(word: &str) -> Option<(&str, u64)>
     None
 }
 
-// The number that these digits write. `from_str_radix` alone would take a sign before them.
+// The number that these digits encode. `from_str_radix` alone would take a sign before them.
 fn digits_word(digits: &str, radix: u32) -> Option<u64>
     requires least { 2 ≤ radix }
     requires most { radix ≤ 16 }
@@ -69,8 +69,8 @@ fn digits_word(digits: &str, radix: u32) -> Option<u64>
     u64::from_str_radix(digits, radix).ok()
 }
 
-/// The number that a word writes for a value of this kind; 0 for a value that is no number. `None` where the word writes
-/// none, or one that has no room in the value's width. That a count is large enough is the parser's business.
+/// The number that a word encodes for a value of this kind; 0 for a value that is no number. `None` if the word encodes
+/// none, or one that does not fit in the value's width. The parser checks that a count is large enough.
 pub fn number_in(value: Value, word: &str) -> Option<u64>
     ensures value { IfSome result (λ n. IsRead value word.now n) }
     ensures accepts { (n : ℕ) → IsRead value word.now n → result ≡ Some n }
@@ -94,7 +94,7 @@ pub fn number_in(value: Value, word: &str) -> Option<u64>
     }
 }
 
-// A number that has room in 32 bits.
+// A number that fits in 32 bits.
 fn narrow(number: u64) -> Option<u64>
     ensures value { IfSome result (λ n. n ≡ number) }
     ensures width { IfSome result (λ n. n < 2 ^ 32) }

@@ -1,23 +1,23 @@
-//! A row of the table of the command line: a word, an option or a flag.
+//! A row of the table of a command line: a word, an option or a flag.
 
 ghost use Rattle.std.specs.Prelude.{◌≡◌, ◌↔◌, IsTrue, false, Contains};
 
-/// A word at its place, an option or a flag.
+/// A positional word, an option or a flag.
 #[derive(Clone, Copy)]
 pub struct Row {
     /// The name: of an option without its hyphens, of a word as help shows it.
     pub name: &'static str,
     pub place: WordPlace,
-    /// What its value is.
+    /// The kind of its value.
     pub value: Value,
     /// What help calls an option's value.
     pub value_name: &'static str,
     pub is_required: bool,
-    /// The value that it has where none is given.
+    /// The default value.
     pub default: Option<&'static str>,
-    /// The word that it is refused without.
+    /// The word that must be given with it.
     pub needs: Option<&'static str>,
-    /// The option that it is refused beside.
+    /// The option that must not be given with it.
     pub excludes: Option<&'static str>,
     /// The header versions of boot images that carry it.
     pub boot: &'static [u32],
@@ -26,14 +26,14 @@ pub struct Row {
     pub help: &'static str,
 }
 
-/// Where a row stands on the command line, and how often.
+/// Where the words of a row are on the command line, and how often.
 #[derive(Clone, Copy)]
 pub enum WordPlace {
-    /// A word, by its place among the others.
+    /// A positional word.
     Word,
     /// One word or more.
     Words,
-    /// Words behind all others, or none.
+    /// Words after all others, or none.
     LastWords,
     /// `--NAME VALUE`.
     Option,
@@ -47,12 +47,12 @@ pub enum WordPlace {
     Letter,
 }
 
-/// What the value of a row is.
+/// The kind of a row's value.
 #[derive(Clone, Copy)]
 pub enum Value {
     /// The path of a file.
     File,
-    /// A number of 32 bits, as guides write it.
+    /// A number of 32 bits, in the notation of flashing guides.
     Number,
     /// The same of 64 bits.
     LongNumber,
@@ -76,7 +76,7 @@ pub enum Value {
     OsVersion,
     /// A patch level, `YYYY-MM`, as mkbootimg reads it.
     PatchLevel,
-    /// None: it is refused where it is given.
+    /// None: giving it is an error.
     NotTaken,
 }
 

@@ -1,4 +1,4 @@
-//! Words that stand for the lines of a file: `@FILE`.
+//! Words `@FILE`, which are replaced by the lines of a file.
 
 ghost use Rattle.std.specs.Prelude.{◌≡◌, ◌++◌, ℕ, List, ◌∷◌, None, IfOk, IfSome, OnOk, map, string_bytes};
 ghost use Rattle.words_values.specs.WordFile.{IsNamed, expansion, own, stands_for, texts_behind, words_of};
@@ -19,8 +19,8 @@ pub fn file_of(word: &str) -> Option<&str>
     Some(path)
 }
 
-/// The words, in which each `@FILE` has given way to those lines of its file that aren't empty, and each other word
-/// that begins with `@@` has lost one of the two. The texts are those of the files, in their order.
+/// The words, with each `@FILE` replaced by those lines of its file that aren't empty, and each other word that begins
+/// with `@@` without one of the two. The texts are those of the files, in their order.
 pub fn expanded<'a, S: AsStr>(
     alloc: Global,
     words: &'a [S],
@@ -37,7 +37,7 @@ pub fn expanded<'a, S: AsStr>(
     Ok(all)
 }
 
-// Adds what stands for a word, and says which texts stand for those behind it.
+// Adds what replaces a word, and returns the texts for the words after it.
 fn push_word<'a>(
     all: &mut Vec<&'a str>,
     word: &'a str,
@@ -59,7 +59,7 @@ fn push_word<'a>(
     Ok(left)
 }
 
-// A word that names no file: of `@@..` without the first.
+// A word that names no file: `@@..` loses its first `@`.
 fn own_word(word: &str) -> &str
     ensures { result.now ≡ own word.now }
 {
