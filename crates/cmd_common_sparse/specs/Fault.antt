@@ -1,4 +1,4 @@
--- Which faults are of the words, the number of each, and which of the files at hand it is about.
+-- Which faults concern the arguments, the number of each fault, and which of the files it concerns.
 use Rattle.std.specs.Prelude.{ℕ, ◌==◌, ◌||◌, Bool, false, Option, Some, None, if◌then◌else◌}
 use Rattle.abt_sparse.specs.Number as sparse
 use Rattle.abt_runs.specs.Number as run
@@ -26,7 +26,7 @@ wrong_words (faults.OtherBlocks image) = false
 wrong_words (faults.OtherCut image) = false
 wrong_words (faults.Host fault) = is_not_text fault
 
--- the number of a fault of an image or a device, which its own crate gives it
+-- the number of a fault of an image or a device, as its own crate defines it
 abbrev pub sparse_command_fault_number : SparseCommandFault → Option ℕ
 sparse_command_fault_number (faults.Sparse fault) = Some (sparse.number_of fault)
 sparse_command_fault_number (faults.Run fault) = Some (run.run_fault_number fault)

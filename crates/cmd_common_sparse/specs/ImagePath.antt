@@ -1,4 +1,4 @@
--- The path of an image that is read at any place.
+-- The path of an image that is read at any position.
 use Rattle.std.specs.Prelude.{ℕ, List, codes, bytes_eq, if◌then◌else◌}
 
 -- what its word is, where `-` is standard input, which will do only where it is a file

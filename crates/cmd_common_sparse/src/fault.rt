@@ -1,4 +1,4 @@
-//! Why a command of sparse images is refused.
+//! Why a command of sparse images fails.
 
 ghost use Rattle.std.specs.Prelude.{◌≡◌, List, ℕ};
 ghost use Rattle.sys_text.specs.Printed.{Prints};
@@ -15,7 +15,7 @@ use abt_verify::VerifyFault;
 use sys_refusals::{FileArg, HostFault, HostRefusal, Magic, Refusal, Side, Told};
 use sys_text::Text;
 
-/// Why a command of sparse images is refused.
+/// Why a command of sparse images fails.
 #[derive(Drop)]
 pub enum SparseCommandFault {
     /// Of a sparse image, or of the devices that it is read from and written to.
@@ -30,13 +30,13 @@ pub enum SparseCommandFault {
     Verify(VerifyFault),
     /// This one of several images has another block size or number of blocks than the first.
     OtherBlocks { image: u32 },
-    /// This one of several images is of another cut than a piece before it: its blocks are out of turn.
+    /// This one of several images belongs to another cut than a piece before it: its blocks are out of order.
     OtherCut { image: u32 },
     /// Of files, whatever they hold.
     Host(HostFault),
 }
 
-/// What a command of sparse images answers where it does not do what it was told.
+/// The error that a command of sparse images returns.
 pub type SparseRefusal<'a> = Refusal<'a, SparseCommandFault>;
 
 impl From<HostFault> for SparseCommandFault {

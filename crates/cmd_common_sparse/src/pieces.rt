@@ -1,4 +1,4 @@
-//! Which pieces an image is cut into.
+//! The pieces into which an image is cut.
 
 ghost use Rattle.std.specs.Prelude.{◌≡◌, ◌<◌, ◌≤◌, ◌+◌, ◌-◌, ℕ, List, length, false, IsTrue, IfErr, IfOk, OnOk};
 ghost use Rattle.abt_pieces.specs.Cutter.{is_begun};
