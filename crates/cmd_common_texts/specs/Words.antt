@@ -1,4 +1,4 @@
--- The words that pack an image again.
+-- The arguments that pack an image again.
 use Rattle.std.specs.Prelude.{ℕ, zero, suc, ◌==◌, ◌&&◌, nat_le, Bool, true, false, if◌then◌else◌, List, [], ◌∷◌, ◌++◌}
 use Rattle.std.specs.Prelude.{Option, Some, None, codes, decimal, is_some, length, drop}
 use Rattle.std.specs.List.{flat_map}
@@ -85,8 +85,7 @@ kind_words (OfBoot h) = flag_word (codes "escaped")
 kind_words (OfVendor v) = flag_word (codes "escaped") ∷ flag_word (codes "vendor")
     ∷ number_word (codes "version") (vendor_version v) ∷ number_word (codes "page") (vendor_page v) ∷ []
 
--- the option that a section is given by: a vendor ramdisk with a table is given by its fragments, and the table with
--- them
+-- the option that sets a section: a vendor ramdisk with a table is set by its fragments, and so is the table
 abbrev pub section_option : Bool → Section → Option (List ℕ)
 section_option table Kernel = Some (option_of Kernel)
 section_option table Ramdisk = Some (option_of Ramdisk)

@@ -1,4 +1,4 @@
-//! The words that pack an image again: what its header and its table say, each as an option of `pack`.
+//! The arguments that pack an image again: the values of its header and its table, each as an option of `pack`.
 
 ghost use Rattle.std.specs.Prelude.{◌≡◌, ◌++◌, ◌∷◌, [], Some, None, MatchOption, IsTrue, IfErr, OnOk};
 ghost use Rattle.std.specs.List.{flat_map};
@@ -19,10 +19,10 @@ use abt_sections::{Image, ImageHeader, SectionFault, fragment, fragments, sectio
 use cmd_common_fields::{Address, TextField, address_of, front_text, os_version_of, text_field_of};
 use sys_text::Text;
 
-/// Writes the words, one a line, with which `pack` makes this image again from the files that `unpack` writes to a
-/// folder.
+/// Writes the arguments with which `pack` makes this image again from the files that `unpack` writes to a folder, one
+/// on each line.
 ///
-/// A write that fails is `Write`; where the source fails, the words before stand. It takes no memory.
+/// A failed write is `Write`. Where the source fails, the arguments before stay written. It allocates no memory.
 pub fn write_words<S: Source, O: Output>(
     image: &Image,
     folder: &str,
@@ -130,8 +130,8 @@ fn has_table(header: &ImageHeader) -> bool
     }
 }
 
-// The option that a section is given by, where there is one: a vendor ramdisk with a table is given by its fragments,
-// and the table with them.
+// The option that sets a section, where there is one. A vendor ramdisk with a table is set by its fragments, and so
+// is the table.
 fn section_option(table: bool, section: Section) -> Option<&'static str>
     ensures { MatchOption result (words.section_option table section ≡ None) (λ name. words.section_option table section
         ≡ Some name.now) }

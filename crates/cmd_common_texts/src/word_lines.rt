@@ -1,4 +1,4 @@
-//! The words that pack an image again, each as the line that it stands in.
+//! The arguments that pack an image again, each as a line of text.
 
 ghost use Rattle.std.specs.Prelude.{◌≡◌, ◌++◌, ◌∷◌, []};
 ghost use Rattle.std.specs.List.{flat_map};
@@ -61,7 +61,7 @@ pub fn put_text_word<O: Output>(name: &str, front: &[u8], back: &[u8], text: &mu
     text.end_line();
 }
 
-// What of a text stands in the second of two fields.
+// The part of a text that is in the second of two fields.
 fn rest_of_text<'a>(front: &[u8], back: &'a [u8]) -> &'a [u8]
     ensures { words.text_over front.now back.now ≡ words.text_of front.now ++ result.now }
 {
