@@ -1,4 +1,4 @@
-//! The bytes of a vendor ramdisk that lie in no fragment.
+//! The bytes of a vendor ramdisk that are in no fragment.
 
 use abt_headers::RamdiskEntry;
 use std::alloc::{AllocError, Global};

@@ -1,4 +1,4 @@
-//! Bytes that are not zero: how many there are, and where the first stands.
+//! Bytes that are not zero: how many there are, and the position of the first.
 
 ghost use Rattle.std.specs.Prelude.{◌≡◌, ◌<◌, ◌≤◌, ◌+◌, ◌-◌, IsTrue, IfOk, length, take, drop, min};
 ghost use Rattle.abt_sections.specs.Reads.{ReadsUnless};
@@ -22,7 +22,7 @@ pub(crate) fn count_set(bytes: &[u8]) -> u64
     count
 }
 
-/// How many bytes in front are zero.
+/// How many of the first bytes are zero.
 pub(crate) fn zeros_in_front(bytes: &[u8]) -> usize
     ensures { result ≤ length bytes.now }
 {
