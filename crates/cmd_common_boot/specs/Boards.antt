@@ -1,4 +1,4 @@
--- What a word of `--board-id` does to the ramdisk fragments that are packed.
+-- What an argument of `--board-id` does to the ramdisk fragments that are packed.
 use Rattle.std.specs.Prelude.{◌≡◌, ◌<◌, ℕ, zero, suc, List, [], ◌∷◌, length, set}
 use Rattle.abt_sections.specs.declared.spec.FragmentSpec.{FragmentSpec}
 use Rattle.cmd_common_fields.specs.Board.{BoardFits, IsBoardWord}

@@ -1,4 +1,4 @@
--- Which options and fragments an image of a kind takes.
+-- The options and fragments that an image of each kind takes.
 use Rattle.std.specs.Prelude.{◌≡◌, ℕ, List, Contains, IsSome}
 use Rattle.words_values.specs.declared.rows.Row.{Row}
 use Rattle.cmd_common_fields.specs.Kind.{version_of}

@@ -1,4 +1,4 @@
-//! Why a command over boot images is refused, and what a user is told of it.
+//! Why a command of boot images fails, and what the user is told.
 
 ghost use Rattle.std.specs.Prelude.{◌≡◌, ℕ, List, MatchResult, Ok, Err};
 ghost use Rattle.sys_text.specs.Printed.{Prints};
@@ -11,7 +11,7 @@ use abt_sections::SectionFault;
 use sys_refusals::{FileArg, HostFault, Magic, Refusal, Side, Told};
 use sys_text::{ShownPath, Text};
 
-/// Why a command over boot images is refused.
+/// Why a command of boot images fails.
 #[derive(Drop)]
 pub enum BootCommandFault<'a> {
     /// Of files, whatever they hold.
@@ -49,7 +49,7 @@ impl<'a> BootCommandFault<'a> {
         BootCommandFault::Section(SectionFault::Header(fault))
     }
 
-    /// What a call answered that wrote so many bytes, with its fault as one of a command.
+    /// The result of a call that wrote this many bytes, with its fault as one of a command.
     pub fn of_bytes(answer: Result<u64, SectionFault>) -> Result<u64, BootCommandFault<'a>>
         ensures { MatchResult answer (λ n. result ≡ Ok n) (λ f. result ≡ Err (BootCommandFault.Section f)) }
     {

@@ -1,11 +1,11 @@
-//! A source of which only the size counts, for who asks what packing refuses.
+//! A source that has only a size, for a call that asks whether packing would fail.
 
 ghost use Rattle.std.specs.Prelude.{◌≡◌, [], false};
 ghost use Rattle.std.proofs.lemmas.Bool.{false≢true};
 
 use abt_io::{DeviceFault, Source, Tally};
 
-/// How many bytes a part has. It gives none of them.
+/// The size of a part, as a source that gives none of its bytes.
 #[derive(Drop)]
 pub struct Measure {
     pub size: u64,

@@ -1,4 +1,4 @@
-//! The files that `unpack` writes to a folder, each with its name, and their order.
+//! The names of the files that `unpack` writes to a folder, and their order.
 
 ghost use Rattle.std.specs.Prelude.{◌≡◌};
 ghost use Rattle.abt_sections.specs.Header.{view_of};

@@ -1,4 +1,4 @@
-//! What a part of an image is read from: a file, or a range of one.
+//! The source of a part of an image: a file, or a range of one.
 
 ghost use Rattle.std.specs.Prelude.{◌≡◌, ◌<◌, ◌≤◌, ◌+◌, ◌^◌, Some, None, IsTrue};
 ghost use Rattle.std.specs.Prelude.{length, option_map};
@@ -9,7 +9,7 @@ use abt_io::{DeviceFault, Source, Tally};
 use sys_disk::Lasting;
 use sys_refusals::FileArg;
 
-/// A range of a file, or no bytes. It tells what its file does.
+/// A range of a file, or no bytes. It models its contents where its file does.
 #[derive(Drop)]
 pub struct PartSource<'a, S: Source + Lasting> {
     pub file: Option<S>,
@@ -81,7 +81,8 @@ impl<'a, S: Source + Lasting> PartSource<'a, S> {
         }
     }
 
-    /// Whether a fault of packing may be of this part: it was not read as it was found, or no section has room for it.
+    /// Whether a fault of packing may come from this part: it was not read as it was found, or no section has room
+    /// for it.
     pub fn is_at_fault(&self) -> bool {
         self.has_failed || self.size > u32::MAX as u64
     }
