@@ -18,7 +18,7 @@ pub record ClosesSpool (held held' : OpenFiles) : Type 0 where
 abbrev pub last_from : ℕ → ℕ → ℕ
 last_from from count = min (from - 1 + count) (2 ^ 32 - 1)
 
--- what is told of pieces from this one on, where there may be a cause that came before what stopped them
+-- the result of delivering pieces from this one on, where there may be a cause that came before what stopped them
 abbrev pub told : Result Delivered FlashFault → ℕ → Option Cause → Result Delivered FlashFault
 told delivered from None = delivered
 told (Ok d) from (Some first) = Err (flashes.Stopped (last_from from d.pieces) first)
