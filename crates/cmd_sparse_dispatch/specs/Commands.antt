@@ -1,4 +1,5 @@
--- What a command over sparse images does with the files that its words name, leaves of them, and is refused for.
+-- What a command of sparse images does with the files that its arguments name, what it leaves of them, and why it
+-- fails.
 use Rattle.std.specs.Prelude.{◌≡◌, ◌<◌, ◌+◌, ◌-◌, ◌++◌, max, ℕ, List, [], ◌∷◌, Option, Some, None, Bool, IsTrue, map}
 use Rattle.std.specs.Prelude.{if◌then◌else◌, Result, OnOk}
 use Rattle.std.specs.List.{AllByRecursion}
@@ -25,7 +26,7 @@ use Rattle.cmd_flash.specs.InPieces.{FlashesPieces, RefusesPieces, SparesBoth}
 use Rattle.cmd_flash.specs.Listing.{IsListed, RefusesList}
 use Rattle.cmd_flash.specs.Verifying.{RefusesVerify, RefusesVerifyRaw, VerifiesFile, VerifiesRawFile}
 
--- a moment of a run: what files hold, what was opened, and what was printed
+-- a state of a run: what files hold, which files are open, and what was printed
 pub record State : Type 0 where
   pub world : World
   pub held : OpenFiles
@@ -34,7 +35,7 @@ pub record State : Type 0 where
 abbrev pub state : World → OpenFiles → Report → State
 state world held report = record { world = world; held = held; report = report }
 
--- from one moment to the other so many outputs were synced
+-- between two states this many outputs were synced
 abbrev pub SyncsOutputs : ℕ → State → State → Type 0
 SyncsOutputs n a z = z.held.syncs ≡ a.held.syncs + n
 
@@ -42,9 +43,9 @@ SyncsOutputs n a z = z.held.syncs ≡ a.held.syncs + n
 abbrev pub one_if_wanted : State → ℕ
 one_if_wanted a = if a.held.is_synced then 1 else 0
 
--- ---- what is done, from the moment a to the moment z, of a disk where such paths lead to where standard output goes
+-- ---- what is done, from state a to state z, of a disk where such paths lead to where standard output goes
 
--- one image is expanded, or several that are laid over one another
+-- one image is expanded, or several that overwrite one another
 abbrev pub ExpandsImages : (List ℕ → Bool) → List (List ℕ) → List ℕ → State → State → Type 0
 ExpandsImages on_output [] output a z =
     OverlaysFiles [] output a.world z.world (ShowsBeside (on_output output) a.report z.report) × SyncsOutputs 0 a z
@@ -84,7 +85,7 @@ FlashesImage on_output input partition raw (Some p) a z =
     FlashesPieces raw p.limit (max 1 p.from - 1) (image_path input) partition
     p.spool.now a.world z.world a.held z.held (ShowsBeside (on_output partition) a.report z.report)
 
--- an image stands on a partition
+-- a partition holds an image
 abbrev pub VerifiesImage : List ℕ → List ℕ → Option ℕ → State → State → Type 0
 VerifiesImage input partition None a z =
     VerifiesFile (image_path input) partition a.world (ShowsHere a.report z.report)
@@ -105,7 +106,7 @@ DoesTask on_output (tasks.Verify input partition raw) a z = VerifiesImage input.
 
 -- ---- what stays, whatever the outcome
 
--- so much stays, and it is done only where nothing has failed
+-- this much stays, and the result is Ok only where nothing has failed
 pub record LeavesSpared {X F : Type 0} (r : Result X F) (Spared : State → State → Type 0) (a z : State) : Type 0 where
   pub spares : Spared a z
   pub clean : OnOk r (HasNotFailed a.held z.held)
@@ -153,7 +154,7 @@ LeavesNoPartOfSparse is_over (tasks.Sparse input output block) a z = IsTrue (is_
     → HoldsNoPartOfSparse input.now (output_path output.now) block a.world z.world
 LeavesNoPartOfSparse is_over task a z = Unit {0}
 
--- ---- why it is refused
+-- ---- why it fails
 
 abbrev pub RefusesExpand : SparseCommandFault → List (List ℕ) → List ℕ → State → State → Type 0
 RefusesExpand fault (input ∷ []) output a z =
@@ -190,7 +191,7 @@ RefusesVerifying fault input partition None a z =
 RefusesVerifying fault input partition (Some size) a z =
     RefusesVerifyRaw fault size (image_path input) partition a.world a.held z.held (Unprinted a.report z.report)
 
--- this is why a task is not done, as its command says it
+-- why a task is not done, as its command defines it
 abbrev pub RefusesTask : SparseCommandFault → SparseTask → State → State → Type 0
 RefusesTask fault (tasks.Expand inputs output) a z =
     RefusesExpand fault (map (λ word. word.now) inputs.items) output.now a z

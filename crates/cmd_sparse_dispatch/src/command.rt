@@ -1,4 +1,4 @@
-//! What is to be done with a sparse image, and the command that does it.
+//! A task with a sparse image, and the command that does it.
 
 ghost use Rattle.std.specs.Prelude.{◌≡◌, None, IsTrue, IfErr, OnOk};
 ghost use Rattle.sys_disk.specs.World.{IsReading};
@@ -31,15 +31,15 @@ pub fn sparse_command<'a, D: Disk>(
     ensures done { IsTrue D.models → OnOk result (DoesTask D.on_output task.entry
         (state (D.world disk.old) (D.held disk.old)
         report.old) (state (D.world disk.new) (D.held disk.new) report.new)) }
-    // whatever the outcome, what it reads holds what it held, and none has changed but what it is to write; it is done
-    // only where nothing failed
+    // whatever the outcome, what the command reads holds what it held, and only what it is to write has changed; the
+    // result is Ok only where nothing failed
     ensures leaves { IsTrue D.models → LeavesSpared result (SparesFiles task.entry)
         (state (D.world disk.old) (D.held disk.old) report.old)
         (state (D.world disk.new) (D.held disk.new) report.new) }
     ensures whole { IsTrue D.models → LeavesNoPartOfSparse D.is_over task.entry
         (state (D.world disk.old) (D.held disk.old) report.old)
         (state (D.world disk.new) (D.held disk.new) report.new) }
-    // it is refused for what its command is refused for
+    // it fails for a cause for which its command fails
     ensures refused { IsTrue D.models → IfErr result (λ refusal. RefusesTask refusal.fault task.entry
         (state (D.world disk.old) (D.held disk.old) report.old)
         (state (D.world disk.new) (D.held disk.new) report.new)) }

@@ -1,4 +1,4 @@
-//! The files that the words of a task name.
+//! The files that the arguments of a task name.
 
 ghost use Rattle.std.specs.Prelude.{◌≡◌};
 ghost use Rattle.sys_refusals.specs.Paths.{output_path, path_in, path_of, path_out};
