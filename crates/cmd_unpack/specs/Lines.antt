@@ -38,7 +38,7 @@ abbrev pub told_parts : List ℕ → Header → Bool → ℕ → List (List ℕ)
 told_parts x h with_words bytes =
     map told_section (places_of h) ++ (told_fragments x h (fragment_count h) ++ told_words with_words bytes)
 
--- lines were shown one after another: each went to where lines went at its moment
+-- lines were printed one after another: each went to where lines went at that time
 abbrev pub ShowsEach : List (List ℕ) → Report → Report → Type 0
 ShowsEach [] old new = IsSilent old new
 ShowsEach (line ∷ lines) old new = (next : Report) × Shows old next line × ShowsEach lines next new

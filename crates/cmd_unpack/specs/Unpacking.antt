@@ -15,7 +15,7 @@ use Rattle.cmd_common_texts.specs.Words.{words_text, image_words}
 use Rattle.sys_disk.specs.Among.{FileHolds, IsMade, OnlyAmong}
 use Rattle.cmd_unpack.specs.Lines.{told_parts}
 
--- the name of a part's file, and the number that stands behind it
+-- the name of a part's file, and the number after it
 abbrev pub part_name : ImagePart → List ℕ
 part_name (parts.Section kind) = section_name kind
 part_name (parts.Fragment index) = codes "fragment"
@@ -151,7 +151,7 @@ pub record SyncsParts (input : List ℕ) (with_words : Bool) (world : World) (ol
   pub image : HasImage (world.holds from) header
   pub syncs : SyncsMore (part_total with_words header) old new
 
--- the first parts of it are in their files, where a line could not be printed
+-- the first parts of it are in their files, and a line could not be printed
 pub record PartsStand (input folder : List ℕ) (with_words : Bool) (old : World) (held : OpenFiles) (new : World)
     : Type 0 where
   pub from : ℕ

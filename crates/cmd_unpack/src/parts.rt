@@ -1,4 +1,4 @@
-//! All parts of an image, one after another.
+//! Writes all parts of an image, one after another.
 
 ghost use Rattle.std.specs.Prelude.{◌≡◌, ◌<◌, ◌≤◌, ◌+◌, ℕ, None, IsTrue, IfErr, OnOk, OnErr, length, map};
 ghost use Rattle.abt_sections.specs.Header.{fragment_count, places_of, view_of};
