@@ -1,4 +1,4 @@
-//! The options of mkbootimg's words, each with its value.
+//! The options of mkbootimg's arguments, each with its value.
 
 ghost use Rattle.std.specs.Prelude.{◌≡◌, ◌++◌};
 ghost use Rattle.abt_headers.specs.Os.{os_parts};
@@ -15,16 +15,16 @@ use abt_io::Output;
 use cmd_common_fields::front_text;
 use sys_text::Text;
 
-/// What stands between words.
+/// What separates arguments.
 #[derive(Clone, Copy)]
 pub enum Ending {
     /// A blank; the last word ends the line. Words are quoted.
     Blank,
-    /// Behind each word a zero byte.
+    /// A zero byte after each argument.
     Zero,
 }
 
-// Adds what stands before a word that is not the first.
+// Adds what comes before an argument that is not the first.
 fn begin_word<O: Output>(ending: Ending, text: &mut Text<'_, O>)
     ensures { Prints O.written O.write_faults text.old text.new (spec.before_word ending) }
 {
@@ -34,7 +34,7 @@ fn begin_word<O: Output>(ending: Ending, text: &mut Text<'_, O>)
     }
 }
 
-// Adds what stands behind a word.
+// Adds what follows an argument.
 fn end_word<O: Output>(ending: Ending, text: &mut Text<'_, O>)
     ensures { Prints O.written O.write_faults text.old text.new (spec.behind_word ending) }
 {
@@ -44,7 +44,7 @@ fn end_word<O: Output>(ending: Ending, text: &mut Text<'_, O>)
     }
 }
 
-/// Adds what stands behind all words.
+/// Adds what follows all arguments.
 pub(crate) fn end_words<O: Output>(ending: Ending, text: &mut Text<'_, O>)
     ensures { Prints O.written O.write_faults text.old text.new (spec.behind_words ending) }
 {
@@ -279,14 +279,14 @@ fn path_word<'a>(folder: &'a str, file: &'a str, number: &'a str) -> Word<'a>
     }
 }
 
-// What stands between a folder and a name.
+// What separates a folder from a name.
 fn slash_behind(folder: &str) -> &'static str
     ensures { result.now ≡ spec.slash_behind folder.now }
 {
     if is_ended(folder.as_bytes()) { "" } else { "/" }
 }
 
-// No slash is wanted behind it.
+// Whether no slash is needed after it.
 fn is_ended(folder: &[u8]) -> bool
     ensures { result ≡ spec.is_ended folder.now }
 {

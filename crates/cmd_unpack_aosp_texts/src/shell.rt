@@ -1,4 +1,4 @@
-//! Words as a shell reads them.
+//! Quoting an argument for a shell.
 
 ghost use Rattle.std.specs.Prelude.{◌≡◌, ◌++◌, ◌&&◌};
 ghost use Rattle.std.specs.List.{flat_map};
@@ -10,7 +10,7 @@ ghost use Rattle.cmd_unpack_aosp_texts.specs.Shell.{shell_quoted};
 use abt_io::Output;
 use sys_text::Text;
 
-/// A word in four parts, one behind the other.
+/// An argument in four parts, one after the other.
 #[derive(Clone, Copy)]
 pub(crate) struct Word<'a> {
     pub front: &'a [u8],
@@ -69,7 +69,7 @@ impl<'a> Word<'a> {
         text.put(self.end);
     }
 
-    // Adds it between quotes, where a quote stands outside of them.
+    // Adds it between quotes. A quote within it is written outside of the quotes.
     fn put_between<O: Output>(&self, text: &mut Text<'_, O>)
         ensures { Prints O.written O.write_faults text.old text.new (between_quotes (word_bytes self.now)) }
     {

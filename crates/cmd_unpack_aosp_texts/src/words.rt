@@ -1,4 +1,4 @@
-//! The words of mkbootimg that make an image again.
+//! The arguments of mkbootimg that make an image again.
 
 ghost use Rattle.std.specs.Prelude.{◌≡◌, codes};
 ghost use Rattle.abt_headers.specs.declared.boot.BootHeader.TheVariants.{V0, V1, V2};
@@ -276,7 +276,7 @@ pub(crate) fn board_word<O: Output>(place: u32, number: u32, ending: Ending, tex
     put_board_option(place, number, ending, text);
 }
 
-/// Adds the word of a fragment's file, which is behind its other words.
+/// Adds the argument of a fragment's file, which comes after its other arguments.
 pub(crate) fn entry_file<O: Output>(
     index: u32,
     folder: &str,
