@@ -1,4 +1,4 @@
--- Which words of `--board-id` are wrong.
+-- Which arguments of `--board-id` are wrong.
 use Rattle.std.specs.Prelude.{◌<◌, ℕ, List, Contains}
 use Rattle.cmd_common_fields.specs.Board.{BoardFits, IsBoardWord}
 use Rattle.cmd_common_fields.specs.declared.board_word.BoardWord.{BoardWord}

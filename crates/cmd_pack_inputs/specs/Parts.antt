@@ -1,4 +1,4 @@
--- What an image is packed from: the files that the words name, and else what an image has of its own.
+-- The inputs from which an image is packed: the files that the arguments name, and else the image's own data.
 use Rattle.std.specs.Prelude.{◌≡◌, ℕ, List, [], ◌∷◌, ◌++◌, Option, Some, None, Contains}
 use Rattle.abt_headers.specs.declared.sections.Section.{Section}
 use Rattle.abt_sections.specs.declared.spec.FragmentSpec.{FragmentSpec}
@@ -26,7 +26,7 @@ ArePartsOf world options own (section ∷ sections) (part ∷ parts) =
     IsPartBy world (found options (option_of section)) (own section) part
     × ArePartsOf world options own sections parts
 
--- what a FRAGMENT says, and what its file holds
+-- what a FRAGMENT describes, and what its file holds
 pub record IsFragmentOf (world : World) (text : FragmentText) (spec : FragmentSpec) (ramdisk : List ℕ) : Type 0 where
   pub said : text.spec ≡ Some spec
   pub holds : FileHolds world text.path.items ramdisk

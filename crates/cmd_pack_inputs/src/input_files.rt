@@ -1,4 +1,4 @@
-//! The files of a command, as its words name them.
+//! The files of a command, as its arguments name them.
 
 ghost use Rattle.std.specs.Prelude.{◌≡◌};
 ghost use Rattle.sys_refusals.specs.Paths.{output_path, path_of, path_out};

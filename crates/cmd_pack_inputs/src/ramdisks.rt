@@ -1,4 +1,4 @@
-//! The ramdisk fragments of a vendor boot image, each open to be read.
+//! The ramdisk fragments of a vendor boot image, each open for reading.
 
 ghost use Rattle.std.specs.Prelude.{◌≡◌, ◌++◌, ◌∷◌, [], IsSome, IsTrue, IfErr, IfOk, length, map};
 ghost use Rattle.std.specs.List.{All};
@@ -79,7 +79,7 @@ impl<'a, S: Source + Lasting + Drop> Ramdisks<'a, S> {
     }
 }
 
-/// Opens the files that were given, in order.
+/// Opens the given files, in order.
 pub fn open_fragments<'a, D: Disk>(
     disk: &mut D,
     alloc: Global,
