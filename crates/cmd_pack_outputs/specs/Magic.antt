@@ -1,4 +1,4 @@
--- What an image that was broken off leaves in its file.
+-- What a partial image leaves in its file.
 use Rattle.std.specs.Prelude.{◌≡◌, ◌<◌, ℕ, List, length, slice_index}
 use Rattle.abt_sections.specs.Broken.{OpensAsNothing}
 
