@@ -18,8 +18,8 @@ use Rattle.cmd_pack_outputs.specs.Lines.{image_line, counted_in_u64}
 use Rattle.cmd_pack_inputs.specs.Parts.{ArePartsOf, AreFragmentsOf, IsGivenPath}
 use Rattle.cmd_pack_outputs.specs.Writing.{HoldsNoPartOf}
 
--- These are packed for an image of a kind that has these fields: its parts, by the options, its ramdisk fragments, and
--- the board ids that the words set. An image of its own may have parts, `own`, and fragments, `Fragments`.
+-- These are packed for an image of a kind that has these fields: its parts, by the options, its ramdisk fragments,
+-- and the board ids that the arguments set. The image may have parts of its own, `own`, and fragments, `Fragments`.
 pub record ArePacked (world : World) (texts : PackTexts) (words : List (List ℕ)) (own : Section → List ℕ → Type 0)
     (Fragments : List FragmentSpec → List (List ℕ) → Type 0) (kind : ImageKind) (given : BootFields) (p : Packing)
     : Type 0 where
@@ -38,7 +38,7 @@ asked_kind command = kind_for command.is_vendor command.version
 abbrev pub board_id_words : PackCommand → List (List ℕ)
 board_id_words command = map (λ word. word.now) command.board_ids.items
 
--- nothing stands in a section that no file was given for
+-- a section for which no file was given has no bytes
 abbrev pub nothing : Section → List ℕ → Type 0
 nothing section bytes = bytes ≡ []
 

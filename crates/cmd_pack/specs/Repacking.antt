@@ -33,12 +33,12 @@ pub record AreOwnFragments (x : List ℕ) (h : Header) (said : List FragmentSpec
     pub specs : said ≡ map said_of (entries_to x h (fragment_count h))
     pub bytes : ramdisks ≡ map (fragment_bytes x h) (entries_to x h (fragment_count h))
 
--- the fragments that were given, and where none was, those of the image
+-- the given fragments, and where none was given, those of the image
 abbrev pub AreFragmentsAgain : World → List FragmentText → List ℕ → Header → List FragmentSpec → List (List ℕ) → Type 0
 AreFragmentsAgain world [] x h said ramdisks = AreOwnFragments x h said ramdisks
 AreFragmentsAgain world (text ∷ texts) x h said ramdisks = AreFragmentsOf world (text ∷ texts) said ramdisks
 
--- what the words ask for, and what the image x has where they give nothing
+-- what the arguments describe, and what the image x has where they give nothing
 abbrev pub AreAskedAgain : PackCommand → World → List ℕ → Header → BootFields → Packing → Type 0
 AreAskedAgain command world x h given p = ArePacked world command.texts (board_id_words command) (StandsIn x h)
     (AreFragmentsAgain world command.texts.fragments.items x h) (kind_of h) given p
@@ -52,8 +52,8 @@ pub record BeginsWith (input : List ℕ) (world : World) (x : List ℕ) (h : Hea
   pub file : FileHolds world input x
   pub has : HasImage x h
 
--- the image of IN's kind: of the fields, parts and fragments that the words give, and else of its own; and behind it
--- what stands behind IN's, where that is kept
+-- the image of IN's kind: from the given fields, parts and fragments, and else IN's own; and after it the bytes after
+-- IN's image, where they are kept
 pub record IsPackedAgain (command : PackCommand) (x : List ℕ) (h : Header) (world : World) (bytes : List ℕ) : Type 0
   where
     pub given : BootFields
@@ -101,7 +101,7 @@ pub record RepacksFile (input : List ℕ) (command : PackCommand) (old new : Wor
 abbrev pub HasNote : Report → Report → Type 0
 HasNote old new = IsNoted old new × ((note : List ℕ) × (new.err.log.state.bytes ≡ old.err.log.state.bytes ++ note))
 
--- this went out beside an output, and maybe a note behind it
+-- this was printed beside an output, and maybe a note after it
 pub record ShowsFirst (is_on_output : Bool) (old new : Report) (told : List ℕ) : Type 0 where
   pub between : Report
   pub line : ShowsBeside is_on_output old between told
@@ -126,8 +126,8 @@ pub record KeepsRead (input : List ℕ) (command : PackCommand) (old new : World
 
 -- ---- on the way
 
--- an image was opened that is packed again, whose kind is this: the fragments that are given are taken by that, and
--- where none is given, all entries of the image's table are kept
+-- an image that is packed again was opened, whose kind is this: that kind takes the given fragments, and where none
+-- is given, all entries of the image's table are kept
 pub record IsAtHand {S : Type 0} (models : Bool) (content : S → List ℕ) (own : Own S) (kept : OwnData)
     (texts : PackTexts)
     (its_kind : ImageKind) : Type 0 where
