@@ -1,8 +1,8 @@
-//! The bytes and the numbers that calls are made with, the same at each run.
+//! The bytes and the numbers of the calls, the same in each run.
 
 use std::alloc::Global;
 
-/// Gives numbers one after another that are as good as random.
+/// Generates numbers that are as good as random.
 #[derive(Drop)]
 pub(crate) struct Random {
     state: u64,
