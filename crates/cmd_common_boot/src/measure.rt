@@ -13,7 +13,7 @@ pub struct Measure {
 }
 
 impl Measure {
-    /// Of a part of so many bytes.
+    /// Of a part of this many bytes.
     pub fn new(size: u64) -> Measure
         ensures { result.size ≡ size }
     {

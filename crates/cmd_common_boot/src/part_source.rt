@@ -62,7 +62,7 @@ impl<'a, S: Source + Lasting> PartSource<'a, S> {
         }
     }
 
-    /// So many bytes of a file from a place on, which it has.
+    /// This many bytes of a file from a position on, all of which it has.
     pub fn range(file: S, place: FileArg<'a>, at: u64, size: u64) -> PartSource<'a, S>
         requires { IsTrue S.models → at + size ≤ length (S.content file) }
         ensures file { result.file ≡ Some file }

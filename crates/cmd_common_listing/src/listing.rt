@@ -84,7 +84,7 @@ fn lines<I: Input, O: Output>(
     chunk_lines(&mut chunks, header.total_chunks, input, text, w, m)
 }
 
-// The lines of the chunks that are still to come, of which there are at most so many.
+// The lines of the remaining chunks, of which there are at most this many.
 fn chunk_lines<I: Input, O: Output>(
     chunks: &mut Chunks,
     most: u32,

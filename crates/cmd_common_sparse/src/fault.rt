@@ -170,7 +170,7 @@ fn side_of_number(number: u32) -> Side
     }
 }
 
-// Of a limit that is less than so many bytes.
+// Of a limit that is less than this many bytes.
 fn advice_of_limit(least: u64) -> &'static str {
     if least <= u32::MAX as u64 {
         "give a LIMIT of so many bytes"

@@ -52,12 +52,12 @@ pub record IsSparseOf (size : ℕ) (blocks : List Block) (x : List ℕ) : Type 0
   pub sized : size ≡ header.blk_sz
   pub holds : blocks ≡ classed chunks
 
--- x is an image of these blocks of so many bytes: a sparse one, or a raw one in such blocks
+-- x is an image of these blocks of this many bytes: a sparse one, or a raw one in such blocks
 abbrev pub IsImageOfBlocks : Option ℕ → ℕ → List Block → List ℕ → Type 0
 IsImageOfBlocks None size blocks x = IsSparseOf size blocks x
 IsImageOfBlocks (Some n) size blocks x = (size ≡ n) × IsRawBlockSize n × (blocks ≡ classify n x)
 
--- the pieces of an image of these blocks of so many bytes, for a limit
+-- the pieces of an image of these blocks of this many bytes, for a limit
 abbrev pub cut_into : ℕ → ℕ → List Block → List (List ℕ)
 cut_into limit size blocks = pieces limit size blocks
 
@@ -255,7 +255,7 @@ HasNoCut None (of_runs.Sparse f) x = (given : List (Option ℕ)) × Fails x f gi
 HasNoCut None f x = ⊥
 HasNoCut (Some size) f x = RefusedRaw f size (length x)
 
--- the blocks of x have so many bytes
+-- the blocks of x have this many bytes
 abbrev pub HasBlocksOf : Option ℕ → ℕ → List ℕ → Type 0
 HasBlocksOf None size x = (blocks : List Block) × IsSparseOf size blocks x
 HasBlocksOf (Some n) size x = size ≡ n

@@ -118,7 +118,7 @@ pub record GivesUp (faults : ℕ) (held held' : OpenFiles) (old new : World) : T
   pub least : faults ≤ failures
   pub rest : SparesRest held.output old new
 
--- a raw image of so many bytes can be written in these blocks
+-- a raw image of this many bytes can be written in these blocks
 pub record FitsBlocks (blocks : Blocks) (bytes : ℕ) : Type 0 where
   pub sized : IsRawBlockSize blocks.size
   pub most : blocks.most ≡ most_of blocks.size

@@ -78,7 +78,7 @@ pub fn cut_file<'a, D: Disk>(
     }
 }
 
-// The same of a raw image that is open, in blocks of so many bytes.
+// The same for an open raw image, in blocks of this many bytes.
 fn cut_raw<'a, D: Disk>(
     disk: &mut D,
     report: &mut Report,

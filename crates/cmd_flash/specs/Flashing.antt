@@ -50,7 +50,7 @@ pub record HasNoRoom (need : ℕ) (x p p' : List ℕ) : Type 0 where
 abbrev pub IsFlashedInPart : List ℕ → List ℕ → List ℕ → Type 0
 IsFlashedInPart x p p' = HoldsBut (writes (given (outcome x))) p p'
 
--- it is flashed, as so many blocks
+-- it is flashed, as this many blocks
 abbrev pub IsFlashedWhole : List ℕ → List ℕ → List ℕ → Type 0
 IsFlashedWhole x p p' = (blocks : ℕ) × IsFlashed blocks x p p'
 

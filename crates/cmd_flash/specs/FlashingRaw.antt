@@ -33,7 +33,7 @@ pub record HasNoRoomRaw (need b : ℕ) (x p p' : List ℕ) : Type 0 where
   pub short : length p < need
   pub kept : p' ≡ p
 
--- it is flashed, as so many blocks
+-- it is flashed, as this many blocks
 abbrev pub IsFlashedWholeRaw : ℕ → List ℕ → List ℕ → List ℕ → Type 0
 IsFlashedWholeRaw b x p p' = (blocks : ℕ) × IsFlashedRaw blocks b x p p'
 

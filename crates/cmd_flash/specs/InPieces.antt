@@ -26,7 +26,7 @@ abbrev pub image_as : Option ℕ → List ℕ → ImageBlocks
 image_as None x = sparse_image x
 image_as (Some size) x = raw_image size x
 
--- they are one, the limit has room for each of its blocks, and so many bytes for all
+-- they are an image, the limit has room for each of its blocks, and this many bytes have room for all
 abbrev pub IsWhole : Option ℕ → List ℕ → ℕ → ℕ → Type 0
 IsWhole None x limit room = Fits x limit room
 IsWhole (Some size) x limit room = IsAllowed size x (length x) limit room true

@@ -66,7 +66,7 @@ fn lay_source<S: Source, P: Partition>(
     Ok(())
 }
 
-// Reads at most so many bytes at a place, by one read, and writes what came to the same place. How many they were.
+// Reads at most this many bytes at a position, by one read, and writes them to the same position. Returns their number.
 fn lay_step<S: Source, P: Partition>(
     source: &mut S,
     at: u64,

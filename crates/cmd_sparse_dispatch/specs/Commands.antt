@@ -62,14 +62,14 @@ abbrev pub ListsImage : List ℕ → State → State → Type 0
 ListsImage input a z = OfFile (image_path input) a.world (λ x. IsListed x (λ text.
     z.report.out.log.state.bytes ≡ a.report.out.log.state.bytes ++ text))
 
--- a raw image is written as a sparse one, in blocks of so many bytes
+-- a raw image is written as a sparse one, in blocks of this many bytes
 abbrev pub Sparsifies : (List ℕ → Bool) → List ℕ → List ℕ → ℕ → State → State → Type 0
 Sparsifies on_output input output block a z =
     SparsifiesFile input (output_path output) block a.world z.world
     (ShowsBeside (on_output (output_path output)) a.report z.report)
     × SyncsOutputs (one_if_wanted a) a z
 
--- an image is cut into pieces of at most so many bytes
+-- an image is cut into pieces of at most this many bytes
 abbrev pub Cuts : List ℕ → ℕ → Naming → Option ℕ → State → State → Type 0
 Cuts input limit names raw a z =
     CutsFile raw limit input names a.held z.held a.world z.world (ShowsCut names limit z.world a.report z.report)

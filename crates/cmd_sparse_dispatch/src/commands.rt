@@ -154,7 +154,7 @@ pub(crate) fn list_image<'a, D: Disk>(
     list_file(disk, report, place("IN", input), w, m)
 }
 
-/// Flashes a sparse image straight to a partition, or a raw one in blocks of so many bytes.
+/// Flashes a sparse image straight to a partition, or a raw one in blocks of this many bytes.
 #[inline(never)]
 pub(crate) fn flash_straight<'a, D: Disk>(
     disk: &mut D,

@@ -90,7 +90,7 @@ abbrev pub WordsDone : List ℕ → Header → List ℕ → OpenFiles → World 
 WordsDone folder h x held world =
     IsMade held world (path_of_part folder parts.Words) (words_text (image_words folder x h))
 
--- so many outputs more were synced, where outputs are
+-- this many outputs more were synced, where outputs are synced
 pub record SyncsMore (n : ℕ) (old new : OpenFiles) : Type 0 where
   pub wanted : new.is_synced ≡ old.is_synced
   pub added : new.syncs ≡ old.syncs + (if old.is_synced then n else 0)

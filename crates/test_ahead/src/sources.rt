@@ -30,7 +30,7 @@ fn image(alloc: Global, count: usize) -> Vec<u8> {
     made
 }
 
-// So many bytes of these from a place on, as far as they go.
+// This many bytes of these from a position on, as far as they go.
 fn part(bytes: &[u8], from: u64, count: usize) -> &[u8] {
     let from = from.min(bytes.len() as u64) as usize;
     let count = count.min(bytes.len() - from);

@@ -41,7 +41,7 @@ fn disk(alloc: Global, faults: Faults) -> Option<MemoryDisk>
     made::disk(alloc, &PATHS, &[&RAW, &OLD], true, faults)
 }
 
-// Whether a run writes an image, in blocks of so many bytes.
+// Whether a run writes an image, in blocks of this many bytes.
 fn run(rt: HostRuntime, disk: &mut MemoryDisk, output: &str, block: u32) -> bool
     requires { IsReading (held_of disk.old) }
 {

@@ -69,7 +69,7 @@ fn stand(pieces: u32, cells: &[u8; 16]) -> bool {
     }
 }
 
-/// Whether the delivery in which call `n` of a device fails ends as it should, where the device has so many calls.
+/// Whether the delivery in which call `n` of a device fails ends as it should, where the device has `calls` calls.
 fn is_right(failing: Device, n: u64, calls: u64) -> bool {
     let mut cells = [b'.'; 16];
     let (answer, seen) = delivered(failing, n, &mut cells);

@@ -52,7 +52,7 @@ impl Laid {
     }
 }
 
-/// Feeds an image in pieces of at most so many bytes: the fault that ended it, how many bytes were used, and what came.
+/// Feeds an image in pieces of at most `most` bytes: the fault that ended it, how many bytes were used, and what came.
 fn fed(image: &[u8], most: usize) -> (Option<SparseFault>, usize, Laid) {
     let mut laid = Laid {
         room: [b'.'; 14],

@@ -6,7 +6,7 @@ use std::io;
 use sys_file::SystemFile;
 use sys_outputs::{HeldFile, HoleFile};
 
-/// One call of an output, of so many bytes.
+/// One call of an output, of this many bytes.
 #[derive(Clone, Copy, Drop)]
 pub(crate) enum Call {
     /// Bytes of which none is zero.
@@ -14,7 +14,7 @@ pub(crate) enum Call {
     Zeros(usize),
     /// Zeros that are written at once, where that is possible.
     Hole(u64),
-    /// From so many bytes before the end on.
+    /// From this many bytes before the end on.
     Over(usize, usize),
     Settle,
 }

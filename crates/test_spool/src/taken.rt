@@ -5,11 +5,11 @@ use std::alloc::Global;
 use sys_devices::GatheringSpool;
 use sys_file::SystemFile;
 
-/// One call of a spool, of so many bytes.
+/// One call of a spool, of this many bytes.
 #[derive(Clone, Copy, Drop)]
 pub(crate) enum Call {
     Write(usize),
-    /// From so many bytes before the end on.
+    /// From this many bytes before the end on.
     Over(usize, usize),
     Read(usize),
     Settle,
@@ -121,7 +121,7 @@ impl Taken {
     }
 }
 
-/// The first bytes, so many or as many as there are.
+/// The first bytes, this many or as many as there are.
 pub(crate) fn front(bytes: &[u8], count: usize) -> &[u8] {
     &bytes[..count.min(bytes.len())]
 }
