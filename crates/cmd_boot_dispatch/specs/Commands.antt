@@ -32,7 +32,7 @@ IsKindOf (tasks.Info input with_check with_hex) (kinds.Info from check hex) =
     (from.now ≡ input.now) × (check ≡ with_check) × (hex ≡ with_hex)
 IsKindOf task kind = ⊥
 
--- one output more was synced, where that is wanted
+-- one output more was synced, where that is requested
 abbrev pub SyncsOne : OpenFiles → OpenFiles → Type 0
 SyncsOne old new = new.syncs ≡ old.syncs + (if old.is_synced then 1 else 0)
 
@@ -63,7 +63,7 @@ SparesKind (kinds.Unpack input folder with_words) world held world' held' =
     × KeepsFile input.now world world'
 SparesKind (kinds.Info input with_check with_hex) world held world' held' = world' ≡ world
 
--- OUT of these is no image unless all of it is there, where it can be written over
+-- OUT of these has no part of an image, where it can be overwritten
 abbrev pub LeavesNoPartOfBoot : (List ℕ → Bool) → Kind → World → World → Type 0
 LeavesNoPartOfBoot over (kinds.Pack command) world world' =
     IsTrue (over (output_path command.output.now)) → HoldsNoPart command world world'

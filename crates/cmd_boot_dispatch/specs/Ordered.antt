@@ -19,7 +19,7 @@ bytes_for is_escaped word = if is_escaped then unescaped word else word
 
 -- ---- options
 
--- an option that has a word: its row and the name there, the word with its number, and the bytes
+-- an option that has an argument: its row and the name there, the argument with its number, and the bytes
 pub record OptionWord : Type 0 where
   pub row : Row
   pub name : List ℕ
@@ -27,7 +27,7 @@ pub record OptionWord : Type 0 where
   pub number : ℕ
   pub bytes : List ℕ
 
--- an option of the order, where it has a word; and all of them
+-- an option of the order, where it has an argument; and all of them
 abbrev pub ordered_option : Bool → Given → Option OptionWord
 ordered_option is_escaped given = option_map (λ word. record {
   row = given.row.now;
@@ -75,7 +75,7 @@ IsFragmentOfWord is_escaped word None bytes = SaysNone is_escaped word
 IsFragmentOfWord is_escaped word (Some spec) bytes =
     (path : List ℕ) × WordSaysFragment is_escaped word spec path × (bytes ≡ bytes_for is_escaped path)
 
--- the same of a fragment of the command
+-- the same for a fragment of the command
 abbrev pub IsOfItsWord : Bool → FragmentText → Type 0
 IsOfItsWord is_escaped text = IsFragmentOfWord is_escaped text.word.now text.spec text.path.items
 

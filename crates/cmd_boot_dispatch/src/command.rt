@@ -80,7 +80,7 @@ impl<'a> BootCommand<'a> {
     }
 }
 
-/// Does what a command asks for.
+/// Runs a command.
 pub fn boot_command<'t, 'a, D: Disk>(
     disk: &mut D,
     report: &mut Report,
@@ -89,10 +89,11 @@ pub fn boot_command<'t, 'a, D: Disk>(
     m: &mut Meter,
 ) -> BootOutcome<'t, 'a>
     requires first { IsTrue D.models → IsReading (D.held disk.old) }
-    // it is done, by its own body, at the files that its words name
+    // it is done by its own body, on the files that its arguments name
     ensures done { IsTrue D.models → OnOk result (DoesKind D.on_output command.now.kind (D.world disk.old)
         (D.held disk.old) report.old (D.world disk.new) (D.held disk.new) report.new) }
-    // whatever the outcome, what it reads holds what it held, and none has changed but what it is to write
+    // whatever the outcome, the files that it reads hold what they held, and only those that it is to write may have
+    // changed
     ensures spares { IsTrue D.models → SparesKind command.now.kind (D.world disk.old) (D.held disk.old)
         (D.world disk.new) (D.held disk.new) }
     ensures whole { IsTrue D.models
@@ -121,7 +122,7 @@ pub fn boot_command<'t, 'a, D: Disk>(
     }
 }
 
-// The file at a word, where `-` is a file of that name.
+// The file that an argument names, where `-` is a file of that name.
 fn input_at<'a>(word: &'a str) -> FileArg<'a>
     ensures { path_of result ≡ word.now }
 {

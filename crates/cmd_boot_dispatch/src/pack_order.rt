@@ -43,7 +43,7 @@ pub(crate) fn command_of<'a>(
     })
 }
 
-// The options that have a word.
+// The options that have an argument.
 fn options_of<'a>(
     alloc: Global,
     given: &[Given<'a>],
@@ -62,7 +62,7 @@ fn options_of<'a>(
     Ok(options)
 }
 
-// An option that has this word.
+// An option that has this argument.
 fn option_of<'a>(
     alloc: Global,
     given: Given<'a>,

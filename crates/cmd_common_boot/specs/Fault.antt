@@ -8,7 +8,7 @@ use Rattle.cmd_common_boot.specs.Refused.{IsOfMoving}
 use Rattle.cmd_common_boot.specs.declared.fault.BootCommandFault.{BootCommandFault}
 use Rattle.cmd_common_boot.specs.declared.fault.BootCommandFault.TheVariants as faults
 
--- the words are wrong, rather than what they name
+-- the arguments are wrong, rather than what they name
 abbrev pub is_usage : BootCommandFault → Bool
 is_usage (faults.Host fault) = is_not_text fault
 is_usage (faults.Section fault) = false

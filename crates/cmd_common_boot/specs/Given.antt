@@ -41,7 +41,7 @@ abbrev pub has_offset : List OptionText → Bool
 has_offset options =
     list_any (λ which. is_some (found options (offset_option which))) (Kernel ∷ Ramdisk ∷ Second ∷ Tags ∷ Dtb ∷ [])
 
--- what the options say of an address
+-- what the options set of an address
 abbrev pub words_for : List OptionText → Address → AddressWords
 words_for options which = record {
   address = number_in options (address_option which);
@@ -100,7 +100,7 @@ address_in s Second = s.second_addr
 address_in s Tags = s.tags_addr
 address_in s Dtb = s.dtb_addr
 
--- these fields are of this kind and what the options say, and else its own
+-- these fields are of this kind; they are those that the options set, and else the image's own
 pub record AreGiven (own : BootFields) (kind : ImageKind) (page : Option ℕ) (options : List OptionText)
     (fields : BootFields) : Type 0 where
   pub version : fields.version ≡ version_of kind

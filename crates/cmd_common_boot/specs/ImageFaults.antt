@@ -41,7 +41,7 @@ IsRefusalOf x failed unprinted faults.CheckFailed = ⊥
 pub record IsRefusedOver (x : List ℕ) (failed unprinted : Type 0) (fault : BootCommandFault) : Type 0 where
   pub refuses : IsRefusalOf x failed unprinted fault
 
--- the same of what the file at this path holds
+-- the same for what the file at this path holds
 abbrev pub RefusesImage : List ℕ → World → Type 0 → Type 0 → BootCommandFault → Type 0
 RefusesImage path world failed unprinted (faults.Host f) = failed ⊎ unprinted
 RefusesImage path world failed unprinted (faults.Section f) =

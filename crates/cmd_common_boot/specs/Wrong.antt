@@ -46,7 +46,7 @@ abbrev pub word_or : Option OptionText → List ℕ → List ℕ
 word_or (Some option) word = option.word.now
 word_or None word = word
 
--- the word that an address is counted from: its own, or else that of its offset, or else of the base
+-- the argument from which an address comes: its own, or else that of its offset, or else that of the base
 abbrev pub told_word : List OptionText → Address → List ℕ
 told_word options which = word_or (found options (address_option which))
     (word_or (found options (offset_option which)) (word_or (found options (codes "base")) []))
@@ -59,13 +59,13 @@ pub record SaysAddress {E : Type 0} (r : Result ℕ E) (word : E → List ℕ) (
   pub no_room : IfErr r (λ e. address_for options which own ≡ None)
   pub told : IfErr r (λ e. word e ≡ told_word options which)
 
--- a header has no room for an address that this word is of
+-- an address from this argument exceeds its field of the header
 pub record IsBadAddress (own : BootFields) (options : List OptionText) (word : List ℕ) : Type 0 where
   pub which : Address
   pub no_room : address_for options which (address_in own which) ≡ None
   pub told : word ≡ told_word options which
 
--- the number of `--os-number`, which is this word, has more than 32 bits
+-- the number of `--os-number`, which is this argument, has more than 32 bits
 pub record IsBadOsNumber (options : List OptionText) (word : List ℕ) : Type 0 where
   pub option : OptionText
   pub is : found options (codes "os-number") ≡ Some option

@@ -16,21 +16,21 @@ use sys_text::{ShownPath, Text};
 pub enum BootCommandFault<'a> {
     /// Of files, whatever they hold.
     Host(HostFault),
-    /// Of an image, or of the devices that it is read from and written to.
+    /// A fault of an image, or of the devices from which it is read and to which it is written.
     Section(SectionFault),
     /// An image of this kind and version doesn't carry this option.
     OptionNotCarried(&'static str),
-    /// This word is no FRAGMENT, or the image has no fragments.
+    /// This argument is no FRAGMENT, or the image has no fragments.
     BadFragment(&'a str),
-    /// This number has no room where it is used.
+    /// This number exceeds the field where it is used.
     BadNumber(&'a str),
-    /// This word is no `I:K=N` of `--board-id`, or there is no fragment I.
+    /// This argument is no `I:K=N` of `--board-id`, or there is no fragment I.
     BadBoardId(&'a str),
     /// One of the answers of a check is no.
     CheckFailed,
 }
 
-/// How a command over boot images ended: the files that it is about are named at `'t`, and its words at `'a`.
+/// The result of a command of boot images: the files that it concerns live for `'t`, and its arguments for `'a`.
 pub type BootOutcome<'t, 'a> = Result<(), Refusal<'t, BootCommandFault<'a>>>;
 
 impl From<HostFault> for BootCommandFault<'_> {
@@ -150,7 +150,7 @@ impl Told for BootCommandFault<'_> {
     }
 }
 
-// Adds what is wrong, and the word that it is about, as a terminal can show it.
+// Adds what is wrong, and the argument that it concerns, as a terminal can show it.
 fn put_about<O: Output>(wrong: &str, word: &str, text: &mut Text<'_, O>)
     ensures { (told : List ℕ) × Prints O.written O.write_faults text.old text.new told }
 {

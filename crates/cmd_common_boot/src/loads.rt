@@ -78,21 +78,21 @@ fn long_address<'a>(texts: &PackTexts<'a>, which: Address, own: u64) -> Result<u
     }
 }
 
-/// Whether the words give the ramdisk an address that is counted from a base.
+/// Whether the arguments give the ramdisk an address that is counted from a base.
 pub fn counts_ramdisk(texts: &PackTexts<'_>) -> bool
     ensures { result ≡ loading.is_sum (words_for texts.now.options.items addresses.Ramdisk) }
 {
     is_sum(words_of(texts, Address::Ramdisk))
 }
 
-/// The same of the second stage.
+/// The same for the second stage.
 pub fn counts_second(texts: &PackTexts<'_>) -> bool
     ensures { result ≡ loading.is_sum (words_for texts.now.options.items addresses.Second) }
 {
     is_sum(words_of(texts, Address::Second))
 }
 
-// What the words say of an address.
+// What the arguments set of an address.
 fn words_of(texts: &PackTexts<'_>, which: Address) -> AddressWords
     ensures { result ≡ words_for texts.now.options.items which }
 {
@@ -114,7 +114,7 @@ fn has_offset(texts: &PackTexts<'_>) -> bool
         || texts.has("dtb-offset")
 }
 
-// The word that has no room: the address, the offset or the base.
+// The argument that exceeds its field: the address, the offset or the base.
 fn told_word<'a>(texts: &PackTexts<'a>, which: Address) -> &'a str
     ensures { result.now ≡ told_word texts.now.options.items which }
 {

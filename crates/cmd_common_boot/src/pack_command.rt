@@ -30,7 +30,7 @@ pub struct PackCommand<'a> {
     pub keeps_trailing: bool,
 }
 
-/// The kind of image that the words ask for, and its fields.
+/// The kind of image that the arguments describe, and its fields.
 pub fn judge_words<'t, 'a>(
     command: &'t PackCommand<'a>,
 ) -> Result<(ImageKind, BootSpec<'t>), BootCommandFault<'a>>

@@ -17,7 +17,7 @@ pub struct OptionText<'a> {
     /// Its row in the table of the command line, and the name that it has there.
     pub row: &'static Row,
     pub name: &'static str,
-    /// The word, as it is written.
+    /// The argument, as it is written.
     pub word: &'a str,
     /// The number that it writes, of an option that is one.
     pub number: u64,
@@ -40,7 +40,7 @@ impl OptionText<'_> {
 /// A ramdisk fragment that was given.
 #[derive(Drop)]
 pub struct FragmentText<'a> {
-    /// The word, as it is written.
+    /// The argument, as it is written.
     pub word: &'a str,
     /// The entry of the fragment that it describes, where it has the form TYPE:NAME:FILE.
     pub spec: Option<FragmentSpec>,
@@ -49,7 +49,7 @@ pub struct FragmentText<'a> {
 }
 
 impl FragmentText<'_> {
-    // Whether its word is one, and an image of this kind has fragments.
+    // Whether its argument is valid, and an image of this kind has fragments.
     fn is_taken_by(&self, kind: ImageKind) -> bool
         ensures { IsTrue result ↔ IsTaken kind self.now }
     {
@@ -134,7 +134,7 @@ impl<'a> PackTexts<'a> {
         None
     }
 
-    // The word of the first fragment that an image of this kind doesn't take.
+    // The argument of the first fragment that an image of this kind doesn't take.
     fn not_taken(&self, kind: ImageKind) -> Option<&'a str>
         ensures { MatchOption result (All (IsTaken kind) self.now.fragments.items)
             (λ word. IsBadFragment kind self.now.fragments.items word.now) }

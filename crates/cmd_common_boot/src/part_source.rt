@@ -17,7 +17,7 @@ pub struct PartSource<'a, S: Source + Lasting> {
     pub at: u64,
     /// How many bytes it has.
     pub size: u64,
-    /// The file that it is all of, or a range of.
+    /// The file of which it is all, or a range.
     pub place: Option<FileArg<'a>>,
     is_whole: bool,
     has_failed: bool,

@@ -34,7 +34,7 @@ pub record IsFragment (word : List ℕ) (spec : FragmentSpec) (path : List ℕ) 
   pub named : spec.name ≡ filled 32 name
   pub no_board : spec.board_id ≡ replicate 16 0
 
--- what TYPE and the bytes of a name say of a fragment
+-- the fragment of TYPE and the bytes of a name
 pub record IsOfParts (kind name : List ℕ) (spec : FragmentSpec) : Type 0 where
   pub number : type_number kind ≡ Some spec.kind
   pub short : length name ≤ 32

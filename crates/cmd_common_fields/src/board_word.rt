@@ -6,7 +6,7 @@ ghost use Rattle.cmd_common_fields.specs.Board.{IsBoardWord, BoardFits};
 
 use crate::os_word::number;
 
-/// A word `I:K=N`: number K of the board id of fragment I is N.
+/// An argument `I:K=N`: number K of the board id of fragment I is N.
 #[derive(Clone, Copy)]
 pub struct BoardWord {
     /// The fragment, counted from 0.

@@ -60,7 +60,7 @@ impl<'a> FragmentWord<'a> {
     }
 }
 
-// What a TYPE and the bytes of a name say of a fragment.
+// The fragment of a TYPE and the bytes of a name.
 fn fragment_spec(kind: &str, name: &[u8]) -> Option<FragmentSpec>
     ensures value { IfSome result (IsOfParts kind.now name.now) }
     ensures accepts { (spec : FragmentSpec) → IsOfParts kind.now name.now spec → result ≡ Some spec }

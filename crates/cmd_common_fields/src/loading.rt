@@ -63,7 +63,7 @@ impl Address {
     }
 }
 
-/// What the words say of an address.
+/// What the arguments set of an address.
 #[derive(Clone, Copy, Drop)]
 pub struct AddressWords {
     /// The address itself.

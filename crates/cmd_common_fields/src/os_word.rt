@@ -22,7 +22,7 @@ pub fn os_from_word(word: &str) -> Result<OsVersion, HeaderFault>
     }
 }
 
-// The numbers of a word of this shape.
+// The numbers of an argument of this format.
 fn parts_of(word: &str) -> Option<OsParts>
     ensures value { IfSome result (λ os. IsOsWord word.now os) }
     ensures accepts { (os : OsParts) → IsOsWord word.now os → IsOsVersion os → result ≡ Some os }

@@ -65,7 +65,7 @@ pub(crate) fn set_between<S: Source>(
     Ok(count)
 }
 
-// How many bytes came of an ask, and how many of them are not zero.
+// How many bytes a read returned, and how many of them are not zero.
 #[derive(Clone, Copy, Drop)]
 struct Seen {
     came: usize,
@@ -95,7 +95,7 @@ fn count_in<S: Source>(
     Ok(Seen { came, set })
 }
 
-// How many bytes of an ask came and are zero, from the first on.
+// How many bytes that a read returned are zero, from the first on.
 fn zeros_at<S: Source>(
     source: &mut S,
     at: u64,

@@ -15,7 +15,7 @@ use Rattle.sys_refusals.specs.declared.told.Side.TheVariants as sides
 use Rattle.cmd_common_sparse.specs.declared.fault.SparseCommandFault.{SparseCommandFault}
 use Rattle.cmd_common_sparse.specs.declared.fault.SparseCommandFault.TheVariants as faults
 
--- the words are wrong, rather than what they name
+-- the arguments are wrong, rather than what they name
 abbrev pub wrong_words : SparseCommandFault → Bool
 wrong_words (faults.Sparse fault) = false
 wrong_words (faults.Run fault) = false
@@ -47,8 +47,10 @@ side_of_cause (causes.SpoolWrite fault) = sides.Spool
 side_of_cause (causes.SpoolRead fault) = sides.Spool
 side_of_cause causes.SpoolChanged = sides.Spool
 
--- 12 is not written, 17 too small, 18 not synced, 35 another byte, 37 not read: of what is written or compared; 15 is
--- no size of blocks, 16 too small a limit, 31 no piece: of the words; and all others are of what is read
+-- The side of each number:
+-- - What is written or compared: 12 is not written, 17 too small, 18 not synced, 35 another byte, 37 not read.
+-- - The arguments: 15 is no size of blocks, 16 too small a limit, 31 no piece.
+-- - What is read: all others.
 abbrev pub side_of_number : ℕ → Side
 side_of_number n =
     if n == 12 || (n == 17 || (n == 18 || (n == 35 || n == 37))) then sides.Output

@@ -18,9 +18,9 @@ use sys_text::Text;
 /// Why a command of sparse images fails.
 #[derive(Drop)]
 pub enum SparseCommandFault {
-    /// Of a sparse image, or of the devices that it is read from and written to.
+    /// A fault of a sparse image, or of the devices from which it is read and to which it is written.
     Sparse(SparseFault),
-    /// Of an image that is read in passes, or of the device that it is read from.
+    /// A fault of an image that is read in passes, or of the device from which it is read.
     Run(RunFault),
     /// Of the pieces of an image, or of the devices that they are read from and written to.
     Piece(PieceFault),

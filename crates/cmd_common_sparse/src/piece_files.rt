@@ -7,7 +7,7 @@ ghost use Rattle.cmd_common_sparse.specs.PieceNames.{number_in_turn};
 
 use sys_refusals::FileArg;
 
-/// An image that is read at any place: `-` is standard input, which will do only where it is a file.
+/// An image that is read at any position: `-` is standard input, which must then be a file.
 pub fn image_place<'a>(input: &'a str) -> FileArg<'a>
     ensures { path_of result ≡ image_path input.now }
 {

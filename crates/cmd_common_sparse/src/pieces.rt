@@ -13,7 +13,7 @@ use abt_io::Source;
 use abt_pieces::{Cutter, PieceFault};
 use abt_runs::{BlockRuns, RawRuns};
 
-/// The pieces that are still to come. Between two calls none is begun.
+/// The remaining pieces. Between two calls none is begun.
 #[derive(Drop)]
 pub struct PiecesOf<B: BlockRuns + Drop> {
     /// What cuts them.

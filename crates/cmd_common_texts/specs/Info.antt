@@ -181,7 +181,7 @@ SectionReadTold (Ok a) r r' = r' ≡ r
 SectionReadTold (Err (faults.Read d)) r r' = r < r'
 SectionReadTold (Err f) r r' = r ≤ r'
 
--- of printing an image that opened: the output failed, or the source, whose count of faults rose
+-- why printing an image that opened fails: the output failed, or the source, whose count of faults rose
 abbrev pub PrintCause : SectionFault → ℕ → ℕ → Type 0
 PrintCause (faults.Read d) r r' = r < r'
 PrintCause (faults.Write d) r r' = Unit {0}

@@ -68,7 +68,7 @@ fn put_numbers<O: Output>(
     text.end_line();
 }
 
-/// Adds a number as it is to be written.
+/// Adds a number in this notation.
 pub fn put_number<O: Output>(number: u64, notation: Notation, text: &mut Text<'_, O>)
     ensures { Prints O.written O.write_faults text.old text.new (info.number_text notation number) }
 {

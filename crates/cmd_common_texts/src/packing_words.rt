@@ -65,7 +65,7 @@ fn image_words<S: Source, O: Output>(
     fragment_words(image, folder, source, text, w, m)
 }
 
-// The words of all but the fragments.
+// The arguments of everything but the fragments.
 fn header_words<O: Output>(image: &Image, folder: &str, text: &mut Text<'_, O>, m: &mut Meter)
     ensures { Prints O.written O.write_faults text.old text.new
         (words.words_text (words.header_words folder.now (view_of image.now.header))) }
@@ -244,7 +244,7 @@ fn entry_words<O: Output>(
     board_words(index, &entry.board_id, text, m);
 }
 
-// A name as far as it is not zero, or all of it where it is no text.
+// A name up to its first zero byte, or all of it where it is no text.
 fn name_bytes(name: &[u8; 32]) -> &[u8]
     ensures { result.now ≡ words.name_bytes name.now }
 {

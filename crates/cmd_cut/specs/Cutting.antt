@@ -187,7 +187,7 @@ pub record ReadyFirstPiece {R A : Type 0} (g : images.Ghosts R) (s : sources.Gho
   pub first : made ≡ 0
   pub ready : ReadyPiece g s image source limit made start st
 
--- what the piece is that was cut, and that what cuts, and the source, go on as they were
+-- the piece that was cut; the cutter and the source continue as they were
 pub record CutsPiece {X E : Type 0} (r : Result X E) (piece : X → Piece) {R A : Type 0} (g : images.Ghosts R)
     (s : sources.Ghosts A) (image image' : R) (source source' : A) (limit limit' made made' : ℕ) (start start' : Cursor)
     (st' : CutterStage) : Type 0 where
@@ -230,7 +230,7 @@ pub record AddsPiece (ps : List (List ℕ)) (made : ℕ) (path : List ℕ) (held
   pub is_synced : held'.is_synced ≡ held.is_synced
   pub synced : held'.syncs ≡ held.syncs + (if held.is_synced then 1 else 0)
 
--- it is not added: those that were begun before are as they were
+-- no piece is added: those that were begun before are as they were
 pub record AddsNone (held held' : OpenFiles) (old new : World) : Type 0 where
   pub keeps : KeepsMade held held' old new
   pub is_synced : held'.is_synced ≡ held.is_synced

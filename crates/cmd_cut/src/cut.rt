@@ -117,7 +117,7 @@ fn cut_raw<'a, D: Disk>(
     }
 }
 
-// The same of a sparse image that is open.
+// The same for an open sparse image.
 fn cut_sparse<'a, D: Disk>(
     disk: &mut D,
     report: &mut Report,

@@ -17,7 +17,7 @@ use sys_report::Report;
 
 /// Writes the sparse image of a raw one, and prints what it has.
 ///
-/// The block size is judged before OUT is created or emptied.
+/// The block size is checked before OUT is created or emptied.
 #[inline(never)]
 pub fn sparse_file<'a, D: Disk>(
     disk: &mut D,

@@ -26,7 +26,7 @@ pub struct CutPiece<'a> {
     pub span: Span,
 }
 
-/// The path that the word of an image is.
+/// The path that the argument of an image names.
 pub(crate) fn path_of_word<'a>(input: &'a str) -> &'a str
     ensures { result.now ≡ image_path input.now }
 {

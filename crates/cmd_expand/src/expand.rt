@@ -29,7 +29,7 @@ pub fn expand_one<'a, D: Disk>(
     ensures done { IsTrue D.models → OnOk result (ExpandsFile (path_in input.entry) (path_out output.entry)
         (D.world disk.old) (D.world disk.new) (ShowsBeside (D.on_output (path_out output.entry)) report.old
         report.new)) }
-    // it was synced, where that is wanted
+    // it was synced, where that is requested
     ensures synced { IsTrue D.models → OnOk result ((D.held disk.new).syncs
         ≡ (D.held disk.old).syncs + (if (D.held disk.old).is_synced then 1 else 0)) }
     // whatever the outcome, only OUT may hold anything else, IN holds what it held, and no output is left open; the

@@ -17,7 +17,7 @@ pub record LeavesOthers {X F : Type 0} (r : Result X F) (Spared : Type 0) (from 
   pub clean : OnOk r (HasNotFailed held held')
   pub closed : OnOk r (held'.part ≡ None)
 
--- the file at this path is there, and P holds of its bytes
+-- the file at this path exists, and P holds of its bytes
 pub record OfFile (input : List ℕ) (world : World) (P : List ℕ → Type 0) : Type 0 where
   pub from : ℕ
   pub there : world.at input ≡ Some from
@@ -44,7 +44,7 @@ pub record Between (input partition : List ℕ) (old new : World) (P : List ℕ 
 
 -- ---- where a device has failed
 
--- p' is as long as p, and holds what p holds but where it is touched
+-- p' is as long as p, and equals p except where it is touched
 pub record HoldsBut (touched : ℕ → Bool) (p p' : List ℕ) : Type 0 where
   pub long : length p' ≡ length p
   pub kept : (i : ℕ) → touched i ≡ false → slice_get p' i ≡ slice_get p i

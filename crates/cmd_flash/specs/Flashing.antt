@@ -46,7 +46,7 @@ pub record HasNoRoom (need : ℕ) (x p p' : List ℕ) : Type 0 where
   pub short : length p < need
   pub kept : p' ≡ p
 
--- p' holds what p held wherever x writes nothing: an image, or what comes before its fault
+-- p' equals p wherever x writes nothing; x is an image, or what comes before its fault
 abbrev pub IsFlashedInPart : List ℕ → List ℕ → List ℕ → Type 0
 IsFlashedInPart x p p' = HoldsBut (writes (given (outcome x))) p p'
 

@@ -25,7 +25,7 @@ told (Ok d) from (Some first) = Err (flashes.Stopped (last_from from d.pieces) f
 told (Err (flashes.Stopped piece cause)) from (Some first) = Err (flashes.Stopped piece first)
 told (Err fault) from (Some first) = Err fault
 
--- how many pieces came
+-- how many pieces were delivered
 abbrev pub count_delivered : Result Delivered FlashFault → Result ℕ SparseCommandFault
 count_delivered (Ok d) = Ok d.pieces
 count_delivered (Err fault) = Err (faults.Flash fault)

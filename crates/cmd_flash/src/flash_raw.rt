@@ -15,8 +15,8 @@ use sys_disk::{Disk, closed};
 use sys_refusals::{FileArg, Sides};
 use sys_report::{Carried, Report};
 
-/// Flashes a raw image in blocks of so many bytes to a partition, which must be there, and prints how many they were. It
-/// is read once, at any place, so that standard input will do only where it is a file.
+/// Flashes a raw image in blocks of this many bytes to a partition, which must exist, and prints how many blocks
+/// these were. The image is read once, at any position, so standard input must be a file.
 #[inline(never)]
 pub fn flash_raw_file<'a, D: Disk>(
     disk: &mut D,

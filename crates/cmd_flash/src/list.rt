@@ -51,7 +51,7 @@ pub fn list_file<'a, D: Disk>(
     }
 }
 
-// Prints the listing of an image, each line at once where it is awaited.
+// Prints the listing of an image, each line at once where the reader waits for it.
 fn listed<I: Input, O: Output>(
     from: &mut I,
     out: &mut O,

@@ -16,10 +16,10 @@ use sys_disk::{Disk, closed};
 use sys_refusals::{FileArg, Sides};
 use sys_report::{Carried, Report};
 
-/// Flashes an image in pieces of at most so many bytes, from this one on, to a partition, which must be there, and
-/// prints how many they were. The image is read at any place, so that standard input will do only where it is a file.
+/// Flashes an image in pieces of at most this many bytes, from this piece on, to a partition, which must exist, and
+/// prints how many pieces these were. The image is read at any position, so standard input must be a file.
 ///
-/// Of a raw image the size of its blocks and the limit are judged before SPOOL is created or emptied.
+/// For a raw image the size of its blocks and the limit are checked before SPOOL is created or emptied.
 #[inline(never)]
 pub fn flash_pieces_file<'a, D: Disk>(
     disk: &mut D,

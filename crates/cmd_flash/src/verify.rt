@@ -63,8 +63,8 @@ pub fn verify_file<'a, D: Disk>(
     Ok(())
 }
 
-/// The same of a raw image in blocks of so many bytes. It is read at any place, so that standard input will do only
-/// where it is a file.
+/// The same for a raw image in blocks of this many bytes. It is read at any position, so standard input must be a
+/// file.
 #[inline(never)]
 pub fn verify_raw_file<'a, D: Disk>(
     disk: &mut D,

@@ -13,7 +13,7 @@ use sys_disk::Disk;
 use sys_refusals::{FileArg, Refusal};
 use sys_report::Report;
 
-/// How the command ended: the file that it is about is named at `'t`, and its words at `'a`.
+/// The result of the command: the file that it concerns lives for `'t`, and its arguments for `'a`.
 pub type InfoOutcome<'t, 'a> = Result<(), Refusal<'t, BootCommandFault<'a>>>;
 
 /// Prints the values of an image file's header. With the check it also prints the reason of each answer that is no,

@@ -35,7 +35,7 @@ loaded_where (Boot n) of_ramdisk of_second parts s = record s {
 }
 loaded_where (Vendor n) of_ramdisk of_second parts s = s
 
--- the same, as the options say
+-- the same, with what the options set
 abbrev pub loaded_at : ImageKind → List OptionText → List (List ℕ) → BootFields → BootFields
 loaded_at kind options parts s =
     loaded_where kind (is_sum (words_for options Ramdisk)) (is_sum (words_for options Second)) parts s

@@ -37,7 +37,7 @@ pub record IsNotPacked (command : PackCommand) (world : World) (f : SectionFault
 -- Why `pack` fails, with these worlds before and after it. Done states that everything was done.
 pub data RefusesPack (command : PackCommand) (old new : World) (held held' : OpenFiles) (Done : Type 0)
     (fault : BootCommandFault) : Type 0 where
-  -- the words are wrong, before anything is opened
+  -- the arguments are wrong, before anything is opened
   wrong_words : IsWrong no_fields (asked_kind command) command.texts.options.items command.texts.fragments.items fault
       → held' ≡ held → new ≡ old → RefusesPack command old new held held' Done fault
   -- a board id is, before OUT is opened

@@ -22,12 +22,12 @@ use Rattle.cmd_pack_inputs.specs.BadBoards.{IsBadBoard}
 use Rattle.cmd_pack.specs.Repacking.{AreAskedAgain, AreFieldsAgain, AreFragmentsAgain, BeginsWith}
 use Rattle.cmd_common_boot.specs.Fault.{IsOutsideBoot}
 
--- the words are wrong of an image with this header
+-- the arguments are wrong for an image with this header
 abbrev pub IsWrongAgain : PackCommand → Header → BootCommandFault → Type 0
 IsWrongAgain command h fault =
     IsWrong (own_fields h) (kind_of h) command.texts.options.items command.texts.fragments.items fault
 
--- a word of `--board-id` is wrong of the fragments that are packed
+-- an argument of `--board-id` is wrong for the fragments that are packed
 pub record IsBadBoardAgain (command : PackCommand) (world : World) (x : List ℕ) (h : Header) (fault : BootCommandFault)
     : Type 0 where
   pub said : List FragmentSpec
@@ -48,7 +48,7 @@ pub record IsNotRepacked (command : PackCommand) (world : World) (x : List ℕ) 
 -- everything was done.
 pub data RefusesAgain (command : PackCommand) (x : List ℕ) (h : Header) (old new : World) (Failed Done : Type 0)
     (fault : BootCommandFault) : Type 0 where
-  -- a word is wrong, before OUT is opened
+  -- an argument is wrong, before OUT is opened
   wrong_words : IsWrongAgain command h fault → new ≡ old → RefusesAgain command x h old new Failed Done fault
   wrong_board : IsBadBoardAgain command old x h fault → new ≡ old
       → RefusesAgain command x h old new Failed Done fault

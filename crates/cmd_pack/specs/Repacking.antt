@@ -43,7 +43,7 @@ abbrev pub AreAskedAgain : PackCommand → World → List ℕ → Header → Boo
 AreAskedAgain command world x h given p = ArePacked world command.texts (board_id_words command) (StandsIn x h)
     (AreFragmentsAgain world command.texts.fragments.items x h) (kind_of h) given p
 
--- the fields that the words give, and else those of the header
+-- the fields that the arguments give, and else those of the header
 abbrev pub AreFieldsAgain : PackCommand → Header → BootFields → Type 0
 AreFieldsAgain command h given = AreGiven (own_fields h) (kind_of h) command.page command.texts.options.items given
 
@@ -62,12 +62,12 @@ pub record IsPackedAgain (command : PackCommand) (x : List ℕ) (h : Header) (wo
     pub asked : AreAskedAgain command world x h given packing
     pub is : bytes ≡ image_from (kind_of h) packing ++ kept_behind command.keeps_trailing x h
 
--- a file that is read: IN, or one that the words name
+-- a file that is read: IN, or one that the arguments name
 abbrev pub IsReadPath : List ℕ → PackCommand → Header → List ℕ → Type 0
 IsReadPath input command h path = (path ≡ input) ⊎ IsGivenPath command.texts (kind_of h) path
 
--- OUT's file holds what the image x is packed again to, no other file has changed, OUT's is none that is read or that
--- the words name, and the line that was printed has its number of bytes
+-- OUT's file holds the image to which the image x is packed again. No other file has changed. OUT's file is none that
+-- is read or that the arguments name. The line that was printed has its number of bytes.
 pub record PacksAgain (command : PackCommand) (x : List ℕ) (h : Header) (read : List ℕ) (old new : World)
     (shows : List ℕ → Type 0) : Type 0 where
   pub onto : ℕ
@@ -78,7 +78,7 @@ pub record PacksAgain (command : PackCommand) (x : List ℕ) (h : Header) (read 
   pub spares : Spares onto old new
   pub shown : shows (image_line (counted_in_u64 (length (new.holds onto))) ++ (10 ∷ []))
 
--- each file that the words name holds what it held
+-- each file that the arguments name holds what it held
 abbrev pub KeepsGivenAgain : PackCommand → Header → World → World → Type 0
 KeepsGivenAgain command h old new =
     (path : List ℕ) → IsGivenPath command.texts (kind_of h) path → KeepsFile path old new
@@ -119,7 +119,7 @@ abbrev pub HoldsNoPartAgain : List ℕ → PackCommand → World → World → T
 HoldsNoPartAgain input command old new =
     HoldsNoPartOf (output_path command.output.now) (IsRepackedOf input command old) old new
 
--- and IN's file and each that the words name hold what they held
+-- and IN's file and each that the arguments name hold what they held
 pub record KeepsRead (input : List ℕ) (command : PackCommand) (old new : World) : Type 0 where
   pub input_kept : KeepsFile input old new
   pub given : (x : List ℕ) (h : Header) → BeginsWith input old x h → KeepsGivenAgain command h old new

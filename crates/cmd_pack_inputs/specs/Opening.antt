@@ -39,8 +39,8 @@ pub record OpensOne {X F : Type 0} (models : Bool) (r : Result X F) (path : List
   pub unread : IsTrue models → IfOk r (λ x. its_faults x ≡ 0)
   pub keeps : IsTrue models → OnlyOpens h h' old new
 
--- files at these paths are opened, of which none has failed yet: so many faults are of what was open before; or one of
--- them is not opened; no file has changed
+-- files at these paths are opened, of which none has failed yet: `before` counts the faults of what was open before;
+-- or one of them is not opened; no file has changed
 pub record OpensEach {X : Type 0} (models : Bool) (r : Result X HostRefusal) (named : List ℕ → Type 0)
     (its_faults : X → ℕ) (before : ℕ) (h h' : OpenFiles) (old new : World) : Type 0 where
   pub unread : IsTrue models → IfOk r (λ x. its_faults x ≡ before)

@@ -90,6 +90,6 @@ EndsBehind front n e = 0 < e.ramdisk_size → front + e.ramdisk_offset + e.ramdi
 abbrev pub AllEndBehind : ℕ → ℕ → List RamdiskEntry → Type 0
 AllEndBehind front n entries = All (EndsBehind front n) entries
 
--- the words name no path
+-- the arguments name no path
 abbrev pub no_path : List ℕ → Type 0
 no_path path = ⊥

@@ -17,7 +17,7 @@ pub(crate) fn file_at<'a>(role: &'a str, path: &'a str) -> FileArg<'a>
     }
 }
 
-/// The output that this word names.
+/// The output that this argument names.
 pub fn output_at<'a>(word: &'a str) -> FileArg<'a>
     ensures { path_out result ≡ output_path word.now }
 {

@@ -32,7 +32,7 @@ pub struct OwnData {
     pub left: LeftOut,
 }
 
-/// Judges the words by the image's kind, and counts what is left out of it.
+/// Checks the arguments for the image's kind, and counts what is left out of it.
 pub fn judged<'a, S: Source>(
     image: &Image,
     source: &mut S,

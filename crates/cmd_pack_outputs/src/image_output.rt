@@ -44,7 +44,7 @@ pub fn write_image<'f, 't, 'a, D: Disk>(
     ensures done { IsTrue D.models → OnOk result (LaysImage (path_out output.entry) (D.held disk.old).read
         (packed_image ⟦<PartSource<'t, D::At> as Source>⟧.content contents.entry) (D.world disk.old) (D.world disk.new)
         (ShowsBeside (D.on_output (path_out output.entry)) report.old report.new)) }
-    // whatever the outcome, OUT alone may hold anything else, and its file has no part of an image; where it is done no
+    // whatever the outcome, only OUT may hold anything else, and its file has no part of an image; after an Ok no
     // call failed
     ensures left { IsTrue D.models → LeavesOut result (path_out output.entry) (D.is_over (path_out output.entry))
         (λ x. x ≡ packed_image ⟦<PartSource<'t, D::At> as Source>⟧.content contents.entry) (D.held disk.old)

@@ -39,7 +39,7 @@ state world held report = record { world = world; held = held; report = report }
 abbrev pub SyncsOutputs : ℕ → State → State → Type 0
 SyncsOutputs n a z = z.held.syncs ≡ a.held.syncs + n
 
--- one, where that is wanted
+-- one, where that is requested
 abbrev pub one_if_wanted : State → ℕ
 one_if_wanted a = if a.held.is_synced then 1 else 0
 
@@ -138,7 +138,7 @@ SparesFlashed input partition None a z =
 SparesFlashed input partition (Some p) a z =
     SparesBoth partition p.spool.now a.world z.world × KeepsFile (image_path input) a.world z.world
 
--- each file that a task reads holds what it held, and none has changed but what it is to write
+-- each file that a task reads holds what it held, and only the files that it is to write may have changed
 abbrev pub SparesFiles : SparseTask → State → State → Type 0
 SparesFiles (tasks.Expand inputs output) a z =
     SparesExpanded (map (λ word. word.now) inputs.items) output.now a z

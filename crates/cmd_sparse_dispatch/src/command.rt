@@ -15,7 +15,7 @@ use sys_disk::Disk;
 use sys_report::Report;
 use words_orders::SparseTask;
 
-/// Does what the words ask for.
+/// Does what the arguments ask for.
 pub fn sparse_command<'a, D: Disk>(
     disk: &mut D,
     report: &mut Report,
@@ -27,7 +27,7 @@ pub fn sparse_command<'a, D: Disk>(
     requires first { IsTrue D.models → IsReading (D.held disk.old) }
     requires one { IsTrue D.models → (D.held disk.old).part ≡ None }
     requires through { IsTrue D.models → (D.held disk.old).spool ≡ None }
-    // the task is done, by its own command, at the files that its words name
+    // the task is done by its own command, on the files that its arguments name
     ensures done { IsTrue D.models → OnOk result (DoesTask D.on_output task.entry
         (state (D.world disk.old) (D.held disk.old)
         report.old) (state (D.world disk.new) (D.held disk.new) report.new)) }

@@ -184,7 +184,7 @@ pub(crate) fn flash_straight<'a, D: Disk>(
     }
 }
 
-/// Flashes an image in pieces that go through a file, from the piece that the words name on.
+/// Flashes an image in pieces that are written through a file, from the piece that the arguments name on.
 #[inline(never)]
 pub(crate) fn flash_pieces<'a, D: Disk>(
     disk: &mut D,

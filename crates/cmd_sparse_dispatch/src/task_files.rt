@@ -6,7 +6,8 @@ ghost use Rattle.cmd_common_sparse.specs.ImagePath.{image_path};
 
 use sys_refusals::FileArg;
 
-/// The file at a word. Where it is read forward, `-` is standard input, and where it is an output, standard output.
+/// The file that an argument names. Where it is read forward, `-` is standard input; where it is an output, standard
+/// output.
 pub(crate) fn place<'a>(role: &'static str, word: &'a str) -> FileArg<'a>
     ensures at { path_of result ≡ word.now }
     ensures read { path_in result ≡ image_path word.now }

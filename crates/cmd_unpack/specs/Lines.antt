@@ -28,7 +28,7 @@ abbrev pub told_fragments : List ℕ → Header → ℕ → List (List ℕ)
 told_fragments x h zero = []
 told_fragments x h (suc n) = told_fragments x h n ++ (told_part (parts.Fragment n) (entry_of x h n).ramdisk_size ∷ [])
 
--- of the words, where they are wanted
+-- of the arguments, where they are requested
 abbrev pub told_words : Bool → ℕ → List (List ℕ)
 told_words true bytes = told_part parts.Words bytes ∷ []
 told_words false bytes = []

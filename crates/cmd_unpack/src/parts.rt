@@ -19,7 +19,7 @@ use sys_disk::Disk;
 use sys_refusals::FileArg;
 use sys_report::Report;
 
-/// Writes each section, each fragment, and maybe the words.
+/// Writes each section, each fragment, and maybe the arguments.
 pub(crate) fn write_parts<'t, 'a, D: Disk>(
     disk: &mut D,
     image: &Image,

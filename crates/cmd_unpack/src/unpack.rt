@@ -37,7 +37,7 @@ pub fn unpack_file<'t, 'a, D: Disk>(
     // each part of the image that IN holds is stored in the folder under its name; a line was printed of each
     ensures done { IsTrue D.models → OnOk result (Unpacks (path_of input.entry) folder.now with_words (D.world disk.old)
         (D.world disk.new) (λ lines. ShowsEach lines report.old report.new)) }
-    // each was synced, where that is wanted
+    // each was synced, where that is requested
     ensures synced { IsTrue D.models → OnOk result (SyncsParts (path_of input.entry) with_words (D.world disk.old)
         (D.held disk.old) (D.held disk.new)) }
     // whatever the outcome, only such files were created or changed, and IN holds what it held; no call failed where all

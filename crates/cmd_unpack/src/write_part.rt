@@ -107,7 +107,7 @@ pub(crate) fn write_fragment<'t, 'a, D: Disk>(
     }
 }
 
-/// Writes the words that pack the image again to their file.
+/// Writes the arguments that pack the image again to their file.
 pub(crate) fn write_pack_words<'t, 'a, D: Disk>(
     disk: &mut D,
     image: &Image,

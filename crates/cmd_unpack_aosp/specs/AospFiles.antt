@@ -93,7 +93,7 @@ RefusesName failed fault = IsCallFault failed fault ⊎ IsUnnamed fault
 abbrev pub RefusesPart : List ℕ → Type 0 → BootCommandFault → Type 0
 RefusesPart x failed fault = IsRefusedOver x failed ⊥ fault ⊎ IsUnnamed fault
 
--- the same of what the file at a path holds
+-- the same for what the file at a path holds
 abbrev pub RefusesUnpack : List ℕ → World → Type 0 → BootCommandFault → Type 0
 RefusesUnpack path world failed fault = RefusesImage path world failed ⊥ fault ⊎ IsUnnamed fault
 

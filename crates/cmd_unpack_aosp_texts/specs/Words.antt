@@ -19,7 +19,7 @@ use Rattle.cmd_unpack_aosp_texts.specs.Shell.{shell_quoted}
 use Rattle.cmd_unpack_aosp_texts.specs.declared.options.Ending.{Ending}
 use Rattle.cmd_unpack_aosp_texts.specs.declared.options.Ending.TheVariants as endings
 
--- ---- words
+-- ---- arguments
 
 -- before each argument but the first, after each, and after all
 abbrev pub before_word : Ending → List ℕ

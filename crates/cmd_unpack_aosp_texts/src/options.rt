@@ -18,7 +18,7 @@ use sys_text::Text;
 /// What separates arguments.
 #[derive(Clone, Copy)]
 pub enum Ending {
-    /// A blank; the last word ends the line. Words are quoted.
+    /// A blank; the last argument ends the line. Arguments are quoted.
     Blank,
     /// A zero byte after each argument.
     Zero,
@@ -54,7 +54,7 @@ pub(crate) fn end_words<O: Output>(ending: Ending, text: &mut Text<'_, O>)
     }
 }
 
-/// Adds the first word.
+/// Adds the first argument.
 pub(crate) fn put_first_word<O: Output>(name: &str, ending: Ending, text: &mut Text<'_, O>)
     ensures { Prints O.written O.write_faults text.old text.new (spec.first_word ending name.now) }
 {
@@ -62,7 +62,7 @@ pub(crate) fn put_first_word<O: Output>(name: &str, ending: Ending, text: &mut T
     end_word(ending, text);
 }
 
-// Adds a word that is not quoted.
+// Adds an argument that is not quoted.
 fn put_name<O: Output>(name: &str, ending: Ending, text: &mut Text<'_, O>)
     ensures { Prints O.written O.write_faults text.old text.new (spec.plain_word ending name.now) }
 {
@@ -71,7 +71,7 @@ fn put_name<O: Output>(name: &str, ending: Ending, text: &mut Text<'_, O>)
     end_word(ending, text);
 }
 
-/// Adds a number as a word, in decimal.
+/// Adds a number as an argument, in decimal.
 pub(crate) fn put_number_value<O: Output>(number: u64, ending: Ending, text: &mut Text<'_, O>)
     ensures { Prints O.written O.write_faults text.old text.new (spec.number_value ending number) }
 {
@@ -175,7 +175,7 @@ fn put_level_option<O: Output>(os: OsVersion, ending: Ending, text: &mut Text<'_
     end_word(ending, text);
 }
 
-// Adds a word that may have to be quoted.
+// Adds an argument that may have to be quoted.
 fn put_value<O: Output>(word: &Word<'_>, ending: Ending, text: &mut Text<'_, O>)
     ensures { Prints O.written O.write_faults text.old text.new (spec.text_value ending (word_bytes word.now)) }
 {

@@ -20,7 +20,7 @@ pub(crate) struct Word<'a> {
 }
 
 impl<'a> Word<'a> {
-    /// The word that a text is.
+    /// The argument that consists of a text.
     pub fn new(front: &'a [u8]) -> Word<'a>
         ensures { word_bytes result ≡ front.now }
     {
@@ -32,7 +32,7 @@ impl<'a> Word<'a> {
         }
     }
 
-    /// The word that two texts are together.
+    /// The argument that consists of two texts.
     pub fn of_two(front: &'a [u8], middle: &'a [u8]) -> Word<'a>
         ensures { word_bytes result ≡ front.now ++ middle.now }
     {
@@ -81,7 +81,7 @@ impl<'a> Word<'a> {
         text.word("'");
     }
 
-    /// Adds it so that a shell reads it as it is.
+    /// Adds it in the form that a shell reads back as the same argument.
     pub fn put_quoted<O: Output>(&self, text: &mut Text<'_, O>)
         ensures { Prints O.written O.write_faults text.old text.new (shell_quoted (word_bytes self.now)) }
     {

@@ -106,8 +106,8 @@ const ROWS: [Row; 13] = [
     (&MOST_BLOCKS, 68, &[(4_294_967_295, &MOST_BLOCKS)]),
 ];
 
-/// Cuts an image that becomes another after so many calls, where a call of each device fails, at 0 none. Also how many
-/// bytes were written, and how many calls each device had.
+/// Cuts an image that becomes another after this many calls, where a call of each device fails, at 0 none. Also
+/// returns how many bytes were written, and how many calls each device had.
 fn cut_changing(
     images: [&[u8]; 2],
     calls: u64,
