@@ -27,7 +27,7 @@ pub fn flash_file<'a, D: Disk>(
     m: &mut Meter,
 ) -> Result<(), SparseRefusal<'a>>
     requires ready { IsTrue D.models → HasNoPart (D.held disk.old) }
-    // PARTITION holds the result of flashing IN over what it held, and is synced; the printed line has its number of blocks
+    // PARTITION holds the result of flashing IN over what it held, and is synced; the line has its number of blocks
     ensures done { IsTrue D.models → OnOk result (FlashesFile (path_in input.entry) (path_of partition.entry)
         (D.world disk.old) (D.world disk.new) (D.held disk.old).syncs (D.held disk.new).syncs
         (ShowsBeside (D.on_output (path_of partition.entry)) report.old report.new)) }
