@@ -1,5 +1,4 @@
--- What a command of boot images does with the files that its arguments name, what it leaves of them, and why it
--- fails.
+-- What a command of boot images does with the files of its arguments, what it leaves of them, and why it fails.
 use Rattle.std.specs.Prelude.{◌≡◌, ◌+◌, ℕ, List, Bool, IsTrue, if◌then◌else◌}
 use Rattle.sys_refusals.specs.Paths.{output_path}
 use Rattle.words_orders.specs.declared.order.BootTask.{BootTask}

@@ -92,8 +92,7 @@ pub fn boot_command<'t, 'a, D: Disk>(
     // it is done by its own body, on the files that its arguments name
     ensures done { IsTrue D.models → OnOk result (DoesKind D.on_output command.now.kind (D.world disk.old)
         (D.held disk.old) report.old (D.world disk.new) (D.held disk.new) report.new) }
-    // whatever the outcome, the files that it reads hold what they held, and only those that it is to write may have
-    // changed
+    // whatever the outcome, the files that it reads hold what they held, and only its outputs may have changed
     ensures spares { IsTrue D.models → SparesKind command.now.kind (D.world disk.old) (D.held disk.old)
         (D.world disk.new) (D.held disk.new) }
     ensures whole { IsTrue D.models

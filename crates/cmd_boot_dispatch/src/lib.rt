@@ -1,9 +1,6 @@
-//! The commands of boot images: `pack`, `repack`, `unpack` and `info`, each from its arguments to files and the
-//! report.
-//!
-//! The bodies of the commands are in `cmd_unpack`, `cmd_info` and `cmd_pack`, over any disk. The meaning of their
-//! arguments is in `cmd_common_boot`. This crate selects the command, and decodes the arguments of `pack` and
-//! `repack` to bytes.
+//! The commands `pack`, `repack`, `unpack` and `info` of boot images, from their arguments to files and the report.
+//! Their bodies are in `cmd_unpack`, `cmd_info` and `cmd_pack`, the meaning of their arguments is in `cmd_common_boot`.
+//! This crate selects the command, and decodes the arguments of `pack` and `repack` to bytes.
 //!
 //! | file | content |
 //! |---|---|

@@ -51,8 +51,7 @@ abbrev pub told_word : List OptionText → Address → List ℕ
 told_word options which = word_or (found options (address_option which))
     (word_or (found options (offset_option which)) (word_or (found options (codes "base")) []))
 
--- The result is an address that the arguments set, or else the image's own; or the argument of one that exceeds its
--- field.
+-- The result is an address that the arguments set, or else the image's own; or the argument that exceeds its field.
 pub record SaysAddress {E : Type 0} (r : Result ℕ E) (word : E → List ℕ) (options : List OptionText) (which : Address)
     (own : ℕ) : Type 0 where
   pub given : IfOk r (λ address. address_for options which own ≡ Some address)

@@ -7,8 +7,7 @@ ghost use Rattle.cmd_common_boot.specs.Boards.{AreSet, IsSet, with_board};
 use abt_sections::FragmentSpec;
 use cmd_common_fields::BoardWord;
 
-/// Sets the numbers that the arguments encode, in order. Fails with the first argument that is invalid, or whose
-/// fragment does not exist.
+/// Sets the numbers of the arguments, in order. Fails with the first that is invalid, or whose fragment is missing.
 pub fn set_board_ids<'a>(specs: &mut [FragmentSpec], words: &[&'a str]) -> Result<(), &'a str>
     ensures same { length specs.new ≡ length specs.old }
     ensures set { OnOk result (AreSet (map (λ w. w.now) words.now) specs.old specs.new) }

@@ -1,23 +1,18 @@
-//! What the commands of boot images share: what their arguments mean for an image, why they fail, and which files
-//! they write.
+//! What the commands of boot images share: the meaning of their arguments, their faults, and their output files.
 //!
 //! The layers above rely on these facts:
 //! - `with_given` returns the given fields, and the image's own value for each other field.
-//! - `judge` fails where packing fails.
-//! - `pack_image` writes the bytes that `packed` defines.
+//! - `judge` fails where packing fails, and `pack_image` writes the bytes that `packed` defines.
 //! - `set_board_ids` sets the numbers that the arguments name, in order.
 //!
 //! | file | content |
 //! |---|---|
 //! | `fault.rt` | why a command fails, and what the user is told |
-//! | `pack_command.rt` | the arguments of `pack` and `repack`, parsed |
-//! | `pack_texts.rt` | the same arguments, with the bytes that each encodes |
-//! | `pack_fields.rt` | the fields from which an image is packed |
-//! | `loads.rt` | the load addresses of its parts |
+//! | `pack_command.rt`, `pack_texts.rt` | the parsed arguments of `pack` and `repack`, and the bytes that they encode |
+//! | `pack_fields.rt`, `loads.rt` | the fields from which an image is packed, and the load addresses of its parts |
 //! | `board_ids.rt` | the board ids that arguments set |
 //! | `part_rows.rt` | the parts from which an image is packed, each with its option and its section |
-//! | `part_source.rt` | the source of a part: a file, or a range of one |
-//! | `measure.rt` | a source that has only a size |
+//! | `part_source.rt`, `measure.rt` | the source of a part: a file, or a range of one; a source that has only a size |
 //! | `contents.rt` | packing the parts of an image of either kind, and the faults of packing |
 //! | `part_names.rt` | the files that `unpack` writes |
 #![tactic(auto)]

@@ -81,8 +81,7 @@ impl<'a, S: Source + Lasting> PartSource<'a, S> {
         }
     }
 
-    /// Whether a fault of packing may come from this part: it was not read as it was found, or no section has room
-    /// for it.
+    /// Whether a fault of packing may come from this part: it was not read as found, or no section has room for it.
     pub fn is_at_fault(&self) -> bool {
         self.has_failed || self.size > u32::MAX as u64
     }

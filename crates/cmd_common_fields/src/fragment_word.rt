@@ -22,8 +22,7 @@ pub struct FragmentWord<'a> {
 }
 
 impl<'a> FragmentWord<'a> {
-    /// Reads an argument. Returns `None` where it has another format, TYPE is unknown, or NAME has more than 31
-    /// bytes.
+    /// Reads an argument. Returns `None` where its format or its TYPE is another, or NAME has more than 31 bytes.
     pub fn new(word: &'a str) -> Option<FragmentWord<'a>>
         ensures value { IfSome result (λ f. IsFragment word.entry.now f.spec f.path.now) }
         ensures accepts { (spec : FragmentSpec) (path : List ℕ) → IsFragment word.entry.now spec path →

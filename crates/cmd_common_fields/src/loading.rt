@@ -92,12 +92,8 @@ pub fn is_sum(words: AddressWords) -> bool
     words.address.is_none() && words.base.is_some()
 }
 
-/// The address. It is the first of these that applies:
-/// 1. The address that is given.
-/// 2. Where there is a base, its sum with the given offset, or with mkbootimg's offset where none is given.
-/// 3. The image's own address.
-///
-/// Returns `None` where the sum exceeds 64 bits.
+/// The given address; else, where there is a base, its sum with the given offset, or with mkbootimg's where none is
+/// given; else the image's own address. Returns `None` where the sum exceeds 64 bits.
 pub fn load_address(words: AddressWords, usual_offset: u64, own: u64) -> Option<u64>
     ensures { result ≡ spec.load_at words usual_offset own }
 {

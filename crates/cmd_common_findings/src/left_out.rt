@@ -67,8 +67,7 @@ pub struct Anew {
     pub trailing: bool,
 }
 
-/// Counts what is left out of an image. The number of bytes of its vendor ramdisk that are in no fragment is passed
-/// in.
+/// Counts what is left out of an image. `ramdisk` is the number of bytes of its vendor ramdisk in no fragment.
 pub fn count_left_out<S: Source>(
     image: &Image,
     anew: Anew,

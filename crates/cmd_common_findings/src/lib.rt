@@ -2,8 +2,7 @@
 //! again leaves out.
 //!
 //! The layers above rely on two facts:
-//! - `count_left_out` counts exactly the bytes of each kind that are not zero and that a packed image has no place
-//!   for.
+//! - `count_left_out` counts exactly the bytes of each kind that are not zero and have no place in a packed image.
 //! - `end_of` returns the end of the image.
 //!
 //! | file | content |

@@ -47,10 +47,8 @@ side_of_cause (causes.SpoolWrite fault) = sides.Spool
 side_of_cause (causes.SpoolRead fault) = sides.Spool
 side_of_cause causes.SpoolChanged = sides.Spool
 
--- The side of each number:
--- - What is written or compared: 12 is not written, 17 too small, 18 not synced, 35 another byte, 37 not read.
--- - The arguments: 15 is no size of blocks, 16 too small a limit, 31 no piece.
--- - What is read: all others.
+-- Of what is written or compared: 12 is not written, 17 too small, 18 not synced, 35 another byte, 37 not read.
+-- Of the arguments: 15 is no size of blocks, 16 too small a limit, 31 no piece. All others are of what is read.
 abbrev pub side_of_number : ℕ → Side
 side_of_number n =
     if n == 12 || (n == 17 || (n == 18 || (n == 35 || n == 37))) then sides.Output

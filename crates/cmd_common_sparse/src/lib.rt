@@ -5,10 +5,8 @@
 //! |---|---|
 //! | `fault.rt` | why a command fails: the number of the fault, its text, and the file that it concerns |
 //! | `lines.rt` | the line that a command prints after its work |
-//! | `piece_files.rt` | the files that arguments name: an image that is read at any position, and piece files |
-//! | `piece_names.rt` | the names of piece files |
-//! | `blocks.rt` | the blocks of a raw image, or why it has none |
-//! | `pieces.rt` | the pieces of a raw image, or why it has none |
+//! | `piece_files.rt`, `piece_names.rt` | the files that arguments name, and the names of piece files |
+//! | `blocks.rt`, `pieces.rt` | the blocks and the pieces of a raw image, or why it has none |
 #![tactic(auto)]
 
 mod blocks;

@@ -6,10 +6,8 @@
 //!
 //! | file | content |
 //! |---|---|
-//! | `info.rt` | the text of `info`: the values of an image's header |
-//! | `info_lines.rt` | the text of each line of `info` |
-//! | `packing_words.rt` | the options that pack an image again |
-//! | `word_lines.rt` | the text of each of these options |
+//! | `info.rt`, `info_lines.rt` | the text of `info`: the values of an image's header; the text of each line |
+//! | `packing_words.rt`, `word_lines.rt` | the options that pack an image again, and the text of each |
 #![tactic(auto)]
 
 mod info;

@@ -19,8 +19,7 @@ use abt_sections::{Image, ImageHeader, SectionFault, fragment, fragments, sectio
 use cmd_common_fields::{Address, TextField, address_of, front_text, os_version_of, text_field_of};
 use sys_text::Text;
 
-/// Writes the arguments with which `pack` makes this image again from the files that `unpack` writes to a folder, one
-/// on each line.
+/// Writes the arguments, one a line, with which `pack` makes this image again from the files of `unpack` in a folder.
 ///
 /// A failed write is `Write`. Where the source fails, the arguments before stay written. It allocates no memory.
 pub fn write_words<S: Source, O: Output>(
@@ -130,8 +129,7 @@ fn has_table(header: &ImageHeader) -> bool
     }
 }
 
-// The option that sets a section, where there is one. A vendor ramdisk with a table is set by its fragments, and so
-// is the table.
+// The option that sets a section, if any. A vendor ramdisk with a table, and the table, are set by its fragments.
 fn section_option(table: bool, section: Section) -> Option<&'static str>
     ensures { MatchOption result (words.section_option table section ≡ None) (λ name. words.section_option table section
         ≡ Some name.now) }

@@ -42,8 +42,7 @@ pub(crate) fn cut_pieces<'a, D: Disk, B: BlockRuns + LaysPieces + Drop>(
         (D.held disk.new) (D.world disk.old) (D.world disk.new) (ShowsCut (naming_of names.entry) pieces.cutter.limit
         (D.world disk.new) report.old report.new (B.size pieces.cutter.runs)
         (B.list pieces.cutter.runs (D.At.content source)))) }
-    // whatever the outcome, only files of pieces were created or changed, and none is open; after an Ok nothing has
-    // failed
+    // whatever the outcome, only piece files were created or changed, and none is open; after an Ok nothing has failed
     ensures leaves { IsTrue D.models → LeavesPieces result (IsPiecePath names.entry.prefix.now) (D.held disk.old)
         (D.held disk.new) (D.world disk.old) (D.world disk.new) }
     // it fails where something has failed, or can't be printed

@@ -7,8 +7,7 @@
 //! | `engine_calls.rt` | the engine's calls that write it, with the progress of the command |
 //! | `stopped_command.rt` | the fault of a command that stopped, where its file is written late |
 //! | `cut.rt` | the command `cut` |
-//! | `cut_loop.rt` | writing all pieces of an image |
-//! | `pieces.rt` | writing one piece to a file of its own |
+//! | `cut_loop.rt`, `pieces.rt` | writing all pieces of an image; writing one piece to a file of its own |
 //! | `next_piece.rt` | the engine's calls for one piece, to a file or a stream |
 #![tactic(auto)]
 

@@ -52,8 +52,7 @@ pub(crate) fn write_next<B: BlockRuns + Drop, S: Lasting, O: Output>(
     }
 }
 
-// The fault after a piece was written. `now` is the number of bytes that IN has, if that is less than what was read
-// of it.
+// The fault after a piece was written. `now` is the length of IN, if that is less than what was read of it.
 fn changed(now: Option<u64>) -> Option<SparseCommandFault>
     ensures shorter { IfSome now (λ _. result ≡ Some (SparseCommandFault.Piece PieceFault.SourceChanged)) }
     ensures whole { now ≡ None → result ≡ None }
@@ -66,8 +65,7 @@ fn changed(now: Option<u64>) -> Option<SparseCommandFault>
 
 /// An image whose pieces are written in place to files, the magic of each last.
 pub(crate) trait LaysPieces: BlockRuns + Drop {
-    /// Writes the next piece to an empty file, and returns that file. A fault of files is that its magic can't be
-    /// written.
+    /// Writes the next piece to an empty file, and returns it. A fault of files is that its magic can't be written.
     fn lay_next<S: Lasting, O: Overwrite + Drop>(
         cutter: &mut Cutter<Self>,
         source: &mut Carried<'_, S>,

@@ -64,8 +64,7 @@ pub(crate) fn put_piece<'a, D: Disk, B: BlockRuns + LaysPieces + Drop>(
     }
 }
 
-// Before the first piece, the progress is told how often the image is read. What is read once counts up to the
-// position that was read.
+// Before the first piece, the progress learns how often the image is read. One read counts up to its last position.
 fn repeat_first(progress: &mut Progress, made: u64, times: u64) {
     if made == 0 {
         progress.repeat(times);

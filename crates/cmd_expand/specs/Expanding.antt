@@ -77,8 +77,7 @@ pub record LeavesExpanded {X F : Type 0} (r : Result X F) (from onto : List ℕ)
   pub closed : held'.output ≡ None
   pub clean : OnOk r (HasNotFailed held held')
 
--- why it fails: for a fault of the contents of IN; because a device or the system failed; or everything was done, but
--- its line could not be printed
+-- why it fails: for a fault of the contents of IN; because a device or the system failed; or only its line failed
 abbrev pub RefusesFile : SparseCommandFault → List ℕ → List ℕ → World → World → OpenFiles → OpenFiles
     → (List ℕ → Type 0)
     → Type 0

@@ -5,8 +5,7 @@
 //! |---|---|
 //! | `expand.rt` | `expand` of one image |
 //! | `overlay.rt` | `expand` of several images: each overwrites the result of those before it |
-//! | `open_images.rt` | opening these images, and comparing their shapes |
-//! | `overlay_loop.rt` | writing these images to the output, one after another |
+//! | `open_images.rt`, `overlay_loop.rt` | opening these images; writing them to the output, one after another |
 //! | `cut_of.rt` | whether images are pieces of one cut, as far as it can be determined |
 #![tactic(auto)]
 

@@ -29,8 +29,7 @@ pub struct Shape {
     pub block: u32,
 }
 
-/// An image that was opened, and its file. Also the piece that it is, if its path is that of a piece and it writes
-/// blocks.
+/// An image that was opened, its file, and the piece that it is, if its path is that of a piece and it writes blocks.
 #[derive(Drop)]
 pub struct OpenedImage<'a, S> {
     pub source: S,

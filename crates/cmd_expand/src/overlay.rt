@@ -1,5 +1,4 @@
-//! The command `expand` of several images, such as the pieces of a cut. Each overwrites the result of those before
-//! it.
+//! The command `expand` of several images, such as the pieces of a cut. Each overwrites those before it.
 
 ghost use Rattle.std.specs.Prelude.{◌≡◌, ◌+◌, IsTrue, IfErr, OnOk, map};
 ghost use Rattle.sys_refusals.specs.Paths.{path_of};
@@ -19,8 +18,7 @@ use sys_disk::Disk;
 use sys_refusals::FileArg;
 use sys_report::Report;
 
-/// Writes images over one another in their order: the output starts as zeros, and each image is flashed to it in
-/// turn. Prints what the output has.
+/// Flashes images in their order to a file of zeros, each over those before it. Prints what the file has.
 ///
 /// All images are read before OUT is created or emptied:
 /// - Their shapes are compared.

@@ -110,8 +110,7 @@ fn lay_one<'a, D: Disk>(
     }
 }
 
-// Why an image was not written completely. Where its file has fewer bytes now than were read of it, the fault is that
-// it ends there.
+// Why an image was not written completely. Where its file has fewer bytes now than were read, the image ends there.
 fn lasting(answer: Result<Flashed, FlashFault>, now: Option<u64>) -> Result<Flashed, FlashFault>
     ensures whole { now ≡ None → result ≡ answer }
     ensures shorter { IfSome now (λ _. IsErr result) }

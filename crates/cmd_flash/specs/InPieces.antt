@@ -31,15 +31,14 @@ abbrev pub IsWhole : Option ℕ → List ℕ → ℕ → ℕ → Type 0
 IsWhole None x limit room = Fits x limit room
 IsWhole (Some size) x limit room = IsAllowed size x (length x) limit room true
 
--- why it is not delivered after its first pieces, `before`, as the engine defines it for devices that model their
--- bytes
+-- why it is not delivered after its first pieces, `before`, by the engine's definition for devices that model bytes
 abbrev pub IsRefused : Option ℕ → FlashFault → List ℕ → ℕ → ℕ → ℕ → Counts → Counts → Type 0
 IsRefused None fault x limit room before a z = SparseRefused fault x limit room before true true a z
 IsRefused (Some size) fault x limit room before a z =
     RawRefused fault size x (length x) limit room before true true a z
 
--- p holds the first pieces of the image x, `done`, over q, and any bytes for all other pieces: continuing after them
--- repairs it
+-- p holds the first pieces of the image x, `done`, over q, and any bytes for all others: continuing after them repairs
+-- it
 abbrev pub StandsUpTo : Option ℕ → ℕ → ℕ → List ℕ → List ℕ → List ℕ → Type 0
 StandsUpTo raw limit done x p q =
     Mendable (image_as raw x).size (image_as raw x).blocks p q

@@ -78,8 +78,7 @@ pub record VerifiesRawFile (size : ℕ) (input partition : List ℕ) (world : Wo
   pub both : OfBoth input partition world (IsThereRaw blocks size)
   pub shown : shows (line_text (lines.Blocks blocks) ++ (10 ∷ []))
 
--- why the command fails: for what both files hold; or a file or a device has failed; or everything was compared, but
--- its line could not be printed
+-- why the command fails: for what both files hold; or a file or a device has failed; or only its line failed
 abbrev pub RefusesVerify : SparseCommandFault → List ℕ → List ℕ → World → OpenFiles → OpenFiles → (List ℕ → Type 0)
     → Type 0
 RefusesVerify (faults.Verify f) input partition world held held' untold =

@@ -31,7 +31,7 @@ pub fn flash_file<'a, D: Disk>(
     ensures done { IsTrue D.models → OnOk result (FlashesFile (path_in input.entry) (path_of partition.entry)
         (D.world disk.old) (D.world disk.new) (D.held disk.old).syncs (D.held disk.new).syncs
         (ShowsBeside (D.on_output (path_of partition.entry)) report.old report.new)) }
-    // whatever the outcome, only PARTITION may hold anything else, and IN holds what it held; after an Ok nothing has
+    // whatever the outcome, only PARTITION may hold anything else, IN holds what it held; after an Ok nothing has
     // failed
     ensures leaves { IsTrue D.models → LeavesOthers result (SparesOthers (path_of partition.entry) (D.world disk.old)
         (D.world disk.new)) (path_in input.entry) (D.held disk.old) (D.held disk.new) (D.world disk.old)

@@ -6,8 +6,7 @@
 //!
 //! | file | content |
 //! |---|---|
-//! | `flash.rt` | `flash` of a sparse image, straight to a partition |
-//! | `flash_raw.rt` | `flash` of a raw image, straight to a partition |
+//! | `flash.rt`, `flash_raw.rt` | `flash` of a sparse or a raw image, straight to a partition |
 //! | `blocks.rt` | writing each block of a raw image to a partition |
 //! | `flash_source.rt` | writing a source over the beginning of a partition |
 //! | `pieces.rt` | `flash` of an image in pieces |

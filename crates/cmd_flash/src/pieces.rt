@@ -34,8 +34,7 @@ pub fn flash_pieces_file<'a, D: Disk>(
     m: &mut Meter,
 ) -> Result<(), SparseRefusal<'a>>
     requires ready { IsTrue D.models → MayFlashPieces (D.held disk.old) }
-    // PARTITION holds what it held, overwritten by the blocks of the pieces, and is synced; the printed line has
-    // their number
+    // PARTITION holds what it held, overwritten by the blocks of the pieces, and is synced; the line has their number
     ensures done { IsTrue D.models → OnOk result (FlashesPieces raw limit (max 1 from - 1) (path_of input.entry)
         (path_of partition.entry) (path_of spool.entry) (D.world disk.old) (D.world disk.new) (D.held disk.old)
         (D.held disk.new) (ShowsBeside (D.on_output (path_of partition.entry)) report.old report.new)) }

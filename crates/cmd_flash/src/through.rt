@@ -71,8 +71,7 @@ fn late<'a>(closed: Result<bool, HostRefusal<'a>>, why: Option<i32>) -> (Option<
 }
 
 // The result of delivering pieces from this one on, where there may be a cause that came before what stopped them. A
-// piece whose bytes could not all be written to the spool stopped for that, since everything else that stopped it
-// came later.
+// piece whose bytes could not all be written to the spool stopped for that, since any other cause came later.
 fn told_of(
     delivered: Result<Delivered, FlashFault>,
     from: u32,

@@ -63,8 +63,7 @@ pub fn verify_file<'a, D: Disk>(
     Ok(())
 }
 
-/// The same for a raw image in blocks of this many bytes. It is read at any position, so standard input must be a
-/// file.
+/// The same for a raw image in blocks of this many bytes. It is read at any position: standard input must be a file.
 #[inline(never)]
 pub fn verify_raw_file<'a, D: Disk>(
     disk: &mut D,

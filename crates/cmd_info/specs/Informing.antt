@@ -64,8 +64,7 @@ pub record TellsFile (input : List ℕ) (o : Notation) (with_check : Bool) (worl
 abbrev pub OutFailed : Report → Report → Type 0
 OutFailed old new = old.out.faults.number < new.out.faults.number
 
--- the bytes x have this fault; or the source or standard output has; or the reasons that were found contradict the
--- answers
+-- the bytes x have this fault; or the source or standard output has; or the reasons contradict the answers
 abbrev pub IsInfoFault : List ℕ → Bool → Type 0 → Report → Report → SectionFault → Type 0
 IsInfoFault x with_check failed old new (sections.Read f) = failed
 IsInfoFault x with_check failed old new (sections.Write f) = OutFailed old new

@@ -47,8 +47,7 @@ abbrev pub AreAskedFor : PackCommand → World → BootFields → Packing → Ty
 AreAskedFor command world given p = ArePacked world command.texts (board_id_words command) nothing
     (AreFragmentsOf world command.texts.fragments.items) (asked_kind command) given p
 
--- The image that the arguments describe: of the kind and with the fields that they give, from the contents of the
--- files that they name.
+-- The image that the arguments describe: of their kind and fields, from the contents of the files that they name.
 pub record IsPackedBy (command : PackCommand) (world : World) (bytes : List ℕ) : Type 0 where
   pub known : IsTrue (is_version command.is_vendor command.version)
   pub given : BootFields

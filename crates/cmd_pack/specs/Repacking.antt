@@ -52,8 +52,7 @@ pub record BeginsWith (input : List ℕ) (world : World) (x : List ℕ) (h : Hea
   pub file : FileHolds world input x
   pub has : HasImage x h
 
--- the image of IN's kind: from the given fields, parts and fragments, and else IN's own; and after it the bytes after
--- IN's image, where they are kept
+-- the image of IN's kind: from the given fields, parts and fragments, and else IN's own; then the kept bytes after IN's
 pub record IsPackedAgain (command : PackCommand) (x : List ℕ) (h : Header) (world : World) (bytes : List ℕ) : Type 0
   where
     pub given : BootFields

@@ -1,12 +1,10 @@
 //! The commands `pack` and `repack`, over any disk.
 //!
-//! Their contracts state what they leave of the files of a disk that models their contents. Every clause applies to
-//! the disk in memory.
+//! Their contracts state what they leave of the files of a disk that models their contents, such as the one in memory.
 //!
 //! | file | content |
 //! |---|---|
-//! | `pack.rt` | the command `pack` |
-//! | `repack.rt` | the command `repack` |
+//! | `pack.rt`, `repack.rt` | the command of that name |
 //! | `filling.rt` | combining the data from which the image is written |
 //! | `telling.rt` | reporting what was left out |
 #![tactic(auto)]

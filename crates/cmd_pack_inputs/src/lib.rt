@@ -7,13 +7,10 @@
 //!
 //! | file | content |
 //! |---|---|
-//! | `parts.rt` | the parts of the image, each open for reading |
-//! | `ramdisks.rt` | its ramdisk fragments, each open for reading |
+//! | `parts.rt`, `ramdisks.rt` | the parts of the image and its ramdisk fragments, each open for reading |
 //! | `own.rt` | an image that is packed again, and the ranges that are read beside it |
-//! | `fields.rt` | the image's own fields |
-//! | `own_ramdisks.rt` | the image's own fragments |
-//! | `kept.rt` | what `repack` keeps beside its sections, and what it leaves out |
-//! | `given_parts.rt` | what is replaced in an image that is packed again |
+//! | `fields.rt`, `own_ramdisks.rt` | the own fields and the own fragments of that image |
+//! | `kept.rt`, `given_parts.rt` | what `repack` keeps beside its sections, what it leaves out, and what it replaces |
 //! | `input_files.rt` | the files that the arguments name |
 #![tactic(auto)]
 

@@ -63,11 +63,9 @@ pub record LaysBytes (r : Result ℕ LayFault) (models : Bool) (bytes y : List �
   pub packs : PacksBytes r IsOfLaying models bytes [] y failed failed'
   pub broken : OnErr r (HoldsNone y)
 
--- The open output is completed and closed.
--- - After an Ok it holds these bytes. The result is their number, and whether the output is where standard output
---   goes.
--- - No other file has changed.
--- - After an Err a device or a file was at fault. A file that is overwritten holds no image, or all of these bytes.
+-- The open output is completed and closed. After an Ok it holds these bytes. The result is their number, and whether
+-- the output is where standard output goes. No other file has changed. After an Err a device or a file was at fault,
+-- and a file that is overwritten holds no image, or all of these bytes.
 pub record WritesBytes {F : Type 0} (r : Result (ℕ × Bool) F) (fault : F → BootCommandFault) (is_over : Bool)
     (is_on_output : Bool) (bytes : List ℕ) (held held' : OpenFiles) (old new : World) : Type 0 where
   pub ended : OnOk r (Ends held.output bytes old new)
@@ -93,10 +91,9 @@ abbrev pub HoldsNoPartOf : List ℕ → (List ℕ → Type 0) → World → Worl
 HoldsNoPartOf output Whole old new = (file : ℕ) → new.at output ≡ Some file → (new.holds file ≡ old.holds file)
     ⊎ (HoldsNone (new.holds file) ⊎ Whole (new.holds file))
 
--- What a call that writes OUT leaves, whatever the result.
--- - Only OUT may hold anything else, and no output is open.
--- - OUT's file, where it can be overwritten, has no part of an image.
--- - After an Ok no call has failed, and the output was synced, where that is requested.
+-- What a call that writes OUT leaves, whatever the result. Only OUT may hold anything else, and no output is open.
+-- OUT's file, where it can be overwritten, has no part of an image. After an Ok no call has failed, and the output was
+-- synced, where that is requested.
 pub record LeavesOut {X F : Type 0} (r : Result X F) (output : List ℕ) (is_over : Bool) (Whole : List ℕ → Type 0)
     (held held' : OpenFiles) (old new : World) : Type 0 where
   pub others : OnlyAt held.read output old new

@@ -49,8 +49,7 @@ pub fn write_image<'f, 't, 'a, D: Disk>(
     ensures left { IsTrue D.models → LeavesOut result (path_out output.entry) (D.is_over (path_out output.entry))
         (λ x. x ≡ packed_image ⟦<PartSource<'t, D::At> as Source>⟧.content contents.entry) (D.held disk.old)
         (D.held disk.new) (D.world disk.old) (D.world disk.new) }
-    // it fails for a fault of packing, for a fault of devices or files, or where everything was done but its line
-    // failed
+    // it fails for a fault of packing, for a fault of devices or files, or where only its line failed
     ensures refused { IsTrue D.models → IfErr result (λ refusal. StopsWriting
         (refusal_from contents.entry.kind (packing_of ⟦<PartSource<'t, D::At> as Source>⟧.content contents.entry))
         (D.held disk.old) (D.held disk.new)

@@ -1,5 +1,4 @@
--- What a command of sparse images does with the files that its arguments name, what it leaves of them, and why it
--- fails.
+-- What a command of sparse images does with the files of its arguments, what it leaves of them, and why it fails.
 use Rattle.std.specs.Prelude.{◌≡◌, ◌<◌, ◌+◌, ◌-◌, ◌++◌, max, ℕ, List, [], ◌∷◌, Option, Some, None, Bool, IsTrue, map}
 use Rattle.std.specs.Prelude.{if◌then◌else◌, Result, OnOk}
 use Rattle.std.specs.List.{AllByRecursion}

@@ -6,7 +6,7 @@ ghost use Rattle.cmd_common_sparse.specs.ImagePath.{image_path};
 
 use sys_refusals::FileArg;
 
-/// The file that an argument names. Where it is read forward, `-` is standard input; where it is an output, standard
+/// The file that an argument names. `-` is standard input where it is read forward, and standard output where it is an
 /// output.
 pub(crate) fn place<'a>(role: &'static str, word: &'a str) -> FileArg<'a>
     ensures at { path_of result ≡ word.now }

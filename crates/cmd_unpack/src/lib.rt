@@ -1,7 +1,6 @@
 //! The command `unpack`, over any disk.
 //!
-//! Its contracts state what it leaves of the files of a disk that models their contents. Every clause applies to the
-//! disk in memory.
+//! Its contracts state what it leaves of the files of a disk that models their contents, such as the disk in memory.
 //!
 //! | file | content |
 //! |---|---|
@@ -9,8 +8,7 @@
 //! | `parts.rt` | writing all parts, one after another |
 //! | `write_part.rt` | writing one part to a file of its own |
 //! | `copying.rt` | copying the bytes of a part from the image to an output |
-//! | `names.rt` | the file of a part |
-//! | `lines.rt` | the line that is printed of a part |
+//! | `names.rt`, `lines.rt` | the file of a part, and the line that is printed of it |
 #![tactic(auto)]
 
 mod copying;

@@ -19,8 +19,7 @@ use sys_disk::Disk;
 use sys_refusals::{FileArg, HostRefusal, Refusal, Sides};
 use sys_report::Report;
 
-/// Writes each section and then each ramdisk fragment of an image to a file in a folder, and the arguments that pack
-/// it again.
+/// Writes each section, then each ramdisk fragment of an image to a file in a folder, and arguments to pack it again.
 ///
 /// Each file is opened when its turn comes, and its line is printed when the file is complete. Where the image is one
 /// of the files to be written, no file is written.

@@ -1,6 +1,5 @@
-//! The body of unpack_bootimg, over any disk.
-//!
-//! Its contracts state what it leaves of the files of a disk that models their contents.
+//! The body of unpack_bootimg, over any disk. Its contracts state what it leaves of the files of a disk that models
+//! their contents.
 //!
 //! | file | content |
 //! |---|---|

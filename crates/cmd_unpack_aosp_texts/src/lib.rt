@@ -1,8 +1,7 @@
 //! The texts of a boot image that unpack_bootimg prints.
 //!
 //! The layers above rely on two facts:
-//! - `write_aosp_text` writes exactly the text that the specification defines for the image's header and its table of
-//!   fragments.
+//! - `write_aosp_text` writes exactly the text that is defined for the image's header and its table of fragments.
 //! - The arguments are quoted as a shell reads them.
 //!
 //! | file | content |
