@@ -37,8 +37,7 @@ IsRefused None fault x limit room before a z = SparseRefused fault x limit room 
 IsRefused (Some size) fault x limit room before a z =
     RawRefused fault size x (length x) limit room before true true a z
 
--- p holds the first pieces of the image x, `done`, over q, and any bytes for all others: continuing after them repairs
--- it
+-- q holds the first `done` pieces of the image x over p, and any bytes for all others: continuing after them repairs it
 abbrev pub StandsUpTo : Option ℕ → ℕ → ℕ → List ℕ → List ℕ → List ℕ → Type 0
 StandsUpTo raw limit done x p q =
     Mendable (image_as raw x).size (image_as raw x).blocks p q
