@@ -1,4 +1,4 @@
--- What a call answered Ok for, by two of its clauses.
+-- What a call returned Ok for, by two of its clauses.
 use Rattle.std.specs.Prelude.{Result, Ok, Err, OnOk}
 
 pub both : {X E : Type 0} (r : Result X E) (P Q R : Type 0) → (P → Q → R) → OnOk r P → OnOk r Q → OnOk r R

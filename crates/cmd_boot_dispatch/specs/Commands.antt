@@ -1,4 +1,4 @@
--- What a command over boot images does with the files that its words name, leaves of them, and is refused for.
+-- What a command of boot images does with the files of its arguments, what it leaves of them, and why it fails.
 use Rattle.std.specs.Prelude.{◌≡◌, ◌+◌, ℕ, List, Bool, IsTrue, if◌then◌else◌}
 use Rattle.sys_refusals.specs.Paths.{output_path}
 use Rattle.words_orders.specs.declared.order.BootTask.{BootTask}
@@ -21,7 +21,7 @@ use Rattle.cmd_boot_dispatch.specs.declared.command.BootCommand.{BootCommand}
 use Rattle.cmd_boot_dispatch.specs.declared.command.Kind.{Kind}
 use Rattle.cmd_boot_dispatch.specs.declared.command.Kind.TheVariants as kinds
 
--- the command that a task asks for, with the bytes that its words stand for
+-- the command that a task asks for, with the bytes that its arguments encode
 abbrev pub IsKindOf : BootTask → Kind → Type 0
 IsKindOf (tasks.Pack order) (kinds.Pack command) = IsCommandOf order command
 IsKindOf (tasks.Repack input order) (kinds.Repack from command) = (from.now ≡ input.now) × IsCommandOf order command
@@ -31,11 +31,11 @@ IsKindOf (tasks.Info input with_check with_hex) (kinds.Info from check hex) =
     (from.now ≡ input.now) × (check ≡ with_check) × (hex ≡ with_hex)
 IsKindOf task kind = ⊥
 
--- one output more was synced, where that is wanted
+-- one output more was synced, where that is requested
 abbrev pub SyncsOne : OpenFiles → OpenFiles → Type 0
 SyncsOne old new = new.syncs ≡ old.syncs + (if old.is_synced then 1 else 0)
 
--- ---- what is done, from one moment to another, where these outputs are where standard output goes
+-- ---- what is done, from one state to another, where these outputs are where standard output goes
 
 abbrev pub DoesKind : (List ℕ → Bool) → Kind → World → OpenFiles → Report → World → OpenFiles → Report → Type 0
 DoesKind on_output (kinds.Pack command) world held report world' held' report' =
@@ -50,7 +50,7 @@ DoesKind on_output (kinds.Unpack input folder with_words) world held report worl
 DoesKind on_output (kinds.Info input with_check with_hex) world held report world' held' report' =
     TellsFile input.now (notation_of with_hex) with_check world report report'
 
--- ---- what stays, whatever the outcome: OUT, or files of the parts' names, alone may hold anything else
+-- ---- what stays, whatever the outcome: only OUT, or files with the parts' names, may hold anything else
 
 abbrev pub SparesKind : Kind → World → OpenFiles → World → OpenFiles → Type 0
 SparesKind (kinds.Pack command) world held world' held' =
@@ -62,7 +62,7 @@ SparesKind (kinds.Unpack input folder with_words) world held world' held' =
     × KeepsFile input.now world world'
 SparesKind (kinds.Info input with_check with_hex) world held world' held' = world' ≡ world
 
--- OUT of these is no image unless all of it is there, where it can be written over
+-- OUT of these has no part of an image, where it can be overwritten
 abbrev pub LeavesNoPartOfBoot : (List ℕ → Bool) → Kind → World → World → Type 0
 LeavesNoPartOfBoot over (kinds.Pack command) world world' =
     IsTrue (over (output_path command.output.now)) → HoldsNoPart command world world'
@@ -71,7 +71,7 @@ LeavesNoPartOfBoot over (kinds.Repack input command) world world' =
 LeavesNoPartOfBoot over (kinds.Unpack input folder with_words) world world' = Unit {0}
 LeavesNoPartOfBoot over (kinds.Info input with_check with_hex) world world' = Unit {0}
 
--- ---- why it is refused
+-- ---- why it fails
 
 abbrev pub RefusesKind : BootCommandFault → Kind → World → OpenFiles → Report → World → OpenFiles → Report → Type 0
 RefusesKind fault (kinds.Pack command) world held report world' held' report' =

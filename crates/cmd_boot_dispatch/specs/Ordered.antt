@@ -1,4 +1,4 @@
--- What an order of `pack` or `repack` comes to: the same, with the bytes that its words stand for.
+-- The command that an order of `pack` or `repack` becomes: the same, with the bytes that its arguments encode.
 use Rattle.std.specs.Prelude.{◌≡◌, ℕ, List, Bool, true, false, Option, Some, None, map, option_map}
 use Rattle.std.specs.Prelude.{if◌then◌else◌}
 use Rattle.std.specs.List.{All, filter_map}
@@ -13,13 +13,13 @@ use Rattle.cmd_common_boot.specs.declared.pack_command.PackCommand.{PackCommand}
 use Rattle.cmd_common_boot.specs.declared.pack_texts.OptionText.{OptionText}
 use Rattle.cmd_common_boot.specs.declared.pack_texts.FragmentText.{FragmentText}
 
--- the bytes that a word stands for
+-- the bytes that an argument encodes
 abbrev pub bytes_for : Bool → List ℕ → List ℕ
 bytes_for is_escaped word = if is_escaped then unescaped word else word
 
 -- ---- options
 
--- an option that has a word: its row and the name there, the word with its number, and the bytes
+-- an option that has an argument: its row and the name there, the argument with its number, and the bytes
 pub record OptionWord : Type 0 where
   pub row : Row
   pub name : List ℕ
@@ -27,7 +27,7 @@ pub record OptionWord : Type 0 where
   pub number : ℕ
   pub bytes : List ℕ
 
--- an option of the order, where it has a word; and all of them
+-- an option of the order, where it has an argument; and all of them
 abbrev pub ordered_option : Bool → Given → Option OptionWord
 ordered_option is_escaped given = option_map (λ word. record {
   row = given.row.now;
@@ -55,33 +55,33 @@ command_options texts = map command_option texts
 
 -- ---- fragments
 
--- a word says this of a fragment, and that its file has this path
+-- an argument describes this fragment, and its file has this path
 abbrev pub WordSaysFragment : Bool → List ℕ → FragmentSpec → List ℕ → Type 0
 WordSaysFragment true word spec path = IsEscapedFragment word spec path
 WordSaysFragment false word spec path = IsFragment word spec path
 
--- that a word says none
+-- an argument describes no fragment
 abbrev pub SaysNone : Bool → List ℕ → Type 0
 SaysNone is_escaped word = (spec : FragmentSpec) (path : List ℕ) → WordSaysFragment is_escaped word spec path → ⊥
 
--- what was read of a word is what it says
+-- what was read of an argument is what it describes
 abbrev pub IsReadOf : Bool → List ℕ → Option FragmentWord → Type 0
 IsReadOf is_escaped word None = SaysNone is_escaped word
 IsReadOf is_escaped word (Some read) = WordSaysFragment is_escaped word read.spec read.path.now
 
--- a fragment is what its word says, and has the bytes of the path; or its word says none
+-- a fragment is what its argument describes, and has the bytes of the path; or its argument describes none
 abbrev pub IsFragmentOfWord : Bool → List ℕ → Option FragmentSpec → List ℕ → Type 0
 IsFragmentOfWord is_escaped word None bytes = SaysNone is_escaped word
 IsFragmentOfWord is_escaped word (Some spec) bytes =
     (path : List ℕ) × WordSaysFragment is_escaped word spec path × (bytes ≡ bytes_for is_escaped path)
 
--- the same of a fragment of the command
+-- the same for a fragment of the command
 abbrev pub IsOfItsWord : Bool → FragmentText → Type 0
 IsOfItsWord is_escaped text = IsFragmentOfWord is_escaped text.word.now text.spec text.path.items
 
 -- ---- the command
 
--- all that the order says, the options in the order of the table, and each fragment in its place
+-- everything in the order, the options in the order of the table, and each fragment in its place
 pub record IsCommandOf (order : PackOrder) (command : PackCommand) : Type 0 where
   pub output : command.output.now ≡ order.output.now
   pub vendor : command.is_vendor ≡ order.is_vendor

@@ -1,4 +1,4 @@
-//! Which command over boot images it is.
+//! Selects the command of boot images.
 
 ghost use Rattle.std.specs.Prelude.{◌≡◌, IsTrue, IfErr, IfOk, OnOk};
 ghost use Rattle.sys_disk.specs.World.{HasNotFailed, IsReading};
@@ -17,13 +17,13 @@ use sys_refusals::FileArg;
 use sys_report::Report;
 use words_orders::BootTask;
 
-/// A command over boot images, whose words are read.
+/// A command of boot images, with its arguments parsed.
 #[derive(Drop)]
 pub struct BootCommand<'a> {
     pub kind: Kind<'a>,
 }
 
-/// Which one it is.
+/// Which command it is.
 #[derive(Drop)]
 pub enum Kind<'a> {
     Pack(PackCommand<'a>),
@@ -44,7 +44,7 @@ pub enum Kind<'a> {
 }
 
 impl<'a> BootCommand<'a> {
-    /// Reads the words that stand for bytes.
+    /// Decodes the arguments that encode bytes.
     pub fn new(alloc: Global, task: BootTask<'a>) -> Result<BootCommand<'a>, AllocError>
         ensures { IfOk result (λ command. IsKindOf task.entry command.kind) }
     {
@@ -80,7 +80,7 @@ impl<'a> BootCommand<'a> {
     }
 }
 
-/// Does what a command asks for.
+/// Runs a command.
 pub fn boot_command<'t, 'a, D: Disk>(
     disk: &mut D,
     report: &mut Report,
@@ -89,17 +89,17 @@ pub fn boot_command<'t, 'a, D: Disk>(
     m: &mut Meter,
 ) -> BootOutcome<'t, 'a>
     requires first { IsTrue D.models → IsReading (D.held disk.old) }
-    // it is done, by its own body, at the files that its words name
+    // it is done by its own body, on the files that its arguments name
     ensures done { IsTrue D.models → OnOk result (DoesKind D.on_output command.now.kind (D.world disk.old)
         (D.held disk.old) report.old (D.world disk.new) (D.held disk.new) report.new) }
-    // whatever the outcome, what it reads holds what it held, and none has changed but what it is to write
+    // whatever the outcome, the files that it reads hold what they held, and only its outputs may have changed
     ensures spares { IsTrue D.models → SparesKind command.now.kind (D.world disk.old) (D.held disk.old)
         (D.world disk.new) (D.held disk.new) }
     ensures whole { IsTrue D.models
         → LeavesNoPartOfBoot D.is_over command.now.kind (D.world disk.old) (D.world disk.new) }
-    // it is done only where nothing failed
+    // the result is Ok only where nothing failed
     ensures clean { IsTrue D.models → OnOk result (HasNotFailed (D.held disk.old) (D.held disk.new)) }
-    // it is refused for what its body is refused for
+    // it fails for a cause for which its body fails
     ensures refused { IsTrue D.models → IfErr result (λ refusal. RefusesKind refusal.fault command.now.kind
         (D.world disk.old) (D.held disk.old) report.old (D.world disk.new) (D.held disk.new) report.new) }
 {
@@ -121,7 +121,7 @@ pub fn boot_command<'t, 'a, D: Disk>(
     }
 }
 
-// The file at a word, where `-` is a file of that name.
+// The file that an argument names, where `-` is a file of that name.
 fn input_at<'a>(word: &'a str) -> FileArg<'a>
     ensures { path_of result ≡ word.now }
 {

@@ -1,12 +1,11 @@
-//! The commands over boot images: pack, repack, unpack and info, each from its order to files and the report.
+//! The commands `pack`, `repack`, `unpack` and `info` of boot images, from their arguments to files and the report.
+//! Their bodies are in `cmd_unpack`, `cmd_info` and `cmd_pack`, the meaning of their arguments is in `cmd_common_boot`.
+//! This crate selects the command, and decodes the arguments of `pack` and `repack` to bytes.
 //!
-//! Their bodies stand in `cmd_unpack`, `cmd_info` and `cmd_pack`, over any disk, and what their words mean, in
-//! `cmd_common_boot`. Here is which command it is, and what `pack` and `repack` are told, as bytes.
-//!
-//! | file | has |
+//! | file | content |
 //! |---|---|
-//! | `command.rt` | which command it is |
-//! | `pack_order.rt` | what `pack` and `repack` are told, as bytes |
+//! | `command.rt` | selecting the command |
+//! | `pack_order.rt` | the arguments of `pack` and `repack`, as bytes |
 #![tactic(auto)]
 
 mod command;

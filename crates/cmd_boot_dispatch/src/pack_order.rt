@@ -1,4 +1,4 @@
-//! What `pack` and `repack` are told, with the bytes that each word stands for.
+//! The arguments of `pack` and `repack`, with the bytes that each encodes.
 
 ghost use Rattle.std.specs.Prelude.{◌≡◌, IfOk, map};
 ghost use Rattle.std.specs.List.{All};
@@ -11,7 +11,7 @@ use cmd_common_fields::{FragmentWord, unescaped};
 use std::alloc::{AllocError, Global};
 use words_orders::{Given, PackOrder};
 
-/// Reads what each option of the table was given, and the words of the fragments.
+/// Reads the value of each option of the table, and the arguments of the fragments.
 pub(crate) fn command_of<'a>(
     alloc: Global,
     order: PackOrder<'a>,
@@ -43,7 +43,7 @@ pub(crate) fn command_of<'a>(
     })
 }
 
-// The options that have a word.
+// The options that have an argument.
 fn options_of<'a>(
     alloc: Global,
     given: &[Given<'a>],
@@ -62,7 +62,7 @@ fn options_of<'a>(
     Ok(options)
 }
 
-// An option that has this word.
+// An option that has this argument.
 fn option_of<'a>(
     alloc: Global,
     given: Given<'a>,
@@ -114,7 +114,7 @@ fn fragment_of<'a>(
     Ok(FragmentText { word, spec, path })
 }
 
-// What a word says of a fragment.
+// What an argument describes of a fragment.
 fn fragment_word<'a>(
     alloc: Global,
     word: &'a str,

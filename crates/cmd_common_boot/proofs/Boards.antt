@@ -28,7 +28,7 @@ one_more_set [] word old between new same last =
 one_more_set (w ∷ words) word old between new before last =
     (before.0, before.1, one_more_set words word before.0 between new before.2 last)
 
--- and in a list of words that stand in other values
+-- and in a list of words that are fields of other values
 pub more_set : {X : Type 0} (f : X → List ℕ) (ws : List X) (i : ℕ) (d : X) (old between new : List FragmentSpec)
     → i < length ws → AreSet (map f (take i ws)) old between → IsSet (f (get_or ws i d)) between new
     → AreSet (map f (take (i + 1) ws)) old new

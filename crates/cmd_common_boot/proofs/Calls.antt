@@ -1,4 +1,4 @@
--- Calls of a disk, and what they answer.
+-- Calls of a disk, and what they return.
 use Rattle.std.proofs.Common.{◌≡◌, ◌+◌, ap, arith}
 use Rattle.std.specs.Prelude.{OnOk, Result, Ok, Err}
 use Rattle.sys_disk.specs.World.{OpenFiles, failing}

@@ -1,4 +1,4 @@
--- Which faults a call answers over an image that stays as it was.
+-- Which faults a call returns over an image that stays as it was.
 use Rattle.std.proofs.Common.{◌≡◌, inl, inr, ℕ, ◌+◌, ◌<◌, ◌≤◌, List, Result, Ok, Err, refl, sym, ap, subst, arith}
 use Rattle.std.specs.Prelude.{IfErr, IsOk, OnOk}
 use Rattle.sys_refusals.specs.declared.refusal.HostFault.{HostFault}
@@ -45,7 +45,7 @@ read_first f r r' w x changed cause same reads =
     fault_more x (r + 0 < r' + 0) (r + w < r' + w) f (λ h. omega (arith, h))
     (moved f r r' 0 0 x changed cause same reads (omega arith))
 
--- of moving, behind a read that succeeded
+-- of moving, after a read that succeeded
 pub moved_behind : (f : SectionFault) (r q r' w w' : ℕ) (x : List ℕ) (changed : Type 0) → q ≡ r
     → MoveCause f q r' w w' changed → ¬ changed → q ≤ r' → w ≤ w' → IsFaultOf x (r + w < r' + w') f
 moved_behind f r q r' w w' x changed clean cause same reads writes =
@@ -64,7 +64,7 @@ opened sections.CommandLine x r r' changed cause refused = absurd refused
 opened (sections.SectionTruncated s) x r r' changed cause refused = refused
 opened (sections.SectionTooLarge s) x r r' changed cause refused = absurd refused
 
--- ---- refusals
+-- ---- why it fails
 
 pub refusal_more : (x : List ℕ) (P Q U V : Type 0) (fault : BootCommandFault) → (P → Q) → (U → V)
     → IsRefusalOf x P U fault → IsRefusalOf x Q V fault
@@ -88,7 +88,7 @@ of_files answer x P U Q V (faults.BadNumber word) more stands told = absurd told
 of_files answer x P U Q V (faults.BadBoardId word) more stands told = absurd told
 of_files answer x P U Q V faults.CheckFailed more stands told = absurd told
 
--- a fault that is told is one of the bytes, or of a device that failed
+-- a fault that is reported is one of the bytes, or of a device that failed
 pub told_is : (answer : Result ℕ SectionFault) (x : List ℕ) (P U E Q V : Type 0) (fault : BootCommandFault)
     → IsAnswerOf answer P U fault → IfErr answer (IsFaultOf x E) → (IsOk answer → P → Q) → (E → Q)
     → (IsOk answer → U → V)
@@ -145,7 +145,7 @@ pub host_image : (path : List ℕ) (world : World) (P U : Type 0) (fault : BootC
     → fault ≡ faults.Host host → P → RefusesImage path world P U fault
 host_image path world P U fault host same failed = subst (λ f. RefusesImage path world P U f) (sym same) (inl failed)
 
--- what holds where a call answered Ok
+-- what holds where a call returned Ok
 pub ok_gives : {X E : Type 0} (answer : Result X E) (P : Type 0) → IsOk answer → OnOk answer P → P
 ok_gives (Ok x) P done given = given
 ok_gives (Err e) P done given = absurd (false≢true done)

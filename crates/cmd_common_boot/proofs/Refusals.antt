@@ -1,4 +1,4 @@
--- What packing refuses before it writes is no fault of moving bytes.
+-- A fault of packing that comes before it writes is no fault of moving bytes.
 use Rattle.std.proofs.Common.{◌≡◌, ℕ, Bool, true, false, List, [], ◌∷◌, Option, Some, None, Result, Ok, Err, refl, sym}
 use Rattle.std.proofs.Common.{subst, ap}
 use Rattle.std.specs.Prelude.{◌&&◌, ◌||◌, nat_lt, not, if◌then◌else◌, is_some, IfErr, OnOk}
@@ -70,9 +70,9 @@ refusal_fixed (Vendor n) s parts ramdisks =
     either (vendor_refusal (vendor_fields_asked s)) (size_refusal vendor_names sizes)
     (of_vendor (vendor_fields_asked s)) (of_sizes vendor_names sizes)
 
--- ---- what the packer answered that had no room
+-- ---- what the packer returned without room
 
--- it refused nothing of the fields and sizes
+-- the fields and sizes have no fault
 pub no_refusal : {X Y : Type 0} (r : Result X SectionFault) (q : Result Y SectionFault) (o : Option SectionFault)
     → NoMoving o
     → IfRefused o (λ f. r ≡ Err f) → OnOk q (IfErr r IsOfMoving) → OnOk q (o ≡ None)
@@ -87,7 +87,7 @@ fixed_is : (o : Option SectionFault) (f : SectionFault) → (IsOfMoving f → �
 fixed_is None f fixed is = absurd (fixed is)
 fixed_is (Some g) f fixed is = ap (λ k. Some k) (sym is)
 
--- it refused this of them
+-- they have this fault
 pub a_refusal : {X Y : Type 0} (r : Result X SectionFault) (q : Result Y SectionFault) (o : Option SectionFault)
     → IfErr r (IsRefusalOrMove o) → IfErr q (λ f. r ≡ Err f) → IfErr q (λ f. IsOfMoving f → ⊥) → IfErr q
     (λ f. o ≡ Some f)

@@ -1,4 +1,4 @@
--- Why an OS version that words give is refused.
+-- Why an OS version that arguments give fails.
 use Rattle.std.proofs.Common.{◌≡◌, ◌≤◌, ◌^◌, ℕ, List, Some, None, refl, sym, subst}
 use Rattle.std.specs.Prelude.{Result, Ok, Err, IfErr, OnErr, codes}
 use Rattle.abt_headers.specs.declared.os.OsVersion.{OsVersion}

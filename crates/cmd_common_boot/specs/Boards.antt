@@ -1,4 +1,4 @@
--- What a word of `--board-id` does to the ramdisk fragments that are packed.
+-- What an argument of `--board-id` does to the ramdisk fragments that are packed.
 use Rattle.std.specs.Prelude.{◌≡◌, ◌<◌, ℕ, zero, suc, List, [], ◌∷◌, length, set}
 use Rattle.abt_sections.specs.declared.spec.FragmentSpec.{FragmentSpec}
 use Rattle.cmd_common_fields.specs.Board.{BoardFits, IsBoardWord}
@@ -17,7 +17,7 @@ with_fragment (f ∷ fs) (suc i) k n = f ∷ with_fragment fs i k n
 abbrev pub with_board : List FragmentSpec → BoardWord → List FragmentSpec
 with_board fs b = with_fragment fs b.fragment b.place b.number
 
--- a word sets one number of these fragments: it is of that shape, and there is such a fragment
+-- an argument sets one number of these fragments: it has that format, and there is such a fragment
 pub record IsSet (word : List ℕ) (old new : List FragmentSpec) : Type 0 where
   pub board : BoardWord
   pub shape : IsBoardWord word board
@@ -25,7 +25,7 @@ pub record IsSet (word : List ℕ) (old new : List FragmentSpec) : Type 0 where
   pub there : board.fragment < length old
   pub is : new ≡ with_board old board
 
--- the words set their numbers, one after another
+-- the arguments set their numbers, one after another
 abbrev pub AreSet : List (List ℕ) → List FragmentSpec → List FragmentSpec → Type 0
 AreSet [] old new = new ≡ old
 AreSet (word ∷ words) old new = (next : List FragmentSpec) × IsSet word old next × AreSet words next new

@@ -1,4 +1,4 @@
--- Which options and fragments an image of a kind takes.
+-- The options and fragments that an image of each kind takes.
 use Rattle.std.specs.Prelude.{◌≡◌, ℕ, List, Contains, IsSome}
 use Rattle.words_values.specs.declared.rows.Row.{Row}
 use Rattle.cmd_common_fields.specs.Kind.{version_of}
@@ -16,7 +16,7 @@ carriers (Vendor n) row = row.vendor.now
 abbrev pub IsCarried : ImageKind → OptionText → Type 0
 IsCarried kind option = Contains (carriers kind option.row.now) (version_of kind)
 
--- an image of this kind takes the fragment: it has fragments, and the word is one
+-- an image of this kind takes the fragment: it has fragments, and the argument is valid
 pub record IsTaken (kind : ImageKind) (fragment : FragmentText) : Type 0 where
   pub has_fragments : kind ≡ Vendor 4
   pub shape : IsSome fragment.spec

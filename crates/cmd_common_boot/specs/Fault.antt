@@ -1,4 +1,4 @@
--- Which faults are of the words, and the number of each.
+-- Which faults concern the arguments, and the number of each fault.
 use Rattle.std.specs.Prelude.{ℕ, Bool, true, false, Option, Some, None}
 use Rattle.sys_refusals.specs.Host.{is_not_text}
 use Rattle.abt_sections.specs.Fault as section
@@ -8,7 +8,7 @@ use Rattle.cmd_common_boot.specs.Refused.{IsOfMoving}
 use Rattle.cmd_common_boot.specs.declared.fault.BootCommandFault.{BootCommandFault}
 use Rattle.cmd_common_boot.specs.declared.fault.BootCommandFault.TheVariants as faults
 
--- the words are wrong, rather than what they name
+-- the arguments are wrong, rather than what they name
 abbrev pub is_usage : BootCommandFault → Bool
 is_usage (faults.Host fault) = is_not_text fault
 is_usage (faults.Section fault) = false
@@ -32,7 +32,7 @@ boot_command_fault_number faults.CheckFailed = None
 abbrev pub of_version : ℕ → BootCommandFault
 of_version n = faults.Section (sections.Header (headers.Version n))
 
--- a word says no OS version
+-- an argument encodes no OS version
 abbrev pub of_os_word : BootCommandFault
 of_os_word = faults.Section (sections.Header headers.Os)
 

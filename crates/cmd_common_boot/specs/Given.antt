@@ -1,4 +1,4 @@
--- What the options of `pack` and `repack` say of the fields of an image.
+-- What the options of `pack` and `repack` set in the fields of an image.
 use Rattle.std.specs.Prelude.{◌≡◌, ℕ, Bool, List, [], ◌∷◌, Option, Some, None, codes, option_map, is_some, nat_le}
 use Rattle.std.specs.Prelude.{if◌then◌else◌}
 use Rattle.std.specs.List.{find, list_any}
@@ -36,12 +36,12 @@ bytes_or options name own = unwrap_or (option_map (λ option. option.bytes.items
 
 -- ---- addresses
 
--- any offset is given, so that mkbootimg's base counts
+-- any offset is given, so that mkbootimg's base is used
 abbrev pub has_offset : List OptionText → Bool
 has_offset options =
     list_any (λ which. is_some (found options (offset_option which))) (Kernel ∷ Ramdisk ∷ Second ∷ Tags ∷ Dtb ∷ [])
 
--- what the options say of an address
+-- what the options set of an address
 abbrev pub words_for : List OptionText → Address → AddressWords
 words_for options which = record {
   address = number_in options (address_option which);
@@ -53,13 +53,13 @@ abbrev pub up_to : ℕ → Option ℕ → Option ℕ
 up_to most None = None
 up_to most (Some n) = if nat_le n most then Some n else None
 
--- the address that the options say, or else its own; none where a header has no room for it
+-- the address that the options set, or else the image's own; none where it exceeds the header's field
 abbrev pub address_for : List OptionText → Address → ℕ → Option ℕ
 address_for options which own = up_to (most_address which) (load_at (words_for options which) (usual_offset which) own)
 
 -- ---- the OS version and patch level
 
--- a word of `--os` says this number
+-- an argument of `--os` encodes this number
 pub record OsWordSays (word : List ℕ) (os : ℕ) : Type 0 where
   pub parts : OsParts
   pub shape : IsOsWord word parts
@@ -71,13 +71,13 @@ IsOsOf (Some number) option own os = os ≡ number
 IsOsOf None (Some option) own os = OsWordSays option.word.now os
 IsOsOf None None own os = os ≡ own
 
--- the number of `--os-number`, or else what the word of `--os` says, or else its own
+-- the number of `--os-number`, or else the number that the argument of `--os` encodes, or else the image's own
 abbrev pub IsOsGiven : List OptionText → ℕ → ℕ → Type 0
 IsOsGiven options own os = IsOsOf (number_in options (codes "os-number")) (found options (codes "os")) own os
 
 -- ---- all fields
 
--- what `pack` goes by where nothing is given
+-- the fields of `pack` where nothing is given
 abbrev pub no_fields : BootFields
 no_fields = record {
   version = 0;
@@ -100,7 +100,7 @@ address_in s Second = s.second_addr
 address_in s Tags = s.tags_addr
 address_in s Dtb = s.dtb_addr
 
--- these fields are of this kind and what the options say, and else its own
+-- these fields are of this kind; they are those that the options set, and else the image's own
 pub record AreGiven (own : BootFields) (kind : ImageKind) (page : Option ℕ) (options : List OptionText)
     (fields : BootFields) : Type 0 where
   pub version : fields.version ≡ version_of kind

@@ -1,4 +1,4 @@
--- Why a command over a boot image is refused that was opened from a file.
+-- Why a command fails that works on a boot image that was opened from a file.
 use Rattle.std.specs.Prelude.{◌≡◌, ◌<◌, ◌+◌, ◌⊎◌, ℕ, List, Some, Result, Ok, Err}
 use Rattle.abt_sections.specs.declared.fault.SectionFault.{SectionFault}
 use Rattle.abt_sections.specs.declared.fault.SectionFault.TheVariants as sections
@@ -7,7 +7,7 @@ use Rattle.sys_disk.specs.World.{World, OpenFiles}
 use Rattle.cmd_common_boot.specs.declared.fault.BootCommandFault.{BootCommandFault}
 use Rattle.cmd_common_boot.specs.declared.fault.BootCommandFault.TheVariants as faults
 
--- from one moment to another a call of the disk failed, or a read of the source, whose faults are counted too
+-- between two states a call of the disk failed, or a read of the source, whose faults are counted too
 pub record SomeFailed (held : OpenFiles) (reads : ℕ) (held' : OpenFiles) (reads' : ℕ) : Type 0 where
   pub rises : held.failed + reads < held'.failed + reads'
 
@@ -27,7 +27,7 @@ IsFaultOf x failed sections.CommandLine = ⊥
 IsFaultOf x failed (sections.SectionTruncated s) = RefusedAs x (sections.SectionTruncated s)
 IsFaultOf x failed (sections.SectionTooLarge s) = ⊥
 
--- such a fault; or one of files, of which one failed, or nothing but a line that could not be printed
+-- such a fault; or a fault of files where one failed; or only a line that could not be printed
 abbrev pub IsRefusalOf : List ℕ → Type 0 → Type 0 → BootCommandFault → Type 0
 IsRefusalOf x failed unprinted (faults.Host f) = failed ⊎ unprinted
 IsRefusalOf x failed unprinted (faults.Section f) = IsFaultOf x failed f
@@ -37,11 +37,11 @@ IsRefusalOf x failed unprinted (faults.BadNumber word) = ⊥
 IsRefusalOf x failed unprinted (faults.BadBoardId word) = ⊥
 IsRefusalOf x failed unprinted faults.CheckFailed = ⊥
 
--- a refusal on the way
+-- a fault in the course of the command
 pub record IsRefusedOver (x : List ℕ) (failed unprinted : Type 0) (fault : BootCommandFault) : Type 0 where
   pub refuses : IsRefusalOf x failed unprinted fault
 
--- the same of what the file at this path holds
+-- the same for what the file at this path holds
 abbrev pub RefusesImage : List ℕ → World → Type 0 → Type 0 → BootCommandFault → Type 0
 RefusesImage path world failed unprinted (faults.Host f) = failed ⊎ unprinted
 RefusesImage path world failed unprinted (faults.Section f) =
@@ -52,7 +52,7 @@ RefusesImage path world failed unprinted (faults.BadNumber word) = ⊥
 RefusesImage path world failed unprinted (faults.BadBoardId word) = ⊥
 RefusesImage path world failed unprinted faults.CheckFailed = ⊥
 
--- what a call is refused for that answered so: its own fault, or else one of files, as above
+-- why a command fails after a call returned this: the call's own fault, or else one of files, as above
 abbrev pub IsAnswerOf : {X : Type 0} → Result X SectionFault → Type 0 → Type 0 → BootCommandFault → Type 0
 IsAnswerOf (Ok x) failed unprinted (faults.Host f) = failed ⊎ unprinted
 IsAnswerOf (Ok x) failed unprinted (faults.Section f) = ⊥

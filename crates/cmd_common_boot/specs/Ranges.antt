@@ -11,7 +11,7 @@ abbrev pub count_in : Option ℕ → ℕ
 count_in None = 0
 count_in (Some n) = n
 
--- so many bytes from a place on of what the file contains
+-- this many bytes from a position on of what the file contains
 abbrev pub range_bytes : Option (List ℕ) → ℕ → ℕ → List ℕ
 range_bytes None at n = []
 range_bytes (Some x) at n = take n (drop at x)

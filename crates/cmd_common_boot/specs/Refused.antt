@@ -1,4 +1,4 @@
--- What packing refuses of the fields of an image and of the sizes of its parts, and what it writes of them.
+-- Which fields of an image and which sizes of its parts the packer rejects, and which bytes it writes of them.
 use Rattle.std.specs.Prelude.{◌≡◌, ◌≤◌, ℕ, List, [], ◌∷◌, Option, Some, None, length, sum, ◌==◌, if◌then◌else◌, IsTrue}
 use Rattle.std.specs.Prelude.{Result, IfErr, OnOk}
 use Rattle.abt_io.specs.declared.device.Output as outputs
@@ -46,7 +46,7 @@ refusal_of (Boot n) s parts ramdisks = pack_boot_refusal (cmd_common_fields s) p
 refusal_of (Vendor n) s parts ramdisks = pack_vendor_refusal (vendor_fields_asked s)
     (vendor_sizes s.version parts ramdisks)
 
--- what a vendor boot image is packed from: version 3 has no fragments, and no bootconfig
+-- the parts from which a vendor boot image is packed: version 3 has no fragments, and no bootconfig
 abbrev pub vendor_parts_asked : ℕ → List (List ℕ) → List FragmentSpec → List (List ℕ) → VendorParts
 vendor_parts_asked version (a ∷ b ∷ parts) specs ramdisks =
     if version == 3 then vendor_parts [] (a ∷ []) b [] else vendor_parts specs ramdisks a b
@@ -58,14 +58,14 @@ packed (Boot n) s parts specs ramdisks = boot_canon (cmd_common_fields s) parts
 packed (Vendor n) s parts specs ramdisks = vendor_canon (vendor_fields_asked s)
     (vendor_parts_asked s.version parts specs ramdisks)
 
--- the fields are of this kind, with so many parts, and so many ramdisks for the fragments that are told of
+-- the fields are of this kind, with this many parts, and this many ramdisks for the described fragments
 pub record FitsKind (kind : ImageKind) (fields : BootSpec) (parts told ramdisks : ℕ) : Type 0 where
   pub versioned : fields.version ≡ version_of kind
   pub counted : parts ≡ row_count kind
   pub paired : told ≡ ramdisks
 
--- Packing fails for the refusal that there is, or for a device whose count of faults rose, those of all sources
--- counted together. After an Ok none has.
+-- Packing fails for the fault of the fields and sizes, if there is one, or for a device whose count of faults rose. The
+-- faults of all sources are counted together. After an Ok no count has risen.
 pub record PacksParts {X : Type 0} (r : Result X SectionFault) (refusal : Option SectionFault) {A : Type 0}
     (s : sources.Ghosts A) (reads reads' : ℕ) {B : Type 0} (o : outputs.Ghosts B) (old new : B) : Type 0 where
   pub faults : reads ≤ reads'
@@ -86,12 +86,12 @@ IsOfMoving faults.CommandLine = ⊥
 IsOfMoving (faults.SectionTruncated s) = ⊥
 IsOfMoving (faults.SectionTooLarge s) = ⊥
 
--- it is the refusal that there is, or else one of moving bytes
+-- it is the fault of the fields and sizes, or else one of moving bytes
 abbrev pub IsRefusalOrMove : Option SectionFault → SectionFault → Type 0
 IsRefusalOrMove None f = IsOfMoving f
 IsRefusalOrMove (Some g) f = f ≡ g
 
--- why a judge refuses: what packing refuses, or no memory
+-- why a check fails before packing: the fault of packing, or no memory
 abbrev pub IsJudged : Option SectionFault → BootCommandFault → Type 0
 IsJudged o (commands.Host f) = f ≡ hosts.Memory
 IsJudged o (commands.Section f) = o ≡ Some f

@@ -1,4 +1,4 @@
--- What a part of an image is read from.
+-- The source of a part of an image.
 use Rattle.std.specs.Prelude.{ℕ, List, option_map}
 use Rattle.cmd_common_boot.specs.Ranges.{range_bytes, count_in}
 use Rattle.cmd_common_boot.specs.declared.part_source.PartSource.{PartSource}

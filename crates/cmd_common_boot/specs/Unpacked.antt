@@ -5,11 +5,11 @@ use Rattle.abt_sections.specs.Header.{Header, fragment_count, places_of}
 use Rattle.cmd_common_boot.specs.declared.part_names.ImagePart.{ImagePart}
 use Rattle.cmd_common_boot.specs.declared.part_names.ImagePart.TheVariants as parts
 
--- a file for each section and each fragment, and maybe one for the words
+-- a file for each section and each fragment, and maybe one for the arguments
 abbrev pub part_count : Header → Bool → ℕ
 part_count h with_words = length (places_of h) + fragment_count h + (if with_words then 1 else 0)
 
--- sections come first, then fragments, then the words
+-- sections are first, then fragments, then the arguments
 pub record IsPart (h : Header) (i : ℕ) (part : ImagePart) : Type 0 where
   pub of_section : i < length (places_of h) → (place : SectionPlace) × (place ≡ slice_index_or (places_of h) i place)
       × (part ≡ parts.Section place.kind)

@@ -1,4 +1,4 @@
--- Why the words of `pack` and `repack` are refused: each fault is so.
+-- Why the arguments of `pack` and `repack` fail: each fault has its cause.
 use Rattle.std.specs.Prelude.{◌≡◌, ◌≤◌, ◌^◌, ◌⊎◌, ℕ, Bool, true, false, List, [], Contains, Option, Some}
 use Rattle.std.specs.Prelude.{None, codes, Result, IfOk, IfErr}
 use Rattle.abt_headers.specs.declared.fault.HeaderFault.{HeaderFault}
@@ -18,21 +18,21 @@ use Rattle.cmd_common_boot.specs.declared.fault.BootCommandFault.TheVariants as 
 use Rattle.cmd_common_boot.specs.declared.pack_texts.FragmentText.{FragmentText}
 use Rattle.cmd_common_boot.specs.declared.pack_texts.OptionText.{OptionText}
 
--- an option of this name was given, which an image of this kind doesn't carry
+-- an option of this name was given, which an image of this kind doesn't have
 pub record IsNotCarried (kind : ImageKind) (options : List OptionText) (name : List ℕ) : Type 0 where
   pub option : OptionText
   pub is_one : Contains options option
   pub named : option.name.now ≡ name
   pub not_carried : IsCarried kind option → ⊥
 
--- a fragment of this word was given, which an image of this kind doesn't take
+-- a fragment of this argument was given, which an image of this kind doesn't take
 pub record IsBadFragment (kind : ImageKind) (fragments : List FragmentText) (word : List ℕ) : Type 0 where
   pub fragment : FragmentText
   pub is_one : Contains fragments fragment
   pub written : fragment.word.now ≡ word
   pub not_taken : IsTaken kind fragment → ⊥
 
--- why the options and the fragments are refused, by the kind alone
+-- why the options and the fragments fail, by the kind alone
 abbrev pub IsUntaken : ImageKind → List OptionText → List FragmentText → BootCommandFault → Type 0
 IsUntaken kind options fragments (faults.OptionNotCarried name) = IsNotCarried kind options name.now
 IsUntaken kind options fragments (faults.BadFragment word) = IsBadFragment kind fragments word.now
@@ -46,39 +46,39 @@ abbrev pub word_or : Option OptionText → List ℕ → List ℕ
 word_or (Some option) word = option.word.now
 word_or None word = word
 
--- the word that an address is counted from: its own, or else that of its offset, or else of the base
+-- the argument from which an address comes: its own, or else that of its offset, or else that of the base
 abbrev pub told_word : List OptionText → Address → List ℕ
 told_word options which = word_or (found options (address_option which))
     (word_or (found options (offset_option which)) (word_or (found options (codes "base")) []))
 
--- an address is answered that the words say, or else its own, or the word of one that no header has room for
+-- The result is an address that the arguments set, or else the image's own; or the argument that exceeds its field.
 pub record SaysAddress {E : Type 0} (r : Result ℕ E) (word : E → List ℕ) (options : List OptionText) (which : Address)
     (own : ℕ) : Type 0 where
   pub given : IfOk r (λ address. address_for options which own ≡ Some address)
   pub no_room : IfErr r (λ e. address_for options which own ≡ None)
   pub told : IfErr r (λ e. word e ≡ told_word options which)
 
--- a header has no room for an address that this word is of
+-- an address from this argument exceeds its field of the header
 pub record IsBadAddress (own : BootFields) (options : List OptionText) (word : List ℕ) : Type 0 where
   pub which : Address
   pub no_room : address_for options which (address_in own which) ≡ None
   pub told : word ≡ told_word options which
 
--- the number of `--os-number`, which is this word, has more than 32 bits
+-- the number of `--os-number`, which is this argument, has more than 32 bits
 pub record IsBadOsNumber (options : List OptionText) (word : List ℕ) : Type 0 where
   pub option : OptionText
   pub is : found options (codes "os-number") ≡ Some option
   pub no_room : 2 ^ 32 ≤ option.number
   pub told : word ≡ option.word.now
 
--- the word of `--os` counts, and says none
+-- the argument of `--os` is used, and encodes no OS version
 pub record IsBadOs (options : List OptionText) : Type 0 where
   pub option : OptionText
   pub no_number : found options (codes "os-number") ≡ None
   pub is : found options (codes "os") ≡ Some option
   pub says_none : (os : ℕ) → OsWordSays option.word.now os → ⊥
 
--- why the OS version that was given is refused
+-- why the given OS version fails
 abbrev pub IsWrongOs : List OptionText → BootCommandFault → Type 0
 IsWrongOs options (faults.BadNumber word) = IsBadOsNumber options word.now
 IsWrongOs options (faults.Section fault) = IsBadOs options × (fault ≡ sections.Header headers.Os)
@@ -113,7 +113,7 @@ IsWrongSection kind options sections.CommandLine = ⊥
 IsWrongSection kind options (sections.SectionTruncated s) = ⊥
 IsWrongSection kind options (sections.SectionTooLarge s) = ⊥
 
--- the words are refused for what is so
+-- the arguments fail, and the fault's cause holds
 abbrev pub IsWrong : BootFields → ImageKind → List OptionText → List FragmentText → BootCommandFault → Type 0
 IsWrong own kind options fragments (faults.OptionNotCarried name) = IsNotCarried kind options name.now
 IsWrong own kind options fragments (faults.BadFragment word) = IsBadFragment kind fragments word.now

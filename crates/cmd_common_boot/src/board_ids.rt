@@ -1,4 +1,4 @@
-//! The board ids of ramdisk fragments, as the words of `--board-id` set them.
+//! The board ids of ramdisk fragments, as the arguments of `--board-id` set them.
 
 ghost use Rattle.std.specs.Prelude.{◌≡◌, ◌<◌, ◌↔◌, IsTrue, IfErr, OnOk, Contains, false, length, map};
 ghost use Rattle.cmd_common_fields.specs.Board.{BoardFits, IsBoardWord};
@@ -7,8 +7,7 @@ ghost use Rattle.cmd_common_boot.specs.Boards.{AreSet, IsSet, with_board};
 use abt_sections::FragmentSpec;
 use cmd_common_fields::BoardWord;
 
-/// Sets the numbers that the words say, in order. Answers the first word that is none, or of which there is no
-/// fragment.
+/// Sets the numbers of the arguments, in order. Fails with the first that is invalid, or whose fragment is missing.
 pub fn set_board_ids<'a>(specs: &mut [FragmentSpec], words: &[&'a str]) -> Result<(), &'a str>
     ensures same { length specs.new ≡ length specs.old }
     ensures set { OnOk result (AreSet (map (λ w. w.now) words.now) specs.old specs.new) }
@@ -23,7 +22,7 @@ pub fn set_board_ids<'a>(specs: &mut [FragmentSpec], words: &[&'a str]) -> Resul
     Ok(())
 }
 
-/// Sets the number that a word says, and answers whether it says one of a fragment that is there.
+/// Sets the number that an argument encodes. Returns whether it is valid and its fragment exists.
 fn set_by_word(specs: &mut [FragmentSpec], word: &str) -> bool
     ensures set { IsTrue result → IsSet word.now specs.old specs.new }
     ensures refused { result ≡ false →
@@ -35,7 +34,7 @@ fn set_by_word(specs: &mut [FragmentSpec], word: &str) -> bool
     }
 }
 
-/// Sets a number of the fragment that the word names, and answers whether there is one.
+/// Sets a number of the fragment that the argument names, and returns whether that fragment exists.
 fn set_board_id(specs: &mut [FragmentSpec], board: BoardWord) -> bool
     requires { board.place < 16 }
     ensures named { IsTrue result ↔ (board.fragment < length specs.old) }

@@ -1,4 +1,4 @@
-//! Packing the parts of an image of either kind, and what packing refuses of them.
+//! Packing the parts of an image of either kind, and the faults of packing.
 
 ghost use Rattle.std.specs.Prelude.{◌≡◌, ◌<◌, ◌+◌, ◌++◌, [], None, Some, Ok, Err, IsTrue, IfOk, IfErr, OnOk};
 ghost use Rattle.std.specs.Prelude.{length, map};
@@ -18,8 +18,8 @@ use abt_sections::{
 use cmd_common_fields::ImageKind;
 use std::alloc::{AllocError, Global};
 
-/// What packing refuses of parts of these sizes, if anything. Asks the packer itself, with no bytes to read and no room
-/// to write to.
+/// The fault of packing parts of these sizes, if there is one. It calls the packer itself, with no bytes to read and
+/// no room to write to.
 pub fn judge<P: Source>(
     alloc: Global,
     kind: ImageKind,
@@ -55,7 +55,7 @@ fn measures<P: Source>(alloc: Global, parts: &[P]) -> Result<Vec<Measure>, Alloc
     Ok(sizes)
 }
 
-// What the packer refuses of parts of these sizes.
+// The packer's fault for parts of these sizes.
 fn refused_of(
     kind: ImageKind,
     fields: &BootSpec<'_>,
@@ -74,7 +74,7 @@ fn refused_of(
     judged(without_room(kind, fields, parts, specs, sources, w, m))
 }
 
-// What the packer answers that has no room to write to.
+// What the packer returns when it has no room to write to.
 fn without_room(
     kind: ImageKind,
     fields: &BootSpec<'_>,
@@ -134,7 +134,7 @@ fn judged(answer: Result<Packed, SectionFault>) -> Result<(), SectionFault>
     }
 }
 
-/// Packs an image of either kind, and answers how many bytes it has. `empty` is a source without bytes.
+/// Packs an image of either kind, and returns how many bytes it has. `empty` is a source without bytes.
 pub fn pack_image<P: Source, O: Output>(
     kind: ImageKind,
     fields: &BootSpec<'_>,
@@ -168,8 +168,8 @@ pub fn pack_image<P: Source, O: Output>(
     }
 }
 
-// Packs the parts that a vendor boot image has: of version 3 the ramdisk and the dtb, of version 4 the dtb and the
-// bootconfig, beside its ramdisk fragments.
+// Packs the parts of a vendor boot image, beside its ramdisk fragments. Version 3 has the ramdisk and the dtb,
+// version 4 has the dtb and the bootconfig.
 fn pack_vendor_parts<P: Source, O: Output>(
     fields: &BootSpec<'_>,
     parts: &mut [P],

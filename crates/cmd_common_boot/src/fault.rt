@@ -1,4 +1,4 @@
-//! Why a command over boot images is refused, and what a user is told of it.
+//! Why a command of boot images fails, and what the user is told.
 
 ghost use Rattle.std.specs.Prelude.{◌≡◌, ℕ, List, MatchResult, Ok, Err};
 ghost use Rattle.sys_text.specs.Printed.{Prints};
@@ -11,26 +11,26 @@ use abt_sections::SectionFault;
 use sys_refusals::{FileArg, HostFault, Magic, Refusal, Side, Told};
 use sys_text::{ShownPath, Text};
 
-/// Why a command over boot images is refused.
+/// Why a command of boot images fails.
 #[derive(Drop)]
 pub enum BootCommandFault<'a> {
     /// Of files, whatever they hold.
     Host(HostFault),
-    /// Of an image, or of the devices that it is read from and written to.
+    /// A fault of an image, or of the devices from which it is read and to which it is written.
     Section(SectionFault),
     /// An image of this kind and version doesn't carry this option.
     OptionNotCarried(&'static str),
-    /// This word is no FRAGMENT, or the image has no fragments.
+    /// This argument is no FRAGMENT, or the image has no fragments.
     BadFragment(&'a str),
-    /// This number has no room where it is used.
+    /// This number exceeds the field where it is used.
     BadNumber(&'a str),
-    /// This word is no `I:K=N` of `--board-id`, or there is no fragment I.
+    /// This argument is no `I:K=N` of `--board-id`, or there is no fragment I.
     BadBoardId(&'a str),
     /// One of the answers of a check is no.
     CheckFailed,
 }
 
-/// How a command over boot images ended: the files that it is about are named at `'t`, and its words at `'a`.
+/// The result of a command of boot images: the files that it concerns live for `'t`, and its arguments for `'a`.
 pub type BootOutcome<'t, 'a> = Result<(), Refusal<'t, BootCommandFault<'a>>>;
 
 impl From<HostFault> for BootCommandFault<'_> {
@@ -49,7 +49,7 @@ impl<'a> BootCommandFault<'a> {
         BootCommandFault::Section(SectionFault::Header(fault))
     }
 
-    /// What a call answered that wrote so many bytes, with its fault as one of a command.
+    /// The result of a call that wrote this many bytes, with its fault as one of a command.
     pub fn of_bytes(answer: Result<u64, SectionFault>) -> Result<u64, BootCommandFault<'a>>
         ensures { MatchResult answer (λ n. result ≡ Ok n) (λ f. result ≡ Err (BootCommandFault.Section f)) }
     {
@@ -150,7 +150,7 @@ impl Told for BootCommandFault<'_> {
     }
 }
 
-// Adds what is wrong, and the word that it is about, as a terminal can show it.
+// Adds what is wrong, and the argument that it concerns, as a terminal can show it.
 fn put_about<O: Output>(wrong: &str, word: &str, text: &mut Text<'_, O>)
     ensures { (told : List ℕ) × Prints O.written O.write_faults text.old text.new told }
 {

@@ -1,18 +1,19 @@
-//! What the commands over boot images go by: what their words mean for an image, what is refused, and which files are
-//! written.
+//! What the commands of boot images share: the meaning of their arguments, their faults, and their output files.
 //!
-//! What the layer above relies on: `with_given` answers the fields that were given, and the image's own for the others;
-//! `judge` refuses what packing refuses, and `pack_image` writes what `packed` says; `set_board_ids` sets the numbers that the words name, in order.
+//! The layers above rely on these facts:
+//! - `with_given` returns the given fields, and the image's own value for each other field.
+//! - `judge` fails where packing fails, and `pack_image` writes the bytes that `packed` defines.
+//! - `set_board_ids` sets the numbers that the arguments name, in order.
 //!
-//! | file | has |
+//! | file | content |
 //! |---|---|
-//! | `fault.rt` | why a command is refused, and what a user is told of it |
-//! | `pack_command.rt`, `pack_texts.rt` | what `pack` and `repack` are told |
-//! | `pack_fields.rt`, `loads.rt` | the fields that an image is packed from, and where its parts are loaded |
-//! | `board_ids.rt` | the board ids that words set |
-//! | `part_rows.rt` | the parts that an image is packed from, each with its option and its section |
-//! | `part_source.rt`, `measure.rt` | what a part is read from, and one of which only the size counts |
-//! | `contents.rt` | packing the parts of an image of either kind, and what packing refuses of them |
+//! | `fault.rt` | why a command fails, and what the user is told |
+//! | `pack_command.rt`, `pack_texts.rt` | the parsed arguments of `pack` and `repack`, and the bytes that they encode |
+//! | `pack_fields.rt`, `loads.rt` | the fields from which an image is packed, and the load addresses of its parts |
+//! | `board_ids.rt` | the board ids that arguments set |
+//! | `part_rows.rt` | the parts from which an image is packed, each with its option and its section |
+//! | `part_source.rt`, `measure.rt` | the source of a part: a file, or a range of one; a source that has only a size |
+//! | `contents.rt` | packing the parts of an image of either kind, and the faults of packing |
 //! | `part_names.rt` | the files that `unpack` writes |
 #![tactic(auto)]
 

@@ -1,4 +1,4 @@
-//! Where the parts of an image are loaded, as the words of `pack` and `repack` say it.
+//! The load addresses of the parts of an image, as the arguments of `pack` and `repack` set them.
 
 ghost use Rattle.std.specs.Prelude.{◌≡◌, ◌≤◌, None, Some, IfOk, IfErr};
 ghost use Rattle.abt_sections.specs.Fields.{cmd_common_fields};
@@ -21,8 +21,8 @@ pub(crate) struct Addresses {
     pub dtb: u64,
 }
 
-/// The addresses that the words say; where nothing is said of one, its own. Refuses the word of the first that has no
-/// room.
+/// The addresses that the arguments set. Each other address is the image's own. Fails with the argument of the first
+/// address that exceeds its field.
 pub(crate) fn addresses_of<'a>(
     texts: &PackTexts<'a>,
     own: &BootSpec<'_>,
@@ -67,7 +67,7 @@ fn short_address<'a>(texts: &PackTexts<'a>, which: Address, own: u32) -> Result<
     }
 }
 
-// The address that the words say, or else its own. Refuses the word of one that a header has no room for.
+// The address that the arguments set, or else the image's own. Fails with the argument of one that exceeds its field.
 fn long_address<'a>(texts: &PackTexts<'a>, which: Address, own: u64) -> Result<u64, &'a str>
     ensures says { SaysAddress result (λ word. word.now) texts.now.options.items which own }
     ensures room { IfOk result (λ address. address ≤ loading.most_address which) }
@@ -78,21 +78,21 @@ fn long_address<'a>(texts: &PackTexts<'a>, which: Address, own: u64) -> Result<u
     }
 }
 
-/// Whether the words give the ramdisk an address that is counted from a base.
+/// Whether the arguments give the ramdisk an address that is counted from a base.
 pub fn counts_ramdisk(texts: &PackTexts<'_>) -> bool
     ensures { result ≡ loading.is_sum (words_for texts.now.options.items addresses.Ramdisk) }
 {
     is_sum(words_of(texts, Address::Ramdisk))
 }
 
-/// The same of the second stage.
+/// The same for the second stage.
 pub fn counts_second(texts: &PackTexts<'_>) -> bool
     ensures { result ≡ loading.is_sum (words_for texts.now.options.items addresses.Second) }
 {
     is_sum(words_of(texts, Address::Second))
 }
 
-// What the words say of an address.
+// What the arguments set of an address.
 fn words_of(texts: &PackTexts<'_>, which: Address) -> AddressWords
     ensures { result ≡ words_for texts.now.options.items which }
 {
@@ -103,7 +103,7 @@ fn words_of(texts: &PackTexts<'_>, which: Address) -> AddressWords
     }
 }
 
-// Whether any offset is given, so that a base counts.
+// Whether any offset is given, so that a base is used.
 fn has_offset(texts: &PackTexts<'_>) -> bool
     ensures { result ≡ has_offset texts.now.options.items }
 {
@@ -114,7 +114,7 @@ fn has_offset(texts: &PackTexts<'_>) -> bool
         || texts.has("dtb-offset")
 }
 
-// The word that has no room: the address, the offset or the base.
+// The argument that exceeds its field: the address, the offset or the base.
 fn told_word<'a>(texts: &PackTexts<'a>, which: Address) -> &'a str
     ensures { result.now ≡ told_word texts.now.options.items which }
 {

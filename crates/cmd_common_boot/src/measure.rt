@@ -1,11 +1,11 @@
-//! A source of which only the size counts, for who asks what packing refuses.
+//! A source that has only a size, for a call that asks whether packing would fail.
 
 ghost use Rattle.std.specs.Prelude.{◌≡◌, [], false};
 ghost use Rattle.std.proofs.lemmas.Bool.{false≢true};
 
 use abt_io::{DeviceFault, Source, Tally};
 
-/// How many bytes a part has. It gives none of them.
+/// The size of a part, as a source that gives none of its bytes.
 #[derive(Drop)]
 pub struct Measure {
     pub size: u64,
@@ -13,7 +13,7 @@ pub struct Measure {
 }
 
 impl Measure {
-    /// Of a part of so many bytes.
+    /// Of a part of this many bytes.
     pub fn new(size: u64) -> Measure
         ensures { result.size ≡ size }
     {

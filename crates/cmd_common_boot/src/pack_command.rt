@@ -1,4 +1,4 @@
-//! What `pack` and `repack` are told, with their words read, and how those of `pack` are judged.
+//! The parsed arguments of `pack` and `repack`, and the checks of those of `pack`.
 
 ghost use Rattle.std.specs.Prelude.{◌≡◌, Err, IsOk, IsTrue, IfOk, IfErr, OnOk, false};
 ghost use Rattle.std.specs.List.{All};
@@ -16,7 +16,7 @@ use abt_sections::BootSpec;
 use cmd_common_fields::ImageKind;
 use std::alloc::Global;
 
-/// An order of `pack` or `repack`, whose options are read.
+/// A call of `pack` or `repack`, with its options parsed.
 #[derive(Drop)]
 pub struct PackCommand<'a> {
     pub alloc: Global,
@@ -30,7 +30,7 @@ pub struct PackCommand<'a> {
     pub keeps_trailing: bool,
 }
 
-/// The kind of image that the words ask for, and its fields.
+/// The kind of image that the arguments describe, and its fields.
 pub fn judge_words<'t, 'a>(
     command: &'t PackCommand<'a>,
 ) -> Result<(ImageKind, BootSpec<'t>), BootCommandFault<'a>>

@@ -1,4 +1,4 @@
-//! The fields of an image that is packed: as they were given, and else those of another image, or empty.
+//! The fields of an image that is packed: the given ones, and for the others those of another image, or empty ones.
 
 ghost use Rattle.std.specs.Prelude.{◌≡◌, ◌≤◌, ◌^◌, ℕ, IfOk, IfErr, OnErr};
 ghost use Rattle.abt_sections.specs.Fields.{cmd_common_fields};
@@ -33,7 +33,7 @@ pub fn no_fields() -> BootSpec<'static>
     }
 }
 
-/// These fields, with what was given in its place.
+/// These fields, each replaced where one is given.
 pub fn with_given<'a, 't>(
     own: BootSpec<'t>,
     kind: ImageKind,
@@ -67,7 +67,7 @@ pub fn with_given<'a, 't>(
     })
 }
 
-// The OS version and patch level that were given, or else its own.
+// The given OS version and patch level, or else the image's own.
 fn os_of<'a>(texts: &PackTexts<'a>, own: OsVersion) -> Result<OsVersion, BootCommandFault<'a>>
     ensures given { IfOk result (λ os. IsOsGiven texts.now.options.items own.number os.number) }
     ensures wrong { IfErr result (IsWrongOs texts.now.options.items) }
@@ -81,7 +81,7 @@ fn os_of<'a>(texts: &PackTexts<'a>, own: OsVersion) -> Result<OsVersion, BootCom
     }
 }
 
-// The one that a number says, which has room in 32 bits.
+// The OS version that a number encodes, where it fits 32 bits.
 fn of_number<'a>(option: &OptionText<'a>) -> Result<OsVersion, BootCommandFault<'a>>
     ensures number { IfOk result (λ os. os.number ≡ option.now.number) }
     ensures wrong { OnErr result (2 ^ 32 ≤ option.now.number) }
@@ -93,7 +93,7 @@ fn of_number<'a>(option: &OptionText<'a>) -> Result<OsVersion, BootCommandFault<
     }
 }
 
-// The one that a word says.
+// The OS version that an argument encodes.
 fn of_word(word: &str) -> Result<OsVersion, BootCommandFault<'static>>
     ensures says { IfOk result (λ os. OsWordSays word.now os.number) }
     ensures none { OnErr result ((os : ℕ) → OsWordSays word.now os → ⊥) }

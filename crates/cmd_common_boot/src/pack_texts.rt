@@ -1,4 +1,4 @@
-//! What `pack` and `repack` are told, with the bytes that each word stands for.
+//! The arguments of `pack` and `repack`, with the bytes that each encodes.
 
 ghost use Rattle.std.specs.Prelude.{◌≡◌, ◌↔◌, None, Some, MatchOption, IfErr, IsTrue, OnOk, is_some};
 ghost use Rattle.std.specs.List.{All};
@@ -17,11 +17,11 @@ pub struct OptionText<'a> {
     /// Its row in the table of the command line, and the name that it has there.
     pub row: &'static Row,
     pub name: &'static str,
-    /// The word, as it is written.
+    /// The argument, as it is written.
     pub word: &'a str,
     /// The number that it writes, of an option that is one.
     pub number: u64,
-    /// The bytes that it stands for.
+    /// The bytes that it encodes.
     pub bytes: Vec<u8>,
 }
 
@@ -40,16 +40,16 @@ impl OptionText<'_> {
 /// A ramdisk fragment that was given.
 #[derive(Drop)]
 pub struct FragmentText<'a> {
-    /// The word, as it is written.
+    /// The argument, as it is written.
     pub word: &'a str,
-    /// What it says of the fragment, where it is a word TYPE:NAME:FILE.
+    /// The entry of the fragment that it describes, where it has the form TYPE:NAME:FILE.
     pub spec: Option<FragmentSpec>,
-    /// The bytes that FILE stands for.
+    /// The bytes that FILE encodes.
     pub path: Vec<u8>,
 }
 
 impl FragmentText<'_> {
-    // Whether its word is one, and an image of this kind has fragments.
+    // Whether its argument is valid, and an image of this kind has fragments.
     fn is_taken_by(&self, kind: ImageKind) -> bool
         ensures { IsTrue result ↔ IsTaken kind self.now }
     {
@@ -105,8 +105,8 @@ impl<'a> PackTexts<'a> {
         }
     }
 
-    /// Refuses the first option of the table that an image of this kind doesn't carry, and then the first FRAGMENT
-    /// that is none, or any where the image has no fragments.
+    /// Fails with the first option of the table that an image of this kind doesn't have. Otherwise fails with the
+    /// first FRAGMENT that is invalid, or with any FRAGMENT where the image has no fragments.
     pub fn check(&self, kind: ImageKind) -> Result<(), BootCommandFault<'a>>
         ensures carried { OnOk result (All (IsCarried kind) self.now.options.items) }
         ensures taken { OnOk result (All (IsTaken kind) self.now.fragments.items) }
@@ -134,7 +134,7 @@ impl<'a> PackTexts<'a> {
         None
     }
 
-    // The word of the first fragment that an image of this kind doesn't take.
+    // The argument of the first fragment that an image of this kind doesn't take.
     fn not_taken(&self, kind: ImageKind) -> Option<&'a str>
         ensures { MatchOption result (All (IsTaken kind) self.now.fragments.items)
             (λ word. IsBadFragment kind self.now.fragments.items word.now) }

@@ -1,4 +1,4 @@
-//! The files that `unpack` writes to a folder, each with its name, and their order.
+//! The names of the files that `unpack` writes to a folder, and their order.
 
 ghost use Rattle.std.specs.Prelude.{◌≡◌};
 ghost use Rattle.abt_sections.specs.Header.{view_of};
@@ -15,7 +15,7 @@ pub enum ImagePart {
     Section(Section),
     /// The ramdisk fragment of this index.
     Fragment(u32),
-    /// The words that pack the image again.
+    /// The arguments that pack the image again.
     Words,
 }
 
@@ -54,7 +54,7 @@ pub fn part_count(image: &Image, with_words: bool) -> u64
     if with_words { parts + 1 } else { parts }
 }
 
-/// The file that is written as file `i`: sections come first, then fragments, then the words.
+/// The file that is written as file `i`: sections are first, then fragments, then the arguments.
 pub fn part_of(image: &Image, i: u64) -> ImagePart
     ensures { IsPart (view_of image.now.header) i result }
 {

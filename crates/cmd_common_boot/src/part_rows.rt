@@ -1,4 +1,4 @@
-//! The parts that an image is packed from: the option that gives each, and the section that it fills.
+//! The parts from which an image is packed: the option that sets each, and the section that it fills.
 
 ghost use Rattle.std.specs.Prelude.{◌≡◌, length, map};
 ghost use Rattle.std.specs.List.{All};
@@ -8,7 +8,7 @@ ghost use Rattle.cmd_common_boot.specs.Parts.{part_sections, row_count};
 use abt_headers::Section;
 use cmd_common_fields::ImageKind;
 
-/// A part: the option that gives it, and the section that it fills.
+/// A part: the option that sets it, and the section that it fills.
 #[derive(Clone, Copy)]
 pub struct PartRow {
     pub option: &'static str,
@@ -63,7 +63,7 @@ const SIGNED: &[PartRow] = &[KERNEL, RAMDISK, SIGNATURE];
 const VENDOR: &[PartRow] = &[VENDOR_RAMDISK, DTB, BOOTCONFIG];
 
 /// The parts of an image of this kind, in the order of its sections. The ramdisk fragments of a vendor boot image of
-/// version 4 are not among them.
+/// version 4 are not part of this list.
 pub fn rows_of(kind: ImageKind) -> &'static [PartRow]
     ensures sections { map (λ row. row.section) result.now ≡ part_sections kind }
     ensures options { All (λ row. row.option.now ≡ option_of row.section) result.now }

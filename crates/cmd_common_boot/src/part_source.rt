@@ -1,4 +1,4 @@
-//! What a part of an image is read from: a file, or a range of one.
+//! The source of a part of an image: a file, or a range of one.
 
 ghost use Rattle.std.specs.Prelude.{◌≡◌, ◌<◌, ◌≤◌, ◌+◌, ◌^◌, Some, None, IsTrue};
 ghost use Rattle.std.specs.Prelude.{length, option_map};
@@ -9,7 +9,7 @@ use abt_io::{DeviceFault, Source, Tally};
 use sys_disk::Lasting;
 use sys_refusals::FileArg;
 
-/// A range of a file, or no bytes. It tells what its file does.
+/// A range of a file, or no bytes. It models its contents where its file does.
 #[derive(Drop)]
 pub struct PartSource<'a, S: Source + Lasting> {
     pub file: Option<S>,
@@ -17,7 +17,7 @@ pub struct PartSource<'a, S: Source + Lasting> {
     pub at: u64,
     /// How many bytes it has.
     pub size: u64,
-    /// The file that it is all of, or a range of.
+    /// The file of which it is all, or a range.
     pub place: Option<FileArg<'a>>,
     is_whole: bool,
     has_failed: bool,
@@ -62,7 +62,7 @@ impl<'a, S: Source + Lasting> PartSource<'a, S> {
         }
     }
 
-    /// So many bytes of a file from a place on, which it has.
+    /// This many bytes of a file from a position on, all of which it has.
     pub fn range(file: S, place: FileArg<'a>, at: u64, size: u64) -> PartSource<'a, S>
         requires { IsTrue S.models → at + size ≤ length (S.content file) }
         ensures file { result.file ≡ Some file }
@@ -81,7 +81,7 @@ impl<'a, S: Source + Lasting> PartSource<'a, S> {
         }
     }
 
-    /// Whether a fault of packing may be of this part: it was not read as it was found, or no section has room for it.
+    /// Whether a fault of packing may come from this part: it was not read as found, or no section has room for it.
     pub fn is_at_fault(&self) -> bool {
         self.has_failed || self.size > u32::MAX as u64
     }

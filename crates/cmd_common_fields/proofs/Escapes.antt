@@ -40,7 +40,7 @@ escape_step c d v x e = answered 92 120 c d x (Some v) e
 none_some : (byte : ℕ) → None ≡ Some byte → ⊥
 none_some byte e = search (rules, e)
 
--- an escape at the front
+-- an escape at the beginning
 front_escape : (y : List ℕ) (byte : ℕ) → escape_in y ≡ Some byte → unescaped y ≡ byte ∷ unescaped (drop 4 y)
 front_escape [] byte e = absurd (none_some byte e)
 front_escape (a ∷ []) byte e = absurd (none_some byte e)

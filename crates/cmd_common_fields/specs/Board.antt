@@ -1,4 +1,4 @@
--- The word of `--board-id`.
+-- The argument of `--board-id`.
 use Rattle.std.specs.Prelude.{◌≡◌, ◌<◌, ◌^◌, ℕ, List, ◌∷◌, ◌++◌}
 use Rattle.cmd_common_fields.specs.declared.board_word.BoardWord.{BoardWord}
 use Rattle.cmd_common_fields.specs.OsWord.{IsNumberWord}

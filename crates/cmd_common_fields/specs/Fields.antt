@@ -1,4 +1,4 @@
--- The fields of an image's header, whichever kind and version it has.
+-- The fields of an image's header, of every kind and version.
 use Rattle.std.specs.Prelude.{ℕ, ◌==◌, not, List, Option, Some, None, codes}
 use Rattle.std.specs.List.{take_while}
 use Rattle.abt_headers.specs.declared.boot.BootFront.{BootFront}

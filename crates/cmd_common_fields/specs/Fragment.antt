@@ -1,4 +1,4 @@
--- FRAGMENT words of `pack`.
+-- The FRAGMENT arguments of `pack`.
 use Rattle.std.specs.Prelude.{◌≡◌, ◌≢◌, ◌<◌, ◌≤◌, ◌^◌, ◌&&◌, nat_lt, ℕ, if◌then◌else◌, List, ◌∷◌, ◌++◌, Option, Some}
 use Rattle.std.specs.Prelude.{None, codes, length, replicate, slice_index}
 use Rattle.std.specs.Str.{all_ascii_digits, bytes_eq}
@@ -7,7 +7,7 @@ use Rattle.abt_sections.specs.Fields.{filled}
 use Rattle.abt_sections.specs.declared.spec.FragmentSpec.{FragmentSpec}
 use Rattle.cmd_common_fields.specs.Unescaped.{unescaped}
 
--- the number that digits alone write, at least one, where 32 bits have room for it
+-- the number that digits alone encode, at least one digit, where it fits 32 bits
 abbrev pub decimal_u32 : List ℕ → Option ℕ
 decimal_u32 text =
     if all_ascii_digits text && nat_lt 0 (length text) && nat_lt (digits_value 10 text) (2 ^ 32)
@@ -34,7 +34,7 @@ pub record IsFragment (word : List ℕ) (spec : FragmentSpec) (path : List ℕ) 
   pub named : spec.name ≡ filled 32 name
   pub no_board : spec.board_id ≡ replicate 16 0
 
--- what TYPE and the bytes of a name say of a fragment
+-- the fragment of TYPE and the bytes of a name
 pub record IsOfParts (kind name : List ℕ) (spec : FragmentSpec) : Type 0 where
   pub number : type_number kind ≡ Some spec.kind
   pub short : length name ≤ 32

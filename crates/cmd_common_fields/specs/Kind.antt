@@ -19,7 +19,7 @@ abbrev pub version_of : ImageKind → ℕ
 version_of (Boot n) = n
 version_of (Vendor n) = n
 
--- the kind that a header says
+-- the kind of a header
 abbrev pub kind_of : Header → ImageKind
 kind_of (OfBoot h) = Boot (boot_version h)
 kind_of (OfVendor v) = Vendor (vendor_version v)

@@ -1,4 +1,4 @@
--- The options of `pack` that give the parts of an image and their addresses.
+-- The options of `pack` that set the parts of an image and their addresses.
 use Rattle.std.specs.Prelude.{ℕ, List, [], codes}
 use Rattle.abt_headers.specs.declared.sections.Section.{Section}
 use Rattle.abt_headers.specs.declared.sections.Section.TheVariants.{Kernel, Ramdisk, Second, RecoveryDtbo, Dtb}
@@ -6,7 +6,7 @@ use Rattle.abt_headers.specs.declared.sections.Section.TheVariants.{Signature, V
 use Rattle.cmd_common_fields.specs.declared.fields.Address.{Address}
 use Rattle.cmd_common_fields.specs.declared.fields.Address.TheVariants as addresses
 
--- the option that gives a section; none gives a table, which comes with its fragments
+-- the option that sets a section; none sets a table, which comes with its fragments
 abbrev pub option_of : Section → List ℕ
 option_of Kernel = codes "kernel"
 option_of Ramdisk = codes "ramdisk"
@@ -18,7 +18,7 @@ option_of VendorRamdisk = codes "ramdisk"
 option_of Table = []
 option_of Bootconfig = codes "bootconfig"
 
--- the option that gives an address
+-- the option that sets an address
 abbrev pub address_option : Address → List ℕ
 address_option addresses.Kernel = codes "kernel-addr"
 address_option addresses.Ramdisk = codes "ramdisk-addr"
@@ -26,7 +26,7 @@ address_option addresses.Second = codes "second-addr"
 address_option addresses.Tags = codes "tags-addr"
 address_option addresses.Dtb = codes "dtb-addr"
 
--- the option that gives its offset from the base
+-- the option that sets its offset from the base
 abbrev pub offset_option : Address → List ℕ
 offset_option addresses.Kernel = codes "kernel-offset"
 offset_option addresses.Ramdisk = codes "ramdisk-offset"

@@ -1,4 +1,4 @@
--- A text in which `\x` and two hexadecimal digits stand for a byte.
+-- A text in which `\x` and two hexadecimal digits encode a byte.
 use Rattle.std.specs.Prelude.{ℕ, ◌+◌, ◌*◌, ◌==◌, ◌&&◌, if◌then◌else◌, List, [], ◌∷◌, Option, Some, None}
 use Rattle.hex.specs.Hex.{hex_digit_value}
 
@@ -11,7 +11,7 @@ byte_of_digits None low = None
 abbrev pub byte_of : ℕ → ℕ → Option ℕ
 byte_of high low = byte_of_digits (hex_digit_value high) (hex_digit_value low)
 
--- the byte that four letters stand for
+-- the byte that four characters encode
 abbrev pub escaped_byte : ℕ → ℕ → ℕ → ℕ → Option ℕ
 escaped_byte a b c d = if (a == 92) && (b == 120) then byte_of c d else None
 
@@ -23,7 +23,7 @@ escape_in (a ∷ b ∷ []) = None
 escape_in (a ∷ b ∷ c ∷ []) = None
 escape_in (a ∷ b ∷ c ∷ d ∷ x) = escaped_byte a b c d
 
--- what a text stands for: each letter that begins no escape, also a backslash, stands for itself
+-- what a text encodes: each character that begins no escape, also a backslash, encodes itself
 abbrev pub unescaped : List ℕ → List ℕ
 unescaped [] = []
 unescaped (a ∷ []) = a ∷ []

@@ -1,4 +1,4 @@
-//! The words of `--board-id`.
+//! The argument of `--board-id`.
 
 ghost use Rattle.std.specs.Prelude.{◌≡◌, ◌<◌, ◌^◌, ℕ, IfSome, Some};
 ghost use Rattle.cmd_common_fields.specs.declared.board_word.BoardWord.{BoardWord};
@@ -6,7 +6,7 @@ ghost use Rattle.cmd_common_fields.specs.Board.{IsBoardWord, BoardFits};
 
 use crate::os_word::number;
 
-/// A word `I:K=N`: number K of the board id of fragment I is N.
+/// An argument `I:K=N`: number K of the board id of fragment I is N.
 #[derive(Clone, Copy)]
 pub struct BoardWord {
     /// The fragment, counted from 0.
@@ -17,7 +17,7 @@ pub struct BoardWord {
 }
 
 impl BoardWord {
-    /// Reads a word, or answers `None` where its shape is another, K is above 15, or a number has no room in 32 bits.
+    /// Reads an argument. Returns `None` where it has another format, K is above 15, or a number exceeds 32 bits.
     pub fn new(word: &str) -> Option<BoardWord>
         ensures value { IfSome result (λ b. IsBoardWord word.now b × BoardFits b) }
         ensures accepts { (b : BoardWord) → IsBoardWord word.now b → BoardFits b → result ≡ Some b }

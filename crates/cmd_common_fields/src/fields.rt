@@ -1,4 +1,4 @@
-//! The fields of an image's header, whichever kind and version it has.
+//! The fields of an image's header, of every kind and version.
 
 ghost use Rattle.std.specs.Prelude.{◌≡◌, ◌≤◌, ◌<◌, ◌^◌, Some, None, IfSome, MatchOption, length};
 ghost use Rattle.abt_sections.specs.Header.{view_of};
@@ -38,7 +38,7 @@ impl Address {
 pub enum TextField {
     /// The product's name.
     Name,
-    /// The kernel's command line, or its front.
+    /// The kernel's command line, or its first part.
     Cmdline,
     /// The rest of the command line, in versions 0 to 2 of a boot image.
     Extra,

@@ -1,4 +1,4 @@
-//! The FRAGMENT words of `pack`.
+//! The FRAGMENT arguments of `pack`.
 
 ghost use Rattle.std.specs.Prelude.{◌≡◌, ◌≤◌, ◌↔◌, ℕ, List, IsSome, IfOk, IfSome, IsSomeAnd, Some, length};
 ghost use Rattle.abt_sections.specs.Fields.{filled};
@@ -13,16 +13,16 @@ use std::alloc::{AllocError, Global};
 // The bytes of a name in the table of fragments, of which the last is zero.
 const NAME_BYTES: usize = 32;
 
-/// A word `TYPE:NAME:FILE`, taken apart at its first two colons.
+/// An argument `TYPE:NAME:FILE`, split at its first two colons.
 #[derive(Clone, Copy)]
 pub struct FragmentWord<'a> {
-    /// What the table says of the fragment. The board id is zero.
+    /// The fragment's entry of the table. The board id is zero.
     pub spec: FragmentSpec,
     pub path: &'a str,
 }
 
 impl<'a> FragmentWord<'a> {
-    /// Reads a word, or answers `None` where its shape or its TYPE is another, or its NAME has more than 31 bytes.
+    /// Reads an argument. Returns `None` where its format or its TYPE is another, or NAME has more than 31 bytes.
     pub fn new(word: &'a str) -> Option<FragmentWord<'a>>
         ensures value { IfSome result (λ f. IsFragment word.entry.now f.spec f.path.now) }
         ensures accepts { (spec : FragmentSpec) (path : List ℕ) → IsFragment word.entry.now spec path →
@@ -38,8 +38,8 @@ impl<'a> FragmentWord<'a> {
         Some(FragmentWord { spec, path })
     }
 
-    /// The same of a word in which `\x` and two hexadecimal digits stand for a byte. NAME stands for at most 32 bytes,
-    /// any of which may be zero; FILE is as it is written.
+    /// The same for an argument in which `\x` and two hexadecimal digits encode a byte. NAME encodes at most 32
+    /// bytes, any of which may be zero. FILE is taken as it is written.
     pub fn escaped(alloc: Global, word: &'a str) -> Result<Option<FragmentWord<'a>>, AllocError>
         ensures value { IfOk result (λ o. IfSome o (λ f. IsEscapedFragment word.entry.now f.spec f.path.now)) }
         ensures accepts { (spec : FragmentSpec) (path : List ℕ) → IsEscapedFragment word.entry.now spec path →
@@ -59,7 +59,7 @@ impl<'a> FragmentWord<'a> {
     }
 }
 
-// What a TYPE and the bytes of a name say of a fragment.
+// The fragment of a TYPE and the bytes of a name.
 fn fragment_spec(kind: &str, name: &[u8]) -> Option<FragmentSpec>
     ensures value { IfSome result (IsOfParts kind.now name.now) }
     ensures accepts { (spec : FragmentSpec) → IsOfParts kind.now name.now spec → result ≡ Some spec }

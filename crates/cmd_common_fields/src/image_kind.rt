@@ -17,7 +17,7 @@ pub enum ImageKind {
 }
 
 impl ImageKind {
-    /// The kind of this header version. Refused as 21 where there is none.
+    /// The kind of this header version. Fails with error 21 where there is none.
     pub fn new(is_vendor: bool, version: u32) -> Result<ImageKind, HeaderFault>
         ensures accepts { IsOk result ↔ IsTrue (is_version is_vendor version) }
         ensures value { IfOk result (λ kind. kind ≡ kind_for is_vendor version) }
@@ -30,7 +30,7 @@ impl ImageKind {
         }
     }
 
-    /// The kind that a header says.
+    /// The kind of a header.
     pub fn of_header(header: &ImageHeader) -> ImageKind
         ensures { result ≡ kind_of (view_of header.now) }
     {

@@ -1,13 +1,17 @@
-//! The fields of boot images, whichever kind and version they have, and the words of `pack` that fill them.
+//! The fields of boot images of every kind and version, and the arguments of `pack` that set them.
 //!
-//! What the layers above rely on: a word is read where it has its shape and refused where it hasn't, and a field is
-//! answered where a header has it.
+//! The layers above rely on two facts:
+//! - An argument is read where it has its format, and fails where it has not.
+//! - A field is returned where a header has it.
 //!
-//! | file | has |
+//! | file | content |
 //! |---|---|
-//! | `image_kind.rt`, `fields.rt` | the kinds of images, and the fields that a header has |
-//! | `os_word.rt`, `fragment_word.rt`, `board_word.rt` | the words of `--os`, FRAGMENT and `--board-id` |
-//! | `loading.rt` | where parts are loaded |
+//! | `image_kind.rt` | the kinds of boot images |
+//! | `fields.rt` | the fields that a header has |
+//! | `os_word.rt` | the argument of `--os` |
+//! | `fragment_word.rt` | the argument FRAGMENT |
+//! | `board_word.rt` | the argument of `--board-id` |
+//! | `loading.rt` | the load addresses of the parts |
 //! | `unescaping.rt` | texts with escaped bytes |
 #![tactic(auto)]
 

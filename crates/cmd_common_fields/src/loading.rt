@@ -1,4 +1,4 @@
-//! Where the parts of a boot image are loaded.
+//! The load addresses of the parts of a boot image.
 
 ghost use Rattle.std.specs.Prelude.{◌≡◌, ◌<◌, ◌^◌, if◌then◌else◌, Some, None};
 ghost use Rattle.cmd_common_fields.specs.Loading as spec;
@@ -6,11 +6,11 @@ ghost use Rattle.cmd_common_fields.specs.Options.{address_option, offset_option}
 
 use crate::fields::Address;
 
-/// The base of mkbootimg, which counts where an offset is given and no base.
+/// The base of mkbootimg, which is used where an offset is given and no base.
 pub const BASE: u64 = 0x1000_0000;
 
 impl Address {
-    /// The option that gives it.
+    /// The option that sets it.
     pub fn option(self) -> &'static str
         ensures { result.now ≡ address_option self }
     {
@@ -23,7 +23,7 @@ impl Address {
         }
     }
 
-    /// The option that gives its offset from the base.
+    /// The option that sets its offset from the base.
     pub fn offset_option(self) -> &'static str
         ensures { result.now ≡ offset_option self }
     {
@@ -63,7 +63,7 @@ impl Address {
     }
 }
 
-/// What the words say of an address.
+/// What the arguments set of an address.
 #[derive(Clone, Copy, Drop)]
 pub struct AddressWords {
     /// The address itself.
@@ -74,7 +74,7 @@ pub struct AddressWords {
     pub offset: Option<u64>,
 }
 
-/// The base of all addresses: the one that is given, else mkbootimg's where any offset is given, else none.
+/// The base of all addresses: the given base; otherwise mkbootimg's where any offset is given; otherwise none.
 pub fn base_of(given: Option<u64>, has_offset: bool) -> Option<u64>
     ensures { result ≡ spec.base_for given has_offset }
 {
@@ -85,15 +85,15 @@ pub fn base_of(given: Option<u64>, has_offset: bool) -> Option<u64>
     }
 }
 
-/// Whether an address is the sum of a base and an offset: where there is a base, and the address isn't given.
+/// Whether an address is the sum of a base and an offset: there is a base, and the address itself isn't given.
 pub fn is_sum(words: AddressWords) -> bool
     ensures { result ≡ spec.is_sum words }
 {
     words.address.is_none() && words.base.is_some()
 }
 
-/// The address: the one that is given; else, where there is a base, its sum with the offset that is given, or with
-/// mkbootimg's; else its own. `None` where the sum has no room in 64 bits.
+/// The given address; else, where there is a base, its sum with the given offset, or with mkbootimg's where none is
+/// given; else the image's own address. Returns `None` where the sum exceeds 64 bits.
 pub fn load_address(words: AddressWords, usual_offset: u64, own: u64) -> Option<u64>
     ensures { result ≡ spec.load_at words usual_offset own }
 {

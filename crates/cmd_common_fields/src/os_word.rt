@@ -1,4 +1,4 @@
-//! The word of `--os`.
+//! The argument of `--os`.
 
 ghost use Rattle.std.specs.Prelude.{◌≡◌, ◌<◌, ◌^◌, ℕ, IfSome, IfOk, IfErr, IsOkAnd, Some};
 ghost use Rattle.abt_headers.specs.Os.{IsOsVersion, os_raw};
@@ -7,8 +7,8 @@ ghost use Rattle.cmd_common_fields.specs.OsWord.{IsNumberWord, IsOsWord};
 
 use abt_headers::{HeaderFault, OsParts, OsVersion};
 
-/// Reads `A.B.C-YYYY-MM`: digits alone, four for the year and two for the month. Every other shape, and numbers that
-/// have no room in a header, are refused as 28.
+/// Reads `A.B.C-YYYY-MM`: digits alone, four for the year and two for the month. Every other format fails with error
+/// 28, and so do numbers that exceed the header's fields.
 pub fn os_from_word(word: &str) -> Result<OsVersion, HeaderFault>
     ensures value { IfOk result (λ version. (os : OsParts) × IsOsWord word.now os × IsOsVersion os ×
         (version.number ≡ os_raw os)) }
@@ -22,7 +22,7 @@ pub fn os_from_word(word: &str) -> Result<OsVersion, HeaderFault>
     }
 }
 
-// The numbers of a word of this shape.
+// The numbers of an argument of this format.
 fn parts_of(word: &str) -> Option<OsParts>
     ensures value { IfSome result (λ os. IsOsWord word.now os) }
     ensures accepts { (os : OsParts) → IsOsWord word.now os → IsOsVersion os → result ≡ Some os }
@@ -43,7 +43,7 @@ fn parts_of(word: &str) -> Option<OsParts>
     })
 }
 
-// The number that these digits write. `parse` alone would take a sign before them.
+// The number that these digits encode. `parse` alone would accept a sign before them.
 pub(crate) fn number(digits: &str) -> Option<u32>
     ensures value { IfSome result (λ n. IsNumberWord digits.now n) }
     ensures accepts { (n : ℕ) → IsNumberWord digits.now n → n < 2 ^ 32 → result ≡ Some n }

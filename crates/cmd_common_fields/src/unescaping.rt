@@ -1,4 +1,4 @@
-//! Texts in which `\x` and two hexadecimal digits stand for a byte, as `info` and `unpack --words` write them.
+//! Texts in which `\x` and two hexadecimal digits encode a byte, as `info` and `unpack --words` write them.
 
 ghost use Rattle.std.specs.Prelude.{◌≡◌, ◌<◌, ◌≤◌, ◌∷◌, IfOk, IfSome, length, drop};
 ghost use Rattle.hex.specs.Hex.{hex_digit_value};
@@ -6,7 +6,7 @@ ghost use Rattle.cmd_common_fields.specs.Unescaped as spec;
 
 use std::alloc::{AllocError, Global};
 
-/// The bytes that a text stands for: `\x` and two hexadecimal digits are that byte, and each other letter is itself.
+/// The bytes that a text encodes: `\x` and two hexadecimal digits encode that byte, and each other character itself.
 pub fn unescaped(alloc: Global, text: &str) -> Result<Vec<u8>, AllocError>
     ensures { IfOk result (λ bytes. bytes.items ≡ spec.unescaped text.now) }
 {
@@ -23,7 +23,7 @@ pub fn unescaped(alloc: Global, text: &str) -> Result<Vec<u8>, AllocError>
     Ok(bytes)
 }
 
-// The byte that stands at this place, and the place behind it.
+// The byte at this position, and the position after it.
 fn next_byte(text: &[u8], at: usize) -> (u8, usize)
     requires { at < length text.now }
     ensures value { spec.unescaped (drop at text.now) ≡ result.0 ∷ spec.unescaped (drop result.1 text.now) }

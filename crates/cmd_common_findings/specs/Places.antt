@@ -1,4 +1,4 @@
--- Where a section of an image stands.
+-- The position of a section of an image.
 use Rattle.std.specs.Prelude.{Bool, Option}
 use Rattle.std.specs.List.{find}
 use Rattle.std.specs.Str.{bytes_eq}
@@ -7,7 +7,7 @@ use Rattle.abt_headers.specs.declared.sections.Section.{Section}
 use Rattle.abt_headers.specs.Places.{section_name}
 use Rattle.abt_sections.specs.Header.{Header, places_of}
 
--- the section stands at this place
+-- the section is at this position
 abbrev pub stands_at : Section → SectionPlace → Bool
 stands_at section place = bytes_eq (section_name place.kind) (section_name section)
 

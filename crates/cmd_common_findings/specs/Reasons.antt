@@ -1,4 +1,4 @@
--- Which reasons a check has.
+-- The reasons of the answers of a check.
 use Rattle.std.specs.Prelude.{◌≡◌, ℕ, Bool, Option, is_none}
 use Rattle.abt_sections.specs.declared.fault.SectionFault.{SectionFault}
 use Rattle.abt_sections.specs.Cause.{ReadCause}

@@ -1,9 +1,9 @@
-//! The bytes of a vendor ramdisk that lie in no fragment.
+//! The bytes of a vendor ramdisk that are in no fragment.
 
 use abt_headers::RamdiskEntry;
 use std::alloc::{AllocError, Global};
 
-/// How many of so many bytes of a vendor ramdisk lie in none of these fragments.
+/// How many of this many bytes of a vendor ramdisk are in none of these fragments.
 pub fn in_no_fragment(
     alloc: Global,
     fragments: &[RamdiskEntry],
@@ -22,7 +22,7 @@ pub fn in_no_fragment(
     Ok(in_no_range(ranges.as_slice(), size as u64))
 }
 
-// How many of so many bytes lie in none of these ranges: each is a first byte and a length, and first bytes ascend.
+// How many of this many bytes are in none of these ranges: each is a first byte and a length, and first bytes ascend.
 fn in_no_range(ranges: &[(u32, u32)], size: u64) -> u64 {
     let mut end = 0u64;
     let mut count = 0u64;

@@ -1,4 +1,4 @@
-//! What packing an image again leaves out of it.
+//! What packing an image again leaves out.
 
 ghost use Rattle.std.specs.Prelude.{◌≡◌, ◌<◌, ◌≤◌, ◌+◌, ◌++◌, ◌*◌, ◌^◌, Some, IfOk, length};
 ghost use Rattle.abt_sections.specs.Header.{view_of};
@@ -14,18 +14,18 @@ use abt_sections::{Image, ImageHeader, SectionFault, section, sections};
 use cmd_common_fields::{TextField, front_text, text_field_of};
 use std::fmt;
 
-/// How many bytes of an image, all of them not zero, no field and no part carries on.
+/// How many bytes of an image are in no field and no part. Only bytes that are not zero count, except in `ramdisk`.
 #[derive(Clone, Copy, Drop)]
 pub struct LeftOut {
     /// Reserved bytes of the header.
     pub reserved: u64,
-    /// Bytes behind the end of a name or command line.
+    /// Bytes after the end of a name or command line.
     pub texts: u64,
     /// Bytes between the sections.
     pub padding: u64,
     /// Bytes of the vendor ramdisk in no fragment, zeros among them.
     pub ramdisk: u64,
-    /// Bytes behind the image, as an AVB footer is.
+    /// Bytes after the image, such as an AVB footer.
     pub trailing: u64,
 }
 
@@ -58,16 +58,16 @@ impl fmt::Display for LeftOut {
     }
 }
 
-/// What is given anew or kept as it is, and so leaves nothing out.
+/// What is replaced or kept as it is, and so leaves nothing out.
 #[derive(Clone, Copy, Drop)]
 pub struct Anew {
     pub name: bool,
     pub cmdline: bool,
-    /// What stands behind the image.
+    /// The bytes after the image.
     pub trailing: bool,
 }
 
-/// Counts what is left out of an image, of whose vendor ramdisk so many bytes lie in no fragment.
+/// Counts what is left out of an image. `ramdisk` is the number of bytes of its vendor ramdisk in no fragment.
 pub fn count_left_out<S: Source>(
     image: &Image,
     anew: Anew,
@@ -139,7 +139,7 @@ fn cmdline_left(header: &ImageHeader, anew: bool) -> u64
     behind_text(front, back)
 }
 
-// How many bytes are not zero behind the first zero byte of the text that two fields hold together.
+// The number of bytes that are not zero after the first zero byte of the text that two fields hold together.
 fn behind_text(front: &[u8], back: &[u8]) -> u64
     ensures value { result ≡ spec.set_in (spec.behind_text (front.now ++ back.now)) }
     ensures few { result ≤ length front.now + length back.now }
@@ -195,7 +195,7 @@ fn set_behind<S: Source>(
     set_between(source, at, pages(at, page) * page as u64, w, m)
 }
 
-// ---- behind the image
+// ---- after the image
 
 fn trailing_left<S: Source>(
     image: &Image,

@@ -1,16 +1,18 @@
-//! What stands in an opened boot image beside its fields and parts: why a check answers no, and what packing the image
+//! What an opened boot image holds beside its fields and parts. This is why a check fails, and what packing the image
 //! again leaves out.
 //!
-//! What the layers above rely on: `count_left_out` counts exactly the bytes of each kind that are not zero and that packing
-//! has no place for; `end_of` is where the image ends.
+//! The layers above rely on two facts:
+//! - `count_left_out` counts exactly the bytes of each kind that are not zero and have no place in a packed image.
+//! - `end_of` returns the end of the image.
 //!
-//! | file | has |
+//! | file | content |
 //! |---|---|
 //! | `set_bytes.rt` | counting and finding bytes that are not zero |
-//! | `section_places.rt` | where sections stand, and where the image ends |
+//! | `section_places.rt` | the positions of sections, and the end of the image |
 //! | `left_out.rt` | what packing an image again leaves out |
-//! | `fragment_gaps.rt` | the bytes of a vendor ramdisk in no fragment |
-//! | `reasons.rt`, `reason_lines.rt` | why a check answers no, and the line that says so |
+//! | `fragment_gaps.rt` | the bytes of a vendor ramdisk that are in no fragment |
+//! | `reasons.rt` | why an answer of a check is no |
+//! | `reason_lines.rt` | the line that says why |
 #![tactic(auto)]
 
 mod fragment_gaps;

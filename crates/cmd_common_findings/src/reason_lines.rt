@@ -1,4 +1,4 @@
-//! The lines behind the line `check`: why an answer is no, and how much stands behind the image.
+//! The lines after the line `check`: why an answer is no, and how many bytes follow the image.
 
 use crate::reasons::{CheckAnswer, Findings, Reason, Unended};
 use std::fmt;
@@ -8,7 +8,7 @@ use std::fmt;
 pub enum Finding {
     /// An answer that is no.
     No(CheckAnswer, Reason),
-    /// How many bytes stand behind the image.
+    /// How many bytes follow the image.
     Trailing(u64),
 }
 

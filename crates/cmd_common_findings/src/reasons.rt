@@ -1,4 +1,4 @@
-//! Why a check answers no.
+//! Why an answer of a check is no.
 
 ghost use Rattle.std.specs.Prelude.{◌<◌, ◌↔◌, IfOk, IfErr, IsTrue, length};
 ghost use Rattle.abt_io.specs.Lent.{OnlyReads};
@@ -12,10 +12,10 @@ use abt_io::{Meter, Source, Window};
 use abt_sections::{Image, ImageHeader, SectionFault, Verdict, section, sections};
 use cmd_common_fields::{TextField, front_text, text_field_of};
 
-// Where the id stands in a header that has one.
+// The offset of the id in a header that has one.
 const ID_PLACE: u64 = 576;
 
-/// A field that is no text with zeros behind it.
+/// A field that isn't a text with zeros after it.
 #[derive(Clone, Copy, Drop)]
 pub enum Unended {
     Name,
@@ -41,13 +41,13 @@ pub enum Reason {
     Offset { found: u64, packed: u64 },
     /// The first byte that is not as packing writes it.
     Byte(u64),
-    /// A text with bytes behind its end, or without an end.
+    /// A text with bytes after its end, or without an end.
     Text(Unended),
     /// Fragments that do not lie end to end, in order, and fill the vendor ramdisk.
     Fragments,
 }
 
-/// The reason of each answer that is no, and how many bytes stand behind the image.
+/// The reason of each answer that is no, and how many bytes follow the image.
 #[derive(Clone, Copy, Drop)]
 pub struct Findings {
     pub canonical: Option<Reason>,
@@ -69,9 +69,9 @@ impl Findings {
     }
 }
 
-/// Finds the reason of each answer that is no, and how much stands behind the image.
+/// Finds the reason of each answer that is no, and how many bytes follow the image.
 ///
-/// What is found there must agree with the answers: `SourceChanged` where it does not.
+/// The result must agree with the answers: fails with `SourceChanged` where it does not.
 pub fn find_reasons<S: Source>(
     image: &Image,
     verdict: Verdict,
@@ -115,7 +115,7 @@ pub fn find_reasons<S: Source>(
 
 // ---- padding
 
-// The first byte behind the header or a section, up to a page boundary, that isn't there or isn't zero.
+// The first byte after the header or a section, up to a page boundary, that isn't there or isn't zero.
 fn first_unpadded<S: Source>(
     image: &Image,
     source: &mut S,
@@ -217,7 +217,7 @@ fn is_text(field: &[u8]) -> bool {
     end < field.len() && zeros_in_front(&field[end..]) == field.len() - end
 }
 
-// The same of a text that goes on in a second field.
+// The same for a text that continues in a second field.
 fn is_long_text(front: &[u8], back: Option<&[u8]>) -> bool {
     let Some(back) = back else {
         return is_text(front);

@@ -1,4 +1,4 @@
-//! Where the sections of an image stand, and where the image ends.
+//! The positions of the sections of an image, and the end of the image.
 
 ghost use Rattle.std.specs.Prelude.{◌≡◌, ◌+◌, ◌<◌, ◌^◌, IfSome};
 ghost use Rattle.abt_sections.specs.Header.{view_of};
@@ -8,7 +8,7 @@ ghost use Rattle.cmd_common_findings.specs.Places.{first_place_of};
 use abt_headers::{Section, SectionPlace, pages};
 use abt_sections::{Image, section, sections};
 
-/// Where the section of this kind stands, if there is one.
+/// The position of the section of this kind, if there is one.
 pub fn place_of(image: &Image, kind: Section) -> Option<SectionPlace>
     ensures value { result ≡ first_place_of (view_of image.now.header) kind }
     ensures low { IfSome result (λ place. place.at + place.size < 2 ^ 63) }

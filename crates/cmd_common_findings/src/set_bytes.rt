@@ -1,4 +1,4 @@
-//! Bytes that are not zero: how many there are, and where the first stands.
+//! Bytes that are not zero: how many there are, and the position of the first.
 
 ghost use Rattle.std.specs.Prelude.{◌≡◌, ◌<◌, ◌≤◌, ◌+◌, ◌-◌, IsTrue, IfOk, length, take, drop, min};
 ghost use Rattle.abt_sections.specs.Reads.{ReadsUnless};
@@ -22,7 +22,7 @@ pub(crate) fn count_set(bytes: &[u8]) -> u64
     count
 }
 
-/// How many bytes in front are zero.
+/// How many of the first bytes are zero.
 pub(crate) fn zeros_in_front(bytes: &[u8]) -> usize
     ensures { result ≤ length bytes.now }
 {
@@ -65,7 +65,7 @@ pub(crate) fn set_between<S: Source>(
     Ok(count)
 }
 
-// How many bytes came of an ask, and how many of them are not zero.
+// How many bytes a read returned, and how many of them are not zero.
 #[derive(Clone, Copy, Drop)]
 struct Seen {
     came: usize,
@@ -95,7 +95,7 @@ fn count_in<S: Source>(
     Ok(Seen { came, set })
 }
 
-// How many bytes of an ask came and are zero, from the first on.
+// How many bytes that a read returned are zero, from the first on.
 fn zeros_at<S: Source>(
     source: &mut S,
     at: u64,

@@ -1,4 +1,4 @@
--- What printing a listing does.
+-- What printing a listing writes, and with which faults it fails.
 use Rattle.std.specs.Prelude.{◌≡◌, ◌<◌, ◌≤◌, ℕ, List, [], ◌∷◌, ◌++◌, flat_map, Option, Some, None, Result, Ok, Err}
 use Rattle.abt_sparse.specs.Chunk.{Header}
 use Rattle.abt_chunks.specs.declared.progress.ChunkInfo.{ChunkInfo}
@@ -13,7 +13,7 @@ header_line h = header_text h ++ (10 ∷ [])
 abbrev pub chunk_line : ChunkInfo → List ℕ
 chunk_line c = chunk_text c ++ (10 ∷ [])
 
--- P holds of the lines of the image at the front of x, behind which y is left
+-- P holds of the lines of the image at the beginning of x, after which y is left
 pub record Listed (x y : List ℕ) (P : List ℕ → Type 0) : Type 0 where
   pub header : Header
   pub chunks : List ChunkInfo
@@ -28,9 +28,9 @@ head_text (Some h) = header_line h
 abbrev pub listing_text : Listing → List ℕ
 listing_text l = head_text l.head ++ flat_map chunk_line l.shown
 
--- ---- refusals
+-- ---- faults
 
--- The fault f is the listing's own, and P holds of the lines of all that came before it.
+-- The fault f is the listing's own, and P holds of the lines of everything before it.
 pub record ListingRefuses (l : Listing) (f : SparseFault) (P : List ℕ → Type 0) : Type 0 where
   pub ending : l.ending ≡ Err f
   pub holds : P (listing_text l)
@@ -39,13 +39,13 @@ abbrev pub IsWrite : SparseFault → Type 0
 IsWrite (faults.Write d) = Unit {0}
 IsWrite f = ⊥
 
--- Write comes just where the count of failed writes rose
+-- the fault is Write exactly where the count of failed writes rose
 abbrev pub WriteTold : SparseFault → ℕ → ℕ → Type 0
 WriteTold (faults.Write d) w w' = w < w'
 WriteTold f w w' = w' ≡ w
 
--- Read comes only where the count of failed reads rose, and it rose for nothing else, save where a write failed behind
--- it
+-- the fault is Read only where the count of failed reads rose, and that count rises for no other fault, except where
+-- a write failed after it
 abbrev pub ReadTold : {X : Type 0} → Result X SparseFault → ℕ → ℕ → Type 0
 ReadTold (Err (faults.Read d)) r r' = r < r'
 ReadTold (Err (faults.Write d)) r r' = r ≤ r'

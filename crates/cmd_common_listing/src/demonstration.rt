@@ -1,4 +1,4 @@
-//! What the program does without words: it expands a small sparse image that it holds.
+//! The demonstration, which runs without arguments: the program expands a small built-in sparse image.
 
 ghost use Rattle.std.specs.Prelude.{◌≡◌, ◌<◌, ◌-◌, ◌++◌, IfErr, OnOk, codes, length, take};
 ghost use Rattle.hex.specs.Hex.{encode_lower};
@@ -19,7 +19,7 @@ pub const IMAGE: [u8; 72] = [
 
 /// Expands the built-in image through the window and prints `expand ` with its bytes in hexadecimal.
 ///
-/// The only refusal is `Write`, with a beginning of the line written. It takes no memory.
+/// The only possible error is `Write`, after a prefix of the line was written. It allocates no memory.
 pub fn demo<O: Output>(out: &mut O, w: &mut Window, m: &mut Meter) -> Result<(), SparseFault>
     ensures line { OnOk result (O.written out.new ≡ O.written out.old ++ demo_line) }
     ensures front { O.written out.new ≡ O.written out.old ++ take
@@ -35,7 +35,7 @@ pub fn demo<O: Output>(out: &mut O, w: &mut Window, m: &mut Meter) -> Result<(),
     }
 }
 
-// The twelve bytes that the built-in image stands for.
+// The twelve bytes to which the built-in image expands.
 fn expanded(w: &mut Window, m: &mut Meter) -> [u8; 12]
     ensures { result ≡ demo_bytes }
 {

@@ -1,11 +1,12 @@
-//! What is printed of a sparse image: its listing, and the demonstration that the program shows without words.
+//! The text that the program prints of a sparse image: its listing, and the demonstration without arguments.
 //!
-//! `report_list` prints exactly the text that the image has, also where each line of it is awaited, and `demo` its line.
+//! `report_list` prints exactly the text that is defined for the image, also where the reader of the output waits for
+//! each line. `demo` prints exactly its one line.
 //!
-//! | file | has |
+//! | file | content |
 //! |---|---|
-//! | `listing.rt`, `lines.rt` | a listing, and the text of its lines |
-//! | `demonstration.rt`, `shown.rt` | the built-in image, and the output that keeps what it gives |
+//! | `listing.rt`, `lines.rt` | printing the listing of an image, and the text of its lines |
+//! | `demonstration.rt`, `shown.rt` | expanding the built-in image, and the output that keeps the first twelve bytes |
 #![tactic(auto)]
 
 mod demonstration;

@@ -1,4 +1,4 @@
-//! The text of `list`: the header and the chunks of a sparse image, a line each.
+//! The text of `list`: one line for the header and one for each chunk of a sparse image.
 
 ghost use Rattle.std.specs.Prelude.{◌≡◌, ◌++◌, ◌≤◌, IsSome, IsTrue, IfErr, OnOk, Ok, Err, List, ℕ, flat_map, length};
 ghost use Rattle.abt_chunks.specs.Expanding.{IsGoing, UnlessExpandingDevice};
@@ -14,11 +14,11 @@ use abt_chunks::{Chunks, SparseFault};
 use abt_io::{Input, Meter, Output, Window};
 use sys_text::Text;
 
-/// Prints the header and each chunk of the sparse image at the front of the input.
+/// Prints the header and each chunk of the sparse image at the beginning of the input.
 ///
-/// A chunk is printed once its data is read, so what stands after a fault are the lines of what came before it. A write
-/// that fails is `Write`. Where who reads the lines waits for them, as on a terminal, each goes out before what follows
-/// it is read.
+/// A chunk is printed after its data was read. After a fault, the output therefore holds the lines of everything
+/// before the fault. A failed write is `Write`. Where the reader of the output waits for each line, as on a terminal,
+/// each line is sent before the data after it is read.
 pub fn report_list<I: Input, O: Output>(
     input: &mut I,
     out: &mut O,
@@ -31,7 +31,7 @@ pub fn report_list<I: Input, O: Output>(
         (λ text. O.written out.new ≡ O.written out.old ++ text)) }
     ensures begun { IsTrue I.models →
         Begins (O.written out.old) (O.written out.new) (listing_text (listing_of (I.remaining input.old))) }
-    // An image that is refused is so for its own fault, behind the lines of all that came before it.
+    // An image that fails does so with its own fault, after the lines of everything before that fault.
     ensures refused { IsTrue I.models →
         IfErr result (λ f. UnlessExpandingDevice f (ListingRefuses (listing_of (I.remaining input.old)) f
         (λ text. O.written out.new ≡ O.written out.old ++ text))) }
@@ -84,7 +84,7 @@ fn lines<I: Input, O: Output>(
     chunk_lines(&mut chunks, header.total_chunks, input, text, w, m)
 }
 
-// The lines of the chunks that are still to come, of which there are at most so many.
+// The lines of the remaining chunks, of which there are at most this many.
 fn chunk_lines<I: Input, O: Output>(
     chunks: &mut Chunks,
     most: u32,

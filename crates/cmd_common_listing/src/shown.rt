@@ -1,10 +1,10 @@
-//! An output that always has room, and keeps what came first.
+//! An output that always has room and keeps the first twelve bytes.
 
 ghost use Rattle.std.specs.Prelude.{◌≡◌, ◌≤◌, [], false, length, min, replicate, take};
 
 use abt_io::{DeviceFault, Log, Output, Tally};
 
-/// Takes any number of bytes, and keeps the first twelve.
+/// Accepts any number of bytes and keeps the first twelve.
 #[derive(Drop)]
 pub struct Shown {
     pub bytes: [u8; 12],

@@ -1,4 +1,4 @@
--- Which blocks a raw image has, and which limits have room for one.
+-- The blocks of a raw image, and the limits that have room for one block.
 use Rattle.std.specs.Prelude.{◌≡◌, ◌<◌, ◌≤◌, ◌+◌, ◌%◌, ◌/◌, ℕ}
 use Rattle.abt_pieces.specs.declared.fault.PieceFault.TheVariants.{LimitTooSmall}
 use Rattle.abt_runs.specs.Raw.{RefusedRaw}
@@ -9,7 +9,7 @@ use Rattle.cmd_common_sparse.specs.declared.fault.SparseCommandFault.TheVariants
 abbrev pub IsRawBlockSize : ℕ → Type 0
 IsRawBlockSize size = (4 ≤ size) × (size ≤ 65536) × (size % 4 ≡ 0)
 
--- a raw chunk has at most as many blocks of this size as 64 MiB have room for
+-- a raw chunk has at most as many blocks of this size as fit into 64 MiB
 abbrev pub most_of : ℕ → ℕ
 most_of size = 67108864 / size
 

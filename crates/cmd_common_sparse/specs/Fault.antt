@@ -1,4 +1,4 @@
--- Which faults are of the words, the number of each, and which of the files at hand it is about.
+-- Which faults concern the arguments, the number of each fault, and which of the files it concerns.
 use Rattle.std.specs.Prelude.{ℕ, ◌==◌, ◌||◌, Bool, false, Option, Some, None, if◌then◌else◌}
 use Rattle.abt_sparse.specs.Number as sparse
 use Rattle.abt_runs.specs.Number as run
@@ -15,7 +15,7 @@ use Rattle.sys_refusals.specs.declared.told.Side.TheVariants as sides
 use Rattle.cmd_common_sparse.specs.declared.fault.SparseCommandFault.{SparseCommandFault}
 use Rattle.cmd_common_sparse.specs.declared.fault.SparseCommandFault.TheVariants as faults
 
--- the words are wrong, rather than what they name
+-- the arguments are wrong, rather than what they name
 abbrev pub wrong_words : SparseCommandFault → Bool
 wrong_words (faults.Sparse fault) = false
 wrong_words (faults.Run fault) = false
@@ -26,7 +26,7 @@ wrong_words (faults.OtherBlocks image) = false
 wrong_words (faults.OtherCut image) = false
 wrong_words (faults.Host fault) = is_not_text fault
 
--- the number of a fault of an image or a device, which its own crate gives it
+-- the number of a fault of an image or a device, as its own crate defines it
 abbrev pub sparse_command_fault_number : SparseCommandFault → Option ℕ
 sparse_command_fault_number (faults.Sparse fault) = Some (sparse.number_of fault)
 sparse_command_fault_number (faults.Run fault) = Some (run.run_fault_number fault)
@@ -47,8 +47,8 @@ side_of_cause (causes.SpoolWrite fault) = sides.Spool
 side_of_cause (causes.SpoolRead fault) = sides.Spool
 side_of_cause causes.SpoolChanged = sides.Spool
 
--- 12 is not written, 17 too small, 18 not synced, 35 another byte, 37 not read: of what is written or compared; 15 is
--- no size of blocks, 16 too small a limit, 31 no piece: of the words; and all others are of what is read
+-- Of what is written or compared: 12 is not written, 17 too small, 18 not synced, 35 another byte, 37 not read.
+-- Of the arguments: 15 is no size of blocks, 16 too small a limit, 31 no piece. All others are of what is read.
 abbrev pub side_of_number : ℕ → Side
 side_of_number n =
     if n == 12 || (n == 17 || (n == 18 || (n == 35 || n == 37))) then sides.Output

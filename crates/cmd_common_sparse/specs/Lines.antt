@@ -1,4 +1,4 @@
--- What a command prints of what was done.
+-- The line that a command prints after its work.
 use Rattle.std.specs.Prelude.{ℕ, List, ◌++◌, codes, decimal}
 use Rattle.cmd_common_sparse.specs.declared.lines.Line.{Line}
 use Rattle.cmd_common_sparse.specs.declared.lines.Line.TheVariants as lines

@@ -1,4 +1,4 @@
--- Which paths are those of pieces.
+-- Which paths are those of piece files.
 use Rattle.std.specs.Prelude.{◌≡◌, ◌≤◌, ◌<◌, ◌-◌, ℕ, List, ◌∷◌, ◌++◌, All, length, Bool, if◌then◌else◌}
 use Rattle.cmd_common_sparse.specs.declared.piece_files.PieceNaming.{PieceNaming}
 
@@ -13,7 +13,7 @@ IsPieceName prefix path =
 
 -- ---- in turn
 
--- how the files of pieces are named: behind a prefix, by numbers from 1 on, or from 0 on
+-- how piece files are named: after a prefix, by numbers from 1 on, or from 0 on
 pub record Naming : Type 0 where
   pub prefix : List ℕ
   pub from_zero : Bool

@@ -1,4 +1,4 @@
-//! Which blocks a raw image has.
+//! The blocks of a raw image.
 
 ghost use Rattle.std.specs.Prelude.{◌≡◌, ◌<◌, ◌≤◌, ◌+◌, ◌-◌, ◌*◌, ◌^◌, IfErr, IfOk, OnOk};
 ghost use Rattle.abt_runs.specs.Raw.{RefusedRaw};
@@ -21,7 +21,7 @@ pub struct Blocks {
     ghost small: { 12 + most * size < 2 ^ 32 },
 }
 
-/// The blocks of a raw image. A block size that no raw image has is refused before it divides.
+/// The blocks of a raw image. A block size that no raw image can have fails before anything is divided by it.
 pub fn blocks_of<S: Source>(source: &S, size: u32) -> Result<Blocks, RunFault>
     ensures size { IfOk result (λ blocks. blocks.size ≡ size) }
     ensures most { IfOk result (λ blocks. blocks.most ≡ most_of size) }

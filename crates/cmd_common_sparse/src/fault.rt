@@ -1,4 +1,4 @@
-//! Why a command of sparse images is refused.
+//! Why a command of sparse images fails.
 
 ghost use Rattle.std.specs.Prelude.{◌≡◌, List, ℕ};
 ghost use Rattle.sys_text.specs.Printed.{Prints};
@@ -15,12 +15,12 @@ use abt_verify::VerifyFault;
 use sys_refusals::{FileArg, HostFault, HostRefusal, Magic, Refusal, Side, Told};
 use sys_text::Text;
 
-/// Why a command of sparse images is refused.
+/// Why a command of sparse images fails.
 #[derive(Drop)]
 pub enum SparseCommandFault {
-    /// Of a sparse image, or of the devices that it is read from and written to.
+    /// A fault of a sparse image, or of the devices from which it is read and to which it is written.
     Sparse(SparseFault),
-    /// Of an image that is read in passes, or of the device that it is read from.
+    /// A fault of an image that is read in passes, or of the device from which it is read.
     Run(RunFault),
     /// Of the pieces of an image, or of the devices that they are read from and written to.
     Piece(PieceFault),
@@ -30,13 +30,13 @@ pub enum SparseCommandFault {
     Verify(VerifyFault),
     /// This one of several images has another block size or number of blocks than the first.
     OtherBlocks { image: u32 },
-    /// This one of several images is of another cut than a piece before it: its blocks are out of turn.
+    /// This one of several images belongs to another cut than a piece before it: its blocks are out of order.
     OtherCut { image: u32 },
     /// Of files, whatever they hold.
     Host(HostFault),
 }
 
-/// What a command of sparse images answers where it does not do what it was told.
+/// The error that a command of sparse images returns.
 pub type SparseRefusal<'a> = Refusal<'a, SparseCommandFault>;
 
 impl From<HostFault> for SparseCommandFault {
@@ -170,7 +170,7 @@ fn side_of_number(number: u32) -> Side
     }
 }
 
-// Of a limit that is less than so many bytes.
+// Of a limit that is less than this many bytes.
 fn advice_of_limit(least: u64) -> &'static str {
     if least <= u32::MAX as u64 {
         "give a LIMIT of so many bytes"

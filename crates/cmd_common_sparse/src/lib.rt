@@ -1,12 +1,12 @@
-//! What the commands of sparse images go by: the faults that they are refused for, the lines that they print, the names
-//! of the files of pieces, and which blocks and pieces a raw image has.
+//! What all commands of sparse images share: their faults, the lines that they print, the names of piece files, and
+//! the blocks and pieces of a raw image.
 //!
-//! | file | has |
+//! | file | content |
 //! |---|---|
-//! | `fault.rt` | why a command is refused: the fault's number, its text, and which file it is about |
-//! | `lines.rt` | what a command prints of what was done |
-//! | `piece_files.rt`, `piece_names.rt` | the files that the words name, and the names of those of pieces |
-//! | `blocks.rt`, `pieces.rt` | which blocks and which pieces a raw image has, or why it has none |
+//! | `fault.rt` | why a command fails: the number of the fault, its text, and the file that it concerns |
+//! | `lines.rt` | the line that a command prints after its work |
+//! | `piece_files.rt`, `piece_names.rt` | the files that arguments name, and the names of piece files |
+//! | `blocks.rt`, `pieces.rt` | the blocks and the pieces of a raw image, or why it has none |
 #![tactic(auto)]
 
 mod blocks;

@@ -1,4 +1,4 @@
-//! What a command prints of what was done.
+//! The line that a command prints after its work.
 
 ghost use Rattle.std.specs.Prelude.{Some};
 ghost use Rattle.cmd_common_sparse.specs.Lines.{line_text};
@@ -20,7 +20,7 @@ pub enum Line {
         chunks: u32,
         bytes: u64,
     },
-    /// Of a piece that was written: its number, its first block and the one behind its last.
+    /// Of a piece that was written: its number, its first block, and the block after its last.
     Piece {
         number: u32,
         first: u32,

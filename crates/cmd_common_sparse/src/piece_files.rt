@@ -1,4 +1,4 @@
-//! The files that the words name: an image that is read at any place, and those of pieces.
+//! The files that arguments name: an image that is read at any position, and piece files.
 
 ghost use Rattle.std.specs.Prelude.{◌≡◌, ◌<◌, ◌+◌, ℕ, None, Some};
 ghost use Rattle.sys_refusals.specs.Paths.{numbered, path_of};
@@ -7,7 +7,7 @@ ghost use Rattle.cmd_common_sparse.specs.PieceNames.{number_in_turn};
 
 use sys_refusals::FileArg;
 
-/// An image that is read at any place: `-` is standard input, which will do only where it is a file.
+/// An image that is read at any position: `-` is standard input, which must then be a file.
 pub fn image_place<'a>(input: &'a str) -> FileArg<'a>
     ensures { path_of result ≡ image_path input.now }
 {
@@ -55,7 +55,7 @@ impl<'a> PieceFiles<'a> {
         }
     }
 
-    /// The name that all have in front of their numbers.
+    /// The prefix that all names have before their numbers.
     pub fn front(&self) -> FileArg<'a>
         ensures { (n : ℕ) → path_of (record result { number = Some n }) ≡ numbered self.now.names.prefix.now (Some n) }
     {

@@ -1,4 +1,4 @@
-//! Which pieces an image is cut into.
+//! The pieces into which an image is cut.
 
 ghost use Rattle.std.specs.Prelude.{◌≡◌, ◌<◌, ◌≤◌, ◌+◌, ◌-◌, ℕ, List, length, false, IsTrue, IfErr, IfOk, OnOk};
 ghost use Rattle.abt_pieces.specs.Cutter.{is_begun};
@@ -13,7 +13,7 @@ use abt_io::Source;
 use abt_pieces::{Cutter, PieceFault};
 use abt_runs::{BlockRuns, RawRuns};
 
-/// The pieces that are still to come. Between two calls none is begun.
+/// The remaining pieces. Between two calls none is begun.
 #[derive(Drop)]
 pub struct PiecesOf<B: BlockRuns + Drop> {
     /// What cuts them.
@@ -21,7 +21,7 @@ pub struct PiecesOf<B: BlockRuns + Drop> {
     ghost unbegun: { is_begun cutter.stage ≡ false },
 }
 
-/// The pieces of a raw image in blocks of so many bytes. Neither block nor limit is read from the image.
+/// The pieces of a raw image in blocks of this many bytes. Neither block nor limit is read from the image.
 pub fn raw_pieces<S: Source>(
     source: &S,
     size: u32,
@@ -43,7 +43,7 @@ pub fn raw_pieces<S: Source>(
 }
 
 impl<B: BlockRuns + Drop> PiecesOf<B> {
-    /// Those of an image that is read in runs of blocks, in pieces of at most so many bytes.
+    /// The pieces of an image that is read in runs of blocks, each of at most this many bytes.
     pub fn open(runs: B, limit: u32) -> Result<PiecesOf<B>, SparseCommandFault>
         ensures cutter { IfOk result (λ pieces. (pieces.cutter.limit ≡ limit) × (pieces.cutter.made ≡ 0)) }
         ensures runs { IfOk result (λ pieces. pieces.cutter.runs ≡ runs) }

@@ -1,4 +1,4 @@
--- The text of `info`: what the lines of an opened image are, and in which order.
+-- The text of `info`: the lines of an opened image, and their order.
 use Rattle.std.specs.Prelude.{◌≡◌, ℕ, zero, suc, ◌<◌, ◌≤◌, ◌/◌, ◌%◌, ◌==◌, ◌&&◌, not, nat_le, Bool, false}
 use Rattle.std.specs.Prelude.{if◌then◌else◌, List, [], ◌∷◌, ◌++◌, Option, Some, None, Result, Ok, Err, codes, decimal}
 use Rattle.std.specs.Prelude.{IsSome, IsTrue, IfErr, OnOk}
@@ -78,7 +78,7 @@ address_text o a n = codes "address " ++ (address_name a ++ (codes " " ++ number
 abbrev pub two_digits : ℕ → List ℕ
 two_digits n = decimal (n / 10) ++ decimal (n % 10)
 
--- what stands between a version and its patch level
+-- the text between a version and its patch level
 abbrev pub mark_behind_version : Notation → List ℕ
 mark_behind_version notations.Decimal = codes " "
 mark_behind_version notations.Hexadecimal = codes "-"
@@ -135,7 +135,7 @@ abbrev pub address_lines : Notation → Header → List ℕ
 address_lines o h = address_line o h addresses.Kernel ++ (address_line o h addresses.Ramdisk
     ++ (address_line o h addresses.Second ++ (address_line o h addresses.Tags ++ address_line o h addresses.Dtb)))
 
--- the fields behind the sections and the fragments
+-- the fields after the sections and the fragments
 abbrev pub header_lines : Notation → Header → List ℕ
 header_lines o h = address_lines o h ++ (os_line o h ++ (field_line h texts.Name ++ (field_line h texts.Cmdline
     ++ (field_line h texts.Extra ++ id_line h))))
@@ -150,7 +150,7 @@ pub record Checked (o : Notation) (x : List ℕ) (h : Header) (P : List ℕ → 
   pub checked : IsVerdict x h verdict
   pub holds : P (info_text o x h verdict)
 
--- ---- refusals
+-- ---- faults
 
 abbrev pub IsSectionWrite : SectionFault → Type 0
 IsSectionWrite (faults.Read d) = ⊥
@@ -163,7 +163,7 @@ IsSectionWrite faults.CommandLine = ⊥
 IsSectionWrite (faults.SectionTruncated s) = ⊥
 IsSectionWrite (faults.SectionTooLarge s) = ⊥
 
--- Write comes just where the count of failed writes rose
+-- the fault is Write exactly where the count of failed writes rose
 abbrev pub SectionWriteTold : SectionFault → ℕ → ℕ → Type 0
 SectionWriteTold (faults.Read d) w w' = w' ≡ w
 SectionWriteTold (faults.Write d) w w' = w < w'
@@ -175,13 +175,13 @@ SectionWriteTold faults.CommandLine w w' = w' ≡ w
 SectionWriteTold (faults.SectionTruncated s) w w' = w' ≡ w
 SectionWriteTold (faults.SectionTooLarge s) w w' = w' ≡ w
 
--- Read comes only where the count of failed reads rose, and after an Ok it has not risen
+-- the fault is Read only where the count of failed reads rose, and after an Ok it has not risen
 abbrev pub SectionReadTold : {X : Type 0} → Result X SectionFault → ℕ → ℕ → Type 0
 SectionReadTold (Ok a) r r' = r' ≡ r
 SectionReadTold (Err (faults.Read d)) r r' = r < r'
 SectionReadTold (Err f) r r' = r ≤ r'
 
--- of printing an image that opened: the output failed, or the source, whose count of faults rose
+-- why printing an image that opened fails: the output failed, or the source, whose count of faults rose
 abbrev pub PrintCause : SectionFault → ℕ → ℕ → Type 0
 PrintCause (faults.Read d) r r' = r < r'
 PrintCause (faults.Write d) r r' = Unit {0}
@@ -193,7 +193,7 @@ PrintCause faults.CommandLine r r' = ⊥
 PrintCause (faults.SectionTruncated s) r r' = ⊥
 PrintCause (faults.SectionTooLarge s) r r' = ⊥
 
--- of the bytes x: a device failed, or they are no image, and then nothing was printed
+-- of the bytes x: a device failed; or they are no image, and then nothing was printed
 abbrev pub InfoCause : SectionFault → List ℕ → ℕ → ℕ → Type 0 → Type 0
 InfoCause (faults.Read d) x r r' nothing = r < r'
 InfoCause (faults.Write d) x r r' nothing = Unit {0}
@@ -213,8 +213,8 @@ pub record Reports (o : Notation) (x old new : List ℕ) : Type 0 where
 
 -- ---- what printing leaves of the devices
 
--- Something of an opened image is printed: after an Ok its source holds what it held. A fault of writing is in the
--- text; where the image still stands, there is none but of devices.
+-- A call prints something of an opened image. After an Ok its source holds what it held. A fault of writing is in the
+-- text. Where the image is unchanged, all faults are those of devices.
 pub record PrintsImage {X : Type 0} (r : Result X SectionFault) {A : Type 0} (s : sources.Ghosts A) (old new : A)
     {B : Type 0} (o : outputs.Ghosts B) (before after : Text B) (image : Image) : Type 0 where
   pub content : IsTrue s.models → OnOk r (s.content new ≡ s.content old)

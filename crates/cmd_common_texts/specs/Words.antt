@@ -1,4 +1,4 @@
--- The words that pack an image again.
+-- The arguments that pack an image again.
 use Rattle.std.specs.Prelude.{ℕ, zero, suc, ◌==◌, ◌&&◌, nat_le, Bool, true, false, if◌then◌else◌, List, [], ◌∷◌, ◌++◌}
 use Rattle.std.specs.Prelude.{Option, Some, None, codes, decimal, is_some, length, drop}
 use Rattle.std.specs.List.{flat_map}
@@ -21,12 +21,12 @@ use Rattle.cmd_common_fields.specs.declared.fields.Address.{Address}
 use Rattle.cmd_common_fields.specs.declared.fields.Address.TheVariants as addresses
 use Rattle.cmd_common_fields.specs.declared.fields.TextField.TheVariants as texts
 
--- ---- single words
+-- ---- single arguments
 
 abbrev pub flag_word : List ℕ → List ℕ
 flag_word name = codes "--" ++ name
 
--- what a word with a value begins with
+-- the beginning of an argument with a value
 abbrev pub option_front : List ℕ → List ℕ
 option_front name = codes "--" ++ (name ++ codes "=")
 
@@ -72,7 +72,7 @@ fragment_option i kind name folder = codes "--fragment=" ++ (decimal kind ++ (co
 abbrev pub board_option : ℕ → ℕ → ℕ → List ℕ
 board_option i k n = codes "--board-id=" ++ (decimal i ++ (codes ":" ++ (decimal k ++ (codes "=" ++ decimal n))))
 
--- ---- the words of a header
+-- ---- the arguments of a header
 
 abbrev pub words_if : {X : Type 0} → (X → List ℕ) → Option X → List (List ℕ)
 words_if word None = []
@@ -85,8 +85,7 @@ kind_words (OfBoot h) = flag_word (codes "escaped")
 kind_words (OfVendor v) = flag_word (codes "escaped") ∷ flag_word (codes "vendor")
     ∷ number_word (codes "version") (vendor_version v) ∷ number_word (codes "page") (vendor_page v) ∷ []
 
--- the option that a section is given by: a vendor ramdisk with a table is given by its fragments, and the table with
--- them
+-- the option that sets a section: a vendor ramdisk with a table is set by its fragments, and so is the table
 abbrev pub section_option : Bool → Section → Option (List ℕ)
 section_option table Kernel = Some (option_of Kernel)
 section_option table Ramdisk = Some (option_of Ramdisk)
@@ -133,9 +132,9 @@ abbrev pub header_words : List ℕ → Header → List (List ℕ)
 header_words folder h = kind_words h ++ (flat_map (section_words folder (has_table h)) (places_of h)
     ++ (address_words h ++ (name_words h ++ (cmdline_word h ∷ os_words h))))
 
--- ---- the words of the fragments
+-- ---- the arguments of the fragments
 
--- a name as far as it is not zero, or all of it where it is no text
+-- a name up to its first zero byte, or all of it where it is no text
 abbrev pub name_bytes : List ℕ → List ℕ
 name_bytes name = if all_zero (drop (length (text_of name)) name) then text_of name else name
 
@@ -155,7 +154,7 @@ abbrev pub fragment_words : List ℕ → List ℕ → Header → ℕ → List (L
 fragment_words folder x h zero = []
 fragment_words folder x h (suc k) = fragment_words folder x h k ++ entry_words folder k (entry_of x h k)
 
--- ---- all words
+-- ---- all arguments
 
 abbrev pub image_words : List ℕ → List ℕ → Header → List (List ℕ)
 image_words folder x h = header_words folder h ++ fragment_words folder x h (fragment_count h)

@@ -1,4 +1,4 @@
-//! The text of `info`: what the header of a boot image says, and whether the image is what the packer writes.
+//! The text of `info`: the values of a boot image's header, and whether the image is what the packer writes.
 
 ghost use Rattle.std.specs.Prelude.{◌≡◌, IsTrue, IfErr, IfOk, OnOk, flat_map};
 ghost use Rattle.abt_sections.specs.Check.{IsVerdict};
@@ -27,10 +27,10 @@ pub struct InfoReport {
     pub verdict: Verdict,
 }
 
-/// Prints what the header of the image at the front of a source says, a line for each field, and what checking finds.
+/// Prints a line for each field of the header of the image at the beginning of a source, and the result of the check.
 ///
-/// An image that doesn't open prints nothing. Where the source fails later, the lines of what came before stand. A
-/// write that fails is `Write`. It takes no memory.
+/// An image that doesn't open prints nothing. Where the source fails later, the lines of everything before stay
+/// printed. A failed write is `Write`. It allocates no memory.
 pub fn report_info<S: Source, O: Output>(
     source: &mut S,
     notation: Notation,

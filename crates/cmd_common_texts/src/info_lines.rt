@@ -23,7 +23,7 @@ const DIGITS: usize = 64;
 pub enum Notation {
     /// In decimal digits.
     Decimal,
-    /// In hexadecimal digits behind `0x`, and the OS version as `--os` takes it.
+    /// In hexadecimal digits after `0x`, and the OS version as `--os` takes it.
     Hexadecimal,
 }
 
@@ -68,7 +68,7 @@ fn put_numbers<O: Output>(
     text.end_line();
 }
 
-/// Adds a number as it is to be written.
+/// Adds a number in this notation.
 pub fn put_number<O: Output>(number: u64, notation: Notation, text: &mut Text<'_, O>)
     ensures { Prints O.written O.write_faults text.old text.new (info.number_text notation number) }
 {
@@ -83,7 +83,7 @@ pub fn put_number<O: Output>(number: u64, notation: Notation, text: &mut Text<'_
     }
 }
 
-// Puts the hexadecimal digits of a number at the end of the room, and answers where they begin.
+// Puts the hexadecimal digits of a number at the end of the room, and returns the position of the first.
 fn put_hexadecimal(number: u64, room: &mut [u8; DIGITS]) -> usize
     ensures within { result ≤ 64 }
     ensures digits { drop result room.new ≡ digits 16 false number }
@@ -184,7 +184,7 @@ pub fn put_os<O: Output>(os: OsVersion, notation: Notation, text: &mut Text<'_, 
     text.end_line();
 }
 
-// What stands between a version and its patch level.
+// The text between a version and its patch level.
 fn mark_behind_version(notation: Notation) -> &'static str
     ensures { result.now ≡ info.mark_behind_version notation }
 {
@@ -253,8 +253,8 @@ fn yes_no(value: bool) -> &'static str
 
 // Adds the text of a field up to its first zero byte, in quotes.
 //
-// The bytes from 20 to 7e (hexadecimal) stand as they are, but for the quote and the backslash; these and all others
-// are `\x` and two digits.
+// The bytes from 20 to 7e (hexadecimal) are printed as they are, except the quote and the backslash. These two and
+// all other bytes are `\x` and two digits.
 fn put_quoted<O: Output>(field: &[u8], text: &mut Text<'_, O>)
     ensures { Prints O.written O.write_faults text.old text.new (info.quoted field.now) }
 {
@@ -293,7 +293,7 @@ fn digits_of(byte: u8) -> [u8; 2]
     digits
 }
 
-// A byte stands as it is.
+// Whether a byte is printed as it is.
 pub fn is_plain(byte: u8) -> bool
     ensures { result ≡ info.is_plain byte }
 {

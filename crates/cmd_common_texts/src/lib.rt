@@ -1,12 +1,13 @@
-//! What is printed of a boot image: what its header says, and the words that pack it again.
+//! The text that the program prints of a boot image: the values of its header, and the options that pack it again.
 //!
-//! What the layers above rely on: `report_info` prints exactly the text that the image has, with the verdict of the
-//! check, and `write_words` exactly the words of its header, its sections and its fragments.
+//! The layers above rely on two facts:
+//! - `report_info` prints exactly the text that is defined for the image, with the verdict of the check.
+//! - `write_words` prints exactly the options of the image's header, sections and fragments.
 //!
-//! | file | has |
+//! | file | content |
 //! |---|---|
-//! | `info.rt`, `info_lines.rt` | what an image's header says, and the text of its lines |
-//! | `packing_words.rt`, `word_lines.rt` | the words that pack an image again, and the text of each |
+//! | `info.rt`, `info_lines.rt` | the text of `info`: the values of an image's header; the text of each line |
+//! | `packing_words.rt`, `word_lines.rt` | the options that pack an image again, and the text of each |
 #![tactic(auto)]
 
 mod info;

@@ -1,4 +1,4 @@
-//! The words that pack an image again: what its header and its table say, each as an option of `pack`.
+//! The arguments that pack an image again: the values of its header and its table, each as an option of `pack`.
 
 ghost use Rattle.std.specs.Prelude.{◌≡◌, ◌++◌, ◌∷◌, [], Some, None, MatchOption, IsTrue, IfErr, OnOk};
 ghost use Rattle.std.specs.List.{flat_map};
@@ -19,10 +19,9 @@ use abt_sections::{Image, ImageHeader, SectionFault, fragment, fragments, sectio
 use cmd_common_fields::{Address, TextField, address_of, front_text, os_version_of, text_field_of};
 use sys_text::Text;
 
-/// Writes the words, one a line, with which `pack` makes this image again from the files that `unpack` writes to a
-/// folder.
+/// Writes the arguments, one a line, with which `pack` makes this image again from the files of `unpack` in a folder.
 ///
-/// A write that fails is `Write`; where the source fails, the words before stand. It takes no memory.
+/// A failed write is `Write`. Where the source fails, the arguments before stay written. It allocates no memory.
 pub fn write_words<S: Source, O: Output>(
     image: &Image,
     folder: &str,
@@ -65,7 +64,7 @@ fn image_words<S: Source, O: Output>(
     fragment_words(image, folder, source, text, w, m)
 }
 
-// The words of all but the fragments.
+// The arguments of everything but the fragments.
 fn header_words<O: Output>(image: &Image, folder: &str, text: &mut Text<'_, O>, m: &mut Meter)
     ensures { Prints O.written O.write_faults text.old text.new
         (words.words_text (words.header_words folder.now (view_of image.now.header))) }
@@ -130,8 +129,7 @@ fn has_table(header: &ImageHeader) -> bool
     }
 }
 
-// The option that a section is given by, where there is one: a vendor ramdisk with a table is given by its fragments,
-// and the table with them.
+// The option that sets a section, if any. A vendor ramdisk with a table, and the table, are set by its fragments.
 fn section_option(table: bool, section: Section) -> Option<&'static str>
     ensures { MatchOption result (words.section_option table section ≡ None) (λ name. words.section_option table section
         ≡ Some name.now) }
@@ -244,7 +242,7 @@ fn entry_words<O: Output>(
     board_words(index, &entry.board_id, text, m);
 }
 
-// A name as far as it is not zero, or all of it where it is no text.
+// A name up to its first zero byte, or all of it where it is no text.
 fn name_bytes(name: &[u8; 32]) -> &[u8]
     ensures { result.now ≡ words.name_bytes name.now }
 {

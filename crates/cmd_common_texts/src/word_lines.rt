@@ -1,4 +1,4 @@
-//! The words that pack an image again, each as the line that it stands in.
+//! The arguments that pack an image again, each as a line of text.
 
 ghost use Rattle.std.specs.Prelude.{◌≡◌, ◌++◌, ◌∷◌, []};
 ghost use Rattle.std.specs.List.{flat_map};
@@ -13,7 +13,7 @@ use abt_io::Output;
 use cmd_common_fields::front_text;
 use sys_text::Text;
 
-/// Adds the word `--NAME`.
+/// Adds the argument `--NAME`.
 pub fn put_flag_word<O: Output>(name: &str, text: &mut Text<'_, O>)
     ensures { Prints O.written O.write_faults text.old text.new (words.words_text (words.flag_word name.now ∷ [])) }
 {
@@ -22,7 +22,7 @@ pub fn put_flag_word<O: Output>(name: &str, text: &mut Text<'_, O>)
     text.end_line();
 }
 
-/// Adds the word `--NAME=N` of a number.
+/// Adds the argument `--NAME=N` of a number.
 pub fn put_number_word<O: Output>(name: &str, number: u64, text: &mut Text<'_, O>)
     ensures { Prints
         O.written O.write_faults text.old text.new (words.words_text (words.number_word name.now number ∷ [])) }
@@ -34,7 +34,7 @@ pub fn put_number_word<O: Output>(name: &str, number: u64, text: &mut Text<'_, O
     text.end_line();
 }
 
-/// Adds the word `--NAME=FOLDER/FILE` of a part.
+/// Adds the argument `--NAME=FOLDER/FILE` of a part.
 pub fn put_part_word<O: Output>(name: &str, folder: &str, file: &str, text: &mut Text<'_, O>)
     ensures { Prints
         O.written O.write_faults text.old text.new (words.words_text (words.part_word name.now folder.now file.now ∷ [])) }
@@ -48,7 +48,7 @@ pub fn put_part_word<O: Output>(name: &str, folder: &str, file: &str, text: &mut
     text.end_line();
 }
 
-/// Adds the word `--NAME=TEXT` of a text that ends at the first zero byte of two fields.
+/// Adds the argument `--NAME=TEXT` of a text that ends at the first zero byte of two fields.
 pub fn put_text_word<O: Output>(name: &str, front: &[u8], back: &[u8], text: &mut Text<'_, O>)
     ensures { Prints
         O.written O.write_faults text.old text.new (words.words_text (words.text_word name.now front.now back.now ∷ [])) }
@@ -61,7 +61,7 @@ pub fn put_text_word<O: Output>(name: &str, front: &[u8], back: &[u8], text: &mu
     text.end_line();
 }
 
-// What of a text stands in the second of two fields.
+// The part of a text that is in the second of two fields.
 fn rest_of_text<'a>(front: &[u8], back: &'a [u8]) -> &'a [u8]
     ensures { words.text_over front.now back.now ≡ words.text_of front.now ++ result.now }
 {
@@ -72,7 +72,7 @@ fn rest_of_text<'a>(front: &[u8], back: &'a [u8]) -> &'a [u8]
     }
 }
 
-/// Adds the word `--os=A.B.C-YYYY-MM`, or `--os-number=N` where the month is none.
+/// Adds the argument `--os=A.B.C-YYYY-MM`, or `--os-number=N` where the month is none.
 pub fn put_os_word<O: Output>(os: OsVersion, text: &mut Text<'_, O>)
     ensures { Prints O.written O.write_faults text.old text.new (words.words_text (words.os_option os.number ∷ [])) }
 {
@@ -103,7 +103,7 @@ fn put_os_parts<O: Output>(parts: OsParts, text: &mut Text<'_, O>)
     put_two_digits(parts.month, text);
 }
 
-/// Adds the word `--fragment=TYPE:NAME:FOLDER/fragment.I` of a ramdisk fragment.
+/// Adds the argument `--fragment=TYPE:NAME:FOLDER/fragment.I` of a ramdisk fragment.
 pub fn put_fragment_word<O: Output>(
     index: u32,
     kind: u32,
@@ -125,7 +125,7 @@ pub fn put_fragment_word<O: Output>(
     text.end_line();
 }
 
-/// Adds the word `--board-id=I:K=N`: number K of the board id of fragment I is N.
+/// Adds the argument `--board-id=I:K=N`: number K of the board id of fragment I is N.
 pub fn put_board_word<O: Output>(fragment: u32, place: u32, number: u32, text: &mut Text<'_, O>)
     ensures { Prints O.written O.write_faults text.old text.new
         (words.words_text (words.board_option fragment place number ∷ [])) }

@@ -45,7 +45,7 @@ beside_answer (Err f) (Err e) r r' w0 w h h' none end clean cause done = record 
 }
 beside_answer (Err f) (Ok y) r r' w0 w h h' none end clean cause done = absurd (false≢true done)
 
--- what it tells of the piece is told at the end
+-- the numbers of the piece are those that are returned at the end
 pub told_of : {X F G : Type 0} (P : X → Type 0) (answer : Result X F) (result : Result (X × Bool) G) → IfOk answer P
     → IfOk result (λ end. answer ≡ Ok end.0) → IfOk result (λ end. P end.0)
 told_of P answer (Ok y) own is = subst (λ a. IfOk a P) is own
@@ -106,7 +106,7 @@ adds_none_refused path h h' a b closed later only begun = record {
   synced = ap (λ k. k.syncs) later;
 }
 
--- what is so of every refusal
+-- what holds of every fault
 pub any_refused : {X E : Type 0} (r : Result X E) (P : Type 0) → P → OnErr r P
 any_refused (Ok x) P is = tt
 any_refused (Err e) P is = is

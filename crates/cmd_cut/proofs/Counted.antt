@@ -27,7 +27,7 @@ fails_raw (pieces.LimitTooSmall n) b long models r r' w w' t sized few reads wri
 
 -- ---- of an output that is closed
 
--- with so many failures before
+-- with this many failures before
 pub ended_behind : (d : Bool) (r n : ℕ) (h : OpenFiles) → ended d n (failing r h) ≡ ended d (r + n) h
 ended_behind d r n h =
     ap (λ (k : ℕ). record {
@@ -65,13 +65,13 @@ pub closes_given_up : (r n : ℕ) (h h' h'' : OpenFiles) (a b : World) → h' �
 closes_given_up r n h h' h'' a b before given some =
     closes_undone r given.failures h h' h'' before given.closed (omega (arith, given.least, some))
 
--- the answer is that of the call
+-- the result is that of the call
 pub answered : {X F G : Type 0} (answer : Result X F) (result : Result (X × Bool) G)
     → IfOk result (λ end. answer ≡ Ok end.0) → OnOk result (IsOk answer)
 answered answer (Ok y) is = ap is_ok is
 answered answer (Err e) is = tt
 
--- what was answered is told by the end
+-- the end returns the result of the call
 pub closes_answer : {X Y F G : Type 0} (answer : Result X F) (result : Result Y G) (r0 w0 r n : ℕ)
     (h h' h'' : OpenFiles)
     → r0 ≡ 0 → w0 ≡ 0 → h' ≡ failing r h → h'' ≡ ended (is_ok result) (unended (is_ok answer) (is_ok result) + n) h'
@@ -85,7 +85,7 @@ closes_answer (Err f) (Err e) r0 w0 r n h h' h'' zero_r zero_w before end clean 
     closes_undone r (0 + n) h h' h'' before end (omega (arith, cause))
 closes_answer (Err f) (Ok y) r0 w0 r n h h' h'' zero_r zero_w before end clean cause done = absurd (false≢true done)
 
--- ---- from the front of a run
+-- ---- from the beginning of a run
 
 -- a file was opened, an output created and closed
 pub failed_behind : (input path bytes : List ℕ) (h h' h'' h''' : OpenFiles) (w a b : World)

@@ -50,7 +50,7 @@ stands_later names ps n h h' a b keeps stand j below =
       made = made_later h h' a b (path_in_turn names (j + 1)) s.bytes keeps s.made;
     }
 
--- what is at the path of a piece that stands is its file
+-- the path of a stored piece leads to its file
 file_of : (names : Naming) (ps : List (List ℕ)) (j : ℕ) (h h' : OpenFiles) (a b : World) (f : ℕ) → KeepsMade h h' a b
     → (s : PieceStands names ps j h a) → b.at (path_in_turn names (j + 1)) ≡ Some f → s.made.file ≡ f
 file_of names ps j h h' a b f keeps s at =
@@ -187,9 +187,9 @@ all_made b limit made first l st done m =
     = length-map (frames 0 (segments limit b l)) (piece b) ∙ length-frames 0 (segments limit b l) in
     omega (arith, parts, ap length so.all, length-append so.before [], so.count)
 
--- ---- where the cutter stands in the loop
+-- ---- the position of the cutter in the loop
 
--- of an image of n blocks: between two pieces, or behind the last, of which there is one at least
+-- of an image of n blocks: between two pieces, or after the last; there is at least one
 pub record StandsNow (n made block : ℕ) (st : CutterStage) : Type 0 where
   pub where_is : (st ≡ Between) ⊎ (st ≡ Done)
   pub inside : block ≤ n
@@ -217,7 +217,7 @@ e_below (suc e) (suc n) = elim (e_below e n) [
   | inr past ↦ inr (omega (arith, past))
 ]
 
--- behind a piece from block s up to e
+-- after a piece from block s up to e
 pub stands_more : (n made made' s e block : ℕ) (st : CutterStage) → Passed n s e st → made' ≡ made + 1 → block ≡ e
     → StandsNow n made' block st
 stands_more n made made' s e block st passed one_more at = elim (e_below e n) [
@@ -249,7 +249,7 @@ left_less n s e block st st' between inside passed at = elim (e_below e n) [
       omega (arith, old, new, inside)
 ]
 
--- one of a front of fewer than 2^32 blocks may be counted
+-- a piece of a prefix of fewer than 2^32 blocks may be counted
 pub countable : (n made block : ℕ) (st : CutterStage) → StandsNow n made block st → st ≡ Between → made ≤ block
     → n < 4294967296
     → made < 4294967295

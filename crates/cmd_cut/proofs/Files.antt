@@ -23,7 +23,7 @@ use Rattle.cmd_cut.specs.Sparsing.{LeavesImage, chunks_of_raw}
 one : (o : Option ℕ) (f g : ℕ) → o ≡ Some f → o ≡ Some g → f ≡ g
 one o f g a b = ap (λ p. unwrap_or p 0) (sym a ∙ b)
 
--- an output that was created, and then brought to its end or let go
+-- an output that was created, and then completed or given up
 after : (path : List ℕ) (h h' : OpenFiles) (a b c : World) (made : Creates path h h' a b) → SparesRest h'.output b c
     → Spares made.file b c
 after path h h' a b c made rest = subst (λ k. SparesRest k.output b c) made.begins rest
@@ -99,7 +99,7 @@ left_unbegun e input output size over h h' a c none same = record {
   clean = tt;
 }
 
--- it was written, whatever was told of it then
+-- it was written, whatever was printed of it then
 pub left_whole : {X F : Type 0} (r : Result X F) (input output bytes : List ℕ) (size n : ℕ) (x : Written) (over : Bool)
     (h h' h'' h''' : OpenFiles) (a b c d : World) → n ≡ size → OpensFile a input bytes h h' → b ≡ a
     → Creates output h' h'' b c → HoldsWritten n bytes x h''.output c d → SparesRest h''.output c d
@@ -116,7 +116,7 @@ left_whole r input output bytes size n x over h h' h'' h''' a b c d sized opened
       clean = clean;
     }
 
--- ---- why it is refused
+-- ---- why it fails
 
 pub no_blocks : (path bytes : List ℕ) (size long : ℕ) (h h' k k' : OpenFiles) (a b : World) (f : RunFault)
     (told : SparseCommandFault) (Done : Type 0) → OpensFile a path bytes h h' → b ≡ a → long ≡ length bytes
@@ -140,7 +140,7 @@ refuses path size a b h h' Done (faults.OtherBlocks image) is failed = absurd is
 refuses path size a b h h' Done (faults.OtherCut image) is failed = absurd is
 refuses path size a b h h' Done (faults.Host f) is failed = inl failed
 
--- a call of the disk was refused, or only the line
+-- a call of the disk failed, or only the line
 pub refuses_host : (path : List ℕ) (size : ℕ) (a b : World) (h h' : OpenFiles) (Done : Type 0) (f : SparseCommandFault)
     (k : HostFault) → f ≡ faults.Host k → HasFailed h h' ⊎ Done → RefusesRaw path size a b h h' Done f
 refuses_host path size a b h h' Done f k told why =

@@ -1,4 +1,4 @@
--- What the engine's answers mean for the next piece.
+-- What the engine's results mean for the next piece.
 use Rattle.std.proofs.Common.{◌+◌, ◌≡◌, ℕ, List, [], ◌++◌, true, false, sym, ◌∙◌, ap, subst, length}
 use Rattle.std.proofs.lemmas.Bool.{false≢true}
 use Rattle.abt_sparse.specs.Block.{Block}
@@ -15,11 +15,11 @@ use Rattle.abt_pieces.specs.declared.stage.CutterStage.TheVariants.{Between, Don
 use Rattle.abt_pieces.proofs.Turning.{in_turn}
 use Rattle.cmd_cut.specs.Cutting.{NumbersOfPiece}
 
--- between two pieces a cutter is not done, and no call has refused
+-- between two pieces a cutter is not done, and no call has failed
 pub not_done : (st : CutterStage) → st ≡ Between → st ≡ Done → ⊥
 not_done st between done = false≢true (sym (ap has_more (sym between ∙ done)))
 
--- what was written behind nothing is the piece behind those that are made
+-- what was written to an empty output is the piece after those that are made
 pub next_laid : (b limit made first : ℕ) (l : List Block) (p : Piece) (old new : List ℕ) (st : CutterStage) → st
     ≡ Between
     → old ≡ [] → Made b limit l made (segments_left b limit l first st) → p.first ≡ first

@@ -25,7 +25,7 @@ use Rattle.sys_disk.specs.Among.{GoesAmong, IsMade}
 use Rattle.cmd_cut.proofs.CutCommands.{cuts_none}
 use Rattle.sys_disk.proofs.Amongs.{goes_none, goes_then, kept_beside, among_behind}
 
--- ---- once what was read is let go
+-- ---- after what was read is closed
 
 made_past : (h h' : OpenFiles) (a b : World) (path bytes : List ℕ) (n : ℕ) → h' ≡ failing n h → b ≡ a
     → IsMade h a path bytes → IsMade h' b path bytes
@@ -54,7 +54,7 @@ cuts_past names ps n m r h h' h'' a b c later same cuts = record {
   synced = ap (λ k. k.syncs) later ∙ cuts.synced;
 }
 
--- a call of the disk was refused, or memory was, before the first piece
+-- a call of the disk failed, or there was no memory, before the first piece
 pub stops_host : (Unprinted : Type 0) (fault : SparseCommandFault) (k : HostFault) (names : Naming) (ps : List
     (List ℕ)) (h h' : OpenFiles)
     (a b : World) → h.output ≡ None → OnlyFails h h' → b ≡ a → fault ≡ faults.Host k
@@ -84,7 +84,7 @@ beside_read names ps n m from h h' a b none listed cuts j f below at is =
       | inr there ↦ there.free (subst (λ g. Contains h.read g) (sym same) listed)
     ]
 
--- behind the opening of the image
+-- after the opening of the image
 pub first_stand : (names : Naming) (path bytes : List ℕ) (ps : List (List ℕ)) (n m : ℕ) (h h' h'' : OpenFiles)
     (a b c : World) → h.begun ≡ [] → (o : OpensFile a path bytes h h') → b ≡ a → CutsSoFar names ps n m h' h'' b c
     → FirstStand names o.file h h'' a c ps n m
@@ -192,7 +192,7 @@ pub refuses_unopened : (Unprinted : Type 0) (raw : Option ℕ) (limit : ℕ) (in
 refuses_unopened Unprinted raw limit input names fault k h h' a c told now same =
     unopened k told (omega (arith, ap (λ q. q.failed) now)) same
 
--- ---- of calls that may be refused
+-- ---- of calls that may fail
 
 -- ---- between the opening of the image and its end
 
@@ -236,7 +236,7 @@ stops_between Unprinted fault names ps r r' h h1 h2 h3 a a1 b c held world none
 stops_between Unprinted fault names ps r r' h h1 h2 h3 a a1 b c held world none (no_memory told cuts) later same =
     no_memory told (cuts_between names ps 0 0 r' h h1 h2 h3 a a1 b c held world cuts later same)
 
--- ---- from the answer of the call
+-- ---- from the result of the call
 
 pub cuts_file_as : {X E : Type 0} (r : Result X E) (raw raw' : Option ℕ) (limit : ℕ) (input : List ℕ)
     (names : Naming) (bytes : List ℕ) (h h' h'' : OpenFiles) (a b c : World) (shows : ℕ → List Block → Type 0) → raw

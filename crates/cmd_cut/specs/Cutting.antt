@@ -43,7 +43,7 @@ use Rattle.sys_disk.specs.Among.{GoesAmong, IsMade, KeepsMade, OnlyAmong}
 
 -- ---- what is cut
 
--- a sparse image of these blocks of so many bytes stands at the front of x
+-- x begins with a sparse image of these blocks, each of this many bytes
 pub record IsSparseOf (size : ℕ) (blocks : List Block) (x : List ℕ) : Type 0 where
   pub header : Header
   pub chunks : List Chunk
@@ -52,12 +52,12 @@ pub record IsSparseOf (size : ℕ) (blocks : List Block) (x : List ℕ) : Type 0
   pub sized : size ≡ header.blk_sz
   pub holds : blocks ≡ classed chunks
 
--- x is an image of these blocks of so many bytes: a sparse one, or a raw one in such blocks
+-- x is an image of these blocks of this many bytes: a sparse one, or a raw one in such blocks
 abbrev pub IsImageOfBlocks : Option ℕ → ℕ → List Block → List ℕ → Type 0
 IsImageOfBlocks None size blocks x = IsSparseOf size blocks x
 IsImageOfBlocks (Some n) size blocks x = (size ≡ n) × IsRawBlockSize n × (blocks ≡ classify n x)
 
--- the pieces of an image of these blocks of so many bytes, for a limit
+-- the pieces of an image of these blocks of this many bytes, for a limit
 abbrev pub cut_into : ℕ → ℕ → List Block → List (List ℕ)
 cut_into limit size blocks = pieces limit size blocks
 
@@ -74,7 +74,7 @@ IsPiecePath prefix path = (n : ℕ) × (path ≡ piece_path prefix n)
 abbrev pub path_in_turn : Naming → ℕ → List ℕ
 path_in_turn names n = piece_path names.prefix (number_in_turn names.from_zero n)
 
--- no file has the name of a piece behind so many
+-- no file has the name of a piece after this many
 abbrev pub IsNoneLeft : Naming → ℕ → World → Type 0
 IsNoneLeft names count world = (n : ℕ) → number_in_turn names.from_zero count < n → n < 2 ^ 32
     → world.at (piece_path names.prefix n) ≡ None
@@ -85,7 +85,7 @@ pub record IsFirstPiecePath (names : Naming) (m : ℕ) (path : List ℕ) : Type 
   pub below : index < m
   pub is_path : path ≡ path_in_turn names (index + 1)
 
--- of these pieces the one behind j others was begun, and stands whole under its name
+-- of these pieces the one after j others was begun, and is stored whole under its name
 pub record PieceStands (names : Naming) (ps : List (List ℕ)) (j : ℕ) (held : OpenFiles) (world : World) : Type 0 where
   pub bytes : List ℕ
   pub is_next : HasAt ps j bytes
@@ -100,8 +100,8 @@ abbrev pub AreApart : Naming → ℕ → World → Type 0
 AreApart names n world = (i j f : ℕ) → i < j → j < n → world.at (path_in_turn names (i + 1)) ≡ Some f
     → world.at (path_in_turn names (j + 1)) ≡ Some f → ⊥
 
--- From one moment of a run to another: the first n pieces stand, in files of their own, each synced where that is
--- wanted. Nothing but the files of the first m was changed, and no output is open.
+-- Between two states of a run: the first n pieces are stored, in files of their own, each synced where that is
+-- requested. Only the files of the first m were changed, and no output is open.
 pub record CutsSoFar (names : Naming) (ps : List (List ℕ)) (n m : ℕ) (held held' : OpenFiles) (old new : World)
     : Type 0 where
   pub goes : GoesAmong (IsFirstPiecePath names m) held held' old new
@@ -113,7 +113,7 @@ pub record CutsSoFar (names : Naming) (ps : List (List ℕ)) (n m : ℕ) (held h
 
 -- ---- what is printed
 
--- the numbers of the piece behind so many others, of an image of these blocks of so many bytes
+-- the numbers of the piece after this many others, of an image of these blocks of this many bytes
 pub record NumbersOfPiece (limit size : ℕ) (blocks : List Block) (made : ℕ) (p : Piece) : Type 0 where
   pub bytes : List ℕ
   pub is_next : HasAt (pieces limit size blocks) made bytes
@@ -131,8 +131,8 @@ ShowsPieces from_zero limit size blocks (suc n) old new =
     (next : Report) × ((p : Piece) × (ShowsPieces from_zero limit size blocks n old next
     × (NumbersOfPiece limit size blocks n p × Shows next new (piece_line (number_in_turn from_zero (suc n)) p))))
 
--- Then how many they are. Behind that nothing goes to standard output; and nothing at all where no file of an older cut
--- is left.
+-- Then the number of pieces is printed. After it nothing goes to standard output. Nothing at all follows where no
+-- file of an older cut is left.
 pub record ShowsCount (names : Naming) (count : ℕ) (world : World) (old new : Report) : Type 0 where
   pub told : Report
   pub line : ShowsHere old told (line_text (lines.Pieces count) ++ (10 ∷ []))
@@ -148,7 +148,7 @@ pub record ShowsCut (names : Naming) (limit : ℕ) (world : World) (old new : Re
   pub pieces_told : ShowsPieces names.from_zero limit size blocks count old between
   pub count_told : ShowsCount names count world between new
 
--- all of them stand, and their lines were printed
+-- all of them are stored, and their lines were printed
 pub record CutsAll (names : Naming) (ps : List (List ℕ)) (held held' : OpenFiles) (old new : World) (shows : Type 0)
     : Type 0 where
   pub count : ℕ
@@ -166,7 +166,7 @@ pub record OnlyLeaves (named : List ℕ → Type 0) (held held' : OpenFiles) (ol
   pub only : GoesAmong named held held' old new
   pub closed : held'.output ≡ None
 
--- and it is done only where nothing has failed
+-- and the result is Ok only where nothing has failed
 pub record LeavesPieces {X F : Type 0} (r : Result X F) (named : List ℕ → Type 0) (held held' : OpenFiles)
     (old new : World)
     : Type 0 where
@@ -187,7 +187,7 @@ pub record ReadyFirstPiece {R A : Type 0} (g : images.Ghosts R) (s : sources.Gho
   pub first : made ≡ 0
   pub ready : ReadyPiece g s image source limit made start st
 
--- what the piece is that was cut, and that what cuts, and the source, go on as they were
+-- the piece that was cut; the cutter and the source continue as they were
 pub record CutsPiece {X E : Type 0} (r : Result X E) (piece : X → Piece) {R A : Type 0} (g : images.Ghosts R)
     (s : sources.Ghosts A) (image image' : R) (source source' : A) (limit limit' made made' : ℕ) (start start' : Cursor)
     (st' : CutterStage) : Type 0 where
@@ -197,21 +197,21 @@ pub record CutsPiece {X E : Type 0} (r : Result X E) (piece : X → Piece) {R A 
   pub told : IsTrue s.models → ToldCutter (g.place image (s.content source)) (g.together image (s.content source))
       (g.size image) (g.list image (s.content source)) limit' made' start' st'
 
--- the output that was open holds the piece behind so many others, and all other files are as before
+-- the open output holds the piece after this many others, and all other files are as before
 pub record HoldsPiece (ps : List (List ℕ)) (made : ℕ) (output : Option ℕ) (old new : World) : Type 0 where
   pub bytes : List ℕ
   pub is_next : HasAt ps made bytes
   pub ends : Ends output bytes old new
 
--- the output that was open is closed, beside what is read: all was brought to its end exactly where nothing has failed
+-- the open output is closed, beside what is read: it was completed exactly where nothing has failed
 pub record ClosesBeside (is_done : Bool) (reads reads' : ℕ) (old new : OpenFiles) : Type 0 where
   pub failures : ℕ
   pub closed : new ≡ ended is_done failures old
   pub clean : is_done ≡ true → reads' + failures ≡ reads
   pub cause : is_done ≡ false → reads < reads' + failures
 
--- The output that was open is brought to its end and closed, beside what is read: where the answer is Ok it holds the
--- piece behind so many others; no other file has changed; and where it is refused a device or a file was at fault.
+-- The open output is completed and closed, beside what is read. After an Ok it holds the piece after this many
+-- others. No other file has changed. After an Err a device or a file was at fault.
 pub record PutsPiece {X E : Type 0} (r : Result X E) (fault : E → SparseCommandFault) (ps : List (List ℕ))
     (made reads reads' : ℕ) (held held' : OpenFiles) (old new : World) : Type 0 where
   pub holds : OnOk r (HoldsPiece ps made held.output old new)
@@ -219,7 +219,7 @@ pub record PutsPiece {X E : Type 0} (r : Result X E) (fault : E → SparseComman
   pub rest : SparesRest held.output old new
   pub outside : IfErr r (λ refusal. IsOutsideSparse (fault refusal))
 
--- the next piece stands under its name, in a file that was not begun before
+-- the next piece is stored under its name, in a file that was not begun before
 pub record AddsPiece (ps : List (List ℕ)) (made : ℕ) (path : List ℕ) (held held' : OpenFiles)
     (old new : World) : Type 0 where
   pub bytes : List ℕ
@@ -230,18 +230,19 @@ pub record AddsPiece (ps : List (List ℕ)) (made : ℕ) (path : List ℕ) (held
   pub is_synced : held'.is_synced ≡ held.is_synced
   pub synced : held'.syncs ≡ held.syncs + (if held.is_synced then 1 else 0)
 
--- it is not added: those that were begun before are as they were
+-- no piece is added: those that were begun before are as they were
 pub record AddsNone (held held' : OpenFiles) (old new : World) : Type 0 where
   pub keeps : KeepsMade held held' old new
   pub is_synced : held'.is_synced ≡ held.is_synced
   pub synced : held'.syncs ≡ held.syncs
 
--- ---- why it is refused
+-- ---- why it fails
 
--- Why not all pieces are cut, or told, where `Cut n m` says that the first n of them stand, and that no files but those
--- of the first m were changed: a device has failed, or a call of the disk, over the piece behind those that stand; or a
--- line could not be printed, or memory was refused where an older piece was looked for; or memory was refused where a
--- file was looked for, before the first piece.
+-- Why not all pieces are cut, or not all printed. `Cut n m` states that the first n of them are stored, and that only
+-- the files of the first m were changed. The causes:
+-- - A device has failed, or a call of the disk, in the piece after those that are stored.
+-- - A line could not be printed, or there was no memory to look for an older piece.
+-- - There was no memory to look for a file, before the first piece.
 pub data StopsCut (fault : SparseCommandFault) (Failed Unprinted : Type 0) (Cut : ℕ → ℕ → Type 0) : Type 0 where
   failed : IsOutsideSparse fault → Failed → (n : ℕ) → Cut n (n + 1) → StopsCut fault Failed Unprinted Cut
   untold : (f : HostFault) → fault ≡ faults.Host f → Unprinted ⊎ (f ≡ hosts.Memory) → (n : ℕ) → 0 < n → Cut n n
@@ -254,13 +255,14 @@ HasNoCut None (of_runs.Sparse f) x = (given : List (Option ℕ)) × Fails x f gi
 HasNoCut None f x = ⊥
 HasNoCut (Some size) f x = RefusedRaw f size (length x)
 
--- the blocks of x have so many bytes
+-- the blocks of x have this many bytes
 abbrev pub HasBlocksOf : Option ℕ → ℕ → List ℕ → Type 0
 HasBlocksOf None size x = (blocks : List Block) × IsSparseOf size blocks x
 HasBlocksOf (Some n) size x = size ≡ n
 
--- Why the image x is not cut: it is none, or could not be read, or the limit has no room for one of its blocks, and
--- nothing was changed; or its pieces are not all cut, or told.
+-- Why the image x is not cut:
+-- - It is no image, or could not be read, or the limit has no room for one of its blocks. Then nothing was changed.
+-- - Its pieces are not all cut, or not all printed.
 pub data StopsImage (raw : Option ℕ) (limit : ℕ) (x : List ℕ) (fault : SparseCommandFault)
     (Failed Unprinted Same : Type 0)
     (Cut : List (List ℕ) → ℕ → ℕ → Type 0) : Type 0 where
@@ -274,7 +276,7 @@ pub data StopsImage (raw : Option ℕ) (limit : ℕ) (x : List ℕ) (fault : Spa
       → StopsCut fault Failed Unprinted (Cut (pieces limit size blocks))
       → StopsImage raw limit x fault Failed Unprinted Same Cut
 
--- the limit has no room for one block of the image at the front of x
+-- the limit has no room for one block of the image at the beginning of x
 pub record IsTooSmall (fault : PieceFault) (limit : ℕ) (x : List ℕ) : Type 0 where
   pub header : Header
   pub chunks : List Chunk
@@ -283,7 +285,7 @@ pub record IsTooSmall (fault : PieceFault) (limit : ℕ) (x : List ℕ) : Type 0
   pub told : fault ≡ of_pieces.LimitTooSmall (64 + header.blk_sz)
   pub short : limit < 64 + header.blk_sz
 
--- calls were refused, and nothing else has changed
+-- calls failed, and nothing else has changed
 pub record OnlyFails (old new : OpenFiles) : Type 0 where
   pub failures : ℕ
   pub same : new ≡ failing failures old
@@ -303,7 +305,7 @@ IsUncutSparse f limit x reads reads' = ⊥
 
 -- ---- an image and its pieces
 
--- x is an image of these blocks, and all its pieces stand
+-- x is an image of these blocks, and all its pieces are stored
 pub record CutsImage (raw : Option ℕ) (limit : ℕ) (names : Naming) (x : List ℕ) (held held' : OpenFiles)
     (old new : World)
     (shows : ℕ → List Block → Type 0) : Type 0 where
@@ -315,8 +317,8 @@ pub record CutsImage (raw : Option ℕ) (limit : ℕ) (names : Naming) (x : List
 
 -- ---- of files
 
--- The first n pieces stand, each under its name, in a file that is none of the others and not the image's, synced where
--- that is wanted. Nothing but the files of the first m was created or changed.
+-- The first n pieces are stored, each under its name. The file of each is none of the others and not the image's, and
+-- it is synced where that is requested. Only the files of the first m were created or changed.
 pub record FirstStand (names : Naming) (from : ℕ) (held held' : OpenFiles) (old new : World) (ps : List (List ℕ))
     (n m : ℕ)
     : Type 0 where
@@ -326,7 +328,7 @@ pub record FirstStand (names : Naming) (from : ℕ) (held held' : OpenFiles) (ol
   pub synced : held'.syncs ≡ held.syncs + n * (if held.is_synced then 1 else 0)
   pub only : OnlyAmong (IsFirstPiecePath names m) held.read held'.begun old new
 
--- The file at one path held an image, and all its pieces stand. Their lines were printed, and how many they are.
+-- The file at one path held an image, and all its pieces are stored. Their lines were printed, and then their number.
 pub record CutsFile (raw : Option ℕ) (limit : ℕ) (input : List ℕ) (names : Naming) (held held' : OpenFiles)
     (old new : World)
     (shows : ℕ → List Block → Type 0) : Type 0 where
@@ -341,8 +343,8 @@ pub record CutsFile (raw : Option ℕ) (limit : ℕ) (input : List ℕ) (names :
   pub first : FirstStand names from held held' old new (pieces limit size blocks) count count
   pub shown : shows size blocks
 
--- What is left of files, whatever the outcome: only such files as pieces have were created or changed, IN holds what it
--- held, and no output is open. It is done only where nothing has failed.
+-- What is left of files, whatever the outcome. Only files with names of pieces were created or changed, IN holds what
+-- it held, and no output is open. The result is Ok only where nothing has failed.
 pub record LeavesCut {X F : Type 0} (r : Result X F) (from prefix : List ℕ) (held held' : OpenFiles) (old new : World)
     : Type 0 where
   pub only : OnlyAmong (IsPiecePath prefix) held.read held'.begun old new
@@ -350,7 +352,7 @@ pub record LeavesCut {X F : Type 0} (r : Result X F) (from prefix : List ℕ) (h
   pub closed : held'.output ≡ None
   pub clean : OnOk r (HasNotFailed held held')
 
--- why the command is refused: the file could not be opened, before anything was changed; or for what it holds
+-- why the command fails: the file could not be opened, before anything was changed; or for what it holds
 pub data RefusesCut (raw : Option ℕ) (limit : ℕ) (input : List ℕ) (names : Naming) (fault : SparseCommandFault)
     (held held' : OpenFiles) (old new : World) (Unprinted : Type 0) : Type 0 where
   unopened : (f : HostFault) → fault ≡ faults.Host f → HasFailed held held' → new ≡ old

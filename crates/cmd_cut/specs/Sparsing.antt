@@ -28,8 +28,8 @@ blocks_of_raw size x = length (classify size x)
 abbrev pub chunks_of_raw : ℕ → List ℕ → ℕ
 chunks_of_raw size x = length (chunks_of (most_of size) (classify size x))
 
--- The file at one path held bytes, the one at the other is another file that holds their sparse image and nothing else,
--- no other file has changed, and the line that was printed has the image's numbers.
+-- The file at one path held bytes. The file at the other path is another file. It holds their sparse image and
+-- nothing else. No other file has changed, and the line that was printed has the image's numbers.
 pub record SparsifiesFile (input output : List ℕ) (size : ℕ) (old new : World) (shows : List ℕ → Type 0) : Type 0 where
   pub from : ℕ
   pub onto : ℕ
@@ -58,9 +58,11 @@ HoldsNoPartOfSparse input output size old new = (file : ℕ) → new.at output �
     → (new.holds file ≡ old.holds file)
     ⊎ (HoldsNoSparse (new.holds file) ⊎ HoldsImage input size old (new.holds file))
 
--- What a call leaves that writes the sparse image of one file to another, whatever it answers: that one alone may hold
--- anything else, the first holds what it held, no output is open, and a file that can be written over has no part of an
--- image; after an Ok it was synced, where that is wanted, and nothing has failed.
+-- What is left, whatever the result, by a call that writes the sparse image of one file to another:
+-- - Only the other may hold anything else. The first holds what it held.
+-- - No output is open.
+-- - A file that can be overwritten has no part of an image.
+-- - After an Ok it was synced, where that is requested, and nothing has failed.
 pub record LeavesImage {X F : Type 0} (r : Result X F) (from onto : List ℕ) (size : ℕ) (is_over : Bool)
     (held held' : OpenFiles) (old new : World) : Type 0 where
   pub synced : OnOk r (held'.syncs ≡ held.syncs + (if held.is_synced then 1 else 0))
@@ -97,8 +99,8 @@ IsOutsideSparse (faults.OtherBlocks image) = ⊥
 IsOutsideSparse (faults.OtherCut image) = ⊥
 IsOutsideSparse (faults.Host f) = Unit {0}
 
--- the block size is none that the file at this path has, which is told before anything is touched; or a device failed;
--- or a call of the disk did, or all was done and the line could not be printed
+-- the block size doesn't fit the file at this path, and this is found before anything is changed; or a device failed;
+-- or a call of the disk did; or everything was done and the line could not be printed
 abbrev pub RefusesRaw : List ℕ → ℕ → World → World → OpenFiles → OpenFiles → Type 0 → SparseCommandFault → Type 0
 RefusesRaw path size old new held held' Done (faults.Run f) = HasNoBlocks path size old new f
 RefusesRaw path size old new held held' Done (faults.Piece f) = IsOfPieceDevices f × HasFailed held held'
@@ -109,14 +111,14 @@ RefusesRaw path size old new held held' Done (faults.Verify f) = ⊥
 RefusesRaw path size old new held held' Done (faults.OtherBlocks image) = ⊥
 RefusesRaw path size old new held held' Done (faults.OtherCut image) = ⊥
 
--- the output that was open was let go, which had failed so often, or more often in the end; no other file has changed
+-- the open output was closed; it had failed this often, or more often in the end; no other file has changed
 pub record GivesUp (faults : ℕ) (held held' : OpenFiles) (old new : World) : Type 0 where
   pub failures : ℕ
   pub closed : held' ≡ ended false failures held
   pub least : faults ≤ failures
   pub rest : SparesRest held.output old new
 
--- a raw image of so many bytes can be written in these blocks
+-- a raw image of this many bytes can be written in these blocks
 pub record FitsBlocks (blocks : Blocks) (bytes : ℕ) : Type 0 where
   pub sized : IsRawBlockSize blocks.size
   pub most : blocks.most ≡ most_of blocks.size
@@ -138,7 +140,7 @@ pub record ReadyToWrite (models : Bool) (blocks : Blocks) (bytes reads : ℕ) (w
     pub image : ReadyRawImage models blocks bytes reads
     pub output : ReadyOutput models written faults
 
--- such an image can be written behind nothing
+-- such an image can be written to an empty output
 pub record ReadyToLay (blocks : Blocks) (bytes : ℕ) (written : List ℕ) : Type 0 where
   pub fits : FitsBlocks blocks bytes
   pub empty : written ≡ []
@@ -151,7 +153,7 @@ pub record OnlyDevicesFail {X : Type 0} (r : Result X SparseCommandFault) (model
   pub clean : OnOk r (failed' ≡ failed)
   pub cause : IsTrue models → OnErr r (failed < failed')
 
--- these are the numbers of the sparse image of these bytes, and behind nothing it was written
+-- these are the numbers of the sparse image of these bytes, and it was written to an empty output
 pub record IsWritten (size : ℕ) (x : List ℕ) (a : Written) (bytes : List ℕ) : Type 0 where
   pub blocks : a.blocks ≡ blocks_of_raw size x
   pub chunks : a.chunks ≡ chunks_of_raw size x
@@ -169,13 +171,13 @@ abbrev pub HoldsWritten : ℕ → List ℕ → Written → Option ℕ → World 
 HoldsWritten size x a None old new = Unit {0}
 HoldsWritten size x a (Some file) old new = IsWritten size x a (new.holds file) × Spares file old new
 
--- the output that was open holds no part of the sparse image of these bytes, but nothing of it or all
+-- the open output holds either all of the sparse image of these bytes, or no sparse image
 abbrev pub LeavesNoneOrSparse : ℕ → List ℕ → Option ℕ → World → Type 0
 LeavesNoneOrSparse size x None new = Unit {0}
 LeavesNoneOrSparse size x (Some file) new = HoldsNoSparse (new.holds file) ⊎ (new.holds file ≡ image_of_raw size x)
 
--- The output that was open is brought to its end and closed: where the answer is Ok it holds the sparse image of these
--- bytes, which has these numbers; no other file has changed; and where it is refused a device or a file was at fault.
+-- The open output is completed and closed. After an Ok it holds the sparse image of these bytes, which has these
+-- numbers. No other file has changed. After an Err a device or a file was at fault.
 pub record WritesSparseImage {F : Type 0} (r : Result (Written × Bool) F) (fault : F → SparseCommandFault) (size : ℕ)
     (x : List ℕ) (held held' : OpenFiles) (old new : World) : Type 0 where
   pub holds : IfOk r (λ end. HoldsWritten size x end.0 held.output old new)

@@ -1,4 +1,4 @@
-//! The command `cut`: an image in pieces for a download limit, each into a file of its own.
+//! The command `cut`: cuts an image into pieces for a download limit, each in a file of its own.
 
 ghost use Rattle.std.specs.Prelude.{◌≡◌, ◌<◌, ◌≤◌, ◌+◌, [], None, Some, IsTrue, IfOk, IfErr, OnOk};
 ghost use Rattle.sys_disk.specs.World.{HasFailed, IsReading};
@@ -22,8 +22,8 @@ use sys_disk::{Disk, Lasting};
 use sys_refusals::{FileArg, Sides};
 use sys_report::Report;
 
-// How often a raw image is read whose pieces get each header before what it tells of, as a pipe and a device do: to plan a
-// piece, to find each run whole, and to copy it.
+// How often a raw image is read whose pieces go to a pipe or a device. There each header is written before its data.
+// The image is read to plan a piece, to find each run whole, and to copy it.
 const RAW_PASSES: u64 = 3;
 
 /// What to cut, and into which files.
@@ -35,15 +35,16 @@ pub struct Cutting<'a> {
     pub limit: u32,
     /// How the files of the pieces are named.
     pub names: PieceNaming<'a>,
-    /// How many bytes a block of a raw image has; of a sparse image, nothing.
+    /// How many bytes a block of a raw image has; `None` for a sparse image.
     pub raw: Option<u32>,
 }
 
-/// Writes each piece of an image to a file of its own, and prints what they are.
+/// Writes each piece of an image to a file of its own, and prints the pieces.
 ///
-/// A piece's file is opened when its turn comes, and its line is printed when all of it is in the file. Pieces and
-/// lines before a fault stand. Where the image is one of the files that are there for pieces, nothing is written. The
-/// next piece of an older cut is named, since it is no piece of this one.
+/// - A piece's file is opened when its turn comes. Its line is printed when the whole piece is in the file.
+/// - Pieces and lines before a fault stay.
+/// - Where the image is one of the existing files with the name of a piece, nothing is written.
+/// - The next piece of an older cut is named, since it is no piece of this one.
 #[inline(never)]
 pub fn cut_file<'a, D: Disk>(
     disk: &mut D,
@@ -53,15 +54,15 @@ pub fn cut_file<'a, D: Disk>(
     m: &mut Meter,
 ) -> Result<(), SparseRefusal<'a>>
     requires first { IsTrue D.models → IsReading (D.held disk.old) }
-    // each piece of the image that IN holds stands under its name, in a file of its own
+    // each piece of the image that IN holds is stored under its name, in a file of its own
     ensures done { IsTrue D.models → OnOk result (CutsFile order.entry.raw order.entry.limit (path_of order.entry.input)
         (naming_of order.entry.names) (D.held disk.old) (D.held disk.new) (D.world disk.old) (D.world disk.new)
         (ShowsCut (naming_of order.entry.names) order.entry.limit (D.world disk.new) report.old report.new)) }
-    // whatever comes, only such files were created or changed, IN holds what it held, and no output is open; where it is
-    // done nothing has failed
+    // whatever the outcome, only such files were created or changed, IN holds what it held, and no output is open;
+    // after an Ok nothing has failed
     ensures leaves { IsTrue D.models → LeavesCut result (path_of order.entry.input) order.entry.names.prefix.now
         (D.held disk.old) (D.held disk.new) (D.world disk.old) (D.world disk.new) }
-    // it is refused for what IN holds, for the limit, or for a fault of files or devices that came
+    // it fails for what IN holds, for the limit, or for a fault of files or devices
     ensures refused { IsTrue D.models → IfErr result (λ refusal. RefusesCut order.entry.raw order.entry.limit
         (path_of order.entry.input) (naming_of order.entry.names) refusal.fault (D.held disk.old) (D.held disk.new)
         (D.world disk.old) (D.world disk.new) (CannotPrint report.old report.new)) }
@@ -77,7 +78,7 @@ pub fn cut_file<'a, D: Disk>(
     }
 }
 
-// The same of a raw image that is open, in blocks of so many bytes.
+// The same for an open raw image, in blocks of this many bytes.
 fn cut_raw<'a, D: Disk>(
     disk: &mut D,
     report: &mut Report,
@@ -116,7 +117,7 @@ fn cut_raw<'a, D: Disk>(
     }
 }
 
-// The same of a sparse image that is open.
+// The same for an open sparse image.
 fn cut_sparse<'a, D: Disk>(
     disk: &mut D,
     report: &mut Report,
@@ -157,8 +158,8 @@ fn cut_sparse<'a, D: Disk>(
     }
 }
 
-// The pieces of a sparse image, all of whose chunks are checked. It ends too soon where its file is shorter then than
-// what was given of it.
+// The pieces of a sparse image whose chunks are all checked. Fails because the image ends too soon, where its file is
+// now shorter than what was read of it.
 fn sparse_pieces<S: Lasting>(
     source: &mut S,
     limit: u32,

@@ -36,16 +36,16 @@ pub(crate) fn cut_pieces<'a, D: Disk, B: BlockRuns + LaysPieces + Drop>(
     requires fresh { IsTrue D.models → IsUnbegun (D.held disk.old) (D.At.read_faults source) }
     requires ready { ReadyFirstPiece B.BlockRuns D.At.Source pieces.cutter.runs source pieces.cutter.limit
         pieces.cutter.made pieces.cutter.start pieces.cutter.stage }
-    // each piece stands under its name; a line of each was printed, and how many they are
+    // each piece is stored under its name; a line of each was printed, and then their number
     ensures done { IsTrue D.models → OnOk result (CutsAll (naming_of names.entry) (cut_into pieces.cutter.limit
         (B.size pieces.cutter.runs) (B.list pieces.cutter.runs (D.At.content source))) (D.held disk.old)
         (D.held disk.new) (D.world disk.old) (D.world disk.new) (ShowsCut (naming_of names.entry) pieces.cutter.limit
         (D.world disk.new) report.old report.new (B.size pieces.cutter.runs)
         (B.list pieces.cutter.runs (D.At.content source)))) }
-    // whatever comes, only files of pieces were created or changed, and none is open; where it is done nothing has failed
+    // whatever the outcome, only piece files were created or changed, and none is open; after an Ok nothing has failed
     ensures leaves { IsTrue D.models → LeavesPieces result (IsPiecePath names.entry.prefix.now) (D.held disk.old)
         (D.held disk.new) (D.world disk.old) (D.world disk.new) }
-    // it is refused where something has failed, or can't be told
+    // it fails where something has failed, or can't be printed
     ensures refused { IsTrue D.models → IfErr result (λ refusal. StopsCut refusal.fault
         (HasFailed (D.held disk.old) (D.held disk.new)) (CannotPrint report.old report.new)
         (λ n m. CutsSoFar (naming_of names.entry)
@@ -173,7 +173,7 @@ fn write_pieces<'a, D: Disk, B: BlockRuns + LaysPieces + Drop>(
     }
 }
 
-// None is begun before it is known that the line of the last one is out.
+// No piece is begun before it is known that the line of the last one was printed.
 #[inline(never)]
 fn print_piece<'a>(
     report: &mut Report,
@@ -194,7 +194,7 @@ fn print_piece<'a>(
     report.line_beside(is_on_output, line)
 }
 
-// Refuses an image that has the name of a piece, or is one of the files that stand there for pieces.
+// Fails for an image that has the name of a piece, or is one of the existing files with the name of a piece.
 fn refuse_image_as_piece<'a, D: Disk>(
     disk: &mut D,
     image: &'a str,

@@ -1,4 +1,4 @@
-//! The sparse image of a raw one, as far as it goes, while it is known how far the command is.
+//! The engine's calls that write the sparse image of a raw one, with the progress of the command.
 
 ghost use Rattle.std.specs.Prelude.{◌+◌, OnErr};
 ghost use Rattle.cmd_cut.specs.Sparsing.{HoldsNoSparse, LaysSparseImage, ReadyToLay};
@@ -9,7 +9,7 @@ use abt_sparsify::{Written, sparsify};
 use cmd_common_sparse::{Blocks, SparseCommandFault};
 use sys_report::Carried;
 
-/// Lays the sparse image of a raw one, its magic last.
+/// Writes the sparse image of a raw one in place, its magic last.
 pub(crate) fn lay_image<S: Source, O: Overwrite>(
     source: &mut Carried<'_, S>,
     blocks: Blocks,
@@ -30,7 +30,7 @@ pub(crate) fn lay_image<S: Source, O: Overwrite>(
     }
 }
 
-/// Writes the same from its front on.
+/// Writes the same from its first byte on.
 pub(crate) fn write_image<S: Source, O: Output>(
     source: &mut Carried<'_, S>,
     blocks: Blocks,

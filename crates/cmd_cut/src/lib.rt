@@ -1,14 +1,14 @@
-//! What the commands do that write images which have a magic, over any disk.
+//! The commands `sparse` and `cut` over any disk. Both write images that begin with a magic.
 //!
-//! | file | has |
+//! | file | content |
 //! |---|---|
-//! | `sparse.rt` | the body of `sparse` |
-//! | `write_image.rt` | the image of a raw one, to a file or a stream, and its end |
-//! | `engine_calls.rt` | the calls of the engine, behind which it is known how far a command is |
-//! | `stopped_command.rt` | what is told of a command that stopped, where its file is written late |
-//! | `cut.rt` | the body of `cut` |
-//! | `cut_loop.rt`, `pieces.rt` | all pieces of an image, and one of them, each to a file of its own |
-//! | `next_piece.rt` | the calls of the engine for one piece, to a file or a stream |
+//! | `sparse.rt` | the command `sparse` |
+//! | `write_image.rt` | writing the sparse image of a raw one to a file or a stream, and closing it |
+//! | `engine_calls.rt` | the engine's calls that write it, with the progress of the command |
+//! | `stopped_command.rt` | the fault of a command that stopped, where its file is written late |
+//! | `cut.rt` | the command `cut` |
+//! | `cut_loop.rt`, `pieces.rt` | writing all pieces of an image; writing one piece to a file of its own |
+//! | `next_piece.rt` | the engine's calls for one piece, to a file or a stream |
 #![tactic(auto)]
 
 mod cut;

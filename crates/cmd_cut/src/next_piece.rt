@@ -1,4 +1,4 @@
-//! The next piece of an image, as far as it goes, while it is known how far the command is.
+//! The engine's calls that write the next piece of an image, with the progress of the command.
 
 ghost use Rattle.std.specs.Prelude.{◌≡◌, ◌+◌, [], None, Some, IsTrue, IfOk, IfSome};
 ghost use Rattle.abt_pieces.specs.Turn.{HasAt};
@@ -15,7 +15,7 @@ use sys_disk::Lasting;
 use sys_refusals::HostFault;
 use sys_report::Carried;
 
-/// Writes the next piece from its front on. It is refused where its source is shorter then than what was given of it.
+/// Writes the next piece from its first byte on. Fails where its source is now shorter than what was read of it.
 pub(crate) fn write_next<B: BlockRuns + Drop, S: Lasting, O: Output>(
     cutter: &mut Cutter<B>,
     source: &mut Carried<'_, S>,
@@ -26,7 +26,7 @@ pub(crate) fn write_next<B: BlockRuns + Drop, S: Lasting, O: Output>(
     requires ready { ReadyPiece B.BlockRuns S.Source cutter.old.runs source.old.device cutter.old.limit cutter.old.made
         cutter.old.start cutter.old.stage }
     requires empty { O.written output.old ≡ [] }
-    // it is the piece behind those that are made
+    // it is the piece after those that are made
     ensures laid { IsTrue S.models → IfOk result (λ p. HasAt (pieces cutter.old.limit (B.size cutter.old.runs)
         (B.list cutter.old.runs (S.content source.old.device))) cutter.old.made (O.written output.new)) }
     ensures told { IsTrue S.models → IfOk result (NumbersOfPiece cutter.old.limit (B.size cutter.old.runs)
@@ -34,7 +34,7 @@ pub(crate) fn write_next<B: BlockRuns + Drop, S: Lasting, O: Output>(
     ensures cuts { CutsPiece result (λ p. p) B.BlockRuns S.Source cutter.old.runs cutter.new.runs source.old.device
         source.new.device cutter.old.limit cutter.new.limit cutter.old.made cutter.new.made cutter.old.start
         cutter.new.start cutter.new.stage }
-    // it is refused where one of the devices has failed
+    // it fails where one of the devices has failed
     ensures fails { OnlyDevicesFail result S.models (S.read_faults source.old.device + O.write_faults output.old)
         (S.read_faults source.new.device + O.write_faults output.new) }
 {
@@ -52,7 +52,7 @@ pub(crate) fn write_next<B: BlockRuns + Drop, S: Lasting, O: Output>(
     }
 }
 
-// What is told of a piece that was written, where IN has so many bytes now if that is less than was given of it.
+// The fault after a piece was written. `now` is the length of IN, if that is less than what was read of it.
 fn changed(now: Option<u64>) -> Option<SparseCommandFault>
     ensures shorter { IfSome now (λ _. result ≡ Some (SparseCommandFault.Piece PieceFault.SourceChanged)) }
     ensures whole { now ≡ None → result ≡ None }
@@ -63,9 +63,9 @@ fn changed(now: Option<u64>) -> Option<SparseCommandFault>
     }
 }
 
-/// An image whose pieces are laid in files, the magic of each last.
+/// An image whose pieces are written in place to files, the magic of each last.
 pub(crate) trait LaysPieces: BlockRuns + Drop {
-    /// Lays the next piece in an empty file, which is handed back. A fault of files is that its magic can't be laid.
+    /// Writes the next piece to an empty file, and returns it. A fault of files is that its magic can't be written.
     fn lay_next<S: Lasting, O: Overwrite + Drop>(
         cutter: &mut Cutter<Self>,
         source: &mut Carried<'_, S>,
@@ -76,7 +76,7 @@ pub(crate) trait LaysPieces: BlockRuns + Drop {
         requires ready { ReadyPiece Self.BlockRuns S.Source cutter.old.runs source.old.device cutter.old.limit cutter.old.made
             cutter.old.start cutter.old.stage }
         requires empty { O.written image ≡ [] }
-        // it is the piece behind those that are made
+        // it is the piece after those that are made
         ensures laid { IsTrue S.models → IfOk result.1 (λ p. HasAt (pieces cutter.old.limit (Self.size cutter.old.runs)
             (Self.list cutter.old.runs (S.content source.old.device))) cutter.old.made (O.written result.0)) }
         ensures told { IsTrue S.models → IfOk result.1 (NumbersOfPiece cutter.old.limit (Self.size cutter.old.runs)
@@ -84,12 +84,12 @@ pub(crate) trait LaysPieces: BlockRuns + Drop {
         ensures cuts { CutsPiece result.1 (λ p. p) Self.BlockRuns S.Source cutter.old.runs cutter.new.runs
             source.old.device source.new.device cutter.old.limit cutter.new.limit cutter.old.made cutter.new.made
             cutter.old.start cutter.new.start cutter.new.stage }
-        // it is refused where one of the devices has failed
+        // it fails where one of the devices has failed
         ensures fails { OnlyDevicesFail result.1 S.models (S.read_faults source.old.device + O.write_faults image)
             (S.read_faults source.new.device + O.write_faults result.0) };
 }
 
-/// Those of a sparse image are written from the front on.
+/// The pieces of a sparse image are written from their first byte on.
 impl LaysPieces for SparseRuns {
     fn lay_next<S: Lasting, O: Overwrite + Drop>(
         cutter: &mut Cutter<SparseRuns>,
@@ -112,7 +112,7 @@ impl LaysPieces for SparseRuns {
     }
 }
 
-/// Those of a raw image are laid in one pass over it.
+/// The pieces of a raw image are written in one pass over it.
 impl LaysPieces for RawRuns {
     fn lay_next<S: Lasting, O: Overwrite + Drop>(
         cutter: &mut Cutter<RawRuns>,

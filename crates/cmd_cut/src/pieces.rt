@@ -1,4 +1,4 @@
-//! One piece of an image, to a file of its own.
+//! Writes one piece of an image to a file of its own.
 
 ghost use Rattle.std.specs.Prelude.{◌≡◌, ◌<◌, ◌+◌, [], None, IsTrue, IfErr, IfOk, OnOk, OnErr};
 ghost use Rattle.sys_refusals.specs.Paths.{path_out};
@@ -16,8 +16,8 @@ use sys_disk::{Disk, ImageTo, Lasting, Reasons, ended};
 use sys_refusals::{FileArg, HostFault, HostRefusal, Sides};
 use sys_report::{Carried, Progress};
 
-/// Writes the next piece to a file, which is created or emptied, and brings that to its end. What it is, and whether it
-/// is where standard output goes. A pipe or a device has the image read so many times.
+/// Writes the next piece to a file, which is created or emptied, and closes that file. Returns the piece, and whether
+/// its file is where standard output goes. For a pipe or a device the image is read `passes` times.
 pub(crate) fn put_piece<'a, D: Disk, B: BlockRuns + LaysPieces + Drop>(
     disk: &mut D,
     pieces: &mut PiecesOf<B>,
@@ -38,7 +38,7 @@ pub(crate) fn put_piece<'a, D: Disk, B: BlockRuns + LaysPieces + Drop>(
         (D.world disk.new)) }
     ensures keeps { IsTrue D.models → OnErr result (AddsNone (D.held disk.old) (D.held disk.new) (D.world disk.old)
         (D.world disk.new)) }
-    // whatever comes, no other file was changed, and none is open
+    // whatever the outcome, no other file was changed, and none is open
     ensures left { IsTrue D.models → OnlyLeaves (λ path. path ≡ path_out place.entry) (D.held disk.old)
         (D.held disk.new) (D.world disk.old) (D.world disk.new) }
     ensures told { IsTrue D.models → IfOk result (λ end. NumbersOfPiece pieces.old.cutter.limit
@@ -48,7 +48,7 @@ pub(crate) fn put_piece<'a, D: Disk, B: BlockRuns + LaysPieces + Drop>(
         pieces.new.cutter.runs source.old.device source.new.device pieces.old.cutter.limit pieces.new.cutter.limit
         pieces.old.cutter.made pieces.new.cutter.made pieces.old.cutter.start pieces.new.cutter.start
         pieces.new.cutter.stage }
-    // it is refused where something has failed
+    // it fails where something has failed
     ensures outside { IsTrue D.models → IfErr result (λ refusal. IsOutsideSparse refusal.fault) }
     ensures clean { IsTrue D.models → OnOk result ((D.held disk.new).failed + D.At.read_faults source.new.device
         ≡ (D.held disk.old).failed + D.At.read_faults source.old.device) }
@@ -64,7 +64,7 @@ pub(crate) fn put_piece<'a, D: Disk, B: BlockRuns + LaysPieces + Drop>(
     }
 }
 
-// Before the first piece it is told how often all is read. What is read once is as far as the place to which it was read.
+// Before the first piece, the progress learns how often the image is read. One read counts up to its last position.
 fn repeat_first(progress: &mut Progress, made: u64, times: u64) {
     if made == 0 {
         progress.repeat(times);
@@ -119,7 +119,7 @@ fn put_in_file<'a, D: Disk, B: BlockRuns + LaysPieces + Drop>(
     }
 }
 
-// The same to what is written from its front on.
+// The same for an output that is written from its first byte on.
 fn put_in_stream<'a, D: Disk, B: BlockRuns + LaysPieces + Drop>(
     disk: &mut D,
     pieces: &mut PiecesOf<B>,
@@ -150,7 +150,7 @@ fn put_in_stream<'a, D: Disk, B: BlockRuns + LaysPieces + Drop>(
     ended(disk, answer, onto, place, sides)
 }
 
-// Lets an image go whose magic could not be laid.
+// Closes an image whose magic could not be written.
 fn unended<'a, D: Disk>(disk: &mut D, image: D::Image, place: FileArg<'a>) -> SparseRefusal<'a>
     ensures closed { IsTrue D.models → GivesUp (D.Image.Output.write_faults image) (D.held disk.old) (D.held disk.new)
         (D.world disk.old) (D.world disk.new) }

@@ -1,4 +1,4 @@
-//! The body of the command `sparse`.
+//! The command `sparse`: writes the sparse image of a raw one.
 
 ghost use Rattle.std.specs.Prelude.{◌++◌, ◌∷◌, [], IsTrue, IfErr, OnOk, OnErr};
 ghost use Rattle.sys_disk.specs.World.{IsReading};
@@ -17,7 +17,7 @@ use sys_report::Report;
 
 /// Writes the sparse image of a raw one, and prints what it has.
 ///
-/// The block size is judged before OUT is created or emptied.
+/// The block size is checked before OUT is created or emptied.
 #[inline(never)]
 pub fn sparse_file<'a, D: Disk>(
     disk: &mut D,
@@ -29,15 +29,15 @@ pub fn sparse_file<'a, D: Disk>(
     m: &mut Meter,
 ) -> Result<(), SparseRefusal<'a>>
     requires first { IsTrue D.models → IsReading (D.held disk.old) }
-    // OUT is another file than IN, and holds the sparse image of what IN holds; what was printed tells of it
+    // OUT is another file than IN, and holds the sparse image of what IN holds; the printed line has its numbers
     ensures done { IsTrue D.models → OnOk result (SparsifiesFile (path_of input.entry) (path_out output.entry) block
         (D.world disk.old) (D.world disk.new) (ShowsBeside (D.on_output (path_out output.entry)) report.old report.new)) }
-    // whatever the outcome, OUT alone may hold anything else, IN holds what it held, and a file has no part of an image;
-    // where all is done OUT was synced, where that is wanted, and nothing has failed
+    // whatever the outcome, only OUT may hold anything else, IN holds what it held, and a file has no part of an
+    // image; after an Ok OUT was synced, where that is requested, and nothing has failed
     ensures left { IsTrue D.models → LeavesImage result (path_of input.entry) (path_out output.entry) block
         (D.is_over (path_out output.entry)) (D.held disk.old) (D.held disk.new) (D.world disk.old) (D.world disk.new) }
-    // it is refused for a block size that IN hasn't, before anything is touched, or for a fault of files or devices that
-    // came, or where all is done and can't be told
+    // it fails for a block size that doesn't fit IN, before anything is changed; or for a fault of files or devices;
+    // or where everything was done, but its line can't be printed
     ensures refused { IsTrue D.models → IfErr result (λ refusal. RefusesRaw (path_of input.entry) block
         (D.world disk.old) (D.world disk.new) (D.held disk.old) (D.held disk.new)
         (SparsifiesFile (path_of input.entry) (path_out output.entry) block (D.world disk.old) (D.world disk.new)

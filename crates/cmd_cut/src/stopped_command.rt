@@ -1,4 +1,4 @@
-//! What is told of a command that stopped, where its file is written late.
+//! The fault of a command that stopped, where its file is written late.
 
 ghost use Rattle.std.specs.Prelude.{◌≡◌, ◌≤◌, false, IsTrue, IfErr, IfOk, OnOk};
 ghost use Rattle.sys_disk.specs.Images.{Leaves};
@@ -10,7 +10,7 @@ use cmd_common_sparse::{SparseCommandFault, SparseRefusal};
 use sys_disk::{Disk, Late, Reasons};
 use sys_refusals::{FileArg, Sides};
 
-/// Lets an image go, and refuses the command for this fault, or for a write that came before it and could not be done.
+/// Closes an image, and fails with this fault, or with that of an earlier write that could not be done.
 pub(crate) fn stopped<'a, D: Disk>(
     disk: &mut D,
     fault: SparseCommandFault,
@@ -30,7 +30,7 @@ pub(crate) fn stopped<'a, D: Disk>(
     sides.refuse(fault)
 }
 
-// Of a write and a fault behind it the first.
+// Of a write and a later fault, the first.
 fn first_of(settled: Result<(), DeviceFault>, fault: SparseCommandFault) -> SparseCommandFault
     ensures settled { OnOk settled (result ≡ fault) }
     ensures refused { IfErr settled (λ device. result ≡ SparseCommandFault.Piece (PieceFault.Write device)) }

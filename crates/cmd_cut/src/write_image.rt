@@ -1,4 +1,4 @@
-//! The sparse image of a raw one in its file, which is at its end then.
+//! Writes the sparse image of a raw one to its file, and closes the file.
 
 ghost use Rattle.std.specs.Prelude.{◌≡◌, [], IsTrue, IfOk, OnErr};
 ghost use Rattle.sys_disk.specs.Images.{OfImage, is_file};
@@ -14,12 +14,12 @@ use sys_disk::{Disk, ImageTo, Reasons, ended};
 use sys_refusals::{FileArg, Sides};
 use sys_report::{Carried, Progress};
 
-// A pipe or a device gets each header before what it tells of: the raw image is read to count its chunks, to find each
-// run whole, and to copy it. A regular file is written over, and the raw image read once.
+// A pipe or a device gets each header before its data. The raw image is then read to count its chunks, to find each
+// run whole, and to copy it. A regular file is overwritten, and the raw image is read once.
 const PASSES: u64 = 3;
 
-/// Writes the sparse image of a raw one to the output that is open, and brings it to its end. What it has, and whether it
-/// is where standard output goes.
+/// Writes the sparse image of a raw one to the open output, and closes it. Returns the image's numbers, and whether
+/// the output is where standard output goes.
 pub(crate) fn write_whole<'a, D: Disk>(
     disk: &mut D,
     source: D::At,
@@ -91,7 +91,7 @@ fn write_over<'a, D: Disk>(
     }
 }
 
-// The same to what is written from its front on.
+// The same for an output that is written from its first byte on.
 fn write_through<'a, D: Disk>(
     disk: &mut D,
     source: D::At,

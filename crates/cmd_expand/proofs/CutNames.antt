@@ -1,4 +1,4 @@
--- The names of pieces: PREFIX and the number are what stands before the last point and behind it.
+-- The names of pieces: PREFIX is what comes before the last point, and the number what comes after it.
 use Rattle.std.proofs.Common.{arith, ◌≡◌, ◌≢◌, ℕ, suc, ◌+◌, ◌-◌, ◌<◌, ◌≤◌, ◌^◌, List, [], ◌∷◌, ◌++◌, length, take, drop}
 use Rattle.std.proofs.Common.{get_or, Option, Some, None, refl, sym, ◌∙◌, ap, subst, decimal}
 use Rattle.std.specs.Str.Pattern.{RFindsChar}
@@ -33,7 +33,7 @@ head_same a b xs ys e = ap (λ l. get_or l 0 a) e
 tail_same : (a b : ℕ) (xs ys : List ℕ) → a ∷ xs ≡ b ∷ ys → xs ≡ ys
 tail_same a b xs ys e = ap (λ (l : List ℕ). drop 1 l) e
 
--- what stands before the last point, and behind it
+-- what comes before the last point, and after it
 pub last_point : (a b c d : List ℕ) → a ++ (46 ∷ b) ≡ c ++ (46 ∷ d) → HasNoPoint b → HasNoPoint d → (a ≡ c) × (b ≡ d)
 last_point [] b [] d e none none' = (refl, tail_same 46 46 b d e)
 last_point [] b (y ∷ c) d e none none' = absurd (none c d (tail_same 46 y b (c ++ (46 ∷ d)) e))
@@ -57,7 +57,7 @@ pub no_name : (path front : List ℕ) (n : ℕ) → RFindsChar 46 path None → 
 no_name path front n finds is =
     by_bytes path (λ i below. NoCharPasses-char 46 path i finds (omega arith) below) front (decimal n) is.path_is
 
--- where this stands before the last point, that is the PREFIX
+-- where this comes before the last point, it is the PREFIX
 pub front_is : (path before front : List ℕ) (i j n : ℕ) → RFindsChar 46 path (Some (i, j)) → before ≡ take i path
     → IsPieceAt front n path → front ≡ before
 front_is path before front i j n finds is piece =
@@ -69,7 +69,7 @@ front_is path before front i j n finds is piece =
     (last_point front (decimal n) before (drop j path) (sym piece.path_is ∙ split)
     (decimal_pointless n piece.fits) behind).0
 
--- and no number stands behind it, or 0
+-- and no number follows it, or 0
 pub not_behind : (path before front : List ℕ) (i j n : ℕ) → RFindsChar 46 path (Some (i, j)) → before ≡ take i path
     → ((k : ℕ) → 0 < k → k < 2 ^ 32 → path ≢ before ++ (46 ∷ decimal k)) → ¬ IsPieceAt front n path
 not_behind path before front i j n finds is none piece =

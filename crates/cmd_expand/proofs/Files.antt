@@ -23,7 +23,7 @@ use Rattle.cmd_common_sparse.specs.declared.fault.SparseCommandFault.TheVariants
 use Rattle.cmd_expand.specs.Expanding.{Blames, ExpandsFile, ExpandingSays, LeavesExpanded, RefusesFile, HasFault}
 use Rattle.cmd_expand.specs.Expanding.{FromHost, OfDevice}
 
--- ---- what was read is let go before the output is at its end
+-- ---- what was read is closed before the output is completed
 
 pub rest_behind : (n : ℕ) (h h' : OpenFiles) (a b c : World) → h' ≡ failing n h → b ≡ a → SparesRest h'.output b c
     → SparesRest h.output a c
@@ -81,7 +81,7 @@ leaves_expanded r input path bytes h h1 k a a1 c opened same only closed clean =
 
 -- ---- what has failed
 
--- an input and an output were opened; the input was let go, the output closed; so much has failed since
+-- an input and an output were opened; then both were closed; this much has failed since
 pub failed_behind : (input path bytes : List ℕ) (h h1 h2 h3 h4 : OpenFiles) (w a b : World) (r n : ℕ) (done : Bool)
     → OpensFile w input bytes h h1 → Creates path h1 h2 a b → h3 ≡ failing r h2 → h4 ≡ ended done n h3
     → h4.failed ≡ h.failed + (r + n)
@@ -123,7 +123,7 @@ own untold input path x old new h h1 k a c (faults.OtherCut f) r0 r w w' opened 
     says
 own untold input path x old new h h1 k a c (faults.Host f) r0 r w w' opened first none count says blames = absurd says
 
--- a fault of files, behind which something has failed
+-- a fault of files, after which something has failed
 pub of_failed : (untold : List ℕ → Type 0) (input path : List ℕ) (a c : World) (h k : OpenFiles)
     (r : SparseCommandFault)
     → FromHost r → HasFailed h k
@@ -138,7 +138,7 @@ pub of_unprinted : (untold : List ℕ → Type 0) (input path : List ℕ) (a c :
 of_unprinted untold input path a c h k r made done =
     subst (λ f. RefusesFile f input path a c h k untold) (sym made.1) (inr done)
 
--- the call was refused, or the end of the output was
+-- the call failed, or the end of the output did
 pub refuses : (untold : List ℕ → Type 0) (input path x old new : List ℕ) (h h1 k : OpenFiles) (a c : World)
     (answer : Result Expanded SparseCommandFault) (told : SparseCommandFault)
     (r0 r w w' : ℕ) → OpensFile a input x h h1 → r0 ≡ 0 → w ≡ 0
@@ -159,7 +159,7 @@ pub clean_behind : (answer : Result Expanded SparseCommandFault) (e : Expanded) 
 clean_behind (Ok x) e h k r0 r w w' is blames first none count = omega (arith, blames.0, blames.1, first, none, count)
 clean_behind (Err f) e h k r0 r w w' is blames first none count = absurd (false≢true (ap is_ok is))
 
--- a call was refused
+-- a call failed
 pub failed_first : (h k : OpenFiles) → k ≡ failing 1 h → HasFailed h k
 failed_first h k refused =
     let up : k.failed ≡ h.failed + 1 = ap (λ q. q.failed) refused in
@@ -173,7 +173,7 @@ failed_second input bytes w h h1 k opened refused =
     let up : k.failed ≡ h1.failed + 1 = ap (λ q. q.failed) refused in
     omega (arith, first, up)
 
--- what `?` hands on is made of a fault of files
+-- what `?` returns is made of a fault of files
 pub handed_on : {X R : Type 0} (answer : Result X R) (P Q : R → Type 0) → ((r : R) → P r → Q r) → IsErrAnd answer P
     → IfErr answer Q
 handed_on (Ok x) P Q go is = tt

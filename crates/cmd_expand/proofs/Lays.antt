@@ -1,4 +1,4 @@
--- What laying images one after another leaves, and why it stops.
+-- What writing images one after another leaves, and why it stops.
 use Rattle.std.proofs.Common.{arith, ◌≡◌, ℕ, suc, ◌+◌, ◌*◌, List, [], ◌∷◌, length, drop, Bool}
 use Rattle.std.proofs.Common.{true, false, Option, refl, sym, ◌∙◌, ap, subst}
 use Rattle.std.specs.Prelude.{Result, Ok, Err, IfErr, OnOk, is_ok, if◌then◌else◌}
@@ -85,7 +85,7 @@ raised (flashes.LimitTooSmall k) n n' m is = absurd is
 raised (flashes.Stopped j c) n n' m is = absurd is
 raised (flashes.NoSuchPiece k) n n' m is = absurd is
 
--- ---- what is let go
+-- ---- what is closed
 
 pub let_go_fails : (h h' : OpenFiles) (r : ℕ) → h' ≡ failing r h → FailsAlone h h'
 let_go_fails h h' r gone =
@@ -116,7 +116,7 @@ pub laid_next : (p p' x w : List ℕ) (xs xs' : List (List ℕ)) → xs ≡ x �
 laid_next p p' x w xs xs' is all now =
     ap (λ z. flashed_in_turn z xs') now ∙ sym (ap (flashed_in_turn p) is) ∙ all
 
--- ---- what an answer says
+-- ---- what a result means
 
 pub at_front : (n : ℕ) (x : List ℕ) → n ≡ 0 → drop n x ≡ x
 at_front n x none = ap (λ k. drop k x) none
@@ -136,14 +136,14 @@ pub synced_if : (a : Result Flashed FlashFault) (n n' : ℕ) → n' ≡ n + (if 
 synced_if (Ok e) n n' is = is
 synced_if (Err f) n n' is = tt
 
--- it was let go, and nothing has failed
+-- it was closed, and nothing has failed
 pub even_behind : (h h' : OpenFiles) (r r' p p' : ℕ) → h' ≡ failing r' h → r' ≡ r → p' ≡ p
     → h'.failed + p' ≡ h.failed + p + r
 even_behind h h' r r' p p' gone same even =
     let up : h'.failed ≡ h.failed + r' = ap (λ k. k.failed) gone in
     omega (arith, up, same, even)
 
--- it was let go, and something had failed
+-- it was closed, and something had failed
 pub blamed_behind : (a : Result Flashed FlashFault) (f : FlashFault) (told : SparseCommandFault) (h h' : OpenFiles)
     (r r' p p' : ℕ) → a ≡ Err f → told ≡ faults.Flash f → h' ≡ failing r' h
     → IfErr a (λ g. IsNotFlashed g (p + r) (p' + r')) → IsNotLaid told (h.failed + p + r) (h'.failed + p')

@@ -60,7 +60,7 @@ not_read of_runs.TooLarge x r r' Same bytes refuses cause = absurd cause
 not_read of_runs.SourceChanged x r r' Same bytes refuses cause = absurd refuses
 not_read (of_runs.BadBlock n) x r r' Same bytes refuses cause = absurd cause
 
--- it was opened, and let go where its shape was not found
+-- it was opened, and closed where its shape was not found
 pub not_opened : (f : SparseCommandFault) (path x : List ℕ) (a : World) (h h1 h2 : OpenFiles) (r r' : ℕ)
     → OpensFile a path x h h1 → r ≡ 0 → h2 ≡ failing r' h1 → IsNotRead f x r r' → IsNotOpened f path a h h2
 not_opened (faults.Run (of_runs.Sparse f)) path x a h h1 h2 r r' opened none gone is = record {
@@ -113,7 +113,7 @@ tells_bytes o path x h long image bytes opened is =
     piece_alike o path (Said (sparse_list x)) (GivesBlock x)
     (λ n. said_gives x (view h) opened.chunks opened.rest n spelled) (λ n. gives_said x n) is
 
--- walking it was refused
+-- walking it failed
 pub not_walked : (e : RunFault) (x : List ℕ) (models : Bool) (r0 r r' : ℕ) → models ≡ true → r ≡ r0
     → RunCaused e models r r' → IsNotRead (faults.Run e) x r0 r'
 not_walked (of_runs.Sparse f) x models r0 r r' t same cause = absurd cause

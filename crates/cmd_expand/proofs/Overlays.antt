@@ -1,4 +1,4 @@
--- What opening, laying and closing leave together.
+-- What opening, writing and closing leave together.
 use Rattle.std.proofs.Common.{inl, inr, arith, ◌⊎◌, ◌≡◌, ℕ, suc, ◌+◌, ◌*◌, ◌<◌, List, [], ◌∷◌, ◌++◌, length}
 use Rattle.std.proofs.Common.{replicate, Option, Some, None, refl, sym, ◌∙◌, ap, subst}
 use Rattle.std.specs.Prelude.{Contains, if◌then◌else◌, nat_lt, Result, OnOk}
@@ -27,7 +27,7 @@ use Rattle.cmd_expand.proofs.Lists.{as_many, each_read, fewer_read, keeps_read, 
 
 -- ---- counts of what has failed
 
--- all was opened, zeros were made, images were laid, and what was written is closed; so much has failed since
+-- all was opened, zeros were made, images were written, and the output is closed; this much has failed since
 pub failed_in_all : (a a1 b : World) (inputs xs : List (List ℕ)) (output : List ℕ) (n m u : ℕ) (past : Past)
     (h h1 h2 h3 h4 : OpenFiles) → AreOpened a inputs xs h h1 → MakesZeros n output h1 h2 a1 b
     → h4 ≡ failing u (closed_part past m h3) → (h2.failed ≡ h.failed) × (h4.failed ≡ h3.failed + m + u)
@@ -45,7 +45,7 @@ pub failed_laying : (h h2 h3 h4 : OpenFiles) (p p' u : ℕ) → (h2.failed ≡ h
     → p ≡ 0 → h2.failed + p < h3.failed + p' → HasFailed h h4
 failed_laying h h2 h3 h4 p p' u counts none rose = omega (arith, counts.0, counts.1, none, rose)
 
--- closing was refused
+-- closing failed
 pub failed_closing : (h h2 h3 h4 : OpenFiles) (p p' u : ℕ) → (h2.failed ≡ h.failed) × (h4.failed ≡ h3.failed + p' + u)
     → p ≡ 0 → h3.failed + p' ≡ h2.failed + p → u ≡ 1 → HasFailed h h4
 failed_closing h h2 h3 h4 p p' u counts none same one = omega (arith, counts.0, counts.1, none, same, one)
@@ -70,7 +70,7 @@ spared a a1 b b' c n output y h1 h2 h3 made same same' alone ends =
 pub zeros_long : (z : List ℕ) (size n m : ℕ) → size ≡ length z → z ≡ replicate n 0 → n ≡ m → size ≡ m
 zeros_long z size n m is zeros same = is ∙ ap length zeros ∙ length-replicate n 0 ∙ same
 
--- where it stands
+-- its position
 pub lands : (a a1 b b' c : World) (n : ℕ) (output y : List ℕ) (h1 h2 h3 : OpenFiles) → MakesZeros n output h1 h2 a1 b
     → a1 ≡ a → b' ≡ b → FailsAlone h2 h3 → Ends h3.part y b' c → c.at ≡ b'.at → OnlyAt h1.read output a c
 lands a a1 b b' c n output y h1 h2 h3 made same same' alone ends paths =
@@ -203,7 +203,7 @@ synced a a1 b inputs xs output n m k u past past' h h1 h2 h3 h4 all made alone c
     ∙ ap (λ k. k.syncs + (if is_settled past' then 1 else 0)) all.taken
     ∙ ap (λ t. h.syncs + (if t then 1 else 0)) settled ∙ ap (λ n. h.syncs + n) (once inputs)
 
--- ---- why it is refused
+-- ---- why it fails
 
 pub from_opening : (untold : List ℕ → Type 0) (f : SparseCommandFault) (inputs : List (List ℕ)) (output : List ℕ)
     (a c : World) (h k : OpenFiles)
@@ -244,7 +244,7 @@ from_laying untold (faults.OtherBlocks m) inputs output a c h k n n' up why = ab
 from_laying untold (faults.OtherCut m) inputs output a c h k n n' up why = absurd why
 from_laying untold (faults.Host f) inputs output a c h k n n' up why = absurd why
 
--- a fault of files, behind which something has failed, or all is done
+-- a fault of files, after which something has failed, or all is done
 pub from_files : (untold : List ℕ → Type 0) (f : SparseCommandFault) (inputs : List (List ℕ)) (output : List ℕ)
     (a c : World) (h k : OpenFiles)
     → FromHost f → HasFailed h k ⊎ OverlaysFiles inputs output a c untold

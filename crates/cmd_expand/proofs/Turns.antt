@@ -1,4 +1,4 @@
--- Which images are told to be of another cut.
+-- Which images are reported as images of another cut.
 use Rattle.std.proofs.Common.{inl, inr, arith, ◌⊎◌, ◌≡◌, ℕ, ◌+◌, ◌<◌, ◌≤◌, List, [], ◌∷◌, ◌++◌, map, Bool, true, false}
 use Rattle.std.proofs.Common.{Option, Some, None, refl, sym, ◌∙◌, ap, subst}
 use Rattle.std.specs.Prelude.{Contains, bytes_eq, ◌&&◌, ◌||◌, nat_lt}

@@ -16,7 +16,7 @@ use Rattle.cmd_common_sparse.specs.declared.fault.SparseCommandFault.TheVariants
 use Rattle.cmd_common_sparse.specs.declared.lines.Line.TheVariants as lines
 use Rattle.cmd_common_sparse.specs.Lines.{line_text}
 
--- what expanding an input x answers and writes
+-- what expanding an input x returns and writes
 abbrev pub ExpandingSays : Result Expanded SparseCommandFault → List ℕ → List ℕ → List ℕ → Type 0
 ExpandingSays (Ok e) x old new = (rest : List ℕ) × Expansion e old new x rest
 ExpandingSays (Err (faults.Sparse f)) x old new = UnlessExpandingDevice f (Refusal f old new x)
@@ -51,8 +51,8 @@ Blames (Ok e) r r' w w' = (r' ≡ r) × (w' ≡ w)
 Blames (Err (faults.Sparse f)) r r' w w' = OfDevice f (r + w < r' + w') (Unit {0})
 Blames (Err f) r r' w w' = Unit {0}
 
--- The file at one path held an image, the one at the other holds its expansion and nothing else, no other file has
--- changed, and the line that was printed has the image's numbers.
+-- The file at one path held an image. The file at the other path holds its expansion and nothing else. No other file
+-- has changed, and the line that was printed has the image's numbers.
 pub record ExpandsFile (input output : List ℕ) (old new : World) (shows : List ℕ → Type 0) : Type 0 where
   pub from : ℕ
   pub onto : ℕ
@@ -67,8 +67,8 @@ pub record ExpandsFile (input output : List ℕ) (old new : World) (shows : List
   pub spares : Spares onto old new
   pub shown : shows (line_text (lines.Expanded header.total_blks (header.total_blks * header.blk_sz)) ++ (10 ∷ []))
 
--- What is left of files, whatever the outcome: OUT alone may hold anything else, IN holds what it held, and no output
--- is open. It is done only where nothing has failed.
+-- What is left of files, whatever the outcome. Only OUT may hold anything else, IN holds what it held, and no output
+-- is open. The result is Ok only where nothing has failed.
 pub record LeavesExpanded {X F : Type 0} (r : Result X F) (from onto : List ℕ) (held held' : OpenFiles)
     (old new : World)
     : Type 0 where
@@ -77,8 +77,7 @@ pub record LeavesExpanded {X F : Type 0} (r : Result X F) (from onto : List ℕ)
   pub closed : held'.output ≡ None
   pub clean : OnOk r (HasNotFailed held held')
 
--- why it is refused: for a fault of what IN's file holds; because a device or the system failed; or all was done, and
--- its line is untold
+-- why it fails: for a fault of the contents of IN; because a device or the system failed; or only its line failed
 abbrev pub RefusesFile : SparseCommandFault → List ℕ → List ℕ → World → World → OpenFiles → OpenFiles
     → (List ℕ → Type 0)
     → Type 0

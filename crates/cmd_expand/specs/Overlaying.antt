@@ -19,7 +19,7 @@ use Rattle.cmd_expand.specs.Expanding.{HasFault}
 
 -- ---- images of one shape
 
--- an image of n blocks of b bytes stands at the front of x
+-- x begins with an image of n blocks of b bytes
 pub record IsImageOf (n b : ℕ) (x : List ℕ) : Type 0 where
   pub header : Header
   pub chunks : List Chunk
@@ -51,7 +51,7 @@ abbrev pub IsBlockGiven : Block → Type 0
 IsBlockGiven Skip = ⊥
 IsBlockGiven block = ⊤
 
--- an image stands at the front of x, and gives this block: it is raw or filled there
+-- x begins with an image that writes this block: it is raw or filled there
 pub record GivesBlock (x : List ℕ) (block : ℕ) : Type 0 where
   pub header : Header
   pub chunks : List Chunk
@@ -65,8 +65,8 @@ pub record FileGives (world : World) (path : List ℕ) (block : ℕ) : Type 0 wh
   pub there : world.at path ≡ Some file
   pub gives : GivesBlock (world.holds file) block
 
--- These are the paths of pieces of one PREFIX, the second with the greater number; but the first gives a block that
--- does not stand before one that the second gives. So they are of different cuts.
+-- These are the paths of pieces of one PREFIX, the second with the greater number. But the first writes a block that
+-- does not come before one that the second writes. So they belong to different cuts.
 pub record AreOutOfTurn (world : World) (path next : List ℕ) : Type 0 where
   pub front : List ℕ
   pub number : ℕ
@@ -87,9 +87,9 @@ AreInTurn paths world =
 
 -- ---- what is left
 
--- The files at the INs' paths held images, all of so many blocks of so many bytes, and no two that are told to be of
--- different cuts. OUT's file is none of them. It holds what is left where they are flashed in turn to zeros, no other
--- file has changed, and the line has the images' numbers.
+-- The files at the INs' paths held images. All have the same number of blocks and the same block size, and no two are
+-- known to belong to different cuts. OUT's file is none of them. It holds the result of flashing them in turn to
+-- zeros. No other file has changed, and the line has the images' numbers.
 pub record OverlaysFiles (inputs : List (List ℕ)) (output : List ℕ) (old new : World) (shows : List ℕ → Type 0)
     : Type 0 where
   pub blocks : ℕ
@@ -104,13 +104,13 @@ pub record OverlaysFiles (inputs : List (List ℕ)) (output : List ℕ) (old new
   pub spares : Spares onto old new
   pub shown : shows (line_text (lines.Expanded blocks (blocks * size)) ++ (10 ∷ []))
 
--- nothing was opened to be written, and no file is written in place
+-- no file was opened for writing, and no file is written in place
 pub record MayOverlay (held : OpenFiles) : Type 0 where
   pub first : IsReading held
   pub one : held.part ≡ None
 
--- What is left of files, whatever the outcome: OUT alone may hold anything else, each IN holds what it held, and no
--- file is open that is written in place. It is done only where nothing has failed.
+-- What is left of files, whatever the outcome. Only OUT may hold anything else, each IN holds what it held, and no
+-- file is open that is written in place. The result is Ok only where nothing has failed.
 pub record LeavesOverlaid {X F : Type 0} (r : Result X F) (paths : List (List ℕ)) (onto : List ℕ)
     (held held' : OpenFiles)
     (old new : World) : Type 0 where
@@ -124,9 +124,9 @@ abbrev pub once_if_any : {X : Type 0} → List X → ℕ
 once_if_any [] = 0
 once_if_any (x ∷ xs) = 1
 
--- ---- why it is refused
+-- ---- why it fails
 
--- this is the IN behind so many, whose files hold images that all have n blocks of b bytes
+-- this is the IN after this many others, whose files hold images that all have n blocks of b bytes
 pub record StandsBehind (n b place : ℕ) (path : List ℕ) (inputs : List (List ℕ)) (world : World) : Type 0 where
   pub before : List (List ℕ)
   pub behind : List (List ℕ)
@@ -143,7 +143,7 @@ pub record HasFirstFault (inputs : List (List ℕ)) (world : World) (f : SparseF
   pub stands : StandsBehind blocks size place path inputs world
   pub fault : HasFault path world f
 
--- the image with this number, from 1 on, has other blocks than all before it
+-- the image with this number, from 1 on, has other blocks than all images before it
 pub record HasOtherBlocks (inputs : List (List ℕ)) (world : World) (image : ℕ) : Type 0 where
   pub blocks : ℕ
   pub size : ℕ
@@ -157,7 +157,7 @@ pub record HasOtherBlocks (inputs : List (List ℕ)) (world : World) (image : �
   pub own : AreImages own_blocks own_size (path ∷ []) world
   pub other : ¬ ((own_blocks ≡ blocks) × (own_size ≡ size))
 
--- the image with this number, from 1 on, is of another cut than one before it
+-- the image with this number, from 1 on, belongs to another cut than one before it
 pub record HasOtherCut (inputs : List (List ℕ)) (world : World) (image : ℕ) : Type 0 where
   pub blocks : ℕ
   pub size : ℕ
@@ -169,8 +169,8 @@ pub record HasOtherCut (inputs : List (List ℕ)) (world : World) (image : ℕ) 
   pub before : Contains stands.before other
   pub turned : AreOutOfTurn world path other ⊎ AreOutOfTurn world other path
 
--- why the command is refused: for what the INs' files hold; since a device or the system failed, or had no memory for
--- the list of INs; or all was done, and its line is untold
+-- why the command fails: for what the INs' files hold; since a device or the system failed, or had no memory for the
+-- list of INs; or everything was done, but its line could not be printed
 abbrev pub RefusesOverlay : SparseCommandFault → List (List ℕ) → List ℕ → World → World → OpenFiles → OpenFiles
     → (List ℕ → Type 0) → Type 0
 RefusesOverlay (faults.Run (of_runs.Sparse f)) inputs output old new held held' untold = HasFirstFault inputs old f

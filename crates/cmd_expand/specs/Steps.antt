@@ -55,12 +55,12 @@ IsNotOpened (faults.Run (of_runs.Read d)) path world held held' = HasFailed held
 IsNotOpened (faults.Host f) path world held held' = HasFailed held held'
 IsNotOpened f path world held held' = ⊥
 
--- what an image of this one's length would be expanded to, where there is one
+-- what an image of this length would expand to, where there is one
 abbrev pub whole_of_shape : Option Shape → Expanded
 whole_of_shape None = record { blocks = 0; bytes = 0 }
 whole_of_shape (Some s) = record { blocks = s.blocks; bytes = s.blocks * s.block }
 
--- why no shape is found in these bytes, of a source whose faults went from r to r'
+-- why no shape is found in these bytes, for a source whose count of faults went from r to r'
 abbrev pub IsNotRead : SparseCommandFault → List ℕ → ℕ → ℕ → Type 0
 IsNotRead (faults.Run (of_runs.Sparse f)) x r r' = (given : List (Option ℕ)) × Fails x f given
 IsNotRead (faults.Run (of_runs.Read d)) x r r' = r < r'
@@ -98,7 +98,7 @@ pub record OpensAlone (held held' : OpenFiles) (old new : World) : Type 0 where
   pub world : new ≡ old
   pub part : held'.part ≡ held.part
 
--- ---- laying
+-- ---- writing
 
 -- why an image is not flashed: a device failed, and the count of what failed rose
 abbrev pub IsNotFlashed : FlashFault → ℕ → ℕ → Type 0
@@ -111,12 +111,12 @@ abbrev pub IsNotLaid : SparseCommandFault → ℕ → ℕ → Type 0
 IsNotLaid (faults.Flash f) n n' = IsNotFlashed f n n'
 IsNotLaid f n n' = ⊥
 
--- what has failed may be more, and nothing else has changed
+-- the count of failures may be greater, and nothing else has changed
 pub record FailsAlone (held held' : OpenFiles) : Type 0 where
   pub same : held' ≡ record held { failed = held'.failed }
   pub grown : held.failed ≤ held'.failed
 
--- The file that is laid over is as long as it was, and of the disk nothing has changed but what has failed.
+-- The file that is overwritten keeps its length, and of the disk only the count of failures has changed.
 pub record LaysAlone (models : Bool) (long long' : ℕ) (before after : OpenFiles) (old new : World) : Type 0 where
   pub size : long' ≡ long
   pub world : IsTrue models → new ≡ old

@@ -1,4 +1,4 @@
-//! Whether images are pieces of one cut, as far as the names of their files and the blocks that they give tell.
+//! Whether images are pieces of one cut. The names of their files and the blocks that they write decide it.
 
 ghost use Rattle.std.specs.Prelude.{◌≡◌, ℕ, List, None, IsTrue, IfOk, IfSome};
 ghost use Rattle.abt_runs.specs.Found.{ReadsImage};
@@ -11,14 +11,14 @@ use abt_io::{Meter, Source, Window};
 use abt_runs::{BlockRuns, RunFault, RunKind};
 use sys_numbered_names::number_behind;
 
-/// The blocks from the first that an image gives to the one behind the last.
+/// The range from the first block that an image writes to the one after the last.
 #[derive(Clone, Copy, Drop)]
 pub struct Span {
     pub first: u32,
     pub past: u32,
 }
 
-/// An image that gives blocks, and whose file has the name of a piece: PREFIX, a point and its number.
+/// An image that writes blocks and whose file has the name of a piece: PREFIX, a point and its number.
 #[derive(Clone, Copy, Drop)]
 pub struct CutPiece<'a> {
     pub front: &'a str,
@@ -26,7 +26,7 @@ pub struct CutPiece<'a> {
     pub span: Span,
 }
 
-/// The path that the word of an image is.
+/// The path that the argument of an image names.
 pub(crate) fn path_of_word<'a>(input: &'a str) -> &'a str
     ensures { result.now ≡ image_path input.now }
 {
@@ -52,7 +52,7 @@ fn is_turned(first: CutPiece<'_>, second: CutPiece<'_>) -> bool
     first.number < second.number && second.span.first < first.span.past
 }
 
-/// The piece that an image is, by its path, if it is one and gives blocks.
+/// The piece that an image is, by its path, if its path is that of a piece and the image writes blocks.
 pub(crate) fn piece_of<'a, R: BlockRuns, S: Source>(
     path: &'a str,
     image: &R,
@@ -79,7 +79,7 @@ pub(crate) fn piece_of<'a, R: BlockRuns, S: Source>(
     }
 }
 
-// PREFIX and the number of a piece whose path this is.
+// The PREFIX and the number of the piece that has this path.
 fn piece_name<'a>(path: &'a str) -> Option<(&'a str, u32)>
     ensures some { IfSome result (λ name. IsPieceAt name.0.now name.1 path.now) }
     ensures none { result ≡ None → (front : List ℕ) → (number : ℕ) → ¬ IsPieceAt front number path.now }
@@ -99,7 +99,7 @@ fn piece_name<'a>(path: &'a str) -> Option<(&'a str, u32)>
     }
 }
 
-// Which blocks an image gives: each part of it is looked at.
+// The blocks that an image writes. Each part of the image is read.
 fn span_of<R: BlockRuns, S: Source>(
     runs: &R,
     source: &mut S,
@@ -136,7 +136,7 @@ fn is_end(kind: RunKind) -> bool
     }
 }
 
-// With the blocks of a part, from the first up to the one behind the last.
+// Extends the range by the blocks of a part, from the first up to the one after the last.
 fn with_part(found: Option<Span>, kind: RunKind, first: u32, past: u32) -> Option<Span>
     ensures { result ≡ span_with found kind first past }
 {

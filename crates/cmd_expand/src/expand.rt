@@ -25,18 +25,18 @@ pub fn expand_one<'a, D: Disk>(
     m: &mut Meter,
 ) -> Result<(), SparseRefusal<'a>>
     requires first { IsTrue D.models → IsReading (D.held disk.old) }
-    // OUT holds the expansion of the image that IN holds, which is another file; what was printed tells of it
+    // OUT holds the expansion of the image that IN holds, which is another file; the printed line has its numbers
     ensures done { IsTrue D.models → OnOk result (ExpandsFile (path_in input.entry) (path_out output.entry)
         (D.world disk.old) (D.world disk.new) (ShowsBeside (D.on_output (path_out output.entry)) report.old
         report.new)) }
-    // it was synced, where that is wanted
+    // it was synced, where that is requested
     ensures synced { IsTrue D.models → OnOk result ((D.held disk.new).syncs
         ≡ (D.held disk.old).syncs + (if (D.held disk.old).is_synced then 1 else 0)) }
-    // whatever the outcome, OUT alone may hold anything else, IN holds what it held, and no output is left open; it is
-    // done only where nothing failed
+    // whatever the outcome, only OUT may hold anything else, IN holds what it held, and no output is left open; the
+    // result is Ok only where nothing failed
     ensures leaves { IsTrue D.models → LeavesExpanded result (path_in input.entry) (path_out output.entry)
         (D.held disk.old) (D.held disk.new) (D.world disk.old) (D.world disk.new) }
-    // it is refused for a fault that IN has, or where a device or the system failed
+    // it fails for a fault of IN, or where a device or the system failed
     ensures refused { IsTrue D.models → IfErr result (λ refusal. RefusesFile refusal.fault (path_in input.entry)
         (path_out output.entry) (D.world disk.old) (D.world disk.new) (D.held disk.old) (D.held disk.new)
         (Unprinted report.old report.new)) }

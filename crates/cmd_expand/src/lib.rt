@@ -1,11 +1,12 @@
-//! The commands of sparse images over any disk: what each leaves of files, and what it prints, is proved of a disk that
-//! tells what its files hold, as one in memory.
+//! The command `expand` over any disk. Its contracts define what it leaves of files and what it prints, for a disk
+//! that models the contents of its files, such as one in memory.
 //!
-//! | file | has |
+//! | file | content |
 //! |---|---|
 //! | `expand.rt` | `expand` of one image |
-//! | `overlay.rt`, `open_images.rt`, `overlay_loop.rt` | `expand` of several images, which are laid over one another |
-//! | `cut_of.rt` | whether they are pieces of one cut, as far as can be told |
+//! | `overlay.rt` | `expand` of several images: each overwrites the result of those before it |
+//! | `open_images.rt`, `overlay_loop.rt` | opening these images; writing them to the output, one after another |
+//! | `cut_of.rt` | whether images are pieces of one cut, as far as it can be determined |
 #![tactic(auto)]
 
 mod cut_of;

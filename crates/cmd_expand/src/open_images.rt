@@ -1,4 +1,4 @@
-//! The images that are laid over one another: all are opened, and their shapes compared, before anything is written.
+//! Opens the images that overwrite one another. All are opened and their shapes compared before anything is written.
 
 ghost use Rattle.std.specs.Prelude.{◌≡◌, ◌+◌, [], IsTrue, IfOk, IfErr, OnOk, map, min};
 ghost use Rattle.std.specs.List.{AllByRecursion, list_any};
@@ -29,7 +29,7 @@ pub struct Shape {
     pub block: u32,
 }
 
-/// An image that was opened, and where; and the piece that it is, if its path is that of one and it gives blocks.
+/// An image that was opened, its file, and the piece that it is, if its path is that of a piece and it writes blocks.
 #[derive(Drop)]
 pub struct OpenedImage<'a, S> {
     pub source: S,
@@ -61,7 +61,7 @@ pub(crate) fn open_all<'a, D: Disk>(
         (D.held disk.old) (D.held disk.new)) }
     ensures shape { IsTrue D.models → IfOk result (λ all. IsShapeOf all.shape
         (map (λ kept. D.At.content kept.source) all.kept.items)) }
-    // and are no pieces of different cuts, as far as can be told
+    // and are no pieces of different cuts, as far as it can be determined
     ensures turn { IsTrue D.models → IfOk result (λ all. AreInTurn (map (λ word. image_path word.now) inputs.now)
         (D.world disk.old)) }
     ensures clean { IsTrue D.models → IfOk result (λ all.
@@ -171,7 +171,7 @@ fn is_other_cut<'a, S>(kept: &VecDeque<OpenedImage<'a, S>>, own: Option<CutPiece
     false
 }
 
-// An image, all of whose chunks are checked, its shape, and the piece that it is.
+// An image whose chunks are all checked, its shape, and the piece that it is.
 fn open_one<'a, D: Disk>(
     disk: &mut D,
     progress: &mut Progress,
@@ -208,7 +208,7 @@ fn open_one<'a, D: Disk>(
     }
 }
 
-// The image ends too soon where its file is shorter then than what was given of it.
+// Fails because the image ends too soon, where its file is now shorter than what was read of it.
 fn shape_of<'a, S: Source + Lasting>(
     source: &mut S,
     path: &'a str,

@@ -1,4 +1,4 @@
-//! The command `expand` of several images, as the pieces of a cut are: they are laid over one another.
+//! The command `expand` of several images, such as the pieces of a cut. Each overwrites those before it.
 
 ghost use Rattle.std.specs.Prelude.{◌≡◌, ◌+◌, IsTrue, IfErr, OnOk, map};
 ghost use Rattle.sys_refusals.specs.Paths.{path_of};
@@ -18,10 +18,12 @@ use sys_disk::Disk;
 use sys_refusals::FileArg;
 use sys_report::Report;
 
-/// Lays images over one another in their order: a file of zeros, to which each is flashed in turn. Prints what it has.
+/// Flashes images in their order to a file of zeros, each over those before it. Prints what the file has.
 ///
-/// All are read before OUT is created or emptied: their shapes are compared, and of files that have the names of pieces,
-/// as `PREFIX.1`, the blocks that they give. Those of a piece stand before those of the next, or it is of another cut.
+/// All images are read before OUT is created or emptied:
+/// - Their shapes are compared.
+/// - Where files have the names of pieces, such as `PREFIX.1`, the blocks that they write are compared. The blocks of
+///   a piece come before those of the next; otherwise the next belongs to another cut.
 #[inline(never)]
 pub fn expand_several<'a, D: Disk>(
     disk: &mut D,
@@ -33,18 +35,18 @@ pub fn expand_several<'a, D: Disk>(
     m: &mut Meter,
 ) -> Result<(), SparseRefusal<'a>>
     requires ready { IsTrue D.models → MayOverlay (D.held disk.old) }
-    // OUT holds the images that the INs hold, one laid over the other; what was printed tells of it
+    // OUT holds the images that the INs hold, each written over those before it; the printed line has their numbers
     ensures done { IsTrue D.models → OnOk result (OverlaysFiles (map (λ word. image_path word.now) inputs.now)
         (path_of output.entry) (D.world disk.old) (D.world disk.new) (ShowsBeside (D.on_output (path_of output.entry))
         report.old report.new)) }
-    // where there is an IN, OUT was synced behind its last byte
+    // where there is an IN, OUT was synced after its last byte
     ensures synced { IsTrue D.models → OnOk result ((D.held disk.new).syncs
         ≡ (D.held disk.old).syncs + once_if_any (map (λ word. image_path word.now) inputs.now)) }
-    // whatever the outcome, OUT alone may hold anything else, each IN holds what it held, and no file is left open; it
-    // is done only where nothing failed
+    // whatever the outcome, only OUT may hold anything else, each IN holds what it held, and no file is left open;
+    // the result is Ok only where nothing failed
     ensures leaves { IsTrue D.models → LeavesOverlaid result (map (λ word. image_path word.now) inputs.now)
         (path_of output.entry) (D.held disk.old) (D.held disk.new) (D.world disk.old) (D.world disk.new) }
-    // it is refused for what the INs hold, or where a device or the system failed
+    // it fails for what the INs hold, or where a device or the system failed
     ensures refused { IsTrue D.models → IfErr result (λ refusal. RefusesOverlay refusal.fault
         (map (λ word. image_path word.now) inputs.now) (path_of output.entry) (D.world disk.old) (D.world disk.new)
         (D.held disk.old) (D.held disk.new) (Unprinted report.old report.new)) }

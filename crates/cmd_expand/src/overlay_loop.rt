@@ -1,4 +1,4 @@
-//! Images that were opened, laid over one another: each is flashed in turn to a file of zeros.
+//! Writes opened images over one another: each is flashed in turn to a file of zeros.
 
 ghost use Rattle.std.specs.Prelude.{◌≡◌, ◌+◌, ◌*◌, ℕ, [], None, Ok, IsTrue, IfOk, IfErr, OnOk, length, map, IfSome, IsErr};
 ghost use Rattle.std.specs.List.{AllByRecursion};
@@ -31,12 +31,12 @@ pub(crate) fn lay_all<'a, D: Disk>(
 ) -> Result<(), SparseRefusal<'a>>
     ensures laid { IsTrue D.models → OnOk result (D.InPlace.content onto.new
         ≡ flashed_in_turn (D.InPlace.content onto.old) (map (λ one. D.At.content one.source) kept.entry.items)) }
-    // as often as it was synced, and behind the last byte
+    // it was synced once for each image, and after the last byte
     ensures synced { OnOk result ((D.InPlace.past onto.new).synced
         ≡ (D.InPlace.past onto.old).synced + length kept.entry.items) }
     ensures settled { IsTrue D.models → (D.InPlace.past onto.old).pending ≡ [] →
         OnOk result ((D.InPlace.past onto.new).pending ≡ []) }
-    // of the disk nothing has changed but what has failed, and nothing has failed where all was laid
+    // of the disk only the count of failures has changed, and nothing has failed where all images were written
     ensures alone { LaysAlone D.models (D.InPlace.size onto.old) (D.InPlace.size onto.new) (D.held disk.old)
         (D.held disk.new)
         (D.world disk.old) (D.world disk.new) }
@@ -64,7 +64,7 @@ pub(crate) fn lay_all<'a, D: Disk>(
     }
 }
 
-// One image, which is let go then.
+// Writes one image, and then closes it.
 fn lay_one<'a, D: Disk>(
     disk: &mut D,
     progress: &mut Progress,
@@ -110,8 +110,7 @@ fn lay_one<'a, D: Disk>(
     }
 }
 
-// Why an image was not laid whole, where its file has so many bytes now if that is less than was given of it: then it
-// ends there.
+// Why an image was not written completely. Where its file has fewer bytes now than were read, the image ends there.
 fn lasting(answer: Result<Flashed, FlashFault>, now: Option<u64>) -> Result<Flashed, FlashFault>
     ensures whole { now ≡ None → result ≡ answer }
     ensures shorter { IfSome now (λ _. IsErr result) }
@@ -129,7 +128,7 @@ fn lasting(answer: Result<Flashed, FlashFault>, now: Option<u64>) -> Result<Flas
     }
 }
 
-// Read forward, from its front on.
+// Reads the image forward, from its first byte on.
 fn flash_one<S: Source, P: Partition>(
     from: &mut Carried<'_, Forward<S>>,
     onto: &mut P,

@@ -34,7 +34,7 @@ pub delivers_for : (F G : Type 0) (raw : Option ℕ) (r : Result Delivered Flash
 delivers_for F G raw (Ok d) limit before x p p' go is = is
 delivers_for F G raw (Err f) limit before x p p' go is = undelivered_for F G raw f limit before x p p' go is
 
--- all pieces came, but what they went through could not be closed: the last of them is told
+-- all pieces were written, but their spool could not be closed: the last of them is reported
 late_last : (G : Type 0) (raw : Option ℕ) (limit from : ℕ) (d : Delivered) (x p p' : List ℕ) → 1 ≤ from → from < 2 ^ 32
     → 0 < d.pieces → G → IsDelivered raw limit (from - 1) d.pieces x p p'
     → IsStopped G raw limit (from - 1) (last_from from d.pieces) x p p'
@@ -61,7 +61,7 @@ late_fault F G raw (flashes.Stopped j d) limit from c x p p' go failed is =
 late_fault F G raw (flashes.Read d) limit from c x p p' go failed is = (go is.0, is.1)
 late_fault F G raw f limit from c x p p' go failed is = is
 
--- what is told then, where it was closed, and where it was not
+-- what is reported then, where it was closed, and where it was not
 pub told_right : (F G : Type 0) (raw : Option ℕ) (r : Result Delivered FlashFault) (limit from : ℕ) (late : Option
     Cause)
     (x p p' : List ℕ) → 1 ≤ from → from < 2 ^ 32 → IfOk r (λ d. 0 < d.pieces) → (F → G)
@@ -74,7 +74,7 @@ told_right F G raw (Ok d) limit from (Some c) x p p' some small one go failed is
 told_right F G raw (Err f) limit from (Some c) x p p' some small one go failed is =
     late_fault F G raw f limit from c x p p' go (failed c refl) is
 
--- ---- what is told of more
+-- ---- what is reported of more
 
 -- ---- whether the file was closed
 
@@ -105,7 +105,7 @@ pub held_late : (h h' : OpenFiles) (u n s p : ℕ) → h' ≡ closed_spool (u + 
 held_late h h' u n s p closed one =
     let more : h'.failed ≡ h.failed + (u + n) = ap (λ (q : OpenFiles). q.failed) closed in omega (arith, one, more)
 
--- the same of the disk, where what pieces went through is closed behind them
+-- the same of the disk, where the spool is closed after the pieces
 pub told_held : (h h' : OpenFiles) (none s t u n : ℕ) (raw : Option ℕ) (r r' : Result Delivered FlashFault)
     (limit from : ℕ)
     (late : Option Cause) (x p p' : List ℕ) → 1 ≤ from → from < 2 ^ 32 → IfOk r (λ d. 0 < d.pieces)

@@ -53,7 +53,7 @@ spared spool a a' a'' a3 a4 a5 h'' h3 same same' s rest last =
     subst (λ (w : World). Spares s.file w a5) (same' ∙ same)
     (subst (λ (w : World). Spares s.file a'' w) (sym last) (spares_trans s.file a'' a3 a4 s.spares closed))
 
--- the partition is handed back as long as it was
+-- the partition is returned with its length unchanged
 pub as_long_across : (input path spool x p p' : List ℕ) (a a' a'' a3 a4 a5 : World) (h h' h'' h3 h4 h5 : OpenFiles)
     (n : ℕ)
     → OpensFile a input x h h' → a' ≡ a → OpensPart a' path p h' h'' → a'' ≡ a' → OpensSpool spool h'' h3 a'' a3

@@ -21,9 +21,9 @@ use Rattle.abt_flash.specs.Sparse.{Fits, SparseRefused, sparse_image}
 use Rattle.abt_flash.proofs.Mended.{leaves_same}
 use Rattle.cmd_flash.specs.InPieces.{DeliversPieces, IsEarly, IsRefused, IsUndelivered, IsWhole, image_as}
 
--- ---- what stands
+-- ---- what is stored
 
--- p under the whole image stands up to any piece
+-- p overwritten by the whole image holds it up to any piece
 pub stands_whole : (b : ℕ) (l : List Block) (p : List ℕ) (first : ℕ) → Mendable b l p (over p (cells b l)) first
 stands_whole b l p first = record {
   long = length-over p (cells b l);
@@ -38,7 +38,7 @@ leaves_now limit b l p done past content none stands = λ q may.
     subst (λ (z : List ℕ). Mendable b l p z (blocks_in_first limit b l done))
     (sym (leaves_same (moment_of past content) q none may)) stands
 
--- ---- what the engine answers
+-- ---- what the engine returns
 
 abbrev faults_in : Counts → ℕ
 faults_in c = c.read_faults + c.put_faults + (c.write_faults + c.spool_faults)
@@ -132,7 +132,7 @@ delivers raw limit before (Ok d) x old new a z none o = record {
 }
 delivers raw limit before (Err fault) x old new a z none o = undelivered raw limit before fault x old new a z none o
 
--- ---- the engine's clauses, of devices that tell their bytes
+-- ---- the engine's clauses, for devices that model their bytes
 
 early_for : (r : Result Delivered FlashFault) (P Q : Type 0) → (P → Q) → OnEarly r P → OnEarly r Q
 early_for (Ok d) P Q go early = tt

@@ -64,7 +64,7 @@ pub when_done : (r : Result Delivered FlashFault) (n : ℕ) (P : Type 0) → cou
 when_done (Ok d) n P is so = so
 when_done (Err fault) n P is so = absurd (subst IsFault is tt)
 
--- at least one sync, behind the last byte
+-- at least one sync, after the last byte
 settled_by : (past past' : Past) (n : ℕ) → past ≡ no_past → past'.synced ≡ past.synced + n → 0 < n → past'.pending ≡ []
     → is_settled past' ≡ true
 settled_by past past' n fresh more one none =
@@ -121,7 +121,7 @@ clean_across r n none s t m input path spool x p p' a c h h3 h4 h' past all is c
     none_failed_across h h3 h4 h' (s + t) m all.began all.failed
     (when_done r n (none ≡ 0 → h4.failed + (s + t) ≡ h3.failed) is same clean) closed
 
--- the fault of the call is told; or it had none, and closing failed
+-- the fault of the call is reported; or it had none, and closing failed
 refuses_ended : (untold : List ℕ → Type 0) (q : Result ℕ SparseCommandFault) (r : Result Delivered FlashFault)
     (e : SparseCommandFault)
     (G : Type 0)

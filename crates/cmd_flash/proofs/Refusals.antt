@@ -1,4 +1,4 @@
--- A fault that a call answered is one that the command may be refused for.
+-- A fault that a call returned is one for which the command may fail.
 use Rattle.std.proofs.Common.{◌≡◌, ◌<◌, ◌⊎◌, inl, inr, ℕ, List, refl, sym, subst}
 use Rattle.std.specs.Prelude.{None, Result, Ok, Err, OnOk, IfErr, IsErrAnd, IsOk}
 use Rattle.sys_refusals.specs.declared.refusal.HostFault.{HostFault}
@@ -84,7 +84,7 @@ flash_own untold (faults.OtherBlocks image) F input path x p p' a c h h' closed 
 flash_own untold (faults.OtherCut image) F input path x p p' a c h h' closed go with_files lays = absurd lays
 flash_own untold (faults.Host f) F input path x p p' a c h h' closed go with_files lays = absurd lays
 
--- the fault of the call is told; or it had none, and closing failed
+-- the fault of the call is reported; or it had none, and closing failed
 pub refuses_flash : (untold : List ℕ → Type 0) (answer : Result ℕ SparseCommandFault) (e : SparseCommandFault)
     (F : Type 0)
     (input path x p p' : List ℕ)
@@ -172,7 +172,7 @@ list_refusal e f F W input x a h h' is go with_file listed =
     subst (λ (z : SparseCommandFault). RefusesList z input a h h' W) (sym is)
     (with_file (IsUnlisted (HasFailed h h') W f) (unlisted_for f F (HasFailed h h') W x go listed))
 
--- all was done, and then the line was refused
+-- all was done, and then the line failed
 pub handed_on : {X R : Type 0} (answer : Result X R) (P Q : R → Type 0) → ((r : R) → P r → Q r) → IsErrAnd answer P
     → IfErr answer Q
 handed_on (Ok x) P Q go is = tt
@@ -192,7 +192,7 @@ pub raw_untold : (untold : List ℕ → Type 0) (e : SparseCommandFault) (host :
 raw_untold untold e host b input path a c h h' is closed done =
     subst (λ (z : SparseCommandFault). RefusesFlashRaw z b input path a c h h' untold) (sym is) (inr (closed, done))
 
--- ---- what was answered is so
+-- ---- what was returned holds
 
 pub is_flashed : (answer : Result ℕ SparseCommandFault) (n : ℕ) (F : Type 0) (x p p' : List ℕ) → answer ≡ Ok n
     → Lays F answer x p p' → IsFlashed n x p p'

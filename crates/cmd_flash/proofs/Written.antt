@@ -9,7 +9,7 @@ use Rattle.sys_disk.specs.World.{reading}
 use Rattle.sys_disk.proofs.Closings.{ends_in, apart_from, others_spared, keeps_read}
 use Rattle.cmd_flash.specs.Files.{Between, OfBoth, OfFile}
 
--- a partition is handed back as long as it was
+-- a partition is returned with its length unchanged
 pub as_long : (path p p' : List ℕ) (a b c : World) (h h' h'' : OpenFiles) (n : ℕ) → OpensPart a path p h h' → b ≡ a
     → h'' ≡ failing n h' → c ≡ b → length p' ≡ length p → IsAsLong h''.part p' c
 as_long path p p' a b c h h' h'' n o same gone same' long =
@@ -17,7 +17,7 @@ as_long path p p' a b c h h' h'' n o same gone same' long =
     (subst (λ (g : OpenFiles). IsAsLong g.part p' c) (sym o.taken)
     (long ∙ ap length o.held ∙ ap (λ (w : World). length (w.holds o.file)) (sym (same' ∙ same))))
 
--- one sync, behind the last byte
+-- one sync, after the last byte
 pub settled_once : (past past' : Past) → past ≡ no_past → past'.synced ≡ past.synced + 1 → past'.pending ≡ []
     → is_settled past' ≡ true
 settled_once past past' fresh one empty =
@@ -61,7 +61,7 @@ pub of_file : (input x : List ℕ) (a : World) (h0 h : OpenFiles) (P : List ℕ 
 of_file input x a h0 h P r so =
     record { from = r.file; there = r.there; so = subst P r.held so }
 
--- behind an input that was opened, the file that was written in place is the only one that may hold anything else
+-- after an input was opened, the file that was written in place is the only one that may hold anything else
 pub others_written : (path p p' : List ℕ) (a a' b c : World) (h h' : OpenFiles) → a' ≡ a → OpensPart a' path p h h'
     → b ≡ a'
     → Ends h'.part p' b c → c.at ≡ b.at → SparesOthers path a c
@@ -77,7 +77,7 @@ input_kept input path x p p' a a' b c h0 h h' r same o same' ends =
     keeps_read input path x p p' a c h0 h h' r (subst (λ (w : World). OpensPart w path p h h') same o)
     (subst (λ (w : World). Ends h'.part p' w c) (same' ∙ same) ends)
 
--- ---- an input was opened, and a partition; the one was let go, and the other closed
+-- ---- an input was opened, and a partition; then both were closed
 
 pub record Ran (input path x p p' : List ℕ) (old new : World) (h h' : OpenFiles) (faults : ℕ) (past : Past) : Type 1
   where
@@ -122,7 +122,7 @@ ran input path x p p' a a' a'' b c h0 h h' h3 h4 n k past w d r same o same' l s
       closed = ap (λ (q : OpenFiles). q.part) closed.closed;
     }
 
--- so many faults more are one, where a count rose from none; and none, where it did not
+-- this many faults more are one, where a count rose from none; and none, where it did not
 pub ran_failed : (input path x p p' : List ℕ) (old new : World) (h h' : OpenFiles) (r t r' t' m : ℕ) (past : Past)
     → Ran input path x p p' old new h h' (r' + t' + m) past → r ≡ 0 → t ≡ 0 → r + t < r' + t' → HasFailed h h'
 ran_failed input path x p p' old new h h' r t r' t' m past all none none' rose =
@@ -134,13 +134,13 @@ pub ran_clean : (input path x p p' : List ℕ) (old new : World) (h h' : OpenFil
 ran_clean input path x p p' old new h h' r t r' t' m past all none none' same clean =
     let more : h'.failed ≡ h.failed + (r' + t' + m) = all.failed in omega (arith, more, none, none', same, clean)
 
--- closing it was refused
+-- closing it failed
 pub ran_unclosed : (input path x p p' : List ℕ) (old new : World) (h h' : OpenFiles) (n m : ℕ) (past : Past)
     → Ran input path x p p' old new h h' (n + m) past → 0 < m → HasFailed h h'
 ran_unclosed input path x p p' old new h h' n m past all rose =
     let more : h'.failed ≡ h.failed + (n + m) = all.failed in omega (arith, more, rose)
 
--- two files were opened to be read, looked at again, and let go
+-- two files were opened for reading, looked at again, and closed
 pub failed_two : (h h' h'' hu h3 h4 : OpenFiles) (f g u n k : ℕ) → h' ≡ reading f h → h'' ≡ reading g h' → hu
     ≡ failing u h''
     → h3 ≡ failing n hu → h4 ≡ failing k h3 → h4.failed ≡ h.failed + (u + (n + k))

@@ -1,15 +1,15 @@
--- What is so of the files that a command was given.
+-- What holds of the files that a command was given.
 use Rattle.std.specs.Prelude.{◌≡◌, ◌≢◌, ◌⊎◌, ℕ, Bool, false, List, [], length, slice_get, Some, None, Result, OnOk}
 use Rattle.sys_disk.specs.World.{World, OpenFiles, KeepsFile, Spares, HasFailed, HasNotFailed}
 
--- nothing was opened to be written, no file is written in place, and pieces go through none
+-- no file was opened for writing, no file is written in place, and no file is open for pieces
 pub record MayFlashPieces (held : OpenFiles) : Type 0 where
   pub first : held.begun ≡ []
   pub one : held.part ≡ None
   pub through : held.spool ≡ None
 
--- What a command that writes leaves of files, whatever the outcome: `Spared` says what of all but those that it writes,
--- and IN holds what it held. It is done only where nothing has failed, and PARTITION is closed.
+-- What a command that writes leaves of files, whatever the outcome. `Spared` states it of all files but those that it
+-- writes, and IN holds what it held. The result is Ok only where nothing has failed, and PARTITION is closed.
 pub record LeavesOthers {X F : Type 0} (r : Result X F) (Spared : Type 0) (from : List ℕ) (held held' : OpenFiles)
     (old new : World) : Type 0 where
   pub others : Spared
@@ -17,7 +17,7 @@ pub record LeavesOthers {X F : Type 0} (r : Result X F) (Spared : Type 0) (from 
   pub clean : OnOk r (HasNotFailed held held')
   pub closed : OnOk r (held'.part ≡ None)
 
--- the file at this path is there, and P holds of its bytes
+-- the file at this path exists, and P holds of its bytes
 pub record OfFile (input : List ℕ) (world : World) (P : List ℕ → Type 0) : Type 0 where
   pub from : ℕ
   pub there : world.at input ≡ Some from
@@ -44,7 +44,7 @@ pub record Between (input partition : List ℕ) (old new : World) (P : List ℕ 
 
 -- ---- where a device has failed
 
--- p' is as long as p, and holds what p holds but where it is touched
+-- p' is as long as p, and equals p except where it is touched
 pub record HoldsBut (touched : ℕ → Bool) (p p' : List ℕ) : Type 0 where
   pub long : length p' ≡ length p
   pub kept : (i : ℕ) → touched i ≡ false → slice_get p' i ≡ slice_get p i
@@ -53,7 +53,7 @@ pub record HoldsBut (touched : ℕ → Bool) (p p' : List ℕ) : Type 0 where
 abbrev pub OnClosed : OpenFiles → Type 0 → Type 0
 OnClosed held P = (held.part ≡ None) × P
 
--- A call of the disk has failed before the work at PARTITION, which holds what it held; or behind it, and all of it is
+-- A call of the disk has failed before the work at PARTITION, which holds what it held; or after it, and all of it is
 -- done.
 abbrev pub FailsAround : List ℕ → World → World → OpenFiles → OpenFiles → Type 0 → Type 0
 FailsAround partition old new held held' Done =

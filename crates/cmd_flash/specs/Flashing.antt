@@ -21,7 +21,7 @@ use Rattle.cmd_flash.specs.Files.{Between, FailsAround, HoldsBut, OnClosed}
 
 -- ---- one image, over what held p and holds p' then
 
--- An image stands at the front of x, with n raw and fill blocks. It fits, and p' is what flashing leaves of p.
+-- x begins with an image that has n raw and fill blocks. It fits, and p' is the result of flashing it over p.
 pub record IsFlashed (n : ℕ) (x p p' : List ℕ) : Type 0 where
   pub header : Header
   pub chunks : List Chunk
@@ -31,13 +31,13 @@ pub record IsFlashed (n : ℕ) (x p p' : List ℕ) : Type 0 where
   pub blocks : n ≡ written_in (classed chunks)
   pub holds : p' ≡ flashed p x
 
--- x has this fault, and p' is p with what comes before it
+-- x has this fault, and p' is p overwritten by what comes before the fault
 pub record IsFlashedUpTo (f : SparseFault) (x p p' : List ℕ) : Type 0 where
   pub given : List (Option ℕ)
   pub fails : Fails x f given
   pub holds : p' ≡ flashed p x
 
--- the image at the front of x needs so many bytes, which p has not; nothing was written
+-- the image at the beginning of x needs this many bytes, and p has fewer; nothing was written
 pub record HasNoRoom (need : ℕ) (x p p' : List ℕ) : Type 0 where
   pub header : Header
   pub behind : List ℕ
@@ -46,16 +46,16 @@ pub record HasNoRoom (need : ℕ) (x p p' : List ℕ) : Type 0 where
   pub short : length p < need
   pub kept : p' ≡ p
 
--- p' holds what p held wherever x writes nothing: an image, or what comes before its fault
+-- p' equals p wherever x writes nothing; x is an image, or what comes before its fault
 abbrev pub IsFlashedInPart : List ℕ → List ℕ → List ℕ → Type 0
 IsFlashedInPart x p p' = HoldsBut (writes (given (outcome x))) p p'
 
--- it is flashed, as so many blocks
+-- it is flashed, as this many blocks
 abbrev pub IsFlashedWhole : List ℕ → List ℕ → List ℕ → Type 0
 IsFlashedWhole x p p' = (blocks : ℕ) × IsFlashed blocks x p p'
 
--- Why it is not flashed: the first fault of x, no room, or a device's, where one has failed. Behind a sync that was
--- refused all is written.
+-- Why it is not flashed: the first fault of x, no room, or the fault of a device where one has failed. After a failed
+-- sync everything is written.
 abbrev pub IsUnflashed : Type 0 → FlashFault → List ℕ → List ℕ → List ℕ → Type 0
 IsUnflashed failed (flashes.Sparse f) x p p' = IsFlashedUpTo f x p p'
 IsUnflashed failed (flashes.PartitionTooSmall need) x p p' = HasNoRoom need x p p'
@@ -64,7 +64,7 @@ IsUnflashed failed (flashes.Write d) x p p' = failed × IsFlashedInPart x p p'
 IsUnflashed failed (flashes.Sync d) x p p' = failed × IsFlashedWhole x p p'
 IsUnflashed failed f x p p' = ⊥
 
--- the partition is as long as it was; and where all was done it was synced once, behind its last byte
+-- the partition keeps its length; after an Ok it was synced once, after its last byte
 pub record SyncsOnce {X F : Type 0} (r : Result X F) {C : Type 0} (s : sources.Ghosts C) (p : partitions.Ghosts C)
     (old new : C) : Type 0 where
   pub synced : OnOk r ((p.past new).synced ≡ (p.past old).synced + 1)
@@ -73,8 +73,8 @@ pub record SyncsOnce {X F : Type 0} (r : Result X F) {C : Type 0} (s : sources.G
 
 -- ---- of files
 
--- The one file held an image that fits. The other holds what flashing leaves of what it held, and was synced behind its
--- last byte. The line that was printed has the number of the image's raw and fill blocks.
+-- The one file held an image that fits. The other holds the result of flashing it over what it held, and was synced
+-- after its last byte. The line that was printed has the number of the image's raw and fill blocks.
 pub record FlashesFile (input partition : List ℕ) (old new : World) (syncs syncs' : ℕ) (shows : List ℕ → Type 0)
     : Type 0 where
   pub blocks : ℕ
@@ -87,7 +87,7 @@ abbrev pub FlashesUntold : List ℕ → List ℕ → World → World → OpenFil
 FlashesUntold input partition old new held held' untold =
     OnClosed held' (FlashesFile input partition old new held.syncs held'.syncs untold)
 
--- why the command is refused: for what the files hold; or a file or a device has failed, or the report
+-- why the command fails: for what the files hold; or a file or a device has failed, or the report
 abbrev pub RefusesFlash : SparseCommandFault → List ℕ → List ℕ → World → World → OpenFiles → OpenFiles
     → (List ℕ → Type 0)
     → Type 0
@@ -98,7 +98,7 @@ RefusesFlash (faults.Host f) input partition old new held held' untold =
     ⊎ FlashesUntold input partition old new held held' untold
 RefusesFlash f input partition old new held held' untold = ⊥
 
--- what the call answers of x, over what held p and holds p' then
+-- what the call returns of x, over a partition that held p and then holds p'
 abbrev pub Lays : Type 0 → Result ℕ SparseCommandFault → List ℕ → List ℕ → List ℕ → Type 0
 Lays failed (Ok n) x p p' = IsFlashed n x p p'
 Lays failed (Err (faults.Flash f)) x p p' = IsUnflashed failed f x p p'

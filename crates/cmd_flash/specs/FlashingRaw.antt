@@ -18,14 +18,14 @@ use Rattle.cmd_flash.specs.Files.{Between, FailsAround, HoldsBut, OnClosed}
 
 -- ---- one image, over what held p and holds p' then
 
--- n blocks of b bytes are what x fills, the last of them maybe in part. They fit, and p' is p with x and zeros up to
--- their end at its front.
+-- x fills n blocks of b bytes, the last of them perhaps in part. They fit, and p' is p whose beginning is overwritten
+-- by x and zeros up to the end of the blocks.
 pub record IsFlashedRaw (n b : ℕ) (x p p' : List ℕ) : Type 0 where
   pub filled : IsFilled n b (length x)
   pub fits : n * b ≤ length p
   pub holds : p' ≡ put_at p 0 (filled_to (n * b) x)
 
--- the blocks of x need so many bytes, which p has not; nothing was written
+-- the blocks of x need this many bytes, and p has fewer; nothing was written
 pub record HasNoRoomRaw (need b : ℕ) (x p p' : List ℕ) : Type 0 where
   pub blocks : ℕ
   pub filled : IsFilled blocks b (length x)
@@ -33,17 +33,17 @@ pub record HasNoRoomRaw (need b : ℕ) (x p p' : List ℕ) : Type 0 where
   pub short : length p < need
   pub kept : p' ≡ p
 
--- it is flashed, as so many blocks
+-- it is flashed, as this many blocks
 abbrev pub IsFlashedWholeRaw : ℕ → List ℕ → List ℕ → List ℕ → Type 0
 IsFlashedWholeRaw b x p p' = (blocks : ℕ) × IsFlashedRaw blocks b x p p'
 
--- p' is p with the first bytes of x at its front, but for so many bytes behind these
+-- p' is p whose beginning is overwritten by the first bytes of x, except for this many bytes after these
 pub record IsLaidInPart (torn : ℕ) (x p p' : List ℕ) : Type 0 where
   pub laid : ℕ
   pub within : laid ≤ length x
   pub holds : HoldsBut (in_range laid torn) (put_at p 0 (take laid x)) p'
 
--- it has no such blocks, or more than can be, and nothing was written; or it could not be read
+-- it has no such blocks, or too many, and nothing was written; or it could not be read
 abbrev pub IsUnopened : Type 0 → RunFault → ℕ → List ℕ → List ℕ → List ℕ → Type 0
 IsUnopened failed (of_runs.Read d) b x p p' = failed × IsLaidInPart 0 x p p'
 IsUnopened failed f b x p p' = RefusedRaw f b (length x) × (p' ≡ p)
@@ -55,7 +55,7 @@ IsUnlaid failed (flashes.Write d) b x p p' = failed × IsLaidInPart 65536 x p p'
 IsUnlaid failed (flashes.Sync d) b x p p' = failed × IsFlashedWholeRaw b x p p'
 IsUnlaid failed f b x p p' = ⊥
 
--- what the call answers of x, over what held p and holds p' then
+-- what the call returns of x, over a partition that held p and then holds p'
 abbrev pub IsUnflashedRaw : Type 0 → SparseCommandFault → ℕ → List ℕ → List ℕ → List ℕ → Type 0
 IsUnflashedRaw failed (faults.Run f) b x p p' = IsUnopened failed f b x p p'
 IsUnflashedRaw failed (faults.Flash f) b x p p' = IsUnlaid failed f b x p p'
@@ -67,8 +67,8 @@ LaysRaw failed (Err f) b x p p' = IsUnflashedRaw failed f b x p p'
 
 -- ---- of files
 
--- The one file held a raw image whose blocks fit. The other holds it at its front, with zeros up to a whole block, and
--- else what it held, and was synced behind its last byte. The line that was printed has the number of blocks.
+-- The one file held a raw image whose blocks fit. The other begins with it, with zeros up to a whole block, and else
+-- holds what it held. It was synced after its last byte. The line that was printed has the number of blocks.
 pub record FlashesRawFile (size : ℕ) (input partition : List ℕ) (old new : World) (syncs syncs' : ℕ)
     (shows : List ℕ → Type 0) : Type 0 where
   pub blocks : ℕ
@@ -81,7 +81,7 @@ abbrev pub FlashesRawUntold : ℕ → List ℕ → List ℕ → World → World 
 FlashesRawUntold size input partition old new held held' untold =
     OnClosed held' (FlashesRawFile size input partition old new held.syncs held'.syncs untold)
 
--- why the command is refused: for what the files hold; or a file or a device has failed, or the report
+-- why the command fails: for what the files hold; or a file or a device has failed, or the report
 abbrev pub RefusesFlashRaw : SparseCommandFault → ℕ → List ℕ → List ℕ → World → World → OpenFiles → OpenFiles
     → (List ℕ → Type 0) → Type 0
 RefusesFlashRaw (faults.Host f) size input partition old new held held' untold =

@@ -20,24 +20,24 @@ use Rattle.cmd_common_sparse.specs.declared.lines.Line.TheVariants as lines
 use Rattle.cmd_common_sparse.specs.Lines.{line_text}
 use Rattle.cmd_flash.specs.Files.{FailsAround, OfFile, OnClosed}
 
--- ---- the image that bytes are: a sparse one at their front, or a raw one in blocks of so many bytes
+-- ---- the image that bytes are: a sparse one at their beginning, or a raw one in blocks of this many bytes
 
 abbrev pub image_as : Option ℕ → List ℕ → ImageBlocks
 image_as None x = sparse_image x
 image_as (Some size) x = raw_image size x
 
--- they are one, the limit has room for each of its blocks, and so many bytes for all
+-- they are an image, the limit has room for each of its blocks, and this many bytes have room for all
 abbrev pub IsWhole : Option ℕ → List ℕ → ℕ → ℕ → Type 0
 IsWhole None x limit room = Fits x limit room
 IsWhole (Some size) x limit room = IsAllowed size x (length x) limit room true
 
--- why it is not delivered behind its first pieces, `before`, as the engine says of devices that tell their bytes
+-- why it is not delivered after its first pieces, `before`, by the engine's definition for devices that model bytes
 abbrev pub IsRefused : Option ℕ → FlashFault → List ℕ → ℕ → ℕ → ℕ → Counts → Counts → Type 0
 IsRefused None fault x limit room before a z = SparseRefused fault x limit room before true true a z
 IsRefused (Some size) fault x limit room before a z =
     RawRefused fault size x (length x) limit room before true true a z
 
--- p under the image x has its first pieces, `done`, on q, and of all others any bytes: going on behind them mends it
+-- q holds the first `done` pieces of the image x over p, and any bytes for all others: continuing after them repairs it
 abbrev pub StandsUpTo : Option ℕ → ℕ → ℕ → List ℕ → List ℕ → List ℕ → Type 0
 StandsUpTo raw limit done x p q =
     Mendable (image_as raw x).size (image_as raw x).blocks p q
@@ -45,8 +45,8 @@ StandsUpTo raw limit done x p q =
 
 -- ---- one image x, over what held p and holds p' then
 
--- x is an image that fits, of which n pieces came behind the first ones. p' is p under the blocks of these n, and all
--- of any q under the image where p had the first pieces of that.
+-- x is an image that fits, of which n pieces were written after the first ones. p' is p overwritten by the blocks of
+-- these n. It is also any q overwritten by the whole image, where p held the first pieces over q.
 pub record IsDelivered (raw : Option ℕ) (limit before n : ℕ) (x p p' : List ℕ) : Type 0 where
   pub whole : IsWhole raw x limit (length p)
   pub counts : before + n ≡ pieces_in limit (image_as raw x)
@@ -56,11 +56,11 @@ pub record IsDelivered (raw : Option ℕ) (limit before n : ℕ) (x p p' : List 
   pub mends : (q : List ℕ) (done : ℕ) → before ≤ done → StandsUpTo raw limit done x q p
       → p' ≡ over q (cells (image_as raw x).size (image_as raw x).blocks)
 
--- all of its pieces behind the first ones came
+-- all of its pieces after the first ones were written
 abbrev pub IsDeliveredWhole : Option ℕ → ℕ → ℕ → List ℕ → List ℕ → List ℕ → Type 0
 IsDeliveredWhole raw limit before x p p' = (pieces : ℕ) × IsDelivered raw limit before pieces x p p'
 
--- a device has failed in piece j of an image that fits; the pieces before it stand, where those did that came before
+-- a device has failed in piece j of an image that fits; the pieces before it are stored, where the earlier ones were
 pub record IsStopped (failed : Type 0) (raw : Option ℕ) (limit before j : ℕ) (x p p' : List ℕ) : Type 0 where
   pub whole : IsWhole raw x limit (length p)
   pub cause : failed
@@ -69,26 +69,26 @@ pub record IsStopped (failed : Type 0) (raw : Option ℕ) (limit before j : ℕ)
   pub stands : (q : List ℕ) (done : ℕ) → before ≤ done → StandsUpTo raw limit done x q p
       → StandsUpTo raw limit (j - 1) x q p'
 
--- nothing was written, for what x is, the limit, no room, or no such piece
+-- nothing was written, because of x, the limit, no room, or no such piece
 pub record IsEarly (raw : Option ℕ) (fault : FlashFault) (limit before : ℕ) (x p p' : List ℕ) : Type 0 where
   pub counts : Counts
   pub counts' : Counts
   pub refused : IsRefused raw fault x limit (length p) before counts counts'
   pub kept : p' ≡ p
 
--- why it is not delivered: it was stopped in a piece; or nothing was written, since a device has failed, or for what x
--- is, the limit, no room, or no such piece, as the engine says
+-- why it is not delivered: it was stopped in a piece; or nothing was written, because a device has failed, or because
+-- of x, the limit, no room, or no such piece, as the engine defines it
 abbrev pub IsUndelivered : Type 0 → Option ℕ → FlashFault → ℕ → ℕ → List ℕ → List ℕ → List ℕ → Type 0
 IsUndelivered failed raw (flashes.Stopped j cause) limit before x p p' = IsStopped failed raw limit before j x p p'
 IsUndelivered failed raw (flashes.Read d) limit before x p p' = failed × (p' ≡ p)
 IsUndelivered failed raw fault limit before x p p' = IsEarly raw fault limit before x p p'
 
--- what is answered of x
+-- what the call returns of x
 abbrev pub DeliversPieces : Type 0 → Option ℕ → Result Delivered FlashFault → ℕ → ℕ → List ℕ → List ℕ → List ℕ → Type 0
 DeliversPieces failed raw (Ok d) limit before x p p' = IsDelivered raw limit before d.pieces x p p'
 DeliversPieces failed raw (Err fault) limit before x p p' = IsUndelivered failed raw fault limit before x p p'
 
--- the partition is as long as it was; and where pieces were delivered, of which there is one, it was synced behind each
+-- the partition keeps its length; where pieces were delivered, at least one, it was synced after each
 pub record SyncsPieces {F : Type 0} (r : Result Delivered F) {C : Type 0} (s : sources.Ghosts C)
     (p : partitions.Ghosts C) (old new : C) : Type 0 where
   pub some : IfOk r (λ d. 0 < d.pieces)
@@ -120,8 +120,8 @@ pub record SparesBoth (partition spool : List ℕ) (old new : World) : Type 0 wh
   pub files : (file : ℕ) → ¬ (old.at partition ≡ Some file) → ¬ (new.at spool ≡ Some file)
       → new.holds file ≡ old.holds file
 
--- An image that fits was delivered behind its first pieces, and PARTITION was synced behind its last byte. The line
--- that was printed has the number of the pieces that came.
+-- An image that fits was delivered after its first pieces, and PARTITION was synced after its last byte. The line
+-- that was printed has the number of the pieces that were written.
 pub record FlashesPieces (raw : Option ℕ) (limit before : ℕ) (input partition spool : List ℕ) (old new : World)
     (held held' : OpenFiles) (shows : List ℕ → Type 0) : Type 0 where
   pub pieces : ℕ
@@ -139,7 +139,7 @@ FlashesPiecesUntold raw limit before input partition spool old new held held' un
 abbrev pub IsUncuttable : Option ℕ → SparseCommandFault → ℕ → List ℕ → Type 0
 IsUncuttable raw fault limit x = (size : ℕ) × (raw ≡ Some size) × RefusedCut fault size (length x) limit
 
--- why the command is refused: for what the files hold; or a file or a device has failed, or the report
+-- why the command fails: for what the files hold; or a file or a device has failed, or the report
 abbrev pub RefusesPieces : SparseCommandFault → Option ℕ → ℕ → ℕ → List ℕ → List ℕ → List ℕ → World → World → OpenFiles
     → OpenFiles → (List ℕ → Type 0) → Type 0
 RefusesPieces (faults.Flash f) raw limit before input partition spool old new held held' untold =

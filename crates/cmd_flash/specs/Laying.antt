@@ -1,4 +1,4 @@
--- What laying a source over the front of a partition may be refused for.
+-- Why writing a source over the beginning of a partition may fail.
 use Rattle.std.specs.Prelude.{◌≡◌, ◌<◌, ◌+◌, ℕ, Bool, false, Result, OnOk, IfErr}
 use Rattle.abt_io.specs.declared.device.Source as sources
 use Rattle.abt_io.specs.declared.device.Partition as partitions
@@ -9,26 +9,26 @@ use Rattle.cmd_common_sparse.specs.declared.fault.SparseCommandFault.TheVariants
 use Rattle.abt_io.specs.declared.copying.CopyFault.{CopyFault}
 use Rattle.abt_io.specs.declared.copying.CopyFault.TheVariants as copies
 
--- a device has failed; a source gives fewer bytes than it has said only where it doesn't tell them
+-- a device has failed; a source gives fewer bytes than its length only where it doesn't model them
 abbrev pub IsOfDevices : Bool → Type 0 → CopyFault → Type 0
 IsOfDevices models failed (copies.Read d) = failed
 IsOfDevices models failed (copies.Write d) = failed
 IsOfDevices models failed copies.Changed = models ≡ false
 
--- how many bytes behind those that were laid may be anything then: a window that was being written
+-- how many bytes after those that were written may then be anything: a window that was being written
 abbrev pub torn_by : CopyFault → ℕ
 torn_by (copies.Read d) = 0
 torn_by (copies.Write d) = 65536
 torn_by copies.Changed = 0
 
--- what is told of it
+-- the command's fault for it
 abbrev pub unlaid : CopyFault → SparseCommandFault
 unlaid (copies.Read d) = faults.Run (of_runs.Read d)
 unlaid (copies.Write d) = faults.Flash (flashes.Write d)
 unlaid copies.Changed = faults.Run of_runs.SourceChanged
 
--- Laying a source's bytes over a partition leaves it as long as it was, and syncs nothing. It is refused where one of
--- the two has failed, and else none has.
+-- Writing a source's bytes over a partition keeps its length, and syncs nothing. It fails where one of the two has
+-- failed, and after an Ok none has.
 pub record OnlyLays {X : Type 0} (r : Result X CopyFault) {A C : Type 0} (s : sources.Ghosts A) (t : sources.Ghosts C)
     (p : partitions.Ghosts C) (source source' : A) (onto onto' : C) : Type 0 where
   pub synced : (p.past onto').synced ≡ (p.past onto).synced

@@ -11,7 +11,7 @@ use Rattle.cmd_common_sparse.specs.declared.fault.SparseCommandFault.{SparseComm
 use Rattle.cmd_common_sparse.specs.declared.fault.SparseCommandFault.TheVariants as faults
 use Rattle.cmd_flash.specs.Files.{OfFile}
 
--- an image stands at the front of x, and its header and its chunks were printed, a line each
+-- x begins with an image, and its header and its chunks were printed, a line each
 pub record IsListed (x : List ℕ) (printed : List ℕ → Type 0) : Type 0 where
   pub header : Header
   pub chunks : List Chunk
@@ -25,7 +25,7 @@ IsUnlisted unread unprinted (of_sparse.Read d) x = unread
 IsUnlisted unread unprinted (of_sparse.Write d) x = unprinted
 IsUnlisted unread unprinted f x = (given : List (Option ℕ)) × Fails x f given
 
--- why the command is refused: for what the file holds, or it has failed; or the rows were not printed, which is no
+-- why the command fails: for what the file holds, or the file has failed; or the rows were not printed, which is no
 -- call of the disk, so that the report counts it
 abbrev pub RefusesList : SparseCommandFault → List ℕ → World → OpenFiles → OpenFiles → Type 0 → Type 0
 RefusesList (faults.Sparse f) input world held held' unprinted =

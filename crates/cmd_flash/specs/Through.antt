@@ -18,14 +18,14 @@ pub record ClosesSpool (held held' : OpenFiles) : Type 0 where
 abbrev pub last_from : ℕ → ℕ → ℕ
 last_from from count = min (from - 1 + count) (2 ^ 32 - 1)
 
--- what is told of pieces from this one on, where there may be a cause that came before what stopped them
+-- the result of delivering pieces from this one on, where there may be a cause that came before what stopped them
 abbrev pub told : Result Delivered FlashFault → ℕ → Option Cause → Result Delivered FlashFault
 told delivered from None = delivered
 told (Ok d) from (Some first) = Err (flashes.Stopped (last_from from d.pieces) first)
 told (Err (flashes.Stopped piece cause)) from (Some first) = Err (flashes.Stopped piece first)
 told (Err fault) from (Some first) = Err fault
 
--- how many pieces came
+-- how many pieces were delivered
 abbrev pub count_delivered : Result Delivered FlashFault → Result ℕ SparseCommandFault
 count_delivered (Ok d) = Ok d.pieces
 count_delivered (Err fault) = Err (faults.Flash fault)

@@ -1,4 +1,4 @@
--- What the command `verify` says of files, which it leaves as they are.
+-- What the command `verify` finds in files, which it leaves as they are.
 use Rattle.std.specs.Prelude.{◌≡◌, ℕ, List, [], ◌∷◌, ◌++◌, ◌⊎◌, length, true, Result, Ok, Err}
 use Rattle.std.specs.Int.{div_ceil}
 use Rattle.abt_sparse.specs.Block.{cells}
@@ -19,7 +19,7 @@ use Rattle.cmd_flash.specs.Files.{OfBoth}
 
 -- ---- a sparse image x, and a partition that holds p
 
--- an image with n raw and fill blocks stands at the front of x, and each byte of these is at its place
+-- x begins with an image that has n raw and fill blocks, and each byte of these is at its place
 pub record IsThere (n : ℕ) (x p : List ℕ) : Type 0 where
   pub header : Header
   pub chunks : List Chunk
@@ -28,7 +28,7 @@ pub record IsThere (n : ℕ) (x p : List ℕ) : Type 0 where
   pub stands : Stands p (cells header.blk_sz (classed chunks))
   pub blocks : n ≡ held_in (classed chunks)
 
--- the first fault of x, behind what stands; the first byte that differs; or a device has failed
+-- the first fault of x, after what is stored; the first byte that differs; or a device has failed
 abbrev pub IsNotThere : Type 0 → VerifyFault → List ℕ → List ℕ → Type 0
 IsNotThere failed (verifies.Sparse f) x p = RefusedVerify true f p x
 IsNotThere failed (verifies.Differs n) x p = Different true n p x
@@ -36,7 +36,7 @@ IsNotThere failed (verifies.Read d) x p = failed
 IsNotThere failed (verifies.PartitionRead d) x p = failed
 IsNotThere failed f x p = ⊥
 
--- what the call answers
+-- what the call returns
 abbrev pub Finds : Type 0 → Result ℕ SparseCommandFault → List ℕ → List ℕ → Type 0
 Finds failed (Ok n) x p = IsThere n x p
 Finds failed (Err (faults.Verify f)) x p = IsNotThere failed f x p
@@ -58,7 +58,7 @@ IsNotThereRaw failed (verifies.Read d) b x p = failed
 IsNotThereRaw failed (verifies.PartitionRead d) b x p = failed
 IsNotThereRaw failed f b x p = ⊥
 
--- what the call answers
+-- what the call returns
 abbrev pub FindsRaw : Type 0 → Result ℕ SparseCommandFault → ℕ → List ℕ → List ℕ → Type 0
 FindsRaw failed (Ok n) b x p = IsThereRaw n b x p
 FindsRaw failed (Err (faults.Verify f)) b x p = IsNotThereRaw failed f b x p
@@ -78,8 +78,7 @@ pub record VerifiesRawFile (size : ℕ) (input partition : List ℕ) (world : Wo
   pub both : OfBoth input partition world (IsThereRaw blocks size)
   pub shown : shows (line_text (lines.Blocks blocks) ++ (10 ∷ []))
 
--- why the command is refused: for what both files hold; or a file or a device has failed, or all was compared, but its
--- line is untold
+-- why the command fails: for what both files hold; or a file or a device has failed; or only its line failed
 abbrev pub RefusesVerify : SparseCommandFault → List ℕ → List ℕ → World → OpenFiles → OpenFiles → (List ℕ → Type 0)
     → Type 0
 RefusesVerify (faults.Verify f) input partition world held held' untold =

@@ -1,4 +1,4 @@
-//! Each block of a raw image to a partition.
+//! Writes each block of a raw image to a partition.
 
 ghost use Rattle.std.specs.Prelude.{◌≡◌, ◌≤◌, ◌<◌, ◌+◌, ◌*◌, IsTrue, OnOk, IfOk};
 ghost use Rattle.abt_flash.specs.Raw.{IsFilled};
@@ -12,8 +12,8 @@ use abt_io::{CopyFault, Meter, Partition, Source, Window};
 use abt_runs::{BlockRuns, RawRuns, RunFault};
 use cmd_common_sparse::SparseCommandFault;
 
-/// Flashes each block of a raw image once, from the first to the last, and then syncs. How many they were. Nothing is
-/// written of an image that has no such blocks, or that the partition has no room for.
+/// Flashes each block of a raw image once, from the first to the last, and then syncs. Returns the number of blocks.
+/// Nothing is written for an image that has no such blocks, or for which the partition has no room.
 pub(crate) fn flash_blocks<S: Source, P: Partition>(
     source: &mut S,
     size: u32,

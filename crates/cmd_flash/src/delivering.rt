@@ -1,4 +1,4 @@
-//! The pieces of an image to a partition, by the engine.
+//! Writes the pieces of an image to a partition, by one call of the engine.
 
 ghost use Rattle.std.specs.Prelude.{◌≡◌, ◌≤◌, ◌<◌, ◌+◌, ◌-◌, [], IsTrue, OnOk};
 ghost use Rattle.cmd_flash.specs.InPieces.{DeliversPieces, SyncsPieces};

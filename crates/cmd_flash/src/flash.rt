@@ -1,4 +1,4 @@
-//! The command `flash` of a sparse image that goes straight to a partition.
+//! The command `flash` of a sparse image that is written straight to a partition.
 
 ghost use Rattle.std.specs.Prelude.{◌≡◌, ◌+◌, ◌<◌, IsTrue, OnOk, IfErr};
 ghost use Rattle.sys_refusals.specs.Paths.{path_in, path_of};
@@ -27,16 +27,16 @@ pub fn flash_file<'a, D: Disk>(
     m: &mut Meter,
 ) -> Result<(), SparseRefusal<'a>>
     requires ready { IsTrue D.models → HasNoPart (D.held disk.old) }
-    // PARTITION holds what flashing IN leaves of what it held, and is synced; what was printed tells of it
+    // PARTITION holds the result of flashing IN over what it held, and is synced; the line has its number of blocks
     ensures done { IsTrue D.models → OnOk result (FlashesFile (path_in input.entry) (path_of partition.entry)
         (D.world disk.old) (D.world disk.new) (D.held disk.old).syncs (D.held disk.new).syncs
         (ShowsBeside (D.on_output (path_of partition.entry)) report.old report.new)) }
-    // whatever comes, PARTITION alone may hold anything else, and IN holds what it held; and where it is done nothing
-    // has failed
+    // whatever the outcome, only PARTITION may hold anything else, IN holds what it held; after an Ok nothing has
+    // failed
     ensures leaves { IsTrue D.models → LeavesOthers result (SparesOthers (path_of partition.entry) (D.world disk.old)
         (D.world disk.new)) (path_in input.entry) (D.held disk.old) (D.held disk.new) (D.world disk.old)
         (D.world disk.new) }
-    // it is refused for the first fault that IN has, for want of room, or where a file, a device or the report failed
+    // it fails for the first fault of IN, for lack of room, or where a file, a device or the report failed
     ensures refused { IsTrue D.models → IfErr result (λ refusal. RefusesFlash refusal.fault (path_in input.entry)
         (path_of partition.entry) (D.world disk.old) (D.world disk.new) (D.held disk.old) (D.held disk.new)
         (Unprinted report.old report.new)) }

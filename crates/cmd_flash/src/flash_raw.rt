@@ -1,4 +1,4 @@
-//! The command `flash` of a raw image that goes straight to a partition.
+//! The command `flash` of a raw image that is written straight to a partition.
 
 ghost use Rattle.std.specs.Prelude.{IsTrue, OnOk, IfErr};
 ghost use Rattle.sys_refusals.specs.Paths.{path_of};
@@ -15,8 +15,8 @@ use sys_disk::{Disk, closed};
 use sys_refusals::{FileArg, Sides};
 use sys_report::{Carried, Report};
 
-/// Flashes a raw image in blocks of so many bytes to a partition, which must be there, and prints how many they were. It
-/// is read once, at any place, so that standard input will do only where it is a file.
+/// Flashes a raw image in blocks of this many bytes to a partition, which must exist, and prints how many blocks
+/// these were. The image is read once, at any position, so standard input must be a file.
 #[inline(never)]
 pub fn flash_raw_file<'a, D: Disk>(
     disk: &mut D,
@@ -28,16 +28,16 @@ pub fn flash_raw_file<'a, D: Disk>(
     m: &mut Meter,
 ) -> Result<(), SparseRefusal<'a>>
     requires ready { IsTrue D.models → HasNoPart (D.held disk.old) }
-    // PARTITION holds IN in whole blocks at its front, and is synced; what was printed tells of it
+    // PARTITION begins with IN in whole blocks, and is synced; the printed line has its number of blocks
     ensures done { IsTrue D.models → OnOk result (FlashesRawFile size (path_of input.entry) (path_of partition.entry)
         (D.world disk.old) (D.world disk.new) (D.held disk.old).syncs (D.held disk.new).syncs
         (ShowsBeside (D.on_output (path_of partition.entry)) report.old report.new)) }
-    // whatever comes, PARTITION alone may hold anything else, and IN holds what it held; and where it is done nothing
-    // has failed
+    // whatever the outcome, only PARTITION may hold anything else, IN holds what it held; after an Ok nothing has
+    // failed
     ensures leaves { IsTrue D.models → LeavesOthers result (SparesOthers (path_of partition.entry) (D.world disk.old)
         (D.world disk.new)) (path_of input.entry) (D.held disk.old) (D.held disk.new) (D.world disk.old)
         (D.world disk.new) }
-    // it is refused for its blocks, for want of room, or where a file, a device or the report failed
+    // it fails for its blocks, for lack of room, or where a file, a device or the report failed
     ensures refused { IsTrue D.models → IfErr result (λ refusal. RefusesFlashRaw refusal.fault size
         (path_of input.entry)
         (path_of partition.entry) (D.world disk.old) (D.world disk.new) (D.held disk.old) (D.held disk.new)

@@ -1,4 +1,4 @@
-//! A source that is laid over the front of a partition.
+//! Writes a source over the beginning of a partition.
 
 ghost use Rattle.std.specs.Prelude.{◌≡◌, ◌≤◌, ◌<◌, ◌+◌, ◌-◌, ◌^◌, IsTrue, OnOk, IfOk, length, take, drop, replicate};
 ghost use Rattle.std.specs.Prelude.{IfErr, slice_range};
@@ -10,8 +10,8 @@ ghost use Rattle.cmd_flash.specs.Laying.{OnlyLays, torn_by};
 
 use abt_io::{CopyFault, Meter, Partition, Source, WINDOW, Window, write_all_at};
 
-/// Lays all bytes of a source over the front of a partition, and zeros behind them up to this length. Zeros and equal
-/// words are read as all else is, so nothing is faster than to write them as they come.
+/// Overwrites the beginning of a partition with all bytes of a source, and with zeros after them up to this length.
+/// Zeros and equal words are read like all other data, so nothing is faster than to write them as they come.
 pub(crate) fn lay_filled<S: Source, P: Partition>(
     source: &mut S,
     need: u64,
@@ -38,7 +38,7 @@ pub(crate) fn lay_filled<S: Source, P: Partition>(
     }
 }
 
-// Lays the bytes of a source over the front of a partition.
+// Overwrites the beginning of a partition with the bytes of a source.
 fn lay_source<S: Source, P: Partition>(
     source: &mut S,
     held: u64,
@@ -66,7 +66,7 @@ fn lay_source<S: Source, P: Partition>(
     Ok(())
 }
 
-// Reads at most so many bytes at a place, by one read, and writes what came to the same place. How many they were.
+// Reads at most this many bytes at a position, by one read, and writes them to the same position. Returns their number.
 fn lay_step<S: Source, P: Partition>(
     source: &mut S,
     at: u64,

@@ -1,16 +1,19 @@
 //! The commands `flash`, straight to a partition or in pieces, `verify` and `list`, over any disk.
 //!
-//! Each says what it leaves of files, whatever comes, and what it prints. At a disk that tells what its files hold, as
-//! `MemoryDisk`, every clause speaks; the program's own disk tells nothing.
+//! The contract of each command states what it leaves of files, whatever the outcome, and what it prints. Every
+//! clause applies to a disk that models the contents of its files, such as `MemoryDisk`. The program's own disk
+//! models nothing.
 //!
-//! | file | has |
+//! | file | content |
 //! |---|---|
-//! | `flash.rt`, `flash_raw.rt` | an image straight to a partition, sparse or raw |
-//! | `blocks.rt`, `flash_source.rt` | each block of a raw image to a partition; a source over its front |
-//! | `pieces.rt`, `through.rt` | an image in pieces, and the file that they go through, which is closed behind them |
-//! | `delivering.rt` | the pieces, by the engine |
-//! | `verify.rt` | whether an image stands on a partition |
-//! | `list.rt` | the header and the chunks of a sparse image |
+//! | `flash.rt`, `flash_raw.rt` | `flash` of a sparse or a raw image, straight to a partition |
+//! | `blocks.rt` | writing each block of a raw image to a partition |
+//! | `flash_source.rt` | writing a source over the beginning of a partition |
+//! | `pieces.rt` | `flash` of an image in pieces |
+//! | `through.rt` | writing pieces through a file, which is closed after them |
+//! | `delivering.rt` | the engine's call that writes the pieces |
+//! | `verify.rt` | `verify`: whether a partition holds an image |
+//! | `list.rt` | `list`: the header and the chunks of a sparse image |
 #![tactic(auto)]
 
 mod blocks;

@@ -1,4 +1,4 @@
-//! The command `list`: the header and the chunks of a sparse image.
+//! The command `list`: prints the header and the chunks of a sparse image.
 
 ghost use Rattle.std.specs.Prelude.{◌≡◌, ◌<◌, ◌++◌, [], IsTrue, OnOk, IfErr};
 ghost use Rattle.sys_refusals.specs.Paths.{path_in};
@@ -27,10 +27,10 @@ pub fn list_file<'a, D: Disk>(
     // what was printed are the header and the chunks of the image that IN holds
     ensures done { IsTrue D.models → OnOk result (OfFile (path_in input.entry) (D.world disk.old) (λ x.
         IsListed x (λ text. report.new.out.log.state.bytes ≡ report.old.out.log.state.bytes ++ text))) }
-    // every file stays as it is; and where it is done nothing has failed
+    // every file stays as it is; after an Ok nothing has failed
     ensures leaves { LeavesAll D.models result (D.held disk.old) (D.held disk.new) (D.world disk.old)
         (D.world disk.new) }
-    // it is refused for the first fault that IN has, or where its file failed, or the report
+    // it fails for the first fault of IN, or where its file failed, or the report
     ensures refused { IsTrue D.models → IfErr result (λ refusal. RefusesList refusal.fault (path_in input.entry)
         (D.world disk.old) (D.held disk.old) (D.held disk.new)
         (report.old.out.faults.number < report.new.out.faults.number)) }
@@ -51,7 +51,7 @@ pub fn list_file<'a, D: Disk>(
     }
 }
 
-// Prints the listing of an image, each line at once where it is awaited.
+// Prints the listing of an image, each line at once where the reader waits for it.
 fn listed<I: Input, O: Output>(
     from: &mut I,
     out: &mut O,

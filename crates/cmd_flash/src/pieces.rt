@@ -1,4 +1,4 @@
-//! The command `flash` of an image in pieces that go through a file.
+//! The command `flash` of an image in pieces, which are written through a file.
 
 ghost use Rattle.std.specs.Prelude.{◌≡◌, ◌≤◌, ◌-◌, max, [], None, IsTrue, OnOk, IfErr};
 ghost use Rattle.sys_refusals.specs.Paths.{path_of};
@@ -16,10 +16,10 @@ use sys_disk::{Disk, closed};
 use sys_refusals::{FileArg, Sides};
 use sys_report::{Carried, Report};
 
-/// Flashes an image in pieces of at most so many bytes, from this one on, to a partition, which must be there, and
-/// prints how many they were. The image is read at any place, so that standard input will do only where it is a file.
+/// Flashes an image in pieces of at most this many bytes, from this piece on, to a partition, which must exist, and
+/// prints how many pieces these were. The image is read at any position, so standard input must be a file.
 ///
-/// Of a raw image the size of its blocks and the limit are judged before SPOOL is created or emptied.
+/// For a raw image the size of its blocks and the limit are checked before SPOOL is created or emptied.
 #[inline(never)]
 pub fn flash_pieces_file<'a, D: Disk>(
     disk: &mut D,
@@ -34,16 +34,16 @@ pub fn flash_pieces_file<'a, D: Disk>(
     m: &mut Meter,
 ) -> Result<(), SparseRefusal<'a>>
     requires ready { IsTrue D.models → MayFlashPieces (D.held disk.old) }
-    // PARTITION holds what it held under the blocks of the pieces, and is synced; what was printed tells of them
+    // PARTITION holds what it held, overwritten by the blocks of the pieces, and is synced; the line has their number
     ensures done { IsTrue D.models → OnOk result (FlashesPieces raw limit (max 1 from - 1) (path_of input.entry)
         (path_of partition.entry) (path_of spool.entry) (D.world disk.old) (D.world disk.new) (D.held disk.old)
         (D.held disk.new) (ShowsBeside (D.on_output (path_of partition.entry)) report.old report.new)) }
-    // whatever comes, PARTITION and SPOOL alone may hold anything else, and IN holds what it held; and where it is done
+    // whatever the outcome, only PARTITION and SPOOL may hold anything else, and IN holds what it held; after an Ok
     // nothing has failed
     ensures leaves { IsTrue D.models → LeavesOthers result (SparesBoth (path_of partition.entry) (path_of spool.entry)
         (D.world disk.old) (D.world disk.new)) (path_of input.entry) (D.held disk.old) (D.held disk.new)
         (D.world disk.old) (D.world disk.new) }
-    // it is refused for what IN is, for its limits, or where a file, a device or the report failed
+    // it fails for what IN is, for its limits, or where a file, a device or the report failed
     ensures refused { IsTrue D.models → IfErr result (λ refusal. RefusesPieces refusal.fault raw limit (max 1 from - 1)
         (path_of input.entry) (path_of partition.entry) (path_of spool.entry) (D.world disk.old) (D.world disk.new)
         (D.held disk.old) (D.held disk.new) (Unprinted report.old report.new)) }
@@ -87,7 +87,7 @@ pub fn flash_pieces_file<'a, D: Disk>(
     Ok(())
 }
 
-// Whether an image can be cut so, where that can be told before it is read: a raw one.
+// Fails where a raw image can't be cut like this. Of a sparse image this is not known before it is read.
 fn cuttable<S: Source>(source: &S, raw: Option<u32>, limit: u32) -> Result<(), SparseCommandFault>
     ensures { IsTrue S.models → IfErr result (λ fault. IsUncuttable raw fault limit (S.content source.now)) }
 {

@@ -1,4 +1,4 @@
-//! The pieces of an image to a partition, through a file that is closed behind them.
+//! Writes the pieces of an image to a partition, through a file that is closed after them.
 
 ghost use Rattle.std.specs.Prelude.{◌≡◌, ◌≤◌, ◌<◌, ◌+◌, ◌-◌, [], IfErr, IfOk, IsTrue, OnErr, OnOk, Some, None, false};
 ghost use Rattle.sys_disk.specs.World.{SparesRest};
@@ -53,8 +53,8 @@ pub(crate) fn delivered_through<'a, D: Disk>(
     (told_of(answer, from, cause), why)
 }
 
-// Why what was delivered is not so: the spool was closed behind it, and refused to be read where IN had changed. And the
-// system's error, where a call of the spool had failed, or this one did.
+// Why the pieces were not delivered after all: closing the spool failed, or the spool did not let them be read
+// because IN had changed. Also returns the system's error where a call of the spool had failed, or this one did.
 fn late<'a>(closed: Result<bool, HostRefusal<'a>>, why: Option<i32>) -> (Option<Cause>, Option<i32>)
     ensures settled { OnErr closed.entry (result.0 ≡ Some (Cause.SpoolWrite DeviceFault.Failed)) }
     ensures changed { IfOk closed.entry (λ is_changed. IsTrue is_changed → result.0 ≡ Some Cause.SourceChanged) }
@@ -70,8 +70,8 @@ fn late<'a>(closed: Result<bool, HostRefusal<'a>>, why: Option<i32>) -> (Option<
     }
 }
 
-// What is told of pieces from this one on, where there is a cause that came before what stopped them. A piece whose
-// bytes could not all be written to the spool stopped for that, since whatever else stopped it came later.
+// The result of delivering pieces from this one on, where there may be a cause that came before what stopped them. A
+// piece whose bytes could not all be written to the spool stopped for that, since any other cause came later.
 fn told_of(
     delivered: Result<Delivered, FlashFault>,
     from: u32,

@@ -1,4 +1,4 @@
-//! The command `verify`: whether an image stands on a partition.
+//! The command `verify`: whether a partition holds an image.
 
 ghost use Rattle.std.specs.Prelude.{◌≡◌, ◌<◌, ◌+◌, [], IsTrue, OnOk, IfErr, is_ok};
 ghost use Rattle.sys_refusals.specs.Paths.{path_in, path_of};
@@ -15,8 +15,8 @@ use sys_disk::{Disk, Measured, Reasons};
 use sys_refusals::{FileArg, HostRefusal, Sides};
 use sys_report::{Carried, Report};
 
-/// Compares a sparse image with what stands on a partition, and prints how many blocks of it were compared. The image is
-/// read forward, so that it may be a pipe.
+/// Compares a sparse image with what a partition holds, and prints how many blocks of it were compared. The image is
+/// read forward, so it may be a pipe.
 #[inline(never)]
 pub fn verify_file<'a, D: Disk>(
     disk: &mut D,
@@ -27,13 +27,13 @@ pub fn verify_file<'a, D: Disk>(
     m: &mut Meter,
 ) -> Result<(), SparseRefusal<'a>>
     requires first { IsTrue D.models → (D.held disk.old).begun ≡ [] }
-    // the image that IN holds stands on PARTITION, and what was printed tells of it
+    // PARTITION holds the image that IN holds; the printed line has its number of blocks
     ensures done { IsTrue D.models → OnOk result (VerifiesFile (path_in input.entry) (path_of partition.entry)
         (D.world disk.old) (ShowsHere report.old report.new)) }
-    // every file stays as it is; and where it is done nothing has failed
+    // every file stays as it is; after an Ok nothing has failed
     ensures leaves { LeavesAll D.models result (D.held disk.old) (D.held disk.new) (D.world disk.old)
         (D.world disk.new) }
-    // it is refused for the first byte that differs or the first fault that IN has, or where a file or the report failed
+    // it fails for the first byte that differs or the first fault of IN, or where a file or the report failed
     ensures refused { IsTrue D.models → IfErr result (λ refusal. RefusesVerify refusal.fault (path_in input.entry)
         (path_of partition.entry) (D.world disk.old) (D.held disk.old) (D.held disk.new)
         (Unprinted report.old report.new)) }
@@ -63,8 +63,7 @@ pub fn verify_file<'a, D: Disk>(
     Ok(())
 }
 
-/// The same of a raw image in blocks of so many bytes. It is read at any place, so that standard input will do only
-/// where it is a file.
+/// The same for a raw image in blocks of this many bytes. It is read at any position: standard input must be a file.
 #[inline(never)]
 pub fn verify_raw_file<'a, D: Disk>(
     disk: &mut D,
@@ -76,13 +75,13 @@ pub fn verify_raw_file<'a, D: Disk>(
     m: &mut Meter,
 ) -> Result<(), SparseRefusal<'a>>
     requires first { IsTrue D.models → (D.held disk.old).begun ≡ [] }
-    // each byte of IN stands on PARTITION, and what was printed tells of it
+    // PARTITION holds each byte of IN; the printed line has its number of blocks
     ensures done { IsTrue D.models → OnOk result (VerifiesRawFile size (path_of input.entry) (path_of partition.entry)
         (D.world disk.old) (ShowsHere report.old report.new)) }
-    // every file stays as it is; and where it is done nothing has failed
+    // every file stays as it is; after an Ok nothing has failed
     ensures leaves { LeavesAll D.models result (D.held disk.old) (D.held disk.new) (D.world disk.old)
         (D.world disk.new) }
-    // it is refused for the first byte that differs, for the size of blocks, or where a file or the report failed
+    // it fails for the first byte that differs, for the size of blocks, or where a file or the report failed
     ensures refused { IsTrue D.models → IfErr result (λ refusal. RefusesVerifyRaw refusal.fault size
         (path_of input.entry) (path_of partition.entry) (D.world disk.old) (D.held disk.old) (D.held disk.new)
         (Unprinted report.old report.new)) }
@@ -125,7 +124,7 @@ fn unchanged_behind<'a, D: Disk>(
     }
 }
 
-// How many blocks were compared. (What the engine promises of costs is left behind here, so that no exit above is proved
+// How many blocks were compared. (What the engine promises of costs is dropped here, so that no exit above is proved
 // with it.)
 fn compared<I: Input, S: Source>(
     from: &mut Carried<'_, I>,

@@ -1,4 +1,4 @@
--- What a check finds, and which faults are told.
+-- What a check finds, and which faults are reported.
 use Rattle.std.proofs.Common.{◌≡◌, ◌<◌, ◌+◌, ◌⊎◌, inl, inr, ℕ, List, Some, Bool, true, false, IsTrue, ◌&&◌, Result}
 use Rattle.std.proofs.Common.{Ok, Err, refl, sym, ◌∙◌, ap, subst, arith}
 use Rattle.std.proofs.lemmas.Bool.{true≢false}
@@ -115,13 +115,13 @@ pub flaw_told : (v : Verdict) (failed unprinted : Type 0) (fault : BootCommandFa
     → is_good v ≡ false → IsCheckRefusal v failed unprinted fault
 flaw_told v failed unprinted fault same bad = subst (λ g. IsCheckRefusal v failed unprinted g) (sym same) bad
 
--- what could not be printed behind a text that was
+-- what could not be printed after a text that was
 pub cannot_behind : (old between new : Report) → between.out.faults.number ≡ old.out.faults.number
     → between.err.faults.number ≡ old.err.faults.number → between.unshown.number ≡ old.unshown.number
     → CannotPrint between new → CannotPrint old new
 cannot_behind old between new out err unshown cannot = omega (arith, out, err, unshown, cannot)
 
--- of the check, behind the text
+-- of the check, after the text
 pub checked : (x : List ℕ) (o : Notation) (with_check : Bool) (v : Verdict) (r q r' : ℕ) (old new : Report)
     (U : Type 0) (fault : BootCommandFault) → IsTrue with_check → q ≡ r → TellsText o x old new
     → (is_good v ≡ false → IsFlawedImage x) → (U → CannotPrint old new)

@@ -1,4 +1,4 @@
--- What the command `info` prints, and why it is refused.
+-- What the command `info` prints, and why it fails.
 use Rattle.std.specs.Prelude.{◌≡◌, ◌<◌, ◌⊎◌, ℕ, List, Some, Bool, true, false, not, IsTrue, ◌&&◌}
 use Rattle.sys_disk.specs.World.{World}
 use Rattle.sys_refusals.specs.declared.refusal.HostFault.{HostFault}
@@ -45,7 +45,7 @@ pub record TellsText (o : Notation) (x : List ℕ) (old new : Report) : Type 0 w
   pub between : Report
   pub text : Reports o x old.out.log.state.bytes between.out.log.state.bytes
 
--- it did, and nothing else without the check; with the check, all answers are yes
+-- it was printed, and without the check nothing else; with the check, all answers are yes
 pub record TellsImage (o : Notation) (with_check : Bool) (x : List ℕ) (old new : Report) : Type 0 where
   pub told : TellsText o x old new
   pub alone : with_check ≡ false → told.between ≡ new
@@ -58,13 +58,13 @@ pub record TellsFile (input : List ℕ) (o : Notation) (with_check : Bool) (worl
   pub there : world.at input ≡ Some file
   pub told : TellsImage o with_check (world.holds file) old new
 
--- ---- refusals
+-- ---- why it fails
 
 -- standard output failed
 abbrev pub OutFailed : Report → Report → Type 0
 OutFailed old new = old.out.faults.number < new.out.faults.number
 
--- the bytes x have this fault; or the source or standard output has; or what was found of the answers differs from them
+-- the bytes x have this fault; or the source or standard output has; or the reasons contradict the answers
 abbrev pub IsInfoFault : List ℕ → Bool → Type 0 → Report → Report → SectionFault → Type 0
 IsInfoFault x with_check failed old new (sections.Read f) = failed
 IsInfoFault x with_check failed old new (sections.Write f) = OutFailed old new
@@ -76,7 +76,7 @@ IsInfoFault x with_check failed old new sections.CommandLine = ⊥
 IsInfoFault x with_check failed old new (sections.SectionTruncated s) = RefusedAs x (sections.SectionTruncated s)
 IsInfoFault x with_check failed old new (sections.SectionTooLarge s) = ⊥
 
--- of the image x: such a fault; or its text was printed, and a line behind it could not be, or an answer is no
+-- of the image x: such a fault; or its text was printed, and a line after it could not be, or an answer is no
 abbrev pub IsInfoRefusal : List ℕ → Notation → Bool → Type 0 → Report → Report → BootCommandFault → Type 0
 IsInfoRefusal x o with_check failed old new (faults.Host f) =
     IsTrue with_check × TellsText o x old new × CannotPrint old new

@@ -1,4 +1,4 @@
-//! The command `info`: what the header of a boot image says, and what checking it finds.
+//! The command `info`: prints the values of a boot image's header, and the result of checking the image.
 
 ghost use Rattle.std.specs.Prelude.{◌≡◌, IsTrue, IfErr, OnOk};
 ghost use Rattle.sys_refusals.specs.Paths.{path_of};
@@ -13,11 +13,11 @@ use sys_disk::Disk;
 use sys_refusals::{FileArg, Refusal};
 use sys_report::Report;
 
-/// How the command ended: the file that it is about is named at `'t`, and its words at `'a`.
+/// The result of the command: the file that it concerns lives for `'t`, and its arguments for `'a`.
 pub type InfoOutcome<'t, 'a> = Result<(), Refusal<'t, BootCommandFault<'a>>>;
 
-/// Prints what the header of an image file says. With the check it also prints the reason of each answer that is no,
-/// and is refused where there is one.
+/// Prints the values of an image file's header. With the check it also prints the reason of each answer that is no,
+/// and fails where there is one.
 pub fn info_file<'t, 'a, D: Disk>(
     disk: &mut D,
     report: &mut Report,
@@ -35,7 +35,7 @@ pub fn info_file<'t, 'a, D: Disk>(
     ensures leaves { LeavesAll D.models result (D.held disk.old) (D.held disk.new) (D.world disk.old)
         (D.world disk.new) }
     ensures begun { IsTrue D.models → (D.held disk.new).begun ≡ (D.held disk.old).begun }
-    // it is refused for a fault that IN has, for an answer that is no, or since a call or standard output failed
+    // it fails for a fault of IN, for an answer that is no, or since a call or standard output failed
     ensures refused { IsTrue D.models → IfErr result (λ refusal. RefusesInfo (path_of input.entry)
         (notation_of with_hex)
         with_check (D.world disk.old) (HasFailed (D.held disk.old) (D.held disk.new)) report.old report.new

@@ -1,11 +1,11 @@
-//! The body of the command `info`, over any disk.
+//! The command `info`, over any disk.
 //!
-//! What is proved of it says what it prints of the file that a disk holds; over the disk in memory each clause speaks.
+//! Its contracts state what it prints of the file that a disk holds. Every clause applies to the disk in memory.
 //!
-//! | file | has |
+//! | file | content |
 //! |---|---|
-//! | `info.rt` | the command |
-//! | `telling.rt` | what it prints of an image |
+//! | `info.rt` | the command `info` |
+//! | `telling.rt` | printing the text of an image |
 #![tactic(auto)]
 
 mod info;

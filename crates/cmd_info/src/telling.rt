@@ -1,4 +1,4 @@
-//! What `info` prints of an image.
+//! Prints the text of an image for `info`.
 
 ghost use Rattle.std.specs.Prelude.{◌≡◌, ◌<◌, ◌&&◌, IsTrue, IfErr, OnOk, OnErr};
 ghost use Rattle.sys_report.specs.Shows.{CannotPrint};
@@ -13,7 +13,7 @@ use cmd_common_texts::{InfoReport, Notation, report_info};
 use sys_refusals::{FileArg, HostRefusal, Refusal, Sides};
 use sys_report::Report;
 
-/// Prints what the header of an image says, and maybe why answers of the check are no.
+/// Prints the values of an image's header, and with the check why its answers are no.
 pub(crate) fn tell_image<'t, 'a, S: Source>(
     source: &mut S,
     report: &mut Report,
@@ -43,7 +43,7 @@ pub(crate) fn tell_image<'t, 'a, S: Source>(
     }
 }
 
-// Prints why an answer is no, and is refused where there is one.
+// Prints why an answer is no, and fails where there is one.
 fn tell_check<'t, 'a, S: Source>(
     told: &InfoReport,
     source: &mut S,

@@ -59,7 +59,7 @@ pub opened_none : {X E : Type 0} (r : Result X E) (fs : List FragmentText) (w : 
 opened_none (Ok x) fs w h h' none same = opens_none (IsFragmentInput fs) w h h' same (no_fragments fs none)
 opened_none (Err e) fs w h h' none same = tt
 
--- where no path is named, it is not for one that a call was refused
+-- where no path is named, no call failed because of one
 pub none_stops : {X E : Type 0} (r : Result X E) (fault : E → HostFault) (B : List ℕ → Type 0) (h h' : OpenFiles)
     → IfErr r (λ e. StopsOpening no_path h h' (fault e)) → IfErr r (λ e. StopsOpening B h h' (fault e))
 none_stops (Ok x) fault B h h' stops = tt
@@ -105,7 +105,7 @@ opens_given texts kind w w' h h' h'' h3 same a b last = subst (OpensMore (IsGive
 pub none_unread : (a b c d : ℕ) → a ≡ 0 → b ≡ 0 → c ≡ 0 → d ≡ 0 → a + b + c + d ≡ 0
 none_unread a b c d e f g h = omega (arith, e, f, g, h)
 
--- ---- why not all is at hand
+-- ---- why the data is incomplete
 
 outside_host : (fault : BootCommandFault) (f : HostFault) → fault ≡ faults.Host f → IsOutsideBoot fault
 outside_host fault f same = subst IsOutsideBoot (sym same) tt
@@ -165,7 +165,7 @@ behind_stops command w x h kind k k' k'' k3 v f fault a b more same =
 
 -- ---- the image is written
 
--- all is at hand: what packing is given, of which these are the bytes that are written and what packing refuses
+-- the data is complete: what packing is given, the bytes that it writes of it, and its fault
 pub record Ready (command : PackCommand) (x : List ℕ) (h : Header) (w w' : World) (k k' : OpenFiles) (bytes : List ℕ)
     (refusal : Option SectionFault) : Type 0 where
   pub same : w' ≡ w

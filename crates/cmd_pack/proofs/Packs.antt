@@ -73,7 +73,7 @@ pub board_stops : (A : List ℕ → Type 0) (words words' : List (List ℕ)) (m 
 board_stops A words words' m n h h' f bad named same =
     refusing.wrong_board (subst (λ k. IsBadBoard words' k f) same (subst (λ ws. IsBadBoard ws m f) named bad))
 
--- the files of fragments, behind those of parts
+-- the files of fragments, after those of parts
 pub fragments_stop : (texts : PackTexts) (kind : ImageKind) (words : List (List ℕ)) (count : ℕ) (w : World)
     (h h' h'' : OpenFiles) (k : HostFault) (f : BootCommandFault)
     → OpensMore (IsPartInput texts.options.items (part_sections kind)) w h h'
@@ -197,7 +197,7 @@ synced_behind : (A : List ℕ → Type 0) (w : World) (h h' h'' : OpenFiles) →
     → h''.syncs ≡ h'.syncs + (if h'.is_synced then 1 else 0) → h''.syncs ≡ h.syncs + (if h.is_synced then 1 else 0)
 synced_behind A w h h' h'' opens synced = synced ∙ ap (λ k. k.syncs + (if k.is_synced then 1 else 0)) opens.taken
 
--- the image was written behind the opening of its parts
+-- the image was written after the opening of its parts
 pub left_behind : {X F : Type 0} (r : Result X F) (A : List ℕ → Type 0) (q path : List ℕ) (over : List ℕ → Bool)
     (W : List ℕ → Type 0) (bytes : List ℕ) (w w' v : World) (h h' h'' : OpenFiles) → q ≡ path → w' ≡ w
     → OpensMore A w h h'
@@ -228,7 +228,7 @@ pub given_kind : (k k' : ImageKind) (page : Option ℕ) (options : List OptionTe
     → AreGiven no_fields k page options given → AreGiven no_fields k' page options given
 given_kind k k' page options given same are = subst (λ q. AreGiven no_fields q page options given) same are
 
--- ---- why it is refused
+-- ---- why it fails
 
 pub refuses_words : (command : PackCommand) (w : World) (h : OpenFiles) (Done : Type 0) (f g : BootCommandFault)
     → IsWrong no_fields (asked_kind command) command.texts.options.items command.texts.fragments.items f → g ≡ f

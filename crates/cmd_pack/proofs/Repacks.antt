@@ -170,7 +170,7 @@ module _ (input : List ℕ) (command : PackCommand) (x : List ℕ) (image : Imag
       (subst (λ v. RefusesAgain command x (view_of image.header) v w2 (HasFailed h h3) Done' fault) first
       (again_more command x (view_of image.header) w1 w2 P (HasFailed h h3) Done Done' fault why more done)))
 
--- all that has failed is counted where the image is let go
+-- all that has failed is counted where the image is closed
 pub failed_all : (path bytes : List ℕ) (w : World) (h h1 h2 h3 : OpenFiles) (r r' : ℕ) → OpensFile w path bytes h h1
     → r ≡ 0
     → SomeFailed h1 r h2 r' → h3 ≡ failing r' h2 → HasFailed h h3
@@ -196,7 +196,7 @@ keeps_read input command w w' same = record {
   given = λ x h b path given file there. ap (λ v. v.holds file) same;
 }
 
--- ---- a note behind the line
+-- ---- a note after the line
 
 pub grown_thrice : (z a b c d m n o : List ℕ) → a ≡ z → b ≡ a ++ m → c ≡ b ++ n → d ≡ c ++ o → d ≡ z ++ (m ++ (n ++ o))
 grown_thrice z a b c d m n o start first next last = last ∙ ap (λ x. x ++ o) (next ∙ ap (λ x. x ++ n) (first

@@ -1,4 +1,4 @@
--- Where the parts of a boot image are loaded, of which it may have no bytes.
+-- The load addresses of the parts of a boot image, which may have no bytes.
 use Rattle.std.specs.Prelude.{ℕ, Bool, ◌&&◌, ◌==◌, nat_lt, List, [], length, slice_index_or, if◌then◌else◌}
 use Rattle.std.specs.Prelude.{◌≡◌, IsTrue, Result, IfOk, OnOk}
 use Rattle.sys_disk.specs.World.{World, OpenFiles}
@@ -27,7 +27,7 @@ address_where counts is_empty address = if counts && is_empty then 0 else addres
 abbrev pub address_at : Bool → List ℕ → ℕ → ℕ
 address_at counts part address = address_where counts (length part == 0) address
 
--- the fields that were given, with those addresses: where the ramdisk's counts from a base, and the second stage's
+-- the given fields, with those addresses: where the ramdisk's counts from a base, and the second stage's
 abbrev pub loaded_where : ImageKind → Bool → Bool → List (List ℕ) → BootFields → BootFields
 loaded_where (Boot n) of_ramdisk of_second parts s = record s {
   ramdisk_addr = address_at of_ramdisk (ramdisk_in parts) s.ramdisk_addr;
@@ -35,7 +35,7 @@ loaded_where (Boot n) of_ramdisk of_second parts s = record s {
 }
 loaded_where (Vendor n) of_ramdisk of_second parts s = s
 
--- the same, as the options say
+-- the same, with what the options set
 abbrev pub loaded_at : ImageKind → List OptionText → List (List ℕ) → BootFields → BootFields
 loaded_at kind options parts s =
     loaded_where kind (is_sum (words_for options Ramdisk)) (is_sum (words_for options Second)) parts s

@@ -18,8 +18,8 @@ use Rattle.cmd_pack_outputs.specs.Lines.{image_line, counted_in_u64}
 use Rattle.cmd_pack_inputs.specs.Parts.{ArePartsOf, AreFragmentsOf, IsGivenPath}
 use Rattle.cmd_pack_outputs.specs.Writing.{HoldsNoPartOf}
 
--- These are packed for an image of a kind that has these fields: its parts, by the options, its ramdisk fragments, and
--- the board ids that the words set. An image of its own may have parts, `own`, and fragments, `Fragments`.
+-- These are packed for an image of a kind that has these fields: its parts, by the options, its ramdisk fragments,
+-- and the board ids that the arguments set. The image may have parts of its own, `own`, and fragments, `Fragments`.
 pub record ArePacked (world : World) (texts : PackTexts) (words : List (List ℕ)) (own : Section → List ℕ → Type 0)
     (Fragments : List FragmentSpec → List (List ℕ) → Type 0) (kind : ImageKind) (given : BootFields) (p : Packing)
     : Type 0 where
@@ -29,26 +29,25 @@ pub record ArePacked (world : World) (texts : PackTexts) (words : List (List ℕ
   pub boards : AreSet words said p.specs
   pub loaded : cmd_common_fields p.fields ≡ loaded_at kind texts.options.items p.parts given
 
--- ---- of the words of `pack`
+-- ---- of the arguments of `pack`
 
--- the kind of image that they ask for
+-- the kind of image that they describe
 abbrev pub asked_kind : PackCommand → ImageKind
 asked_kind command = kind_for command.is_vendor command.version
 
 abbrev pub board_id_words : PackCommand → List (List ℕ)
 board_id_words command = map (λ word. word.now) command.board_ids.items
 
--- nothing stands in a section that no file was given for
+-- a section for which no file was given has no bytes
 abbrev pub nothing : Section → List ℕ → Type 0
 nothing section bytes = bytes ≡ []
 
--- what they ask for, of these fields and of what the files hold that they name
+-- what they describe, from these fields and from the contents of the files that they name
 abbrev pub AreAskedFor : PackCommand → World → BootFields → Packing → Type 0
 AreAskedFor command world given p = ArePacked world command.texts (board_id_words command) nothing
     (AreFragmentsOf world command.texts.fragments.items) (asked_kind command) given p
 
--- The image that the words ask for: of the kind that they say, with the fields that they give, of what the files hold
--- that they name.
+-- The image that the arguments describe: of their kind and fields, from the contents of the files that they name.
 pub record IsPackedBy (command : PackCommand) (world : World) (bytes : List ℕ) : Type 0 where
   pub known : IsTrue (is_version command.is_vendor command.version)
   pub given : BootFields
@@ -57,8 +56,8 @@ pub record IsPackedBy (command : PackCommand) (world : World) (bytes : List ℕ)
   pub asked : AreAskedFor command world given packing
   pub is : bytes ≡ image_from (asked_kind command) packing
 
--- OUT's file holds the image that the words ask for, no other file has changed, none that the words name is OUT's, and
--- the line that was printed has the image's number of bytes
+-- OUT's file holds the image that the arguments describe. No other file has changed, and no file that the arguments
+-- name is OUT's. The line that was printed has the image's number of bytes.
 pub record PacksFile (command : PackCommand) (old new : World) (shows : List ℕ → Type 0) : Type 0 where
   pub onto : ℕ
   pub here : new.at (output_path command.output.now) ≡ Some onto
@@ -71,7 +70,7 @@ pub record PacksFile (command : PackCommand) (old new : World) (shows : List ℕ
 abbrev pub HoldsNoPart : PackCommand → World → World → Type 0
 HoldsNoPart command old new = HoldsNoPartOf (output_path command.output.now) (IsPackedBy command old) old new
 
--- and each file that the words name holds what it held
+-- and each file that the arguments name holds what it held
 abbrev pub KeepsGiven : PackCommand → World → World → Type 0
 KeepsGiven command old new =
     (path : List ℕ) → IsGivenPath command.texts (asked_kind command) path → KeepsFile path old new

@@ -1,4 +1,4 @@
--- Why the commands `pack` and `repack` are refused: each fault is so.
+-- Why the commands `pack` and `repack` fail: each fault has its cause.
 use Rattle.std.specs.Prelude.{◌≡◌, ℕ, List, length, Some}
 use Rattle.std.specs.Str.{IsUtf8}
 use Rattle.sys_disk.specs.World.{World, OpenFiles, HasFailed}
@@ -26,7 +26,7 @@ pub data StopsFilling (named : List ℕ → Type 0) (words : List (List ℕ)) (c
   no_memory : fault ≡ faults.Host hosts.Memory → StopsFilling named words count held held' fault
   wrong_board : IsBadBoard words count fault → StopsFilling named words count held held' fault
 
--- packing refuses what the words ask for: of these fields and of the sizes of the parts
+-- packing what the arguments describe fails, because of these fields and of the sizes of the parts
 pub record IsNotPacked (command : PackCommand) (world : World) (f : SectionFault) : Type 0 where
   pub given : BootFields
   pub are_given : AreGiven no_fields (asked_kind command) command.page command.texts.options.items given
@@ -34,16 +34,16 @@ pub record IsNotPacked (command : PackCommand) (world : World) (f : SectionFault
   pub asked : AreAskedFor command world given packing
   pub refused : refusal_from (asked_kind command) packing ≡ Some f
 
--- Why `pack` is refused, of these worlds before and behind it. Done says that all was done.
+-- Why `pack` fails, with these worlds before and after it. Done states that everything was done.
 pub data RefusesPack (command : PackCommand) (old new : World) (held held' : OpenFiles) (Done : Type 0)
     (fault : BootCommandFault) : Type 0 where
-  -- the words are wrong, before anything is opened
+  -- the arguments are wrong, before anything is opened
   wrong_words : IsWrong no_fields (asked_kind command) command.texts.options.items command.texts.fragments.items fault
       → held' ≡ held → new ≡ old → RefusesPack command old new held held' Done fault
   -- a board id is, before OUT is opened
   bad_board : IsBadBoard (board_id_words command) (length command.texts.fragments.items) fault → new ≡ old
       → RefusesPack command old new held held' Done fault
-  -- packing refuses it, before OUT is opened
+  -- packing fails, before OUT is opened
   not_packed : (f : SectionFault) → fault ≡ faults.Section f → IsNotPacked command old f → new ≡ old
       → RefusesPack command old new held held' Done fault
   -- a path is no UTF-8, before OUT is opened

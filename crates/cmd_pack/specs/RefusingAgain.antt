@@ -1,4 +1,4 @@
--- Why the command `repack` is refused: each fault is so.
+-- Why the command `repack` fails: each fault has its cause.
 use Rattle.std.specs.Prelude.{◌≡◌, ℕ, List, length, Some}
 use Rattle.std.specs.Str.{IsUtf8}
 use Rattle.sys_disk.specs.World.{World, OpenFiles, HasFailed}
@@ -22,12 +22,12 @@ use Rattle.cmd_pack_inputs.specs.BadBoards.{IsBadBoard}
 use Rattle.cmd_pack.specs.Repacking.{AreAskedAgain, AreFieldsAgain, AreFragmentsAgain, BeginsWith}
 use Rattle.cmd_common_boot.specs.Fault.{IsOutsideBoot}
 
--- the words are wrong of an image with this header
+-- the arguments are wrong for an image with this header
 abbrev pub IsWrongAgain : PackCommand → Header → BootCommandFault → Type 0
 IsWrongAgain command h fault =
     IsWrong (own_fields h) (kind_of h) command.texts.options.items command.texts.fragments.items fault
 
--- a word of `--board-id` is wrong of the fragments that are packed
+-- an argument of `--board-id` is wrong for the fragments that are packed
 pub record IsBadBoardAgain (command : PackCommand) (world : World) (x : List ℕ) (h : Header) (fault : BootCommandFault)
     : Type 0 where
   pub said : List FragmentSpec
@@ -35,7 +35,7 @@ pub record IsBadBoardAgain (command : PackCommand) (world : World) (x : List ℕ
   pub fragments : AreFragmentsAgain world command.texts.fragments.items x h said ramdisks
   pub bad : IsBadBoard (board_id_words command) (length said) fault
 
--- packing refuses what the words ask for, of the image x: of these fields and of the sizes of the parts
+-- packing what the arguments describe fails, of the image x: because of these fields and of the sizes of the parts
 pub record IsNotRepacked (command : PackCommand) (world : World) (x : List ℕ) (h : Header) (f : SectionFault) : Type 0
   where
     pub given : BootFields
@@ -44,15 +44,15 @@ pub record IsNotRepacked (command : PackCommand) (world : World) (x : List ℕ) 
     pub asked : AreAskedAgain command world x h given packing
     pub refused : refusal_from (kind_of h) packing ≡ Some f
 
--- why an image x with this header is not packed again. Failed says that a call or a device has failed, Done that all
--- was done.
+-- why an image x with this header is not packed again. Failed states that a call or a device has failed, Done that
+-- everything was done.
 pub data RefusesAgain (command : PackCommand) (x : List ℕ) (h : Header) (old new : World) (Failed Done : Type 0)
     (fault : BootCommandFault) : Type 0 where
-  -- a word is wrong, before OUT is opened
+  -- an argument is wrong, before OUT is opened
   wrong_words : IsWrongAgain command h fault → new ≡ old → RefusesAgain command x h old new Failed Done fault
   wrong_board : IsBadBoardAgain command old x h fault → new ≡ old
       → RefusesAgain command x h old new Failed Done fault
-  -- packing refuses it, before OUT is opened
+  -- packing fails, before OUT is opened
   not_packed : (f : SectionFault) → fault ≡ faults.Section f → IsNotRepacked command old x h f → new ≡ old
       → RefusesAgain command x h old new Failed Done fault
   -- a path is no UTF-8, before OUT is opened
@@ -65,8 +65,8 @@ pub data RefusesAgain (command : PackCommand) (x : List ℕ) (h : Header) (old n
   -- all is done, and the line could not be printed
   untold : (f : HostFault) → fault ≡ faults.Host f → Done → RefusesAgain command x h old new Failed Done fault
 
--- Why `repack` is refused: IN could not be read or is no image, before anything is opened to be written; or what its
--- file holds is not packed again.
+-- Why `repack` fails: IN could not be read or is no image, before anything is opened for writing; or the contents of
+-- its file are not packed again.
 pub data RefusesRepack (input : List ℕ) (command : PackCommand) (old new : World) (held held' : OpenFiles)
     (Done : Type 0)
     (fault : BootCommandFault) : Type 0 where
@@ -78,8 +78,8 @@ pub data RefusesRepack (input : List ℕ) (command : PackCommand) (old new : Wor
 
 -- ---- on the way
 
--- why not all is at hand that an image is packed from again: a call failed, a path is no UTF-8, there is no memory,
--- or a board id is wrong
+-- why the data from which an image is packed again is incomplete: a call failed, a path is no UTF-8, there is no
+-- memory, or a board id is wrong
 pub data StopsFillingAgain (command : PackCommand) (world : World) (x : List ℕ) (h : Header) (Failed : Type 0)
     (fault : BootCommandFault) : Type 0 where
   unopened : IsOutsideBoot fault → Failed → StopsFillingAgain command world x h Failed fault

@@ -33,17 +33,17 @@ pub record AreOwnFragments (x : List ℕ) (h : Header) (said : List FragmentSpec
     pub specs : said ≡ map said_of (entries_to x h (fragment_count h))
     pub bytes : ramdisks ≡ map (fragment_bytes x h) (entries_to x h (fragment_count h))
 
--- the fragments that were given, and where none was, those of the image
+-- the given fragments, and where none was given, those of the image
 abbrev pub AreFragmentsAgain : World → List FragmentText → List ℕ → Header → List FragmentSpec → List (List ℕ) → Type 0
 AreFragmentsAgain world [] x h said ramdisks = AreOwnFragments x h said ramdisks
 AreFragmentsAgain world (text ∷ texts) x h said ramdisks = AreFragmentsOf world (text ∷ texts) said ramdisks
 
--- what the words ask for, and what the image x has where they give nothing
+-- what the arguments describe, and what the image x has where they give nothing
 abbrev pub AreAskedAgain : PackCommand → World → List ℕ → Header → BootFields → Packing → Type 0
 AreAskedAgain command world x h given p = ArePacked world command.texts (board_id_words command) (StandsIn x h)
     (AreFragmentsAgain world command.texts.fragments.items x h) (kind_of h) given p
 
--- the fields that the words give, and else those of the header
+-- the fields that the arguments give, and else those of the header
 abbrev pub AreFieldsAgain : PackCommand → Header → BootFields → Type 0
 AreFieldsAgain command h given = AreGiven (own_fields h) (kind_of h) command.page command.texts.options.items given
 
@@ -52,8 +52,7 @@ pub record BeginsWith (input : List ℕ) (world : World) (x : List ℕ) (h : Hea
   pub file : FileHolds world input x
   pub has : HasImage x h
 
--- the image of IN's kind: of the fields, parts and fragments that the words give, and else of its own; and behind it
--- what stands behind IN's, where that is kept
+-- the image of IN's kind: from the given fields, parts and fragments, and else IN's own; then the kept bytes after IN's
 pub record IsPackedAgain (command : PackCommand) (x : List ℕ) (h : Header) (world : World) (bytes : List ℕ) : Type 0
   where
     pub given : BootFields
@@ -62,12 +61,12 @@ pub record IsPackedAgain (command : PackCommand) (x : List ℕ) (h : Header) (wo
     pub asked : AreAskedAgain command world x h given packing
     pub is : bytes ≡ image_from (kind_of h) packing ++ kept_behind command.keeps_trailing x h
 
--- a file that is read: IN, or one that the words name
+-- a file that is read: IN, or one that the arguments name
 abbrev pub IsReadPath : List ℕ → PackCommand → Header → List ℕ → Type 0
 IsReadPath input command h path = (path ≡ input) ⊎ IsGivenPath command.texts (kind_of h) path
 
--- OUT's file holds what the image x is packed again to, no other file has changed, OUT's is none that is read or that
--- the words name, and the line that was printed has its number of bytes
+-- OUT's file holds the image to which the image x is packed again. No other file has changed. OUT's file is none that
+-- is read or that the arguments name. The line that was printed has its number of bytes.
 pub record PacksAgain (command : PackCommand) (x : List ℕ) (h : Header) (read : List ℕ) (old new : World)
     (shows : List ℕ → Type 0) : Type 0 where
   pub onto : ℕ
@@ -78,7 +77,7 @@ pub record PacksAgain (command : PackCommand) (x : List ℕ) (h : Header) (read 
   pub spares : Spares onto old new
   pub shown : shows (image_line (counted_in_u64 (length (new.holds onto))) ++ (10 ∷ []))
 
--- each file that the words name holds what it held
+-- each file that the arguments name holds what it held
 abbrev pub KeepsGivenAgain : PackCommand → Header → World → World → Type 0
 KeepsGivenAgain command h old new =
     (path : List ℕ) → IsGivenPath command.texts (kind_of h) path → KeepsFile path old new
@@ -101,7 +100,7 @@ pub record RepacksFile (input : List ℕ) (command : PackCommand) (old new : Wor
 abbrev pub HasNote : Report → Report → Type 0
 HasNote old new = IsNoted old new × ((note : List ℕ) × (new.err.log.state.bytes ≡ old.err.log.state.bytes ++ note))
 
--- this went out beside an output, and maybe a note behind it
+-- this was printed beside an output, and maybe a note after it
 pub record ShowsFirst (is_on_output : Bool) (old new : Report) (told : List ℕ) : Type 0 where
   pub between : Report
   pub line : ShowsBeside is_on_output old between told
@@ -119,15 +118,15 @@ abbrev pub HoldsNoPartAgain : List ℕ → PackCommand → World → World → T
 HoldsNoPartAgain input command old new =
     HoldsNoPartOf (output_path command.output.now) (IsRepackedOf input command old) old new
 
--- and IN's file and each that the words name hold what they held
+-- and IN's file and each that the arguments name hold what they held
 pub record KeepsRead (input : List ℕ) (command : PackCommand) (old new : World) : Type 0 where
   pub input_kept : KeepsFile input old new
   pub given : (x : List ℕ) (h : Header) → BeginsWith input old x h → KeepsGivenAgain command h old new
 
 -- ---- on the way
 
--- an image was opened that is packed again, whose kind is this: the fragments that are given are taken by that, and
--- where none is given, all entries of the image's table are kept
+-- an image that is packed again was opened, whose kind is this: that kind takes the given fragments, and where none
+-- is given, all entries of the image's table are kept
 pub record IsAtHand {S : Type 0} (models : Bool) (content : S → List ℕ) (own : Own S) (kept : OwnData)
     (texts : PackTexts)
     (its_kind : ImageKind) : Type 0 where

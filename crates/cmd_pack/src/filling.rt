@@ -1,4 +1,4 @@
-//! All that an image is written from, put together.
+//! Combines the data from which an image is written.
 
 ghost use Rattle.std.specs.Prelude.{◌≡◌, ◌==◌, [], IsTrue, Bool, length, map, slice_index_or};
 ghost use Rattle.abt_sections.specs.Fields.{cmd_common_fields};
@@ -14,7 +14,7 @@ use cmd_pack_inputs::Ramdisks;
 use cmd_pack_outputs::ImageContents;
 use sys_disk::Lasting;
 
-/// An image of this kind, with these fields and parts, and what stands behind it.
+/// An image of this kind, with these fields and parts, and the bytes after it.
 pub(crate) fn filled<'f, 't, S: Source + Lasting + Drop>(
     kind: ImageKind,
     fields: BootSpec<'f>,
@@ -76,7 +76,7 @@ fn loaded<'f, P: Source>(
     }
 }
 
-// An address, in whose place mkbootimg's 0 stands where it counts from a base and its part has no bytes.
+// An address. It is mkbootimg's 0 where it counts from a base and its part has no bytes.
 fn address(given: u32, counts: bool, is_empty: bool) -> u32
     ensures { result ≡ address_where counts is_empty given }
 {

@@ -1,13 +1,12 @@
-//! The bodies of the commands `pack` and `repack`, over any disk.
+//! The commands `pack` and `repack`, over any disk.
 //!
-//! What is proved of a body says what it leaves of the files of a disk that tells what they hold; over the disk in
-//! memory each clause speaks.
+//! Their contracts state what they leave of the files of a disk that models their contents, such as the one in memory.
 //!
-//! | file | has |
+//! | file | content |
 //! |---|---|
 //! | `pack.rt`, `repack.rt` | the command of that name |
-//! | `filling.rt` | all that the image is written from, put together |
-//! | `telling.rt` | what is told of what was left out |
+//! | `filling.rt` | combining the data from which the image is written |
+//! | `telling.rt` | reporting what was left out |
 #![tactic(auto)]
 
 mod filling;

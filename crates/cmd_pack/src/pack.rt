@@ -1,4 +1,4 @@
-//! The command `pack`: a boot image or a vendor boot image of its parts.
+//! The command `pack`: makes a boot image or a vendor boot image from its parts.
 
 ghost use Rattle.std.specs.Prelude.{◌≡◌, ◌+◌, [], IsTrue, IfErr, IfOk, OnOk, length};
 ghost use Rattle.std.specs.List.{All};
@@ -26,9 +26,9 @@ use sys_disk::Disk;
 use sys_refusals::Refusal;
 use sys_report::Report;
 
-/// Packs the image that the words ask for, and prints how many bytes it has.
+/// Packs the image that the arguments describe, and prints how many bytes it has.
 ///
-/// The words are judged before any file is opened, and the parts are open before OUT is created or emptied.
+/// The arguments are checked before any file is opened, and the parts are open before OUT is created or emptied.
 pub fn pack_file<'t, 'a, D: Disk>(
     disk: &mut D,
     report: &mut Report,
@@ -37,18 +37,18 @@ pub fn pack_file<'t, 'a, D: Disk>(
     m: &mut Meter,
 ) -> BootOutcome<'t, 'a>
     requires first { IsTrue D.models → IsReading (D.held disk.old) }
-    // OUT is another file than those that are given, and holds the image that the words ask for, of what these hold;
-    // what was printed tells of it, on standard error where OUT is where standard output goes
+    // OUT is another file than the given ones, and holds the image that the arguments describe, of what these files
+    // hold; the printed line has its size, on standard error where OUT is where standard output goes
     ensures done { IsTrue D.models → OnOk result (PacksFile command.now (D.world disk.old) (D.world disk.new)
         (ShowsBeside (D.on_output (output_path command.now.output.now)) report.old report.new)) }
-    // whatever the outcome, OUT alone may hold anything else, the given files hold what they held, and OUT's file has
-    // no part of an image; and where it is done no call failed
+    // whatever the outcome, only OUT may hold anything else, the given files hold what they held, and OUT's file has
+    // no part of an image; after an Ok no call failed
     ensures left { IsTrue D.models → LeavesOut result (output_path command.now.output.now)
         (D.is_over (output_path command.now.output.now)) (IsPackedBy command.now (D.world disk.old))
         (D.held disk.old) (D.held disk.new) (D.world disk.old) (D.world disk.new) }
     ensures inputs { IsTrue D.models → KeepsGiven command.now (D.world disk.old) (D.world disk.new) }
-    // each fault is so: of the words before anything is opened, of what is packed before OUT is; or a call has failed;
-    // or all is done and the line was refused
+    // each fault has its cause: in the arguments, before anything is opened; in what is packed, before OUT is; or a
+    // call has failed; or everything was done and the line failed
     ensures refused { IsTrue D.models → IfErr result (λ refusal. RefusesPack command.now (D.world disk.old)
         (D.world disk.new) (D.held disk.old) (D.held disk.new) (PacksFile command.now (D.world disk.old)
         (D.world disk.new) (Unprinted report.old report.new)) refusal.fault) }

@@ -1,4 +1,4 @@
-//! The command `repack`: an image with other parts and fields, all else kept.
+//! The command `repack`: packs an image with other parts and fields, and keeps everything else.
 
 ghost use Rattle.std.specs.Prelude.{◌≡◌, ◌+◌, ◌++◌, [], IsTrue, IfErr, IfOk, OnOk, map};
 ghost use Rattle.sys_disk.specs.World.{HasFailed, IsReading};
@@ -41,10 +41,10 @@ use sys_disk::Disk;
 use sys_refusals::{FileArg, HostRefusal, Refusal, Sides};
 use sys_report::Report;
 
-/// Packs an image again, of which parts and fields may be given, and prints how many bytes it has.
+/// Packs an image again, with the given parts and fields replaced, and prints how many bytes it has.
 ///
-/// The image and the parts are open before OUT is created or emptied. Bytes of the image that packing has no place for
-/// are counted on standard error.
+/// The image and the parts are open before OUT is created or emptied. Bytes of the image for which the packed image
+/// has no place are counted on standard error.
 pub fn repack_file<'t, 'a, D: Disk>(
     disk: &mut D,
     report: &mut Report,
@@ -54,19 +54,19 @@ pub fn repack_file<'t, 'a, D: Disk>(
     m: &mut Meter,
 ) -> BootOutcome<'t, 'a>
     requires first { IsTrue D.models → IsReading (D.held disk.old) }
-    // OUT is another file than IN and those that are given, and holds what IN's image is packed again to; what was
-    // printed tells of it, on standard error where OUT is where standard output goes
+    // OUT is another file than IN and the given ones, and holds the image that IN's image is packed to; the printed
+    // line has its size, on standard error where OUT is where standard output goes
     ensures done { IsTrue D.models → OnOk result (RepacksFile (path_of input.entry) command.now (D.world disk.old)
         (D.world disk.new) (ShowsFirst (D.on_output (output_path command.now.output.now)) report.old report.new)) }
-    // whatever the outcome, OUT alone may hold anything else, IN and the given files hold what they held, and OUT's
-    // file has no part of an image; and where it is done no call failed
+    // whatever the outcome, only OUT may hold anything else, IN and the given files hold what they held, and OUT's
+    // file has no part of an image; after an Ok no call failed
     ensures left { IsTrue D.models → LeavesOut result (output_path command.now.output.now)
         (D.is_over (output_path command.now.output.now)) (IsRepackedOf (path_of input.entry) command.now
         (D.world disk.old)) (D.held disk.old) (D.held disk.new) (D.world disk.old) (D.world disk.new) }
     ensures inputs { IsTrue D.models → KeepsRead (path_of input.entry) command.now (D.world disk.old)
         (D.world disk.new) }
-    // each fault is so: of IN's bytes, of the words or of what is packed before OUT is opened; or a call has failed; or
-    // all is done and the line was refused
+    // each fault has its cause: in IN's bytes, in the arguments or in what is packed, before OUT is opened; or a call
+    // has failed; or everything was done and the line failed
     ensures refused { IsTrue D.models → IfErr result (λ refusal. RefusesRepack (path_of input.entry) command.now
         (D.world disk.old) (D.world disk.new) (D.held disk.old) (D.held disk.new) (RepacksFile (path_of input.entry)
         command.now (D.world disk.old) (D.world disk.new) (Unprinted report.old report.new)) refusal.fault) }
@@ -86,7 +86,7 @@ pub fn repack_file<'t, 'a, D: Disk>(
     }
 }
 
-// Packs the image that is open again, and answers what is left out of it.
+// Packs the open image again, and returns what is left out of it.
 fn pack_again<'t, 'a, D: Disk>(
     disk: &mut D,
     report: &mut Report,
@@ -125,7 +125,7 @@ fn pack_again<'t, 'a, D: Disk>(
     }
 }
 
-// A fault of the words, where the image is at hand.
+// A fault of the arguments, where the image is open.
 fn of_own<'t, 'a>(
     input: FileArg<'t>,
     fault: BootCommandFault<'a>,
@@ -135,7 +135,7 @@ fn of_own<'t, 'a>(
     Sides::none().reading(input, None).refuse(fault)
 }
 
-// Writes the image again, as it is told.
+// Writes the image again, as the arguments describe it.
 fn write_again<'t, 'a, D: Disk>(
     disk: &mut D,
     report: &mut Report,
@@ -180,7 +180,7 @@ fn write_again<'t, 'a, D: Disk>(
     }
 }
 
-// All that the image is written from: what was given, and else its own.
+// The data from which the image is written: what was given, and else the image's own.
 fn contents_of<'t, 'f, 'a, D: Disk>(
     disk: &mut D,
     own: &Own<'t, D::At>,
@@ -224,7 +224,7 @@ fn contents_of<'t, 'f, 'a, D: Disk>(
     }
 }
 
-// The fragments that were given, and else its own.
+// The given fragments, or else the image's own.
 fn ramdisks_of<'t, D: Disk>(
     disk: &mut D,
     alloc: Global,

@@ -1,4 +1,4 @@
-//! What is told of an image that was packed again, beside its line.
+//! What is reported of an image that was packed again, beside its line.
 
 ghost use Rattle.cmd_pack.specs.Repacking.{HasNote};
 
@@ -7,7 +7,7 @@ use std::fmt;
 use sys_report::Report;
 use sys_text::Text;
 
-/// Tells on standard error what was left out, if anything was.
+/// Reports on standard error what was left out, if anything was.
 pub(crate) fn tell_left_out(report: &mut Report, left: LeftOut)
     ensures { HasNote report.old report.new }
 {

@@ -49,7 +49,7 @@ more_sections rows i d there =
     ap (map (λ (r : PartRow). r.section)) (take_more rows i d there)
     ∙ map-append (λ (r : PartRow). r.section) (take i rows) (get_or rows i d ∷ [])
 
--- behind one row more: these are the parts of the rows so far
+-- after one row more: these are the parts of the rows so far
 pub parts_so_far : {P : Type 0} (content : P → List ℕ) (w w' : World) (o : List OptionText)
     (own : Section → List ℕ → Type 0) (rows : List PartRow) (i : ℕ) (d : PartRow) (ps ps' : List P) (p : P)
     → i < length rows → All (λ (r : PartRow). r.option.now ≡ option_of r.section) rows → ps' ≡ ps ++ (p ∷ []) → w' ≡ w

@@ -66,7 +66,7 @@ failed_still A w h h' a = ap (λ k. k.failed) a.taken
 
 -- ---- why a file was not opened
 
--- a call of the disk was refused
+-- a call of the disk failed
 pub stops_once : (A : List ℕ → Type 0) (h h' : OpenFiles) (f : HostFault) → h' ≡ failing 1 h → StopsOpening A h h' f
 stops_once A h h' f now = failed (let e : h'.failed ≡ h.failed + 1 = ap (λ k. k.failed) now in omega (arith, e))
 
@@ -76,7 +76,7 @@ stops_more A B h h' f (failed more) wider = failed more
 stops_more A B h h' f (no_text path is bad told) wider = no_text path (wider path is) bad told
 stops_more A B h h' f (no_memory told) wider = no_memory told
 
--- behind others that were
+-- after others that were
 pub stops_then : (A B C : List ℕ → Type 0) (w : World) (h h' h'' : OpenFiles) (f : HostFault) → OpensMore A w h h'
     → StopsOpening B h' h'' f → ((p : List ℕ) → B p → C p) → StopsOpening C h h'' f
 stops_then A B C w h h' h'' f a (failed more) wider =

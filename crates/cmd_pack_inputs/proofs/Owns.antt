@@ -25,7 +25,7 @@ use Rattle.cmd_common_findings.specs.LeftOut.{end_of}
 use Rattle.cmd_common_findings.specs.Places.{first_place_of, stands_at}
 use Rattle.cmd_pack_inputs.specs.Own.{AllEndBehind, EndsBehind, entries_to}
 
--- ---- where it stands
+-- ---- its position
 
 found_is : (b : Bool) (q place : SectionPlace) (r : Option SectionPlace) (P : SectionPlace → Type 0)
     → cond b (Some q) r ≡ Some place → P q
@@ -58,7 +58,7 @@ lies p (q ∷ ps) n place e there =
     found_is (p q) q place (find p ps) (λ r. 0 < r.size → r.at + r.size ≤ n) e (ends_within n q inside.0)
     (λ f. lies p ps n place f inside.1)
 
--- ---- behind the image
+-- ---- after the image
 
 -- ---- the vendor ramdisk
 

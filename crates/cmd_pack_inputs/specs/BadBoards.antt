@@ -1,11 +1,11 @@
--- Which words of `--board-id` are wrong.
+-- Which arguments of `--board-id` are wrong.
 use Rattle.std.specs.Prelude.{◌<◌, ℕ, List, Contains}
 use Rattle.cmd_common_fields.specs.Board.{BoardFits, IsBoardWord}
 use Rattle.cmd_common_fields.specs.declared.board_word.BoardWord.{BoardWord}
 use Rattle.cmd_common_boot.specs.declared.fault.BootCommandFault.{BootCommandFault}
 use Rattle.cmd_common_boot.specs.declared.fault.BootCommandFault.TheVariants as faults
 
--- one of these words is no word of `--board-id`, or there is no fragment of so many that it is about
+-- one of these arguments is no argument of `--board-id`, or its fragment is none of this many
 pub record IsBadBoardId (words : List (List ℕ)) (count : ℕ) (word : List ℕ) : Type 0 where
   pub is_one : Contains words word
   pub sets_none : (b : BoardWord) → IsBoardWord word b → BoardFits b → b.fragment < count → ⊥

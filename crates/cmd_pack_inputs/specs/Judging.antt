@@ -1,4 +1,4 @@
--- Why the words are not taken by an image that is packed again, or it is not read again.
+-- Why an image that is packed again does not take the arguments, or is not read again.
 use Rattle.std.specs.Prelude.{◌≡◌, ◌<◌, IsTrue, Result, IfErr}
 use Rattle.abt_io.specs.Lent.{OnlyReads}
 use Rattle.abt_io.specs.declared.device.Source as sources
@@ -24,7 +24,7 @@ pub record ReadsOpened {X : Type 0} (r : Result X BootCommandFault) {S : Type 0}
   pub refused : IsTrue s.models → IsOpened (s.content old) image
       → IfErr r (IsUnread (s.read_faults old < s.read_faults new))
 
--- why the words are not taken by an image of this kind, or it is not read again
+-- why an image of this kind does not take the arguments, or it is not read again
 pub data StopsJudging (command : PackCommand) (kind : ImageKind) (Failed : Type 0) (fault : BootCommandFault) : Type 0
   where
     untaken : IsUntaken kind command.texts.options.items command.texts.fragments.items fault

@@ -1,4 +1,4 @@
--- Files that are opened to be read, one after another.
+-- Files that are opened for reading, one after another.
 use Rattle.std.specs.Prelude.{◌≡◌, ℕ, List, ◌++◌, Some, Contains, Bool, IsTrue, Result, IfOk, IfErr, OnOk, is_ok}
 use Rattle.std.specs.Str.{IsUtf8}
 use Rattle.sys_disk.specs.DiskCalls.{FailsOnly}
@@ -30,7 +30,7 @@ pub data StopsOpening (named : List ℕ → Type 0) (old new : OpenFiles) (fault
   no_text : (path : List ℕ) → named path → ¬ IsUtf8 path → fault ≡ hosts.CannotOpen → StopsOpening named old new fault
   no_memory : fault ≡ hosts.Memory → StopsOpening named old new fault
 
--- ---- what a call that opens them does, whatever it answers, as far as the disk tells
+-- ---- what a call that opens them does, whatever the result, where the disk models its files
 
 -- the file at this path is opened, and has not failed yet; nothing else is opened, and no file has changed
 pub record OpensOne {X F : Type 0} (models : Bool) (r : Result X F) (path : List ℕ) (its_content : X → List ℕ)
@@ -39,8 +39,8 @@ pub record OpensOne {X F : Type 0} (models : Bool) (r : Result X F) (path : List
   pub unread : IsTrue models → IfOk r (λ x. its_faults x ≡ 0)
   pub keeps : IsTrue models → OnlyOpens h h' old new
 
--- files at these paths are opened, of which none has failed yet: so many faults are of what was open before; or one of
--- them is not opened; no file has changed
+-- files at these paths are opened, of which none has failed yet: `before` counts the faults of what was open before;
+-- or one of them is not opened; no file has changed
 pub record OpensEach {X : Type 0} (models : Bool) (r : Result X HostRefusal) (named : List ℕ → Type 0)
     (its_faults : X → ℕ) (before : ℕ) (h h' : OpenFiles) (old new : World) : Type 0 where
   pub unread : IsTrue models → IfOk r (λ x. its_faults x ≡ before)
@@ -48,14 +48,14 @@ pub record OpensEach {X : Type 0} (models : Bool) (r : Result X HostRefusal) (na
   pub refused : IsTrue models → IfErr r (λ refusal. StopsOpening named h h' refusal.fault)
   pub keeps : IsTrue models → OnlyOpens h h' old new
 
--- a part of what is open already is opened, of which the bytes are such, and has not failed yet; or that is refused
+-- a part of what is already open is opened; its bytes satisfy `Holds`, and it has not failed yet; or opening it fails
 pub record OpensAgain {P F : Type 0} (models : Bool) (r : Result P F) (Holds : List ℕ → Type 0)
     (its_content : P → List ℕ) (its_faults : P → ℕ) (h h' : OpenFiles) (old new : World) : Type 0 where
   pub part : IsTrue models → IfOk r (λ p. Holds (its_content p))
   pub unread : IsTrue models → IfOk r (λ p. its_faults p ≡ 0)
   pub fails : FailsOnly models (unless (is_ok r)) h h' old new
 
--- the same of several parts, which have no paths
+-- the same for several parts, which have no paths
 pub record OpensOwn {X : Type 0} (models : Bool) (r : Result X HostRefusal) (its_faults : X → ℕ) (before : ℕ)
     (h h' : OpenFiles) (old new : World) : Type 0 where
   pub unread : IsTrue models → IfOk r (λ x. its_faults x ≡ before)

@@ -1,4 +1,4 @@
--- What an image has of its own, which is packed again.
+-- The own data of an image that is packed again.
 use Rattle.std.specs.Prelude.{◌≡◌, ◌<◌, ◌≤◌, ℕ, zero, suc, ◌+◌, List, [], ◌∷◌, ◌++◌, Bool, if◌then◌else◌, take, drop}
 use Rattle.std.specs.Prelude.{Option}
 use Rattle.std.specs.Prelude.{Some, None}
@@ -25,7 +25,7 @@ abbrev pub bytes_at : List ℕ → Option SectionPlace → List ℕ
 bytes_at x None = []
 bytes_at x (Some place) = part_of x place
 
--- the part that stands in a section of the image x, or no bytes
+-- the part in a section of the image x, or no bytes
 abbrev pub StandsIn : List ℕ → Header → Section → List ℕ → Type 0
 StandsIn x h section bytes = bytes ≡ bytes_at x (first_place_of h section)
 
@@ -40,7 +40,7 @@ abbrev pub IsOpenOwn : {S : Type 0} → (S → List ℕ) → Option (Bor (Own S)
 IsOpenOwn content None = Unit {0}
 IsOpenOwn content (Some own) = IsOpened (content own.now.source) own.now.image
 
--- what stands behind the image, where that is kept
+-- the bytes after the image, where they are kept
 abbrev pub kept_behind : Bool → List ℕ → Header → List ℕ
 kept_behind is_kept x h = if is_kept then drop (end_of h) x else []
 
@@ -50,7 +50,7 @@ abbrev pub or_zero : Option ℕ → ℕ
 or_zero None = 0
 or_zero (Some n) = n
 
--- the fields that a header has, and 0 in the place of others; the version is what its kind says
+-- the fields that a header has, and 0 in place of the others; the version is that of its kind
 abbrev pub own_fields : Header → BootFields
 own_fields h = record {
   version = 0;
@@ -72,7 +72,7 @@ abbrev pub entries_to : List ℕ → Header → ℕ → List RamdiskEntry
 entries_to x h zero = []
 entries_to x h (suc n) = entries_to x h n ++ (entry_of x h n ∷ [])
 
--- what an entry says of its fragment, beside its place and size
+-- what an entry holds of its fragment, beside its position and size
 abbrev pub said_of : RamdiskEntry → FragmentSpec
 said_of e = record { kind = e.ramdisk_type; name = e.name; board_id = e.board_id }
 
@@ -90,6 +90,6 @@ EndsBehind front n e = 0 < e.ramdisk_size → front + e.ramdisk_offset + e.ramdi
 abbrev pub AllEndBehind : ℕ → ℕ → List RamdiskEntry → Type 0
 AllEndBehind front n entries = All (EndsBehind front n) entries
 
--- the words name no path
+-- the arguments name no path
 abbrev pub no_path : List ℕ → Type 0
 no_path path = ⊥

@@ -1,4 +1,4 @@
--- What an image is packed from: the files that the words name, and else what an image has of its own.
+-- The inputs from which an image is packed: the files that the arguments name, and else the image's own data.
 use Rattle.std.specs.Prelude.{◌≡◌, ℕ, List, [], ◌∷◌, ◌++◌, Option, Some, None, Contains}
 use Rattle.abt_headers.specs.declared.sections.Section.{Section}
 use Rattle.abt_sections.specs.declared.spec.FragmentSpec.{FragmentSpec}
@@ -26,12 +26,12 @@ ArePartsOf world options own (section ∷ sections) (part ∷ parts) =
     IsPartBy world (found options (option_of section)) (own section) part
     × ArePartsOf world options own sections parts
 
--- what a FRAGMENT says, and what its file holds
+-- what a FRAGMENT describes, and what its file holds
 pub record IsFragmentOf (world : World) (text : FragmentText) (spec : FragmentSpec) (ramdisk : List ℕ) : Type 0 where
   pub said : text.spec ≡ Some spec
   pub holds : FileHolds world text.path.items ramdisk
 
--- the same of all, in order
+-- the same for all, in order
 abbrev pub AreFragmentsOf : World → List FragmentText → List FragmentSpec → List (List ℕ) → Type 0
 AreFragmentsOf world [] [] [] = Unit {0}
 AreFragmentsOf world (text ∷ texts) (spec ∷ specs) (ramdisk ∷ ramdisks) =
@@ -53,7 +53,7 @@ pub record IsPathOf (options : List OptionText) (name path : List ℕ) : Type 0 
   pub given : found options name ≡ Some option
   pub is_path : path ≡ option.bytes.items
 
--- of a file that the words name for one of these sections
+-- of a file that the arguments name for one of these sections
 pub record IsPartInput (options : List OptionText) (sections : List Section) (path : List ℕ) : Type 0 where
   pub section : Section
   pub is_one : Contains sections section
@@ -65,7 +65,7 @@ pub record IsFragmentInput (texts : List FragmentText) (path : List ℕ) : Type 
   pub is_one : Contains texts text
   pub is_path : path ≡ text.path.items
 
--- of a file that the words name for an image of this kind
+-- of a file that the arguments name for an image of this kind
 pub data IsGivenPath (texts : PackTexts) (kind : ImageKind) (path : List ℕ) : Type 0 where
   of_part : IsPartInput texts.options.items (part_sections kind) path → IsGivenPath texts kind path
   of_fragment : IsFragmentInput texts.fragments.items path → IsGivenPath texts kind path

@@ -1,4 +1,4 @@
-//! The fields that an image has of its own, where it is packed again.
+//! The own fields of an image that is packed again.
 
 ghost use Rattle.std.specs.Prelude.{◌≡◌, IfOk};
 ghost use Rattle.abt_sections.specs.Fields.{cmd_common_fields};

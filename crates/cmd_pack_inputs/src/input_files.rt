@@ -1,4 +1,4 @@
-//! The files of a command, as its words name them.
+//! The files of a command, as its arguments name them.
 
 ghost use Rattle.std.specs.Prelude.{◌≡◌};
 ghost use Rattle.sys_refusals.specs.Paths.{output_path, path_of, path_out};
@@ -17,7 +17,7 @@ pub(crate) fn file_at<'a>(role: &'a str, path: &'a str) -> FileArg<'a>
     }
 }
 
-/// The output that this word names.
+/// The output that this argument names.
 pub fn output_at<'a>(word: &'a str) -> FileArg<'a>
     ensures { path_out result ≡ output_path word.now }
 {

@@ -23,7 +23,7 @@ use cmd_common_findings::{LeftOut, count_left_out, in_no_fragment, place_of};
 use std::alloc::{AllocError, Global};
 use sys_refusals::HostFault;
 
-/// What an image that is packed again has, beside its sections.
+/// The own data of an image that is packed again, beside its sections.
 #[derive(Drop)]
 pub struct OwnData {
     /// The entries of its table, where its fragments are kept.
@@ -32,7 +32,7 @@ pub struct OwnData {
     pub left: LeftOut,
 }
 
-/// Judges the words by the image's kind, and counts what is left out of it.
+/// Checks the arguments for the image's kind, and counts what is left out of it.
 pub fn judged<'a, S: Source>(
     image: &Image,
     source: &mut S,

@@ -1,16 +1,17 @@
-//! What `pack` and `repack` pack an image from, over any disk: the files that the words name, each open to be read, and
-//! what an image that is packed again has of its own.
+//! The inputs from which `pack` and `repack` pack an image, over any disk. These are the files that the arguments
+//! name, each open for reading, and the image's own data where it is packed again.
 //!
-//! What the layer above relies on: `open_parts` and `open_fragments` open what the words name, and nothing else;
-//! `own_fields`, `own_fragments` and `trailing_of` answer what an image has of its own.
+//! The layers above rely on two facts:
+//! - `open_parts` and `open_fragments` open the files that the arguments name, and no others.
+//! - `own_fields`, `own_fragments` and `trailing_of` return the image's own data.
 //!
-//! | file | has |
+//! | file | content |
 //! |---|---|
-//! | `parts.rt`, `ramdisks.rt` | the parts and ramdisk fragments of one that is packed, each open to be read |
-//! | `own.rt`, `fields.rt` | an image that is read, and the fields that it has |
-//! | `own_ramdisks.rt` | the fragments that an image has of its own |
-//! | `kept.rt`, `given_parts.rt` | what `repack` keeps of it beside its sections, and what it leaves out |
-//! | `input_files.rt` | the files that the words name |
+//! | `parts.rt`, `ramdisks.rt` | the parts of the image and its ramdisk fragments, each open for reading |
+//! | `own.rt` | an image that is packed again, and the ranges that are read beside it |
+//! | `fields.rt`, `own_ramdisks.rt` | the own fields and the own fragments of that image |
+//! | `kept.rt`, `given_parts.rt` | what `repack` keeps beside its sections, what it leaves out, and what it replaces |
+//! | `input_files.rt` | the files that the arguments name |
 #![tactic(auto)]
 
 mod fields;

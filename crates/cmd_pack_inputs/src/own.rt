@@ -1,4 +1,4 @@
-//! An image that is open, and what is read beside it.
+//! An open image, and the ranges of it that are read beside it.
 
 ghost use Rattle.std.specs.Prelude.{◌≡◌, ◌+◌, ◌<◌, ◌≤◌, IsTrue, IfOk, IfErr, length, take, drop, []};
 ghost use Rattle.sys_disk.specs.World.{HasFailed};
@@ -58,7 +58,7 @@ pub fn open_own<'t, 'a, D: Disk>(
     }
 }
 
-/// So many bytes from a place on, to be read beside the image.
+/// This many bytes from a position on, to be read beside the image.
 pub(crate) fn range_of<'t, D: Disk>(
     disk: &mut D,
     own: &Own<'t, D::At>,
@@ -80,7 +80,7 @@ pub(crate) fn range_of<'t, D: Disk>(
     }
 }
 
-/// The part that stands in this section, where there is such an image and it has one.
+/// The part in this section, where there is such an image and it has one.
 pub(crate) fn own_part<'t, D: Disk>(
     disk: &mut D,
     own: Option<&Own<'t, D::At>>,
@@ -101,7 +101,7 @@ pub(crate) fn own_part<'t, D: Disk>(
     }
 }
 
-/// What stands behind the image, where that is kept.
+/// The bytes after the image, where they are kept.
 pub fn trailing_of<'t, D: Disk>(
     disk: &mut D,
     own: &Own<'t, D::At>,

@@ -1,4 +1,4 @@
-//! The ramdisk fragments that an image has of its own, each open to be read.
+//! The own ramdisk fragments of an image, each open for reading.
 
 ghost use Rattle.std.specs.Prelude.{◌≡◌, ◌+◌, ◌++◌, ◌∷◌, ◌<◌, ◌≤◌, ◌^◌, [], IsTrue, IfOk, length, map};
 ghost use Rattle.std.specs.Prelude.{take, drop};
@@ -44,7 +44,7 @@ pub fn own_fragments<'a, D: Disk>(
     }
 }
 
-// Those of an image whose vendor ramdisk begins here.
+// The fragments of an image whose vendor ramdisk begins here.
 fn with_entries<'a, D: Disk>(
     disk: &mut D,
     alloc: Global,

@@ -1,4 +1,4 @@
-//! The parts that an image is packed from, each open to be read.
+//! The parts from which an image is packed, each open for reading.
 
 ghost use Rattle.std.specs.Prelude.{◌≡◌, [], IsTrue, IfErr, IfOk, length, map};
 ghost use Rattle.abt_sections.specs.Cause.{total};
@@ -18,7 +18,7 @@ use std::alloc::Global;
 use sys_disk::Disk;
 use sys_refusals::{HostFault, HostRefusal};
 
-/// Opens the parts of an image of this kind: each is the file that was given, or else the image's own, or empty.
+/// Opens the parts of an image of this kind: each is the given file, or else the image's own part, or empty.
 pub fn open_parts<'t, D: Disk>(
     disk: &mut D,
     alloc: Global,
@@ -51,7 +51,7 @@ pub fn open_parts<'t, D: Disk>(
     Ok(parts)
 }
 
-// The file that was given, or else the image's own part.
+// The given file, or else the image's own part.
 fn open_part<'t, D: Disk>(
     disk: &mut D,
     row: PartRow,
@@ -73,7 +73,7 @@ fn open_part<'t, D: Disk>(
     }
 }
 
-/// Opens a file whose path is these bytes, which a word writes.
+/// Opens a file whose path is these bytes, which an argument encodes.
 pub(crate) fn open_file<'t, D: Disk>(
     disk: &mut D,
     role: &'static str,

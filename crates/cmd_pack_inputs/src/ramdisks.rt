@@ -1,4 +1,4 @@
-//! The ramdisk fragments of a vendor boot image, each open to be read.
+//! The ramdisk fragments of a vendor boot image, each open for reading.
 
 ghost use Rattle.std.specs.Prelude.{◌≡◌, ◌++◌, ◌∷◌, [], IsSome, IsTrue, IfErr, IfOk, length, map};
 ghost use Rattle.std.specs.List.{All};
@@ -16,7 +16,7 @@ use std::alloc::Global;
 use sys_disk::{Disk, Lasting};
 use sys_refusals::{HostFault, HostRefusal, Refusal};
 
-/// The fragments of a vendor ramdisk, each with what it is read from.
+/// The fragments of a vendor ramdisk, each with its source.
 #[derive(Drop)]
 pub struct Ramdisks<'a, S: Source + Lasting + Drop> {
     pub specs: Vec<FragmentSpec>,
@@ -60,7 +60,7 @@ impl<'a, S: Source + Lasting + Drop> Ramdisks<'a, S> {
         }
     }
 
-    /// These, with the numbers of board ids that the words set.
+    /// These, with the numbers of board ids that the arguments set.
     pub fn with_board_ids<'w>(
         self,
         words: &[&'w str],
@@ -79,7 +79,7 @@ impl<'a, S: Source + Lasting + Drop> Ramdisks<'a, S> {
     }
 }
 
-/// Opens the files that were given, in order.
+/// Opens the given files, in order.
 pub fn open_fragments<'a, D: Disk>(
     disk: &mut D,
     alloc: Global,

@@ -10,7 +10,7 @@ use Rattle.sys_disk.specs.World.{unended}
 use Rattle.sys_disk.specs.World.{untouched}
 use Rattle.cmd_pack_outputs.specs.Writing.{LeavesOut}
 
--- ---- what was read is let go
+-- ---- what was read is closed
 
 pub failing_sum : (m n : ℕ) (h : OpenFiles) → failing n (failing m h) ≡ failing (m + n) h
 failing_sum m n h = let e : h.failed + m + n ≡ h.failed + (m + n) = omega arith in ap (λ f. record h { failed = f }) e
@@ -35,7 +35,7 @@ failing_all a b c d h0 h1 h2 h3 h4 one two three four =
 
 -- ---- an output that is closed
 
--- with so many failures before
+-- with this many failures before
 pub ended_behind : (d : Bool) (r n : ℕ) (h : OpenFiles) → ended d n (failing r h) ≡ ended d (r + n) h
 ended_behind d r n h =
     ap (λ (k : ℕ). record {
@@ -67,30 +67,30 @@ closes_undone r n h h' h'' before end some = record {
   cause = λ f. some;
 }
 
--- an image was laid, and brought to its end
+-- an image was written, and completed
 pub closes_laid : (r0 w0 r n : ℕ) (h h' h'' : OpenFiles) → r0 ≡ 0 → w0 ≡ 0 → h' ≡ failing r h → h''
     ≡ ended true (0 + n) h'
     → r + n ≡ r0 + w0 → ClosesOutput true h h''
 closes_laid r0 w0 r n h h' h'' none_r none_w before end same =
     closes_done r (0 + n) h h' h'' before end (omega (arith, same, none_r, none_w))
 
--- its end was refused
+-- its end failed
 pub closes_unended : (r n : ℕ) (h h' h'' : OpenFiles) → h' ≡ failing r h → h'' ≡ ended false (1 + n) h'
     → ClosesOutput false h h''
 closes_unended r n h h' h'' before end = closes_undone r (1 + n) h h' h'' before end (omega arith)
 
--- it was not laid
+-- it was not written
 pub closes_unlaid : (r0 w0 r n : ℕ) (h h' h'' : OpenFiles) → h' ≡ failing r h → h'' ≡ ended false n h' → r0 + w0 < r + n
     → ClosesOutput false h h''
 closes_unlaid r0 w0 r n h h' h'' before end more = closes_undone r n h h' h'' before end (omega (arith, more))
 
--- the answer is that of the call
+-- the result is that of the call
 pub answered : {X F G : Type 0} (answer : Result X F) (result : Result (X × Bool) G)
     → IfOk result (λ end. answer ≡ Ok end.0) → OnOk result (IsOk answer)
 answered answer (Ok y) is = ap is_ok is
 answered answer (Err e) is = tt
 
--- what was answered is told by the end
+-- the end returns the result of the call
 pub closes_answer : {X Y F G : Type 0} (answer : Result X F) (result : Result Y G) (r0 w0 r n : ℕ)
     (h h' h'' : OpenFiles)
     → r0 ≡ 0 → w0 ≡ 0 → h' ≡ failing r h → h'' ≡ ended (is_ok result) (unended (is_ok answer) (is_ok result) + n) h'

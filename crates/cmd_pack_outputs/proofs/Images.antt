@@ -1,4 +1,4 @@
--- What packing refuses, by the sizes of the parts and by their bytes.
+-- The faults of packing, by the sizes of the parts and by their bytes.
 use Rattle.std.proofs.Common.{◌≡◌, ℕ, List, [], ◌∷◌, Option, refl, ◌∙◌, ap, length}
 use Rattle.std.specs.Prelude.{map}
 use Rattle.abt_sections.specs.declared.fault.SectionFault.{SectionFault}
@@ -20,7 +20,7 @@ refusal_as kind s size content a b same =
     ap (λ x. refusal_of kind s x (map size b)) (sizes_as size content a same)
     ∙ ap (λ y. refusal_of kind s (map length (map content a)) y) (sizes_as size content b same)
 
--- what was answered of the sizes holds of the bytes
+-- what was returned for the sizes holds of the bytes
 pub refusal_told : {P : Type 0} (kind : ImageKind) (s : BootSpec) (size : P → ℕ) (content : P → List ℕ)
     (xs ys a b : List P) (o : Option SectionFault) → o ≡ refusal_of kind s (map size xs) (map size ys) → xs ≡ a → ys ≡ b
     → ((p : P) → size p ≡ length (content p))

@@ -1,4 +1,4 @@
--- What stands in a file whose magic was not laid.
+-- What is in a file whose magic was not written.
 use Rattle.std.proofs.Common.{inl, inr, arith, ◌+◌, ◌-◌, ◌≡◌, ℕ, ◌<◌, ◌≤◌, List, [], ◌++◌, Option, Some, None}
 use Rattle.std.proofs.Common.{sym, ◌∙◌, ap, subst, length, take, drop, get_or, replicate, length-append}
 use Rattle.std.proofs.lemmas.Bool.{cases_lt}
@@ -20,7 +20,7 @@ pub broken_none : (old x : List ℕ) → old ≡ [] → IsBrokenOff old x → Ho
 broken_none old x e (inl same) = empty_none x (same ∙ e)
 broken_none old x e (inr o) = opens_as_nothing (subst (λ y. OpensAsNothing (drop (length y) x)) e o)
 
--- zeros stand in the place of what is laid last
+-- zeros are in the place of what is written last
 front_zero : (w : List ℕ) (k i : ℕ) → take k w ≡ replicate k 0 → i < k → get_or w i 0 ≡ 0
 front_zero w k i zeros below =
     sym (get_or-take k w i 0 below) ∙ ap (λ l. get_or l i 0) zeros ∙ get_or-replicate k i 0 0 below
@@ -36,7 +36,7 @@ zeros_none w k stand zeros next = elim (cases_lt k 8) [
   })
 ]
 
--- a front of it is laid, and not all
+-- a prefix of it is written, and not all
 pub laid_none : (w w' front : List ℕ) (k : ℕ) → k ≤ 8 → k ≤ length w → take k w ≡ replicate k 0
     → length w' ≡ length w → WritesFront w w' 0 (take k front) → HoldsNone w'
 laid_none w w' front k most stand zeros long f =
@@ -62,7 +62,7 @@ laid_none w w' front k most stand zeros long f =
           ∙ ap (λ i. get_or w i 0) spot ∙ front_zero w k f.count zeros below;
     })
 
--- where a call was refused
+-- where a call failed
 pub on_err : {X F : Type 0} (r : Result X F) (A B : Type 0) → OnErr r A → (A → B) → OnErr r B
 on_err (Ok x) A B a to = tt
 on_err (Err e) A B a to = to a
@@ -88,7 +88,7 @@ left_none None x bytes new none left = tt
 left_none (Some file) x bytes new none (inl same) = inl (subst HoldsNone (sym same) none)
 left_none (Some file) x bytes new none (inr gone) = inl (no_front (new.holds file) gone)
 
--- or all, or nothing at its front
+-- or all, or nothing at its beginning
 pub left_all : (o : Option ℕ) (x bytes : List ℕ) (new : World) → x ≡ bytes → Leaves o x new → LeavesNoneOrAll o bytes
     new
 left_all None x bytes new all left = tt

@@ -33,7 +33,7 @@ use Rattle.cmd_pack_outputs.proofs.Magics.{empty_none}
 one : (o : Option ℕ) (f g : ℕ) → o ≡ Some f → o ≡ Some g → f ≡ g
 one o f g a b = ap (λ p. unwrap_or p 0) (sym a ∙ b)
 
--- ---- all is at hand
+-- ---- the data is complete
 
 pub ready_image : {F S P : Type 0} {models : Bool} {size : P → ℕ} (faults : P → ℕ) {c : ImageContents P}
     (image : ImageTo F S)
@@ -73,7 +73,7 @@ part_whole output bytes h h' a b c made ends = λ file at.
     let is : made.file ≡ file = one (c.at output) made.file file (it.1.paths output made.file made.there) at in
     inr (inr (ap (λ f. c.holds f) (sym is) ∙ it.0))
 
--- whatever was told of it then
+-- whatever was printed of it then
 pub left_done : {X F : Type 0} (r : Result X F) (output bytes : List ℕ) (over : Bool) (h h' h'' : OpenFiles)
     (a b c : World)
     → Creates output h h' a b → SparesRest h'.output b c → Ends h'.output bytes b c
@@ -111,7 +111,7 @@ lays output bytes n h h' a b c shows made ends counts shown =
 pub beside_as : (b b' : Bool) (a c : Report) (line : List ℕ) → b ≡ b' → ShowsBeside b a c line → ShowsBeside b' a c line
 beside_as b b' a c line same beside = subst (λ is. ShowsBeside is a c line) same beside
 
--- ---- why it is refused
+-- ---- why it fails
 
 pub judged_stops : (o : Option SectionFault) (h h' : OpenFiles) (a b : World) (Done : Type 0) (f g : BootCommandFault)
     → IsJudged o f → g ≡ f → h' ≡ h → b ≡ a → StopsWriting o h h' a b Done g
@@ -127,7 +127,7 @@ judged_stops o h h' a b Done faults.CheckFailed g judged told held same = absurd
 pub host_outside : (f : BootCommandFault) (k : HostFault) → f ≡ faults.Host k → IsOutsideBoot f
 host_outside f k told = subst IsOutsideBoot (sym told) tt
 
--- ---- the answer of a call that wrote bytes, told as one of a command
+-- ---- the result of a call that wrote bytes, as one of a command
 
 -- what is so of the one is so of the other
 pub told_done : {X F G : Type 0} (a : Result X F) (b : Result X G) (to : F → G) (A : Type 0)
@@ -140,7 +140,7 @@ pub told_undone : {X F G : Type 0} (a : Result X F) (b : Result X G) (to : F →
 told_undone {X} {F} {G} (Ok n) b to A told is = subst (λ (k : Result X G). OnErr k A) (sym told) tt
 told_undone {X} {F} {G} (Err f) b to A told is = subst (λ (k : Result X G). OnErr k A) (sym told) is
 
--- where the output was brought to its end, the call answered
+-- where the output was completed, the call returned
 abbrev the : {G : Type 0} → Result ℕ G → ℕ
 the (Ok n) = n
 the (Err f) = 0
@@ -178,7 +178,7 @@ outside_end {Y} {R} (Err f) b (Err x) fault told moving is host =
     = subst (λ (k : Result ℕ BootCommandFault). IfErr k (λ f. IfErr r (λ x. fault x ≡ f))) told is in
     subst IsOutsideBoot (sym e) moving
 
--- ---- behind what was read is let go
+-- ---- after what was read is closed
 
 pub ends_behind : (x bytes : List ℕ) (n : ℕ) (h h' : OpenFiles) (u v c : World) → h' ≡ failing n h → v ≡ u → x ≡ bytes
     → Ends h'.output x v c → Ends h.output bytes u c

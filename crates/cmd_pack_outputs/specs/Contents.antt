@@ -1,4 +1,4 @@
--- All that an image is written from.
+-- The data from which an image is written.
 use Rattle.std.specs.Prelude.{ℕ, ◌+◌, List, ◌++◌, Option, length, map}
 use Rattle.abt_sections.specs.Cause.{total}
 use Rattle.abt_sections.specs.declared.fault.SectionFault.{SectionFault}
@@ -15,7 +15,7 @@ pub record Packing : Type 0 where
   pub specs : List FragmentSpec
   pub ramdisks : List (List ℕ)
 
--- the image of a kind that is packed of them, and what packing refuses of them
+-- the image of a kind that is packed from them, and the fault of packing them
 abbrev pub image_from : ImageKind → Packing → List ℕ
 image_from kind p = packed kind p.fields p.parts p.specs p.ramdisks
 
@@ -32,11 +32,11 @@ packing_of content c = record {
   ramdisks = map content c.sources.items;
 }
 
--- the image, and what stands behind it
+-- the image, and the bytes after it
 abbrev pub packed_image : {P : Type 0} → (P → List ℕ) → ImageContents P → List ℕ
 packed_image content c = image_from c.kind (packing_of content c) ++ content c.trailing
 
--- what packing refuses, by the sizes of the sources
+-- the fault of packing, by the sizes of the sources
 abbrev pub refusal_in : {P : Type 0} → (P → ℕ) → ImageContents P → Option SectionFault
 refusal_in size c = refusal_of c.kind c.fields (map size c.parts.items) (map size c.sources.items)
 

@@ -1,4 +1,4 @@
--- What is printed of an image that was written.
+-- The line that is printed of an image that was written.
 use Rattle.std.specs.Prelude.{ℕ, ◌-◌, ◌^◌, min, List, ◌++◌, codes, decimal}
 
 -- how many bytes it has

@@ -1,8 +1,8 @@
--- What an image that was broken off leaves in its file.
+-- What a partial image leaves in its file.
 use Rattle.std.specs.Prelude.{◌≡◌, ◌<◌, ℕ, List, length, slice_index}
 use Rattle.abt_sections.specs.Broken.{OpensAsNothing}
 
--- one of its first eight bytes is there and zero: no magic has a zero byte
+-- one of its first eight bytes exists and is zero: no magic has a zero byte
 pub record HasZeroInMagic (x : List ℕ) : Type 0 where
   pub at : ℕ
   pub front : at < 8

@@ -1,4 +1,4 @@
--- The file that an image is written to.
+-- The file to which an image is written.
 use Rattle.std.specs.Prelude.{◌≡◌, ◌<◌, ◌⊎◌, ℕ, Bool, List, [], ◌∷◌, ◌++◌, length, Option, Some, None, IsTrue}
 use Rattle.std.specs.Prelude.{Contains, Result, IfErr, IfOk, OnErr, OnOk, ◌+◌, if◌then◌else◌, is_ok}
 use Rattle.abt_sections.specs.declared.fault.SectionFault.{SectionFault}
@@ -18,12 +18,12 @@ use Rattle.cmd_pack_outputs.specs.Lines.{image_line, counted_in_u64}
 use Rattle.cmd_pack_outputs.specs.Magic.{HoldsNone}
 use Rattle.cmd_common_boot.specs.Fault.{IsOutsideBoot}
 
--- packing refuses none of these sources, and nothing stands for nothing
+-- packing these sources has no fault, and `nothing` has no bytes
 pub record IsAccepted {P : Type 0} (size : P → ℕ) (c : ImageContents P) : Type 0 where
   pub accepted : refusal_in size c ≡ None
   pub nothing : size c.nothing ≡ 0
 
--- packing refuses none of these, of a boot image with nothing behind it
+-- packing these has no fault, for a boot image with nothing after it
 pub record IsAcceptedAlone {P : Type 0} (size : P → ℕ) (c : ImageContents P) : Type 0 where
   pub boot : IsBoot c.kind
   pub alone : size c.trailing ≡ 0
@@ -37,9 +37,9 @@ pub record IsReady {P : Type 0} (models : Bool) (size faults : P → ℕ) (c : I
   pub empty : its_written ≡ []
   pub clean : IsTrue models → its_faults ≡ 0
 
--- An output that held x holds y, and the sources and it have failed so often, before and now: behind x came all of
--- these bytes, and the answer is their number, where nothing has failed; where it is refused something has, by such a
--- fault.
+-- An output that held x holds y. `failed` and `failed'` count the failures of the sources and of the output, before
+-- and now. After an Ok, y is x followed by all of these bytes, the result is their number, and nothing has failed.
+-- After an Err something has failed, and the fault satisfies `Moves`.
 pub record PacksBytes {F : Type 0} (r : Result ℕ F) (Moves : F → Type 0) (models : Bool) (bytes x y : List ℕ)
     (failed failed' : ℕ) : Type 0 where
   pub written : IsTrue models → OnOk r (y ≡ x ++ bytes)
@@ -53,19 +53,19 @@ abbrev pub LeavesNoneOrAll : Option ℕ → List ℕ → World → Type 0
 LeavesNoneOrAll None bytes new = Unit {0}
 LeavesNoneOrAll (Some file) bytes new = HoldsNone (new.holds file) ⊎ (new.holds file ≡ bytes)
 
--- the same of an image that is laid over a file
+-- the same for an image that is written over a file
 abbrev pub IsOfLaying : LayFault → Type 0
 IsOfLaying (laying.Packing f) = IsOfMoving f
 IsOfLaying laying.Magic = Unit {0}
 
--- The same of a file that held nothing: where it is refused it holds no image.
+-- The same for a file that held nothing: after an Err it holds no image.
 pub record LaysBytes (r : Result ℕ LayFault) (models : Bool) (bytes y : List ℕ) (failed failed' : ℕ) : Type 0 where
   pub packs : PacksBytes r IsOfLaying models bytes [] y failed failed'
   pub broken : OnErr r (HoldsNone y)
 
--- The output that is open is written to its end and closed: where the answer is Ok it holds these bytes, of which the
--- answer has the number, and tells whether the output is where standard output goes; no other file has changed; and
--- where it is refused a device or a file was at fault, and a file that is written over holds no image, or all of them.
+-- The open output is completed and closed. After an Ok it holds these bytes. The result is their number, and whether
+-- the output is where standard output goes. No other file has changed. After an Err a device or a file was at fault,
+-- and a file that is overwritten holds no image, or all of these bytes.
 pub record WritesBytes {F : Type 0} (r : Result (ℕ × Bool) F) (fault : F → BootCommandFault) (is_over : Bool)
     (is_on_output : Bool) (bytes : List ℕ) (held held' : OpenFiles) (old new : World) : Type 0 where
   pub ended : OnOk r (Ends held.output bytes old new)
@@ -91,9 +91,9 @@ abbrev pub HoldsNoPartOf : List ℕ → (List ℕ → Type 0) → World → Worl
 HoldsNoPartOf output Whole old new = (file : ℕ) → new.at output ≡ Some file → (new.holds file ≡ old.holds file)
     ⊎ (HoldsNone (new.holds file) ⊎ Whole (new.holds file))
 
--- What a call that writes OUT leaves, whatever it answers: OUT alone may hold anything else, no output is open, and
--- OUT's file, where it can be written over, has no part of an image; after an Ok no call has failed, and it was synced,
--- where that is wanted.
+-- What a call that writes OUT leaves, whatever the result. Only OUT may hold anything else, and no output is open.
+-- OUT's file, where it can be overwritten, has no part of an image. After an Ok no call has failed, and the output was
+-- synced, where that is requested.
 pub record LeavesOut {X F : Type 0} (r : Result X F) (output : List ℕ) (is_over : Bool) (Whole : List ℕ → Type 0)
     (held held' : OpenFiles) (old new : World) : Type 0 where
   pub others : OnlyAt held.read output old new
@@ -102,8 +102,8 @@ pub record LeavesOut {X F : Type 0} (r : Result X F) (output : List ℕ) (is_ove
   pub clean : OnOk r (HasNotFailed held held')
   pub synced : OnOk r (held'.syncs ≡ held.syncs + (if held.is_synced then 1 else 0))
 
--- why an image is not written: packing refuses it, or there was no memory to ask, both before anything is touched; or a
--- call of the disk or a device failed; or all was done, and the line could not be printed
+-- why an image is not written: packing has a fault, or there was no memory to find out, both before anything is
+-- changed; or a call of the disk or a device failed; or everything was done, and the line could not be printed
 pub data StopsWriting (refusal : Option SectionFault) (held held' : OpenFiles) (old new : World) (Done : Type 0)
     (fault : BootCommandFault) : Type 0 where
   refused : (f : SectionFault) → fault ≡ faults.Section f → refusal ≡ Some f → held' ≡ held → new ≡ old

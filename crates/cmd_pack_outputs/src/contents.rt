@@ -1,4 +1,4 @@
-//! All that an image is written from.
+//! The data from which an image is written.
 
 ghost use Rattle.std.specs.Prelude.{◌≡◌, length};
 ghost use Rattle.cmd_common_fields.specs.Kind.{version_of};
@@ -7,7 +7,7 @@ ghost use Rattle.cmd_common_boot.specs.Parts.{row_count};
 use abt_sections::{BootSpec, FragmentSpec};
 use cmd_common_fields::ImageKind;
 
-/// The fields of an image, and what its parts are read from.
+/// The fields of an image, and the sources of its parts.
 #[derive(Drop)]
 pub struct ImageContents<'f, P: Drop> {
     pub kind: ImageKind,
@@ -18,7 +18,7 @@ pub struct ImageContents<'f, P: Drop> {
     pub sources: Vec<P>,
     /// No bytes, in the place of what a vendor boot image of version 3 hasn't.
     pub nothing: P,
-    /// What stands behind the image.
+    /// The bytes after the image.
     pub trailing: P,
     pub ghost versioned: { fields.version ≡ version_of kind },
     pub ghost counted: { length parts.items ≡ row_count kind },

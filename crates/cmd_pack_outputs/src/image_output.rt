@@ -1,4 +1,4 @@
-//! The file that an image is written to, from before it is opened to its end.
+//! The file to which an image is written, from before it is opened until it is closed.
 
 ghost use Rattle.std.specs.Prelude.{◌≡◌, ◌++◌, ◌∷◌, [], None, IsTrue, IfErr, OnOk, OnErr, false, true};
 ghost use Rattle.sys_disk.specs.DiskCalls.{LetsImageGo};
@@ -26,7 +26,7 @@ use sys_report::{Carried, Progress, Report};
 
 /// Writes an image to a file, which is created or emptied, and prints how many bytes it has. `-` is standard output.
 ///
-/// What packing refuses of the fields and of the parts' sizes is refused before the file is opened.
+/// Faults of packing that depend on the fields and on the parts' sizes are returned before the file is opened.
 pub fn write_image<'f, 't, 'a, D: Disk>(
     disk: &mut D,
     report: &mut Report,
@@ -39,17 +39,17 @@ pub fn write_image<'f, 't, 'a, D: Disk>(
     requires one { IsTrue D.models → (D.held disk.old).output ≡ None }
     requires nothing { ⟦<PartSource<'t, D::At> as Source>⟧.size contents.nothing ≡ 0 }
     requires unread { IsTrue D.models → faults_in ⟦<PartSource<'t, D::At> as Source>⟧.read_faults contents ≡ 0 }
-    // OUT is none of the files that are read, and holds the image; what was printed tells how many bytes it has, on
+    // OUT is none of the files that are read, and holds the image; the printed line has its number of bytes, on
     // standard error where OUT is where standard output goes
     ensures done { IsTrue D.models → OnOk result (LaysImage (path_out output.entry) (D.held disk.old).read
         (packed_image ⟦<PartSource<'t, D::At> as Source>⟧.content contents.entry) (D.world disk.old) (D.world disk.new)
         (ShowsBeside (D.on_output (path_out output.entry)) report.old report.new)) }
-    // whatever the outcome, OUT alone may hold anything else, and its file has no part of an image; where it is done no
+    // whatever the outcome, only OUT may hold anything else, and its file has no part of an image; after an Ok no
     // call failed
     ensures left { IsTrue D.models → LeavesOut result (path_out output.entry) (D.is_over (path_out output.entry))
         (λ x. x ≡ packed_image ⟦<PartSource<'t, D::At> as Source>⟧.content contents.entry) (D.held disk.old)
         (D.held disk.new) (D.world disk.old) (D.world disk.new) }
-    // it is refused for what packing refuses, for a fault that came, or where all is done and the line was refused
+    // it fails for a fault of packing, for a fault of devices or files, or where only its line failed
     ensures refused { IsTrue D.models → IfErr result (λ refusal. StopsWriting
         (refusal_from contents.entry.kind (packing_of ⟦<PartSource<'t, D::At> as Source>⟧.content contents.entry))
         (D.held disk.old) (D.held disk.new)
@@ -86,7 +86,7 @@ fn printed<'a>(bytes: u64, is_on_output: bool, report: &mut Report) -> Result<()
     report.line_beside(is_on_output, ImageLine(bytes))
 }
 
-// What packing refuses of an image.
+// The fault of packing an image.
 fn judged<'t, 'a, S: Source + Lasting + Drop>(
     alloc: Global,
     contents: &ImageContents<'_, PartSource<'t, S>>,
@@ -104,7 +104,7 @@ fn judged<'t, 'a, S: Source + Lasting + Drop>(
     }
 }
 
-// A boot image with nothing behind it is packed in one pass over its parts. In all others the magic is laid last.
+// A boot image with nothing after it is packed in one pass over its parts. In all others the magic is written last.
 fn write_to<'f, 't, 'a, D: Disk>(
     disk: &mut D,
     image: ImageTo<D::Image, D::Onto>,
@@ -129,7 +129,7 @@ fn write_to<'f, 't, 'a, D: Disk>(
     }
 }
 
-// To what is written from its front on.
+// The same for an output that is written from its first byte on.
 fn write_through<'f, 't, 'a, D: Disk>(
     disk: &mut D,
     onto: D::Onto,
@@ -193,7 +193,7 @@ fn write_over<'f, 't, 'a, D: Disk>(
     }
 }
 
-// Lets a file go, and refuses the command for this fault.
+// Closes a file, and fails with this fault.
 fn stopped<'t, 'a, D: Disk>(
     disk: &mut D,
     fault: LayFault,

@@ -1,4 +1,4 @@
-//! What an image was written from, once it is written: which file a fault is about, and all of them let go.
+//! Closing the sources of an image after it was written, and the file that a fault concerns.
 
 ghost use Rattle.sys_disk.specs.DiskCalls.{FailsOnly};
 ghost use Rattle.abt_sections.specs.Cause.{total};
@@ -42,7 +42,7 @@ pub(crate) fn sides_of<'t, S: Source + Lasting + Drop>(
     }
 }
 
-// The file of the first part whose reading failed.
+// The file of the first part that could not be read.
 fn place_at_fault<'t, S: Source + Lasting + Drop>(
     parts: &[PartSource<'t, S>],
 ) -> Option<FileArg<'t>> {

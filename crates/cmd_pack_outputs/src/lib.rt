@@ -1,14 +1,15 @@
-//! The file that `pack` and `repack` write an image to, over any disk, and what it is written from.
+//! The file to which `pack` and `repack` write an image, over any disk, and the data from which it is written.
 //!
-//! What the layer above relies on: `write_image` writes what packing makes of its `ImageContents`, and leaves no part of an
-//! image where it is broken off.
+//! The layer above relies on `write_image`: it writes the image that packing its `ImageContents` gives, and leaves no
+//! part of an image where it stops early.
 //!
-//! | file | has |
+//! | file | content |
 //! |---|---|
-//! | `contents.rt`, `letting_go.rt` | all that it is written from, and letting it go |
-//! | `image_output.rt`, `write_over.rt`, `packing.rt` | the file that it is written to, and writing it |
-//! | `magic_last.rt` | an output whose magic is laid last |
-//! | `lines.rt` | what is printed of it |
+//! | `contents.rt`, `letting_go.rt` | the data from which an image is written, and closing its sources |
+//! | `image_output.rt` | the file to which it is written, from opening to closing |
+//! | `write_over.rt`, `packing.rt` | writing it over a regular file; packing it, and copying the bytes after it |
+//! | `magic_last.rt` | an output whose magic is written last |
+//! | `lines.rt` | the line that is printed of it |
 #![tactic(auto)]
 
 mod contents;

@@ -1,4 +1,4 @@
-//! What is printed of an image that was written.
+//! The line that is printed of an image that was written.
 
 ghost use Rattle.std.specs.Prelude.{Some};
 ghost use Rattle.cmd_pack_outputs.specs.Lines.{image_line};

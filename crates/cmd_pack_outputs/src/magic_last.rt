@@ -1,4 +1,4 @@
-//! An output whose first bytes are laid last: what is broken off has no magic.
+//! An output whose first bytes are written last: a partial image has no magic.
 
 ghost use Rattle.std.specs.Prelude.{◌≡◌, ◌<◌, ◌≤◌, [], OnOk, OnErr, length, take, replicate};
 ghost use Rattle.abt_io.specs.Called.{WritesOnce};
@@ -7,8 +7,8 @@ ghost use Rattle.cmd_pack_outputs.specs.Magic.{HoldsNone};
 
 use abt_io::{DeviceFault, FRONT, Meter, Output, Overwrite, write_over_all};
 
-/// Keeps back the first `FRONT` bytes that it is given, and writes zeros in their place. All that comes behind them
-/// goes straight to the output. It is ended by `finish`, which lays them, or by `give_up`, which does not.
+/// Keeps back the first `FRONT` bytes that are written to it, and writes zeros in their place. All later bytes go
+/// straight to the output. It ends with `finish`, which writes the kept bytes, or with `give_up`, which does not.
 #[derive(Drop)]
 pub(crate) struct MagicLast<O: Overwrite> {
     output: O,
@@ -21,7 +21,7 @@ pub(crate) struct MagicLast<O: Overwrite> {
 }
 
 impl<O: Overwrite> MagicLast<O> {
-    /// Begins with an output that nothing was written to.
+    /// Begins with an output to which nothing was written.
     pub(crate) fn new(output: O) -> MagicLast<O>
         requires { O.written output ≡ [] }
         ensures output { result.output ≡ output }
@@ -34,7 +34,7 @@ impl<O: Overwrite> MagicLast<O> {
         }
     }
 
-    /// Lays what was kept back, and answers the output.
+    /// Writes the kept bytes, and returns the output.
     pub(crate) fn finish(self, m: &mut Meter) -> (O, Result<(), DeviceFault>)
         ensures laid { OnOk result.1 (O.written result.0 ≡ with_front self.front self.kept (O.written self.output)) }
         ensures broken { OnErr result.1 (HoldsNone (O.written result.0)) }
@@ -50,7 +50,7 @@ impl<O: Overwrite> MagicLast<O> {
         (output, answer)
     }
 
-    /// The output, in which zeros stand in the place of what was kept back.
+    /// The output, with zeros in place of the kept bytes.
     pub(crate) fn give_up(self) -> O
         ensures output { result ≡ self.output }
         ensures broken { HoldsNone (O.written result) }

@@ -1,4 +1,4 @@
-//! Writing an image of its contents, and what stands behind it.
+//! Packs an image from its contents, and copies the bytes after it.
 
 ghost use Rattle.std.specs.Prelude.{◌≡◌, ◌<◌, ◌+◌, ◌++◌, IsTrue, IfOk, IfErr, OnOk, OnErr, length, map};
 ghost use Rattle.abt_sections.specs.Broken.{IsBrokenOff};
@@ -15,7 +15,7 @@ use cmd_common_boot::{judge, pack_image};
 use cmd_common_fields::ImageKind;
 use std::alloc::{AllocError, Global};
 
-/// Whether it is a boot image with nothing behind it: its parts are read once, where it is written over.
+/// Whether it is a boot image with nothing after it: its parts are read once, where the file is overwritten.
 pub(crate) fn is_read_once<P: Source + Drop>(contents: &ImageContents<'_, P>) -> bool
     ensures boot { IsTrue result → IsBoot contents.now.kind }
     ensures alone { IsTrue result → P.size contents.now.trailing ≡ 0 }
@@ -26,7 +26,7 @@ pub(crate) fn is_read_once<P: Source + Drop>(contents: &ImageContents<'_, P>) ->
     }
 }
 
-/// What packing refuses, if anything.
+/// The fault of packing, if there is one.
 pub(crate) fn refusal_of<P: Source + Drop>(
     alloc: Global,
     contents: &ImageContents<'_, P>,
@@ -47,7 +47,7 @@ pub(crate) fn refusal_of<P: Source + Drop>(
     }
 }
 
-/// Packs a boot image whose parts are read once, and answers how many bytes it has.
+/// Packs a boot image whose parts are read once, and returns how many bytes it has.
 pub(crate) fn pack_once<P: Source + Drop, O: Overwrite>(
     contents: &mut ImageContents<'_, P>,
     output: &mut O,
@@ -67,7 +67,7 @@ pub(crate) fn pack_once<P: Source + Drop, O: Overwrite>(
     }
 }
 
-/// Writes the image and what stands behind it, and answers how many bytes these are.
+/// Writes the image and the bytes after it, and returns how many bytes these are.
 pub(crate) fn pack_contents<P: Source + Drop, O: Output>(
     contents: &mut ImageContents<'_, P>,
     output: &mut O,
@@ -117,7 +117,7 @@ fn pack_parts<P: Source + Drop, O: Output>(
     pack_image(kind, fields, parts, specs, sources, nothing, output, w, m)
 }
 
-// What stands behind it.
+// Copies the bytes after the image.
 fn copy_behind<P: Source, O: Output>(
     trailing: &mut P,
     output: &mut O,

@@ -1,4 +1,4 @@
-//! An image that is laid over a file, so that no reader takes what was broken off for a whole one.
+//! Writes an image over a regular file, so that no reader takes a partial image for a whole one.
 
 ghost use Rattle.std.specs.Prelude.{◌≡◌, ◌+◌, []};
 ghost use Rattle.cmd_pack_outputs.specs.Contents.{faults_in, packed_image};
@@ -13,17 +13,17 @@ use cmd_common_boot::PartSource;
 use sys_disk::Lasting;
 use sys_report::{Carried, Progress};
 
-/// Why an image is not laid.
+/// Why an image is not written.
 #[derive(Clone, Copy, Drop)]
 pub(crate) enum LayFault {
     /// A fault of packing.
     Packing(SectionFault),
-    /// The magic could not be laid.
+    /// The magic could not be written.
     Magic,
 }
 
-/// Lays an image over a file that nothing was written to, and answers the file, with how many bytes it has. A boot
-/// image with nothing behind it is packed in one pass over its parts. In all others the magic is laid last.
+/// Writes an image over a file to which nothing was written. Returns the file, with the image's number of bytes. A
+/// boot image with nothing after it is packed in one pass over its parts. In all others the magic is written last.
 pub(crate) fn lay_image<'t, S: Source + Lasting + Drop, O: Overwrite>(
     contents: &mut ImageContents<'_, PartSource<'t, S>>,
     file: O,

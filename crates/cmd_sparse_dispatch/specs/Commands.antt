@@ -1,4 +1,4 @@
--- What a command over sparse images does with the files that its words name, leaves of them, and is refused for.
+-- What a command of sparse images does with the files of its arguments, what it leaves of them, and why it fails.
 use Rattle.std.specs.Prelude.{◌≡◌, ◌<◌, ◌+◌, ◌-◌, ◌++◌, max, ℕ, List, [], ◌∷◌, Option, Some, None, Bool, IsTrue, map}
 use Rattle.std.specs.Prelude.{if◌then◌else◌, Result, OnOk}
 use Rattle.std.specs.List.{AllByRecursion}
@@ -25,7 +25,7 @@ use Rattle.cmd_flash.specs.InPieces.{FlashesPieces, RefusesPieces, SparesBoth}
 use Rattle.cmd_flash.specs.Listing.{IsListed, RefusesList}
 use Rattle.cmd_flash.specs.Verifying.{RefusesVerify, RefusesVerifyRaw, VerifiesFile, VerifiesRawFile}
 
--- a moment of a run: what files hold, what was opened, and what was printed
+-- a state of a run: what files hold, which files are open, and what was printed
 pub record State : Type 0 where
   pub world : World
   pub held : OpenFiles
@@ -34,17 +34,17 @@ pub record State : Type 0 where
 abbrev pub state : World → OpenFiles → Report → State
 state world held report = record { world = world; held = held; report = report }
 
--- from one moment to the other so many outputs were synced
+-- between two states this many outputs were synced
 abbrev pub SyncsOutputs : ℕ → State → State → Type 0
 SyncsOutputs n a z = z.held.syncs ≡ a.held.syncs + n
 
--- one, where that is wanted
+-- one, where that is requested
 abbrev pub one_if_wanted : State → ℕ
 one_if_wanted a = if a.held.is_synced then 1 else 0
 
--- ---- what is done, from the moment a to the moment z, of a disk where such paths lead to where standard output goes
+-- ---- what is done, from state a to state z, of a disk where such paths lead to where standard output goes
 
--- one image is expanded, or several that are laid over one another
+-- one image is expanded, or several that overwrite one another
 abbrev pub ExpandsImages : (List ℕ → Bool) → List (List ℕ) → List ℕ → State → State → Type 0
 ExpandsImages on_output [] output a z =
     OverlaysFiles [] output a.world z.world (ShowsBeside (on_output output) a.report z.report) × SyncsOutputs 0 a z
@@ -61,14 +61,14 @@ abbrev pub ListsImage : List ℕ → State → State → Type 0
 ListsImage input a z = OfFile (image_path input) a.world (λ x. IsListed x (λ text.
     z.report.out.log.state.bytes ≡ a.report.out.log.state.bytes ++ text))
 
--- a raw image is written as a sparse one, in blocks of so many bytes
+-- a raw image is written as a sparse one, in blocks of this many bytes
 abbrev pub Sparsifies : (List ℕ → Bool) → List ℕ → List ℕ → ℕ → State → State → Type 0
 Sparsifies on_output input output block a z =
     SparsifiesFile input (output_path output) block a.world z.world
     (ShowsBeside (on_output (output_path output)) a.report z.report)
     × SyncsOutputs (one_if_wanted a) a z
 
--- an image is cut into pieces of at most so many bytes
+-- an image is cut into pieces of at most this many bytes
 abbrev pub Cuts : List ℕ → ℕ → Naming → Option ℕ → State → State → Type 0
 Cuts input limit names raw a z =
     CutsFile raw limit input names a.held z.held a.world z.world (ShowsCut names limit z.world a.report z.report)
@@ -84,7 +84,7 @@ FlashesImage on_output input partition raw (Some p) a z =
     FlashesPieces raw p.limit (max 1 p.from - 1) (image_path input) partition
     p.spool.now a.world z.world a.held z.held (ShowsBeside (on_output partition) a.report z.report)
 
--- an image stands on a partition
+-- a partition holds an image
 abbrev pub VerifiesImage : List ℕ → List ℕ → Option ℕ → State → State → Type 0
 VerifiesImage input partition None a z =
     VerifiesFile (image_path input) partition a.world (ShowsHere a.report z.report)
@@ -105,7 +105,7 @@ DoesTask on_output (tasks.Verify input partition raw) a z = VerifiesImage input.
 
 -- ---- what stays, whatever the outcome
 
--- so much stays, and it is done only where nothing has failed
+-- this much stays, and the result is Ok only where nothing has failed
 pub record LeavesSpared {X F : Type 0} (r : Result X F) (Spared : State → State → Type 0) (a z : State) : Type 0 where
   pub spares : Spared a z
   pub clean : OnOk r (HasNotFailed a.held z.held)
@@ -137,7 +137,7 @@ SparesFlashed input partition None a z =
 SparesFlashed input partition (Some p) a z =
     SparesBoth partition p.spool.now a.world z.world × KeepsFile (image_path input) a.world z.world
 
--- each file that a task reads holds what it held, and none has changed but what it is to write
+-- each file that a task reads holds what it held, and only the files that it is to write may have changed
 abbrev pub SparesFiles : SparseTask → State → State → Type 0
 SparesFiles (tasks.Expand inputs output) a z =
     SparesExpanded (map (λ word. word.now) inputs.items) output.now a z
@@ -153,7 +153,7 @@ LeavesNoPartOfSparse is_over (tasks.Sparse input output block) a z = IsTrue (is_
     → HoldsNoPartOfSparse input.now (output_path output.now) block a.world z.world
 LeavesNoPartOfSparse is_over task a z = Unit {0}
 
--- ---- why it is refused
+-- ---- why it fails
 
 abbrev pub RefusesExpand : SparseCommandFault → List (List ℕ) → List ℕ → State → State → Type 0
 RefusesExpand fault (input ∷ []) output a z =
@@ -190,7 +190,7 @@ RefusesVerifying fault input partition None a z =
 RefusesVerifying fault input partition (Some size) a z =
     RefusesVerifyRaw fault size (image_path input) partition a.world a.held z.held (Unprinted a.report z.report)
 
--- this is why a task is not done, as its command says it
+-- why a task is not done, as its command defines it
 abbrev pub RefusesTask : SparseCommandFault → SparseTask → State → State → Type 0
 RefusesTask fault (tasks.Expand inputs output) a z =
     RefusesExpand fault (map (λ word. word.now) inputs.items) output.now a z

@@ -1,4 +1,4 @@
-//! What is to be done with a sparse image, and the command that does it.
+//! A task with a sparse image, and the command that does it.
 
 ghost use Rattle.std.specs.Prelude.{◌≡◌, None, IsTrue, IfErr, OnOk};
 ghost use Rattle.sys_disk.specs.World.{IsReading};
@@ -15,7 +15,7 @@ use sys_disk::Disk;
 use sys_report::Report;
 use words_orders::SparseTask;
 
-/// Does what the words ask for.
+/// Does what the arguments ask for.
 pub fn sparse_command<'a, D: Disk>(
     disk: &mut D,
     report: &mut Report,
@@ -27,19 +27,19 @@ pub fn sparse_command<'a, D: Disk>(
     requires first { IsTrue D.models → IsReading (D.held disk.old) }
     requires one { IsTrue D.models → (D.held disk.old).part ≡ None }
     requires through { IsTrue D.models → (D.held disk.old).spool ≡ None }
-    // the task is done, by its own command, at the files that its words name
+    // the task is done by its own command, on the files that its arguments name
     ensures done { IsTrue D.models → OnOk result (DoesTask D.on_output task.entry
         (state (D.world disk.old) (D.held disk.old)
         report.old) (state (D.world disk.new) (D.held disk.new) report.new)) }
-    // whatever the outcome, what it reads holds what it held, and none has changed but what it is to write; it is done
-    // only where nothing failed
+    // whatever the outcome, what the command reads holds what it held, and only what it is to write has changed; the
+    // result is Ok only where nothing failed
     ensures leaves { IsTrue D.models → LeavesSpared result (SparesFiles task.entry)
         (state (D.world disk.old) (D.held disk.old) report.old)
         (state (D.world disk.new) (D.held disk.new) report.new) }
     ensures whole { IsTrue D.models → LeavesNoPartOfSparse D.is_over task.entry
         (state (D.world disk.old) (D.held disk.old) report.old)
         (state (D.world disk.new) (D.held disk.new) report.new) }
-    // it is refused for what its command is refused for
+    // it fails for a cause for which its command fails
     ensures refused { IsTrue D.models → IfErr result (λ refusal. RefusesTask refusal.fault task.entry
         (state (D.world disk.old) (D.held disk.old) report.old)
         (state (D.world disk.new) (D.held disk.new) report.new)) }

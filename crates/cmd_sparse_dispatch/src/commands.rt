@@ -1,4 +1,4 @@
-//! The commands over sparse images over any disk: each is one call of its body, at the files that the words name.
+//! The commands of sparse images over any disk: each is one call of its body, with the files that the arguments name.
 
 ghost use Rattle.std.specs.Prelude.{◌≡◌, [], None, Some, IsTrue, IfErr, OnOk, map};
 ghost use Rattle.sys_refusals.specs.Paths.{output_path};
@@ -28,9 +28,9 @@ use sys_disk::Disk;
 use sys_report::Report;
 use words_orders::Pieces;
 
-/// Writes the raw image of a sparse one, or of several laid over one another, and prints what it has.
+/// Writes the raw image of a sparse one, or of several that overwrite one another, and prints what it has.
 ///
-/// Where there is one, `-` is standard input, and standard output.
+/// For one image, `-` is standard input, and standard output.
 #[inline(never)]
 pub(crate) fn expand_files<'a, D: Disk>(
     disk: &mut D,
@@ -97,8 +97,8 @@ pub(crate) fn sparsify<'a, D: Disk>(
     )
 }
 
-/// Cuts an image into pieces of at most so many bytes, each into a file of its own; a raw one where the bytes of its blocks
-/// are given.
+/// Cuts an image into pieces of at most this many bytes, each in a file of its own. The image is raw where the number
+/// of bytes of its blocks is given.
 #[inline(never)]
 pub(crate) fn cut_image<'a, D: Disk>(
     disk: &mut D,
@@ -154,7 +154,7 @@ pub(crate) fn list_image<'a, D: Disk>(
     list_file(disk, report, place("IN", input), w, m)
 }
 
-/// Flashes a sparse image straight to a partition, or a raw one in blocks of so many bytes.
+/// Flashes a sparse image straight to a partition, or a raw one in blocks of this many bytes.
 #[inline(never)]
 pub(crate) fn flash_straight<'a, D: Disk>(
     disk: &mut D,
@@ -184,7 +184,7 @@ pub(crate) fn flash_straight<'a, D: Disk>(
     }
 }
 
-/// Flashes an image in pieces that go through a file, from the piece that the words name on.
+/// Flashes an image in pieces that are written through a file, from the piece that the arguments name on.
 #[inline(never)]
 pub(crate) fn flash_pieces<'a, D: Disk>(
     disk: &mut D,
@@ -218,7 +218,7 @@ pub(crate) fn flash_pieces<'a, D: Disk>(
     )
 }
 
-/// Compares an image with what stands on a partition: a sparse one, or a raw one in blocks of so many bytes.
+/// Compares an image with what a partition holds: a sparse one, or a raw one in blocks of this many bytes.
 #[inline(never)]
 pub(crate) fn verify_image<'a, D: Disk>(
     disk: &mut D,

@@ -1,12 +1,12 @@
-//! The commands of sparse images: which one it is, and its body at the files that the words name. The bodies stand in
-//! `cmd_expand`, `cmd_cut` and `cmd_flash`; here it is proved, over any disk, that a task is done by its own
-//! body, with each word and number where it belongs.
+//! The commands of sparse images: selects the command and calls its body with the files that the arguments name. The
+//! bodies are in `cmd_expand`, `cmd_cut` and `cmd_flash`. This crate proves, over any disk, that each task is done by
+//! its own body, with each argument and number in its place.
 //!
-//! | file | has |
+//! | file | content |
 //! |---|---|
-//! | `command.rt` | which command it is |
+//! | `command.rt` | selecting the command of a task |
 //! | `commands.rt` | each command: one call of its body |
-//! | `task_files.rt` | the files that the words name |
+//! | `task_files.rt` | the files that the arguments name |
 #![tactic(auto)]
 
 mod command;

@@ -34,7 +34,7 @@ syncs_ended path h h' h'' u v n made done = record {
   added = ap (λ q. q.syncs) done ∙ ap (λ q. q.syncs + (if q.is_synced then 1 else 0)) made.begins;
 }
 
--- behind a file that was opened, and before it is let go
+-- after a file was opened, and before it is closed
 pub syncs_within : (path bytes : List ℕ) (w : World) (m n : ℕ) (h h' g h'' k : OpenFiles) → OpensFile w path bytes h h'
     → g ≡ failing 0 h' → SyncsMore m g h'' → k ≡ failing n h'' → SyncsMore m h k
 syncs_within path bytes w m n h h' g h'' k opens free syncs let_go = record {
@@ -81,7 +81,7 @@ part_clean path h h' h'' u v r r' w w' made empty same done =
     let d : h''.failed ≡ h'.failed + w' = ap (λ q. q.failed) done in
     record { stays = omega (arith, e, d, empty, same) }
 
--- one step behind another
+-- one step after another
 pub none_then : (h h' h'' : OpenFiles) (r r' r'' : ℕ) → NoMoreFailed h r h' r' → NoMoreFailed h' r' h'' r''
     → NoMoreFailed h
     r h'' r''
@@ -91,7 +91,7 @@ pub some_then : (h h' h'' : OpenFiles) (r r' r'' : ℕ) → NoMoreFailed h r h' 
     → SomeFailed h r h'' r''
 some_then h h' h'' r r' r'' first next = record { rises = omega (arith, first.stays, next.rises) }
 
--- behind a file that was opened, and before it is let go
+-- after a file was opened, and before it is closed
 pub failed_within : (path bytes : List ℕ) (w : World) (h h' g h'' k : OpenFiles) (r q r' : ℕ)
     → OpensFile w path bytes h h'
     → r ≡ 0 → q ≡ r → g ≡ failing 0 h' → SomeFailed g q h'' r' → k ≡ failing r' h'' → h.failed < k.failed
@@ -110,7 +110,7 @@ clean_within path bytes w h h' g h'' k r q r' opens none same free clean let_go 
     let d : k.failed ≡ h''.failed + r' = ap (λ q. q.failed) let_go in
     omega (arith, e, f, d, none, same, clean.stays)
 
--- it was opened, and a call behind it refused
+-- it was opened, and a call after it failed
 pub taken_failed : (path bytes : List ℕ) (w : World) (h h' h'' k : OpenFiles) (r : ℕ) → OpensFile w path bytes h h'
     → h'' ≡ failing 1 h' → k ≡ failing r h'' → h.failed < k.failed
 taken_failed path bytes w h h' h'' k r opens refused let_go =

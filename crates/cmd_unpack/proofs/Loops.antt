@@ -110,7 +110,7 @@ pub no_fragments : (folder : List ℕ) (header : Header) (x : List ℕ) (h : Ope
     → FragmentsDone folder header x 0 h w
 no_fragments folder header x h w = λ k below. absurd (omega (arith, below))
 
--- what stands does so where only a count has risen
+-- what is stored stays so where only a count has risen
 done_failing : (path bytes : List ℕ) (h : OpenFiles) (n : ℕ) (w : World) → IsMade h w path bytes
     → IsMade (failing n h) w
     path bytes
@@ -141,7 +141,7 @@ begun_later folder with_words header x h k n c d let_go same begun =
     (subst (λ q. PartsBegun folder with_words header x q c) (sym let_go)
     (begun_failing folder with_words header x h n c begun))
 
--- and so do those before a refusal
+-- and so do those before a failure
 done_let_go : (path bytes : List ℕ) (h k : OpenFiles) (n : ℕ) (c d : World) → k ≡ failing n h → d ≡ c
     → IsMade h c path bytes
     → IsMade k d path bytes

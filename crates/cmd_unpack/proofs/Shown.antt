@@ -34,7 +34,7 @@ shows_behind a b c line quiet shows =
       λ t. shows.1 (subst IsTrue (sym quiet.0.1) t),
     )
 
--- what could not be printed behind lines that were
+-- what could not be printed after lines that were
 pub cannot_behind : (a b c : Report) → refusals a ≤ refusals b → CannotPrint b c → CannotPrint a c
 cannot_behind a b c rises cannot = omega (arith, rises, cannot)
 
@@ -64,7 +64,7 @@ pub shown_part : (answer : Result ℕ SectionFault) (a b : Report) (part : Image
 shown_part (Ok n) a b part m done shows same = subst (λ k. Shows a b (told_part part k)) same shows
 shown_part (Err e) a b part m done shows same = absurd (false≢true done)
 
--- with the number that was told
+-- with the number that was printed
 pub shown_some : (answer : Result ℕ SectionFault) (a b : Report) (part : ImagePart) → IsOk answer
     → IfOk answer (λ n. Shows a b (told_part part n)) → (n : ℕ) × Shows a b (told_part part n)
 shown_some (Ok n) a b part done shows = (n, shows)

@@ -1,4 +1,4 @@
--- One part behind others, and what all of them leave.
+-- One part after others, and what all of them leave.
 use Rattle.std.proofs.Common.{◌≡◌, ◌+◌, ℕ, Bool, true, List, Ok, Err, None, refl, ◌∙◌, subst}
 use Rattle.abt_io.specs.declared.device.Source as sources
 use Rattle.sys_disk.specs.World.{World, OpenFiles, Creates, KeepsBegun, OnlyAt, SparesRest, ended, failing}
@@ -15,7 +15,7 @@ abbrev pub Written : ℕ → (List ℕ → Type 0) → {A : Type 0} → sources.
     → Type 0
 Written n P s a b h h' u v = WritesParts {X = Unit {0}} {E = Unit {0}} (Ok tt) n P s a b h h' u v
 
--- one was refused
+-- one failed
 abbrev pub Stopped : (List ℕ → Type 0) → {A : Type 0} → sources.Ghosts A → A → A → OpenFiles → OpenFiles → World
     → World → Type 0
 Stopped P s a b h h' u v = WritesParts {X = Unit {0}} {E = Unit {0}} (Err tt) 0 P s a b h h' u v
@@ -43,7 +43,7 @@ module _ {A : Type 0} {s : sources.Ghosts A} {a b : A} {h h' : OpenFiles} {u v :
     clean = tt;
   }
 
-  -- one behind another
+  -- one after another
   module _ {c : A} {h'' : OpenFiles} {w : World} where
     pub parts_then : {m n : ℕ} {P : List ℕ → Type 0} → Written m P s a b h h' u v → Written n P s b c h' h'' v w
         → Written (m + n) P s a c h h'' u w

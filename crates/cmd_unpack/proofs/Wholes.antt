@@ -1,4 +1,4 @@
--- What a whole run leaves, behind the image that it opened.
+-- What a whole run leaves, after the image that it opened.
 use Rattle.std.proofs.Common.{◌≡◌, ℕ, ◌+◌, Bool, IsTrue, List, [], length, refl, sym, ◌∙◌, ap, subst, arith}
 use Rattle.std.specs.Prelude.{unwrap_or}
 use Rattle.sys_disk.specs.World.{World, OpenFiles, OpensFile, KeepsFile, failing}
@@ -104,7 +104,7 @@ twice h h' h'' m n first next =
     let sum : h.failed + m + n ≡ h.failed + (m + n) = omega arith in
     next ∙ ap (λ k. failing n k) first ∙ ap (λ f. record h { failed = f }) sum
 
--- whatever was done behind a file that was opened, before it was let go
+-- whatever was done after a file was opened, before it was closed
 within : (P : List ℕ → Type 0) (h' g h'' k : OpenFiles) (b c d : World) (m n : ℕ) → g ≡ failing m h'
     → GoesAmong P g h'' b c
     → k ≡ failing n h'' → d ≡ c → GoesAmong P h' k b d

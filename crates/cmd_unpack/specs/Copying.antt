@@ -7,8 +7,8 @@ use Rattle.abt_sections.specs.declared.image.Image.{Image}
 use Rattle.abt_sections.specs.Open.{IsOpened}
 use Rattle.cmd_common_boot.specs.ImageFaults.{IsFaultOf}
 
--- After an Ok these bytes were written, the source holds what it held, and neither it nor the output has failed. Where
--- the image still stands, a refusal is the fault of its bytes or of a device that failed.
+-- After an Ok these bytes were written, the source holds what it held, and neither it nor the output has failed.
+-- Where the image is unchanged, an error is a fault of its bytes or of a device that failed.
 pub record CopiesPart {X : Type 0} (r : Result X SectionFault) {A : Type 0} (s : sources.Ghosts A) (old new : A)
     {B : Type 0} (o : outputs.Ghosts B) (onto now : B) (image : Image) (bytes : List ℕ) : Type 0 where
   pub written : IsTrue s.models → OnOk r (o.written now ≡ o.written onto ++ bytes)

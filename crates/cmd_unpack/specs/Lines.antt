@@ -28,7 +28,7 @@ abbrev pub told_fragments : List ℕ → Header → ℕ → List (List ℕ)
 told_fragments x h zero = []
 told_fragments x h (suc n) = told_fragments x h n ++ (told_part (parts.Fragment n) (entry_of x h n).ramdisk_size ∷ [])
 
--- of the words, where they are wanted
+-- of the arguments, where they are requested
 abbrev pub told_words : Bool → ℕ → List (List ℕ)
 told_words true bytes = told_part parts.Words bytes ∷ []
 told_words false bytes = []
@@ -38,7 +38,7 @@ abbrev pub told_parts : List ℕ → Header → Bool → ℕ → List (List ℕ)
 told_parts x h with_words bytes =
     map told_section (places_of h) ++ (told_fragments x h (fragment_count h) ++ told_words with_words bytes)
 
--- lines were shown one after another: each went to where lines went at its moment
+-- lines were printed one after another: each went to where lines went at that time
 abbrev pub ShowsEach : List (List ℕ) → Report → Report → Type 0
 ShowsEach [] old new = IsSilent old new
 ShowsEach (line ∷ lines) old new = (next : Report) × Shows old next line × ShowsEach lines next new

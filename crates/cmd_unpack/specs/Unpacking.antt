@@ -15,7 +15,7 @@ use Rattle.cmd_common_texts.specs.Words.{words_text, image_words}
 use Rattle.sys_disk.specs.Among.{FileHolds, IsMade, OnlyAmong}
 use Rattle.cmd_unpack.specs.Lines.{told_parts}
 
--- the name of a part's file, and the number that stands behind it
+-- the name of a part's file, and the number after it
 abbrev pub part_name : ImagePart → List ℕ
 part_name (parts.Section kind) = section_name kind
 part_name (parts.Fragment index) = codes "fragment"
@@ -50,7 +50,7 @@ pub record IsFragmentPath (folder : List ℕ) (h : Header) (m : ℕ) (path : Lis
   pub there : index < fragment_count h
   pub is_path : path ≡ path_of_part folder (parts.Fragment index)
 
--- of one of the first s sections or f fragments, or of the words where they are meant
+-- of one of the first s sections or f fragments, or of the arguments where they are meant
 pub data IsFirstPath (folder : List ℕ) (h : Header) (s f : ℕ) (with_words : Bool) (path : List ℕ) : Type 0 where
   of_section : IsSectionPath folder h s path → IsFirstPath folder h s f with_words path
   of_fragment : IsFragmentPath folder h f path → IsFirstPath folder h s f with_words path
@@ -85,12 +85,12 @@ abbrev pub FragmentsDone : List ℕ → Header → List ℕ → ℕ → OpenFile
 FragmentsDone folder h x n held world =
     (k : ℕ) → k < n → IsMade held world (path_of_part folder (parts.Fragment k)) (fragment_of x h k)
 
--- and the words
+-- and the arguments
 abbrev pub WordsDone : List ℕ → Header → List ℕ → OpenFiles → World → Type 0
 WordsDone folder h x held world =
     IsMade held world (path_of_part folder parts.Words) (words_text (image_words folder x h))
 
--- so many outputs more were synced, where outputs are
+-- this many outputs more were synced, where outputs are synced
 pub record SyncsMore (n : ℕ) (old new : OpenFiles) : Type 0 where
   pub wanted : new.is_synced ≡ old.is_synced
   pub added : new.syncs ≡ old.syncs + (if old.is_synced then n else 0)
@@ -123,8 +123,8 @@ pub data PartsLeft (folder : List ℕ) (h : Header) (x : List ℕ) (held : OpenF
 -- ---- all of it
 
 -- The file at a path held a boot image or a vendor boot image. In the folder there is a file for each of its sections
--- and one for each of its ramdisk fragments, under its name, which holds exactly its bytes, and, where they are wanted,
--- one that holds the words that pack it again. A line was printed of each.
+-- and one for each of its ramdisk fragments, under its name. It holds exactly its bytes. Where they are requested,
+-- one file holds the arguments that pack the image again. A line was printed of each.
 pub record Unpacks (input folder : List ℕ) (with_words : Bool) (old new : World) (shows : List (List ℕ) → Type 0)
     : Type 0 where
   pub from : ℕ
@@ -151,7 +151,7 @@ pub record SyncsParts (input : List ℕ) (with_words : Bool) (world : World) (ol
   pub image : HasImage (world.holds from) header
   pub syncs : SyncsMore (part_total with_words header) old new
 
--- the first parts of it are in their files, where a line could not be printed
+-- the first parts of it are in their files, and a line could not be printed
 pub record PartsStand (input folder : List ℕ) (with_words : Bool) (old : World) (held : OpenFiles) (new : World)
     : Type 0 where
   pub from : ℕ
@@ -160,8 +160,8 @@ pub record PartsStand (input folder : List ℕ) (with_words : Bool) (old : World
   pub image : HasImage (old.holds from) header
   pub begun : PartsBegun folder with_words header (old.holds from) held new
 
--- Nothing was changed; or the file at a path held an image, whose first parts are in their files, and no files but
--- theirs and the next one's were created or changed.
+-- Nothing was changed; or the file at a path held an image, whose first parts are in their files, and only their
+-- files and the next one's were created or changed.
 pub data LeavesParts (input folder : List ℕ) (held held' : OpenFiles) (old new : World) : Type 0 where
   no_part : new ≡ old → LeavesParts input folder held held' old new
   first_parts : (from : ℕ) → old.at input ≡ Some from → (header : Header) → HasImage (old.holds from) header

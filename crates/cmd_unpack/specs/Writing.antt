@@ -6,8 +6,8 @@ use Rattle.sys_disk.specs.Among.{GoesAmong, KeepsMade}
 use Rattle.cmd_common_boot.specs.ImageFaults.{NoMoreFailed}
 use Rattle.cmd_unpack.specs.Unpacking.{SyncsMore}
 
--- Files of these names were written, and no others were changed; what was begun before is kept. After an Ok the source
--- holds what it held, so many outputs more were synced, and no call failed.
+-- Files of these names were written, and no others were changed. Files that were begun before are kept. After an Ok the
+-- source holds what it held, this many outputs more were synced, and no call failed.
 pub record WritesParts {X E : Type 0} (r : Result X E) (n : ℕ) (Named : List ℕ → Type 0) {A : Type 0}
     (s : sources.Ghosts A) (source source' : A) (held held' : OpenFiles) (old new : World) : Type 0 where
   pub content : OnOk r (s.content source' ≡ s.content source)
@@ -16,7 +16,7 @@ pub record WritesParts {X E : Type 0} (r : Result X E) (n : ℕ) (Named : List �
   pub synced : OnOk r (SyncsMore n held held')
   pub clean : OnOk r (NoMoreFailed held (s.read_faults source) held' (s.read_faults source'))
 
--- After an Ok the output that was open holds these bytes; all other files are as they were, whatever is answered.
+-- After an Ok the open output holds these bytes. All other files are as they were, whatever the result.
 pub record EndsPart {X E : Type 0} (models : Bool) (r : Result X E) (bytes : List ℕ) (held : OpenFiles)
     (old new : World)
     : Type 0 where

@@ -1,4 +1,4 @@
-//! The bytes of a part, from the image to an output.
+//! Copies the bytes of a part from the image to an output.
 
 ghost use Rattle.std.specs.Prelude.{◌≡◌, ◌<◌, IsTrue, IfOk, length, slice_index_or};
 ghost use Rattle.abt_headers.specs.declared.sections.SectionPlace.{SectionPlace};
@@ -12,7 +12,7 @@ use abt_sections::{Image, SectionFault, fragment, section, unpack, unpack_fragme
 use cmd_common_texts::write_words;
 use sys_report::{Carried, Progress};
 
-/// Writes section `i`, and answers the output with how many bytes it has.
+/// Writes section `i`, and returns the output and the number of its bytes.
 pub fn copy_section<S: Source, O: Output>(
     image: &Image,
     i: usize,
@@ -41,7 +41,7 @@ pub fn copy_section<S: Source, O: Output>(
     }
 }
 
-/// Writes fragment `index`, and answers the output with how many bytes it has.
+/// Writes fragment `index`, and returns the output and the number of its bytes.
 pub fn copy_fragment<S: Source, O: Output>(
     image: &Image,
     index: u32,
@@ -73,7 +73,7 @@ pub fn copy_fragment<S: Source, O: Output>(
     }
 }
 
-/// Writes the words that pack the image again, and answers the output with how many bytes they have.
+/// Writes the arguments that pack the image again, and returns the output and the number of their bytes.
 pub(crate) fn copy_words<S: Source, O: Output>(
     image: &Image,
     folder: &str,

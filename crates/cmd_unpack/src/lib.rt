@@ -1,15 +1,14 @@
-//! The bodies of commands over boot images, over any disk.
+//! The command `unpack`, over any disk.
 //!
-//! What is proved of a body says what it leaves of the files of a disk that tells what they hold; over the disk in
-//! memory each clause speaks.
+//! Its contracts state what it leaves of the files of a disk that models their contents, such as the disk in memory.
 //!
-//! | file | has |
+//! | file | content |
 //! |---|---|
 //! | `unpack.rt` | the command `unpack` |
-//! | `parts.rt` | all parts, one after another |
-//! | `write_part.rt` | one part, to a file of its own |
-//! | `copying.rt` | the bytes of a part, from the image to an output |
-//! | `names.rt`, `lines.rt` | the file of a part, and what is printed of it |
+//! | `parts.rt` | writing all parts, one after another |
+//! | `write_part.rt` | writing one part to a file of its own |
+//! | `copying.rt` | copying the bytes of a part from the image to an output |
+//! | `names.rt`, `lines.rt` | the file of a part, and the line that is printed of it |
 #![tactic(auto)]
 
 mod copying;

@@ -1,4 +1,4 @@
-//! What is printed of a part.
+//! The line that is printed of a part.
 
 ghost use Rattle.std.specs.Prelude.{Some};
 ghost use Rattle.cmd_unpack.specs.Lines.{part_line};

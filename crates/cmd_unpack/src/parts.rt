@@ -1,4 +1,4 @@
-//! All parts of an image, one after another.
+//! Writes all parts of an image, one after another.
 
 ghost use Rattle.std.specs.Prelude.{◌≡◌, ◌<◌, ◌≤◌, ◌+◌, ℕ, None, IsTrue, IfErr, OnOk, OnErr, length, map};
 ghost use Rattle.abt_sections.specs.Header.{fragment_count, places_of, view_of};
@@ -19,7 +19,7 @@ use sys_disk::Disk;
 use sys_refusals::FileArg;
 use sys_report::Report;
 
-/// Writes each section, each fragment, and maybe the words.
+/// Writes each section, each fragment, and maybe the arguments.
 pub(crate) fn write_parts<'t, 'a, D: Disk>(
     disk: &mut D,
     image: &Image,

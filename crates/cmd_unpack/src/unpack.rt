@@ -1,4 +1,4 @@
-//! The command `unpack`: the sections and ramdisk fragments of an image, each into a file of its own.
+//! The command `unpack`: writes each section and ramdisk fragment of an image to a file of its own.
 
 ghost use Rattle.std.specs.Prelude.{◌≡◌, IsTrue, IfErr, OnOk, OnErr, is_ok};
 ghost use Rattle.sys_refusals.specs.Paths.{path_of};
@@ -19,11 +19,10 @@ use sys_disk::Disk;
 use sys_refusals::{FileArg, HostRefusal, Refusal, Sides};
 use sys_report::Report;
 
-/// Writes each section and then each ramdisk fragment of an image to a file of a folder, and the words that pack it
-/// again.
+/// Writes each section, then each ramdisk fragment of an image to a file in a folder, and arguments to pack it again.
 ///
-/// Each file is opened when its turn comes, and its line is printed when it is whole. Where the image is one of the
-/// files that are going to be written, none is.
+/// Each file is opened when its turn comes, and its line is printed when the file is complete. Where the image is one
+/// of the files to be written, no file is written.
 pub fn unpack_file<'t, 'a, D: Disk>(
     disk: &mut D,
     report: &mut Report,
@@ -34,10 +33,10 @@ pub fn unpack_file<'t, 'a, D: Disk>(
     m: &mut Meter,
 ) -> BootOutcome<'t, 'a>
     requires first { IsTrue D.models → IsReading (D.held disk.old) }
-    // each part of the image that IN holds stands in the folder under its name; a line was printed of each
+    // each part of the image that IN holds is stored in the folder under its name; a line was printed of each
     ensures done { IsTrue D.models → OnOk result (Unpacks (path_of input.entry) folder.now with_words (D.world disk.old)
         (D.world disk.new) (λ lines. ShowsEach lines report.old report.new)) }
-    // each was synced, where that is wanted
+    // each was synced, where that is requested
     ensures synced { IsTrue D.models → OnOk result (SyncsParts (path_of input.entry) with_words (D.world disk.old)
         (D.held disk.old) (D.held disk.new)) }
     // whatever the outcome, only such files were created or changed, and IN holds what it held; no call failed where all
@@ -46,10 +45,10 @@ pub fn unpack_file<'t, 'a, D: Disk>(
         (D.held disk.old).read (D.held disk.new).begun (D.world disk.old) (D.world disk.new) }
     ensures keeps { KeepsInput D.models result (path_of input.entry) (D.held disk.old) (D.held disk.new)
         (D.world disk.old) (D.world disk.new) }
-    // where it is refused, the parts before the one at fault stand, and no file but theirs and its own was changed
+    // after an Err, the parts before the one at fault are stored, and no file but theirs and its own was changed
     ensures stands { IsTrue D.models → OnErr result (LeavesParts (path_of input.entry) folder.now (D.held disk.old)
         (D.held disk.new) (D.world disk.old) (D.world disk.new)) }
-    // it is refused for a fault that IN has, or since a call failed; or a part is written, whose line could not be printed
+    // it fails for a fault of IN, or since a call failed; or a part is written, whose line could not be printed
     ensures refused { IsTrue D.models → IfErr result (λ refusal. RefusesImage (path_of input.entry) (D.world disk.old)
         (HasFailed (D.held disk.old) (D.held disk.new)) (PartsStand (path_of input.entry) folder.now with_words
         (D.world disk.old) (D.held disk.new) (D.world disk.new) × CannotPrint report.old report.new) refusal.fault) }
@@ -94,7 +93,7 @@ pub fn unpack_file<'t, 'a, D: Disk>(
     }
 }
 
-// The refusal of an image that is none.
+// The fault of a file that holds no image.
 fn not_opened<'t, 'a>(input: FileArg<'t>, fault: SectionFault) -> Refusal<'t, BootCommandFault<'a>>
     ensures { result.fault ≡ BootCommandFault.Section fault }
 {
@@ -102,7 +101,7 @@ fn not_opened<'t, 'a>(input: FileArg<'t>, fault: SectionFault) -> Refusal<'t, Bo
     sides.refuse(BootCommandFault::Section(fault))
 }
 
-// Refuses to write where the image is one of the files.
+// Fails where the image is one of the files to be written.
 fn refuse_taken<'t, D: Disk>(
     disk: &mut D,
     image: &Image,

@@ -1,4 +1,4 @@
-//! One part of an image, to a file of its own.
+//! Writes one part of an image to a file of its own.
 
 ghost use Rattle.std.specs.Prelude.{◌≡◌, ◌<◌, ◌≤◌, ◌+◌, None, Ok, Err, Bool, ℕ, true, MatchResult, IsTrue, IsOk};
 ghost use Rattle.std.specs.Prelude.{IfOk, IfErr, OnOk, length};
@@ -107,7 +107,7 @@ pub(crate) fn write_fragment<'t, 'a, D: Disk>(
     }
 }
 
-/// Writes the words that pack the image again to their file.
+/// Writes the arguments that pack the image again to their file.
 pub(crate) fn write_pack_words<'t, 'a, D: Disk>(
     disk: &mut D,
     image: &Image,
@@ -143,7 +143,7 @@ pub(crate) fn write_pack_words<'t, 'a, D: Disk>(
     }
 }
 
-// What a call answered that copied a part, once its file is at its end and its line is printed.
+// The result of a call that copied a part, after its file was closed and its line printed.
 fn finish<'t, 'a, D: Disk>(
     disk: &mut D,
     answer: Result<u64, SectionFault>,

@@ -67,7 +67,7 @@ fragment_bytes_at x h k =
     sym (ap (λ b. if b then part_of x (place_at h (n + k)) else fragment_of x h (n + k - n)) (lies_behind k n)
     ∙ ap (fragment_of x h) (behind n k))
 
--- a fragment behind all sections
+-- a fragment after all sections
 pub fragment_found : (h : Header) (i k : ℕ) (name : List ℕ) → i ≡ length (places_of h) + k → name ≡ name_of_fragment k
     → name_at h i ≡ Some name
 fragment_found h i k name behind_all named =
@@ -109,7 +109,7 @@ pub no_file : (folder : List ℕ) (h : Header) (x : List ℕ) (i : ℕ) (held : 
 no_file folder h x i held world none =
     subst (λ o. IfSome o (λ n. IsMade held world (path_in_folder folder n) (part_bytes_at x h i))) (sym none) tt
 
--- ---- one behind others
+-- ---- one after others
 
 pub path_under : {folder : List ℕ} {h : Header} {m n : ℕ} → m ≤ n → (p : List ℕ) → IsFilePath folder h m p
     → IsFilePath folder h n p
@@ -149,7 +149,7 @@ files_more folder h x y n k k' a b same kept done next =
     (λ j below. done_later folder h x j k k' a b (name_at h j) kept (done j below))
     (subst (λ z. FileDone folder h z n k' b) same next)
 
--- a refusal behind others
+-- a failure after others
 pub part_more : (x y : List ℕ) (P Q : Type 0) (fault : BootCommandFault) → y ≡ x → RefusesPart y P fault → (P → Q)
     → RefusesPart x Q fault
 part_more x y P Q fault same (inl refused) more = inl (refused_more x y P Q ⊥ ⊥ fault same refused more (λ none.
@@ -187,7 +187,7 @@ file_of_image path folder x header h h' a opens image p named = record {
   is_file = named;
 }
 
--- whatever was done behind a file that was opened, before it was let go
+-- whatever was done after a file was opened, before it was closed
 pub only_files : (path folder x : List ℕ) (header : Header) (h h' g h'' k : OpenFiles) (a b c d : World) (m n : ℕ)
     → h.begun ≡ [] → OpensFile a path x h h' → b ≡ a → HasImage x header → g ≡ failing m h'
     → GoesAmong (IsFilePath folder header (file_count header)) g h'' b c → k ≡ failing n h'' → d ≡ c
@@ -199,7 +199,7 @@ only_files path folder x header h h' g h'' k a b c d m n none opens same image t
     (goes_then P h' h'' k b c d (goes_then P h' g h'' b b c (goes_none P h' g b b m taken refl) goes)
     (goes_none P h'' k c d n let_go still)))
 
--- a refusal, of the file that the image was opened from
+-- a failure, of the file from which the image was opened
 pub unpack_refused : (path x : List ℕ) (h h' : OpenFiles) (a : World) (P Q : Type 0) (fault : BootCommandFault)
     → OpensFile a path x h h' → RefusesPart x P fault → (P → Q) → RefusesUnpack path a Q fault
 unpack_refused path x h h' a P Q fault opens (inl refused) more =

@@ -18,7 +18,7 @@ use Rattle.cmd_common_boot.specs.declared.fault.BootCommandFault.TheVariants as 
 use Rattle.cmd_common_texts.specs.Words.{has_table}
 use Rattle.cmd_unpack_aosp_texts.specs.Files.{name_of_fragment, name_of_section}
 
--- ---- the parts: the sections in their order, and behind them the ramdisk fragments
+-- ---- the parts: the sections in their order, and after them the ramdisk fragments
 
 abbrev pub file_count : Header → ℕ
 file_count h = length (places_of h) + fragment_count h
@@ -72,7 +72,7 @@ FileDone folder h x i held world =
 abbrev pub FilesDone : List ℕ → Header → List ℕ → ℕ → OpenFiles → World → Type 0
 FilesDone folder h x n held world = (k : ℕ) → k < n → FileDone folder h x k held world
 
--- ---- refusals
+-- ---- why it fails
 
 -- a fragment has no name: only the first hundred have one
 pub record IsUnnamed (fault : BootCommandFault) : Type 0 where
@@ -93,14 +93,14 @@ RefusesName failed fault = IsCallFault failed fault ⊎ IsUnnamed fault
 abbrev pub RefusesPart : List ℕ → Type 0 → BootCommandFault → Type 0
 RefusesPart x failed fault = IsRefusedOver x failed ⊥ fault ⊎ IsUnnamed fault
 
--- the same of what the file at a path holds
+-- the same for what the file at a path holds
 abbrev pub RefusesUnpack : List ℕ → World → Type 0 → BootCommandFault → Type 0
 RefusesUnpack path world failed fault = RefusesImage path world failed ⊥ fault ⊎ IsUnnamed fault
 
 -- ---- all of it
 
--- The file at a path held a boot image or a vendor boot image. In the folder there is a file for each of its parts to
--- which the tool gives one, under its name, which holds exactly its bytes.
+-- The file at a path held a boot image or a vendor boot image. In the folder there is a file for each of its parts
+-- that has one in the tool, under its name. It holds exactly the part's bytes.
 pub record UnpacksAsAosp (input folder : List ℕ) (old new : World) : Type 0 where
   pub from : ℕ
   pub there : old.at input ≡ Some from

@@ -1,11 +1,10 @@
-//! The body of unpack_bootimg, over any disk.
+//! The body of unpack_bootimg, over any disk. Its contracts state what it leaves of the files of a disk that models
+//! their contents.
 //!
-//! What is proved of it says what it leaves of the files of a disk that tells what they hold.
-//!
-//! | file | has |
+//! | file | content |
 //! |---|---|
-//! | `unpack.rt` | the parts of an image, each to the file that unpack_bootimg gives it |
-//! | `write_part.rt` | one part, to a file of its own |
+//! | `unpack.rt` | writing the parts of an image, each to the file of unpack_bootimg for it |
+//! | `write_part.rt` | writing one part to a file of its own |
 //! | `names.rt` | the file of a part |
 #![tactic(auto)]
 

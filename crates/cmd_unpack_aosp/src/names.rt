@@ -21,7 +21,7 @@ pub(crate) fn place_in<'a>(folder: &'a str, name: &'a str) -> FileArg<'a>
     }
 }
 
-/// The name of the file of part `i`, where it has one: of section `i`, or behind all sections of a ramdisk fragment.
+/// The name of the file of part `i`, if any. Part `i` is section `i`, or after all sections a ramdisk fragment.
 pub(crate) fn name_at(image: &Image, i: u64) -> Result<Option<&'static str>, SectionFault>
     requires { i < file_count (view_of image.now.header) }
     ensures { IfErr result (λ fault. (index : ℕ) × (fault ≡ SectionFault.Entry index)) }

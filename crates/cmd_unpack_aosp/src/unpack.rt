@@ -1,4 +1,4 @@
-//! The parts of an image, each to the file that unpack_bootimg gives it.
+//! Writes the parts of an image, each to the file of unpack_bootimg for it.
 
 ghost use Rattle.std.specs.Prelude.{◌≡◌, ◌<◌, ◌+◌, ℕ, None, IsTrue, IfErr, OnOk, OnErr};
 ghost use Rattle.sys_refusals.specs.Paths.{path_of};
@@ -21,10 +21,9 @@ use sys_disk::Disk;
 use sys_refusals::{FileArg, Refusal, Sides};
 use sys_report::{Progress, Report};
 
-/// Writes the parts of an image to files of a folder, each under the name that unpack_bootimg gives it. It prints
-/// nothing.
+/// Writes the parts of an image to files in a folder, each under its name in unpack_bootimg. It prints nothing.
 ///
-/// Each file is opened when its turn comes. Where the image is one of the files that are going to be written, none is.
+/// Each file is opened when its turn comes. Where the image is one of the files to be written, no file is written.
 pub fn unpack_as_aosp<'t, 'a, D: Disk>(
     disk: &mut D,
     report: &mut Report,
@@ -34,7 +33,7 @@ pub fn unpack_as_aosp<'t, 'a, D: Disk>(
     m: &mut Meter,
 ) -> BootOutcome<'t, 'a>
     requires first { IsTrue D.models → IsReading (D.held disk.old) }
-    // each part of the image that IN holds stands in the folder, in the file that the tool gives it
+    // each part of the image that IN holds is stored in the folder, in the tool's file for it
     ensures done { IsTrue D.models → OnOk result (UnpacksAsAosp (path_of input.entry) folder.now (D.world disk.old)
         (D.world disk.new)) }
     // whatever the outcome, only such files were created or changed, and IN holds what it held; no call failed where all
@@ -43,7 +42,7 @@ pub fn unpack_as_aosp<'t, 'a, D: Disk>(
         (D.held disk.old).read (D.held disk.new).begun (D.world disk.old) (D.world disk.new) }
     ensures keeps { KeepsInput D.models result (path_of input.entry) (D.held disk.old) (D.held disk.new)
         (D.world disk.old) (D.world disk.new) }
-    // it is refused for a fault that IN has, or since a call failed, or for a fragment without a name
+    // it fails for a fault of IN, or since a call failed, or for a fragment without a name
     ensures refused { IsTrue D.models → IfErr result (λ refusal. RefusesUnpack (path_of input.entry) (D.world disk.old)
         (HasFailed (D.held disk.old) (D.held disk.new)) refusal.fault) }
 {
@@ -78,7 +77,7 @@ pub fn unpack_as_aosp<'t, 'a, D: Disk>(
     }
 }
 
-// The refusal of what the image has.
+// The fault of an image.
 fn refused_in<'t, 'a>(input: FileArg<'t>, fault: SectionFault) -> Refusal<'t, BootCommandFault<'a>>
     ensures { result.fault ≡ BootCommandFault.Section fault }
 {
@@ -86,7 +85,7 @@ fn refused_in<'t, 'a>(input: FileArg<'t>, fault: SectionFault) -> Refusal<'t, Bo
     sides.refuse(BootCommandFault::Section(fault))
 }
 
-// Refuses to write where the image is one of the files, or where a fragment has no name.
+// Fails where the image is one of the files to be written, or where a fragment has no name.
 fn refuse_taken<'t, 'a, D: Disk>(
     disk: &mut D,
     image: &Image,

@@ -1,4 +1,4 @@
-//! One part of an image, to a file of its own.
+//! Writes one part of an image to a file of its own.
 
 ghost use Rattle.std.specs.Prelude.{◌≡◌, ◌<◌, ◌≤◌, ◌+◌, ◌⊎◌, None, Bool, ℕ, true, IsTrue, IsOk, IfErr, OnOk, length};
 ghost use Rattle.sys_disk.specs.World.{Ends, ended};
@@ -133,7 +133,7 @@ fn write_fragment<'t, 'a, D: Disk>(
     }
 }
 
-// What a call answered that copied a part, once its file is at its end.
+// The result of a call that copied a part, after its file was closed.
 fn finish<'t, 'a, D: Disk>(
     disk: &mut D,
     answer: Result<u64, SectionFault>,

@@ -10,7 +10,7 @@ use Rattle.abt_headers.specs.declared.sections.Section.TheVariants.{Signature, V
 abbrev pub unless_empty : ℕ → List ℕ → Option (List ℕ)
 unless_empty size name = if size == 0 then None else Some name
 
--- of a section of so many bytes, where there is one: in the place of a vendor ramdisk with a table its fragments have
+-- of a section of this many bytes, where there is one: in place of a vendor ramdisk with a table, its fragments have
 -- files
 abbrev pub file_of : Bool → Section → ℕ → Option (List ℕ)
 file_of table Kernel size = Some (codes "kernel")

@@ -1,4 +1,4 @@
--- What the header of an image says, a line for each field, as unpack_bootimg prints it.
+-- The values of an image's header, a line for each field, as unpack_bootimg prints them.
 use Rattle.std.specs.Prelude.{ℕ, ◌%◌, ◌==◌, ◌&&◌, Bool, if◌then◌else◌, List, [], ◌∷◌, ◌++◌, Option, Some, None, codes}
 use Rattle.std.specs.Prelude.{decimal, false}
 use Rattle.std.specs.Fmt.{digits}
@@ -145,7 +145,7 @@ vendor_rows_of f (Some t) = table_rows f t.table_size
 abbrev pub vendor_rows : Vendor → List ℕ
 vendor_rows v = vendor_rows_of v.front v.tail
 
--- and behind them
+-- and after them
 abbrev pub table_end : ℕ → List ℕ
 table_end size = codes "]\n" ++ decimal_row (codes "vendor bootconfig size") size
 

@@ -1,14 +1,14 @@
--- Words as a shell reads them, as Python's shlex writes them.
+-- Arguments as a shell reads them, in the form that Python's shlex writes.
 use Rattle.std.specs.Prelude.{ℕ, ◌==◌, ◌&&◌, ◌||◌, not, nat_le, Bool, true, false, if◌then◌else◌, List, [], ◌∷◌, ◌++◌}
 use Rattle.std.specs.Prelude.{codes}
 use Rattle.std.specs.List.{flat_map}
 use Rattle.cmd_unpack_aosp_texts.specs.declared.shell.Word.{Word}
 
--- the bytes of a word in parts
+-- the bytes of an argument in parts
 abbrev pub word_bytes : Word → List ℕ
 word_bytes w = w.front.now ++ (w.middle.now ++ (w.back.now ++ w.end.now))
 
--- a letter, a digit, or one of `%+,-./:=@_`: to a shell it means nothing but itself
+-- a letter, a digit, or one of `%+,-./:=@_`: it has no special meaning for a shell
 abbrev pub is_safe : ℕ → Bool
 is_safe b =
     (nat_le 0x2b b && nat_le b 0x3a) || ((nat_le 0x40 b && nat_le b 0x5a) || ((nat_le 0x61 b && nat_le b 0x7a)
@@ -22,7 +22,7 @@ abbrev pub is_blank : List ℕ → Bool
 is_blank [] = true
 is_blank (b ∷ x) = false
 
--- a quote stands outside of the quotes, between others
+-- a quote is written outside of the quotes, between others
 abbrev pub escaped_quote : ℕ → List ℕ
 escaped_quote b = if b == 39 then codes "'\"'\"'" else b ∷ []
 

@@ -1,4 +1,4 @@
--- The texts of an image that unpack_bootimg prints: what its header says, and the words that make it again.
+-- The texts of an image that unpack_bootimg prints: the values of its header, and the arguments that make it again.
 use Rattle.std.specs.Prelude.{ℕ, zero, suc, List, [], ◌∷◌, ◌++◌}
 use Rattle.abt_headers.specs.declared.entry.RamdiskEntry.{RamdiskEntry}
 use Rattle.abt_sections.specs.Header.{Header, OfBoot, OfVendor, entry_of, fragment_count}
@@ -15,7 +15,7 @@ front_text kinds.Info folder (OfVendor v) = info.vendor_rows v
 front_text (kinds.Words e) folder (OfBoot h) = words.boot_words e folder h
 front_text (kinds.Words e) folder (OfVendor v) = words.vendor_words e folder v
 
--- behind them
+-- after them
 abbrev pub end_text : AospText → Header → List ℕ
 end_text kinds.Info (OfBoot h) = []
 end_text kinds.Info (OfVendor v) = info.vendor_last v

@@ -1,4 +1,4 @@
--- The words of mkbootimg that make an image again, as unpack_bootimg prints them. A number is never quoted.
+-- The arguments of mkbootimg that make an image again, as unpack_bootimg prints them. A number is never quoted.
 use Rattle.std.specs.Prelude.{ℕ, ◌-◌, ◌==◌, Bool, if◌then◌else◌, List, [], ◌∷◌, ◌++◌, Option, Some, None}
 use Rattle.std.specs.Prelude.{codes, decimal}
 use Rattle.std.specs.Prelude.{get_or, length}
@@ -19,9 +19,9 @@ use Rattle.cmd_unpack_aosp_texts.specs.Shell.{shell_quoted}
 use Rattle.cmd_unpack_aosp_texts.specs.declared.options.Ending.{Ending}
 use Rattle.cmd_unpack_aosp_texts.specs.declared.options.Ending.TheVariants as endings
 
--- ---- words
+-- ---- arguments
 
--- before each word but the first, behind each, and behind all
+-- before each argument but the first, after each, and after all
 abbrev pub before_word : Ending → List ℕ
 before_word endings.Blank = codes " "
 before_word endings.Zero = []
@@ -40,7 +40,7 @@ first_word e w = w ++ behind_word e
 abbrev pub plain_word : Ending → List ℕ → List ℕ
 plain_word e w = before_word e ++ (w ++ behind_word e)
 
--- a text or a path: where a zero byte is behind it, it is not quoted
+-- a text or a path: where a zero byte follows it, it is not quoted
 abbrev pub written_text : Ending → List ℕ → List ℕ
 written_text endings.Blank x = shell_quoted x
 written_text endings.Zero x = x
@@ -191,6 +191,6 @@ board_id_option e k n = plain_word e (codes "--board_id" ++ decimal k) ++ plain_
 abbrev pub board_id_word : Ending → ℕ → ℕ → List ℕ
 board_id_word e k n = if n == 0 then [] else board_id_option e k n
 
--- the file is behind all else of the fragment
+-- the file comes after all other arguments of the fragment
 abbrev pub entry_file : Ending → List ℕ → ℕ → List ℕ
 entry_file e folder i = file_option e folder (codes "--vendor_ramdisk_fragment") (name_of_fragment i)

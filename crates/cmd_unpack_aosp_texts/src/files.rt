@@ -112,7 +112,7 @@ fn is_name_of(name: &str, index: u32) -> bool
     }
 }
 
-// What is behind a beginning.
+// What follows a prefix.
 fn behind<'a>(name: &'a str, front: &str) -> Option<&'a str>
     ensures { IfSome result (λ rest. name.now ≡ front.now ++ rest.now) }
 {

@@ -1,4 +1,4 @@
-//! What the header of an image says, as unpack_bootimg prints it.
+//! The values of an image's header, as unpack_bootimg prints them.
 
 ghost use Rattle.std.specs.Prelude.{◌≡◌};
 ghost use Rattle.abt_headers.specs.declared.boot.BootHeader.TheVariants.{V1, V2, V4};
@@ -150,7 +150,7 @@ fn vendor_front_rows<O: Output>(
     put_high_row("dtb address", front.dtb_addr, text);
 }
 
-/// Adds the lines behind the fragments.
+/// Adds the lines after the fragments.
 pub(crate) fn vendor_end<O: Output>(header: &VendorHeader, text: &mut Text<'_, O>)
     ensures { Prints O.written O.write_faults text.old text.new (spec.vendor_last (vendor_view header.now)) }
 {
@@ -203,7 +203,7 @@ fn behind_cell(place: u32) -> &'static str
     if place % 4 == 3 { ",\n" } else { "," }
 }
 
-/// Adds what is behind a board id.
+/// Adds the text after a board id.
 pub(crate) fn entry_end<O: Output>(text: &mut Text<'_, O>)
     ensures { Prints O.written O.write_faults text.old text.new spec.entry_end }
 {

@@ -1,14 +1,18 @@
-//! What unpack_bootimg prints of a boot image.
+//! The texts of a boot image that unpack_bootimg prints.
 //!
-//! What the layers above rely on: `write_aosp_text` writes exactly the text that the specification says of the image's
-//! header and of its table of fragments, and the words are quoted as a shell reads them.
+//! The layers above rely on two facts:
+//! - `write_aosp_text` writes exactly the text that is defined for the image's header and its table of fragments.
+//! - The arguments are quoted as a shell reads them.
 //!
-//! | file | has |
+//! | file | content |
 //! |---|---|
-//! | `text.rt` | a text of an image: its front, its ramdisk fragments, and its end |
-//! | `info.rt`, `rows.rt` | the lines of what the header says |
-//! | `words.rt`, `options.rt`, `shell.rt` | the words of mkbootimg, each as an option has it, and quoted |
-//! | `files.rt` | the names of the files that the parts go to |
+//! | `text.rt` | a text of an image: its beginning, its ramdisk fragments, and its end |
+//! | `info.rt` | the lines of the header's values |
+//! | `rows.rt` | one line: a label and a value |
+//! | `words.rt` | the arguments of mkbootimg that make an image again |
+//! | `options.rt` | each option of these arguments, with its value |
+//! | `shell.rt` | quoting an argument for a shell |
+//! | `files.rt` | the names of the files to which the parts are written |
 #![tactic(auto)]
 
 mod files;

@@ -1,4 +1,4 @@
-//! The options of mkbootimg's words, each with its value.
+//! The options of mkbootimg's arguments, each with its value.
 
 ghost use Rattle.std.specs.Prelude.{◌≡◌, ◌++◌};
 ghost use Rattle.abt_headers.specs.Os.{os_parts};
@@ -15,16 +15,16 @@ use abt_io::Output;
 use cmd_common_fields::front_text;
 use sys_text::Text;
 
-/// What stands between words.
+/// What separates arguments.
 #[derive(Clone, Copy)]
 pub enum Ending {
-    /// A blank; the last word ends the line. Words are quoted.
+    /// A blank; the last argument ends the line. Arguments are quoted.
     Blank,
-    /// Behind each word a zero byte.
+    /// A zero byte after each argument.
     Zero,
 }
 
-// Adds what stands before a word that is not the first.
+// Adds what comes before an argument that is not the first.
 fn begin_word<O: Output>(ending: Ending, text: &mut Text<'_, O>)
     ensures { Prints O.written O.write_faults text.old text.new (spec.before_word ending) }
 {
@@ -34,7 +34,7 @@ fn begin_word<O: Output>(ending: Ending, text: &mut Text<'_, O>)
     }
 }
 
-// Adds what stands behind a word.
+// Adds what follows an argument.
 fn end_word<O: Output>(ending: Ending, text: &mut Text<'_, O>)
     ensures { Prints O.written O.write_faults text.old text.new (spec.behind_word ending) }
 {
@@ -44,7 +44,7 @@ fn end_word<O: Output>(ending: Ending, text: &mut Text<'_, O>)
     }
 }
 
-/// Adds what stands behind all words.
+/// Adds what follows all arguments.
 pub(crate) fn end_words<O: Output>(ending: Ending, text: &mut Text<'_, O>)
     ensures { Prints O.written O.write_faults text.old text.new (spec.behind_words ending) }
 {
@@ -54,7 +54,7 @@ pub(crate) fn end_words<O: Output>(ending: Ending, text: &mut Text<'_, O>)
     }
 }
 
-/// Adds the first word.
+/// Adds the first argument.
 pub(crate) fn put_first_word<O: Output>(name: &str, ending: Ending, text: &mut Text<'_, O>)
     ensures { Prints O.written O.write_faults text.old text.new (spec.first_word ending name.now) }
 {
@@ -62,7 +62,7 @@ pub(crate) fn put_first_word<O: Output>(name: &str, ending: Ending, text: &mut T
     end_word(ending, text);
 }
 
-// Adds a word that is not quoted.
+// Adds an argument that is not quoted.
 fn put_name<O: Output>(name: &str, ending: Ending, text: &mut Text<'_, O>)
     ensures { Prints O.written O.write_faults text.old text.new (spec.plain_word ending name.now) }
 {
@@ -71,7 +71,7 @@ fn put_name<O: Output>(name: &str, ending: Ending, text: &mut Text<'_, O>)
     end_word(ending, text);
 }
 
-/// Adds a number as a word, in decimal.
+/// Adds a number as an argument, in decimal.
 pub(crate) fn put_number_value<O: Output>(number: u64, ending: Ending, text: &mut Text<'_, O>)
     ensures { Prints O.written O.write_faults text.old text.new (spec.number_value ending number) }
 {
@@ -175,7 +175,7 @@ fn put_level_option<O: Output>(os: OsVersion, ending: Ending, text: &mut Text<'_
     end_word(ending, text);
 }
 
-// Adds a word that may have to be quoted.
+// Adds an argument that may have to be quoted.
 fn put_value<O: Output>(word: &Word<'_>, ending: Ending, text: &mut Text<'_, O>)
     ensures { Prints O.written O.write_faults text.old text.new (spec.text_value ending (word_bytes word.now)) }
 {
@@ -279,14 +279,14 @@ fn path_word<'a>(folder: &'a str, file: &'a str, number: &'a str) -> Word<'a>
     }
 }
 
-// What stands between a folder and a name.
+// What separates a folder from a name.
 fn slash_behind(folder: &str) -> &'static str
     ensures { result.now ≡ spec.slash_behind folder.now }
 {
     if is_ended(folder.as_bytes()) { "" } else { "/" }
 }
 
-// No slash is wanted behind it.
+// Whether no slash is needed after it.
 fn is_ended(folder: &[u8]) -> bool
     ensures { result ≡ spec.is_ended folder.now }
 {

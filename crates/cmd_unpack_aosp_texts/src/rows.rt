@@ -1,4 +1,4 @@
-//! The lines of what a header says, each a label and a value.
+//! The lines of a header's values, each a label and a value.
 
 ghost use Rattle.std.specs.Prelude.{◌≡◌};
 ghost use Rattle.std.specs.Int.{to_be_bytes, w32, w64};
@@ -45,7 +45,7 @@ fn high_digits(number: u64) -> [u8; 16]
     digits
 }
 
-// Adds a label, and what stands between it and its value.
+// Adds a label, and what separates it from its value.
 fn put_label<O: Output>(label: &str, text: &mut Text<'_, O>)
     ensures { Prints O.written O.write_faults text.old text.new (spec.labelled label.now) }
 {

@@ -1,4 +1,4 @@
-//! Words as a shell reads them.
+//! Quoting an argument for a shell.
 
 ghost use Rattle.std.specs.Prelude.{◌≡◌, ◌++◌, ◌&&◌};
 ghost use Rattle.std.specs.List.{flat_map};
@@ -10,7 +10,7 @@ ghost use Rattle.cmd_unpack_aosp_texts.specs.Shell.{shell_quoted};
 use abt_io::Output;
 use sys_text::Text;
 
-/// A word in four parts, one behind the other.
+/// An argument in four parts, one after the other.
 #[derive(Clone, Copy)]
 pub(crate) struct Word<'a> {
     pub front: &'a [u8],
@@ -20,7 +20,7 @@ pub(crate) struct Word<'a> {
 }
 
 impl<'a> Word<'a> {
-    /// The word that a text is.
+    /// The argument that consists of a text.
     pub fn new(front: &'a [u8]) -> Word<'a>
         ensures { word_bytes result ≡ front.now }
     {
@@ -32,7 +32,7 @@ impl<'a> Word<'a> {
         }
     }
 
-    /// The word that two texts are together.
+    /// The argument that consists of two texts.
     pub fn of_two(front: &'a [u8], middle: &'a [u8]) -> Word<'a>
         ensures { word_bytes result ≡ front.now ++ middle.now }
     {
@@ -69,7 +69,7 @@ impl<'a> Word<'a> {
         text.put(self.end);
     }
 
-    // Adds it between quotes, where a quote stands outside of them.
+    // Adds it between quotes. A quote within it is written outside of the quotes.
     fn put_between<O: Output>(&self, text: &mut Text<'_, O>)
         ensures { Prints O.written O.write_faults text.old text.new (between_quotes (word_bytes self.now)) }
     {
@@ -81,7 +81,7 @@ impl<'a> Word<'a> {
         text.word("'");
     }
 
-    /// Adds it so that a shell reads it as it is.
+    /// Adds it in the form that a shell reads back as the same argument.
     pub fn put_quoted<O: Output>(&self, text: &mut Text<'_, O>)
         ensures { Prints O.written O.write_faults text.old text.new (shell_quoted (word_bytes self.now)) }
     {

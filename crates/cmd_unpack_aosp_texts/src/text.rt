@@ -18,15 +18,15 @@ use sys_text::Text;
 /// What is printed of an image.
 #[derive(Clone, Copy)]
 pub enum AospText {
-    /// What its header says, a line for each field.
+    /// The values of its header, a line for each field.
     Info,
-    /// The words of mkbootimg that make it again, of parts in a folder.
+    /// The arguments of mkbootimg that make it again from parts in a folder.
     Words(Ending),
 }
 
 /// Writes a text of an image.
 ///
-/// A write that fails is `Write`; where the source fails, what came before stands. It takes no memory.
+/// A failed write is `Write`. Where the source fails, everything before stays written. It allocates no memory.
 pub fn write_aosp_text<S: Source, O: Output>(
     image: &Image,
     which: AospText,
@@ -40,7 +40,7 @@ pub fn write_aosp_text<S: Source, O: Output>(
     // exactly the text of the image's header and of its fragments was written
     ensures written { IsTrue S.models → OnOk result (O.written out.new ≡ O.written out.old ++ spec.aosp_text which
         folder.now (S.content source.old) (view_of image.now.header)) }
-    // it is refused since a device failed
+    // it fails since a device failed
     ensures refused { IsTrue S.models → IsOpened (S.content source.old) image.now →
         IfErr result (λ f. info.PrintCause f (S.read_faults source.old) (S.read_faults source.new)) }
 {
@@ -92,7 +92,7 @@ fn put_front<O: Output>(header: &ImageHeader, which: AospText, folder: &str, tex
     }
 }
 
-// What is behind the fragments.
+// The text after the fragments.
 fn put_end<O: Output>(header: &ImageHeader, which: AospText, text: &mut Text<'_, O>)
     ensures { Prints O.written O.write_faults text.old text.new (spec.end_text which (view_of header.now)) }
 {

@@ -1,4 +1,4 @@
-//! The words of mkbootimg that make an image again.
+//! The arguments of mkbootimg that make an image again.
 
 ghost use Rattle.std.specs.Prelude.{◌≡◌, codes};
 ghost use Rattle.abt_headers.specs.declared.boot.BootHeader.TheVariants.{V0, V1, V2};
@@ -18,7 +18,7 @@ use abt_headers::{
 use abt_io::Output;
 use sys_text::Text;
 
-/// Adds the words of a boot image.
+/// Adds the arguments of a boot image.
 pub(crate) fn boot_words<O: Output>(
     header: &BootHeader,
     folder: &str,
@@ -106,7 +106,7 @@ fn third_words<O: Output>(
     name_words(front, ending, text);
 }
 
-// The words of each version.
+// The arguments of each version.
 fn opening_words<O: Output>(
     version: u32,
     os: OsVersion,
@@ -123,7 +123,7 @@ fn opening_words<O: Output>(
     put_file_option("--ramdisk", folder, "ramdisk", ending, text);
 }
 
-// The word of a part, where it is not empty.
+// The argument of a part, where it is not empty.
 fn part_option<O: Output>(
     name: &str,
     size: u32,
@@ -193,7 +193,7 @@ fn short_words<O: Output>(
     put_field_option("--cmdline", &front.cmdline, ending, text);
 }
 
-/// Adds the words of a vendor boot image, but for those of its fragments.
+/// Adds the arguments of a vendor boot image, except those of its fragments.
 pub(crate) fn vendor_words<O: Output>(
     header: &VendorHeader,
     folder: &str,
@@ -258,7 +258,7 @@ fn vendor_front_words<O: Output>(
     part_option("--dtb", front.dtb_size, folder, "dtb", ending, text);
 }
 
-/// Adds the words of a fragment before its board id.
+/// Adds the arguments of a fragment before its board id.
 pub(crate) fn entry_words<O: Output>(entry: &RamdiskEntry, ending: Ending, text: &mut Text<'_, O>)
     ensures { Prints O.written O.write_faults text.old text.new (spec.entry_options ending entry.now) }
 {
@@ -266,7 +266,7 @@ pub(crate) fn entry_words<O: Output>(entry: &RamdiskEntry, ending: Ending, text:
     put_field_option("--ramdisk_name", &entry.name, ending, text);
 }
 
-/// Adds the words of a number of a board id, where it is not zero.
+/// Adds the arguments of a number of a board id, where it is not zero.
 pub(crate) fn board_word<O: Output>(place: u32, number: u32, ending: Ending, text: &mut Text<'_, O>)
     ensures { Prints O.written O.write_faults text.old text.new (spec.board_id_word ending place number) }
 {
@@ -276,7 +276,7 @@ pub(crate) fn board_word<O: Output>(place: u32, number: u32, ending: Ending, tex
     put_board_option(place, number, ending, text);
 }
 
-/// Adds the word of a fragment's file, which is behind its other words.
+/// Adds the argument of a fragment's file, which comes after its other arguments.
 pub(crate) fn entry_file<O: Output>(
     index: u32,
     folder: &str,

@@ -1,9 +1,9 @@
-//! Tests of the source of `sys_devices` that reads ahead: over a file in memory, and over one whose reads are short,
-//! fail and are counted.
+//! Tests of the source of `sys_devices` that reads ahead. They run over a file in memory, and over one whose reads
+//! are short, fail and are counted.
 //!
-//! | file | has |
+//! | file | content |
 //! |---|---|
-//! | `short_file.rt` | a file in memory whose reads give few bytes, fail where that is chosen, and are counted |
+//! | `short_file.rt` | a file in memory whose reads return few bytes, fail at a chosen call, and are counted |
 //! | `sources.rt` | the tests |
 #![tactic(auto)]
 

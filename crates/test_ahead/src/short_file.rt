@@ -1,4 +1,4 @@
-//! A file in memory whose reads give few bytes, fail where that is chosen, and are counted.
+//! A file in memory whose reads return few bytes, fail at a chosen call, and are counted.
 
 ghost use Rattle.std.specs.Prelude.{[], false};
 ghost use Rattle.std.proofs.lemmas.Bool.{false≢true};
@@ -14,13 +14,13 @@ use sys_file::{Stamp, SystemFile};
 #[derive(Drop)]
 pub(crate) struct ShortFile {
     pub bytes: Vec<u8>,
-    /// A read gives at most so many bytes.
+    /// The most bytes that a read returns.
     pub most: usize,
-    /// The read of this number fails, counted down from there, and behind it none does.
+    /// Counts reads down to the one that fails; after it none fails.
     pub left: Cell<u64>,
-    /// How many bytes were given.
+    /// How many bytes were returned.
     pub given: Cell<u64>,
-    /// What its stamp says.
+    /// Its current stamp.
     pub stamp: Cell<Stamp>,
 }
 

@@ -1,4 +1,4 @@
-//! A source that is read ahead gives the bytes of its file, whatever its reads bring, and tells what fails.
+//! A source that reads ahead returns the bytes of its file, whatever its reads return, and reports what fails.
 
 use crate::short_file::ShortFile;
 use abt_io::{DeviceFault, Source};
@@ -10,10 +10,10 @@ use sys_file::{Stamp, SystemFile};
 // Lengths on both sides of what is read at once, and one that is long.
 const SIZES: [usize; 6] = [0, 1, 257, 4097, 65_536, 200_001];
 
-// How many bytes a read of the file gives at most.
+// The most bytes that a read of the file returns.
 const FEW: [usize; 4] = [1, 100, 5000, 1_000_000];
 
-// Asks on both sides of the most that goes through what is held, and of what is read at once.
+// Lengths on both sides of two limits: the most that goes through the buffer, and the most that is read at once.
 const ASKS: [usize; 8] = [0, 1, 12, 28, 256, 257, 1000, 4097];
 
 // How many bytes an ask has at most.
@@ -30,7 +30,7 @@ fn image(alloc: Global, count: usize) -> Vec<u8> {
     made
 }
 
-// So many bytes of these from a place on, as far as they go.
+// This many bytes of these from a position on, as far as they go.
 fn part(bytes: &[u8], from: u64, count: usize) -> &[u8] {
     let from = from.min(bytes.len() as u64) as usize;
     let count = count.min(bytes.len() - from);
@@ -45,7 +45,7 @@ fn ahead<F: SystemFile + Drop>(alloc: Global, file: F) -> Option<AheadSource<F>>
     }
 }
 
-// Where the next read is: behind the last one mostly, a little before or behind that, at the front, or anywhere.
+// Where the next read is: mostly after the last one, or a little before or after that, at the beginning, or anywhere.
 fn place(mixed: u64, behind: u64, size: u64) -> u64 {
     let some = mixed / 8;
     match mixed % 8 {
@@ -57,8 +57,8 @@ fn place(mixed: u64, behind: u64, size: u64) -> u64 {
     }
 }
 
-// One read: nothing where it failed, and else how many bytes it gave, if they are those of the image, and if it gave
-// none only for an empty ask, or at the end.
+// One read. Returns `None` where it failed. Otherwise returns how many bytes it returned, if they are those of the
+// image, and if it returned none only for an empty buffer, or at the end.
 fn right<F: SystemFile + Drop>(
     source: &mut AheadSource<F>,
     image: &[u8],
@@ -123,7 +123,7 @@ fn a_source_gives_what_stands(rt: HostRuntime) {
     }
 }
 
-/// A read of the file that fails is told, or those behind it are right. Whichever fails, none gives what is not there.
+/// A read of the file that fails is reported, or those after it are right. Whichever fails, none returns wrong bytes.
 #[test]
 fn a_read_that_fails_leaves_nothing_wrong(rt: HostRuntime) {
     let held = image(rt.alloc(), 9000);
@@ -137,7 +137,7 @@ fn a_read_that_fails_leaves_nothing_wrong(rt: HostRuntime) {
     }
 }
 
-/// A read that nothing is held for is told where it fails, and none is where there is no file.
+/// A failed read is reported where no bytes are buffered for it. Where there is no file, no read fails.
 #[test]
 fn what_fails_is_told(rt: HostRuntime) {
     let mut out = [0; 300];
@@ -171,8 +171,8 @@ fn a_raw_image_is_read_once(rt: HostRuntime) {
     }
 }
 
-/// A file that got shorter is told where what is missing was given from memory since the piece began, and not else. One
-/// of another stamp has changed.
+/// A file that got shorter is reported only where missing bytes were returned from memory since the piece began. A
+/// file with another stamp has changed.
 #[test]
 fn a_file_that_changed_is_told(rt: HostRuntime) {
     let held = image(rt.alloc(), 9000);

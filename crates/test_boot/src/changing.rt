@@ -1,11 +1,11 @@
-//! Sources that are other bytes after some of their calls.
+//! Sources whose bytes change after some of their calls.
 
 use crate::samples::{boot, checked, entry, opened, pack, pack_four, pack_parts, unpack_entry};
 use abt_io::{SliceOutput, SliceSource};
 use abt_sections::{Packed, SectionFault, fragments};
 use mem_devices::SwitchSource;
 
-/// Another length, and then another entry, stands where the image had one that it accepted.
+/// An image that was accepted changes: first its source has another length, and then an entry is another.
 #[test]
 fn an_image_that_is_no_longer_accepted_has_changed(rt: HostRuntime) {
     let mut bytes = [1u8; 20480];
@@ -40,8 +40,8 @@ fn packed(then: &[u8], room: &mut [u8]) -> Result<Packed, SectionFault> {
     pack(&spec, &mut parts, &mut SliceOutput::new(room))
 }
 
-/// It is read for the id and for its bytes. Other bytes of the same length contradict nothing: the id is that of the
-/// first ones.
+/// The part is read for the id and for its bytes. Other bytes of the same length contradict nothing: the id is that
+/// of the first ones.
 #[test]
 fn a_part_that_changes_between_two_reads(rt: HostRuntime) {
     let mut room = [1u8; 4096];
@@ -52,7 +52,7 @@ fn a_part_that_changes_between_two_reads(rt: HostRuntime) {
     assert!(rt; packed(b"", &mut room) == Err(SectionFault::SourceChanged));
 }
 
-/// Fragments of 5 and 7 bytes that become 6 and 6 once they are read: the table would be wrong of what was written.
+/// Fragments of 5 and 7 bytes that become 6 and 6 after they are read: the table would not match what was written.
 #[test]
 fn fragments_whose_lengths_change_while_their_sum_stays_have_changed(rt: HostRuntime) {
     let mut ramdisks = [

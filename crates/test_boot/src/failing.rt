@@ -1,4 +1,4 @@
-//! One failing call at each place: what is answered, and what stands.
+//! One failing call at each position: what is returned, and what is written.
 
 use crate::samples::{
     FIVE, boot, checked, entry, front, numbers, opened, pack, pack_five, pack_four, pack_parts,
@@ -9,7 +9,7 @@ use abt_sections::{Image, Packed, SectionFault, sections, unpack};
 use mem_devices::{Cut, Faulty};
 use std::process::Abort;
 
-/// A source that gives at most 1,000 bytes a call, whose call `n` fails.
+/// A source that returns at most 1,000 bytes a call, and whose call `n` fails.
 pub(crate) fn part(bytes: &[u8], n: u64) -> Faulty<Cut<SliceSource<'_>>> {
     Faulty::new(Cut::new(SliceSource::new(bytes), 1000), n)
 }
@@ -19,8 +19,8 @@ fn at(device: usize, failing: usize, n: u64) -> u64 {
     if device == failing { n } else { 0 }
 }
 
-/// Packs the image of version 2 where call `n` of part `failing` fails, or at 5 of the output; at 0 none does. What was
-/// written is a beginning of the image. The answer, and how many calls that device had.
+/// Packs the image of version 2. Call `n` of part `failing` fails, or of the output where `failing` is 5; at 0 none
+/// does. What was written is a prefix of the image. Returns the result, and how many calls that device had.
 fn packed<R: Abort>(
     rt: &R,
     failing: usize,
@@ -87,8 +87,8 @@ fn unpack_section<S: Source, O: Output>(
     unpack(image, i, source, output, &mut w, &mut m)
 }
 
-/// Unpacks section `i` where a call of each device fails, at 0 none; each moves little in a call. What was written is a
-/// beginning of the part. The answer, and how many calls each device had.
+/// Unpacks section `i` where a call of each device fails, at 0 none. Each moves few bytes in a call. What was written
+/// is a prefix of the part. Returns the result, and how many calls each device had.
 fn unpacked<R: Abort>(
     rt: &R,
     image: &Image,

@@ -1,4 +1,4 @@
-//! Whole boot images: packed, opened, checked and unpacked, at values from outside.
+//! Whole boot images: packed, opened, checked and unpacked, against values from another source.
 
 use crate::samples::{CANONICAL, boot, found, front, pack, pack_five};
 use abt_headers::{HeaderFault, Section};

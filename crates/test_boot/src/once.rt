@@ -1,4 +1,5 @@
-//! Packing that reads each part once: the bytes that `pack_boot` writes, and what stands where a call fails.
+//! Packing that reads each part once: it writes the bytes that `pack_boot` writes. Also what is left where a call
+//! fails.
 
 use crate::failing::part;
 use crate::samples::{boot, found, front, numbers, pack_five, parts_of};
@@ -19,8 +20,8 @@ fn pack_once<S: Source, O: Overwrite>(
     pack_boot_once(spec, parts, output, &mut w, &mut m)
 }
 
-/// Packs the image of version 2 over what stands where call `n` of the kernel or of the output fails, which takes at
-/// most 700 bytes a call; at 0 none does. The answer, and how many calls both had.
+/// Packs the image of version 2 over what is in `room`. Call `read` of the kernel or call `write` of the output
+/// fails; at 0 none does. The output takes at most 700 bytes a call. Returns the result, and how many calls both had.
 fn packed(read: u64, write: u64, room: &mut [u8]) -> (Result<Packed, SectionFault>, u64, u64) {
     let bytes = numbers();
     let mut parts = [
@@ -47,7 +48,7 @@ fn the_image_is_that_of_the_call_that_reads_twice(rt: HostRuntime) {
     assert!(rt; room == whole);
 }
 
-/// It is packed over that very image, so the rest of the true image follows what stands.
+/// The image is packed over itself, so the rest of the true image follows what was written.
 #[test]
 fn each_call_fails_and_no_image_stands(rt: HostRuntime) {
     let mut whole = [1u8; 14336];

@@ -1,5 +1,5 @@
-//! What no clause says: bytes that another program wrote, examples of each layout with places
-//! worked out by hand, the order of faults on real lengths, and texts.
+//! What no clause states: bytes that another program wrote, examples of each layout with positions that were computed
+//! by hand, the order of faults on real lengths, and texts.
 
 use crate::samples::front;
 use crate::vectors;
@@ -10,7 +10,7 @@ use abt_headers::{
     vendor_front_decides, vendor_long,
 };
 
-/// Lays a run of bytes from a place on, as much of it as there is room for.
+/// Writes a run of bytes from a position on, as much of it as there is room for.
 fn lay(record: &mut [u8], place: usize, run: &[u8]) {
     if place > record.len() {
         return;
@@ -55,7 +55,7 @@ fn decodes_to_vendor(record: &[u8], header: &VendorHeader) -> bool {
         && out.ends_with(front(&[0xee; 16], 2128usize.saturating_sub(size)))
 }
 
-/// What `mkbootimg` was given for a record of version 0, 1 or 2; the kernel has 8 bytes and the ramdisk 11.
+/// The arguments of `mkbootimg` for a record of version 0, 1 or 2; the kernel has 8 bytes and the ramdisk 11.
 struct Given {
     runs: &'static [(usize, &'static [u8])],
     page_size: PageSize,
@@ -122,7 +122,7 @@ fn front_of(given: &Given, os_version: OsVersion) -> BootFront {
     }
 }
 
-/// The header of version `i` with this front, as `mkbootimg` filled it.
+/// The header of version `i` with these first fields, as `mkbootimg` filled it.
 fn header_of(i: usize, front: BootFront) -> BootHeader {
     let dtbo = DtboFields {
         recovery_dtbo_size: 13,
@@ -381,7 +381,7 @@ fn sections_of_a_vendor_image_stand_at_page_boundaries(rt: HostRuntime) {
     assert!(rt; stand_at(&empty.sections(), &places));
 }
 
-/// A record's magic, its version, its page, how many bytes come, and why that is refused.
+/// A record's magic, its version, its page, how many bytes are there, and the fault.
 type Refusal = (&'static [u8], u32, u32, usize, HeaderFault);
 
 #[rattlefmt::skip]
@@ -595,7 +595,7 @@ fn each_fault_and_section_has_its_text(rt: HostRuntime) {
     }
 }
 
-// These say something and do nothing.
+// These have contracts and do nothing.
 #[test]
 fn each_law_is_called_and_does_nothing() {
     front_decides();

@@ -1,7 +1,7 @@
-//! Fields and parts that tests pack, and the calls that they make, each through its bound.
+//! Fields and parts that tests pack, and the calls that tests make, each within its precondition.
 //!
-//! But for `boot` and `vendor` they have no clauses: what comes of a call is run and not proved. A number that a call
-//! may not be given is answered by `Err(SectionFault::Name)`, which none of the tests wants.
+//! Except for `boot` and `vendor` they have no clauses: the result of a call is tested and not proved. For a number
+//! that violates a precondition they return `Err(SectionFault::Name)`, which no test expects.
 
 ghost use Rattle.std.specs.Prelude.{◌≡◌, length};
 ghost use Rattle.abt_sections.specs.Refusal.{boot_names};
@@ -65,7 +65,7 @@ pub(crate) fn numbers() -> [u8; 3000] {
     bytes
 }
 
-/// How long the parts of the image of version 2 are, each the first of `numbers`.
+/// The lengths of the parts of the image of version 2, each the first bytes of `numbers`.
 pub(crate) const FIVE: [usize; 5] = [3000, 1, 0, 5, 2049];
 
 /// How many parts an image of this version has.
@@ -137,12 +137,12 @@ pub(crate) fn pack_four(page: u32, room: &mut [u8]) -> Result<Packed, SectionFau
     pack_parts(page, &mut ramdisks, &mut dtb, &mut bootconfig, &mut output)
 }
 
-/// Opens the image at the front of a source.
+/// Opens the image at the beginning of a source.
 pub(crate) fn opened<S: Source>(source: &mut S) -> Result<Image, SectionFault> {
     open(source, &mut Window::new(), &mut Meter::new())
 }
 
-/// What the check says of an image.
+/// The result of checking an image.
 pub(crate) fn checked<S: Source>(image: &Image, source: &mut S) -> Result<Verdict, SectionFault> {
     check(image, source, &mut Window::new(), &mut Meter::new())
 }
@@ -173,7 +173,7 @@ pub(crate) fn unpack_entry<S: Source, O: Output>(
     unpack_fragment(image, i, source, output, &mut w, &mut m)
 }
 
-/// Where the sections of an image stand, and 0 behind the last.
+/// The positions of the sections of an image, and 0 after the last.
 fn places(image: &Image) -> [u64; 5] {
     let mut places = [0; 5];
     for i in 0..5 {
@@ -184,7 +184,7 @@ fn places(image: &Image) -> [u64; 5] {
     places
 }
 
-/// Opens and checks an image that stands: how many sections it has, where they stand, and what the check says.
+/// Opens and checks an image: how many sections it has, their positions, and the result of the check.
 pub(crate) fn found(bytes: &[u8]) -> Result<(usize, [u64; 5], Verdict), SectionFault> {
     let mut source = SliceSource::new(bytes);
     let image = opened(&mut source)?;
@@ -192,7 +192,7 @@ pub(crate) fn found(bytes: &[u8]) -> Result<(usize, [u64; 5], Verdict), SectionF
     Ok((sections(&image), places(&image), verdict))
 }
 
-/// What the check says of an image that is canonical.
+/// The check's result for an image that is canonical.
 pub(crate) const CANONICAL: Verdict = Verdict {
     padding: true,
     id: true,

@@ -1,4 +1,4 @@
-//! Whole vendor boot images: packed, opened, checked and unpacked, at values from outside.
+//! Whole vendor boot images: packed, opened, checked and unpacked, against values from another source.
 
 use crate::samples::{
     CANONICAL, entry, found, front, opened, pack_four, pack_parts, unpack_entry, vendor,

@@ -23,11 +23,11 @@ pub(crate) enum Command {
     InfoCheck,
     /// A boot image of this version, with IN as its kernel.
     Pack(u32),
-    /// IN's image, with nothing given.
+    /// IN's image, with nothing replaced.
     Repack,
 }
 
-/// Whether a command with IN over this disk, of which nothing is open yet, answers Ok.
+/// Whether a command with IN over this disk, on which nothing is open yet, returns Ok.
 pub(crate) fn is_done(
     rt: HostRuntime,
     command: Command,

@@ -1,4 +1,4 @@
-//! That each command is refused exactly where something has failed.
+//! Each command fails exactly where something has failed.
 
 use crate::commands::{Command, is_done};
 use crate::made::{disk, is_kept};
@@ -44,8 +44,9 @@ fn faults(kind: Kind, number: u64) -> Faults {
 // More than any command makes.
 const CALLS: u64 = 200;
 
-/// How many calls, reads or writes of a command fail, each in a run of its own: as often it is refused, and has counted
-/// that something failed. None, where it is refused for nothing, does not tell, or changes IN.
+/// Fails each call, read or write of a command, each in a run of its own, and returns how many there are. Each such
+/// run fails, and its disk has counted a failure. Returns `None` where a run fails without a cause, succeeds
+/// after a failure, or changes IN.
 fn counted(rt: HostRuntime, command: Command, kind: Kind) -> Option<u64> {
     for number in 1..CALLS {
         let Ok(made) = disk(rt.alloc(), &[], faults(kind, number)) else {

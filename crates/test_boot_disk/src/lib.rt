@@ -1,13 +1,16 @@
-//! Tests of the bodies of commands over boot images, over a disk in memory: each once over one that does all, over one of
-//! which each call, each read and each write fails in turn, and over one with two paths to one file.
+//! Tests of the commands of boot images, over a disk in memory. Each command runs in three ways:
+//! - once over a disk where no call fails;
+//! - over a disk where each call, each read and each write fails in turn;
+//! - over a disk with two paths to one file.
 //!
-//! | file | what it shows |
+//! | file | what it tests |
 //! |---|---|
 //! | `made.rt` | a vendor boot image, and a disk that holds it |
 //! | `commands.rt` | the commands, as one call |
-//! | `failing.rt` | that each is refused exactly where something has failed |
-//! | `informing.rt` | `info`: its check says no |
-//! | `orders.rt`, `packing.rt` | what `pack` and `repack` are told; what they leave of OUT |
+//! | `failing.rt` | each command fails exactly where something has failed |
+//! | `informing.rt` | `info`: its check answers no |
+//! | `orders.rt` | the arguments of `pack` and `repack` |
+//! | `packing.rt` | what `pack` and `repack` leave of OUT |
 //! | `unpacking.rt` | `unpack`: each part under its name; two paths to one file |
 #![tactic(auto)]
 

@@ -7,7 +7,7 @@ ghost use Rattle.sys_disk.specs.World.{IsReading};
 use mem_disk::{Faults, MemoryDisk, MemoryFile, MemoryPath};
 use std::alloc::{AllocError, Global};
 
-/// A vendor boot image of version 4, as what stands at its places. Between them it has zeros.
+/// A vendor boot image of version 4, as runs of bytes with their positions. Between them it has zeros.
 const RUNS: [(usize, &[u8]); 8] = [
     (0, b"VNDRBOOT\x04\0\0\0\0\x08\0\0"),
     (24, b"\x0a\0\0\0"),

@@ -1,4 +1,4 @@
-//! What `pack` and `repack` are told.
+//! The arguments of `pack` and `repack`.
 
 use cmd_common_boot::{OptionText, PackCommand, PackTexts};
 use std::alloc::{AllocError, Global};
@@ -18,7 +18,7 @@ static KERNEL: Row = Row {
     help: "The kernel",
 };
 
-/// A boot image of this version whose kernel is IN's file, as OUT.
+/// A boot image of this version whose kernel is IN's file, written to OUT.
 pub(crate) fn kernel_alone(
     alloc: Global,
     version: u32,

@@ -4,7 +4,7 @@ use crate::commands::{Command, is_done};
 use crate::made::{disk, holds, image, is_kept};
 use mem_disk::Faults;
 
-/// The versions of boot images. The kernel of each begins behind one page of 4096 bytes.
+/// The versions of boot images. The kernel of each begins after one page of 4096 bytes.
 const VERSIONS: [u32; 5] = [0, 1, 2, 3, 4];
 
 #[test]
@@ -28,7 +28,7 @@ fn the_kernel_stands_behind_the_header(rt: HostRuntime) {
     }
 }
 
-/// What packing refuses is refused before OUT is there.
+/// Where packing fails, the command fails before OUT exists.
 #[test]
 fn a_version_that_there_is_none_of_makes_no_file(rt: HostRuntime) {
     let mut disk = disk(rt.alloc(), &[], Faults::none()).expect(&rt, "has memory");

@@ -4,7 +4,7 @@ use crate::commands::{Command, is_done};
 use crate::made::{disk, holds, is_kept};
 use mem_disk::Faults;
 
-/// Its parts but for the table, by their paths.
+/// Its parts except the table, by their paths.
 const PARTS: [(&str, &[u8]); 4] = [
     ("parts/vendor_ramdisk", b"0123456789"),
     ("parts/dtb", b"dtb"),
@@ -50,7 +50,7 @@ fn a_part_that_is_the_image_is_refused_first(rt: HostRuntime) {
     assert!(rt; is_kept(rt.alloc(), &disk) == Ok(true));
 }
 
-/// Where two parts are one file, the first stands.
+/// Where two parts are one file, the file holds the first.
 #[test]
 fn two_parts_in_one_file_are_refused(rt: HostRuntime) {
     let links = [("parts/vendor_ramdisk", 1), ("parts/dtb", 1)];

@@ -1,4 +1,5 @@
-//! A file that breaks off has the same bytes where what it is given last is held, as where it is given each at once.
+//! A file that can't grow any more has the same bytes where the last writes are buffered and where each is written at
+//! once.
 
 ghost use Rattle.std.specs.Prelude.{[], false};
 ghost use Rattle.std.specs.Io.{WritesAtMost};
@@ -12,7 +13,7 @@ use std::io;
 use sys_file::{Stamp, SystemFile};
 use sys_outputs::{HeldFile, Room};
 
-// What the system refuses a write with that goes beyond the longest file.
+// The system's error for a write that exceeds the longest file.
 const TOO_LONG: i32 = 27;
 
 // How many bytes a call writes: of a fragmented image, of one with headers alone, and of one in long runs. What has 16 KiB
@@ -107,14 +108,14 @@ impl SystemFile for Broken {
     }
 }
 
-/// The two calls that a file gets: how many bytes it took, and nothing where it failed.
+/// The two calls of a file: they return how many bytes it took, and `None` where it failed.
 trait Form {
     fn put(&mut self, bytes: &[u8]) -> Option<usize>;
 
     fn put_over(&mut self, at: u64, bytes: &[u8]) -> Option<usize>;
 }
 
-/// What is given all bytes at once.
+/// The form that writes all bytes at once.
 #[derive(Drop)]
 struct AtOnce {
     file: Broken,
@@ -160,7 +161,7 @@ fn next(random: &mut Random, length: u64, image: u64) -> (Option<u64>, usize) {
     }
 }
 
-/// Whether all of these bytes were taken, at the end or over others. A write that took some is tried again.
+/// Whether all of these bytes were taken, at the end or over others. A write that took some is repeated for the rest.
 fn all<F: Form>(form: &mut F, at: Option<u64>, bytes: &[u8]) -> bool {
     let mut done = 0u64;
     for _ in 0..4u32 {
@@ -197,7 +198,7 @@ fn given<F: Form>(form: &mut F, text: &[u8], image: u64) -> bool {
     true
 }
 
-/// Most images break off: then a write is refused, or what is held can't be written.
+/// Most images exceed the longest file: then a write fails, or the buffered bytes can't be written.
 #[test]
 fn a_file_that_breaks_off_is_the_same_where_bytes_are_held(rt: HostRuntime) {
     let text = bytes(rt.alloc(), 100_000);
@@ -219,7 +220,7 @@ fn a_file_that_breaks_off_is_the_same_where_bytes_are_held(rt: HostRuntime) {
     }
 }
 
-/// A file comes to its end with all that it was given, or to none.
+/// A file ends with all bytes that were written to it, or its end fails.
 #[test]
 fn a_file_ends_with_all_that_it_was_given(rt: HostRuntime) {
     let held = Room::new(rt.alloc());
@@ -233,7 +234,8 @@ fn a_file_ends_with_all_that_it_was_given(rt: HostRuntime) {
     assert!(rt; file.end().is_err());
 }
 
-/// A header behind the front is laid over what is held, and one at the front in the file, behind all else.
+/// A header after the beginning overwrites buffered bytes. One at the beginning is written to the file, after all
+/// others.
 #[test]
 fn the_front_is_laid_in_the_file(rt: HostRuntime) {
     let held = Room::new(rt.alloc());

@@ -1,4 +1,4 @@
-//! A spool over a file, of which each call is one of the file: what a spool that gathers is compared with.
+//! A spool over a file, where each call is one of the file: a gathering spool is compared to it.
 
 ghost use Rattle.std.specs.Prelude.{◌≡◌, ◌≤◌, ◌+◌, ◌<◌, ◌^◌, [], false, not, nat_lt, length, refl};
 ghost use Rattle.std.proofs.lemmas.Bool.{false≢true};
@@ -9,8 +9,8 @@ use abt_io::{DeviceFault, Input, Log, Output, Overwrite, Spool, Tally};
 use std::fs::File;
 use sys_file::{SystemFile, read_at, write_at};
 
-/// One file that is written from its front on, and read from its front on. It is full where it
-/// holds as much as its capacity.
+/// One file that is written from its beginning on, and read from its beginning on. It is full where it holds as much
+/// as its capacity.
 #[derive(Drop)]
 pub struct FileSpool {
     pub file: File,
@@ -84,7 +84,7 @@ impl Input for FileSpool {
 
     ghost are_bytes = { λ _ t. absurd (false≢true t) };
 
-    /// Gives nothing that was not written since the last clear.
+    /// Returns nothing that was not written since the last clear.
     fn read(&mut self, out: &mut [u8]) -> Result<usize, DeviceFault> {
         self.reads.add(1);
         let left = self.used.saturating_sub(self.seen);
@@ -162,7 +162,7 @@ impl Overwrite for FileSpool {
         self.cleared + self.used
     }
 
-    /// A place before the last clear is refused: nothing stands there any more.
+    /// Fails at a position before the last clear: nothing is stored there any more.
     fn write_over(&mut self, at: u64, bytes: &[u8]) -> Result<usize, DeviceFault> {
         self.writes.add(1);
         let cleared = self.cleared;
@@ -208,7 +208,7 @@ impl Spool for FileSpool {
         self.capacity
     }
 
-    /// Cuts the file off at its front; it stays open.
+    /// Truncates the file to no bytes; it stays open.
     fn clear(&mut self) -> Result<(), DeviceFault> {
         self.clears.add(1);
         match SystemFile::set_len(&mut self.file, 0) {

@@ -1,4 +1,4 @@
-//! What the program's disk opens to be read at any place, plainly and ahead, and a spool of what it gives.
+//! The sources that the program's disk opens without reading ahead, and with it, and a spool of what they return.
 
 use crate::made::bytes;
 use abt_io::{DeviceFault, Input, Output, Source, Spool};
@@ -44,7 +44,8 @@ fn a_file_that_grew_is_asked_for_its_length(rt: HostRuntime) {
     }
 }
 
-/// What came from memory is not given back where the file has become shorter, and a spool that can't be written is told.
+/// What came from memory is not returned where the file has become shorter, and a spool that can't be written reports
+/// it.
 #[test]
 fn a_spool_of_what_was_read_ahead_is_told_of_its_file(rt: HostRuntime) {
     for is_ahead in [false, true] {

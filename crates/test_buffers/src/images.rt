@@ -29,7 +29,7 @@ fn file(output: ImageOutput<OsFile>) -> Option<ImageFile<OsFile>> {
     }
 }
 
-/// Writes these bytes at the end, or over what stands at a place. Full, where that does not fit.
+/// Writes these bytes at the end, or over others at a position. Full, where that does not fit.
 fn put<O: Overwrite>(output: &mut O, at: Option<u64>, bytes: &[u8]) -> Result<usize, DeviceFault> {
     if bytes.len() > WINDOW {
         return Err(DeviceFault::Full);
@@ -44,8 +44,8 @@ fn put<O: Overwrite>(output: &mut O, at: Option<u64>, bytes: &[u8]) -> Result<us
     output.write_over(at, bytes)
 }
 
-/// Where the next bytes are written over, if they are: near the end, or of every other image at the front and anywhere
-/// too.
+/// Where the next bytes overwrite others, if they do: near the end, or for every second image also at the beginning
+/// and anywhere.
 fn place(random: &mut Random, position: u64, is_near: bool) -> Option<u64> {
     match random.to(19) {
         0 if !is_near => Some(random.to(40)),
@@ -55,7 +55,7 @@ fn place(random: &mut Random, position: u64, is_near: bool) -> Option<u64> {
     }
 }
 
-/// The same calls of both: whether they answered the same.
+/// The same calls of both: whether they returned the same.
 fn written(
     one: &mut ImageFile<OsFile>,
     other: &mut ImageFile<OsFile>,

@@ -1,8 +1,8 @@
-//! The bytes and the numbers that calls are made with, the same at each run.
+//! The bytes and the numbers of the calls, the same in each run.
 
 use std::alloc::Global;
 
-/// Gives numbers one after another that are as good as random.
+/// Generates numbers that are as good as random.
 #[derive(Drop)]
 pub(crate) struct Random {
     state: u64,
@@ -33,7 +33,7 @@ impl Random {
     }
 }
 
-/// So many bytes, or as many as there is memory for.
+/// This many bytes, or as many as there is memory for.
 pub(crate) fn bytes(alloc: Global, count: usize) -> Vec<u8> {
     let mut made = Vec::new(alloc);
     let mut random = Random::new(count as u64);
@@ -45,7 +45,7 @@ pub(crate) fn bytes(alloc: Global, count: usize) -> Vec<u8> {
     made
 }
 
-/// So many bytes of these from a place on, as far as they go.
+/// This many bytes of these from a position on, as far as they go.
 pub(crate) fn part(bytes: &[u8], from: u64, count: usize) -> &[u8] {
     let from = from.min(bytes.len() as u64) as usize;
     let count = count.min(bytes.len() - from);

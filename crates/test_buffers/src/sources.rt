@@ -1,4 +1,4 @@
-//! A source that is read ahead gives what a `FileSource` gives.
+//! A source that reads ahead returns what a `FileSource` returns.
 
 use crate::made::{Random, bytes, part};
 use abt_io::{DeviceFault, Source};
@@ -12,7 +12,7 @@ use sys_devices::{AheadSource, FileSource};
 // Lengths on both sides of what is read at once, and one that is long.
 const SIZES: [usize; 8] = [0, 1, 255, 257, 4095, 4097, 65_536, 200_001];
 
-// Asks on both sides of the most that goes through what is held, and of what is read at once.
+// Lengths on both sides of two limits: the most that goes through the buffer, and the most that is read at once.
 const ASKS: [usize; 16] = [
     0, 1, 4, 12, 12, 12, 16, 28, 100, 255, 256, 257, 1000, 4095, 4096, 4097,
 ];
@@ -23,7 +23,7 @@ const PIECES: [u64; 5] = [1, 512, 4096, 4097, 70_000];
 // How many bytes an ask has at most.
 const MOST: usize = 4097;
 
-/// What a read answered. All that was asked for is 0 before it.
+/// The result of a read. The bytes of its buffer are 0 before it.
 fn answered<S: Source>(
     source: &mut S,
     at: u64,
@@ -40,8 +40,8 @@ fn ahead(alloc: Global, source: FileSource<File>) -> Option<AheadSource<File>> {
     AheadSource::new(alloc, source).ok()
 }
 
-/// Where the next read is: behind the last one mostly, a little before or behind that, at a place read before, or
-/// anywhere, also behind the end.
+/// Where the next read is: mostly after the last one, or a little before or after that, at a position that was read
+/// before, or anywhere, also after the end.
 fn place(random: &mut Random, behind: u64, before: u64, size: u64) -> u64 {
     match random.to(9) {
         0 => random.to(size.saturating_add(300)),
@@ -87,8 +87,8 @@ fn a_source_that_is_read_ahead_gives_what_a_file_gives(rt: HostRuntime) {
     }
 }
 
-/// A raw image is read in pieces that end before the end of what was read for them: where each begins is one row. In the
-/// file that is written meanwhile, what was read before stands as it was.
+/// A raw image is read in pieces that end before the end of what was read for them. The rows are the positions where
+/// each begins. In the file that is written meanwhile, what was read before stays as it was.
 #[test]
 fn what_was_read_of_a_raw_image_is_kept_for_the_next_piece(rt: HostRuntime) {
     for piece in PIECES.iter() {
@@ -151,8 +151,8 @@ fn a_read_that_fails_is_told(rt: HostRuntime) {
     assert!(rt; answered(&mut source, 0, 300, &mut out) == Err(DeviceFault::Failed));
 }
 
-/// A file that got shorter is told where what is missing was given from memory since the piece began, and not else. One of
-/// another length than when it was opened has changed.
+/// A file that got shorter is reported only where missing bytes were returned from memory since the piece began. A
+/// file whose length differs from when it was opened has changed.
 #[test]
 fn a_file_that_got_shorter_is_told(rt: HostRuntime) {
     let mut out = [0; MOST];
@@ -187,7 +187,7 @@ fn a_file_that_got_shorter_is_told(rt: HostRuntime) {
     assert!(rt; source.file().is_changed());
 }
 
-/// A file that is as long as before is told where it was written since.
+/// A file of the same length is reported where it was written since.
 #[test]
 fn a_file_that_was_written_is_told(rt: HostRuntime) {
     fs::write(&rt, "written.tmp", "before").expect(&rt, "is written");
@@ -212,7 +212,7 @@ fn a_file_that_was_written_is_told(rt: HostRuntime) {
     assert!(rt; !source.file().is_changed());
 }
 
-/// What rests holds nothing any more, and is shorter than nothing that it gave before.
+/// A source that rests buffers nothing any more, and is shorter than nothing that it returned before.
 #[test]
 fn a_source_that_rests_is_as_it_began(rt: HostRuntime) {
     let mut out = [0; MOST];

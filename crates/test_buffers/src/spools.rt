@@ -1,4 +1,4 @@
-//! A spool that gathers takes and gives what a `FileSpool` does, and has the same in its file once it is read or settled.
+//! A gathering spool takes and returns what a `FileSpool` does, and its file is the same after it is read or settled.
 
 use crate::file_spool::FileSpool;
 use crate::made::{Random, bytes, part};
@@ -42,7 +42,7 @@ pub(crate) fn same<R: Files + Alloc>(rt: &R, one: &str, other: &str) -> bool {
     }
 }
 
-/// What one call of a spool answered: 0 to 5 writes, 6 to 8 read, and 9 clears.
+/// The result of one call of a spool: 0 to 5 write, 6 to 8 read, and 9 clears.
 fn called<S: Spool>(
     spool: &mut S,
     call: u64,
@@ -62,7 +62,7 @@ fn called<S: Spool>(
     }
 }
 
-/// What a spool answered where bytes were laid over what it was given, from so far before its end on.
+/// The result of overwriting bytes of a spool, from this far before its end on.
 fn laid_over<S: Spool + Overwrite>(
     spool: &mut S,
     back: u64,
@@ -153,8 +153,8 @@ fn a_spool_that_gathers_is_written_late(rt: HostRuntime) {
     assert!(rt; same(&rt, "late.tmp", "many.tmp"));
 }
 
-/// Bytes are laid in what is held. Those at the front are laid in the file, once all else is there, and those before the last
-/// clear nowhere.
+/// Bytes overwrite what is buffered. Those at the beginning are written to the file, after all others. Those before
+/// the last clear are written nowhere.
 #[test]
 fn what_a_spool_holds_is_laid_over(rt: HostRuntime) {
     let mut spool = GatheringSpool::new(rt.alloc(), opened(&rt, "late.tmp"), 65_536, None, 0);
@@ -171,8 +171,8 @@ fn what_a_spool_holds_is_laid_over(rt: HostRuntime) {
     assert!(rt; spool.position() == 10);
 }
 
-/// A spool that keeps the pages of its file has no magic number before all else of a piece stands there, and nothing behind
-/// that.
+/// A spool that keeps the pages of its file has no magic number before all other bytes of a piece are stored, and
+/// nothing after them.
 #[test]
 fn a_spool_keeps_its_pages_until_its_magic_is_laid(rt: HostRuntime) {
     let mut out = [0u8; 8];
@@ -196,7 +196,7 @@ fn a_spool_keeps_its_pages_until_its_magic_is_laid(rt: HostRuntime) {
     assert!(rt; same(&rt, "kept.tmp", "few.tmp"));
 }
 
-/// What such a spool took is all of its file once it is settled, also where that is nothing.
+/// What such a spool took is all of its file after it is settled, also where that is nothing.
 #[test]
 fn a_spool_that_is_settled_has_nothing_of_before(rt: HostRuntime) {
     fs::write(&rt, "kept.tmp", "of before").expect(&rt, "is written");
@@ -207,8 +207,8 @@ fn a_spool_that_is_settled_has_nothing_of_before(rt: HostRuntime) {
     assert!(rt; same(&rt, "kept.tmp", "empty.tmp"));
 }
 
-/// What can't be written is refused where it is read, and by every call until the spool was cleared, of which the first try
-/// is refused too.
+/// Where bytes can't be written, reading them fails. Every call then fails until the spool is cleared, and the first
+/// attempt to clear it fails too.
 #[test]
 fn a_gathered_write_that_fails_is_told_later(rt: HostRuntime) {
     let mut out = [0u8; 2];
@@ -240,7 +240,7 @@ fn a_partition_knows_why_it_failed(rt: HostRuntime) {
     assert!(rt; part.why() == Some(NOT_OPEN));
 }
 
-/// A spool gives nothing back where the file is shorter that its bytes came from.
+/// A spool returns nothing where the file from which its bytes came is now shorter.
 #[test]
 fn a_spool_is_not_read_where_its_source_got_shorter(rt: HostRuntime) {
     let mut out = [0u8; 12];

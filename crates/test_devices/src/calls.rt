@@ -1,6 +1,6 @@
-//! The calls that the other files make, each through its bound; counts take no bytes.
+//! The calls that the other files make, each within its precondition; counts take no bytes.
 //!
-//! They have no clauses: what comes of them is run and not proved. An ask longer than a window is answered by `Full`.
+//! They have no clauses: their results are tested and not proved. For a length above a window they return `Full`.
 
 ghost use Rattle.std.specs.Prelude.{◌≤◌, length};
 

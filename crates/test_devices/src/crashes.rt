@@ -1,4 +1,4 @@
-//! A crash after each call of a small program, with each pick.
+//! A crash after each call of a small program, with each choice of bytes.
 
 use crate::calls::put_and_sync;
 use abt_io::*;
@@ -33,7 +33,7 @@ fn a_crash_leaves_what_was_synced_and_any_bytes_in_what_was_not(rt: HostRuntime)
                 let mut partition = Faulty::new(partition, n);
                 assert!(rt; two_writes(&mut partition).is_ok() == (n == 5));
                 partition.inner().crash(pick);
-                // Nothing is touched now.
+                // No byte is marked as touched now.
                 partition.inner().crash(Pick::Byte(b'!'));
             }
             assert!(rt; now == left(n, pick), "call {n}, {pick:?}");

@@ -1,4 +1,4 @@
-//! Each call of a device fails in turn and does not reach it; sources that lie or change.
+//! Each call of a device fails in turn and does not reach it; sources that give a wrong length or change.
 
 use crate::calls::{copied, filled, filled_at, put_at, through_partition, through_spool};
 use abt_io::*;
@@ -62,7 +62,7 @@ fn what_an_input_gave_before_a_failed_read_stands(rt: HostRuntime) {
     assert!(rt; input.device.device.position() == 3);
 }
 
-/// The first write over the byte is marred, and no other.
+/// The first write over the byte is corrupted, and no other.
 #[test]
 fn a_marred_write_fills_its_range(rt: HostRuntime) {
     let mut room = *b"......";

@@ -79,7 +79,7 @@ fn a_spool_file_that_was_never_cleared_is_written_over(rt: HostRuntime) {
     assert!(rt; has(&rt, "uncleared.tmp", "aXYZefgh"));
 }
 
-/// The system refuses to sync a device that keeps nothing, so a sync that answers Ok there asked for none.
+/// The system fails to sync a device that keeps nothing, so a sync that returns Ok there made no such call.
 #[test]
 fn a_sync_that_the_system_refuses_fails(rt: HostRuntime) {
     let file = opened(&rt, "/dev/null", "");

@@ -73,11 +73,11 @@ fn what_is_passed_over_is_not_read_again(rt: HostRuntime) {
     assert!(rt; passed(&mut forward, &mut room) == 5);
     assert!(rt; filled(&mut forward, &mut rest).count == 3);
     assert!(rt; rest == *b"fgh.");
-    // Behind the end nothing is.
+    // After the end there are no bytes.
     assert!(rt; passed(&mut forward, &mut room) == 0);
 }
 
-/// Lays a word so often, at least once and as often as it fits.
+/// Writes a word this often, at least once and as often as it fits.
 fn lay(w: &mut Window, word: [u8; 4], n: usize) {
     lay_word(w, word, n.clamp(1, WORDS), &mut Meter::new());
 }

@@ -1,11 +1,11 @@
-//! Outputs whose written bytes are written over, and those whose first bytes are laid last.
+//! Outputs whose written bytes are overwritten, and those whose first bytes are written last.
 
 use crate::calls::{filled, put};
 use abt_io::*;
 use mem_devices::*;
 use mem_test_data::counting::Counting;
 
-/// Writes these bytes over what stands from a place on. Full, where they reach past the end.
+/// Overwrites bytes from a position on with these. Full, where they exceed the end.
 fn put_over<O: Overwrite>(output: &mut O, at: u32, bytes: &[u8]) -> Result<(), DeviceFault> {
     if bytes.len() > WINDOW {
         return Err(DeviceFault::Full);
@@ -57,7 +57,7 @@ fn each_call_fails_and_what_was_written_before_stands(rt: HostRuntime) {
     }
 }
 
-/// Writes `abcdef`, empties it, writes `ghij` and lays `XY` over what stands from a place on; then it is read.
+/// Writes `abcdef`, clears it, writes `ghij` and overwrites bytes from a position on with `XY`; then it is read.
 pub(crate) fn laid_behind<L: Spool + Overwrite>(
     spool: &mut L,
     at: u32,
@@ -71,7 +71,7 @@ pub(crate) fn laid_behind<L: Spool + Overwrite>(
     laid
 }
 
-/// By the place, the answer and what is read: behind the clear, across it, before it, and past the end.
+/// The position, the result and what is read: after the clear, across it, before it, and past the end.
 pub(crate) const LAID: [(u32, Result<(), DeviceFault>, [u8; 4]); 5] = [
     (6, Ok(()), *b"XYij"),
     (8, Ok(()), *b"ghXY"),
@@ -114,7 +114,7 @@ fn a_spool_in_a_device_of_the_tests_is_written_over(rt: HostRuntime) {
     }
 }
 
-/// Its fourth call lays, and its fifth reads.
+/// Its fourth call overwrites, and its fifth reads.
 #[test]
 fn a_spool_that_fails_to_lay_holds_what_it_held(rt: HostRuntime) {
     let (mut room, mut out) = (*b"......", *b"....");

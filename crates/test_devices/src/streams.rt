@@ -6,8 +6,7 @@ use std::io;
 use std::io::{Read, Write};
 use sys_readers::*;
 
-/// Every second call is answered by an error of this kind, the first one too, and a write takes at most
-/// `most` bytes.
+/// Every second call returns an error of this kind, the first one too, and a write takes at most `most` bytes.
 #[derive(Drop)]
 struct Halting<T> {
     inner: T,

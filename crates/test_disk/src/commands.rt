@@ -53,7 +53,7 @@ const PATHS: [Listed; 7] = [
 // How many bytes a piece has at most.
 const LIMIT: u32 = 68;
 
-/// Whether a command that writes a file or pieces of this name answers Ok.
+/// Whether a command that writes a file or pieces of this name returns Ok.
 fn is_written(
     command: Command,
     output: &str,
@@ -93,7 +93,7 @@ fn is_written(
     }
 }
 
-/// Whether a command with a partition of this name answers Ok.
+/// Whether a command with a partition of this name returns Ok.
 fn is_done(
     command: Command,
     output: &str,
@@ -129,7 +129,7 @@ fn is_done(
     }
 }
 
-/// Runs a command over such files, from `in` to the file of this name: whether it answers Ok, and the disk behind it.
+/// Runs a command over such files, from `in` to the file of this name: whether it returns Ok, and the disk after it.
 pub(crate) fn run(
     rt: HostRuntime,
     command: Command,

@@ -148,8 +148,8 @@ fn each_read_and_each_write_fails_in_turn(rt: HostRuntime) {
     }
 }
 
-// The paths of two images, the first of which gives its second block alone and the other its first alone; and the number
-// of the image that is told to be of another cut.
+// The paths of two images, of which the first writes only its second block and the other only its first; and the
+// number of the image that is reported as one of another cut.
 const TWO_PATHS: [(&'static str, &'static str, Option<u32>); 6] = [
     ("out.1", "out.2", Some(2)),
     ("out.2", "out.1", None),
@@ -159,11 +159,11 @@ const TWO_PATHS: [(&'static str, &'static str, Option<u32>); 6] = [
     ("out.9", "out.10", Some(2)),
 ];
 
-// What both are laid over one another.
+// The result of writing both over one another.
 const LAID: &[u8] = b"ABCD\x04\x03\x02\x01\0\0\0\0";
 
-/// Lays both over one another: the image that is told to be of another cut, and the disk. None, where there is no memory
-/// for it, or it is refused for something else.
+/// Writes both over one another: the image that is reported as one of another cut, and the disk. None, where there is
+/// no memory for it, or it fails for another reason.
 fn laid(
     rt: HostRuntime,
     first: &'static str,

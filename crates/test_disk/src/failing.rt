@@ -1,4 +1,4 @@
-//! What each command leaves where something fails, and where what it would write is IN's file.
+//! What each command leaves where something fails, and where its output is IN's file.
 
 use crate::commands::{Before, Command, run};
 use crate::made::holds;
@@ -61,8 +61,9 @@ fn faults(kind: Kind, number: u64) -> Faults {
 // More than any command makes.
 const CALLS: u64 = 200;
 
-/// How many calls, reads or writes of a command fail, each in a run of its own: as often it is refused, and has counted
-/// that something failed. None, where it is refused for nothing, does not tell, or changes IN.
+/// Fails each call, read or write of a command, each in a run of its own, and returns how many there are. Each such
+/// run fails, and its disk has counted a failure. Returns `None` where a run fails without a cause, succeeds after a
+/// failure, or changes IN.
 fn counted(rt: HostRuntime, row: Row, kind: Kind) -> Option<u64> {
     for number in 1..CALLS {
         let Ok((is_done, disk)) = run(rt, row.0, "out", row.1, faults(kind, number)) else {

@@ -1,4 +1,4 @@
-//! What each command leaves, of files that suit it and of files that don't.
+//! What each command leaves, of valid files and of invalid ones.
 
 use crate::commands::{Before, Command, run};
 use crate::made::holds;
@@ -7,7 +7,7 @@ use mem_test_data::vectors::{
     FIRST_OF_THREE, NO_GAP, SECOND_OF_THREE, THIRD_OF_THREE, THREE_KINDS, WORDS,
 };
 
-// What stood in OUT or on a partition, and what stands on one once `THREE_KINDS` is flashed.
+// What OUT or a partition held before, and what a partition holds after `THREE_KINDS` is flashed.
 const DOTS: &[u8] = b"..............";
 
 const FLASHED: &[u8] = b"ABCD\x04\x03\x02\x01......";
@@ -22,12 +22,12 @@ const EXPANDED: &[u8] = b"ABCD\x04\x03\x02\x01\0\0\0\0";
 
 const OVERLAID: &[u8] = b"ABCD\x04\x03\x02\x01WXYZ";
 
-// A raw image, and what stands there once it is flashed in blocks of 4 bytes.
+// A raw image, and what a partition holds after it is flashed in blocks of 4 bytes.
 const RAW: &[u8] = b"a raw one";
 
 const FLASHED_RAW: &[u8] = b"a raw one\0\0\0..";
 
-/// A command, what both files hold before it, whether it answers Ok, and what the second holds then.
+/// A command, what both files hold before it, whether it returns Ok, and what the second holds after it.
 type Row = (Command, Before, bool, &'static [u8]);
 
 const ROWS: [Row; 23] = [

@@ -1,17 +1,19 @@
-//! Tests of the commands over a disk in memory: each once over one that does all, over one of which each call, each read
-//! and each write fails in turn, and over one with two paths to one file.
+//! Tests of the commands of sparse images over a disk in memory. Each command runs in three ways:
+//! - once over a disk where no call fails;
+//! - over a disk where each call, each read and each write fails in turn;
+//! - over a disk with two paths to one file.
 //!
-//! What a contract says of every disk needs no test. These hold what is answered and left, and that the disk counts what
-//! has failed where it is told to: a command is refused exactly where something has.
+//! What a contract states of every disk needs no test. These tests check results and files, and that the disk counts
+//! what fails: a command fails exactly where something has failed.
 //!
-//! | file | what it has |
+//! | file | content |
 //! |---|---|
-//! | `made.rt` | a disk of these paths and files, and what it holds |
+//! | `made.rt` | a disk of given paths and files, and what it holds |
 //! | `commands.rt` | the commands, as one call |
-//! | `leaving.rt` | what each command leaves, of files that suit it and of files that don't |
-//! | `failing.rt` | what each leaves where something fails, and where what it would write is IN's file |
-//! | `expanding.rt` | which faults `expand` tells |
-//! | `sparsing.rt` | where the image of `sparse` goes |
+//! | `leaving.rt` | what each command leaves, of valid files and of invalid ones |
+//! | `failing.rt` | what each command leaves where something fails, and where its output is IN's file |
+//! | `expanding.rt` | the faults of `expand` |
+//! | `sparsing.rt` | the output of `sparse` |
 #![tactic(auto)]
 
 #[cfg(test)]

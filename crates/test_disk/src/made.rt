@@ -1,4 +1,4 @@
-//! A disk of some paths and files, and what it holds.
+//! A disk of given paths and files, and what it holds.
 
 ghost use Rattle.std.specs.Prelude.{◌≡◌, IfSome, None};
 ghost use Rattle.mem_disk.specs.Memory.{held_of};

@@ -1,4 +1,5 @@
-//! `sparse` over a disk in memory: once as it should go, with each call failing once, and where two paths are one file.
+//! `sparse` over a disk in memory: once without a failure, with each call failing once, and where two paths are one
+//! file.
 
 ghost use Rattle.std.specs.Prelude.{IfSome};
 ghost use Rattle.mem_disk.specs.Memory.{held_of};
@@ -25,7 +26,7 @@ const IMAGE: [u8; 64] = [
     0, 0, 1, 2, 3, 4, 5, 6, 7, 8,
 ];
 
-// What stood in OUT.
+// What OUT held before.
 const OLD: [u8; 5] = [9, 8, 7, 6, 5];
 
 // How many calls a run makes at most.
@@ -40,7 +41,7 @@ fn disk(alloc: Global, faults: Faults) -> Option<MemoryDisk>
     made::disk(alloc, &PATHS, &[&RAW, &OLD], true, faults)
 }
 
-// Whether a run writes an image, in blocks of so many bytes.
+// Whether a run writes an image, in blocks of this many bytes.
 fn run(rt: HostRuntime, disk: &mut MemoryDisk, output: &str, block: u32) -> bool
     requires { IsReading (held_of disk.old) }
 {
@@ -100,7 +101,7 @@ fn has_no_part(disk: &MemoryDisk) -> bool {
     }
 }
 
-// Whether a run that meets this fault is refused, and leaves no part of an image; one that meets none does its work.
+// Whether a run that meets this fault fails, and leaves no part of an image; one that meets none does its work.
 fn breaks_off(rt: HostRuntime, faults: Faults) -> bool {
     let Some(mut disk) = disk(rt.alloc(), faults) else {
         return false;

@@ -1,4 +1,4 @@
-//! A boot image that goes the whole way round: packed, sparsed, delivered, opened and unpacked.
+//! A boot image on its whole way: packed, sparsed, delivered, opened and unpacked.
 
 use abt_flash::{Delivered, deliver};
 use abt_flash_faults::FlashFault;
@@ -64,7 +64,7 @@ fn delivered(image: &[u8], limit: u32, cells: &mut [u8]) -> (u64, Result<Deliver
     (written.map_or(0, |written| written.bytes), answer)
 }
 
-/// Unpacks the kernel of the boot image at the front of a partition: whether that is done.
+/// Unpacks the kernel of the boot image at the beginning of a partition: whether that succeeds.
 fn unpacks(cells: &[u8], room: &mut [u8]) -> bool {
     let mut source = SliceSource::new(cells);
     let mut output = SliceOutput::new(room);

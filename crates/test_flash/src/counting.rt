@@ -6,8 +6,8 @@ use mem_devices::{SlicePartition, SliceSpool};
 use mem_test_data::counting::Counting;
 use mem_test_data::vectors::{HEADER_OF_THOUSAND, ONE_RAW_BLOCK};
 
-/// A thousand raw chunks of one block of four bytes each: block i, from 0, is the number i. And these blocks, behind
-/// which two bytes are FF.
+/// A thousand raw chunks of one block of four bytes each: block i, from 0, is the number i. Also these blocks,
+/// followed by two bytes FF.
 fn thousand() -> ([u8; 16_028], [u8; 4_002]) {
     let mut image = [0u8; 16_028];
     let mut cells = [255u8; 4_002];
@@ -76,7 +76,7 @@ fn a_raw_image_is_read_once_and_a_window_a_piece(rt: HostRuntime) {
         assert!(rt; answer == Ok(Delivered { pieces: 2 }));
         assert!(rt; spool.handed == 4_104);
         assert!(rt; cells == blocks);
-        // The second piece reads what the window of the first held behind it.
+        // The second piece reads what the window of the first held after it.
         assert!(rt; is_once == (source.handed == 6_000));
         assert!(rt; is_once == (source.handed < 8_000));
     }

@@ -18,9 +18,9 @@ use mem_test_data::vectors::{
 
 type Answer = Result<Delivered, FlashFault>;
 
-/// An image, how many of its bytes come at most, the limit, the piece to begin from (0: a delivery, and no resuming),
-/// how long the partition is; what is to be answered, how many bytes of pieces the spool was given, and what stands
-/// then before the dots that stood there.
+/// An image, how many of its bytes the source has at most, the limit, the piece to begin from (0: a delivery, and no
+/// resuming), and the length of the partition. Then the expected result, how many bytes of pieces the spool was
+/// given, and what the partition then holds before the dots that it held.
 type Row = (
     &'static [u8],
     usize,
@@ -64,7 +64,7 @@ const ROWS: [Row; 35] = [
     (&THREE_KINDS, ALL, 68, 0, 11, Err(PartitionTooSmall { need: 12 }), 0, b""),
     (&THREE_KINDS, ALL, 68, 4, 11, Err(PartitionTooSmall { need: 12 }), 0, b""),
     (&LONG_HEADERS, ALL, 68, 0, 3, Err(PartitionTooSmall { need: 4 }), 0, b""),
-    // Numbers above 32 bits are told as they are.
+    // Numbers above 32 bits are reported as they are.
     (&MOST_BLOCKS, ALL, 68, 0, 16, Err(PartitionTooSmall { need: 17_179_869_180 }), 0, b""),
     (&LARGEST_BLOCK, ALL, 0, 0, 16, Err(LimitTooSmall { least: 4_294_967_356 }), 0, b""),
     (&LARGEST_BLOCK, ALL, 100, 0, 16, Err(LimitTooSmall { least: 4_294_967_356 }), 0, b""),
@@ -89,7 +89,7 @@ const LAST: [(&[u8], &[u8]); 5] = [
     (&EMPTY, &EMPTY),
 ];
 
-/// Delivers or resumes through a spool of this room: the answer, and how many bytes the spool was given.
+/// Delivers or resumes through a spool of this room: the result, and how many bytes the spool was given.
 fn delivered(
     image: &[u8],
     limit: u32,

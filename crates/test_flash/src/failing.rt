@@ -1,4 +1,4 @@
-//! One failing call of each device at each place: what is answered, and what stands.
+//! One failing call of each device at each position: what is returned, and what is written.
 
 use abt_flash::{Delivered, deliver};
 use abt_flash_faults::FlashFault::{Read, Stopped};
@@ -14,7 +14,7 @@ enum Device {
     Partition,
 }
 
-/// What stands when so many pieces are written.
+/// What the partition holds after this many pieces are written.
 const STATES: [&[u8; 16]; 4] = [
     b"................",
     b"ABCD............",
@@ -22,8 +22,8 @@ const STATES: [&[u8; 16]; 4] = [
     b"ABCD\x04\x03\x02\x01WXYZ....",
 ];
 
-/// Delivers `NO_GAP` in three pieces where call `n` of a device fails, at 0 none: the answer, and how many calls that
-/// device had.
+/// Delivers `NO_GAP` in three pieces, where call `n` of a device fails, at 0 none: the result, and how many calls
+/// that device had.
 fn delivered(
     failing: Device,
     n: u64,
@@ -61,7 +61,7 @@ fn is_of(failing: Device, cause: Cause) -> bool {
     }
 }
 
-/// Whether so many pieces stand, and nothing else.
+/// Whether the partition holds this many pieces, and nothing else.
 fn stand(pieces: u32, cells: &[u8; 16]) -> bool {
     match STATES.get(pieces as usize) {
         Some(state) => *state == cells,
@@ -69,13 +69,13 @@ fn stand(pieces: u32, cells: &[u8; 16]) -> bool {
     }
 }
 
-/// Whether the delivery in which call `n` of a device fails ends as it should, where the device has so many calls.
+/// Whether the delivery in which call `n` of a device fails ends as it should, where the device has `calls` calls.
 fn is_right(failing: Device, n: u64, calls: u64) -> bool {
     let mut cells = [b'.'; 16];
     let (answer, seen) = delivered(failing, n, &mut cells);
     let ended = match answer {
         Ok(_) => n > calls && stand(3, &cells),
-        // The pieces before this one stand, of this one all or nothing, and none behind it.
+        // The pieces before this one are stored, of this one all or nothing, and none after it.
         Err(Stopped { piece, cause }) => {
             is_of(failing, cause)
                 && piece > 0

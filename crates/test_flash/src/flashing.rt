@@ -15,8 +15,8 @@ use mem_test_data::vectors::{
 
 type Answer = Result<Flashed, FlashFault>;
 
-/// An image, how many of its bytes come at most, how long the partition is, what is to be answered, and what stands
-/// then before the dots that stood there.
+/// An image, how many of its bytes the source has at most, and the length of the partition. Then the expected result,
+/// and what the partition then holds before the dots that it held.
 type Row = (&'static [u8], usize, usize, Answer, &'static [u8]);
 
 const ALL: usize = 1000;
@@ -31,7 +31,7 @@ const ROWS: [Row; 22] = [
     (&EMPTY, ALL, 16, Ok(Flashed { blocks: 0 }), b""),
     (&EMPTY, ALL, 0, Ok(Flashed { blocks: 0 }), b""),
     (&LONG_HEADERS, ALL, 4, Ok(Flashed { blocks: 0 }), b""),
-    // A partition that is too short is refused behind the header, before it is written.
+    // A partition that is too short fails after the header, before anything is written.
     (&THREE_KINDS, ALL, 11, Err(PartitionTooSmall { need: 12 }), b""),
     (&THREE_KINDS, 28, 11, Err(PartitionTooSmall { need: 12 }), b""),
     (&THREE_KINDS, 27, 11, Err(Sparse(Truncated { at: 27 })), b""),
@@ -39,7 +39,7 @@ const ROWS: [Row; 22] = [
     (&LONG_HEADERS, 32, 3, Err(PartitionTooSmall { need: 4 }), b""),
     (&LONG_HEADERS, 31, 3, Err(Sparse(Truncated { at: 31 })), b""),
     (&MOST_BLOCKS, ALL, 16, Err(PartitionTooSmall { need: 17_179_869_180 }), b""),
-    // What a beginning gives stands.
+    // The blocks of a prefix are stored.
     (&WITH_CHECKSUM, 0, 16, Err(Sparse(Truncated { at: 0 })), b""),
     (&WITH_CHECKSUM, 42, 16, Err(Sparse(Truncated { at: 42 })), b"AB"),
     (&WITH_CHECKSUM, 59, 16, Err(Sparse(Truncated { at: 59 })), b"ABCD"),
@@ -58,8 +58,8 @@ const TOO_FEW: [u8; 44] = [
     0xc1, 0xca, 0, 0, 1, 0, 0, 0, 16, 0, 0, 0, b'A', b'B', b'C', b'D',
 ];
 
-/// Flashes where each device takes or gives at most so many bytes in a call, and read `n` fails, at 0 none: the answer,
-/// and how many reads there were.
+/// Flashes where each device takes or returns at most this many bytes in a call, and read `n` fails, at 0 none: the
+/// result, and how many reads there were.
 fn flashed(image: &[u8], most: usize, n: u64, room: &mut [u8]) -> (Answer, u64) {
     let most = most.max(1);
     let mut input = Faulty::new(Cut::new(Forward::new(SliceSource::new(image)), most), n);
@@ -99,7 +99,7 @@ fn each_read_fails_and_what_came_before_stands(rt: HostRuntime) {
         let failed = Err(Read(DeviceFault::Failed));
         assert!(rt; answer == (if n > calls { done } else { failed }));
         assert!(rt; seen == n.min(calls));
-        // The word of the first block comes in call 10, that of the second in call 14.
+        // The word of the first block is read in call 10, that of the second in call 14.
         let stands: &[u8] = match n {
             0..=10 => b"",
             11..=14 => b"ABCD",

@@ -1,4 +1,4 @@
-//! Raw images, delivered and resumed without a sparse image between, forward and in one pass.
+//! Raw images, delivered and resumed without an intermediate sparse image, forward and in one pass.
 
 use abt_flash::{Delivered, deliver_raw, deliver_raw_at, resume_raw, resume_raw_at};
 use abt_flash_faults::FlashFault::{
@@ -14,8 +14,8 @@ use mem_test_data::vectors::{MIXED, MIXED_FIRST, MIXED_SECOND, OVER_MIXED};
 type Answer = Result<Delivered, FlashFault>;
 
 /// How many bytes the source has and how many it claims, the block size, the piece to begin from (0: a delivery, and
-/// no resuming), how long the partition is; what is to be answered, how many bytes of pieces the spool was given, and
-/// what stands then before the dots that stood there. The limit is 88.
+/// no resuming), and the length of the partition. Then the expected result, how many bytes of pieces the spool was
+/// given, and what the partition then holds before the dots that it held. The limit is 88.
 type Row = (usize, u64, u32, u32, usize, Answer, u64, &'static [u8]);
 
 /// One byte more than 2^32 - 1 blocks of 4.
@@ -29,7 +29,7 @@ const ROWS: [Row; 16] = [
     (18, 18, 8, 3, 26, Err(NoSuchPiece { pieces: 2 }), 0, b""),
     (18, 18, 8, u32::MAX, 26, Err(NoSuchPiece { pieces: 2 }), 0, b""),
     (0, 0, 8, 0, 0, Ok(Delivered { pieces: 1 }), 28, b""),
-    // It is refused in this order.
+    // The faults are found in this order.
     (18, LARGE, 0, 0, 0, Err(BadBlock(0)), 0, b""),
     (18, LARGE, 6, 3, 0, Err(BadBlock(6)), 0, b""),
     (18, LARGE, 65_540, 0, 0, Err(BadBlock(65_540)), 0, b""),
@@ -38,13 +38,13 @@ const ROWS: [Row; 16] = [
     (18, 18, 28, 3, 0, Err(LimitTooSmall { least: 92 }), 0, b""),
     (18, 18, 8, 0, 23, Err(PartitionTooSmall { need: 24 }), 0, b""),
     (18, 18, 8, 3, 23, Err(PartitionTooSmall { need: 24 }), 0, b""),
-    // One that is shorter than it says has changed. Whether the third block goes on is asked in planning the first
-    // piece; in planning alone that is answered as it is.
+    // A source that is shorter than it claims has changed. Planning the first piece asks whether the third block
+    // continues. In planning alone that fault is returned as it is.
     (18, 32, 8, 0, 32, Err(Stopped { piece: 1, cause: Cause::SourceChanged }), 0, b""),
     (18, 32, 8, 2, 32, Err(SourceChanged), 0, b""),
 ];
 
-/// Delivers or resumes: the answer, and how many bytes the spool was given.
+/// Delivers or resumes: the result, and how many bytes the spool was given.
 fn delivered(
     bytes: &[u8],
     claims: u64,
@@ -83,7 +83,7 @@ fn delivered(
     (answer, spool.taken)
 }
 
-/// The same in one pass over the source: the answer.
+/// The same in one pass over the source: the result.
 fn delivered_at(
     bytes: &[u8],
     claims: u64,
@@ -133,7 +133,7 @@ fn is_right(row: &Row) -> bool {
         && (answer.is_err() || has == 0 || room.starts_with(&MIXED_SECOND))
 }
 
-/// Whether one pass answers and leaves what the forward way does: on the partition, and of an Ok in the spool.
+/// Whether one pass returns and leaves what the forward way does: on the partition, and after an Ok in the spool.
 fn is_the_same_in_one_pass(row: &Row) -> bool {
     let (has, claims, block, from, long, want, _, stands) = *row;
     let mut room = [0u8; 88];
@@ -152,8 +152,8 @@ fn is_the_same_in_one_pass(row: &Row) -> bool {
         && (answer.is_err() || has == 0 || room.starts_with(&MIXED_SECOND))
 }
 
-/// Delivers `MIXED` in one pass over it where call `n` of the spool fails, at 0 none: the answer, and how many calls it
-/// had.
+/// Delivers `MIXED` in one pass over it, where call `n` of the spool fails, at 0 none: the result, and how many calls
+/// it had.
 fn where_the_spool_fails(n: u64, room: &mut [u8; 88]) -> (Answer, u64) {
     let mut cells = [b'.'; 32];
     let mut source = SliceSource::new(&MIXED);
@@ -173,7 +173,7 @@ fn where_the_spool_fails(n: u64, room: &mut [u8; 88]) -> (Answer, u64) {
     (answer, spool.seen)
 }
 
-/// Whether the spool holds a whole piece, or no magic number in front.
+/// Whether the spool holds a whole piece, or does not begin with a magic number.
 fn holds_no_part(room: &[u8; 88]) -> bool {
     room.starts_with(&MIXED_FIRST)
         || room.starts_with(&MIXED_SECOND)

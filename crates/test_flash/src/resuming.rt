@@ -47,8 +47,8 @@ const JOBS: [Job; 3] = [
     },
 ];
 
-/// Delivers, or resumes from a piece above 0, over a partition whose call `n` fails; then the power does. At 0 no call
-/// fails.
+/// Delivers, or resumes from a piece above 0, over a partition whose call `n` fails; then the power fails. At 0 no
+/// call fails.
 fn stopped(
     job: Job,
     from: u32,
@@ -127,8 +127,8 @@ fn stopped(
     answer
 }
 
-/// The piece in which this stopped; 0 where it came to its end, and the image stands; `u32::MAX` where that is neither,
-/// or something behind the image changed.
+/// The piece in which this stopped. It is 0 where it finished, and the image is stored. It is `u32::MAX` where
+/// neither holds, or something after the image changed.
 fn piece_of(job: Job, answer: Result<Delivered, FlashFault>, now: &[u8; 32]) -> u32 {
     match answer {
         Ok(_) if now == job.leaves => 0,

@@ -1,4 +1,4 @@
-//! Expanding.
+//! Expanding an image that is read forward.
 
 use abt_chunks::{Expanded, Expander, MachineProgress, expand};
 use abt_io::{DeviceFault, Forward, Meter, SliceOutput, SliceSource, Window};
@@ -12,8 +12,8 @@ use mem_test_data::vectors::{
 
 type Answer = Result<Expanded, SparseFault>;
 
-/// An image, a place in it and the byte that stands there in its place, how many blocks it has, what it gives, and how
-/// many bytes of it are read.
+/// An image, a position in it and the byte that replaces the one there. Then how many blocks it has, what it expands
+/// to, and how many bytes of it are read.
 type Row = (&'static [u8], usize, u8, u32, &'static [u8], u64);
 
 #[rattlefmt::skip]
@@ -29,7 +29,7 @@ const ROWS: [Row; 8] = [
     (&EMPTY, 6, 0, 0, b"", 28),
 ];
 
-/// This image with another byte at a place, and bytes that are no chunk behind it.
+/// This image with another byte at a position, followed by bytes that are no chunk.
 pub(crate) fn changed(image: &[u8], place: usize, byte: u8) -> [u8; 89] {
     let mut bytes = [0x7f; 89];
     for (cell, byte) in bytes.iter_mut().zip(image.iter()) {
@@ -41,8 +41,9 @@ pub(crate) fn changed(image: &[u8], place: usize, byte: u8) -> [u8; 89] {
     bytes
 }
 
-/// Expands where the input gives and the output takes at most so many bytes in a call, and a call of each fails, at 0
-/// none: the answer, how many bytes of the image were read, how many calls each had, and how many bytes were written.
+/// Expands where the input returns and the output takes at most this many bytes in a call, and a call of each fails,
+/// at 0 none. Returns the result, how many bytes of the image were read, how many calls each had, and how many bytes
+/// were written.
 pub(crate) fn expanded(
     image: &[u8],
     most: [usize; 2],
@@ -61,7 +62,7 @@ pub(crate) fn expanded(
     (answer, [read, input.seen, output.seen, written])
 }
 
-/// Bytes behind the last chunk are left unread.
+/// Bytes after the last chunk are left unread.
 fn is_right(row: &Row, most: usize) -> bool {
     let (image, place, byte, blocks, gives, read) = *row;
     let image = changed(image, place, byte);
@@ -111,8 +112,8 @@ fn a_full_output_holds_as_much_as_it_has_room_for(rt: HostRuntime) {
     assert!(rt; room == *b"ABCD\x04");
 }
 
-/// Expands where a call of each device fails, at 0 none: the answer, how many calls each had, and whether what was
-/// written is a beginning of the expansion.
+/// Expands where a call of each device fails, at 0 none: the result, how many calls each had, and whether what was
+/// written is a prefix of the expansion.
 fn failing(read: u64, write: u64) -> (Answer, u64, u64, bool) {
     let mut room = [b'.'; 16];
     let (answer, counts) = expanded(&THREE_KINDS, [5, 3], [read, write], &mut room);

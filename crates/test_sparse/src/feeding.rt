@@ -5,7 +5,8 @@ use abt_sparse::SparseFault;
 use abt_sparse::SparseFault::{TooManyBlocks, Truncated};
 use mem_test_data::vectors::{LONG_HEADERS, THREE_KINDS, TOO_MANY, WITH_CHECKSUM};
 
-/// An image, how many of its bytes come at most, the fault that ends it, how many bytes are used, and what it gives.
+/// An image, how many of its bytes come at most, the fault that ends it, how many bytes are used, and what it expands
+/// to.
 type Row = (
     &'static [u8],
     usize,
@@ -27,7 +28,7 @@ const ROWS: [Row; 9] = [
     (&TOO_MANY, 56, Some(TooManyBlocks { chunk: 1 }), 56, b"ABCD"),
 ];
 
-/// What the parts of an image gave so far, where dots were before.
+/// What the parts of an image expanded to so far, with dots for the rest.
 #[derive(Drop)]
 struct Laid {
     room: [u8; 14],
@@ -51,7 +52,7 @@ impl Laid {
     }
 }
 
-/// Feeds an image in pieces of at most so many bytes: the fault that ended it, how many bytes were used, and what came.
+/// Feeds an image in pieces of at most `most` bytes: the fault that ended it, how many bytes were used, and what came.
 fn fed(image: &[u8], most: usize) -> (Option<SparseFault>, usize, Laid) {
     let mut laid = Laid {
         room: [b'.'; 14],

@@ -1,4 +1,4 @@
-//! Listing.
+//! Listing an image that is read forward.
 
 use abt_chunks::{ChunkInfo, Chunks};
 use abt_io::{DeviceFault, Forward, Meter, SliceSource, Window};
@@ -72,7 +72,7 @@ const LONG_HEADER: SparseHeader = SparseHeader {
 };
 
 /// An image, how many of its bytes come at most, the read that fails (0: none), the chunks that it should have, how
-/// many of them come, and what comes behind them, None at the end.
+/// many of them come, and what comes after them, None at the end.
 type Row = (&'static [u8], usize, u64, &'static [ChunkInfo], usize, Last);
 
 type Last = Result<Option<ChunkInfo>, SparseFault>;
@@ -88,7 +88,7 @@ const ROWS: [Row; 13] = [
     // Longer headers are passed over.
     (&LONG_HEADERS, 48, 0, &[ONE_SKIP], 1, Ok(None)),
     (&LONG_HEADERS, 31, 0, &[], 0, Err(Truncated { at: 31 })),
-    // Blocks past the total are refused.
+    // Blocks past the total fail.
     (&TWO_HALVES, 52, 0, &[HALF], 1, Err(TooManyBlocks { chunk: 1 })),
     // The header is read, and for each chunk its header and its data.
     (&WITH_CHECKSUM, 88, 1, &ALL, 0, FAILED),
@@ -100,8 +100,8 @@ const ROWS: [Row; 13] = [
     (&WITH_CHECKSUM, 88, 8, &ALL, 3, FAILED),
 ];
 
-/// Goes through the chunks up to the end or to a fault: the header, if it came, how many chunks are as they should be,
-/// and what came behind them, None at the end.
+/// Reads the chunks up to the end or to a fault: the header, if there was one, how many chunks are as they should be,
+/// and what came after them, None at the end.
 fn listed(image: &[u8], failing: u64, want: &[ChunkInfo]) -> (Option<SparseHeader>, usize, Last) {
     let mut input = Faulty::new(Forward::new(SliceSource::new(image)), failing);
     let mut w = Window::new();

@@ -46,7 +46,7 @@ type Answer = Result<[Option<Piece>; 3], PieceFault>;
 /// Both pieces, and that there is no other.
 const PIECES: Answer = Ok([Some(FIRST), Some(SECOND), None]);
 
-/// Whether both pieces stand, one behind the other, and nothing behind them.
+/// Whether both pieces are stored, one after the other, and nothing after them.
 fn both_stand(room: &[u8; 200]) -> bool {
     room.starts_with(&MIXED_FIRST)
         && room[76..].starts_with(&MIXED_SECOND)
@@ -75,8 +75,8 @@ fn a_piece_is_passed_over_and_the_next_cut_in_steps(rt: HostRuntime) -> Result<(
     Ok(())
 }
 
-/// What calls answer that cut one piece each in one pass, where written bytes can be written over; and how many bytes
-/// the first of them read.
+/// The result of calls that cut one piece each in one pass, where written bytes can be overwritten; and how many
+/// bytes the first of them read.
 fn cut_at(room: &mut [u8; 200], handed: &mut u64) -> Answer {
     let mut source = Counting::new(SliceSource::new(&MIXED));
     let mut output = Cut::new(SliceOutput::new(room), 5);
@@ -103,7 +103,8 @@ fn the_pieces_are_cut_in_one_pass(rt: HostRuntime) {
     assert!(rt; both_stand(&room) && handed == 18);
 }
 
-/// Writes the first piece in one pass, three bytes in a call, where write `n` fails, at 0 none: how many bytes stand.
+/// Writes the first piece in one pass, three bytes in a call, where write `n` fails, at 0 none: how many bytes are
+/// written.
 fn placed(n: u64, room: &mut [u8; 107]) -> (Result<Option<Piece>, PieceFault>, usize) {
     let mut source = SliceSource::new(&MIXED);
     let mut output = Faulty::new(Cut::new(SliceOutput::new(room), 3), n);
@@ -121,7 +122,7 @@ fn placed(n: u64, room: &mut [u8; 107]) -> (Result<Option<Piece>, PieceFault>, u
     (answer, output.device.device.written().len())
 }
 
-/// Whether a reader takes what stands after that.
+/// Whether a reader accepts what is then stored.
 fn is_read_back(n: u64, want: Result<Option<Piece>, PieceFault>) -> Option<bool> {
     let mut room = [0; 107];
     let (answer, written) = placed(n, &mut room);

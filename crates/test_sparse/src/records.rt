@@ -1,4 +1,4 @@
-//! The records at their bytes, each refusal in its turn, and the texts of the faults.
+//! The bytes of the records, each fault in its turn, and the texts of the faults.
 
 use abt_io::DeviceFault;
 use abt_sparse::{ChunkHeader, ChunkKind, SparseFault, SparseHeader, header_of, u16_at, u32_at};
@@ -40,7 +40,7 @@ fn a_header_is_encoded_and_decoded(rt: HostRuntime) {
     }
 }
 
-/// Two places of `HEADER`, the byte that stands at each in its place, and what that is refused for.
+/// Two positions of `HEADER`, the byte that replaces the one at each, and the fault of the result.
 const REFUSALS: [(usize, u8, usize, u8, SparseFault); 6] = [
     (0, 0x3b, 4, 2, SparseFault::Magic),
     (4, 2, 8, 27, SparseFault::Major(2)),
@@ -66,7 +66,7 @@ const CHUNK: ChunkHeader = ChunkHeader {
     total: 65_552,
 };
 
-/// The first two bytes, the two that are reserved, and what that says.
+/// The first two bytes, the two that are reserved, and what they decode to.
 const CHUNKS: [(u8, [u8; 2], Result<ChunkHeader, u16>); 3] = [
     (0xc1, [0, 0], Ok(CHUNK)),
     (0xc1, [0x34, 0x12], Ok(CHUNK)),

@@ -1,4 +1,4 @@
-//! What is no image: its first fault, and what an expansion gives before that.
+//! Invalid images: their first fault, and what they expand to before it.
 
 use crate::expanding::{changed, expanded};
 use abt_io::{Meter, SliceSource, Window};
@@ -12,19 +12,20 @@ use mem_devices::Cut;
 use mem_test_data::standing::holds;
 use mem_test_data::vectors::{LONG_HEADERS, THREE_KINDS, TOO_MANY, TWO_HALVES, WITH_CHECKSUM};
 
-/// An image, a place in it and the byte that stands there in its place, the fault, and what the blocks before it give.
+/// An image, a position in it and the byte that replaces the one there, the fault, and what the blocks before it
+/// expand to.
 type Row = (&'static [u8], usize, u8, SparseFault, &'static [u8]);
 
 #[rattlefmt::skip]
 const ROWS: [Row; 16] = [
-    // The header is refused before anything is written.
+    // An invalid header fails before anything is written.
     (&THREE_KINDS, 0, 0, Magic, b""),
     (&THREE_KINDS, 4, 2, Major(2), b""),
     (&LONG_HEADERS, 8, 27, FileHeaderSize(27), b""),
     (&LONG_HEADERS, 10, 11, ChunkHeaderSize(11), b""),
     (&THREE_KINDS, 12, 0, BlockSize(0), b""),
     (&THREE_KINDS, 12, 6, BlockSize(6), b""),
-    // Blocks before a bad chunk stand.
+    // Blocks before a bad chunk are written.
     (&THREE_KINDS, 28, 0xC5, ChunkType { chunk: 0, kind: 0xCAC5 }, b""),
     (&THREE_KINDS, 44, 0xC5, ChunkType { chunk: 1, kind: 0xCAC5 }, b"ABCD"),
     (&THREE_KINDS, 36, 15, ChunkLength { chunk: 0 }, b""),
@@ -32,7 +33,7 @@ const ROWS: [Row; 16] = [
     (&WITH_CHECKSUM, 80, 12, ChunkLength { chunk: 3 }, b"ABCD\x04\x03\x02\x01\0\0\0\0"),
     (&TOO_MANY, 16, 2, TooManyBlocks { chunk: 1 }, b"ABCD"),
     (&THREE_KINDS, 16, 4, TooFewBlocks { have: 3 }, b"ABCD\x04\x03\x02\x01\0\0\0\0"),
-    // What ends early, here a chunk that says to be longer.
+    // An image that ends early, here by a chunk that claims to be longer.
     (&THREE_KINDS, 20, 4, Truncated { at: 72 }, b"ABCD\x04\x03\x02\x01\0\0\0\0"),
     (&LONG_HEADERS, 8, 49, Truncated { at: 48 }, b""),
     (&LONG_HEADERS, 20, 2, Truncated { at: 48 }, b"\0\0\0\0"),

@@ -9,7 +9,7 @@ use mem_test_data::vectors::*;
 /// What a cut came to.
 #[derive(Drop)]
 struct Cutting {
-    /// How many pieces came whole, and the block behind the last of each.
+    /// How many pieces are whole, and the block after the last of each.
     count: usize,
     ends: [u32; 4],
     /// How many bytes they have together, and the longest.
@@ -35,7 +35,7 @@ impl Cutting {
     }
 }
 
-/// Cuts the image of a source, with all pieces one behind another. Behind a fault the same is answered again.
+/// Cuts the image of a source, with all pieces one after another. After a fault the same fault is returned again.
 fn cut(
     source: &mut Faulty<SwitchSource<'_>>,
     limit: u32,
@@ -72,7 +72,7 @@ fn cut(
     cutting
 }
 
-/// The block behind the last of a piece, and its bytes.
+/// The block after the last of a piece, and its bytes.
 type Whole = (u32, &'static [u8]);
 
 const OF_THREE_KINDS: [Whole; 2] = [(1, &FIRST_OF_THREE), (3, &SECOND_OF_THREE)];
@@ -106,8 +106,8 @@ const ROWS: [Row; 13] = [
     (&MOST_BLOCKS, 68, &[(4_294_967_295, &MOST_BLOCKS)]),
 ];
 
-/// Cuts an image that becomes another after so many calls, where a call of each device fails, at 0 none. Also how many
-/// bytes were written, and how many calls each device had.
+/// Cuts an image that becomes another after this many calls, where a call of each device fails, at 0 none. Also
+/// returns how many bytes were written, and how many calls each device had.
 fn cut_changing(
     images: [&[u8]; 2],
     calls: u64,
@@ -175,7 +175,7 @@ fn chunks_without_blocks_make_no_piece_of_their_own(rt: HostRuntime) {
     assert!(rt; is_cut_into(&many_chunks(), 68, &OF_EMPTY));
 }
 
-/// Why a limit is refused for the blocks of this image, if it is.
+/// Why a limit fails for the blocks of this image, if it does.
 fn limit_refused(image: &[u8], limit: u32) -> Option<PieceFault> {
     let mut source = SliceSource::new(image);
     let mut w = Window::new();
@@ -199,8 +199,8 @@ fn a_limit_that_no_piece_fits_is_refused(rt: HostRuntime) {
     }
 }
 
-/// `THREE_KINDS` becomes its first 40 bytes after so many calls. Within the opening the shorter image may also be
-/// refused for what it is.
+/// `THREE_KINDS` becomes its first 40 bytes after this many calls. During the opening the shorter image may also fail
+/// with its own fault.
 #[test]
 fn a_source_that_shrinks_gives_a_beginning_of_its_pieces(rt: HostRuntime) {
     let mut is_whole = false;

@@ -1,4 +1,4 @@
-//! A raw image written as a sparse one, from end to end or where written bytes can be written over.
+//! A raw image written as a sparse one, from end to end or where written bytes can be overwritten.
 
 ghost use Rattle.std.specs.Prelude.{◌≤◌, ◌<◌, ◌+◌, ◌*◌, ◌^◌};
 
@@ -22,8 +22,8 @@ enum Way {
 
 type Answer = Result<Written, PieceFault>;
 
-/// Bytes, how many of them the source claims to have, the block size, how many blocks a raw chunk has at most, what is
-/// answered, and what stands then, where that is told.
+/// Bytes, how many of them the source claims to have, the block size, how many blocks a raw chunk has at most, the
+/// expected result, and what is then written, where that is known.
 type Row = (&'static [u8], u64, u32, u32, Answer, Option<&'static [u8]>);
 
 /// One byte more than 2^32 - 1 blocks of 4.
@@ -35,12 +35,12 @@ const ROWS: [Row; 9] = [
     (&MIXED, 18, 8, 100, Ok(Written { blocks: 3, chunks: 2, bytes: 72 }), Some(&MIXED_IMAGE)),
     (&LETTERS, 40, 8, 2, OF_LETTERS, Some(&LETTERS_IMAGE)),
     (&[], 0, 4, 1, Ok(Written { blocks: 0, chunks: 0, bytes: 28 }), Some(&EMPTY)),
-    // A bad block size is refused before the length, and both before anything is written.
+    // A bad block size fails before the length, and both before anything is written.
     (&WORDS, LARGE, 0, 1, Err(BadBlock(0)), Some(&[])),
     (&WORDS, LARGE, 6, 1, Err(BadBlock(6)), Some(&[])),
     (&WORDS, LARGE, 65_540, 1, Err(BadBlock(65_540)), Some(&[])),
     (&WORDS, LARGE, 4, 1, Err(TooLarge), Some(&[])),
-    // A source that is shorter than it says has changed.
+    // A source that is shorter than it claims has changed.
     (&WORDS, 12, 4, 1, Err(SourceChanged), None),
 ];
 
@@ -60,8 +60,8 @@ struct Writing {
     writes: u64,
 }
 
-/// Writes the image of a source that claims so many bytes, where the source gives and the output takes at most so many
-/// bytes in a call, and a call of each fails, at 0 none.
+/// Writes the image of a source that claims this many bytes, where the source returns and the output takes at most
+/// this many bytes in a call, and a call of each fails, at 0 none.
 fn write(
     way: Way,
     bytes: &[u8],
@@ -114,8 +114,8 @@ fn each_row_is_answered_as_it_says(rt: HostRuntime) {
     }
 }
 
-/// Writes the image of `LETTERS` where a call of each device fails, at 0 none. What was written is a beginning of the
-/// image. The answer, and how many calls each device had.
+/// Writes the image of `LETTERS` where a call of each device fails, at 0 none. What was written is a prefix of the
+/// image. Returns the result, and how many calls each device had.
 fn failing(read: u64, write_at: u64) -> (Answer, u64, u64, bool) {
     let mut room = [0u8; 120];
     let failing = [read, write_at];
@@ -153,8 +153,8 @@ fn each_call_fails_and_a_beginning_stands(rt: HostRuntime) {
     }
 }
 
-/// Writes the image of a source that claims to have 40 bytes in one pass, where write `n` fails, at 0 none: the answer,
-/// and whether a reader takes what stands.
+/// Writes the image of a source that claims to have 40 bytes in one pass, where write `n` fails, at 0 none: the
+/// result, and whether a reader accepts what is written.
 fn placed(bytes: &[u8], n: u64) -> (Answer, bool) {
     let mut room = [0u8; 120];
     let mut expansion = [0u8; 60];

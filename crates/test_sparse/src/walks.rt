@@ -1,4 +1,4 @@
-//! Rows whose values come from outside: words of blocks, walks over images, refusals, and sources that fail.
+//! Rows whose values come from other sources: words of blocks, walks over images, faults, and sources that fail.
 
 use abt_io::{DeviceFault, Meter, SliceSource, Window};
 use abt_runs::{
@@ -30,7 +30,7 @@ fn one_byte_that_differs_leaves_no_equal_word(rt: HostRuntime) {
     assert!(rt; equal_word(&block[..4]) == Some(*b"abxd"));
 }
 
-/// How long a source says that it is, the block size, and what that is refused for.
+/// The length that a source claims, the block size, and the fault.
 #[rattlefmt::skip]
 const REFUSALS: [(u64, u32, RunFault); 5] = [
     (10, 0, RunFault::BadBlock(0)),
@@ -51,8 +51,8 @@ fn a_raw_image_is_refused_for_its_blocks(rt: HostRuntime) {
     assert!(rt; RawRuns::open(&source, 65_536).map(|runs| runs.blocks) == Ok(1));
 }
 
-/// The runs of a raw image of three blocks: the first of at most one block, from there one of at most one and one of at
-/// most five, and the one behind that.
+/// The runs of a raw image of three blocks: the first of at most one block, from there one of at most one and one of
+/// at most five, and the one after that.
 fn raw_runs() -> Result<[(RunKind, u32); 4], RunFault> {
     let mut source = Cut::new(SliceSource::new(&MIXED), 3);
     let mut w = Window::new();
@@ -117,7 +117,8 @@ fn each_step_of_an_opening_that_fails_is_answered_again(rt: HostRuntime) {
     }
 }
 
-/// Image `THREE_KINDS` opened, its first run, the part behind that run, and the first run's bytes from the second on.
+/// Opens image `THREE_KINDS`. Reads its first run, the part after that run, and the first run's bytes from the second
+/// on.
 fn sparse_calls(source: &mut Faulty<SliceSource<'_>>) -> Result<[u8; 3], RunFault> {
     let mut w = Window::new();
     let mut m = Meter::new();

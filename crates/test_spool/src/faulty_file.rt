@@ -11,8 +11,8 @@ use sys_file::{Stamp, SystemFile};
 /// Why a call fails that was chosen: the number of EIO.
 pub(crate) const WHY: i32 = 5;
 
-/// A file whose writes and changes of length fail where their bits are set, the lowest bit first. A write that fails has
-/// laid half of its bytes.
+/// A file whose writes and changes of length fail where their bits are set, the lowest bit first. A write that fails
+/// has written half of its bytes.
 #[derive(Drop)]
 pub(crate) struct FaultyFile {
     pub file: File,

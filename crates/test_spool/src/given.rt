@@ -1,4 +1,4 @@
-//! What an output was given, and its calls.
+//! What was written to an output, and its calls.
 
 use crate::taken::{front, lay};
 use std::alloc::Global;
@@ -6,20 +6,20 @@ use std::io;
 use sys_file::SystemFile;
 use sys_outputs::{HeldFile, HoleFile};
 
-/// One call of an output, of so many bytes.
+/// One call of an output, of this many bytes.
 #[derive(Clone, Copy, Drop)]
 pub(crate) enum Call {
     /// Bytes of which none is zero.
     Put(usize),
     Zeros(usize),
-    /// Zeros that are laid at once, where they can be.
+    /// Zeros that are written at once, where that is possible.
     Hole(u64),
-    /// From so many bytes before the end on.
+    /// From this many bytes before the end on.
     Over(usize, usize),
     Settle,
 }
 
-/// What an output was given, and what it is given. No call need be answered Ok.
+/// What was written to an output, and what is to be written. A call need not return Ok.
 #[derive(Drop)]
 pub(crate) struct Given {
     pub bytes: Vec<u8>,
@@ -28,7 +28,7 @@ pub(crate) struct Given {
 }
 
 impl Given {
-    /// Nothing was given yet.
+    /// Nothing was written yet.
     pub(crate) fn new(alloc: Global, text: Vec<u8>) -> Given {
         let mut zeros = Vec::new(alloc);
         let _ = zeros.resize(text.len(), 0);
@@ -39,7 +39,7 @@ impl Given {
         }
     }
 
-    /// Makes one call of a file that has headers laid late, and tells whether what it answers is right.
+    /// Makes one call of a file whose headers are written late, and returns whether its result is right.
     pub(crate) fn held<F: SystemFile + Drop>(
         &mut self,
         held: &mut HeldFile<F>,
@@ -96,7 +96,7 @@ impl Given {
         }
     }
 
-    // It took a front of so many bytes, and no empty one of some.
+    // It took a prefix of this many bytes, and not an empty one of some bytes.
     fn took(&mut self, answer: io::Result<usize>, count: usize, is_zero: bool) -> bool {
         let Ok(n) = answer else {
             return true;
@@ -113,7 +113,7 @@ impl Given {
         is_kept && n <= count && (n > 0 || count == 0)
     }
 
-    // It laid a front of these bytes at a place.
+    // It wrote a prefix of these bytes at a position.
     fn laid(&mut self, answer: Result<usize, Option<i32>>, at: usize) -> bool {
         match answer {
             Ok(n) => lay(

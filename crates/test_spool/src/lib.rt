@@ -1,12 +1,11 @@
-//! Tests of the spool of `sys_devices` that gathers, and of the outputs of `sys_outputs`, over files of which calls
-//! fail.
+//! Tests of the gathering spool of `sys_devices`, and of the outputs of `sys_outputs`, over files whose calls fail.
 //!
-//! | file | has |
+//! | file | content |
 //! |---|---|
-//! | `faulty_file.rt` | a file of the system, of which chosen calls fail |
-//! | `taken.rt` | what a spool is to hold, and whether it does |
+//! | `faulty_file.rt` | a file of the system of which chosen calls fail |
+//! | `taken.rt` | what a spool should hold, and whether it does |
 //! | `spools.rt` | the tests of the spool |
-//! | `given.rt` | what an output was given, and its calls |
+//! | `given.rt` | what was written to an output, and its calls |
 //! | `outputs.rt` | the tests of outputs |
 #![tactic(auto)]
 

@@ -1,4 +1,4 @@
-//! An output that came to its end has its file hold just what it was given, whichever of its calls failed.
+//! An output that ends has its file hold exactly what was written to it, whichever of its calls failed.
 
 ghost use Rattle.std.specs.Prelude.{◌≡◌, []};
 
@@ -34,7 +34,7 @@ const CALLS: [Call; 20] = [
     Call::Over(100, 12),
 ];
 
-// A file that has headers laid late, after these calls. Whether each was answered right.
+// A file whose headers are written late, after these calls. Whether each result was right.
 fn held<F: SystemFile + Drop>(held: &mut HeldFile<F>, given: &mut Given) -> bool {
     for call in CALLS.iter() {
         if !given.held(held, call) {
@@ -99,8 +99,8 @@ fn holes_end_right_in_memory(rt: HostRuntime) {
     }
 }
 
-/// Over a file of the system, of which any one call fails, or two that follow one another. A write that fails has laid
-/// half of its bytes.
+/// Over a file of the system, of which any one call fails, or two that follow one another. A write that fails has
+/// written half of its bytes.
 #[test]
 fn late_headers_end_right_in_a_file(rt: HostRuntime) {
     for k in 0..40u64 {

@@ -1,5 +1,5 @@
-//! A spool over a file of which calls fail never answers Ok wrongly: it gives what it took, its file has just that once it
-//! is settled, and no magic number once it is cleared. What is lost is told.
+//! A spool over a file whose calls fail never returns a wrong Ok. It returns what it took. Its file has exactly that
+//! after it is settled, and no magic number after it is cleared. What is lost is reported.
 
 ghost use Rattle.std.specs.Prelude.{◌≤◌, IsTrue, length};
 
@@ -46,7 +46,7 @@ const CALLS: [Call; 24] = [
 // The name of the spool's file.
 const NAME: &str = "spool.tmp";
 
-// What stands in the file before.
+// What the file held before.
 const BEFORE: &[u8] = b"ABCD of before";
 
 /// Bytes of which none is zero.
@@ -60,7 +60,7 @@ pub(crate) fn text(alloc: Global) -> Vec<u8> {
     made
 }
 
-/// The spool's file, in which these bytes stand.
+/// The spool's file, which holds these bytes.
 pub(crate) fn opened<R: Files + Abort>(rt: &R, before: &[u8]) -> R::File {
     fs::write(rt, NAME, before).expect(rt, "is written");
     let mut options = OpenOptions::new();
@@ -84,7 +84,7 @@ fn gathering<F: SystemFile + Drop>(
     }
 }
 
-// Whether the file has what it is to have: all that was taken, where it is settled, and no magic number, where it is
+// Whether the file has what it should have: all that was taken, where it is settled, and no magic number, where it is
 // cleared.
 fn stands<R: Files + Alloc>(rt: &R, taken: &Taken) -> bool {
     if !taken.is_settled && !taken.is_cleared {
@@ -99,7 +99,7 @@ fn stands<R: Files + Alloc>(rt: &R, taken: &Taken) -> bool {
     !taken.is_cleared || stands.is_empty() || front(stands.as_slice(), 4) == [0; 4].as_slice()
 }
 
-// Whether a spool that is cleared takes and gives bytes.
+// Whether a spool that is cleared takes and returns bytes.
 fn takes_again<F: SystemFile + Drop>(spool: &mut GatheringSpool<F>) -> bool {
     let mut out = [0; 8];
     spool.clear().is_ok()
@@ -108,7 +108,7 @@ fn takes_again<F: SystemFile + Drop>(spool: &mut GatheringSpool<F>) -> bool {
         && front(&out, 2) == b"ab".as_slice()
 }
 
-// Whether it does so once no more calls of its file fail. Each that fails is told by two clears at most.
+// Whether it does so after no more calls of its file fail. Each that fails is reported by two clears at most.
 fn goes_on<F: SystemFile + Drop>(spool: &mut GatheringSpool<F>) -> bool {
     for _ in 0..6 {
         if takes_again(spool) {
@@ -118,7 +118,7 @@ fn goes_on<F: SystemFile + Drop>(spool: &mut GatheringSpool<F>) -> bool {
     false
 }
 
-// The spool answers right in all calls, and has its file so.
+// The spool returns the right result in all calls, and its file is right too.
 fn is_right<R: Files + Alloc>(
     rt: &R,
     alloc: Global,
@@ -186,7 +186,7 @@ pub(crate) fn has<R: Files + Alloc>(rt: &R, bytes: &[u8]) -> bool {
     }
 }
 
-/// Where bytes could not be laid over those in the file, any may stand there: so all is lost, and that was told.
+/// Where bytes in the file could not be overwritten, they may be any bytes: so all is lost, and that was reported.
 #[test]
 fn bytes_that_are_laid_in_part_are_lost(rt: HostRuntime) {
     let file = FaultyFile {
@@ -205,7 +205,7 @@ fn bytes_that_are_laid_in_part_are_lost(rt: HostRuntime) {
     assert!(rt; has(&rt, b""));
 }
 
-/// Where a file could not be emptied, its bytes may be gone: so all is lost, and that was told.
+/// Where a file could not be emptied, its bytes may be gone: so all is lost, and that was reported.
 #[test]
 fn what_is_cleared_in_part_is_lost(rt: HostRuntime) {
     for is_keeping in [false, true] {
@@ -223,7 +223,7 @@ fn what_is_cleared_in_part_is_lost(rt: HostRuntime) {
     }
 }
 
-/// Where the front of a file got no zeros, it was emptied. The next clear tells so once more.
+/// Where the beginning of a file could not be zeroed, it was emptied. The next clear reports it once more.
 #[test]
 fn a_file_without_zeros_is_emptied(rt: HostRuntime) {
     let file = FaultyFile {
@@ -256,7 +256,8 @@ fn a_file_that_is_not_cut_off_is_emptied(rt: HostRuntime) {
     assert!(rt; goes_on(&mut spool));
 }
 
-/// What a write left that failed is cut off: of bytes that were held, which are lost, and of many, which were refused.
+/// What a failed write left is cut off. This holds for buffered bytes, which are lost, and for many bytes, whose
+/// write failed.
 #[test]
 fn what_a_failed_write_left_is_cut_off(rt: HostRuntime) {
     let text = text(rt.alloc());
@@ -282,7 +283,7 @@ fn what_a_failed_write_left_is_cut_off(rt: HostRuntime) {
     assert!(rt; has(&rt, b"ab"));
 }
 
-/// What stood in the file before is cut off, though it is not cleared.
+/// What the file held before is cut off, though it is not cleared.
 #[test]
 fn a_spool_begins_over_what_stands(rt: HostRuntime) {
     let file = opened(&rt, BEFORE);

@@ -1,23 +1,23 @@
-//! What a spool is to hold, and whether it does.
+//! What a spool should hold, and whether it does.
 
 use abt_io::{Input, Output, Overwrite, Spool, WINDOW};
 use std::alloc::Global;
 use sys_devices::GatheringSpool;
 use sys_file::SystemFile;
 
-/// One call of a spool, of so many bytes.
+/// One call of a spool, of this many bytes.
 #[derive(Clone, Copy, Drop)]
 pub(crate) enum Call {
     Write(usize),
-    /// From so many bytes before the end on.
+    /// From this many bytes before the end on.
     Over(usize, usize),
     Read(usize),
     Settle,
     Clear,
 }
 
-/// What a spool took since it was last cleared, and how much of it was read. No call need be answered Ok, but what one
-/// answers so must be right.
+/// What a spool took since it was last cleared, and how much of it was read. A call need not return Ok, but an Ok
+/// must be right.
 #[derive(Drop)]
 pub(crate) struct Taken {
     pub bytes: Vec<u8>,
@@ -39,7 +39,7 @@ impl Taken {
         }
     }
 
-    /// Makes one call, and tells whether what it answers is right. The bytes that it writes are a front of these.
+    /// Makes one call, and returns whether its result is right. The bytes that it writes are a prefix of these.
     pub(crate) fn does<F: SystemFile + Drop>(
         &mut self,
         spool: &mut GatheringSpool<F>,
@@ -63,7 +63,7 @@ impl Taken {
         }
     }
 
-    // It takes a front of these bytes, and no empty one of some.
+    // It takes a prefix of these bytes, and not an empty one of some bytes.
     fn writes<F: SystemFile + Drop>(&mut self, spool: &mut GatheringSpool<F>, text: &[u8]) -> bool {
         if text.len() > WINDOW {
             return false;
@@ -77,7 +77,7 @@ impl Taken {
         }
     }
 
-    // It lays a front of these bytes over those that it took.
+    // It overwrites bytes that it took with a prefix of these.
     fn writes_over<F: SystemFile + Drop>(
         &mut self,
         spool: &mut GatheringSpool<F>,
@@ -95,7 +95,7 @@ impl Taken {
         }
     }
 
-    // It gives what comes next of what it took, and nothing only where all was given.
+    // It returns what comes next of what it took, and nothing only where all was returned.
     fn reads<F: SystemFile + Drop>(&mut self, spool: &mut GatheringSpool<F>, count: usize) -> bool {
         let mut out = [0; 300];
         let count = count.min(300);
@@ -121,7 +121,7 @@ impl Taken {
     }
 }
 
-/// The first bytes, so many or as many as there are.
+/// The first bytes, this many or as many as there are.
 pub(crate) fn front(bytes: &[u8], count: usize) -> &[u8] {
     &bytes[..count.min(bytes.len())]
 }
@@ -131,7 +131,7 @@ fn behind(bytes: &[u8], from: usize) -> &[u8] {
     &bytes[from.min(bytes.len())..]
 }
 
-/// Lays bytes at a place of others, if they have room there.
+/// Overwrites bytes at a position of others, if they have room there.
 pub(crate) fn lay(bytes: &mut [u8], at: usize, part: &[u8]) -> bool {
     if at > bytes.len() || part.len() > bytes.len() - at {
         return false;

@@ -1,4 +1,4 @@
-//! One failing read at each place: of the image for the one machine, of the partition for the other.
+//! One failing read at each position: of the image for the one machine, of the partition for the other.
 
 use crate::{raw_images, sparse_images};
 use abt_io::DeviceFault;

@@ -1,12 +1,12 @@
 //! Tests of verifying, over the public calls of `abt_verify`.
 //!
-//! | file | what it shows |
+//! | file | what it tests |
 //! |---|---|
-//! | `sparse_images.rt` | a table of sparse images against what stands on a partition |
-//! | `raw_images.rt` | the same of raw images |
+//! | `sparse_images.rt` | a table of sparse images, compared with what a partition holds |
+//! | `raw_images.rt` | the same for raw images |
 //! | `windows.rt` | parts that are longer than what a step compares |
 //! | `stepping.rt` | the machines step by step, and the laws |
-//! | `failing.rt` | one failing read at each place |
+//! | `failing.rt` | one failing read at each position |
 //! | `faults.rt` | the numbers and texts of the faults |
 #![tactic(auto)]
 

@@ -1,4 +1,4 @@
-//! Raw images against what stands on a partition.
+//! Raw images, compared with what a partition holds.
 
 use abt_io::{Meter, SliceSource, Window};
 use abt_verify::VerifyFault::{BadBlock, Differs, SourceChanged};
@@ -8,8 +8,8 @@ use mem_test_data::vectors::MIXED;
 
 type Answer = Result<Verified, VerifyFault>;
 
-/// How many bytes of the image there are, how many from the second read on, its block size, what stands, and what is to
-/// be answered.
+/// How many bytes of the image there are, how many from the second read on, its block size, what the partition holds,
+/// and the expected result.
 type Row = (usize, usize, u32, &'static [u8], Answer);
 
 #[rattlefmt::skip]
@@ -29,12 +29,12 @@ const ROWS: [Row; 16] = [
     (18, 18, 6, b"", Err(BadBlock(6))),
     (18, 18, 65_540, b"", Err(BadBlock(65_540))),
     (18, 18, 4_294_967_292, b"", Err(BadBlock(4_294_967_292))),
-    // One that gives fewer bytes than it said has changed.
+    // A source that returns fewer bytes than it claims has changed.
     (18, 17, 4, b"AAAAAAAAABCDEFGHIJ", Err(SourceChanged)),
 ];
 
-/// Verifies these bytes of `MIXED` where each device gives a few bytes in a call, and read `n` of the partition fails,
-/// at 0 none: the answer, and how many reads of the partition there were.
+/// Verifies these bytes of `MIXED` where each device returns a few bytes in a call, and read `n` of the partition
+/// fails, at 0 none: the result, and how many reads of the partition there were.
 pub(crate) fn verified(long: usize, then: usize, block: u32, n: u64, room: &[u8]) -> (Answer, u64) {
     let first = &MIXED[..long.min(18)];
     let second = &MIXED[..then.min(18)];

@@ -1,4 +1,4 @@
-//! Sparse images against what stands on a partition.
+//! Sparse images, compared with what a partition holds.
 
 use abt_io::{Forward, Meter, SliceSource, Window};
 use abt_sparse::SparseFault::{Magic, TooManyBlocks, Truncated};
@@ -11,14 +11,14 @@ use mem_test_data::vectors::{
 
 type Answer = Result<Verified, VerifyFault>;
 
-/// An image, how many of its bytes come at most, what stands, and what is to be answered.
+/// An image, how many of its bytes come at most, what the partition holds, and the expected result.
 type Row = (&'static [u8], usize, &'static [u8], Answer);
 
 const ALL: usize = 1000;
 
 #[rattlefmt::skip]
 const ROWS: [Row; 30] = [
-    // Raw and fill blocks stand, and don't care may be anything.
+    // The partition holds the raw and fill blocks; don't care blocks may be anything.
     (&THREE_KINDS, ALL, b"ABCD\x04\x03\x02\x01....", Ok(Verified { blocks: 2 })),
     (&THREE_KINDS, ALL, b"ABCD\x04\x03\x02\x01", Ok(Verified { blocks: 2 })),
     (&WITH_CHECKSUM, ALL, b"ABCD\x04\x03\x02\x01....", Ok(Verified { blocks: 2 })),
@@ -27,18 +27,18 @@ const ROWS: [Row; 30] = [
     (&EMPTY, ALL, b"", Ok(Verified { blocks: 0 })),
     (&EMPTY, ALL, b"....", Ok(Verified { blocks: 0 })),
     (&LONG_HEADERS, ALL, b"", Ok(Verified { blocks: 0 })),
-    // The first byte that differs, counted from the front.
+    // The first byte that differs, counted from the first byte of the partition.
     (&THREE_KINDS, ALL, b"aBCD\x04\x03\x02\x01....", Err(Differs { at: 0 })),
     (&THREE_KINDS, ALL, b"ABCd\x04\x03\x02\x01....", Err(Differs { at: 3 })),
     (&THREE_KINDS, ALL, b"ABcd\x04\x03\x02\x00....", Err(Differs { at: 2 })),
     (&THREE_KINDS, ALL, b"ABCD\x84\x03\x02\x01....", Err(Differs { at: 4 })),
     (&THREE_KINDS, ALL, b"ABCD\x04\x03\x02\x00....", Err(Differs { at: 7 })),
     (&GAP_BETWEEN, ALL, b"ABCD....WXYz", Err(Differs { at: 11 })),
-    // What lies behind the partition differs too.
+    // Bytes after the partition's end differ too.
     (&THREE_KINDS, ALL, b"", Err(Differs { at: 0 })),
     (&THREE_KINDS, ALL, b"ABC", Err(Differs { at: 3 })),
     (&THREE_KINDS, ALL, b"ABCD\x04\x03\x02", Err(Differs { at: 7 })),
-    // A beginning that stands is truncated.
+    // A prefix that the partition holds is truncated.
     (&WITH_CHECKSUM, 0, b"ABCD\x04\x03\x02\x01....", Err(Sparse(Truncated { at: 0 }))),
     (&WITH_CHECKSUM, 27, b"ABCD\x04\x03\x02\x01....", Err(Sparse(Truncated { at: 27 }))),
     (&WITH_CHECKSUM, 39, b"ABCD\x04\x03\x02\x01....", Err(Sparse(Truncated { at: 39 }))),
@@ -47,17 +47,17 @@ const ROWS: [Row; 30] = [
     (&WITH_CHECKSUM, 87, b"ABCD\x04\x03\x02\x01....", Err(Sparse(Truncated { at: 87 }))),
     (&LONG_HEADERS, 31, b"....", Err(Sparse(Truncated { at: 31 }))),
     (&LONG_HEADERS, 47, b"....", Err(Sparse(Truncated { at: 47 }))),
-    // A difference before the fault is told.
+    // A difference before the fault is reported.
     (&WITH_CHECKSUM, 42, b"AB.D\x04\x03\x02\x01....", Err(Sparse(Truncated { at: 42 }))),
     (&WITH_CHECKSUM, 43, b"AB.D\x04\x03\x02\x01....", Err(Differs { at: 2 })),
     (&TOO_MANY, ALL, b"ABC.....", Err(Differs { at: 3 })),
-    // What is no image is refused for what it is.
+    // An invalid image fails with its own fault.
     (&TOO_MANY, ALL, b"ABCD....", Err(Sparse(TooManyBlocks { chunk: 1 }))),
     (&LETTERS, ALL, b"....", Err(Sparse(Magic))),
 ];
 
-/// Verifies where each device gives at most so many bytes in a call, and read `n` of the image fails, at 0 none: the
-/// answer, and how many reads of the image there were.
+/// Verifies where each device returns at most this many bytes in a call, and read `n` of the image fails, at 0 none:
+/// the result, and how many reads of the image there were.
 pub(crate) fn verified(image: &[u8], most: usize, n: u64, room: &[u8]) -> (Answer, u64) {
     let most = most.max(1);
     let mut input = Faulty::new(Cut::new(Forward::new(SliceSource::new(image)), most), n);

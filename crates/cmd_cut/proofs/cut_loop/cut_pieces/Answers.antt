@@ -4,7 +4,7 @@ use Rattle.cmd_cut.specs.Cutting.{IsPiecePath, ShowsCount, untold}
 use Rattle.cmd_cut.proofs.Wholes.{cuts_between, left_between, left_failed, stops_between, stops_host}
 use Rattle.cmd_cut.proofs.cut_loop.cut_pieces.Goals as goal
 
--- a count that rose behind others has risen since they began
+-- a count that rose after others has risen since they began
 later : (a b c : ℕ) (Q : Type 0) → a ≤ b → (b < c) ⊎ Q → (a < c) ⊎ Q
 later a b c Q first (inl more) = inl (omega (arith, first, more))
 later a b c Q first (inr other) = inr other

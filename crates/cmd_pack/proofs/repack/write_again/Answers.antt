@@ -23,7 +23,7 @@ returns-in-Err-clause-refused g c = λ t.
     c.own_fields-own_fields.ensures
     c.of_own.ensures c.in-Err.ensures.wrong
 
--- not all is at hand
+-- the data is incomplete
 pub returns-in-Err-contents_of-clause-given : goal.returns-in-Err-contents_of-clause-given
 returns-in-Err-contents_of-clause-given g c = λ t.
     stays_kept c.args.command.now _ _ _ (c.in-Err-contents_of.ensures.fills.keeps t).world

@@ -8,7 +8,7 @@ use Rattle.cmd_pack_outputs.proofs.Outputs.{part_left}
 use Rattle.cmd_pack_outputs.proofs.Outputs.{ready_image}
 use Rattle.cmd_pack_outputs.proofs.image_output.write_image.Goals as goal
 
--- packing refuses it
+-- packing fails
 
 pub returns-in-Err-clause-left : goal.returns-in-Err-clause-left
 returns-in-Err-clause-left g c = λ t. left_unopened _ _ _ _ _ _ _ _ (c.requires.one t) refl

@@ -28,7 +28,7 @@ returns-in-Err-clause-writes g c = λ t.
     stop_then (parts_more refl fragment_any (c.loop-i.invariant t).0)
     (stop_more fragment_any (c.in-Err.ensures.writes t))
 
--- those before it stand
+-- those before it are stored
 pub returns-in-Err-clause-stands : goal.returns-in-Err-clause-stands
 returns-in-Err-clause-stands g c = λ t.
     let i = c.loop-i.invariant t in

@@ -11,7 +11,7 @@ use Rattle.cmd_unpack.proofs.Shown.{all_shown, all_but_words, cannot_behind, ris
 use Rattle.cmd_unpack.proofs.UnpackSteps.{parts_more, parts_then, stop_more, stop_then}
 use Rattle.cmd_unpack.proofs.parts.write_parts.Goals as goal
 
--- a section was refused
+-- a section failed
 pub returns-in-Err-clause-writes : goal.returns-in-Err-clause-writes
 returns-in-Err-clause-writes g c = λ t. stop_more (λ p named. of_section named) (c.in-Err.ensures.writes t)
 
@@ -107,7 +107,7 @@ returns-in-Ok-write_pack_words-clause-shown g c = λ t.
     (first_of (search (rules, c.if-not-with_words.false), cc)) c.in-Ok.ensures.shown
     (c.in-Ok-write_fragments.ensures.shown t) c.in-Ok-write_pack_words.ensures.shown
 
--- they were refused
+-- they failed
 pub returns-in-Err-write_pack_words-clause-writes : goal.returns-in-Err-write_pack_words-clause-writes
 returns-in-Err-write_pack_words-clause-writes g c = λ t.
     let wanted : c.args.with_words ≡ true = first_of (search (rules, c.if-not-with_words.false), cc) in

@@ -31,7 +31,7 @@ loop-i-preserved g c =
           );
     }
 
--- those before it stand
+-- those before it are stored
 pub returns-in-Err-clause-stands : goal.returns-in-Err-clause-stands
 returns-in-Err-clause-stands g c = λ t.
     let i = c.loop-i.invariant.told t in

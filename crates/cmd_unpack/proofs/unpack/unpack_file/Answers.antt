@@ -147,7 +147,7 @@ returns-in-Err-write_parts-clause-keeps g c = record {
   clean = λ t. tt;
 }
 
--- one was refused
+-- one failed
 pub returns-in-Err-write_parts-clause-stands : goal.returns-in-Err-write_parts-clause-stands
 returns-in-Err-write_parts-clause-stands g c = λ t.
     let told = g.met.D.Disk.source_told t in

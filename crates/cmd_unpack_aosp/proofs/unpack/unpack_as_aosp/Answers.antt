@@ -105,7 +105,7 @@ returns-in-Ok-write_files-clause-keeps g c = record {
       (c.let_go_source-in-Ok-write_files.ensures.held t);
 }
 
--- one was refused
+-- one failed
 pub returns-in-Err-write_files-clause-only : goal.returns-in-Err-write_files-clause-only
 returns-in-Err-write_files-clause-only g c = λ t.
     let told = g.met.D.Disk.source_told t in
