@@ -70,7 +70,7 @@ LINES = {
     "definitions and reading": 157,
     "writing": 165,
     "flashing and verifying": 119,
-    "boot images": 212,
+    "boot images": 213,
     "system": 82,
     "words": 94,
     "commands over sparse images": 131,
