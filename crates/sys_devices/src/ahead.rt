@@ -110,8 +110,7 @@ pub struct AheadSource<F: SystemFile + Drop> {
     reads: Tally,
     given: Tally,
     faults: Tally,
-    ghost held: { IsTrue F.models → HoldsAny (file_bytes F.stands from.value.source.file) ahead } by
-        { Prim.hlevel props },
+    ghost held: { IsTrue F.models → HoldsAny (file_bytes F.stands from.value.source.file) ahead } by { Prim.hlevel props },
     ghost keeps: { IsTrue F.models → HoldsPart (file_bytes F.stands from.value.source.file) kept.held },
 }
 

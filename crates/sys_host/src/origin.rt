@@ -32,8 +32,7 @@ pub struct Origin<F: SystemFile + Drop> {
     pub(crate) file: F,
     placed: Option<Placed>,
     pub(crate) why: Option<i32>,
-    ghost at: { IsTrue F.models → IfSome placed (λ p. p.at ≡ min (F.place file) (2 ^ 64 - 1)) } by
-        { Prim.hlevel props },
+    ghost at: { IsTrue F.models → IfSome placed (λ p. p.at ≡ min (F.place file) (2 ^ 64 - 1)) } by { Prim.hlevel props },
     ghost sized: { IsTrue F.models → IfSome (option_and_then (λ p. fixed_size p.size) placed)
         (λ n. n ≡ length (F.stands file)) } by { Prim.hlevel props },
 }
