@@ -67,7 +67,7 @@ fn front_for(spec: &BootSpec, page: PageSize, sizes: &[u32; 5], id: [u8; 32]) ->
 }
 
 /// Where the recovery dtbo is in an image with parts of these sizes, or 0 where it is empty.
-pub(crate) fn dtbo_offset(page: u32, kernel: u32, ramdisk: u32, second: u32, dtbo: u32) -> u64
+pub fn dtbo_offset(page: u32, kernel: u32, ramdisk: u32, second: u32, dtbo: u32) -> u64
     requires { IsPageNumber page }
     ensures { result ≡ canon.dtbo_offset page kernel ramdisk second dtbo }
 {

@@ -42,6 +42,7 @@ mod vendor_header;
 mod vendor_packing;
 mod write_padded;
 
+pub use boot_header::dtbo_offset;
 pub use checking::{Verdict, check};
 pub use fault::SectionFault;
 pub use fragment_table::{fragment, fragments};

@@ -1,4 +1,5 @@
 pub mod Finding
 pub mod LeftOut
 pub mod Places
+pub mod ReasonLines
 pub mod Reasons

@@ -12,6 +12,6 @@ pub record ReasonsAre (found : Findings) (verdict : Verdict) : Type 0 where
   pub id : is_none found.id ≡ verdict.id
   pub offset : is_none found.offset ≡ verdict.offset
 
--- a read failed; or what was found does not agree with the answers
-abbrev pub ReasonCause : SectionFault → ℕ → ℕ → Type 0
-ReasonCause f r r' = ReadCause f r r' (Unit {0})
+-- a read failed; or what was found does not agree with the answers: `changed`
+abbrev pub ReasonCause : SectionFault → ℕ → ℕ → Type 0 → Type 0
+ReasonCause f r r' changed = ReadCause f r r' changed

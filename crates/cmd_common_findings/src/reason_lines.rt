@@ -1,5 +1,10 @@
 //! The lines after the line `check`: why an answer is no, and how many bytes follow the image.
 
+ghost use Rattle.std.specs.Prelude.{◌≡◌, Some};
+ghost use Rattle.std.specs.List.{flat_map};
+ghost use Rattle.std.specs.Prelude.{option_to_list};
+ghost use Rattle.cmd_common_findings.specs.ReasonLines as spec;
+
 use crate::reasons::{CheckAnswer, Findings, Reason, Unended};
 use std::fmt;
 
@@ -14,7 +19,9 @@ pub enum Finding {
 
 impl Findings {
     /// The lines in their order, where they are to be printed.
-    pub fn lines(&self) -> [Option<Finding>; 5] {
+    pub fn lines(&self) -> [Option<Finding>; 5]
+        ensures { flat_map (λ line. option_to_list line) result ≡ spec.lines_of self.now }
+    {
         let trailing = if self.trailing == 0 {
             None
         } else {
@@ -30,7 +37,9 @@ impl Findings {
     }
 }
 
-fn line_of(answer: CheckAnswer, reason: Option<Reason>) -> Option<Finding> {
+fn line_of(answer: CheckAnswer, reason: Option<Reason>) -> Option<Finding>
+    ensures { option_to_list result ≡ spec.line_of answer reason }
+{
     match reason {
         Some(reason) => Some(Finding::No(answer, reason)),
         None => None,
@@ -38,6 +47,8 @@ fn line_of(answer: CheckAnswer, reason: Option<Reason>) -> Option<Finding> {
 }
 
 impl fmt::Display for Finding {
+    ghost output = { λ line. Some (spec.finding_text line) };
+
     fn fmt<W: fmt::Write>(&self, f: &mut fmt::Formatter<W>) -> fmt::Result {
         match self {
             Finding::No(answer, reason) => {
@@ -50,7 +61,9 @@ impl fmt::Display for Finding {
 }
 
 impl CheckAnswer {
-    fn name(self) -> &'static str {
+    fn name(self) -> &'static str
+        ensures { result.now ≡ spec.answer_name self }
+    {
         match self {
             CheckAnswer::Canonical => "canonical",
             CheckAnswer::Padding => "padding",
@@ -61,7 +74,9 @@ impl CheckAnswer {
 }
 
 impl Unended {
-    fn name(self) -> &'static str {
+    fn name(self) -> &'static str
+        ensures { result.now ≡ spec.unended_name self }
+    {
         match self {
             Unended::Name => "name",
             Unended::Cmdline => "cmdline",
@@ -71,6 +86,8 @@ impl Unended {
 }
 
 impl fmt::Display for Reason {
+    ghost output = { λ reason. Some (spec.reason_text reason) };
+
     fn fmt<W: fmt::Write>(&self, f: &mut fmt::Formatter<W>) -> fmt::Result {
         match self {
             Reason::Size { found, packed } => write!(f, "header_size {found}, packed {packed}"),

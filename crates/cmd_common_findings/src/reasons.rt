@@ -1,15 +1,24 @@
 //! Why an answer of a check is no.
 
-ghost use Rattle.std.specs.Prelude.{◌<◌, ◌↔◌, IfOk, IfErr, IsTrue, length};
+ghost use Rattle.std.specs.Prelude.{◌≡◌, ◌<◌, ◌+◌, ◌-◌, ◌^◌, ◌==◌, ◌&&◌, ◌↔◌, IfOk, IfErr, IsTrue, is_none};
+ghost use Rattle.std.specs.Prelude.{option_map};
+ghost use Rattle.abt_headers.specs.Page.{page_bytes};
+ghost use Rattle.abt_sections.specs.Asked.{IsPageNumber};
 ghost use Rattle.abt_io.specs.Lent.{OnlyReads};
-ghost use Rattle.abt_sections.specs.Reads.{ReadsUnless};
+ghost use Rattle.abt_sections.specs.BootCanon.{dtbo_offset as spec_offset};
+ghost use Rattle.abt_sections.specs.Check.{IsVerdict, offset_holds};
+ghost use Rattle.abt_sections.specs.Header.{view_of};
+ghost use Rattle.abt_sections.specs.Layout.{padding};
+ghost use Rattle.cmd_common_findings.specs.Finding as spec;
+ghost use Rattle.cmd_common_findings.specs.Finding.{LooksFor};
+ghost use Rattle.cmd_common_findings.specs.LeftOut.{end_of as end_of_view};
 ghost use Rattle.cmd_common_findings.specs.Reasons.{ReasonCause, ReasonsAre};
 
-use crate::section_places::{end_of, place_of};
+use crate::section_places::end_of;
 use crate::set_bytes::{first_set, zeros_in_front};
-use abt_headers::{BootHeader, DtboFields, Section, ShortFront, VendorHeader, pages};
+use abt_headers::{BootFront, BootHeader, DtboFields, ShortFront, VendorHeader, pages};
 use abt_io::{Meter, Source, Window};
-use abt_sections::{Image, ImageHeader, SectionFault, Verdict, section, sections};
+use abt_sections::{Image, ImageHeader, SectionFault, Verdict, dtbo_offset, section, sections};
 use cmd_common_fields::{TextField, front_text, text_field_of};
 
 // The offset of the id in a header that has one.
@@ -71,7 +80,8 @@ impl Findings {
 
 /// Finds the reason of each answer that is no, and how many bytes follow the image.
 ///
-/// The result must agree with the answers: fails with `SourceChanged` where it does not.
+/// The result must agree with the answers: fails with `SourceChanged` where it does not. This does not occur for a source
+/// that models its content, and the answers of this content.
 pub fn find_reasons<S: Source>(
     image: &Image,
     verdict: Verdict,
@@ -80,27 +90,22 @@ pub fn find_reasons<S: Source>(
     m: &mut Meter,
 ) -> Result<Findings, SectionFault>
     ensures agree { IfOk result (λ found. ReasonsAre found verdict) }
+    ensures padding { IsTrue S.models → IfOk result (λ found. found.padding ≡
+        option_map Reason.Byte (spec.first_unpadded (S.content source.old) (view_of image.now.header))) }
+    ensures trailing { IfOk result (λ found. found.trailing ≡ image.now.length - end_of_view
+        (view_of image.now.header)) }
     ensures reads { OnlyReads result S.Source source.old source.new }
-    ensures cause { IfErr result (λ f. ReasonCause f (S.read_faults source.old) (S.read_faults source.new)) }
+    ensures cause { IfErr result (λ f. ReasonCause f (S.read_faults source.old) (S.read_faults source.new)
+        (IsTrue S.models → IsVerdict (S.content source.old) (view_of image.now.header) verdict → ⊥)) }
 {
     let padding = match first_unpadded(image, source, w, m) {
         Ok(place) => place.map(Reason::Byte),
         Err(fault) => return Err(fault),
     };
-    let offset = offset_reason(image);
-    let id = if verdict.id {
-        None
-    } else {
-        Some(Reason::Byte(ID_PLACE))
-    };
-    let canonical = if verdict.canonical {
-        None
-    } else {
-        let other = text_reason(&image.header).unwrap_or(Reason::Fragments);
-        Some(offset.or(padding).or(id).unwrap_or(other))
-    };
+    let offset = offset_reason(&image.header);
+    let id = id_reason(verdict.id);
     let found = Findings {
-        canonical,
+        canonical: canonical_reason(verdict.canonical, offset.or(padding).or(id), image),
         padding,
         id,
         offset,
@@ -113,6 +118,26 @@ pub fn find_reasons<S: Source>(
     }
 }
 
+fn id_reason(holds: bool) -> Option<Reason>
+    ensures { is_none result ≡ holds }
+{
+    if holds {
+        return None;
+    }
+    Some(Reason::Byte(ID_PLACE))
+}
+
+// Bytes are not those that packing writes: for the reason of another answer, for a text, or for the fragments.
+fn canonical_reason(holds: bool, others: Option<Reason>, image: &Image) -> Option<Reason>
+    ensures { is_none result ≡ holds }
+{
+    if holds {
+        return None;
+    }
+    let text = text_reason(&image.header).unwrap_or(Reason::Fragments);
+    Some(others.unwrap_or(text))
+}
+
 // ---- padding
 
 // The first byte after the header or a section, up to a page boundary, that isn't there or isn't zero.
@@ -122,60 +147,91 @@ fn first_unpadded<S: Source>(
     w: &mut Window,
     m: &mut Meter,
 ) -> Result<Option<u64>, SectionFault>
-    ensures reads { ReadsUnless result S.Source source.old source.new (IsTrue S.models → ⊥) }
+    ensures finds { LooksFor result S.Source source.old source.new
+        (λ found. found ≡ spec.first_unpadded (S.content source.old) (view_of image.now.header)) }
 {
     let page = image.header.page_size();
-    let mut end = image.header.size() as u64;
+    match first_behind(image.header.size() as u64, 0, page, source, w, m) {
+        Ok(None) => {}
+        Ok(Some(place)) => return Ok(Some(place)),
+        Err(fault) => return Err(fault),
+    }
     for i in 0..sections(image) {
         m.tick();
-        match first_set(source, end, pages(end, page) * page as u64, w, m) {
+        let place = section(image, i);
+        match first_behind(place.size as u64, place.at, page, source, w, m) {
             Ok(None) => {}
             Ok(Some(place)) => return Ok(Some(place)),
             Err(fault) => return Err(fault),
         }
-        let place = section(image, i);
-        end = place.at + place.size as u64;
     }
-    match first_set(source, end, pages(end, page) * page as u64, w, m) {
-        Ok(found) => Ok(found),
-        Err(fault) => Err(fault),
-    }
+    Ok(None)
+}
+
+// The first byte after so many at a place, up to a page boundary, that isn't there or isn't zero.
+fn first_behind<S: Source>(
+    size: u64,
+    at: u64,
+    page: u32,
+    source: &mut S,
+    w: &mut Window,
+    m: &mut Meter,
+) -> Result<Option<u64>, SectionFault>
+    requires page { IsPageNumber page }
+    requires low { at + size < 2 ^ 63 }
+    ensures finds { LooksFor result S.Source source.old source.new
+        (λ found. found ≡ spec.first_set_in (S.content source.old) (at + size) (padding size page)) }
+{
+    let free = pages(size, page) * page as u64 - size;
+    first_set(source, at + size, free, w, m)
 }
 
 // ---- header_size and recovery_dtbo_offset
 
-fn offset_reason(image: &Image) -> Option<Reason> {
-    let packed = image.header.size() as u64;
-    match &image.header {
+fn offset_reason(header: &ImageHeader) -> Option<Reason>
+    ensures { is_none result ≡ offset_holds (view_of header.now) }
+{
+    match header {
         ImageHeader::Boot(BootHeader::V0(_)) => None,
-        ImageHeader::Boot(BootHeader::V1(_, dtbo)) => dtbo_reason(dtbo, packed, image),
-        ImageHeader::Boot(BootHeader::V2(_, dtbo, _)) => dtbo_reason(dtbo, packed, image),
-        ImageHeader::Boot(BootHeader::V3(front)) => size_reason(front.header_size, packed),
-        ImageHeader::Boot(BootHeader::V4(front, _)) => size_reason(front.header_size, packed),
-        ImageHeader::Vendor(VendorHeader::V3(front)) => size_reason(front.header_size, packed),
-        ImageHeader::Vendor(VendorHeader::V4(front, _)) => size_reason(front.header_size, packed),
+        ImageHeader::Boot(BootHeader::V1(front, dtbo)) => dtbo_reason(front, dtbo, 1648),
+        ImageHeader::Boot(BootHeader::V2(front, dtbo, _)) => dtbo_reason(front, dtbo, 1660),
+        ImageHeader::Boot(BootHeader::V3(front)) => size_reason(front.header_size, 1580),
+        ImageHeader::Boot(BootHeader::V4(front, _)) => size_reason(front.header_size, 1584),
+        ImageHeader::Vendor(VendorHeader::V3(front)) => size_reason(front.header_size, 2112),
+        ImageHeader::Vendor(VendorHeader::V4(front, _)) => size_reason(front.header_size, 2128),
     }
 }
 
-fn size_reason(found: u32, packed: u64) -> Option<Reason> {
-    let found = found as u64;
+fn size_reason(found: u32, packed: u32) -> Option<Reason>
+    ensures { is_none result ≡ (found == packed) }
+{
     if found == packed {
         return None;
     }
-    Some(Reason::Size { found, packed })
+    Some(Reason::Size {
+        found: found as u64,
+        packed: packed as u64,
+    })
 }
 
 // The offset is the section's place, or 0 where it is empty.
-fn dtbo_reason(dtbo: &DtboFields, packed: u64, image: &Image) -> Option<Reason> {
-    let size = size_reason(dtbo.header_size, packed);
-    if size.is_some() {
-        return size;
+fn dtbo_reason(front: &BootFront, dtbo: &DtboFields, size: u32) -> Option<Reason>
+    ensures { is_none result ≡ ((dtbo.now.header_size == size) && (dtbo.now.recovery_dtbo_offset == spec_offset
+        (page_bytes front.now.page_size) front.now.kernel_size front.now.ramdisk_size front.now.second_size
+        dtbo.now.recovery_dtbo_size)) }
+{
+    let other = size_reason(dtbo.header_size, size);
+    if other.is_some() {
+        return other;
     }
     let found = dtbo.recovery_dtbo_offset;
-    let packed = match place_of(image, Section::RecoveryDtbo) {
-        Some(place) if place.size > 0 => place.at,
-        _ => 0,
-    };
+    let packed = dtbo_offset(
+        front.page_size.bytes(),
+        front.kernel_size,
+        front.ramdisk_size,
+        front.second_size,
+        dtbo.recovery_dtbo_size,
+    );
     if found == packed {
         return None;
     }

@@ -1,8 +1,7 @@
 //! Bytes that are not zero: how many there are, and the position of the first.
 
-ghost use Rattle.std.specs.Prelude.{◌≡◌, ◌<◌, ◌≤◌, ◌+◌, ◌-◌, IsTrue, IfOk, length, take, drop, min};
-ghost use Rattle.abt_sections.specs.Reads.{ReadsUnless};
-ghost use Rattle.cmd_common_findings.specs.Finding.{LooksFor, HasRoomFor};
+ghost use Rattle.std.specs.Prelude.{◌≡◌, ◌<◌, ◌≤◌, ◌+◌, ◌-◌, ◌^◌, IfOk, length, take, drop, min};
+ghost use Rattle.cmd_common_findings.specs.Finding.{LooksFor, HasRoomFor, first_set_in, leading_zeros};
 ghost use Rattle.cmd_common_findings.specs.LeftOut.{set_in};
 
 use abt_io::{Meter, Source, WINDOW, Window, read_full_at};
@@ -24,7 +23,8 @@ pub(crate) fn count_set(bytes: &[u8]) -> u64
 
 /// How many of the first bytes are zero.
 pub(crate) fn zeros_in_front(bytes: &[u8]) -> usize
-    ensures { result ≤ length bytes.now }
+    ensures value { result ≡ leading_zeros bytes.now }
+    ensures few { result ≤ length bytes.now }
 {
     for i in 0..bytes.len() {
         if bytes[i] != 0 {
@@ -104,7 +104,8 @@ fn zeros_at<S: Source>(
     m: &mut Meter,
 ) -> Result<usize, SectionFault>
     requires { HasRoomFor ask at }
-    ensures reads { ReadsUnless result S.Source source.old source.new (IsTrue S.models → ⊥) }
+    ensures finds { LooksFor result S.Source source.old source.new (λ zeros.
+        zeros ≡ leading_zeros (take (min ask (length (S.content source.old) - at)) (drop at (S.content source.old)))) }
     ensures few { IfOk result (λ zeros. zeros ≤ ask) }
 {
     let read = read_full_at(source, at, w.part_mut(0, ask), m);
@@ -114,17 +115,18 @@ fn zeros_at<S: Source>(
     Ok(zeros_in_front(w.part(0, read.count)))
 }
 
-/// The first byte from one place up to another that isn't there or isn't zero.
+/// The first of so many bytes from a place on that isn't there or isn't zero.
 pub(crate) fn first_set<S: Source>(
     source: &mut S,
     from: u64,
-    end: u64,
+    all: u64,
     w: &mut Window,
     m: &mut Meter,
 ) -> Result<Option<u64>, SectionFault>
-    ensures reads { ReadsUnless result S.Source source.old source.new (IsTrue S.models → ⊥) }
+    requires { from + all < 2 ^ 64 }
+    ensures finds { LooksFor result S.Source source.old source.new
+        (λ found. found ≡ first_set_in (S.content source.old) from all) }
 {
-    let all = end.saturating_sub(from);
     let mut done = 0;
     while done < all {
         m.tick();

@@ -1,10 +1,17 @@
 -- What a check finds, and which faults are reported.
-use Rattle.std.proofs.Common.{◌≡◌, ◌<◌, ◌+◌, ◌⊎◌, inl, inr, ℕ, List, Some, Bool, true, false, IsTrue, ◌&&◌, Result}
-use Rattle.std.proofs.Common.{Ok, Err, refl, sym, ◌∙◌, ap, subst, arith}
+use Rattle.std.proofs.Common.{◌≡◌, ◌<◌, ◌≤◌, ◌+◌, ◌-◌, ◌⊎◌, inl, inr, ℕ, suc, List, Some, Bool, true, false, IsTrue}
+use Rattle.std.proofs.Common.{◌&&◌}
+use Rattle.std.proofs.Common.{[], ◌∷◌, ◌++◌, length, take, get_or, flat_map, Option, option_map, option_to_list, Result}
+use Rattle.std.proofs.Common.{Ok}
+use Rattle.std.proofs.Common.{Err, refl, sym, ◌∙◌, ap, subst, arith}
+use Rattle.std.proofs.Math.Bool.{or-false}
+use Rattle.std.proofs.Math.Seq.{take-suc}
 use Rattle.std.proofs.lemmas.Bool.{true≢false}
+use Rattle.std.proofs.lemmas.Grind.{flat_map-append}
+use Rattle.std.proofs.lemmas.List.{append-nil, append_assoc, take_all}
 use Rattle.sys_disk.specs.World.{World, OpenFiles, OpensFile, failing}
 use Rattle.abt_headers.proofs.Fields.{IsBytes}
-use Rattle.sys_report.specs.Shows.{CannotPrint}
+use Rattle.sys_report.specs.Shows.{CannotPrint, GoesOut, ShowsHere}
 use Rattle.sys_report.specs.declared.report.Report.{Report}
 use Rattle.sys_refusals.specs.declared.refusal.HostFault.{HostFault}
 use Rattle.abt_sections.proofs.Canonical.{canonical_iff}
@@ -14,16 +21,23 @@ use Rattle.abt_sections.specs.Cause.{MoveCause}
 use Rattle.abt_sections.specs.declared.checking.Verdict.{Verdict}
 use Rattle.abt_sections.specs.declared.fault.SectionFault.{SectionFault}
 use Rattle.abt_sections.specs.declared.fault.SectionFault.TheVariants as sections
-use Rattle.abt_sections.specs.Header.{Header}
-use Rattle.abt_sections.specs.Open.{HasImage}
-use Rattle.cmd_common_findings.specs.Reasons.{ReasonCause}
+use Rattle.abt_sections.specs.declared.image.Image.{Image}
+use Rattle.abt_sections.specs.Header.{Header, view_of}
+use Rattle.abt_sections.specs.Open.{HasImage, IsOpened}
+use Rattle.cmd_common_findings.specs.Finding.{first_unpadded}
+use Rattle.cmd_common_findings.specs.LeftOut.{end_of}
+use Rattle.cmd_common_findings.specs.ReasonLines.{finding_text, lines_of, printed}
+use Rattle.cmd_common_findings.specs.Reasons.{ReasonCause, ReasonsAre}
+use Rattle.cmd_common_findings.specs.declared.reason_lines.Finding.{Finding}
+use Rattle.cmd_common_findings.specs.declared.reasons.Findings.{Findings}
+use Rattle.cmd_common_findings.specs.declared.reasons.Reason.TheVariants.{Byte}
 use Rattle.cmd_common_boot.specs.declared.fault.BootCommandFault.{BootCommandFault}
 use Rattle.cmd_common_boot.specs.declared.fault.BootCommandFault.TheVariants as faults
 use Rattle.cmd_common_texts.specs.Info.{InfoCause, Reports, SectionWriteTold}
 use Rattle.cmd_common_texts.specs.declared.info_lines.Notation.{Notation}
 use Rattle.cmd_info.specs.Informing.{IsCheckRefusal, IsFailedHost, IsFlawedImage, IsInfoFault, IsInfoRefusal}
 use Rattle.cmd_info.specs.Informing.{IsSound, IsSoundImage}
-use Rattle.cmd_info.specs.Informing.{RefusesInfo, TellsFile, TellsImage, TellsText, is_good}
+use Rattle.cmd_info.specs.Informing.{RefusesInfo, TellsFile, TellsFindings, TellsFlaws, TellsImage, TellsText, is_good}
 
 -- ---- the verdict
 
@@ -69,51 +83,53 @@ flawed x h v bytes image right bad = (
 -- ---- faults
 
 -- of printing the text
-pub informed : (f : SectionFault) (x : List ℕ) (with_check : Bool) (r r' : ℕ) (nothing : Type 0) (old new : Report)
+pub informed : (f : SectionFault) (x : List ℕ) (r r' : ℕ) (nothing : Type 0) (old new : Report)
     → InfoCause f x r r' nothing → SectionWriteTold f old.out.faults.number new.out.faults.number
-    → IsInfoFault x with_check (r < r') old new f
-informed (sections.Read f) x with_check r r' nothing old new cause writes = cause
-informed (sections.Write f) x with_check r r' nothing old new cause writes = writes
-informed sections.SourceChanged x with_check r r' nothing old new cause writes = absurd cause
-informed (sections.Header f) x with_check r r' nothing old new cause writes = cause.0
-informed (sections.Entry i) x with_check r r' nothing old new cause writes = cause.0
-informed sections.Name x with_check r r' nothing old new cause writes = absurd cause
-informed sections.CommandLine x with_check r r' nothing old new cause writes = absurd cause
-informed (sections.SectionTruncated s) x with_check r r' nothing old new cause writes = cause.0
-informed (sections.SectionTooLarge s) x with_check r r' nothing old new cause writes = absurd cause
+    → IsInfoFault x (r < r') old new f
+informed (sections.Read f) x r r' nothing old new cause writes = cause
+informed (sections.Write f) x r r' nothing old new cause writes = writes
+informed sections.SourceChanged x r r' nothing old new cause writes = absurd cause
+informed (sections.Header f) x r r' nothing old new cause writes = cause.0
+informed (sections.Entry i) x r r' nothing old new cause writes = cause.0
+informed sections.Name x r r' nothing old new cause writes = absurd cause
+informed sections.CommandLine x r r' nothing old new cause writes = absurd cause
+informed (sections.SectionTruncated s) x r r' nothing old new cause writes = cause.0
+informed (sections.SectionTooLarge s) x r r' nothing old new cause writes = absurd cause
 
 pub info_told : (x : List ℕ) (o : Notation) (with_check : Bool) (failed : Type 0) (old new : Report)
     (fault : BootCommandFault) (f : SectionFault) → fault ≡ faults.Section f
-    → IsInfoFault x with_check failed old new f → IsInfoRefusal x o with_check failed old new fault
+    → IsInfoFault x failed old new f → IsInfoRefusal x o with_check failed old new fault
 info_told x o with_check failed old new fault f same own =
     subst (λ g. IsInfoRefusal x o with_check failed old new g) (sym same) own
 
 -- of finding the reasons
-reasons_fail : (f : SectionFault) (v : Verdict) (r r' : ℕ) (unprinted : Type 0) → ReasonCause f r r'
-    → IsCheckRefusal v (r < r') unprinted (faults.Section f)
-reasons_fail (sections.Read f) v r r' unprinted cause = cause
-reasons_fail (sections.Write f) v r r' unprinted cause = absurd (omega (arith, cause))
-reasons_fail sections.SourceChanged v r r' unprinted cause = tt
-reasons_fail (sections.Header f) v r r' unprinted cause = absurd cause
-reasons_fail (sections.Entry i) v r r' unprinted cause = absurd cause
-reasons_fail sections.Name v r r' unprinted cause = absurd cause
-reasons_fail sections.CommandLine v r r' unprinted cause = absurd cause
-reasons_fail (sections.SectionTruncated s) v r r' unprinted cause = absurd cause
-reasons_fail (sections.SectionTooLarge s) v r r' unprinted cause = absurd cause
+reasons_fail : (f : SectionFault) (v : Verdict) (r r' : ℕ) (changed unprinted : Type 0) → ReasonCause f r r' changed
+    → IsCheckRefusal v (r < r') changed unprinted (faults.Section f)
+reasons_fail (sections.Read f) v r r' changed unprinted cause = cause
+reasons_fail (sections.Write f) v r r' changed unprinted cause = absurd (omega (arith, cause))
+reasons_fail sections.SourceChanged v r r' changed unprinted cause = cause
+reasons_fail (sections.Header f) v r r' changed unprinted cause = absurd cause
+reasons_fail (sections.Entry i) v r r' changed unprinted cause = absurd cause
+reasons_fail sections.Name v r r' changed unprinted cause = absurd cause
+reasons_fail sections.CommandLine v r r' changed unprinted cause = absurd cause
+reasons_fail (sections.SectionTruncated s) v r r' changed unprinted cause = absurd cause
+reasons_fail (sections.SectionTooLarge s) v r r' changed unprinted cause = absurd cause
 
-pub reasons_told : (f : SectionFault) (v : Verdict) (r r' : ℕ) (unprinted : Type 0) (fault : BootCommandFault)
-    → fault ≡ faults.Section f → ReasonCause f r r' → IsCheckRefusal v (r < r') unprinted fault
-reasons_told f v r r' unprinted fault same cause =
-    subst (λ g. IsCheckRefusal v (r < r') unprinted g) (sym same) (reasons_fail f v r r' unprinted cause)
+pub reasons_told : (f : SectionFault) (v : Verdict) (r r' : ℕ) (changed unprinted : Type 0) (fault : BootCommandFault)
+    → fault ≡ faults.Section f → ReasonCause f r r' changed → IsCheckRefusal v (r < r') changed unprinted fault
+reasons_told f v r r' changed unprinted fault same cause =
+    subst (λ g. IsCheckRefusal v (r < r') changed unprinted g) (sym same)
+    (reasons_fail f v r r' changed unprinted cause)
 
-pub line_told : (v : Verdict) (failed unprinted : Type 0) (fault : BootCommandFault) (host : HostFault)
-    → fault ≡ faults.Host host → unprinted → IsCheckRefusal v failed unprinted fault
-line_told v failed unprinted fault host same cannot =
-    subst (λ g. IsCheckRefusal v failed unprinted g) (sym same) cannot
+pub line_told : (v : Verdict) (failed changed unprinted : Type 0) (fault : BootCommandFault) (host : HostFault)
+    → fault ≡ faults.Host host → unprinted → IsCheckRefusal v failed changed unprinted fault
+line_told v failed changed unprinted fault host same cannot =
+    subst (λ g. IsCheckRefusal v failed changed unprinted g) (sym same) cannot
 
-pub flaw_told : (v : Verdict) (failed unprinted : Type 0) (fault : BootCommandFault) → fault ≡ faults.CheckFailed
-    → is_good v ≡ false → IsCheckRefusal v failed unprinted fault
-flaw_told v failed unprinted fault same bad = subst (λ g. IsCheckRefusal v failed unprinted g) (sym same) bad
+pub flaw_told : (v : Verdict) (failed changed unprinted : Type 0) (fault : BootCommandFault)
+    → fault ≡ faults.CheckFailed → is_good v ≡ false → IsCheckRefusal v failed changed unprinted fault
+flaw_told v failed changed unprinted fault same bad =
+    subst (λ g. IsCheckRefusal v failed changed unprinted g) (sym same) bad
 
 -- what could not be printed after a text that was
 pub cannot_behind : (old between new : Report) → between.out.faults.number ≡ old.out.faults.number
@@ -122,54 +138,69 @@ pub cannot_behind : (old between new : Report) → between.out.faults.number ≡
 cannot_behind old between new out err unshown cannot = omega (arith, out, err, unshown, cannot)
 
 -- of the check, after the text
-pub checked : (x : List ℕ) (o : Notation) (with_check : Bool) (v : Verdict) (r q r' : ℕ) (old new : Report)
-    (U : Type 0) (fault : BootCommandFault) → IsTrue with_check → q ≡ r → TellsText o x old new
-    → (is_good v ≡ false → IsFlawedImage x) → (U → CannotPrint old new)
-    → IsCheckRefusal v (q < r') U fault → IsInfoRefusal x o with_check (r < r') old new fault
-checked x o with_check v r q r' old new U (faults.Host f) wanted same text flaw up told =
-    (wanted, text, up told)
-checked x o with_check v r q r' old new U (faults.Section (sections.Read f)) wanted same text flaw up told =
-    omega (arith, same, told)
-checked x o with_check v r q r' old new U (faults.Section sections.SourceChanged) wanted same text flaw up told = wanted
-checked x o with_check v r q r' old new U (faults.Section
-    (sections.Write f)) wanted same text flaw up told = absurd told
-checked x o with_check v r q r' old new U (faults.Section
-    (sections.Header f)) wanted same text flaw up told = absurd told
-checked x o with_check v r q r' old new U (faults.Section
-    (sections.Entry i)) wanted same text flaw up told = absurd told
-checked x o with_check v r q r' old new U (faults.Section sections.Name) wanted same text flaw up told = absurd told
-checked x o with_check v r q r' old new U (faults.Section sections.CommandLine) wanted same text flaw up told = absurd
-    told
-checked x o with_check v r q r' old new U (faults.Section (sections.SectionTruncated s)) wanted same text flaw up told =
-    absurd told
-checked x o with_check v r q r' old new U (faults.Section (sections.SectionTooLarge s)) wanted same text flaw up told =
-    absurd told
-checked x o with_check v r q r' old new U (faults.OptionNotCarried name) wanted same text flaw up told = absurd told
-checked x o with_check v r q r' old new U (faults.BadFragment word) wanted same text flaw up told = absurd told
-checked x o with_check v r q r' old new U (faults.BadNumber word) wanted same text flaw up told = absurd told
-checked x o with_check v r q r' old new U (faults.BadBoardId word) wanted same text flaw up told = absurd told
-checked x o with_check v r q r' old new U faults.CheckFailed wanted same text flaw up told = (wanted, text, flaw told)
+pub checked : (x : List ℕ) (o : Notation) (with_check : Bool) (v : Verdict) (r q r' : ℕ) (old between new : Report)
+    (C U : Type 0) (fault : BootCommandFault) → IsTrue with_check → q ≡ r
+    → Reports o x old.out.log.state.bytes between.out.log.state.bytes
+    → (is_good v ≡ false → IsFlawedImage x) → (fault ≡ faults.CheckFailed → TellsFindings x between new)
+    → (C → ⊥) → (U → CannotPrint old new) → IsCheckRefusal v (q < r') C U fault
+    → IsInfoRefusal x o with_check (r < r') old new fault
+checked x o with_check v r q r' old between new C U (faults.Host f) wanted same text flaw lines never up told =
+    (wanted, record { between = between; text = text }, up told)
+checked x o with_check v r q r' old between new C U (faults.Section
+    (sections.Read f)) wanted same text flaw lines never up told = omega (arith, same, told)
+checked x o with_check v r q r' old between new C U (faults.Section
+    sections.SourceChanged) wanted same text flaw lines never up told = absurd (never told)
+checked x o with_check v r q r' old between new C U (faults.Section
+    (sections.Write f)) wanted same text flaw lines never up told = absurd told
+checked x o with_check v r q r' old between new C U (faults.Section
+    (sections.Header f)) wanted same text flaw lines never up told = absurd told
+checked x o with_check v r q r' old between new C U (faults.Section
+    (sections.Entry i)) wanted same text flaw lines never up told = absurd told
+checked x o with_check v r q r' old between new C U (faults.Section
+    sections.Name) wanted same text flaw lines never up told = absurd told
+checked x o with_check v r q r' old between new C U (faults.Section
+    sections.CommandLine) wanted same text flaw lines never up told = absurd told
+checked x o with_check v r q r' old between new C U (faults.Section
+    (sections.SectionTruncated s)) wanted same text flaw lines never up told = absurd told
+checked x o with_check v r q r' old between new C U (faults.Section
+    (sections.SectionTooLarge s)) wanted same text flaw lines never up told = absurd told
+checked x o with_check v r q r' old between new C U (faults.OptionNotCarried
+    name) wanted same text flaw lines never up told = absurd told
+checked x o with_check v r q r' old between new C U (faults.BadFragment
+    word) wanted same text flaw lines never up told = absurd told
+checked x o with_check v r q r' old between new C U (faults.BadNumber
+    word) wanted same text flaw lines never up told = absurd told
+checked x o with_check v r q r' old between new C U (faults.BadBoardId
+    word) wanted same text flaw lines never up told = absurd told
+checked x o with_check v r q r' old between new C U faults.CheckFailed wanted same text flaw lines never up told = (
+  wanted,
+  record {
+    told = record { between = between; text = text };
+    checked = lines refl;
+    flawed = flaw told;
+  },
+)
 
 -- ---- of the file
 
-fault_more : (x : List ℕ) (with_check : Bool) (P Q : Type 0) (old new : Report) (f : SectionFault) → (P → Q)
-    → IsInfoFault x with_check P old new f → IsInfoFault x with_check Q old new f
-fault_more x with_check P Q old new (sections.Read f) more fault = more fault
-fault_more x with_check P Q old new (sections.Write f) more fault = fault
-fault_more x with_check P Q old new sections.SourceChanged more fault = fault
-fault_more x with_check P Q old new (sections.Header f) more fault = fault
-fault_more x with_check P Q old new (sections.Entry i) more fault = fault
-fault_more x with_check P Q old new sections.Name more fault = absurd fault
-fault_more x with_check P Q old new sections.CommandLine more fault = absurd fault
-fault_more x with_check P Q old new (sections.SectionTruncated s) more fault = fault
-fault_more x with_check P Q old new (sections.SectionTooLarge s) more fault = absurd fault
+fault_more : (x : List ℕ) (P Q : Type 0) (old new : Report) (f : SectionFault) → (P → Q)
+    → IsInfoFault x P old new f → IsInfoFault x Q old new f
+fault_more x P Q old new (sections.Read f) more fault = more fault
+fault_more x P Q old new (sections.Write f) more fault = fault
+fault_more x P Q old new sections.SourceChanged more fault = fault
+fault_more x P Q old new (sections.Header f) more fault = fault
+fault_more x P Q old new (sections.Entry i) more fault = fault
+fault_more x P Q old new sections.Name more fault = absurd fault
+fault_more x P Q old new sections.CommandLine more fault = absurd fault
+fault_more x P Q old new (sections.SectionTruncated s) more fault = fault
+fault_more x P Q old new (sections.SectionTooLarge s) more fault = absurd fault
 
 refusal_more : (x : List ℕ) (o : Notation) (with_check : Bool) (P Q : Type 0) (old new : Report)
     (fault : BootCommandFault) → (P → Q) → IsInfoRefusal x o with_check P old new fault
     → IsInfoRefusal x o with_check Q old new fault
 refusal_more x o with_check P Q old new (faults.Host f) more refuses = refuses
 refusal_more x o with_check P Q old new (faults.Section f) more refuses =
-    fault_more x with_check P Q old new f more refuses
+    fault_more x P Q old new f more refuses
 refusal_more x o with_check P Q old new (faults.OptionNotCarried name) more refuses = absurd refuses
 refusal_more x o with_check P Q old new (faults.BadFragment word) more refuses = absurd refuses
 refusal_more x o with_check P Q old new (faults.BadNumber word) more refuses = absurd refuses
@@ -233,19 +264,86 @@ text_alone o true x old new off text = absurd (true≢false off)
 text_alone o false x old new off text = record {
   told = record { between = new; text = text };
   alone = λ none. refl;
+  checked = λ on. absurd (true≢false (sym on));
   good = λ on. absurd (true≢false (sym on));
 }
 
 pub text_checked : (o : Notation) (with_check : Bool) (x : List ℕ) (old between new : Report) → with_check ≡ true
-    → Reports o x old.out.log.state.bytes between.out.log.state.bytes → IsSoundImage x
-    → TellsImage o with_check x old new
-text_checked o true x old between new on text good = record {
+    → Reports o x old.out.log.state.bytes between.out.log.state.bytes → TellsFindings x between new
+    → IsSoundImage x → TellsImage o with_check x old new
+text_checked o true x old between new on text lines good = record {
   told = record { between = between; text = text };
   alone = λ off. absurd (true≢false off);
+  checked = λ wanted. lines;
   good = λ wanted. good;
 }
-text_checked o false x old between new on text good = absurd (true≢false (sym on))
+text_checked o false x old between new on text lines good = absurd (true≢false (sym on))
 
-pub text_before : (o : Notation) (x : List ℕ) (old between new : Report)
-    → Reports o x old.out.log.state.bytes between.out.log.state.bytes → TellsText o x old new
-text_before o x old between new text = record { between = between; text = text }
+-- ---- the lines of the check
+
+-- what was found of x, with the lines that went out
+pub tells_findings : (x : List ℕ) (image : Image) (v : Verdict) (found : Findings) (old new : Report)
+    → IsOpened x image → IsVerdict x (view_of image.header) v → ReasonsAre found v
+    → found.padding ≡ option_map (λ n. Byte n) (first_unpadded x (view_of image.header))
+    → found.trailing ≡ image.length - end_of (view_of image.header)
+    → ShowsHere old new (printed (lines_of found)) → TellsFindings x old new
+tells_findings x image v found old new opened right reasons padding trailing shown = record {
+  found = found;
+  is_found = record {
+    header = view_of image.header;
+    image = opened.has;
+    verdict = v;
+    right = right;
+    reasons = reasons;
+    padding = padding;
+    trailing = trailing ∙ ap (λ n. n - end_of (view_of image.header)) opened.length;
+  };
+  shown = shown;
+}
+
+none_goes : (b : Bool) (o e : List ℕ) → GoesOut b o o e e []
+none_goes true o e = (sym (append-nil e), refl)
+none_goes false o e = (sym (append-nil o), refl)
+
+pub shows_nothing : (r : Report) → ShowsHere r r []
+shows_nothing r =
+    let none = none_goes r.is_data_on_output r.out.log.state.bytes r.err.log.state.bytes in
+    ((none, λ on. on), sym (or-false r.is_data_on_output))
+
+goes_then : (f : Bool) (o o' o'' e e' e'' x y : List ℕ) → GoesOut f o o' e e' x → GoesOut f o' o'' e' e'' y
+    → GoesOut f o o'' e e'' (x ++ y)
+goes_then true o o' o'' e e' e'' x y p q =
+    (q.0 ∙ ap (λ l. l ++ y) p.0 ∙ append_assoc e x y, q.1 ∙ p.1)
+goes_then false o o' o'' e e' e'' x y p q =
+    (q.0 ∙ ap (λ l. l ++ y) p.0 ∙ append_assoc o x y, q.1 ∙ p.1)
+
+pub shows_then : (a b c : Report) (x y : List ℕ) → ShowsHere a b x → ShowsHere b c y → ShowsHere a c (x ++ y)
+shows_then a b c x y p q =
+    let same : c.is_data_on_output ≡ b.is_data_on_output = q.1 ∙ or-false b.is_data_on_output in
+    let first = subst (λ f. GoesOut f a.out.log.state.bytes b.out.log.state.bytes a.err.log.state.bytes
+    b.err.log.state.bytes x) (sym same) p.0.0 in (
+      (goes_then c.is_data_on_output _ _ _ _ _ _ x y first q.0.0, λ on. q.0.1 (p.0.1 on)),
+      same ∙ p.1,
+    )
+
+-- the lines of the first i
+abbrev pub upto : List (Option Finding) → ℕ → List ℕ
+upto lines i = printed (flat_map (λ line. option_to_list line) (take i lines))
+
+pub upto_more : (lines : List (Option Finding)) (i : ℕ) (line : Option Finding) → i < length lines
+    → line ≡ get_or lines i line → upto lines (i + 1) ≡ upto lines i ++ printed (option_to_list line)
+upto_more lines i line within is =
+    let next : i + 1 ≡ suc i = omega arith in
+    let each : Option Finding → List Finding = λ it. option_to_list it in
+    ap (λ n. upto lines n) next
+    ∙ ap (λ l. printed (flat_map each l)) (take-suc lines i line within)
+    ∙ ap printed (flat_map-append each (take i lines) (get_or lines i line ∷ []))
+    ∙ flat_map-append (λ it. finding_text it ++ (10 ∷ [])) (flat_map each (take i lines))
+    (flat_map each (get_or lines i line ∷ []))
+    ∙ ap (λ l. upto lines i ++ printed l) (append-nil (option_to_list (get_or lines i line)))
+    ∙ ap (λ it. upto lines i ++ printed (option_to_list it)) (sym is)
+
+pub upto_all : (lines : List (Option Finding)) (i : ℕ) (all : List Finding) → length lines ≤ i
+    → flat_map (λ line. option_to_list line) lines ≡ all → upto lines i ≡ printed all
+upto_all lines i all out is =
+    ap (λ l. printed (flat_map (λ line. option_to_list line) l)) (take_all i lines out) ∙ ap printed is

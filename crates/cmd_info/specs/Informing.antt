@@ -1,16 +1,23 @@
 -- What the command `info` prints, and why it fails.
-use Rattle.std.specs.Prelude.{◌≡◌, ◌<◌, ◌⊎◌, ℕ, List, Some, Bool, true, false, not, IsTrue, ◌&&◌}
+use Rattle.std.specs.Prelude.{◌≡◌, ◌<◌, ◌-◌, ◌⊎◌, ℕ, List, length, Some, Bool, true, false, not, IsTrue, ◌&&◌}
+use Rattle.std.specs.Prelude.{Result, Ok, Err, option_map}
 use Rattle.sys_disk.specs.World.{World}
 use Rattle.sys_refusals.specs.declared.refusal.HostFault.{HostFault}
-use Rattle.sys_report.specs.Shows.{CannotPrint}
+use Rattle.sys_report.specs.Shows.{CannotPrint, ShowsHere}
 use Rattle.sys_report.specs.declared.report.Report.{Report}
 use Rattle.abt_sections.specs.declared.checking.Verdict.{Verdict}
 use Rattle.abt_sections.specs.declared.fault.SectionFault.{SectionFault}
 use Rattle.abt_sections.specs.declared.fault.SectionFault.TheVariants as sections
 use Rattle.abt_sections.specs.Canonical.{StartsAsPacked}
-use Rattle.abt_sections.specs.Check.{padding_holds, IdHolds, offset_holds}
+use Rattle.abt_sections.specs.Check.{padding_holds, IdHolds, IsVerdict, offset_holds}
 use Rattle.abt_sections.specs.Header.{Header}
 use Rattle.abt_sections.specs.Open.{HasImage, RefusedAs}
+use Rattle.cmd_common_findings.specs.Finding.{first_unpadded}
+use Rattle.cmd_common_findings.specs.LeftOut.{end_of}
+use Rattle.cmd_common_findings.specs.ReasonLines.{lines_of, printed}
+use Rattle.cmd_common_findings.specs.Reasons.{ReasonsAre}
+use Rattle.cmd_common_findings.specs.declared.reasons.Findings.{Findings}
+use Rattle.cmd_common_findings.specs.declared.reasons.Reason.TheVariants.{Byte}
 use Rattle.cmd_common_boot.specs.declared.fault.BootCommandFault.{BootCommandFault}
 use Rattle.cmd_common_boot.specs.declared.fault.BootCommandFault.TheVariants as faults
 use Rattle.cmd_common_texts.specs.Info.{Reports}
@@ -45,11 +52,36 @@ pub record TellsText (o : Notation) (x : List ℕ) (old new : Report) : Type 0 w
   pub between : Report
   pub text : Reports o x old.out.log.state.bytes between.out.log.state.bytes
 
--- it was printed, and without the check nothing else; with the check, all answers are yes
+-- What a check finds of the image x: each answer that is no has a reason, and no other has one. The reason of the
+-- padding is the first byte that is wrong there. So many bytes follow the image.
+pub record IsFoundOf (x : List ℕ) (found : Findings) : Type 0 where
+  pub header : Header
+  pub image : HasImage x header
+  pub verdict : Verdict
+  pub right : IsVerdict x header verdict
+  pub reasons : ReasonsAre found verdict
+  pub padding : found.padding ≡ option_map (λ n. Byte n) (first_unpadded x header)
+  pub trailing : found.trailing ≡ length x - end_of header
+
+-- the lines of what a check finds of it went out, and nothing else
+pub record TellsFindings (x : List ℕ) (old new : Report) : Type 0 where
+  pub found : Findings
+  pub is_found : IsFoundOf x found
+  pub shown : ShowsHere old new (printed (lines_of found))
+
+-- The text of the image x was printed, and nothing else without the check. With the check the lines of what it finds
+-- follow, and all answers are yes.
 pub record TellsImage (o : Notation) (with_check : Bool) (x : List ℕ) (old new : Report) : Type 0 where
   pub told : TellsText o x old new
   pub alone : with_check ≡ false → told.between ≡ new
+  pub checked : IsTrue with_check → TellsFindings x told.between new
   pub good : IsTrue with_check → IsSoundImage x
+
+-- The text and these lines were printed of an image of which an answer is no.
+pub record TellsFlaws (o : Notation) (x : List ℕ) (old new : Report) : Type 0 where
+  pub told : TellsText o x old new
+  pub checked : TellsFindings x told.between new
+  pub flawed : IsFlawedImage x
 
 -- the file at this path holds such an image
 pub record TellsFile (input : List ℕ) (o : Notation) (with_check : Bool) (world : World) (old new : Report)
@@ -64,41 +96,45 @@ pub record TellsFile (input : List ℕ) (o : Notation) (with_check : Bool) (worl
 abbrev pub OutFailed : Report → Report → Type 0
 OutFailed old new = old.out.faults.number < new.out.faults.number
 
--- the bytes x have this fault; or the source or standard output has; or the reasons contradict the answers
-abbrev pub IsInfoFault : List ℕ → Bool → Type 0 → Report → Report → SectionFault → Type 0
-IsInfoFault x with_check failed old new (sections.Read f) = failed
-IsInfoFault x with_check failed old new (sections.Write f) = OutFailed old new
-IsInfoFault x with_check failed old new sections.SourceChanged = IsTrue with_check
-IsInfoFault x with_check failed old new (sections.Header f) = RefusedAs x (sections.Header f)
-IsInfoFault x with_check failed old new (sections.Entry i) = RefusedAs x (sections.Entry i)
-IsInfoFault x with_check failed old new sections.Name = ⊥
-IsInfoFault x with_check failed old new sections.CommandLine = ⊥
-IsInfoFault x with_check failed old new (sections.SectionTruncated s) = RefusedAs x (sections.SectionTruncated s)
-IsInfoFault x with_check failed old new (sections.SectionTooLarge s) = ⊥
+-- the bytes x have this fault; or the source or standard output has
+abbrev pub IsInfoFault : List ℕ → Type 0 → Report → Report → SectionFault → Type 0
+IsInfoFault x failed old new (sections.Read f) = failed
+IsInfoFault x failed old new (sections.Write f) = OutFailed old new
+IsInfoFault x failed old new sections.SourceChanged = ⊥
+IsInfoFault x failed old new (sections.Header f) = RefusedAs x (sections.Header f)
+IsInfoFault x failed old new (sections.Entry i) = RefusedAs x (sections.Entry i)
+IsInfoFault x failed old new sections.Name = ⊥
+IsInfoFault x failed old new sections.CommandLine = ⊥
+IsInfoFault x failed old new (sections.SectionTruncated s) = RefusedAs x (sections.SectionTruncated s)
+IsInfoFault x failed old new (sections.SectionTooLarge s) = ⊥
 
 -- of the image x: such a fault; or its text was printed, and a line after it could not be, or an answer is no
 abbrev pub IsInfoRefusal : List ℕ → Notation → Bool → Type 0 → Report → Report → BootCommandFault → Type 0
 IsInfoRefusal x o with_check failed old new (faults.Host f) =
     IsTrue with_check × TellsText o x old new × CannotPrint old new
-IsInfoRefusal x o with_check failed old new (faults.Section f) = IsInfoFault x with_check failed old new f
+IsInfoRefusal x o with_check failed old new (faults.Section f) = IsInfoFault x failed old new f
 IsInfoRefusal x o with_check failed old new (faults.OptionNotCarried name) = ⊥
 IsInfoRefusal x o with_check failed old new (faults.BadFragment word) = ⊥
 IsInfoRefusal x o with_check failed old new (faults.BadNumber word) = ⊥
 IsInfoRefusal x o with_check failed old new (faults.BadBoardId word) = ⊥
-IsInfoRefusal x o with_check failed old new faults.CheckFailed =
-    IsTrue with_check × TellsText o x old new × IsFlawedImage x
+IsInfoRefusal x o with_check failed old new faults.CheckFailed = IsTrue with_check × TellsFlaws o x old new
 
--- of the check alone, which had this verdict
-abbrev pub IsCheckRefusal : Verdict → Type 0 → Type 0 → BootCommandFault → Type 0
-IsCheckRefusal v failed unprinted (faults.Host f) = unprinted
-IsCheckRefusal v failed unprinted (faults.Section (sections.Read f)) = failed
-IsCheckRefusal v failed unprinted (faults.Section sections.SourceChanged) = Unit {0}
-IsCheckRefusal v failed unprinted (faults.Section f) = ⊥
-IsCheckRefusal v failed unprinted (faults.OptionNotCarried name) = ⊥
-IsCheckRefusal v failed unprinted (faults.BadFragment word) = ⊥
-IsCheckRefusal v failed unprinted (faults.BadNumber word) = ⊥
-IsCheckRefusal v failed unprinted (faults.BadBoardId word) = ⊥
-IsCheckRefusal v failed unprinted faults.CheckFailed = is_good v ≡ false
+-- of the check alone, which had this verdict: `failed` is a read, `changed` what was read, and `unprinted` a line
+abbrev pub IsCheckRefusal : Verdict → Type 0 → Type 0 → Type 0 → BootCommandFault → Type 0
+IsCheckRefusal v failed changed unprinted (faults.Host f) = unprinted
+IsCheckRefusal v failed changed unprinted (faults.Section (sections.Read f)) = failed
+IsCheckRefusal v failed changed unprinted (faults.Section sections.SourceChanged) = changed
+IsCheckRefusal v failed changed unprinted (faults.Section f) = ⊥
+IsCheckRefusal v failed changed unprinted (faults.OptionNotCarried name) = ⊥
+IsCheckRefusal v failed changed unprinted (faults.BadFragment word) = ⊥
+IsCheckRefusal v failed changed unprinted (faults.BadNumber word) = ⊥
+IsCheckRefusal v failed changed unprinted (faults.BadBoardId word) = ⊥
+IsCheckRefusal v failed changed unprinted faults.CheckFailed = is_good v ≡ false
+
+-- a check ended: it is done, or an answer is no
+abbrev pub IfChecked : {F : Type 0} → (F → BootCommandFault) → Result (Unit {0}) F → Type 0 → Type 0
+IfChecked fault_of (Ok done) then = then
+IfChecked fault_of (Err refusal) then = fault_of refusal ≡ faults.CheckFailed → then
 
 -- a fault of files, of which one failed
 abbrev pub IsFailedHost : Type 0 → BootCommandFault → Type 0

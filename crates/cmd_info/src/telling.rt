@@ -1,7 +1,11 @@
 //! Prints the text of an image for `info`.
 
 ghost use Rattle.std.specs.Prelude.{◌≡◌, ◌<◌, ◌&&◌, IsTrue, IfErr, OnOk, OnErr};
-ghost use Rattle.sys_report.specs.Shows.{CannotPrint};
+ghost use Rattle.sys_report.specs.Shows.{CannotPrint, ShowsHere};
+ghost use Rattle.abt_sections.specs.Check.{IsVerdict};
+ghost use Rattle.abt_sections.specs.Header.{view_of};
+ghost use Rattle.abt_sections.specs.Open.{IsOpened};
+ghost use Rattle.cmd_common_findings.specs.ReasonLines.{lines_of, printed};
 ghost use Rattle.cmd_info.specs.Informing as spec;
 
 use crate::info::InfoOutcome;
@@ -54,8 +58,12 @@ fn tell_check<'t, 'a, S: Source>(
 ) -> InfoOutcome<'t, 'a>
     ensures good { OnOk result (IsTrue (spec.is_good told.now.verdict)) }
     ensures clean { OnOk result (S.read_faults source.new ≡ S.read_faults source.old) }
+    ensures found { IsTrue S.models → IsOpened (S.content source.old) told.now.image → IsVerdict (S.content source.old)
+        (view_of told.now.image.header) told.now.verdict → spec.IfChecked (λ refusal. refusal.fault) result
+        (spec.TellsFindings (S.content source.old) report.old report.new) }
     ensures refused { IfErr result (λ refusal. spec.IsCheckRefusal told.now.verdict
-        (S.read_faults source.old < S.read_faults source.new) (CannotPrint report.old report.new) refusal.fault) }
+        (S.read_faults source.old < S.read_faults source.new) (IsTrue S.models → IsVerdict (S.content source.old)
+        (view_of told.now.image.header) told.now.verdict → ⊥) (CannotPrint report.old report.new) refusal.fault) }
 {
     let findings = match find_reasons(&told.image, told.verdict, source, w, m) {
         Ok(findings) => findings,
@@ -83,10 +91,12 @@ fn notation_of(with_hex: bool) -> Notation
 }
 
 fn tell_reasons<'t>(findings: &Findings, report: &mut Report) -> Result<(), HostRefusal<'t>>
+    ensures shown { OnOk result (ShowsHere report.old report.new (printed (lines_of findings.now))) }
     ensures refused { OnErr result (CannotPrint report.old report.new) }
 {
-    for line in findings.lines() {
-        if let Some(line) = line {
+    let lines = findings.lines();
+    for i in 0..lines.len() {
+        if let Some(line) = lines[i] {
             report.line(line)?;
         }
     }

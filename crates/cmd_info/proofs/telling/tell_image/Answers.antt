@@ -1,6 +1,7 @@
-use Rattle.std.proofs.Common.{refl, rules}
+use Rattle.std.proofs.Common.{refl, rules, subst, sym}
+use Rattle.abt_sections.specs.Check.{IsVerdict}
+use Rattle.abt_sections.specs.Header.{view_of}
 use Rattle.cmd_info.proofs.Told.{as_told, cannot_behind, checked, flawed, info_told, informed, sound, text_alone}
-use Rattle.cmd_info.proofs.Told.{text_before}
 use Rattle.cmd_info.proofs.Told.{text_checked}
 use Rattle.cmd_info.proofs.telling.tell_image.Goals as goal
 
@@ -8,7 +9,7 @@ pub returns-in-Err-clause-refused : goal.returns-in-Err-clause-refused
 returns-in-Err-clause-refused g c = λ t.
     info_told _ _ _ _ c.args.report.now (record c.args.report.now { out = c.report_info.new.out }) _ c.in-Err.fault
     c.refused.ensures
-    (informed c.in-Err.fault _ c.args.with_check _ _ _ c.args.report.now
+    (informed c.in-Err.fault _ _ _ _ c.args.report.now
     (record c.args.report.now { out = c.report_info.new.out }) (c.in-Err.ensures.refused t)
     c.in-Err.ensures.leaves.failed)
 
@@ -21,22 +22,27 @@ returns-then-not-with_check-clause-done g c = λ t.
 pub returns-in-Ok-tell_check-clause-done : goal.returns-in-Ok-tell_check-clause-done
 returns-in-Ok-tell_check-clause-done g c = λ t.
     let reported = c.in-Ok.ensures.reported t in
+    let same = c.in-Ok.ensures.leaves.content t in
     text_checked _ c.args.with_check _ c.args.report.now (record c.args.report.now { out = c.report_info.new.out })
     c.tell_check.new.report (first_of (search (rules, c.if-not-with_check.false), cc))
     (as_told _ _ _ _ _ c.notation_of.ensures (c.in-Ok.ensures.printed t))
+    ((rw same at (c.in-Ok-tell_check.ensures.found t)) reported.0 reported.1)
     (sound _ _ _ (g.met.S.Source.are_bytes c.args.source.now t) reported.0.has reported.1
     c.in-Ok-tell_check.ensures.good)
 
 pub returns-in-Err-tell_check-clause-refused : goal.returns-in-Err-tell_check-clause-refused
 returns-in-Err-tell_check-clause-refused g c = λ t.
     let reported = c.in-Ok.ensures.reported t in
-    checked _ _ c.args.with_check c.in-Ok.told.verdict _ _ _ c.args.report.now c.tell_check.new.report _
+    let same = c.in-Ok.ensures.leaves.content t in
+    checked _ _ c.args.with_check c.in-Ok.told.verdict _ _ _ c.args.report.now
+    (record c.args.report.now { out = c.report_info.new.out }) c.tell_check.new.report _ _
     c.in-Err-tell_check.refusal.fault (first_of (search (rules, c.if-not-with_check.false), cc))
     c.in-Ok.ensures.leaves.reads
-    (text_before _ _ c.args.report.now (record c.args.report.now { out = c.report_info.new.out })
-    c.tell_check.new.report
-    (as_told _ _ _ _ _ c.notation_of.ensures (c.in-Ok.ensures.printed t)))
+    (as_told _ _ _ _ _ c.notation_of.ensures (c.in-Ok.ensures.printed t))
     (λ bad. flawed _ _ _ (g.met.S.Source.are_bytes c.args.source.now t) reported.0.has reported.1 bad)
+    ((rw same at (c.in-Err-tell_check.ensures.found t)) reported.0 reported.1)
+    (λ never. never t (subst (λ z. IsVerdict z (view_of c.in-Ok.told.image.header) c.in-Ok.told.verdict) (sym same)
+    reported.1))
     (cannot_behind c.args.report.now (record c.args.report.now { out = c.report_info.new.out })
     c.tell_check.new.report c.in-Ok.ensures.leaves.clean refl refl)
     c.in-Err-tell_check.ensures.refused
