@@ -28,7 +28,7 @@ MORE_FUNCTIONS = {"abt_sections": 107, "words_orders": 104, "cmd_unpack_aosp_tex
 # How many functions have contracts of more clauses than this.
 LONG_CONTRACTS = {15: 3, 20: 1}
 # How many clauses are, to the letter, one that stands before, in any function of any crate.
-REPEATED_CLAUSES = 601
+REPEATED_CLAUSES = 602
 # The names that two files define, each with what it says in the one and in the other.
 NAMES_DEFINED_TWICE = {
     "Begins": "of a spool's and of a file's bytes, of which they are a front; of a text, which has grown by one",
@@ -70,11 +70,11 @@ LINES = {
     "definitions and reading": 157,
     "writing": 165,
     "flashing and verifying": 119,
-    "boot images": 213,
+    "boot images": 217,
     "system": 82,
     "words": 94,
     "commands over sparse images": 131,
-    "commands over boot images": 135,
+    "commands over boot images": 137,
     "laws": 58,
     "memory": 28,
     "for programs in C": 25,
