@@ -28,7 +28,7 @@ MORE_FUNCTIONS = {"abt_sections": 107, "words_orders": 104, "cmd_unpack_aosp_tex
 # How many functions have contracts of more clauses than this.
 LONG_CONTRACTS = {15: 3, 20: 1}
 # How many clauses are, to the letter, one that stands before, in any function of any crate.
-REPEATED_CLAUSES = 602
+REPEATED_CLAUSES = 601
 # The names that two files define, each with what it says in the one and in the other.
 NAMES_DEFINED_TWICE = {
     "Begins": "of a spool's and of a file's bytes, of which they are a front; of a text, which has grown by one",
@@ -43,7 +43,7 @@ NAMES_DEFINED_TWICE = {
     "with_part": "a window with bytes in it; a placer with blocks taken",
 }
 # The longest line of specs/ and proofs/, and the files from before that have longer ones: each with its checksum.
-COLUMNS, LONG_LISTED, LONG_FILES = 120, os.path.join("tools", "long_lines.txt"), 348
+COLUMNS, LONG_LISTED, LONG_FILES = 120, os.path.join("tools", "long_lines.txt"), 345
 
 # The crates of each family, and how many hundreds of lines of src/, specs/ and proofs/ they have at most.
 FAMILIES = {
@@ -70,9 +70,9 @@ LINES = {
     "definitions and reading": 157,
     "writing": 165,
     "flashing and verifying": 119,
-    "boot images": 217,
+    "boot images": 219,
     "system": 82,
-    "words": 94,
+    "words": 95,
     "commands over sparse images": 131,
     "commands over boot images": 137,
     "laws": 58,

@@ -129,7 +129,8 @@ def call_of_simg2simg(maker):
 def number_word(maker, number):
     """A number as int(WORD, 0) reads it."""
     plain = (str(number), hex(number), hex(number), hex(number), f"{number:#010x}")
-    rare = (oct(number), bin(number), f"{number:_}", f"+{number}", f" {number} ", hex(number).upper())
+    rare = (oct(number), bin(number), f"{number:_}", hex(number).upper(), f"+{number}", f" {number} ", f"+{number:#x}\n",
+            f"\t\v\f\r {number}", f"\u3000{number:#o}\u00a0", f"-{number:#x}")
     return maker.one(*plain * 4, *rare)
 
 
@@ -197,10 +198,8 @@ def main_units(maker, version, files, outputs):
 
 def not_there(words):
     """What ours has not of mkbootimg's words."""
-    found = set()
-    if any(re.fullmatch(r"(--\w+=)?(\s+\S*\s*|\S*\s+|[+-][0-9].*)", it) and re.search("[0-9]", it) for it in words):
-        found.add("a sign or a blank in a number")
-    return found
+    is_below = any(re.fullmatch(r"(--\w+=)?\s*-(?=[0-9])(0[xXoObB])?[0_]*[1-9a-fA-F]\w*\s*", it) for it in words)
+    return {"a number below 0"} if is_below else set()
 
 
 def taken_here(words, version, outputs):

@@ -1,5 +1,6 @@
 -- The canonical boot image: the image that is packed from these fields and parts.
-use Rattle.std.specs.Prelude.{ℕ, ◌+◌, ◌*◌, ◌==◌, nat_lt, if◌then◌else◌, List, length, take, drop, replicate, map}
+use Rattle.std.specs.Prelude.{ℕ, ◌+◌, ◌*◌, ◌==◌, nat_lt, if◌then◌else◌, Bool, false, List, length, take, drop}
+use Rattle.std.specs.Prelude.{replicate, map}
 use Rattle.std.specs.Prelude.{slice_index, Option, Some, None}
 use Rattle.abt_headers.specs.declared.page.PageSize.{PageSize}
 use Rattle.abt_headers.specs.declared.page.PageSize.TheVariants.{Of4096}
@@ -17,9 +18,13 @@ use Rattle.abt_sections.specs.Layout.{laid_out, laid_size}
 
 -- ---- the header of an image with parts of these sizes and this id
 
--- versions 0 to 2; the command line lies over both of its fields
-abbrev pub front_for : BootFields → PageSize → List ℕ → List ℕ → BootFront
-front_for s page sizes id = record {
+-- how many bytes of a command line its first field has at most: one less where a zero ends the field
+abbrev pub front_size : Bool → ℕ
+front_size is_ended = if is_ended then 511 else 512
+
+-- versions 0 to 2; the command line lies over both of its fields, of which a zero ends the first or not
+abbrev pub front_with : Bool → BootFields → PageSize → List ℕ → List ℕ → BootFront
+front_with is_ended s page sizes id = record {
   kernel_size = slice_index sizes 0;
   kernel_addr = s.kernel_addr;
   ramdisk_size = slice_index sizes 1;
@@ -31,8 +36,8 @@ front_for s page sizes id = record {
   os_version = s.os;
   name = filled 16 s.name;
   id = id;
-  cmdline = filled 512 (take 512 s.cmdline);
-  extra_cmdline = filled 1024 (drop 512 s.cmdline);
+  cmdline = filled 512 (take (front_size is_ended) s.cmdline);
+  extra_cmdline = filled 1024 (drop (front_size is_ended) s.cmdline);
 }
 
 -- where the recovery dtbo is, or 0 where it is empty
@@ -64,11 +69,11 @@ short_for s sizes header_size = record {
   cmdline = filled 1536 s.cmdline;
 }
 
-unfoldable pub boot_header_for : BootFields → PageSize → List ℕ → List ℕ → BootHeader
-boot_header_for s page sizes id =
-    if s.version == 0 then V0 (front_for s page sizes id)
-    else if s.version == 1 then V1 (front_for s page sizes id) (dtbo_for page sizes 1648)
-    else if s.version == 2 then V2 (front_for s page sizes id) (dtbo_for page sizes 1660) (dtb_for s sizes)
+unfoldable pub boot_header_with : Bool → BootFields → PageSize → List ℕ → List ℕ → BootHeader
+boot_header_with is_ended s page sizes id =
+    if s.version == 0 then V0 (front_with is_ended s page sizes id)
+    else if s.version == 1 then V1 (front_with is_ended s page sizes id) (dtbo_for page sizes 1648)
+    else if s.version == 2 then V2 (front_with is_ended s page sizes id) (dtbo_for page sizes 1660) (dtb_for s sizes)
     else if s.version == 3 then V3 (short_for s sizes 1580)
     else V4 (short_for s sizes 1584) (slice_index sizes 2)
 
@@ -85,17 +90,26 @@ abbrev pub id_for : ℕ → List (List ℕ) → List ℕ
 id_for version parts = if nat_lt version 3 then id_of parts else replicate 32 0
 
 -- the header of the image of these fields and parts; a version has at most five sections
+abbrev pub boot_header_from : Bool → BootFields → List (List ℕ) → BootHeader
+boot_header_from is_ended s parts =
+    boot_header_with is_ended s (boot_page_for s) (filled 5 (map length parts)) (id_for s.version parts)
+
+-- the canonical one, whose command line fills its first field
 abbrev pub boot_header_of : BootFields → List (List ℕ) → BootHeader
-boot_header_of s parts = boot_header_for s (boot_page_for s) (filled 5 (map length parts)) (id_for s.version parts)
+boot_header_of s parts = boot_header_from false s parts
 
 -- ---- the image
 
 abbrev pub boot_image : BootHeader → List (List ℕ) → List ℕ
 boot_image h parts = laid_out (boot_page h) (boot_record h) parts
 
--- the one image of these fields and parts
-unfoldable pub boot_canon : BootFields → List (List ℕ) → List ℕ
-boot_canon s parts = boot_image (boot_header_of s parts) parts
+-- the image of these fields and parts, where a zero ends the first field of the command line or not
+unfoldable pub boot_image_with : Bool → BootFields → List (List ℕ) → List ℕ
+boot_image_with is_ended s parts = boot_image (boot_header_from is_ended s parts) parts
+
+-- the one canonical image of these fields and parts
+abbrev pub boot_canon : BootFields → List (List ℕ) → List ℕ
+boot_canon s parts = boot_image_with false s parts
 
 -- how long an image is whose record and parts have these sizes
 abbrev pub image_size : ℕ → ℕ → List ℕ → ℕ

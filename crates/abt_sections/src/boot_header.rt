@@ -46,9 +46,10 @@ pub(crate) fn check_boot_spec(spec: &BootSpec, m: &mut Meter) -> Result<PageSize
 
 fn front_for(spec: &BootSpec, page: PageSize, sizes: &[u32; 5], id: [u8; 32]) -> BootFront
     requires name { length spec.now.name.now ≤ 16 }
-    requires cmdline { length spec.now.cmdline.now ≤ 1536 }
-    ensures { result ≡ canon.front_for (cmd_common_fields spec.now) page sizes.now id }
+    requires cmdline { length spec.now.cmdline.now ≤ 1535 }
+    ensures { result ≡ canon.front_with spec.now.is_front_ended (cmd_common_fields spec.now) page sizes.now id }
 {
+    let end = if spec.is_front_ended { 511 } else { 512 };
     BootFront {
         kernel_size: sizes[0],
         kernel_addr: spec.kernel_addr,
@@ -60,9 +61,9 @@ fn front_for(spec: &BootSpec, page: PageSize, sizes: &[u32; 5], id: [u8; 32]) ->
         page_size: page,
         os_version: spec.os,
         name: filled(spec.name),
-        cmdline: filled_front(spec.cmdline),
+        cmdline: filled_front(spec.cmdline, end),
         id,
-        extra_cmdline: filled_back(spec.cmdline, 512),
+        extra_cmdline: filled_back(spec.cmdline, end),
     }
 }
 
@@ -105,7 +106,7 @@ fn short_for(spec: &BootSpec, sizes: &[u32; 5], header_size: u32) -> ShortFront
 }
 
 /// The header of an image with parts of these sizes and this id.
-#[tactic(auto, unfolding(crate::specs::BootCanon::boot_header_for))]
+#[tactic(auto, unfolding(crate::specs::BootCanon::boot_header_with))]
 pub(crate) fn boot_header_for(
     spec: &BootSpec,
     page: PageSize,
@@ -113,8 +114,8 @@ pub(crate) fn boot_header_for(
     id: [u8; 32],
 ) -> BootHeader
     requires name { spec.now.version < 3 → length spec.now.name.now ≤ 16 }
-    requires cmdline { length spec.now.cmdline.now ≤ 1536 }
-    ensures { result ≡ canon.boot_header_for (cmd_common_fields spec.now) page sizes.now id }
+    requires cmdline { length spec.now.cmdline.now ≤ 1535 }
+    ensures { result ≡ canon.boot_header_with spec.now.is_front_ended (cmd_common_fields spec.now) page sizes.now id }
 {
     match spec.version {
         0 => BootHeader::V0(front_for(spec, page, sizes, id)),

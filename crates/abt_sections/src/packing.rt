@@ -100,9 +100,9 @@ pub fn pack_boot<S: Source, O: Output>(
 ) -> Result<Packed, SectionFault>
     requires { spec.now.version ≤ 4 → length parts.old ≡ length (boot_names spec.now.version) }
     ensures packs { AppendsBoot result S.Source parts.old parts.new O.Output output.old output.new
-        (cmd_common_fields spec.now) }
+        spec.now.is_front_ended (cmd_common_fields spec.now) }
     ensures front { IsTrue S.models → AppendsFront (O.written output.old) (O.written output.new)
-        (canon.boot_canon (cmd_common_fields spec.now) (map S.content parts.old)) }
+        (canon.boot_image_with spec.now.is_front_ended (cmd_common_fields spec.now) (map S.content parts.old)) }
 {
     let page = check_boot_spec(spec, m)?;
     let sizes = boot_sizes(spec.version, parts, m)?;

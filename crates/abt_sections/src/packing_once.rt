@@ -148,7 +148,7 @@ pub fn pack_boot_once<S: Source, O: Overwrite>(
 ) -> Result<Packed, SectionFault>
     requires { spec.now.version ≤ 4 → length parts.old ≡ length (boot_names spec.now.version) }
     ensures packs { AppendsBoot result S.Source parts.old parts.new O.Output output.old output.new
-        (cmd_common_fields spec.now) }
+        spec.now.is_front_ended (cmd_common_fields spec.now) }
     ensures once { total S.given parts.new ≤ total S.given parts.old + total S.size parts.old }
     ensures broken { OnErr result (IsBrokenOff (O.written output.old) (O.written output.new)) }
     ensures grown { Grows (O.written output.old) (O.written output.new) }

@@ -22,6 +22,9 @@ pub struct BootSpec<'a> {
     pub name: &'a [u8],
     /// The kernel's command line: at most 1,535 bytes, none of them zero.
     pub cmdline: &'a [u8],
+    /// Whether a zero ends the first field of the command line in versions 0 to 2, also where it goes on in the second:
+    /// then the first has at most 511 bytes of it, and else 512.
+    pub is_front_ended: bool,
 }
 
 /// The fields of a vendor boot image that the caller chooses (`bootimg.h`, `mkbootimg`).

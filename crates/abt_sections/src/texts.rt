@@ -35,11 +35,12 @@ pub(crate) fn filled<const N: usize>(text: &[u8]) -> [u8; N]
     out
 }
 
-/// The first bytes of a text, as many as the field holds, and then zeros.
-pub(crate) fn filled_front<const N: usize>(text: &[u8]) -> [u8; N]
-    ensures { result ≡ fields.filled N (take N text.now) }
+/// The first bytes of a text, at most so many, and then zeros.
+pub(crate) fn filled_front<const N: usize>(text: &[u8], most: usize) -> [u8; N]
+    requires { most ≤ N }
+    ensures { result ≡ fields.filled N (take most text.now) }
 {
-    let end = N.min(text.len());
+    let end = most.min(text.len());
     filled(&text[..end])
 }
 

@@ -92,3 +92,4 @@ pub record IsCommandOf (order : PackOrder) (command : PackCommand) : Type 0 wher
   pub fragments : All (IsOfItsWord order.is_escaped) command.texts.fragments.items
   pub board_ids : map (λ s. s.now) command.board_ids.items ≡ map (λ s. s.now) order.board_ids.items
   pub trailing : command.keeps_trailing ≡ order.keeps_trailing
+  pub front : command.texts.is_front_ended ≡ order.is_front_ended

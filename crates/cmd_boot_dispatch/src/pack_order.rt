@@ -28,6 +28,7 @@ pub(crate) fn command_of<'a>(
         fragments,
         keeps_trailing,
         is_escaped,
+        is_front_ended,
     } = order;
     let options = options_of(alloc, given.as_slice(), is_escaped)?;
     let fragments = fragments_of(alloc, fragments.as_slice(), is_escaped)?;
@@ -37,7 +38,11 @@ pub(crate) fn command_of<'a>(
         is_vendor,
         version,
         page,
-        texts: PackTexts { options, fragments },
+        texts: PackTexts {
+            options,
+            fragments,
+            is_front_ended,
+        },
         board_ids,
         keeps_trailing,
     })

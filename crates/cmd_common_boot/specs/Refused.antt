@@ -4,7 +4,7 @@ use Rattle.std.specs.Prelude.{Result, IfErr, OnOk}
 use Rattle.abt_io.specs.declared.device.Output as outputs
 use Rattle.abt_io.specs.declared.device.Source as sources
 use Rattle.sys_refusals.specs.declared.refusal.HostFault.TheVariants as hosts
-use Rattle.abt_sections.specs.BootCanon.{boot_canon}
+use Rattle.abt_sections.specs.BootCanon.{boot_image_with}
 use Rattle.abt_sections.specs.Cause.{PackCause}
 use Rattle.abt_sections.specs.Fields.{VendorFields, cmd_common_fields}
 use Rattle.abt_sections.specs.Refusal.{pack_boot_refusal, pack_vendor_refusal}
@@ -54,7 +54,7 @@ vendor_parts_asked version parts specs ramdisks = vendor_parts [] [] [] []
 
 -- the image of a kind: of these fields and parts, and of these ramdisk fragments
 abbrev pub packed : ImageKind → BootSpec → List (List ℕ) → List FragmentSpec → List (List ℕ) → List ℕ
-packed (Boot n) s parts specs ramdisks = boot_canon (cmd_common_fields s) parts
+packed (Boot n) s parts specs ramdisks = boot_image_with s.is_front_ended (cmd_common_fields s) parts
 packed (Vendor n) s parts specs ramdisks = vendor_canon (vendor_fields_asked s)
     (vendor_parts_asked s.version parts specs ramdisks)
 

@@ -30,6 +30,7 @@ pub fn no_fields() -> BootSpec<'static>
         os: OsVersion::from_raw(0),
         name: &[],
         cmdline: &[],
+        is_front_ended: false,
     }
 }
 
@@ -64,6 +65,7 @@ pub fn with_given<'a, 't>(
         os,
         name: texts.bytes_or("name", own.name),
         cmdline: texts.bytes_or("cmdline", own.cmdline),
+        is_front_ended: own.is_front_ended,
     })
 }
 

@@ -62,6 +62,8 @@ impl FragmentText<'_> {
 pub struct PackTexts<'a> {
     pub options: Vec<OptionText<'a>>,
     pub fragments: Vec<FragmentText<'a>>,
+    /// Whether a zero ends the first field of a long command line.
+    pub is_front_ended: bool,
 }
 
 impl<'a> PackTexts<'a> {

@@ -75,8 +75,9 @@ pub asked_again : (command : PackCommand) (w w' : World) (x : List ℕ) (h : Hea
     → AreFragmentsAgain w command.texts.fragments.items x h said ramdisks → p.ramdisks ≡ ramdisks
     → AreSet (board_id_words command) said p.specs
     → cmd_common_fields p.fields ≡ loaded_at kind command.texts.options.items parts given
+    → p.fields.is_front_ended ≡ command.texts.is_front_ended
     → AreAskedAgain command w x h given p
-asked_again command w w' x h kind given p parts ramdisks said is same of_parts ps of_all rs boards loaded = record {
+asked_again command w w' x h kind given p parts ramdisks said is same of_parts ps of_all rs boards loaded end = record {
   parts = subst (λ k. ArePartsOf w command.texts.options.items (StandsIn x h) (part_sections k) p.parts) is
       (subst (λ v. ArePartsOf v command.texts.options.items (StandsIn x h) (part_sections kind) p.parts) same
       (subst (λ l. ArePartsOf w' command.texts.options.items (StandsIn x h) (part_sections kind) l) (sym ps) of_parts));
@@ -85,6 +86,7 @@ asked_again command w w' x h kind given p parts ramdisks said is same of_parts p
   boards = boards;
   loaded = loaded ∙ ap (λ k. loaded_at k command.texts.options.items parts given) is
       ∙ ap (λ l. loaded_at (kind_of h) command.texts.options.items l given) (sym ps);
+  front = end;
 }
 
 pub each_path : (texts : PackTexts) (kind : ImageKind) (path : List ℕ) → IsGivenPath texts kind path

@@ -115,8 +115,9 @@ pub asks : {P : Type 0} (content : P → List ℕ) (command : PackCommand) (w w'
     → ArePartsOf w command.texts.options.items nothing (part_sections kind) (map content parts)
     → AreFragmentsOf w' command.texts.fragments.items said (map content sources) → AreSet words said specs
     → cmd_common_fields c.fields ≡ loaded_at kind command.texts.options.items (map content parts) given
+    → c.fields.is_front_ended ≡ command.texts.is_front_ended
     → AreAskedFor command w given (packing_of content c)
-asks content command w w' kind given c parts sources said specs words named is same p s f p_are s_are set loaded =
+asks content command w w' kind given c parts sources said specs words named is same p s f p_are s_are set loaded front =
     record {
       parts = subst (λ k. ArePartsOf w command.texts.options.items nothing (part_sections k)
           (map content c.parts.items)) is
@@ -129,6 +130,7 @@ asks content command w w' kind given c parts sources said specs words named is s
           (subst (λ ws. AreSet ws said specs) named set);
       loaded = loaded ∙ ap (λ l. loaded_at kind command.texts.options.items (map content l) given) (sym p)
           ∙ ap (λ k. loaded_at k command.texts.options.items (map content c.parts.items) given) is;
+      front = front;
     }
 
 pub unread : {P : Type 0} (F : P → ℕ) (c : ImageContents P) (parts sources : List P) (t : P) → c.parts.items ≡ parts

@@ -19,7 +19,8 @@ use Rattle.cmd_pack_inputs.specs.Parts.{ArePartsOf, AreFragmentsOf, IsGivenPath}
 use Rattle.cmd_pack_outputs.specs.Writing.{HoldsNoPartOf}
 
 -- These are packed for an image of a kind that has these fields: its parts, by the options, its ramdisk fragments,
--- and the board ids that the arguments set. The image may have parts of its own, `own`, and fragments, `Fragments`.
+-- and the board ids that the arguments set. The texts say whether a zero ends the first field of the command line. The
+-- image may have parts of its own, `own`, and fragments, `Fragments`.
 pub record ArePacked (world : World) (texts : PackTexts) (words : List (List ℕ)) (own : Section → List ℕ → Type 0)
     (Fragments : List FragmentSpec → List (List ℕ) → Type 0) (kind : ImageKind) (given : BootFields) (p : Packing)
     : Type 0 where
@@ -28,6 +29,7 @@ pub record ArePacked (world : World) (texts : PackTexts) (words : List (List ℕ
   pub fragments : Fragments said p.ramdisks
   pub boards : AreSet words said p.specs
   pub loaded : cmd_common_fields p.fields ≡ loaded_at kind texts.options.items p.parts given
+  pub front : p.fields.is_front_ended ≡ texts.is_front_ended
 
 -- ---- of the arguments of `pack`
 

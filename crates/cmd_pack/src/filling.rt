@@ -14,7 +14,8 @@ use cmd_pack_inputs::Ramdisks;
 use cmd_pack_outputs::ImageContents;
 use sys_disk::Lasting;
 
-/// An image of this kind, with these fields and parts, and the bytes after it.
+/// An image of this kind, with these fields and parts, and the bytes after it. The texts say whether a zero ends the
+/// first field of the command line.
 pub(crate) fn filled<'f, 't, S: Source + Lasting + Drop>(
     kind: ImageKind,
     fields: BootSpec<'f>,
@@ -32,12 +33,16 @@ pub(crate) fn filled<'f, 't, S: Source + Lasting + Drop>(
     ensures nothing { result.nothing.size ≡ 0 }
     ensures unread { ⟦<PartSource<'t, S> as Source>⟧.read_faults result.nothing ≡ 0 }
     ensures trailing { result.trailing ≡ trailing.entry }
+    ensures front { result.fields.is_front_ended ≡ texts.now.is_front_ended }
     ensures loaded { IsTrue S.models → cmd_common_fields result.fields ≡ loaded_at kind texts.now.options.items
         (map ⟦<PartSource<'t, S> as Source>⟧.content parts.entry.items) (cmd_common_fields fields.entry) }
 {
     let of_ramdisk = counts_ramdisk(texts);
     let of_second = counts_second(texts);
-    let fields = loaded(fields, kind, of_ramdisk, of_second, parts.as_slice());
+    let fields = BootSpec {
+        is_front_ended: texts.is_front_ended,
+        ..loaded(fields, kind, of_ramdisk, of_second, parts.as_slice())
+    };
     let Ramdisks { specs, sources } = ramdisks;
     ImageContents {
         kind,

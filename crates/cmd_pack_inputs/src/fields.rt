@@ -29,6 +29,7 @@ pub fn own_fields<'t>(header: &'t ImageHeader, cmdline: &'t [u8]) -> BootSpec<'t
         os: own_os(header),
         name: front_text(text_field_of(header, TextField::Name).unwrap_or(&[])),
         cmdline,
+        is_front_ended: false,
     }
 }
 

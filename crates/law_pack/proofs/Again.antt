@@ -10,7 +10,7 @@ use Rattle.abt_headers.specs.declared.sections.Section.TheVariants.{Dtb}
 use Rattle.abt_headers.specs.declared.vendor.VendorFront.{VendorFront}
 use Rattle.abt_headers.specs.Vendor.{Tail, Vendor}
 use Rattle.abt_io.specs.Bytes.{AreBytes}
-use Rattle.abt_sections.specs.BootCanon.{boot_canon}
+use Rattle.abt_sections.specs.BootCanon.{boot_canon, boot_image_with}
 use Rattle.abt_sections.specs.Canonical.{StartsWith}
 use Rattle.abt_sections.specs.Check.{IsCanonical}
 use Rattle.abt_sections.specs.Fields.{BootFields, VendorFields, cmd_common_fields}
@@ -152,8 +152,10 @@ module _ (folder x : List ℕ) (h : BootHeader) (command : PackCommand) (world :
       ∙ loaded_same words options o s.version p.packing.parts p.given
       ∙ boot_given words options o s p.given r.says.fields given in
       let parts = boot_parts folder x h command world r p.packing.parts asked.parts in
-      p.is ∙ ap (λ (k : ImageKind). image_from k p.packing) boot_kind ∙ ap
-      (λ (t : BootFields). boot_canon t p.packing.parts) fields ∙ ap (boot_canon s) parts
+      p.is ∙ ap (λ (k : ImageKind). image_from k p.packing) boot_kind
+      ∙ ap (λ (e : Bool). boot_image_with e (cmd_common_fields p.packing.fields) p.packing.parts)
+      (asked.front ∙ r.said.front)
+      ∙ ap (λ (t : BootFields). boot_canon t p.packing.parts) fields ∙ ap (boot_canon s) parts
 
 -- ---- vendor boot images
 

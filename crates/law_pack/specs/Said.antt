@@ -45,7 +45,8 @@ IsFragmentBy true value text = (spec : FragmentSpec) (path : List ℕ) → IsEsc
 IsFragmentBy false value text = (spec : FragmentSpec) (path : List ℕ) → IsFragment value spec path
     → (text.spec ≡ Some spec) × (text.path.items ≡ path)
 
--- The order is what these words say, each of them `--NAME=VALUE` or `--NAME`.
+-- The order is what these words say, each of them `--NAME=VALUE` or `--NAME`. No word says that a zero ends the first
+-- field of a long command line.
 pub record SaysCommand (words : List (List ℕ)) (command : PackCommand) : Type 0 where
   pub vendor : command.is_vendor ≡ is_said (codes "vendor") words
   pub version : (n : ℕ) → SaysNumber words (codes "version") n → command.version ≡ n
@@ -57,3 +58,4 @@ pub record SaysCommand (words : List (List ℕ)) (command : PackCommand) : Type 
   pub fragments : AllZip (IsFragmentBy (is_said (codes "escaped") words)) (values_of (codes "fragment") words)
       command.texts.fragments.items
   pub board_ids : map (λ word. word.now) command.board_ids.items ≡ values_of (codes "board-id") words
+  pub front : command.texts.is_front_ended ≡ false

@@ -27,6 +27,7 @@ pub(crate) fn boot<'a>(version: u32, page: u32, name: &'a [u8], cmdline: &'a [u8
         os: OsVersion::from_raw(0),
         name,
         cmdline,
+        is_front_ended: false,
     }
 }
 

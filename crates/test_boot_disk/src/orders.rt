@@ -52,6 +52,7 @@ fn command(alloc: Global, version: u32, options: Vec<OptionText<'static>>) -> Pa
         texts: PackTexts {
             options,
             fragments: Vec::new(alloc),
+            is_front_ended: false,
         },
         board_ids: Vec::new(alloc),
         keeps_trailing: false,

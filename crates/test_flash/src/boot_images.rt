@@ -22,6 +22,7 @@ fn packed(room: &mut [u8]) -> u64 {
         os: OsVersion::from_raw(0),
         name: &[],
         cmdline: &[],
+        is_front_ended: false,
     };
     let mut parts = [
         SliceSource::new(b"K"),

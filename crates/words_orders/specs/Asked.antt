@@ -98,6 +98,7 @@ pub record AsksPack (all : List Answer) (order : PackOrder) : Type 0 where
       ≡ words_named (codes "fragment") all ++ words_named (codes "FRAGMENT") all
   pub trailing : order.keeps_trailing ≡ flag_named (codes "keep-trailing") all
   pub escaped : order.is_escaped ≡ flag_named (codes "escaped") all
+  pub front : order.is_front_ended ≡ false
 
 abbrev pub AsksBoot : List Answer → BootTask → Type 0
 AsksBoot all (boot.Pack order) = AsksPack all order

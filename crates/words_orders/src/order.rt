@@ -123,6 +123,8 @@ pub struct PackOrder<'a> {
     pub fragments: Vec<&'a str>,
     pub keeps_trailing: bool,
     pub is_escaped: bool,
+    /// Whether a zero ends the first field of a long command line, as mkbootimg has it.
+    pub is_front_ended: bool,
 }
 
 /// What an option was given.

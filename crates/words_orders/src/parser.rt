@@ -102,6 +102,8 @@ fn with_value<'a>(arg: Arg<'a>, row: &'static Row) -> Arg<'a> {
         }
         Value::Name(names) => arg.value_parser(ValueParser::Names(names)),
         Value::CommandLine => arg.allow_hyphen_values(true),
+        // `-0` is a number
+        Value::PythonNumber | Value::LongPythonNumber => arg.allow_negative_numbers(true),
         _ => arg,
     }
 }

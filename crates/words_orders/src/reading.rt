@@ -317,6 +317,7 @@ fn pack_order<'a>(alloc: Global, answers: &Answers<'a>) -> Result<PackOrder<'a>,
         fragments,
         keeps_trailing: answers.flag("keep-trailing"),
         is_escaped: answers.flag("escaped"),
+        is_front_ended: false,
     })
 }
 

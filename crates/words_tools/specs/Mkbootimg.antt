@@ -127,6 +127,7 @@ pub record IsPackOf (all said : List Answer) (image : Image) (order : PackOrder)
       order.fragments.items
   pub trailing : order.keeps_trailing ≡ false
   pub escaped : order.is_escaped ≡ false
+  pub front : order.is_front_ended ≡ true
 
 abbrev pub PacksImage : List Answer → List Answer → Image → Task → Type 0
 PacksImage all said image (tasks.Boot (boot.Pack order)) = IsPackOf all said image order

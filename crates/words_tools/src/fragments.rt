@@ -48,7 +48,7 @@ impl<'a> Parted<'a> {
     }
 
     // Takes the next word, which may follow an option that awaits its value. Returns the option that awaits one now. A
-    // value does not begin with a hyphen: only an option does.
+    // value does not begin with a hyphen, as an option does, but for the number `-0`.
     fn take(
         &mut self,
         alloc: Global,
@@ -60,7 +60,7 @@ impl<'a> Parted<'a> {
             self.new.said.items (map (λ it. it.now) self.new.others.items)) }
     {
         if let Some(row) = before {
-            if word.starts_with('-') {
+            if word.starts_with('-') && word != "-0" {
                 return Err(WordsFault::NotTaken(NO_VALUE));
             }
             self.say(answer_of(alloc, row, word)?)?;

@@ -117,6 +117,9 @@ fn boot_refusal(answers: &Answers<'_>, version: u32) -> Option<&'static str> {
     if version == 2 && answers.word("dtb").is_none() {
         return Some("header version 2 has a device tree blob: give --dtb");
     }
+    if version < 3 && answers.given_word("cmdline").len() > 1534 {
+        return Some("header versions 0 to 2 have a command line of at most 1534 bytes");
+    }
     None
 }
 
@@ -167,6 +170,7 @@ pub(crate) fn packing<'a>(
         fragments,
         keeps_trailing: false,
         is_escaped: false,
+        is_front_ended: true,
     }))))
 }
 

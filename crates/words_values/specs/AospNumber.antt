@@ -2,6 +2,7 @@
 use Rattle.std.specs.Prelude.{◌==◌, ◌&&◌, ◌+◌, ◌-◌, ◌*◌, ◌^◌, ℕ, List, [], ◌∷◌, Bool, true, false, Option, Some, None}
 use Rattle.std.specs.Prelude.{if◌then◌else◌, nat_lt, nat_le}
 use Rattle.std.specs.Char.{digit_value}
+use Rattle.std.specs.Str.{trim}
 use Rattle.words_values.specs.declared.aosp_numbers.Digits.{Digits}
 
 -- ---- digits, with an underscore between two of them or none
@@ -35,7 +36,7 @@ number_ended (Some d) = if d.is_ended then Some d.number else None
 abbrev pub python_digits : ℕ → List ℕ → Option ℕ
 python_digits radix word = number_ended (with_letters radix (Some (digits 0 false)) word)
 
--- ---- Python's `int(word, 0)`, of a word without blanks and without a sign
+-- ---- Python's `int(word, 0)`
 
 -- the radix of `0x`, `0o` and `0b`, also with a large letter
 abbrev pub radix_of : ℕ → Option ℕ
@@ -54,15 +55,28 @@ abbrev pub only_zero : Option ℕ → Option ℕ
 only_zero None = None
 only_zero (Some n) = if n == 0 then Some 0 else None
 
-abbrev pub number_behind_zero : Option ℕ → ℕ → List ℕ → Option ℕ
-number_behind_zero (Some radix) c rest = python_digits radix (behind_underscore rest)
-number_behind_zero None c rest = only_zero (python_digits 10 (c ∷ rest))
+-- of a word that begins with a zero, and of what stands behind its second letter
+abbrev pub number_behind_zero : Option ℕ → List ℕ → List ℕ → Option ℕ
+number_behind_zero (Some radix) word rest = python_digits radix (behind_underscore rest)
+number_behind_zero None word rest = only_zero (python_digits 10 word)
 
+-- without a sign and without white space
+abbrev pub plain_number : List ℕ → Option ℕ
+plain_number [] = None
+plain_number (c ∷ []) = python_digits 10 (c ∷ [])
+plain_number (c ∷ (letter ∷ rest)) =
+    if c == 48 then number_behind_zero (radix_of letter) (c ∷ (letter ∷ rest)) rest
+    else python_digits 10 (c ∷ (letter ∷ rest))
+
+-- with a sign, `+` or `-`, directly before it, or without one; a number below zero is none
+abbrev pub signed_number : List ℕ → Option ℕ
+signed_number [] = None
+signed_number (c ∷ rest) =
+    if c == 43 then plain_number rest else if c == 45 then only_zero (plain_number rest) else plain_number (c ∷ rest)
+
+-- with white space around it, or without
 abbrev pub python_number : List ℕ → Option ℕ
-python_number [] = None
-python_number (c ∷ []) = python_digits 10 (c ∷ [])
-python_number (c ∷ (letter ∷ rest)) =
-    if c == 48 then number_behind_zero (radix_of letter) letter rest else python_digits 10 (c ∷ (letter ∷ rest))
+python_number word = signed_number (trim word)
 
 -- ---- a few digits at the beginning of a text
 

@@ -1,9 +1,11 @@
 //! Numbers as mkbootimg reads them: those of Python's `int(word, 0)`, an OS version and a patch level.
 
-ghost use Rattle.std.specs.Prelude.{◌≡◌, ◌∷◌, ◌≤◌, ◌+◌, ◌*◌, ◌^◌, ◌<◌, IfSome, option_map};
+ghost use Rattle.std.specs.Prelude.{◌≡◌, ◌≤◌, ◌+◌, ◌*◌, ◌^◌, ◌<◌, IfSome, option_map};
 ghost use Rattle.words_values.specs.AospNumber.{behind_dot, behind_underscore, four, is_digit, level_from};
-ghost use Rattle.words_values.specs.AospNumber.{more, number_behind_zero, os_version, python_digits, packed_level};
-ghost use Rattle.words_values.specs.AospNumber.{packed_version, patch_level, python_number, radix_of, three, two};
+ghost use Rattle.words_values.specs.AospNumber.{more, number_behind_zero, only_zero, os_version, packed_level};
+ghost use Rattle.words_values.specs.AospNumber.{packed_version, patch_level, plain_number, python_digits};
+ghost use Rattle.words_values.specs.AospNumber.{python_number};
+ghost use Rattle.words_values.specs.AospNumber.{radix_of, signed_number, three, two};
 ghost use Rattle.words_values.specs.AospNumber.{version_from_b, version_from_c, with_digit, with_letter};
 ghost use Rattle.words_values.specs.AospNumber as spec;
 ghost use Rattle.std.specs.Char.{digit_value};
@@ -18,29 +20,51 @@ pub(crate) struct Digits {
 }
 
 /// The number that Python's `int(word, 0)` reads: decimal, or after `0x`, `0o` or `0b`, with an underscore between two
-/// digits or none. `None` for blanks and a sign, and for a number that does not fit in 64 bits.
+/// digits or none. White space may be around it, and a sign directly before it. `None` for a number below zero, and for
+/// one that does not fit in 64 bits.
 pub(crate) fn python_number(word: &str) -> Option<u64>
     ensures { result ≡ python_number word.now }
 {
-    let bytes = word.as_bytes();
+    signed_number(word.trim().as_bytes())
+}
+
+// With a sign or without one.
+fn signed_number(bytes: &[u8]) -> Option<u64>
+    ensures { result ≡ signed_number bytes.now }
+{
+    match bytes {
+        [b'+', rest @ ..] => plain_number(rest),
+        [b'-', rest @ ..] => only_zero(plain_number(rest)),
+        _ => plain_number(bytes),
+    }
+}
+
+fn only_zero(number: Option<u64>) -> Option<u64>
+    ensures { result ≡ only_zero number }
+{
+    match number {
+        Some(0) => Some(0),
+        _ => None,
+    }
+}
+
+fn plain_number(bytes: &[u8]) -> Option<u64>
+    ensures { result ≡ plain_number bytes.now }
+{
     match bytes {
         [] => None,
-        [b'0', letter, rest @ ..] => behind_zero(*letter, rest, &bytes[1..]),
+        [b'0', letter, rest @ ..] => behind_zero(*letter, bytes, rest),
         _ => number_of(bytes, 10),
     }
 }
 
-// What follows a zero: the letter of a radix and digits, or only zeros.
-fn behind_zero(letter: u8, rest: &[u8], all: &[u8]) -> Option<u64>
-    requires { all.now ≡ letter ∷ rest.now }
-    ensures { result ≡ number_behind_zero (radix_of letter) letter rest.now }
+// The number of a word that begins with a zero. The letter of a radix and digits follow it, or only zeros.
+fn behind_zero(letter: u8, word: &[u8], rest: &[u8]) -> Option<u64>
+    ensures { result ≡ number_behind_zero (radix_of letter) word.now rest.now }
 {
     match radix_of(letter) {
         Some(radix) => number_of(behind_underscore(rest), radix),
-        None => match number_of(all, 10) {
-            Some(0) => Some(0),
-            _ => None,
-        },
+        None => only_zero(number_of(word, 10)),
     }
 }
 

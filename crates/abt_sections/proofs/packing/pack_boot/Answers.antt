@@ -2,7 +2,7 @@ use Rattle.std.proofs.Common.{rules, ◌≡◌, ◌++◌, ℕ, List, ap, ◌∙�
 use Rattle.std.proofs.lemmas.List.{length-map}
 use Rattle.std.specs.Prelude.{IsTrue}
 use Rattle.abt_sections.specs.Fields.{cmd_common_fields, filled}
-use Rattle.abt_sections.specs.BootCanon.{boot_canon, boot_image, boot_image_size, image_size}
+use Rattle.abt_sections.specs.BootCanon.{boot_image, boot_image_size, boot_image_with, image_size}
 use Rattle.abt_headers.specs.Boot.{boot_page, boot_size}
 use Rattle.abt_sections.proofs.Sizing.{sizes_are}
 use Rattle.abt_sections.proofs.Canons.{canon_is, size_is}
@@ -15,13 +15,15 @@ use Rattle.abt_sections.proofs.packing.pack_boot.Goals as goal
 -- the image of the header that was made is the one image
 canon : (g : Over) (c : After-boot_header_for-header g) → IsTrue g.S.Source.models
     → (let s = g.S.Source in boot_image c.boot_header_for-header.result (map s.content c.id_for.new.parts)
-    ≡ boot_canon (cmd_common_fields c.args.spec.now) (map s.content c.args.parts.now))
+    ≡ boot_image_with c.args.spec.now.is_front_ended (cmd_common_fields c.args.spec.now)
+    (map s.content c.args.parts.now))
 canon g c models =
     let s = g.S.Source in
     let sizes = c.in_ok-sizes.ensures.value.1
     ∙ ap (λ (l : List ℕ). filled 5 l)
     (sizes_are s.size s.content c.args.parts.now (λ p. g.met.S.Source.sized p models)) in
-    canon_is (cmd_common_fields c.args.spec.now) c.in_ok-page.page c.in_ok-sizes.sizes c.in_ok-id.id
+    canon_is c.args.spec.now.is_front_ended (cmd_common_fields c.args.spec.now) c.in_ok-page.page c.in_ok-sizes.sizes
+    c.in_ok-id.id
     c.boot_header_for-header.result (map s.content c.args.parts.now) (map s.content c.id_for.new.parts)
     c.boot_header_for-header.ensures c.in_ok-page.ensures.refused.value.1 sizes (c.in_ok-id.ensures.id models)
     (c.in_ok-id.ensures.reads.only.content models)
@@ -32,7 +34,7 @@ sized : (g : Over) (c : After-boot_header_for-header g) (n : ℕ) → n ≡ leng
     image_size (boot_page h) (boot_size h) (take n c.in_ok-sizes.sizes)
     ≡ boot_image_size (cmd_common_fields c.args.spec.now) (map g.S.Source.size c.args.parts.now))
 sized g c n long =
-    size_is (cmd_common_fields c.args.spec.now) c.in_ok-page.page c.in_ok-sizes.sizes
+    size_is c.args.spec.now.is_front_ended (cmd_common_fields c.args.spec.now) c.in_ok-page.page c.in_ok-sizes.sizes
     (map g.S.Source.size c.args.parts.now)
     c.in_ok-id.id c.boot_header_for-header.result n c.in_ok-page.ensures.version c.boot_header_for-header.ensures
     c.in_ok-page.ensures.refused.value.1 c.in_ok-sizes.ensures.value.1 long

@@ -77,7 +77,8 @@ returns-clause-packs g c =
     c.image_bytes.ensures
     ∙ ap (λ (q : ℕ). image_size q c.size.result (take count sizes)) c.page_size.ensures.value
     ∙ ap (λ (q : ℕ). image_size (boot_page h) q (take count sizes)) c.size.ensures
-    ∙ size_is fields c.in_ok-page.page sizes zs c.in_ok-id.id h count c.in_ok-page.ensures.version
+    ∙ size_is c.args.spec.now.is_front_ended fields c.in_ok-page.page sizes zs c.in_ok-id.id h count
+    c.in_ok-page.ensures.version
     c.boot_header_for-header.ensures c.in_ok-page.ensures.refused.value.1 told long in
     let size = sized g (goal.at.returns-clause-packs g c).In_ok-sizes in
     let all = rw c.bytes.ensures.value at e.bytes.all in
@@ -86,7 +87,7 @@ returns-clause-packs g c =
       writes = search rules;
       refused = search rules;
       written = λ models.
-          once_written fields c.in_ok-page.page sizes c.in_ok-id.id h (map s.content ps)
+          once_written c.args.spec.now.is_front_ended fields c.in_ok-page.page sizes c.in_ok-id.id h (map s.content ps)
           (g.O.Output.written c.args.output.now) _ _ c.position-at.result c.in_ok-page.ensures.version
           c.boot_header_for-header.ensures c.in_ok-page.ensures.refused.value.1
           (told ∙ ap (λ (l : List ℕ). filled 5 l)

@@ -42,7 +42,7 @@ returns-in-Ok-with_board_ids-clause-asked g c = λ t.
     (c.in-Ok.ensures.opens.keeps t).world
     c.filled.ensures.parts (c.filled.ensures.sources ∙ c.in-Ok-with_board_ids.ensures.sources) c.filled.ensures.specs
     (c.in-Ok.ensures.parts t) (c.in-Ok-open_fragments.ensures.fragments t) c.in-Ok-with_board_ids.ensures.specs
-    (c.filled.ensures.loaded (g.met.D.Disk.source_told t))
+    (c.filled.ensures.loaded (g.met.D.Disk.source_told t)) c.filled.ensures.front
 
 pub returns-in-Ok-with_board_ids-clause-fills : goal.returns-in-Ok-with_board_ids-clause-fills
 returns-in-Ok-with_board_ids-clause-fills g c =

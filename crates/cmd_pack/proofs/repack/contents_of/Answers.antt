@@ -32,7 +32,7 @@ returns-in-Ok-trailing_of-clause-asked g c = λ t.
     (ap (map content) (c.filled.ensures.sources ∙ c.in-Ok-with_board_ids.ensures.sources))
     (boards_set c.args.command.now _ _ _ _ c.as_slice.ensures.value c.in-Ok-with_board_ids.ensures.specs
     c.filled.ensures.specs)
-    (c.filled.ensures.loaded (g.met.D.Disk.source_told t))
+    (c.filled.ensures.loaded (g.met.D.Disk.source_told t)) c.filled.ensures.front
 
 pub returns-in-Ok-trailing_of-clause-behind : goal.returns-in-Ok-trailing_of-clause-behind
 returns-in-Ok-trailing_of-clause-behind g c = λ t.
