@@ -67,8 +67,8 @@ FAMILIES = {
 }
 LINES = {
     "devices": 98,
-    "definitions and reading": 157,
-    "writing": 165,
+    "definitions and reading": 162,
+    "writing": 171,
     "flashing and verifying": 119,
     "boot images": 219,
     "system": 82,

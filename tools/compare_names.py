@@ -14,7 +14,6 @@ Both run with the same words in folders of the same files. It is compared whethe
 
   - standard output;
   - every file, folder and link that is left, by name and bytes;
-  - of img2simg, where the images differ: the raw images that AOSP's simg2img makes of both;
   - of simg2simg in place of the pieces' bytes: laid over one another in turn by AOSP's simg2img they give one raw
     image, no piece is above MAX, and ours are not more.
 
@@ -64,8 +63,6 @@ ROWS = (
     Row("img2simg", "done", "fails", "status", "a block size above 65,536", "ours has blocks of up to 65,536 bytes"),
     Row("img2simg", "done", "fails", "status", "-s", "ours has no -s"),
     Row("img2simg", "done", "fails", "status", "a BLOCK that is not digits alone", "ours takes digits alone"),
-    Row("img2simg", "done", "done", "(file .*|standard output)", "a last block that is not whole",
-        "theirs is a raw chunk"),
     Row("simg2img", "done", "(done|fails)", "(status|file .*|standard output)", "a file named -",
         "ours is standard output"),
     Row("simg2img img2simg", "fails", "done", "status", "help", "theirs has none"),
@@ -177,13 +174,6 @@ def pieces_wrong(theirs, call, old, new):
         yield "raw image", ["the pieces give another raw image"]
 
 
-def is_other_raw(theirs, old, new):
-    """Whether the sparse images of both sides, files or standard output, give another raw image."""
-    images = [it.left["out"][1] if "out" in it.left else it.out for it in (old, new)]
-    was, now = (laid(theirs, {"image.1": it}) for it in images)
-    return was is None or was != now
-
-
 def files_wrong(old, new):
     for path in sorted({*old.left, *new.left}):
         was, now = old.left.get(path), new.left.get(path)
@@ -216,8 +206,6 @@ def differences(theirs, call, old, new):
             yield from (("standard output", difference("standard output", ("file", old.out), ("file", new.out))),)
         if call.name == "simg2simg":
             yield from pieces_wrong(theirs, call, old, new)
-        if call.name == "img2simg" and (old.left, old.out) != (new.left, new.out) and is_other_raw(theirs, old, new):
-            yield "raw image", ["the images give another raw image"]
         yield from files_wrong(old, new)
 
 

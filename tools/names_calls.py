@@ -96,8 +96,6 @@ def call_of_img2simg(maker):
     number = int(number) % 2**32 if number.isdigit() else 4096
     if number > 65_536:
         peculiar.add("a block size above 65,536")
-    if number and size % number:
-        peculiar.add("a last block that is not whole")
     return Call("img2simg", words, files, "raw" if ins == "-" else None, {"raw"} - {out}, peculiar)
 
 

@@ -36,7 +36,7 @@ does_as : (on : List ℕ → Bool) (task : SparseTask) (a : State) (w : World) (
 does_as on (tasks.Expand inputs output) a w h r p is =
     expands_as on (map (λ word. word.now) inputs.items) output.now a w h r p is
 does_as on (tasks.List input) a w h r p is = is
-does_as on (tasks.Sparse input output block) a w h r p is = is
+does_as on (tasks.Sparse input output block tail) a w h r p is = is
 does_as on (tasks.Cut input limit prefix from_zero raw) a w h r p is =
     cuts_as input.now limit (naming prefix.now from_zero) raw a w h r p is
 does_as on (tasks.Flash input partition None None) a w h r p is = is
@@ -57,7 +57,7 @@ pub spares_as : (task : SparseTask) (a : State) (w : World) (h : OpenFiles) (r r
 spares_as (tasks.Expand inputs output) a w h r r' is =
     spares_expanded_as (map (λ word. word.now) inputs.items) output.now a w h r r' is
 spares_as (tasks.List input) a w h r r' is = is
-spares_as (tasks.Sparse input output block) a w h r r' is = is
+spares_as (tasks.Sparse input output block tail) a w h r r' is = is
 spares_as (tasks.Cut input limit prefix from_zero raw) a w h r r' is = is
 spares_as (tasks.Flash input partition raw None) a w h r r' is = is
 spares_as (tasks.Flash input partition raw (Some pieces)) a w h r r' is = is

@@ -9,6 +9,7 @@ use Rattle.abt_placed.specs.Segment.{IsHeldBlock}
 use Rattle.std.specs.Prelude.{◌+◌, ◌*◌, ◌^◌, ◌<◌, IfOk, IfErr, IfNone, IfSome, OnOk, OnErr, Option, Result, Err}
 use Rattle.abt_io.specs.declared.meter.Meter.{Meter}
 use Rattle.abt_runs.specs.Raw.{RawPlace}
+use Rattle.abt_runs.specs.Tail.{raw_list}
 use Rattle.abt_runs.specs.declared.part.Cursor.{Cursor}
 use Rattle.abt_runs.specs.declared.raw.RawRuns.{RawRuns}
 use Rattle.abt_pieces.specs.Calls.{Devices}
@@ -32,26 +33,27 @@ pub record LaidPiece (b n r chunks : ℕ) (f : List Block) (old now : List ℕ) 
   pub stands : now ≡ old ++ spelling b r f
 
 -- So does that of some segment from block `first` up to `past` of an image of n blocks; where the source models its
--- bytes x, it is the first piece of what begins there.
-pub record WholePiece (models : Bool) (x : List ℕ) (b n limit r first past chunks : ℕ) (old now : List ℕ) : Type 0 where
-  pub blocks : List Block
-  pub laid : LaidPiece b n r chunks (framed first blocks (n - past)) old now
-  pub held : AllByRecursion IsHeldBlock blocks
-  pub fits : weight b blocks ≤ limit
-  pub told : IsTrue models → (blocks ≡ between (classify b x) first past) × FirstPiece b (classify b x) limit first past
+-- bytes x, it is the first piece of what begins there; the tail is raw where t says so.
+pub record WholePiece (models t : Bool) (x : List ℕ) (b n limit r first past chunks : ℕ) (old now : List ℕ) : Type 0
+  where
+    pub blocks : List Block
+    pub laid : LaidPiece b n r chunks (framed first blocks (n - past)) old now
+    pub held : AllByRecursion IsHeldBlock blocks
+    pub fits : weight b blocks ≤ limit
+    pub told : IsTrue models → (blocks ≡ between (raw_list t b x) first past)
+        × FirstPiece b (raw_list t b x) limit first past
 
 -- So is written what an outline says, from block `first` of these runs on: the next piece, within its limit where no
 -- raw run is cut, and whole where the limit is none.
-pub record OutlineLaid (models : Bool) (x : List ℕ) (runs : RawRuns) (limit r first : ℕ) (old new : List ℕ)
-    (o : Outline)
-    : Type 0 where
+pub record OutlineLaid (models t : Bool) (x : List ℕ) (runs : RawRuns) (limit r first : ℕ) (old new : List ℕ)
+    (o : Outline) : Type 0 where
   pub sound : IsUncut runs.size limit r
       → SoundOutline (λ c. RawPlace runs.blocks runs.size c) runs.blocks limit first o
   pub reached : 2 ^ 49 ≤ limit → o.piece.past ≡ runs.blocks
   pub next : RawPlace runs.blocks runs.size o.next
   pub written : o.piece.written ≡ o.piece.past - o.piece.first
   pub bytes : length new ≡ length old + o.piece.bytes
-  pub whole : WholePiece models x runs.size runs.blocks limit r first o.piece.past o.chunks old new
+  pub whole : WholePiece models t x runs.size runs.blocks limit r first o.piece.past o.chunks old new
   pub takes : IsUncut runs.size limit r → o.piece.bytes ≤ (o.piece.past - o.piece.first) * (runs.size + 16) + 80
 
 -- What that reads and costs. The source gives each byte once, and at most a window more; only words of the last block

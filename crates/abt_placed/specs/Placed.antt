@@ -1,16 +1,17 @@
 -- What a placer has written of the blocks that it has taken.
-use Rattle.std.specs.Prelude.{◌≡◌, ℕ, ◌+◌, List, ◌++◌, length, drop, map, replicate}
-use Rattle.abt_sparse.specs.Block.{Block, Skip, AreBlocks, class_of, split}
+use Rattle.std.specs.Prelude.{◌≡◌, ℕ, ◌+◌, List, ◌++◌, length, drop, replicate}
+use Rattle.abt_sparse.specs.Block.{Block, Skip, AreBlocks}
 use Rattle.abt_sparse.specs.Chunk.{chunks_of}
 use Rattle.abt_runs.specs.Part.{AllOf, raw_of}
+use Rattle.abt_runs.specs.Tail.{tailed}
 use Rattle.abt_runs.specs.declared.part.RunKind.{RunKind}
 use Rattle.abt_sparsify.specs.Sparsify.{bytes_of}
 use Rattle.abt_placed.specs.Placer.{kept_for, data_for}
 use Rattle.abt_placed.specs.declared.placer.Placer.{Placer}
 
--- the first n blocks of b bytes, by class
-abbrev pub classes : ℕ → ℕ → List ℕ → List Block
-classes b n x = map class_of (split b n x)
+-- the first n blocks of b bytes, of which the first p are by class, and the others raw
+abbrev pub classes : ℕ → ℕ → ℕ → List ℕ → List Block
+classes b p n x = tailed b n p x
 
 -- so many blocks that are skipped
 abbrev pub skips : ℕ → List Block

@@ -2,7 +2,7 @@
 use Rattle.std.specs.Prelude.{◌≡◌, ℕ, ◌+◌, ◌-◌, ◌*◌, ◌^◌, ◌≤◌, ◌<◌, Bool, true, false, IsTrue, List, [], ◌∷◌, ◌++◌}
 use Rattle.std.specs.Prelude.{drop, ⊤}
 use Rattle.std.specs.List.{AllByRecursion}
-use Rattle.abt_sparse.specs.Block.{Block, Raw, Fill, Skip, classify}
+use Rattle.abt_sparse.specs.Block.{Block, Raw, Fill, Skip}
 use Rattle.abt_sparse.specs.Runs.{weight}
 use Rattle.abt_sparse.specs.Gains.{Fresh, behind_all}
 use Rattle.abt_runs.specs.declared.part.RunKind.{RunKind}
@@ -15,12 +15,12 @@ use Rattle.abt_placed.specs.Placed.{Placed, skips}
 use Rattle.abt_placed.specs.Whole.{taken}
 use Rattle.abt_placed.specs.declared.segment.Segment.{Segment}
 use Rattle.std.specs.Prelude.{◌%◌, length, Result, OnOk}
-use Rattle.abt_runs.specs.Part.{AllOf, is_end}
+use Rattle.abt_runs.specs.Part.{is_end}
+use Rattle.abt_runs.specs.Tail.{raw_list}
 use Rattle.abt_runs.specs.declared.raw.RawRuns.{RawRuns}
 use Rattle.abt_pieces.specs.Fault.{full_cut}
 use Rattle.abt_pieces.specs.Plan.{gain_of}
 use Rattle.abt_pieces.specs.declared.fault.PieceFault.{PieceFault}
-use Rattle.abt_placed.specs.Placed.{classes}
 use Rattle.abt_placed.specs.Calls.{LaysOn, Scene}
 use Rattle.abt_placed.specs.Whole.{read_of}
 use Rattle.abt_placed.specs.Unfinished.{KeepsFront}
@@ -78,11 +78,12 @@ pub record LaidSegment (b : ℕ) (g : List Block) (now : List ℕ) (s : Segment)
   pub tail : tail_of_open s.placer.kind ≡ tail_of (behind_all Fresh g)
   pub held : AllByRecursion IsHeldBlock g
 
--- some blocks are written so, and where the source models its content x they are those of x
-pub record ToldSegment (models : Bool) (x : List ℕ) (b : ℕ) (now : List ℕ) (s : Segment) : Type 0 where
+-- some blocks are written so, and where the source models its content x they are those of x, its tail raw where t
+-- says so
+pub record ToldSegment (models t : Bool) (x : List ℕ) (b : ℕ) (now : List ℕ) (s : Segment) : Type 0 where
   pub blocks : List Block
   pub laid : LaidSegment b blocks now s
-  pub told : IsTrue models → blocks ≡ between (classify b x) s.first (taken s.placer)
+  pub told : IsTrue models → blocks ≡ between (raw_list t b x) s.first (taken s.placer)
 
 -- not one block more of the rest would be within the limit
 abbrev pub OneMoreExceeds : ℕ → ℕ → List Block → List Block → Type 0
@@ -90,12 +91,12 @@ OneMoreExceeds limit b g rest = (x : Block) (more : List Block) → rest ≡ x �
 
 -- The segment goes no further: of n blocks all are taken, or one more would be beyond the limit, which then is one that
 -- an image can reach.
-pub record EndedSegment (models : Bool) (x : List ℕ) (b n : ℕ) (s : Segment) : Type 0 where
+pub record EndedSegment (models t : Bool) (x : List ℕ) (b n : ℕ) (s : Segment) : Type 0 where
   pub moves : taken s.placer < n → s.first < taken s.placer
   pub reached : taken s.placer < n → s.limit < 2 ^ 49
   pub over : IsTrue models
-      → OneMoreExceeds s.limit b (between (classify b x) s.first (taken s.placer))
-      (drop (taken s.placer) (classify b x))
+      → OneMoreExceeds s.limit b (between (raw_list t b x) s.first (taken s.placer))
+      (drop (taken s.placer) (raw_list t b x))
 
 -- ---- what a call asks for, and leaves
 
@@ -104,21 +105,21 @@ pub record IsWordSize (b : ℕ) : Type 0 where
   pub some : 4 ≤ b
   pub words : b % 4 ≡ 0
 
--- x are the bytes of n blocks of b bytes, all of this class, that can be taken at once
+-- x are the bytes of n blocks of b bytes, of a class that counts, that can be taken at once
 pub record PartBlocks (k : RunKind) (n b : ℕ) (x : List ℕ) : Type 0 where
   pub some : 0 < n
   pub goes : is_end k ≡ false
   pub bytes : length x ≡ n * b
   pub window : length x ≤ 65536
   pub words : 4 ≤ b
-  pub all : AllOf k (classes b n x)
+  pub held : is_fresh k ≡ false
 
 -- The blocks of a segment of these runs, whose source holds x, are taken so far, and are in the output.
-pub record ReadySegment (models : Bool) (x : List ℕ) (runs : RawRuns) (s : Segment) (now : List ℕ) : Type 0 where
+pub record ReadySegment (models t : Bool) (x : List ℕ) (runs : RawRuns) (s : Segment) (now : List ℕ) : Type 0 where
   pub sound : SoundSegment runs.size (length now) s
   pub within : taken s.placer ≤ runs.blocks
   pub opened : IsTrue models → runs.length ≡ length x
-  pub told : ToldSegment models x runs.size now s
+  pub told : ToldSegment models t x runs.size now s
 
 -- A segment goes on, by which up to n blocks are written in all. What was stored before its chunks stays; where no raw
 -- run is cut it stays within its limit, also where the output is full.
@@ -153,10 +154,10 @@ pub record SegmentReads {X E : Type 0} (r : Result X E) (runs : RawRuns) (s s' :
         ≤ given + read_of runs.length runs.size (taken s'.placer) + 65536)
 
 -- A segment takes blocks of its source, which is read for them: what it reports is written.
-pub record SegmentLays {X : Type 0} (r : Result X PieceFault) (models : Bool) (runs : RawRuns) (s s' : Segment)
+pub record SegmentLays {X : Type 0} (r : Result X PieceFault) (models t : Bool) (runs : RawRuns) (s s' : Segment)
     (old new : List ℕ) (a z : Scene) : Type 0 where
   pub lays : LaysOn r models a z
-  pub told : OnOk r (ToldSegment models a.content runs.size new s')
+  pub told : OnOk r (ToldSegment models t a.content runs.size new s')
   pub segment : SegmentGoes runs.size runs.blocks (full_cut r) r s s' old new
   pub inside : OnOk r (taken s'.placer ≤ runs.blocks)
   pub reads : SegmentReads r runs s s' a.given z.given

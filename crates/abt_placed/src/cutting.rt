@@ -21,9 +21,11 @@ use abt_pieces::{Cutter, CutterStage, Outline, Piece, PieceFault};
 use abt_runs::{Cursor, RawRuns};
 
 /// Writes the piece of what begins at a block, after what is stored in the output: no raw chunk has more than
-/// `most` blocks. A limit of `u64::MAX` is none, and the piece goes up to the last block.
+/// `most` blocks. A limit of `u64::MAX` is none, and the piece goes up to the last block. With `is_tail_raw` a block
+/// that is filled up is raw, whatever its bytes are.
 pub(crate) fn lay_piece<S: Source, O: Overwrite>(
     runs: &RawRuns,
+    is_tail_raw: bool,
     source: &mut S,
     first: u32,
     most: u32,
@@ -39,7 +41,7 @@ pub(crate) fn lay_piece<S: Source, O: Overwrite>(
     requires opened { IsTrue S.models → runs.now.length ≡ length (S.content source.old) }
     ensures lays { LaysOn result S.models (scene S.Source O.Output source.old output.old m.old)
         (scene S.Source O.Output source.new output.new m.new) }
-    ensures made { IfOk result (λ o. OutlineLaid S.models (S.content source.old) runs.now limit most first
+    ensures made { IfOk result (λ o. OutlineLaid S.models is_tail_raw (S.content source.old) runs.now limit most first
         (O.written output.old) (O.written output.new) o) }
     ensures before { take (length (O.written output.old)) (O.written output.new) ≡ O.written output.old }
     ensures unfinished { OnErr result ((O.written output.new ≡ O.written output.old) ⊎
@@ -57,7 +59,7 @@ pub(crate) fn lay_piece<S: Source, O: Overwrite>(
         Err(fault) => return Err(PieceFault::Write(fault)),
     }
     let mut segment = Segment::begin(front, first, most, limit);
-    match segment.take_source(runs, source, output, w, m) {
+    match segment.take_source(runs, is_tail_raw, source, output, w, m) {
         Ok(()) => {}
         Err(fault) => return Err(fault),
     }
@@ -146,6 +148,7 @@ pub fn next_piece_at<S: Source, O: Overwrite>(
     let most = most_raw(cutter.limit, cutter.runs.size);
     match lay_piece(
         &cutter.runs,
+        false,
         source,
         first,
         most,

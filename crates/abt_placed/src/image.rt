@@ -1,6 +1,6 @@
 //! Writes a raw image as a sparse image in one pass.
 ghost use Rattle.std.specs.Prelude.{◌≡◌, ◌<◌, ◌≤◌, ◌+◌, ◌*◌, ◌^◌, ◌++◌, IsTrue, IfOk, OnOk, length};
-ghost use Rattle.abt_sparse.specs.Block.{classify};
+ghost use Rattle.abt_runs.specs.Tail.{raw_list};
 ghost use Rattle.abt_sparse.specs.Chunk.{spelling, chunks_of};
 ghost use Rattle.abt_sparsify.specs.Sparsify.{WritesSparse};
 ghost use Rattle.abt_placed.specs.Calls.{OutputGrows};
@@ -17,11 +17,7 @@ use abt_sparsify::Written;
 ///
 /// It fails as `sparsify` does:
 ///
-/// - with `BadBlock` exactly where `block_size` is no multiple of 4 from 4 to 65,536;
-/// - otherwise with `TooLarge` exactly where there are more than 2^32 - 1 blocks; both come before anything is
-///   written;
-/// - with `Read` or `Write` only where that device has failed;
-/// - with `SourceChanged` only for a source that does not model its content.
+/// With `is_tail_raw` a block that is filled up with zeros is raw, whatever its bytes are.
 ///
 /// Each header is written after the data that it describes, and the magic number of the image last of all. So where
 /// the call does not return Ok, what follows the earlier bytes of the output is nothing, or no image, whatever comes
@@ -29,6 +25,7 @@ use abt_sparsify::Written;
 pub fn sparsify_at<S: Source, O: Overwrite>(
     source: &mut S,
     block_size: u32,
+    is_tail_raw: bool,
     most: u32,
     output: &mut O,
     w: &mut Window,
@@ -40,20 +37,20 @@ pub fn sparsify_at<S: Source, O: Overwrite>(
         m.new }
     ensures written { IfOk result (λ a. ImageWritten block_size (S.size source.old) a (O.written output.old)
         (O.written output.new)) }
-    ensures chunks { IsTrue S.models → IfOk result (λ a. (a.blocks
-        ≡ length (classify block_size (S.content source.old)))
-        × (a.chunks ≡ length (chunks_of most (classify block_size (S.content source.old))))) }
+    ensures chunks { IsTrue S.models → IfOk result (λ a.
+        (a.blocks ≡ length (raw_list is_tail_raw block_size (S.content source.old)))
+        × (a.chunks ≡ length (chunks_of most (raw_list is_tail_raw block_size (S.content source.old))))) }
     ensures grows { OutputGrows result (O.written output.old) (O.written output.new) }
     ensures whole { IsTrue S.models →
         OnOk result (O.written output.new ≡ O.written output.old ++ spelling block_size most
-        (classify block_size (S.content source.old))) }
+        (raw_list is_tail_raw block_size (S.content source.old))) }
     ensures takes { ReadsOnce (S.size source.old) result (S.given source.old) (S.given source.new) }
 {
     let runs = match RawRuns::open(source, block_size) {
         Ok(runs) => runs,
         Err(fault) => return Err(run_fault(fault)),
     };
-    match lay_piece(&runs, source, 0, most, u64::MAX, output, w, m) {
+    match lay_piece(&runs, is_tail_raw, source, 0, most, u64::MAX, output, w, m) {
         Ok(outline) => Ok(Written {
             blocks: runs.blocks,
             chunks: outline.chunks,

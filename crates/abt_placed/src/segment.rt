@@ -3,6 +3,7 @@ ghost use Rattle.std.specs.Prelude.{◌≡◌, ℕ, ◌<◌, ◌≤◌, ◌+◌,
 ghost use Rattle.std.specs.Prelude.{List, [], length, take, drop, replicate, true, false};
 ghost use Rattle.abt_io.specs.Count.{full_of};
 ghost use Rattle.abt_sparse.specs.Block.{Block};
+ghost use Rattle.abt_runs.specs.Part.{AllOf};
 ghost use Rattle.abt_sparse.specs.Runs.{framed};
 ghost use Rattle.abt_pieces.specs.Plan.{cap_of, gain_of};
 ghost use Rattle.abt_placed.specs.Placer.{room_of};
@@ -53,6 +54,19 @@ fn in_window(size: u32) -> u32
     ensures fits { result * size ≤ 65536 }
 {
     WINDOW as u32 / size
+}
+
+/// How many of n blocks are looked at together: all are classed, or none is.
+fn of_one_way(n: u32, classed: u32) -> u32
+    requires more { 0 < n }
+    ensures some { 0 < result }
+    ensures few { result ≤ n }
+    ensures within { 0 < classed → result ≤ classed }
+{
+    match classed {
+        0 => n,
+        _ => n.min(classed),
+    }
 }
 
 impl Segment {
@@ -142,8 +156,9 @@ impl Segment {
         requires can { CanGoOn size blocks (length (O.written output.old)) self.old }
         ensures segment { SegmentGoes size (taken self.old.placer + blocks) (full_of result) result self.old self.new
             (O.written output.old) (O.written output.new) }
-        ensures laid { (g : List Block) → LaidSegment size g (O.written output.old) self.old →
-            IfOk result (λ d. d ≡ false → LaidSegment size (g ++ classes size blocks bytes.now)
+        ensures laid { (g : List Block) (p : ℕ) → AllOf kind (classes size p blocks bytes.now) →
+            LaidSegment size g (O.written output.old) self.old →
+            IfOk result (λ d. d ≡ false → LaidSegment size (g ++ classes size p blocks bytes.now)
             (O.written output.new) self.new) }
         ensures passed { IfOk result (λ d. d ≡ false → taken self.new.placer ≡ taken self.old.placer + blocks) }
         ensures over { IfOk result (λ d. d ≡ true → PartOver size blocks kind self.old
@@ -162,11 +177,12 @@ impl Segment {
         Ok(false)
     }
 
-    /// Takes the first blocks of the window, as many as fit. True where not all do: then the segment
-    /// ends here.
+    /// Takes the first blocks of the window, as many as fit: the first of them by class, so many, and
+    /// the others raw. True where not all do: then the segment ends here.
     pub(crate) fn take_fitting<O: Overwrite>(
         &mut self,
         blocks: u32,
+        classed: u32,
         size: u32,
         output: &mut O,
         w: &Window,
@@ -179,16 +195,16 @@ impl Segment {
             (O.written output.old) (O.written output.new) }
         ensures laid { (g : List Block) → LaidSegment size g (O.written output.old) self.old →
             OnOk result (LaidSegment size
-            (g ++ classes size (taken self.new.placer - taken self.old.placer) w.now.bytes) (O.written output.new)
-            self.new) }
+            (g ++ classes size classed (taken self.new.placer - taken self.old.placer) w.now.bytes)
+            (O.written output.new) self.new) }
         ensures order { OnOk result (taken self.old.placer ≤ taken self.new.placer) }
         ensures all { IfOk result (λ d. d ≡ false → taken self.new.placer ≡ taken self.old.placer + blocks) }
         ensures short { IfOk result (λ d. d ≡ true → taken self.new.placer < taken self.old.placer + blocks) }
         ensures some { IfOk result (λ d. d ≡ true → self.old.first < taken self.new.placer) }
         ensures over { (g : List Block) → LaidSegment size g (O.written output.old) self.old →
             IfOk result (λ d. d ≡ true → OneMoreExceeds self.old.limit size
-            (g ++ classes size (taken self.new.placer - taken self.old.placer) w.now.bytes)
-            (drop (taken self.new.placer - taken self.old.placer) (classes size blocks w.now.bytes))) }
+            (g ++ classes size classed (taken self.new.placer - taken self.old.placer) w.now.bytes)
+            (drop (taken self.new.placer - taken self.old.placer) (classes size classed blocks w.now.bytes))) }
         ensures reached { IfOk result (λ d. d ≡ true → self.old.limit
             < 52 + (taken self.old.placer + blocks) * (size + 16)) }
         // So much for each block that is looked at, also for one that is filled up with zeros.
@@ -198,10 +214,12 @@ impl Segment {
         let mut done = 0u32;
         while done < blocks {
             m.tick();
-            let cap = self.cap(size).min(blocks - done);
+            let whole = classed.saturating_sub(done);
+            let most = self.cap(size).min(blocks - done);
+            let cap = of_one_way(most, whole);
             let from = done as usize * size as usize;
             let to = from + cap as usize * size as usize;
-            let (kind, n) = leading(w.part(from, to), size as usize, cap, m);
+            let (kind, n) = leading(w.part(from, to), size as usize, cap, whole > 0, m);
             let past = from + n as usize * size as usize;
             match self.take_part(kind, n, w.part(from, past), size, output, m) {
                 Ok(ended) => {
@@ -220,17 +238,19 @@ impl Segment {
     fn step<S: Source, O: Overwrite>(
         &mut self,
         runs: &RawRuns,
+        is_tail_raw: bool,
         source: &mut S,
         output: &mut O,
         w: &mut Window,
         m: &mut Meter,
     ) -> Result<bool, PieceFault>
-        requires ready { ReadySegment S.models (S.content source.old) runs.now self.old (O.written output.old) }
-        ensures lays { SegmentLays result S.models runs.now self.old self.new (O.written output.old)
+        requires ready { ReadySegment S.models is_tail_raw (S.content source.old) runs.now self.old
+            (O.written output.old) }
+        ensures lays { SegmentLays result S.models is_tail_raw runs.now self.old self.new (O.written output.old)
             (O.written output.new) (scene S.Source O.Output source.old output.old m.old)
             (scene S.Source O.Output source.new output.new m.new) }
-        ensures ended { IfOk result (λ d. d ≡ true → EndedSegment S.models (S.content source.old) runs.now.size
-            runs.now.blocks self.new) }
+        ensures ended { IfOk result (λ d. d ≡ true → EndedSegment S.models is_tail_raw (S.content source.old)
+            runs.now.size runs.now.blocks self.new) }
         ensures on { IfOk result (λ d. d ≡ false → taken self.old.placer < taken self.new.placer) }
         ensures once { IfOk result (λ d. d ≡ false → S.given source.new + read_of runs.now.length runs.now.size
             (taken self.old.placer) ≡ S.given source.old + read_of runs.now.length runs.now.size
@@ -271,7 +291,8 @@ impl Segment {
         if let Some(fault) = loaded.fault {
             return Err(run_fault(fault));
         }
-        match self.take_fitting(asked, runs.size, output, w, m) {
+        let classed = runs.classed(is_tail_raw).saturating_sub(from);
+        match self.take_fitting(asked, classed, runs.size, output, w, m) {
             Ok(ended) => Ok(ended),
             Err(fault) => Err(PieceFault::Write(fault)),
         }
@@ -281,17 +302,19 @@ impl Segment {
     pub(crate) fn take_source<S: Source, O: Overwrite>(
         &mut self,
         runs: &RawRuns,
+        is_tail_raw: bool,
         source: &mut S,
         output: &mut O,
         w: &mut Window,
         m: &mut Meter,
     ) -> Result<(), PieceFault>
-        requires ready { ReadySegment S.models (S.content source.old) runs.now self.old (O.written output.old) }
-        ensures lays { SegmentLays result S.models runs.now self.old self.new (O.written output.old)
+        requires ready { ReadySegment S.models is_tail_raw (S.content source.old) runs.now self.old
+            (O.written output.old) }
+        ensures lays { SegmentLays result S.models is_tail_raw runs.now self.old self.new (O.written output.old)
             (O.written output.new) (scene S.Source O.Output source.old output.old m.old)
             (scene S.Source O.Output source.new output.new m.new) }
-        ensures ended { OnOk result (EndedSegment S.models (S.content source.old) runs.now.size runs.now.blocks
-            self.new) }
+        ensures ended { OnOk result (EndedSegment S.models is_tail_raw (S.content source.old) runs.now.size
+            runs.now.blocks self.new) }
         ensures calls { S.reads source.new + O.writes output.new + length (O.written output.old)
             ≤ S.reads source.old + O.writes output.old + length (O.written output.new) + 6
             * (S.given source.new - S.given source.old) + 14 }
@@ -300,7 +323,7 @@ impl Segment {
             + runs.now.size + 14 }
     {
         loop {
-            match self.step(runs, source, output, w, m) {
+            match self.step(runs, is_tail_raw, source, output, w, m) {
                 Ok(ended) => {
                     if ended {
                         return Ok(());

@@ -1,7 +1,8 @@
 //! Takes blocks, class by class, as they are in the window.
-ghost use Rattle.std.specs.Prelude.{◌≡◌, ◌≤◌, ◌+◌, ◌*◌, ◌++◌, OnOk, List, length};
+ghost use Rattle.std.specs.Prelude.{◌≡◌, ℕ, ◌≤◌, ◌+◌, ◌*◌, ◌++◌, OnOk, List, length};
 ghost use Rattle.abt_io.specs.Count.{full_of};
 ghost use Rattle.abt_sparse.specs.Block.{Block};
+ghost use Rattle.abt_runs.specs.Part.{AllOf};
 ghost use Rattle.abt_placed.specs.Placer.{CanClose, CanTake, open_len, beginning, kept_for};
 ghost use Rattle.abt_placed.specs.Placer.{data_for, with_part, room_of, closing_len, beginning_len, taking_len};
 ghost use Rattle.abt_placed.specs.Placed.{Placed, classes, skips};
@@ -60,8 +61,9 @@ impl Placer {
         requires cap { blocks ≤ room_of self.old }
         ensures ok { OnOk result (self.new ≡ with_part self.old kind blocks) }
         ensures goes { PlacerGoes size blocks 14 result self.old self.new O.Output output.old output.new m.old m.new }
-        ensures laid { (g : List Block) → Placed size g (O.written output.old) self.old →
-            OnOk result (Placed size (g ++ classes size blocks bytes.now) (O.written output.new) self.new) }
+        ensures laid { (g : List Block) (p : ℕ) → AllOf kind (classes size p blocks bytes.now) →
+            Placed size g (O.written output.old) self.old →
+            OnOk result (Placed size (g ++ classes size p blocks bytes.now) (O.written output.new) self.new) }
         ensures adds { length (O.written output.new) + full_of result
             ≤ length (O.written output.old) + taking_len self.old kind blocks size }
     {

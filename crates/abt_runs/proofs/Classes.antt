@@ -1,16 +1,15 @@
 -- The classes of adjacent blocks.
 use Rattle.std.proofs.Common.{◌≡◌, ℕ, zero, suc, ◌+◌, ◌-◌, ◌*◌, ◌/◌, ◌≤◌, Bool, false, List, [], ◌∷◌, ◌++◌, length}
 use Rattle.std.proofs.Common.{take, drop, map, replicate, refl, sym, ap, ◌∙◌, arith, inl, inr, bytes_eq, Option, Some}
-use Rattle.std.proofs.Common.{None, min, IsTrue, subst, length-drop, append-nil, nat_le, leb-true, leb-false}
-use Rattle.std.proofs.Common.{mul-le-mul_right}
+use Rattle.std.proofs.Common.{None, min, IsTrue, append-nil, nat_le, leb-true, leb-false}
 use Rattle.std.specs.Prelude.{IfNone, is_some}
 use Rattle.abt_runs.specs.declared.part.RunFault.{RunFault}
 use Rattle.std.specs.List.{list_all, AllByRecursion}
 use Rattle.std.proofs.lemmas.Bool.{cases_Bool}
-use Rattle.std.proofs.lemmas.List.{drop-drop, take_all, take-append-le, drop-append-le, take-map, drop-map}
+use Rattle.std.proofs.lemmas.List.{drop-drop, take_all, take-append-le}
 use Rattle.std.proofs.lemmas.List.{take-replicate}
 use Rattle.std.proofs.Math.Seq.{take-append-add}
-use Rattle.abt_sparse.specs.Block.{Block, Fill, Skip, split, class_of, classify, block_count}
+use Rattle.abt_sparse.specs.Block.{Block, Fill, Skip, split, class_of}
 use Rattle.abt_runs.specs.Words.{word_of, kind_of_word}
 use Rattle.abt_runs.specs.Part.{AllOf, IsRaw, is_end}
 use Rattle.abt_runs.specs.declared.part.RunKind.{RunKind}
@@ -86,21 +85,6 @@ leading_on b n at bytes o e go h same =
 
 -- ---- blocks of the image
 
-drop-split : (b i n : ℕ) (y : List ℕ) → i ≤ n → drop i (split b n y) ≡ split b (n - i) (drop (i * b) y)
-drop-split b zero n y le = ap (λ (k : ℕ). split b n (drop k y)) (let z : 0 ≡ 0 * b = omega arith in z) ∙ ap
-    (λ (k : ℕ). split b k (drop (0 * b) y)) (let z : n ≡ n - 0 = omega arith in z)
-drop-split b (suc i) zero y le = absurd (omega arith)
-drop-split b (suc i) (suc n) y le =
-    drop-split b i n (drop b y) (omega arith)
-    ∙ ap (λ (k : ℕ). split b k (drop (i * b) (drop b y))) (let z : n - i ≡ suc n - suc i = omega arith in z)
-    ∙ ap (λ (l : List ℕ). split b (suc n - suc i) l) (drop-drop (i * b) b y ∙ ap (λ (k : ℕ). drop k y)
-    (let z : b + i * b ≡ suc i * b = omega arith in z))
-
-pub take-split : (b q n : ℕ) (y : List ℕ) → q ≤ n → take q (split b n y) ≡ split b q y
-take-split b zero n y le = refl
-take-split b (suc q) zero y le = absurd (omega arith)
-take-split b (suc q) (suc n) y le = ap (λ (l : List (List ℕ)). take b y ∷ l) (take-split b q n (drop b y) (omega arith))
-
 pub drop-take' : (i k : ℕ) (y : List ℕ) → i ≤ k → drop i (take k y) ≡ take (k - i) (drop i y)
 drop-take' zero k y le = ap (λ (j : ℕ). take j y) (let z : k ≡ k - 0 = omega arith in z)
 drop-take' (suc i) zero y le = absurd (omega arith)
@@ -108,31 +92,9 @@ drop-take' (suc i) (suc k) [] le = sym (take_all (suc k - suc i) [] (omega arith
 drop-take' (suc i) (suc k) (x ∷ y) le = drop-take' i k y (omega arith) ∙ ap (λ (j : ℕ). take j (drop i y))
     (let z : k - i ≡ suc k - suc i = omega arith in z)
 
-pub split-front : (b q k : ℕ) (y : List ℕ) → q * b ≤ k → split b q (take k y) ≡ split b q y
-split-front b zero k y le = refl
-split-front b (suc q) k y le =
-    let one : take b (take k y) ≡ take b y = take-take b k y (omega arith) in
-    let rest : drop b (take k y) ≡ take (k - b) (drop b y) = drop-take' b k y (omega arith) in
-    ap (λ (l : List ℕ). l ∷ split b q (drop b (take k y))) one
-    ∙ ap (λ (l : List (List ℕ)). take b y ∷ l) (ap (λ (l : List ℕ). split b q l) rest ∙ split-front b q (k - b)
-    (drop b y) (omega arith))
-  where
-    take-take : (i k : ℕ) (y : List ℕ) → i ≤ k → take i (take k y) ≡ take i y
-    take-take zero k y le = refl
-    take-take (suc i) zero y le = absurd (omega arith)
-    take-take (suc i) (suc k) [] le = refl
-    take-take (suc i) (suc k) (x ∷ y) le = ap (λ (l : List ℕ). x ∷ l) (take-take i k y (omega arith))
-
-pub take_drop_classes : (b i q n : ℕ) (y : List ℕ) → i + q ≤ n → take q (drop i (classes b n y)) ≡ classes b q
-    (drop (i * b) y)
-take_drop_classes b i q n y le =
-    ap (λ (l : List Block). take q l) (drop-map class_of i (split b n y) ∙ ap (λ (l : List (List ℕ)). map class_of l)
-    (drop-split b i n y (omega arith)))
-    ∙ take-map class_of q (split b (n - i) (drop (i * b) y))
-    ∙ ap (λ (l : List (List ℕ)). map class_of l) (take-split b q (n - i) (drop (i * b) y) (omega arith))
-
 -- bytes with zeros after them
-padded : (k m want : ℕ) (y : List ℕ) → want ≡ min k (length y) → k ≤ length y + m → take want y ++ replicate (k - want)
+pub padded : (k m want : ℕ) (y : List ℕ) → want ≡ min k (length y) → k ≤ length y + m → take want y
+    ++ replicate (k - want)
     0 ≡ take k (y ++ replicate m 0)
 padded k m want y e le = elim (cases_Bool (nat_le k (length y))) [
   | inl h ↦
@@ -150,37 +112,6 @@ padded k m want y e le = elim (cases_Bool (nat_le k (length y))) [
       ∙ sym (take-append-add y (replicate m 0) (k - length y))
       ∙ ap (λ (j : ℕ). take j (y ++ replicate m 0)) (sym long))
 ]
-
--- The classes of blocks of a raw image, from the bytes that were read of it.
-pub raw_part : (b i q n blocks want : ℕ) (x : List ℕ) → block_count b x ≡ blocks → i + n ≤ blocks → q ≤ n → i * b ≤
-    length x → length x ≤ blocks * b → want ≡ min (n * b) (length x - i * b)
-    → take q (drop i (classify b x)) ≡ classes b q (take want (drop (i * b) x) ++ replicate (n * b - want) 0)
-raw_part b i q n blocks want x count within less at covers e =
-    let total : b * block_count b x ≡ blocks * b = rw count (omega arith) in
-    let zeros = replicate (b * block_count b x - length x) 0 in
-    let lessb : q * b ≤ n * b = mul-le-mul_right b less in
-    let room : (i + n) * b ≤ blocks * b = mul-le-mul_right b within in
-    let rest : drop (i * b) (x ++ zeros) ≡ drop (i * b) x ++ zeros = drop-append-le (i * b) x zeros at in
-    let fill : take want (drop (i * b) x) ++ replicate (n * b - want) 0 ≡ take (n * b) (drop (i * b) x ++ zeros) =
-    padded (n * b) (b * block_count b x - length x) want (drop (i * b) x)
-    (e ∙ ap (λ (k : ℕ). min (n * b) k) (sym (length-drop (i * b) x))) (omega (arith, length-drop (i * b) x)) in
-    take_drop_classes b i q (block_count b x) (x ++ zeros) (omega arith)
-    ∙ ap (λ (l : List ℕ). classes b q l) rest
-    ∙ ap (λ (l : List (List ℕ)). map class_of l) (sym (split-front b q (n * b) (drop (i * b) x ++ zeros) lessb))
-    ∙ ap (λ (l : List ℕ). classes b q l) (sym fill)
-
-pub raw_all : (k : RunKind) (b i q n blocks want at room : ℕ) (x window : List ℕ) → block_count b x ≡ blocks → i + n ≤
-    blocks → q ≤ n → at ≡ i * b → at ≤ length x → length x ≤ blocks * b → room ≡ n * b → want ≡ min (length x - at) room
-    → window ≡ take want (drop at x) ++ replicate (room - want) 0 → AllOf k (classes b q window) → AllOf k
-    (take q (drop i (classify b x)))
-raw_all k b i q n blocks want at room x window count within less place there covers wide e read h =
-    let w : want ≡ min (n * b) (length x - i * b) = omega arith in
-    let le : i * b ≤ length x = omega arith in
-    let p = raw_part b i q n blocks want x count within less le covers w in
-    let same : window ≡ take want (drop (i * b) x) ++ replicate (n * b - want) 0 = read ∙ ap
-    (λ (j : ℕ). take want (drop j x) ++ replicate (room - want) 0) place ∙ ap
-    (λ (j : ℕ). take want (drop (i * b) x) ++ replicate (j - want) 0) wide in
-    subst (λ (l : List Block). AllOf k l) (ap (λ (l : List ℕ). classes b q l) same ∙ sym p) h
 
 pub never : (b : Bool) (n m : ℕ) → b ≡ false → IsTrue b → n ≡ m
 never b n m e h = absurd cc

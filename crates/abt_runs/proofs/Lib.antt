@@ -9,3 +9,5 @@ pub mod Opened
 pub mod Chunked
 pub mod Passing
 pub mod Ordered
+pub mod Tailed
+pub mod RawParts

@@ -1,6 +1,7 @@
 -- What is known of a part or a run that was found, and the costs of finding and copying.
 use Rattle.std.specs.Prelude.{◌≡◌, ℕ, ◌+◌, ◌-◌, ◌*◌, ◌≤◌, ◌<◌, ◌↔◌, Bool, true, false, IsTrue, List, max, min, Result}
 use Rattle.std.specs.Prelude.{IfOk, IfErr}
+use Rattle.abt_io.specs.Count.{count_of}
 use Rattle.abt_io.specs.Lent.{OnlyReads, OneStep}
 use Rattle.abt_io.specs.declared.device.Source as sources
 use Rattle.abt_io.specs.declared.meter.Meter.{Meter}
@@ -91,6 +92,13 @@ pub record CopyCosts (held : ℕ → ℕ) (at n c g c' g' : ℕ) (m m' : Meter) 
   pub calls : c' ≤ c + 1
   pub turns : m'.turns.number ≡ m.turns.number
   pub one_step : OneStep (g' - g) m m'
+
+-- What copying to `long` bytes gives, of whatever source, and what that costs.
+pub record CopiesBytes (r : Result ℕ RunFault) (held : ℕ → ℕ) (at long c g c' g' : ℕ) (m m' : Meter) : Type 0 where
+  pub within : count_of r ≤ long
+  pub some : IfOk r (λ n. 0 < long → 0 < n)
+  pub few : IfOk r (λ n. n ≤ 80 + (g' - g))
+  pub costs : CopyCosts held at (count_of r) c g c' g' m m'
 
 -- Of whatever source: the run r was found from a place on, and what was read is counted against what it passes.
 pub record FoundRun (W : Cursor → Type 0) (size count one : ℕ) (charge reach : Cursor → ℕ) (from : Cursor)

@@ -12,3 +12,5 @@ pub mod Stage
 pub mod Verdict
 pub mod Advance
 pub mod SparseLaws
+pub mod Tail
+pub mod TailLaws

@@ -43,7 +43,7 @@ raw_long len blocks size x some covers last e =
     (size * block_count size x) x)) class_of ∙ length-split size (block_count size x)
     (filled_to (size * block_count size x) x) ∙ raw_count len blocks size x some covers last e
 
-class_is_block : (b : ℕ) (bytes : List ℕ) → 4 ≤ b → length bytes ≡ b → IsBlock b (class_of bytes)
+pub class_is_block : (b : ℕ) (bytes : List ℕ) → 4 ≤ b → length bytes ≡ b → IsBlock b (class_of bytes)
 class_is_block b bytes some e =
     elim (cases_Bool (list_all (bytes_eq (take 4 bytes)) (split 4 (length bytes / 4) bytes))) [
       | inl h ↦ rw h (length-take-le 4 bytes (omega arith))

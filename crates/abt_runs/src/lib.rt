@@ -19,6 +19,7 @@
 //! | `runs.rt`, `whole.rt` | the trait `BlockRuns` with its laws, and `next_run`, which joins parts to runs |
 //! | `words.rt`, `reading.rt` | `equal_word`, by lanes; bytes of the source loaded into the window |
 //! | `raw.rt`, `head.rt` | `RawRuns`, a raw image; the header of a chunk |
+//! | `tail.rt` | `TailRuns`, a raw image whose last block may be raw, whatever its bytes are |
 //! | `stage.rt`, `opening_state.rt`, `opening_steps.rt` | `Opening`: goes through all chunk headers, in steps |
 //! | `sparse.rt`, `sparse_open.rt`, `sparse_parts.rt` | `SparseRuns`, a sparse image |
 //!
@@ -37,6 +38,7 @@ mod sparse;
 mod sparse_open;
 mod sparse_parts;
 mod stage;
+mod tail;
 mod whole;
 mod words;
 
@@ -47,5 +49,6 @@ pub use reading::Loaded;
 pub use runs::BlockRuns;
 pub use sparse::SparseRuns;
 pub use stage::{OpeningProgress, OpeningStage};
+pub use tail::TailRuns;
 pub use whole::are_alike;
 pub use words::equal_word;

@@ -1,10 +1,12 @@
 //! A raw image as classified blocks. A block whose words are all equal is fill; every other block is raw.
 ghost use Rattle.std.specs.Prelude.{◌≡◌, ◌<◌, ◌≤◌, ◌+◌, ◌-◌, ◌*◌, ◌/◌, ◌%◌, ◌^◌, ◌++◌, IsTrue, false, IfOk, IfErr};
 ghost use Rattle.std.specs.Prelude.{IfNone, length, take, drop, map, replicate, slice_range};
-ghost use Rattle.abt_sparse.specs.Block.{split, class_of, classify};
+ghost use Rattle.abt_sparse.specs.Block.{split, class_of, classify, filled_to};
 ghost use Rattle.abt_io.specs.Lent.{NoStep};
 ghost use Rattle.abt_runs.specs.Part.{AllOf, is_end, next_ask};
+ghost use Rattle.abt_runs.specs.Found.{Asked, CopiesBytes, ReadsImage};
 ghost use Rattle.abt_runs.specs.Loads.{AsksBytes, LoadsWanted};
+ghost use Rattle.abt_runs.specs.Tail.{AsksRawPart, FindsRawPart, classed_count};
 ghost use Rattle.abt_runs.specs.Words.{kind_of_word};
 ghost use Rattle.abt_runs.specs.Raw.{RawPlace, RawPlace-prop, raw_charge, raw_padding, raw_before, raw_held};
 ghost use Rattle.abt_runs.specs.Raw.{RefusedRaw};
@@ -48,8 +50,14 @@ fn kind_of(word: &Option<[u8; 4]>) -> RunKind
     }
 }
 
-/// What the first of these n blocks are, and how many of them are alike.
-pub fn leading(blocks: &[u8], size: usize, n: u32, m: &mut Meter) -> (RunKind, u32)
+/// What the first of these n blocks are, and how many of them are alike: all are raw where they are not classed.
+pub fn leading(
+    blocks: &[u8],
+    size: usize,
+    n: u32,
+    is_classed: bool,
+    m: &mut Meter,
+) -> (RunKind, u32)
     requires some { 4 ≤ size }
     requires words { size % 4 ≡ 0 }
     requires first { 0 < n }
@@ -58,11 +66,15 @@ pub fn leading(blocks: &[u8], size: usize, n: u32, m: &mut Meter) -> (RunKind, u
     ensures some { 0 < result.1 }
     ensures within { result.1 ≤ n }
     ensures goes { is_end result.0 ≡ false }
-    ensures all { AllOf result.0 (map class_of (split size result.1 blocks.now)) }
+    ensures all { IsTrue is_classed → AllOf result.0 (map class_of (split size result.1 blocks.now)) }
+    ensures raw { is_classed ≡ false → result.0 ≡ RunKind.Raw }
     ensures turns { 2 * m.new.turns.number + size / 2 ≤ 2 * m.old.turns.number + length blocks.now }
     ensures looked { 4 * m.new.turns.number ≤ 4 * m.old.turns.number + (result.1 + 1) * (size + 4) }
     ensures no_step { NoStep m.old m.new }
 {
+    if !is_classed {
+        return (RunKind::Raw, n);
+    }
     let word = equal_word(&blocks[..size]);
     tick_words(size / 4, m);
     let kind = kind_of(&word);
@@ -153,17 +165,37 @@ impl RawRuns {
         block as u64 * self.size as u64
     }
 
-    /// How many blocks are asked for at this place.
-    fn asked(&self, from: Cursor, cap: u32) -> u32
+    /// How many blocks are classed, by their words; those behind them are raw.
+    #[tactic(auto, using(crate::proofs::Tailed::few_whole))]
+    pub fn classed(&self, is_tail_raw: bool) -> u32
+        ensures is { result ≡ classed_count is_tail_raw self.now.size self.now.length self.now.blocks }
+        ensures within { result ≤ self.now.blocks }
+    {
+        if is_tail_raw {
+            (self.length / self.size as u64) as u32
+        } else {
+            self.blocks
+        }
+    }
+
+    /// How many blocks are asked for at this place, where so many are classed: all of them, or none.
+    fn asked(&self, from: Cursor, cap: u32, classed: u32) -> u32
         requires some { 0 < cap }
         requires there { from.block < self.now.blocks }
         requires ask { 0 < from.ask }
+        requires classed { classed ≤ self.now.blocks }
         ensures some { 0 < result }
         ensures capped { result ≤ cap }
         ensures within { from.block + result ≤ self.now.blocks }
         ensures ask { result ≤ from.ask }
+        ensures classed { from.block < classed → from.block + result ≤ classed }
     {
-        from.ask.min(cap).min(self.blocks - from.block)
+        let past = if from.block < classed {
+            classed
+        } else {
+            self.blocks
+        };
+        from.ask.min(cap).min(past - from.block)
     }
 
     /// The place after so many blocks, of those that were asked for.
@@ -190,6 +222,106 @@ impl RawRuns {
             chunk: from.chunk,
             used: from.used,
             ask,
+        }
+    }
+
+    /// The part that begins at a place, as `next_part` says, where the tail may be raw.
+    pub(crate) fn part_from<S: Source>(
+        &self,
+        is_tail_raw: bool,
+        source: &mut S,
+        from: Cursor,
+        cap: u32,
+        w: &mut Window,
+        m: &mut Meter,
+    ) -> Result<Run, RunFault>
+        requires asks { AsksRawPart self.now.length self.now.blocks self.now.size S.models (S.content source.old) from
+            cap }
+        ensures part { FindsRawPart is_tail_raw self.now.length self.now.blocks self.now.size result S.Source source.old
+            source.new from cap m.old m.new }
+        ensures asked { IfOk result (λ r. Asked (S.size source.old) self.now.length (S.given source.old)
+            (S.given source.new) r) }
+        ensures most { S.given source.new ≤ S.given source.old + 16 + cap * self.now.size }
+    {
+        if from.block == self.blocks {
+            m.close_step(0);
+            return Ok(Run {
+                kind: RunKind::End,
+                blocks: 0,
+                here: from,
+                next: from,
+            });
+        }
+        if source.length() != self.length {
+            m.close_step(0);
+            return Err(RunFault::SourceChanged);
+        }
+        let classed = self.classed(is_tail_raw);
+        let asked = self.asked(from, cap, classed);
+        let at = self.place_of(from.block);
+        let room = asked as usize * self.size as usize;
+        let want = (self.length - at).min(room as u64) as usize;
+        let loaded = load_filled(source, at, want, room, w, m);
+        if let Some(fault) = loaded.fault {
+            m.close_step(loaded.received);
+            return Err(fault);
+        }
+        let (kind, blocks) = leading(
+            w.part(0, room),
+            self.size as usize,
+            asked,
+            from.block < classed,
+            m,
+        );
+        m.close_step(loaded.received);
+        Ok(Run {
+            kind,
+            blocks,
+            here: Cursor { ask: 1, ..from },
+            next: self.after(from, asked, blocks),
+        })
+    }
+
+    /// Bytes of the image filled up, as `copy` says.
+    pub(crate) fn copy_from<S: Source>(
+        &self,
+        source: &mut S,
+        here: Cursor,
+        at: u64,
+        out: &mut [u8],
+        m: &mut Meter,
+    ) -> Result<usize, RunFault>
+        requires out { length out.old ≤ 65536 }
+        requires place { RawPlace self.now.blocks self.now.size here }
+        requires reach { at + length out.old ≤ (self.now.blocks - here.block) * self.now.size }
+        requires opened { IsTrue S.models → self.now.length ≡ length (S.content source.old) }
+        ensures source { ReadsImage result S.Source source.old source.new }
+        ensures bytes { IsTrue S.models → IfOk result (λ n. take n out.new
+            ≡ take n (drop (here.block * self.now.size + at) (filled_to (self.now.blocks * self.now.size)
+            (S.content source.old)))) }
+        ensures copies { CopiesBytes result (λ n. raw_held self.now.length self.now.size here n) at (length out.new)
+            (S.reads source.old) (S.given source.old) (S.reads source.new) (S.given source.new) m.old m.new }
+    {
+        let pos = here.block as u64 * self.size as u64 + at;
+        if pos >= self.length {
+            let zeros = out.len().min(MOST_ZEROS);
+            out[..zeros].fill(0);
+            m.close_step(0);
+            return Ok(zeros);
+        }
+        let room = (self.length - pos).min(out.len() as u64) as usize;
+        match source.read_at(pos, &mut out[..room]) {
+            Ok(n) => {
+                m.close_step(n as u32);
+                if n == 0 && room > 0 {
+                    return Err(RunFault::SourceChanged);
+                }
+                Ok(n)
+            }
+            Err(fault) => {
+                m.close_step(0);
+                Err(RunFault::Read(fault))
+            }
         }
     }
 }
@@ -295,36 +427,7 @@ impl BlockRuns for RawRuns {
         w: &mut Window,
         m: &mut Meter,
     ) -> Result<Run, RunFault> {
-        if from.block == self.blocks {
-            m.close_step(0);
-            return Ok(Run {
-                kind: RunKind::End,
-                blocks: 0,
-                here: from,
-                next: from,
-            });
-        }
-        if source.length() != self.length {
-            m.close_step(0);
-            return Err(RunFault::SourceChanged);
-        }
-        let asked = self.asked(from, cap);
-        let at = self.place_of(from.block);
-        let room = asked as usize * self.size as usize;
-        let want = (self.length - at).min(room as u64) as usize;
-        let loaded = load_filled(source, at, want, room, w, m);
-        if let Some(fault) = loaded.fault {
-            m.close_step(loaded.received);
-            return Err(fault);
-        }
-        let (kind, blocks) = leading(w.part(0, room), self.size as usize, asked, m);
-        m.close_step(loaded.received);
-        Ok(Run {
-            kind,
-            blocks,
-            here: Cursor { ask: 1, ..from },
-            next: self.after(from, asked, blocks),
-        })
+        self.part_from(false, source, from, cap, w, m)
     }
 
     fn next_raw<S: Source>(
@@ -356,26 +459,6 @@ impl BlockRuns for RawRuns {
         out: &mut [u8],
         m: &mut Meter,
     ) -> Result<usize, RunFault> {
-        let pos = here.block as u64 * self.size as u64 + at;
-        if pos >= self.length {
-            let zeros = out.len().min(MOST_ZEROS);
-            out[..zeros].fill(0);
-            m.close_step(0);
-            return Ok(zeros);
-        }
-        let room = (self.length - pos).min(out.len() as u64) as usize;
-        match source.read_at(pos, &mut out[..room]) {
-            Ok(n) => {
-                m.close_step(n as u32);
-                if n == 0 && room > 0 {
-                    return Err(RunFault::SourceChanged);
-                }
-                Ok(n)
-            }
-            Err(fault) => {
-                m.close_step(0);
-                Err(RunFault::Read(fault))
-            }
-        }
+        self.copy_from(source, here, at, out, m)
     }
 }

@@ -6,10 +6,11 @@ use Rattle.std.proofs.Common.{false}
 use Rattle.std.proofs.lemmas.Bool.{cases_Bool, ltb-true, ltb-false}
 use Rattle.std.proofs.lemmas.List.{take_all}
 use Rattle.std.proofs.Math.ListN.{drop_of_length-le}
-use Rattle.abt_sparse.specs.Block.{Block, Skip, AreBlocks, classify}
+use Rattle.abt_sparse.specs.Block.{Block, Skip, AreBlocks}
 use Rattle.abt_sparse.specs.Chunk.{chunks_of, spelling, header_record, plain_header}
 use Rattle.abt_runs.specs.Raw.{RawPlace, RefusedRaw, raw_charge, raw_before, raw_held}
-use Rattle.abt_runs.specs.RawLaws.{raw_long as raw_count, raw_are_blocks as raw_are}
+use Rattle.abt_runs.specs.Tail.{raw_list}
+use Rattle.abt_runs.specs.TailLaws.{list_long, list_are_blocks}
 use Rattle.abt_runs.specs.declared.part.Cursor.{Cursor}
 use Rattle.abt_runs.specs.declared.part.Run.{Run}
 use Rattle.abt_runs.specs.declared.part.RunKind.{RunKind}
@@ -184,12 +185,12 @@ sound_count_still b g h a low high grows c =
     record { chunks = rw same c.chunks; least = c.least; bytes = rw same c.bytes }
 
 -- of an opened raw image
-pub raw_blocks : (blocks size len : ℕ) (x : List ℕ) → 4 ≤ size → len ≤ blocks * size → blocks * size < len + size → len
-    ≡ length x → (blocks ≡ length (classify size x)) × AreBlocks size (classify size x)
-raw_blocks blocks size len x some covers last e = (
-  sym (raw_count len blocks size x some covers last e),
-  raw_are len
-      blocks size x some covers last e,
+pub raw_blocks : (t : Bool) (blocks size len : ℕ) (x : List ℕ) → 4 ≤ size → len ≤ blocks * size
+    → blocks * size < len + size → len ≡ length x
+    → (blocks ≡ length (raw_list t size x)) × AreBlocks size (raw_list t size x)
+raw_blocks t blocks size len x some covers last e = (
+  sym (list_long t len blocks size x some covers last e),
+  list_are_blocks t len blocks size x some covers last e,
 )
 
 -- ---- an image that is counted whole

@@ -1,13 +1,13 @@
 //! Counts the runs of a raw image in one pass. The header of a sparse image needs these numbers first.
 ghost use Rattle.std.specs.Prelude.{◌≡◌, ◌<◌, ◌≤◌, ◌+◌, ◌*◌, ◌^◌, IsTrue, IfOk, length};
-ghost use Rattle.abt_sparse.specs.Block.{classify};
+ghost use Rattle.abt_runs.specs.Tail.{raw_list};
 ghost use Rattle.abt_pieces.specs.Calls.{ReadsCut};
 ghost use Rattle.abt_pieces.specs.Write.{chunks_in};
 ghost use Rattle.abt_sparsify.specs.Sparsify.{with_run, no_runs, CountsOf, CountCosts};
 
 use abt_io::{Meter, Source, Window};
 use abt_pieces::{Gatherer, PieceFault, copied_len, head_len, run_fault};
-use abt_runs::{BlockRuns, RawRuns, Run, RunKind};
+use abt_runs::{BlockRuns, Run, RunKind, TailRuns};
 
 /// What a sparse image holds.
 #[derive(Clone, Copy, Debug, PartialEq, Eq, Drop)]
@@ -63,22 +63,24 @@ impl Written {
 /// Counts what the sparse image of a raw one will hold, its raw runs cut every `most` blocks.
 #[tactic(auto, using(crate::proofs::SparseSteps::granted))]
 pub fn count_runs<S: Source>(
-    runs: &RawRuns,
+    runs: &TailRuns,
     source: &mut S,
     most: u32,
     w: &mut Window,
     m: &mut Meter,
 ) -> Result<Written, PieceFault>
     requires some { 0 < most }
-    requires opened { IsTrue S.models → runs.now.length ≡ length (S.content source.old) }
+    requires opened { IsTrue S.models → runs.now.raw.length ≡ length (S.content source.old) }
     ensures source { ReadsCut result S.Source source.old source.new }
-    ensures blocks { IfOk result (λ a. a.blocks ≡ runs.now.blocks) }
+    ensures blocks { IfOk result (λ a. a.blocks ≡ runs.now.raw.blocks) }
     ensures counts { IsTrue S.models →
-        IfOk result (λ a. CountsOf most runs.now.size (classify runs.now.size (S.content source.old)) a) }
-    ensures bounded { IfOk result (λ a. (28 ≤ a.bytes) × (a.bytes ≤ 28 + runs.now.blocks * (runs.now.size + 16))) }
+        IfOk result (λ a. CountsOf most runs.now.raw.size
+        (raw_list runs.now.is_tail_raw runs.now.raw.size (S.content source.old)) a) }
+    ensures bounded { IfOk result (λ a. (28 ≤ a.bytes)
+        × (a.bytes ≤ 28 + runs.now.raw.blocks * (runs.now.raw.size + 16))) }
     ensures economy { IsTrue S.models →
-        IfOk result (λ a. S.given source.new ≤ S.given source.old + 2 * runs.now.length) }
-    ensures costs { CountCosts runs.now.size S.Source source.old source.new m.old m.new }
+        IfOk result (λ a. S.given source.new ≤ S.given source.old + 2 * runs.now.raw.length) }
+    ensures costs { CountCosts runs.now.raw.size S.Source source.old source.new m.old m.new }
 {
     let size = runs.block_size();
     let count = runs.blocks();

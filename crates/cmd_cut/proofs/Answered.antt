@@ -3,7 +3,7 @@ use Rattle.std.proofs.Common.{inl, inr, arith, ◌⊎◌, ◌+◌, ◌-◌, ◌*
 use Rattle.std.proofs.Common.{Option, Some, None, Bool, sym, ◌∙◌, ap, subst}
 use Rattle.std.specs.Prelude.{IsTrue, IfOk, OnOk, Result, Ok, Err}
 use Rattle.std.proofs.lemmas.Bool.{false≢true}
-use Rattle.abt_sparse.specs.Block.{classify}
+use Rattle.abt_runs.specs.Tail.{raw_list}
 use Rattle.abt_sparse.specs.Chunk.{chunks_of, spelling}
 use Rattle.abt_pieces.specs.declared.fault.PieceFault.{PieceFault}
 use Rattle.abt_pieces.specs.declared.fault.PieceFault.TheVariants as pieces
@@ -21,18 +21,18 @@ pub broken : (old new : List ℕ) → old ≡ [] → (new ≡ old) ⊎ IsNoImage
 broken old new empty (inl same) = inl (subst (λ l. length l < 4) (sym (same ∙ empty)) (omega arith))
 broken old new empty (inr none) = inr (subst (λ l. IsNoImage (drop (length l) new)) empty none)
 
-pub written : (size most : ℕ) (x old new : List ℕ) (a : Written) → old ≡ [] → most ≡ most_of size
-    → (a.blocks ≡ length (classify size x)) × (a.chunks ≡ length (chunks_of most (classify size x)))
-    → length new ≡ length old + a.bytes → new ≡ old ++ spelling size most (classify size x) → IsWritten size x a new
-written size most x old new a empty is counts more whole =
+pub written : (u : Bool) (size most : ℕ) (x old new : List ℕ) (a : Written) → old ≡ [] → most ≡ most_of size
+    → (a.blocks ≡ length (raw_list u size x)) × (a.chunks ≡ length (chunks_of most (raw_list u size x)))
+    → length new ≡ length old + a.bytes → new ≡ old ++ spelling size most (raw_list u size x) → IsWritten u size x a new
+written u size most x old new a empty is counts more whole =
     let none : length old ≡ 0 = ap length empty in
     let all : a.bytes ≡ length new = omega (arith, more, none) in
     record {
       blocks = counts.0;
-      chunks = counts.1 ∙ ap (λ r. length (chunks_of r (classify size x))) is;
+      chunks = counts.1 ∙ ap (λ r. length (chunks_of r (raw_list u size x))) is;
       long = all;
-      holds = whole ∙ ap (λ l. l ++ spelling size most (classify size x)) empty
-          ∙ ap (λ r. spelling size r (classify size x)) is;
+      holds = whole ∙ ap (λ l. l ++ spelling size most (raw_list u size x)) empty
+          ∙ ap (λ r. spelling size r (raw_list u size x)) is;
     }
 
 -- the block size is one that the image has
@@ -50,28 +50,32 @@ torn x (inl few) = inl few
 torn x (inr zero) = inr (refused x (unfinished_by 1 x (omega arith) zero))
 
 -- it was brought to its end, or that could not be done
-pub holds : (o : Option ℕ) (size : ℕ) (x bytes : List ℕ) (a : Written) (old new : World) → IsWritten size x a bytes
-    → Ends o bytes old new → HoldsWritten size x a o old new
-holds None size x bytes a old new is ends = tt
-holds (Some file) size x bytes a old new is ends = (subst (λ l. IsWritten size x a l) (sym ends.0) is, ends.1)
+pub holds : (o : Option ℕ) (u : Bool) (size : ℕ) (x bytes : List ℕ) (a : Written) (old new : World)
+    → IsWritten u size x a bytes
+    → Ends o bytes old new → HoldsWritten u size x a o old new
+holds None u size x bytes a old new is ends = tt
+holds (Some file) u size x bytes a old new is ends = (subst (λ l. IsWritten u size x a l) (sym ends.0) is, ends.1)
 
-pub holds_end : {F G : Type 0} (answer : Result Written F) (result : Result (Written × Bool) G) (o : Option ℕ) (size : ℕ)
-    (x bytes : List ℕ) (old new : World) → IfOk answer (λ a. IsWritten size x a bytes)
+pub holds_end : {F G : Type 0} (answer : Result Written F) (result : Result (Written × Bool) G) (o : Option ℕ)
+    (u : Bool)
+    (size : ℕ) (x bytes : List ℕ) (old new : World) → IfOk answer (λ a. IsWritten u size x a bytes)
     → IfOk result (λ end. answer ≡ Ok end.0) → OnOk result (Ends o bytes old new)
-    → IfOk result (λ end. HoldsWritten size x end.0 o old new)
-holds_end answer (Ok end) o size x bytes old new own is ends =
-    holds o size x bytes end.0 old new (subst (λ r. IfOk r (λ a. IsWritten size x a bytes)) is own) ends
-holds_end answer (Err e) o size x bytes old new own is ends = tt
+    → IfOk result (λ end. HoldsWritten u size x end.0 o old new)
+holds_end answer (Ok end) o u size x bytes old new own is ends =
+    holds o u size x bytes end.0 old new (subst (λ r. IfOk r (λ a. IsWritten u size x a bytes)) is own) ends
+holds_end answer (Err e) o u size x bytes old new own is ends = tt
 
-pub left_whole : (o : Option ℕ) (size : ℕ) (x bytes : List ℕ) (a : Written) (new : World) → IsWritten size x a bytes
-    → Leaves o bytes new → LeavesNoneOrSparse size x o new
-left_whole None size x bytes a new is left = tt
-left_whole (Some file) size x bytes a new is (inl same) = inr (same ∙ is.holds)
-left_whole (Some file) size x bytes a new is (inr short) = inl (torn _ short)
+pub left_whole : (o : Option ℕ) (u : Bool) (size : ℕ) (x bytes : List ℕ) (a : Written) (new : World)
+    → IsWritten u size x a bytes
+    → Leaves o bytes new → LeavesNoneOrSparse u size x o new
+left_whole None u size x bytes a new is left = tt
+left_whole (Some file) u size x bytes a new is (inl same) = inr (same ∙ is.holds)
+left_whole (Some file) u size x bytes a new is (inr short) = inl (torn _ short)
 
 -- it was let go
-pub left_broken : (o : Option ℕ) (size : ℕ) (x bytes : List ℕ) (new : World) → HoldsNoSparse bytes → Leaves o bytes new
-    → LeavesNoneOrSparse size x o new
-left_broken None size x bytes new is left = tt
-left_broken (Some file) size x bytes new is (inl same) = inl (subst HoldsNoSparse (sym same) is)
-left_broken (Some file) size x bytes new is (inr short) = inl (torn _ short)
+pub left_broken : (o : Option ℕ) (u : Bool) (size : ℕ) (x bytes : List ℕ) (new : World) → HoldsNoSparse bytes
+    → Leaves o bytes new
+    → LeavesNoneOrSparse u size x o new
+left_broken None u size x bytes new is left = tt
+left_broken (Some file) u size x bytes new is (inl same) = inl (subst HoldsNoSparse (sym same) is)
+left_broken (Some file) u size x bytes new is (inr short) = inl (torn _ short)

@@ -35,84 +35,89 @@ none_open input bytes h h' a opened none = ap (λ k. k.output) opened.taken ∙ 
 
 -- ---- what OUT holds
 
-pub part_same : (input output : List ℕ) (size : ℕ) (a c : World) → c ≡ a → HoldsNoPartOfSparse input output size a c
-part_same input output size a c same = λ file _. inl (ap (λ w. w.holds file) same)
+pub part_same : (input output : List ℕ) (u : Bool) (size : ℕ) (a c : World) → c ≡ a
+    → HoldsNoPartOfSparse input output u size a c
+part_same input output u size a c same = λ file _. inl (ap (λ w. w.holds file) same)
 
 nothing : (x : List ℕ) → x ≡ [] → HoldsNoSparse x
 nothing x e = inl (subst (λ l. length l < 4) (sym e) (omega arith))
 
 -- the output could not be opened
-pub part_emptied : (input output : List ℕ) (size : ℕ) (a b c : World) → b ≡ a → EmptiesAt output b c
-    → HoldsNoPartOfSparse input output size a c
-part_emptied input output size a b c same empties = λ file at. elim (empties file at) [
+pub part_emptied : (input output : List ℕ) (u : Bool) (size : ℕ) (a b c : World) → b ≡ a → EmptiesAt output b c
+    → HoldsNoPartOfSparse input output u size a c
+part_emptied input output u size a b c same empties = λ file at. elim (empties file at) [
   | inl kept ↦ inl (kept ∙ ap (λ w. w.holds file) same)
   | inr none ↦ inr (inl (nothing _ none))
 ]
 
 -- it was begun, and could not be brought to its end
-pub part_left : (input output bytes : List ℕ) (size n : ℕ) (h h' h'' : OpenFiles) (a b c d : World) → n ≡ size
+pub part_left : (input output bytes : List ℕ) (u : Bool) (size n : ℕ) (h h' h'' : OpenFiles) (a b c d : World) → n
+    ≡ size
     → OpensFile a input bytes h h' → Creates output h' h'' b c → SparesRest h''.output c d
-    → LeavesNoneOrSparse n bytes h''.output d → HoldsNoPartOfSparse input output size a d
-part_left input output bytes size n h h' h'' a b c d sized opened made rest left = λ file at.
+    → LeavesNoneOrSparse u n bytes h''.output d → HoldsNoPartOfSparse input output u size a d
+part_left input output bytes u size n h h' h'' a b c d sized opened made rest left = λ file at.
     let t : Spares made.file c d = after output h' h'' b c d made rest in
     let is : made.file ≡ file = one (d.at output) made.file file (t.paths output made.file made.there) at in
-    let so : LeavesNoneOrSparse size bytes h''.output d
-    = subst (λ k. LeavesNoneOrSparse k bytes h''.output d) sized left in
-    let it : HoldsNoSparse (d.holds made.file) ⊎ (d.holds made.file ≡ image_of_raw size bytes)
-    = subst (λ k. LeavesNoneOrSparse size bytes k.output d) made.begins so in
-    inr (elim (subst (λ f. HoldsNoSparse (d.holds f) ⊎ (d.holds f ≡ image_of_raw size bytes)) is it) [
+    let so : LeavesNoneOrSparse u size bytes h''.output d
+    = subst (λ k. LeavesNoneOrSparse u k bytes h''.output d) sized left in
+    let it : HoldsNoSparse (d.holds made.file) ⊎ (d.holds made.file ≡ image_of_raw u size bytes)
+    = subst (λ k. LeavesNoneOrSparse u size bytes k.output d) made.begins so in
+    inr (elim (subst (λ f. HoldsNoSparse (d.holds f) ⊎ (d.holds f ≡ image_of_raw u size bytes)) is it) [
       | inl broken ↦ inl broken
       | inr whole ↦ inr (record {
         from = opened.file;
         there = opened.there;
-        holds = whole ∙ ap (image_of_raw size) opened.held;
+        holds = whole ∙ ap (image_of_raw u size) opened.held;
       })
     ])
 
 -- it was brought to its end
-pub part_whole : (input output bytes : List ℕ) (size n : ℕ) (x : Written) (h h' h'' : OpenFiles) (a b c d : World)
-    → n ≡ size → OpensFile a input bytes h h' → Creates output h' h'' b c → HoldsWritten n bytes x h''.output c d
-    → HoldsNoPartOfSparse input output size a d
-part_whole input output bytes size n x h h' h'' a b c d sized opened made has = λ file at.
-    let so : HoldsWritten size bytes x h''.output c d = subst (λ k. HoldsWritten k bytes x h''.output c d) sized has in
-    let it : IsWritten size bytes x (d.holds made.file) × Spares made.file c d
-    = subst (λ k. HoldsWritten size bytes x k.output c d) made.begins so in
+pub part_whole : (input output bytes : List ℕ) (u : Bool) (size n : ℕ) (x : Written) (h h' h'' : OpenFiles)
+    (a b c d : World)
+    → n ≡ size → OpensFile a input bytes h h' → Creates output h' h'' b c → HoldsWritten u n bytes x h''.output c d
+    → HoldsNoPartOfSparse input output u size a d
+part_whole input output bytes u size n x h h' h'' a b c d sized opened made has = λ file at.
+    let so : HoldsWritten u size bytes x h''.output c d = subst (λ k. HoldsWritten u k bytes x h''.output c d) sized
+    has in
+    let it : IsWritten u size bytes x (d.holds made.file) × Spares made.file c d
+    = subst (λ k. HoldsWritten u size bytes x k.output c d) made.begins so in
     let is : made.file ≡ file = one (d.at output) made.file file (it.1.paths output made.file made.there) at in
     inr (inr (record {
       from = opened.file;
       there = opened.there;
-      holds = ap (λ f. d.holds f) (sym is) ∙ it.0.holds ∙ ap (image_of_raw size) opened.held;
+      holds = ap (λ f. d.holds f) (sym is) ∙ it.0.holds ∙ ap (image_of_raw u size) opened.held;
     }))
 
 -- ---- what OUT is left as
 
 -- it was not begun
-pub left_unbegun : {X F : Type 0} (e : F) (input output : List ℕ) (size : ℕ) (over : Bool) (h h' : OpenFiles)
+pub left_unbegun : {X F : Type 0} (e : F) (input output : List ℕ) (u : Bool) (size : ℕ) (over : Bool) (h h' : OpenFiles)
     (a c : World)
-    → h'.output ≡ None → c ≡ a → LeavesImage {X = X} (Err e) input output size over h h' a c
-left_unbegun e input output size over h h' a c none same = record {
+    → h'.output ≡ None → c ≡ a → LeavesImage {X = X} (Err e) input output u size over h h' a c
+left_unbegun e input output u size over h h' a c none same = record {
   synced = tt;
   others = untouched same;
   input = λ f there. ap (λ w. w.holds f) same;
   closed = none;
-  whole = λ o. part_same input output size a c same;
+  whole = λ o. part_same input output u size a c same;
   clean = tt;
 }
 
 -- it was written, whatever was printed of it then
-pub left_whole : {X F : Type 0} (r : Result X F) (input output bytes : List ℕ) (size n : ℕ) (x : Written) (over : Bool)
+pub left_whole : {X F : Type 0} (r : Result X F) (input output bytes : List ℕ) (u : Bool) (size n : ℕ) (x : Written)
+    (over : Bool)
     (h h' h'' h''' : OpenFiles) (a b c d : World) → n ≡ size → OpensFile a input bytes h h' → b ≡ a
-    → Creates output h' h'' b c → HoldsWritten n bytes x h''.output c d → SparesRest h''.output c d
+    → Creates output h' h'' b c → HoldsWritten u n bytes x h''.output c d → SparesRest h''.output c d
     → ClosesOutput true h'' h''' → OnOk r (h'''.syncs ≡ h.syncs + (if h.is_synced then 1 else 0))
-    → OnOk r (HasNotFailed h h''') → LeavesImage r input output size over h h''' a d
-left_whole r input output bytes size n x over h h' h'' h''' a b c d sized opened same made has rest closes synced
+    → OnOk r (HasNotFailed h h''') → LeavesImage r input output u size over h h''' a d
+left_whole r input output bytes u size n x over h h' h'' h''' a b c d sized opened same made has rest closes synced
     clean =
     record {
       synced = synced;
       others = only_behind _ _ _ _ _ _ _ _ opened same (only_written _ _ _ _ _ _ made rest);
       input = kept_behind _ _ _ _ _ _ _ _ opened same (only_written _ _ _ _ _ _ made rest);
       closed = ap (λ k. k.output) closes.closed;
-      whole = λ o. part_whole input output bytes size n x h h' h'' a b c d sized opened made has;
+      whole = λ o. part_whole input output bytes u size n x h h' h'' a b c d sized opened made has;
       clean = clean;
     }
 
@@ -148,27 +153,31 @@ refuses_host path size a b h h' Done f k told why =
 
 -- ---- all is done
 
-pub sparsifies : (input output bytes : List ℕ) (size n : ℕ) (x : Written) (h h' h'' : OpenFiles) (a b c d : World)
+pub sparsifies : (input output bytes : List ℕ) (u : Bool) (size n : ℕ) (x : Written) (h h' h'' : OpenFiles)
+    (a b c d : World)
     (shows : List ℕ → Type 0) → n ≡ size → IsRawBlockSize size → OpensFile a input bytes h h' → b ≡ a
-    → Creates output h' h'' b c → HoldsWritten n bytes x h''.output c d
+    → Creates output h' h'' b c → HoldsWritten u n bytes x h''.output c d
     → shows (line_text (lines.Sparse x.blocks x.chunks x.bytes) ++ (10 ∷ []))
-    → SparsifiesFile input output size a d shows
-sparsifies input output bytes size n x h h' h'' a b c d shows sized_as good opened same made has shown =
-    let so : HoldsWritten size bytes x h''.output c d = subst (λ k. HoldsWritten k bytes x h''.output c d) sized_as has
+    → SparsifiesFile input output u size a d shows
+sparsifies input output bytes u size n x h h' h'' a b c d shows sized_as good opened same made has shown =
+    let so : HoldsWritten u size bytes x h''.output c d = subst (λ k. HoldsWritten u k bytes x h''.output c d)
+    sized_as has
     in
-    let it : IsWritten size bytes x (d.holds made.file) × Spares made.file c d
-    = subst (λ k. HoldsWritten size bytes x k.output c d) made.begins so in
+    let it : IsWritten u size bytes x (d.holds made.file) × Spares made.file c d
+    = subst (λ k. HoldsWritten u size bytes x k.output c d) made.begins so in
     let spared : Spares made.file a c = subst (λ w. Spares made.file w c) same made.spares in
-    let one_ : shows (line_text (lines.Sparse (blocks_of_raw size bytes) x.chunks x.bytes) ++ (10 ∷ []))
+    let one_ : shows (line_text (lines.Sparse (blocks_of_raw u size bytes) x.chunks x.bytes) ++ (10 ∷ []))
     = subst (λ n. shows (line_text (lines.Sparse n x.chunks x.bytes) ++ (10 ∷ []))) it.0.blocks shown in
-    let two : shows (line_text (lines.Sparse (blocks_of_raw size bytes) (chunks_of_raw size bytes) x.bytes)
+    let two : shows (line_text (lines.Sparse (blocks_of_raw u size bytes) (chunks_of_raw u size bytes) x.bytes)
     ++ (10 ∷ []))
-    = subst (λ n. shows (line_text (lines.Sparse (blocks_of_raw size bytes) n x.bytes) ++ (10 ∷ [])))
+    = subst (λ n. shows (line_text (lines.Sparse (blocks_of_raw u size bytes) n x.bytes) ++ (10 ∷ [])))
     it.0.chunks one_ in
-    let three : shows (line_text (lines.Sparse (blocks_of_raw size bytes) (chunks_of_raw size bytes) (length (d.holds
+    let three : shows (line_text (lines.Sparse (blocks_of_raw u size bytes) (chunks_of_raw u size bytes)
+    (length (d.holds
     made.file)))
     ++ (10 ∷ []))
-    = subst (λ n. shows (line_text (lines.Sparse (blocks_of_raw size bytes) (chunks_of_raw size bytes) n) ++ (10 ∷ [])))
+    = subst (λ n. shows (line_text (lines.Sparse (blocks_of_raw u size bytes) (chunks_of_raw u size bytes) n)
+    ++ (10 ∷ [])))
     it.0.long two in
     record {
       from = opened.file;
@@ -177,8 +186,8 @@ sparsifies input output bytes size n x h h' h'' a b c d shows sized_as good open
       here = it.1.paths output made.file made.there;
       apart = apart h.read h'.read opened.file made.file (ap (λ k. k.read) opened.taken) made.free;
       sized = good;
-      holds = it.0.holds ∙ ap (image_of_raw size) opened.held;
+      holds = it.0.holds ∙ ap (image_of_raw u size) opened.held;
       spares = spares_trans made.file a c d spared it.1;
-      shown = subst (λ y. shows (line_text (lines.Sparse (blocks_of_raw size y) (chunks_of_raw size y)
+      shown = subst (λ y. shows (line_text (lines.Sparse (blocks_of_raw u size y) (chunks_of_raw u size y)
           (length (d.holds made.file))) ++ (10 ∷ []))) opened.held three;
     }

@@ -1,10 +1,10 @@
 -- What the command `sparse` leaves of files, and what it prints.
 use Rattle.std.specs.Prelude.{◌≡◌, ◌≢◌, ◌<◌, ◌≤◌, ◌⊎◌, ◌+◌, ◌-◌, ◌*◌, ◌^◌, ℕ, List, [], ◌∷◌, ◌++◌, length, Bool, false}
 use Rattle.std.specs.Prelude.{Option, Some, None, IsTrue, Result, OnOk, OnErr, IfOk, IfErr, is_ok, if◌then◌else◌}
-use Rattle.abt_sparse.specs.Block.{classify}
 use Rattle.abt_sparse.specs.Chunk.{chunks_of, spelling}
 use Rattle.abt_runs.specs.declared.part.RunFault.{RunFault}
 use Rattle.abt_runs.specs.Raw.{RefusedRaw}
+use Rattle.abt_runs.specs.Tail.{raw_list}
 use Rattle.abt_pieces.specs.declared.fault.PieceFault.{PieceFault}
 use Rattle.abt_pieces.specs.declared.fault.PieceFault.TheVariants as pieces
 use Rattle.abt_placed.specs.Unfinished.{IsNoImage}
@@ -18,58 +18,60 @@ use Rattle.cmd_common_sparse.specs.declared.fault.SparseCommandFault.{SparseComm
 use Rattle.cmd_common_sparse.specs.declared.fault.SparseCommandFault.TheVariants as faults
 use Rattle.cmd_common_sparse.specs.declared.lines.Line.TheVariants as lines
 
--- the sparse image of these bytes in blocks of this size, in how many blocks and chunks
-abbrev pub image_of_raw : ℕ → List ℕ → List ℕ
-image_of_raw size x = spelling size (most_of size) (classify size x)
+-- the sparse image of these bytes in blocks of this size, in how many blocks and chunks; a last block that is filled
+-- up is raw where t says so
+abbrev pub image_of_raw : Bool → ℕ → List ℕ → List ℕ
+image_of_raw t size x = spelling size (most_of size) (raw_list t size x)
 
-abbrev pub blocks_of_raw : ℕ → List ℕ → ℕ
-blocks_of_raw size x = length (classify size x)
+abbrev pub blocks_of_raw : Bool → ℕ → List ℕ → ℕ
+blocks_of_raw t size x = length (raw_list t size x)
 
-abbrev pub chunks_of_raw : ℕ → List ℕ → ℕ
-chunks_of_raw size x = length (chunks_of (most_of size) (classify size x))
+abbrev pub chunks_of_raw : Bool → ℕ → List ℕ → ℕ
+chunks_of_raw t size x = length (chunks_of (most_of size) (raw_list t size x))
 
 -- The file at one path held bytes. The file at the other path is another file. It holds their sparse image and
 -- nothing else. No other file has changed, and the line that was printed has the image's numbers.
-pub record SparsifiesFile (input output : List ℕ) (size : ℕ) (old new : World) (shows : List ℕ → Type 0) : Type 0 where
+pub record SparsifiesFile (input output : List ℕ) (t : Bool) (size : ℕ) (old new : World) (shows : List ℕ → Type 0)
+    : Type 0 where
   pub from : ℕ
   pub onto : ℕ
   pub there : old.at input ≡ Some from
   pub here : new.at output ≡ Some onto
   pub apart : from ≢ onto
   pub sized : IsRawBlockSize size
-  pub holds : new.holds onto ≡ image_of_raw size (old.holds from)
+  pub holds : new.holds onto ≡ image_of_raw t size (old.holds from)
   pub spares : Spares onto old new
-  pub shown : shows (line_text (lines.Sparse (blocks_of_raw size (old.holds from)) (chunks_of_raw size (old.holds from))
-      (length (new.holds onto))) ++ (10 ∷ []))
+  pub shown : shows (line_text (lines.Sparse (blocks_of_raw t size (old.holds from))
+      (chunks_of_raw t size (old.holds from)) (length (new.holds onto))) ++ (10 ∷ []))
 
 -- what is no image: it has fewer than four bytes, or no reader finds one, whatever follows
 abbrev pub HoldsNoSparse : List ℕ → Type 0
 HoldsNoSparse x = (length x < 4) ⊎ IsNoImage x
 
 -- the file at this path holds the sparse image of what the file at the other one held
-pub record HoldsImage (input : List ℕ) (size : ℕ) (old : World) (bytes : List ℕ) : Type 0 where
+pub record HoldsImage (input : List ℕ) (t : Bool) (size : ℕ) (old : World) (bytes : List ℕ) : Type 0 where
   pub from : ℕ
   pub there : old.at input ≡ Some from
-  pub holds : bytes ≡ image_of_raw size (old.holds from)
+  pub holds : bytes ≡ image_of_raw t size (old.holds from)
 
 -- whatever the outcome, the file at this path holds what it held, or what is no image, or the whole image
-abbrev pub HoldsNoPartOfSparse : List ℕ → List ℕ → ℕ → World → World → Type 0
-HoldsNoPartOfSparse input output size old new = (file : ℕ) → new.at output ≡ Some file
+abbrev pub HoldsNoPartOfSparse : List ℕ → List ℕ → Bool → ℕ → World → World → Type 0
+HoldsNoPartOfSparse input output t size old new = (file : ℕ) → new.at output ≡ Some file
     → (new.holds file ≡ old.holds file)
-    ⊎ (HoldsNoSparse (new.holds file) ⊎ HoldsImage input size old (new.holds file))
+    ⊎ (HoldsNoSparse (new.holds file) ⊎ HoldsImage input t size old (new.holds file))
 
 -- What is left, whatever the result, by a call that writes the sparse image of one file to another:
 -- - Only the other may hold anything else. The first holds what it held.
 -- - No output is open.
 -- - A file that can be overwritten has no part of an image.
 -- - After an Ok it was synced, where that is requested, and nothing has failed.
-pub record LeavesImage {X F : Type 0} (r : Result X F) (from onto : List ℕ) (size : ℕ) (is_over : Bool)
-    (held held' : OpenFiles) (old new : World) : Type 0 where
+pub record LeavesImage {X F : Type 0} (r : Result X F) (from onto : List ℕ) (t : Bool) (size : ℕ)
+    (is_over : Bool) (held held' : OpenFiles) (old new : World) : Type 0 where
   pub synced : OnOk r (held'.syncs ≡ held.syncs + (if held.is_synced then 1 else 0))
   pub others : OnlyAt held.read onto old new
   pub input : KeepsFile from old new
   pub closed : held'.output ≡ None
-  pub whole : IsTrue is_over → HoldsNoPartOfSparse from onto size old new
+  pub whole : IsTrue is_over → HoldsNoPartOfSparse from onto t size old new
   pub clean : OnOk r (HasNotFailed held held')
 
 -- the file at this path has no blocks of this size, or too many, and nothing has changed
@@ -154,33 +156,34 @@ pub record OnlyDevicesFail {X : Type 0} (r : Result X SparseCommandFault) (model
   pub cause : IsTrue models → OnErr r (failed < failed')
 
 -- these are the numbers of the sparse image of these bytes, and it was written to an empty output
-pub record IsWritten (size : ℕ) (x : List ℕ) (a : Written) (bytes : List ℕ) : Type 0 where
-  pub blocks : a.blocks ≡ blocks_of_raw size x
-  pub chunks : a.chunks ≡ chunks_of_raw size x
+pub record IsWritten (t : Bool) (size : ℕ) (x : List ℕ) (a : Written) (bytes : List ℕ) : Type 0 where
+  pub blocks : a.blocks ≡ blocks_of_raw t size x
+  pub chunks : a.chunks ≡ chunks_of_raw t size x
   pub long : a.bytes ≡ length bytes
-  pub holds : bytes ≡ image_of_raw size x
+  pub holds : bytes ≡ image_of_raw t size x
 
 -- What a call leaves that writes it of devices that had failed so often before, and have now.
-pub record LaysSparseImage (r : Result Written SparseCommandFault) (models : Bool) (size : ℕ) (x bytes : List ℕ)
+pub record LaysSparseImage (r : Result Written SparseCommandFault) (models t : Bool) (size : ℕ) (x bytes : List ℕ)
     (failed failed' : ℕ) : Type 0 where
-  pub written : IsTrue models → IfOk r (λ a. IsWritten size x a bytes)
+  pub written : IsTrue models → IfOk r (λ a. IsWritten t size x a bytes)
   pub fails : OnlyDevicesFail r models failed failed'
 
 -- the output that was open holds the sparse image of these bytes, which has these numbers
-abbrev pub HoldsWritten : ℕ → List ℕ → Written → Option ℕ → World → World → Type 0
-HoldsWritten size x a None old new = Unit {0}
-HoldsWritten size x a (Some file) old new = IsWritten size x a (new.holds file) × Spares file old new
+abbrev pub HoldsWritten : Bool → ℕ → List ℕ → Written → Option ℕ → World → World → Type 0
+HoldsWritten t size x a None old new = Unit {0}
+HoldsWritten t size x a (Some file) old new = IsWritten t size x a (new.holds file) × Spares file old new
 
 -- the open output holds either all of the sparse image of these bytes, or no sparse image
-abbrev pub LeavesNoneOrSparse : ℕ → List ℕ → Option ℕ → World → Type 0
-LeavesNoneOrSparse size x None new = Unit {0}
-LeavesNoneOrSparse size x (Some file) new = HoldsNoSparse (new.holds file) ⊎ (new.holds file ≡ image_of_raw size x)
+abbrev pub LeavesNoneOrSparse : Bool → ℕ → List ℕ → Option ℕ → World → Type 0
+LeavesNoneOrSparse t size x None new = Unit {0}
+LeavesNoneOrSparse t size x (Some file) new = HoldsNoSparse (new.holds file)
+    ⊎ (new.holds file ≡ image_of_raw t size x)
 
 -- The open output is completed and closed. After an Ok it holds the sparse image of these bytes, which has these
 -- numbers. No other file has changed. After an Err a device or a file was at fault.
-pub record WritesSparseImage {F : Type 0} (r : Result (Written × Bool) F) (fault : F → SparseCommandFault) (size : ℕ)
-    (x : List ℕ) (held held' : OpenFiles) (old new : World) : Type 0 where
-  pub holds : IfOk r (λ end. HoldsWritten size x end.0 held.output old new)
+pub record WritesSparseImage {F : Type 0} (r : Result (Written × Bool) F) (fault : F → SparseCommandFault) (t : Bool)
+    (size : ℕ) (x : List ℕ) (held held' : OpenFiles) (old new : World) : Type 0 where
+  pub holds : IfOk r (λ end. HoldsWritten t size x end.0 held.output old new)
   pub closed : ClosesOutput (is_ok r) held held'
   pub rest : SparesRest held.output old new
   pub outside : IfErr r (λ refusal. IsOutsideSparse (fault refusal))

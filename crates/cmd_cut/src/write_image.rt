@@ -24,6 +24,7 @@ pub(crate) fn write_whole<'a, D: Disk>(
     disk: &mut D,
     source: D::At,
     blocks: Blocks,
+    is_tail_raw: bool,
     image: ImageTo<D::Image, D::Onto>,
     output: FileArg<'a>,
     sides: Sides<'a>,
@@ -35,20 +36,39 @@ pub(crate) fn write_whole<'a, D: Disk>(
     requires empty { OfImage (λ file. D.Image.Output.written file ≡ []) (λ onto. D.Onto.written onto ≡ []) image }
     requires clean { IsTrue D.models → OfImage (λ file. D.Image.Output.write_faults file ≡ 0)
         (λ onto. D.Onto.write_faults onto ≡ 0) image }
-    ensures writes { IsTrue D.models → WritesSparseImage result (λ refusal. refusal.fault) blocks.size
-        (D.At.content source)
-        (D.held disk.old) (D.held disk.new) (D.world disk.old) (D.world disk.new) }
+    ensures writes { IsTrue D.models → WritesSparseImage result (λ refusal. refusal.fault) is_tail_raw blocks.size
+        (D.At.content source) (D.held disk.old) (D.held disk.new) (D.world disk.old) (D.world disk.new) }
     ensures stream { IsTrue D.models → IfOk result (λ end. end.1 ≡ D.on_output (path_out output.entry)) }
-    ensures broken { IsTrue D.models → IsTrue (is_file image) → OnErr result (LeavesNoneOrSparse blocks.size
+    ensures broken { IsTrue D.models → IsTrue (is_file image) → OnErr result (LeavesNoneOrSparse is_tail_raw blocks.size
         (D.At.content source) (D.held disk.old).output (D.world disk.new)) }
 {
     match image {
         ImageTo::File(file) => write_over(
-            disk, source, blocks, file, output, sides, progress, w, m,
+            disk,
+            source,
+            blocks,
+            is_tail_raw,
+            file,
+            output,
+            sides,
+            progress,
+            w,
+            m,
         ),
         ImageTo::Stream(onto) => {
             progress.repeat(PASSES);
-            write_through(disk, source, blocks, onto, output, sides, progress, w, m)
+            write_through(
+                disk,
+                source,
+                blocks,
+                is_tail_raw,
+                onto,
+                output,
+                sides,
+                progress,
+                w,
+                m,
+            )
         }
     }
 }
@@ -58,6 +78,7 @@ fn write_over<'a, D: Disk>(
     disk: &mut D,
     source: D::At,
     blocks: Blocks,
+    is_tail_raw: bool,
     image: D::Image,
     output: FileArg<'a>,
     sides: Sides<'a>,
@@ -67,11 +88,10 @@ fn write_over<'a, D: Disk>(
 ) -> Result<(Written, bool), SparseRefusal<'a>>
     requires ready { ReadyToWrite D.models blocks (D.At.size source) (D.At.read_faults source)
         (D.Image.Output.written image) (D.Image.Output.write_faults image) }
-    ensures writes { IsTrue D.models → WritesSparseImage result (λ refusal. refusal.fault) blocks.size
-        (D.At.content source)
-        (D.held disk.old) (D.held disk.new) (D.world disk.old) (D.world disk.new) }
+    ensures writes { IsTrue D.models → WritesSparseImage result (λ refusal. refusal.fault) is_tail_raw blocks.size
+        (D.At.content source) (D.held disk.old) (D.held disk.new) (D.world disk.old) (D.world disk.new) }
     ensures stream { IsTrue D.models → IfOk result (λ end. end.1 ≡ D.on_output (path_out output.entry)) }
-    ensures broken { IsTrue D.models → OnErr result (LeavesNoneOrSparse blocks.size (D.At.content source)
+    ensures broken { IsTrue D.models → OnErr result (LeavesNoneOrSparse is_tail_raw blocks.size (D.At.content source)
         (D.held disk.old).output (D.world disk.new)) }
 {
     let mut carried = Carried {
@@ -79,7 +99,7 @@ fn write_over<'a, D: Disk>(
         progress,
     };
     let mut image = image;
-    let answer = lay_image(&mut carried, blocks, &mut image, w, m);
+    let answer = lay_image(&mut carried, blocks, is_tail_raw, &mut image, w, m);
     let Carried { device: source, .. } = carried;
     disk.let_go_source(source);
     match answer {
@@ -96,6 +116,7 @@ fn write_through<'a, D: Disk>(
     disk: &mut D,
     source: D::At,
     blocks: Blocks,
+    is_tail_raw: bool,
     onto: D::Onto,
     output: FileArg<'a>,
     sides: Sides<'a>,
@@ -105,9 +126,8 @@ fn write_through<'a, D: Disk>(
 ) -> Result<(Written, bool), SparseRefusal<'a>>
     requires ready { ReadyToWrite D.models blocks (D.At.size source) (D.At.read_faults source) (D.Onto.written onto)
         (D.Onto.write_faults onto) }
-    ensures writes { IsTrue D.models → WritesSparseImage result (λ refusal. refusal.fault) blocks.size
-        (D.At.content source)
-        (D.held disk.old) (D.held disk.new) (D.world disk.old) (D.world disk.new) }
+    ensures writes { IsTrue D.models → WritesSparseImage result (λ refusal. refusal.fault) is_tail_raw blocks.size
+        (D.At.content source) (D.held disk.old) (D.held disk.new) (D.world disk.old) (D.world disk.new) }
     ensures stream { IsTrue D.models → IfOk result (λ end. end.1 ≡ D.on_output (path_out output.entry)) }
 {
     let mut carried = Carried {
@@ -115,7 +135,7 @@ fn write_through<'a, D: Disk>(
         progress,
     };
     let mut onto = onto;
-    let answer = write_image(&mut carried, blocks, &mut onto, w, m);
+    let answer = write_image(&mut carried, blocks, is_tail_raw, &mut onto, w, m);
     let Carried { device: source, .. } = carried;
     disk.let_go_source(source);
     ended(disk, answer, onto, output, sides)

@@ -89,8 +89,8 @@ pub kept_at : (path place : List ℕ) (a z : World) → place ≡ path → Keeps
 kept_at path place a z at kept = subst (λ p. KeepsFile p a z) at kept
 
 -- what is so of OUT, under the path that its word says
-pub whole_at : (over : List ℕ → Bool) (i i' o o' : List ℕ) (size : ℕ) (a z : World) → i ≡ i' → o ≡ o'
-    → (IsTrue (over o) → HoldsNoPartOfSparse i o size a z) → IsTrue (over o') → HoldsNoPartOfSparse i' o' size a z
-whole_at over i i' o o' size a z same_i same_o whole is =
-    subst (λ p. HoldsNoPartOfSparse p o' size a z) same_i
-    (subst (λ p. IsTrue (over p) → HoldsNoPartOfSparse i p size a z) same_o whole is)
+pub whole_at : (over : List ℕ → Bool) (i i' o o' : List ℕ) (t : Bool) (size : ℕ) (a z : World) → i ≡ i' → o ≡ o'
+    → (IsTrue (over o) → HoldsNoPartOfSparse i o t size a z) → IsTrue (over o') → HoldsNoPartOfSparse i' o' t size a z
+whole_at over i i' o o' t size a z same_i same_o whole is =
+    subst (λ p. HoldsNoPartOfSparse p o' t size a z) same_i
+    (subst (λ p. IsTrue (over p) → HoldsNoPartOfSparse i p t size a z) same_o whole is)

@@ -61,10 +61,11 @@ abbrev pub ListsImage : List ℕ → State → State → Type 0
 ListsImage input a z = OfFile (image_path input) a.world (λ x. IsListed x (λ text.
     z.report.out.log.state.bytes ≡ a.report.out.log.state.bytes ++ text))
 
--- a raw image is written as a sparse one, in blocks of this many bytes
-abbrev pub Sparsifies : (List ℕ → Bool) → List ℕ → List ℕ → ℕ → State → State → Type 0
-Sparsifies on_output input output block a z =
-    SparsifiesFile input (output_path output) block a.world z.world
+-- a raw image is written as a sparse one, in blocks of this many bytes; a last block that is filled up is raw if that
+-- is requested
+abbrev pub Sparsifies : (List ℕ → Bool) → List ℕ → List ℕ → ℕ → Bool → State → State → Type 0
+Sparsifies on_output input output block tail a z =
+    SparsifiesFile input (output_path output) tail block a.world z.world
     (ShowsBeside (on_output (output_path output)) a.report z.report)
     × SyncsOutputs (one_if_wanted a) a z
 
@@ -96,7 +97,8 @@ abbrev pub DoesTask : (List ℕ → Bool) → SparseTask → State → State →
 DoesTask on_output (tasks.Expand inputs output) a z =
     ExpandsImages on_output (map (λ word. word.now) inputs.items) output.now a z
 DoesTask on_output (tasks.List input) a z = ListsImage input.now a z
-DoesTask on_output (tasks.Sparse input output block) a z = Sparsifies on_output input.now output.now block a z
+DoesTask on_output (tasks.Sparse input output block tail) a z =
+    Sparsifies on_output input.now output.now block tail a z
 DoesTask on_output (tasks.Cut input limit prefix from_zero raw) a z =
     Cuts input.now limit (naming prefix.now from_zero) raw a z
 DoesTask on_output (tasks.Flash input partition raw pieces) a z =
@@ -142,15 +144,15 @@ abbrev pub SparesFiles : SparseTask → State → State → Type 0
 SparesFiles (tasks.Expand inputs output) a z =
     SparesExpanded (map (λ word. word.now) inputs.items) output.now a z
 SparesFiles (tasks.List input) a z = SparesWorld a z
-SparesFiles (tasks.Sparse input output block) a z = SparesSparsified input.now output.now a z
+SparesFiles (tasks.Sparse input output block tail) a z = SparesSparsified input.now output.now a z
 SparesFiles (tasks.Cut input limit prefix from_zero raw) a z = SparesCut input.now prefix.now a z
 SparesFiles (tasks.Flash input partition raw pieces) a z = SparesFlashed input.now partition.now pieces a z
 SparesFiles (tasks.Verify input partition raw) a z = SparesWorld a z
 
 -- of a sparse image that is written over a file none has a part: the file holds what it held, no image, or all of it
 abbrev pub LeavesNoPartOfSparse : (List ℕ → Bool) → SparseTask → State → State → Type 0
-LeavesNoPartOfSparse is_over (tasks.Sparse input output block) a z = IsTrue (is_over (output_path output.now))
-    → HoldsNoPartOfSparse input.now (output_path output.now) block a.world z.world
+LeavesNoPartOfSparse is_over (tasks.Sparse input output block tail) a z = IsTrue (is_over (output_path output.now))
+    → HoldsNoPartOfSparse input.now (output_path output.now) tail block a.world z.world
 LeavesNoPartOfSparse is_over task a z = Unit {0}
 
 -- ---- why it fails
@@ -167,9 +169,9 @@ abbrev pub RefusesListing : SparseCommandFault → List ℕ → State → State 
 RefusesListing fault input a z = RefusesList fault (image_path input) a.world a.held z.held
     (a.report.out.faults.number < z.report.out.faults.number)
 
-abbrev pub RefusesSparse : SparseCommandFault → List ℕ → List ℕ → ℕ → State → State → Type 0
-RefusesSparse fault input output block a z = RefusesRaw input block a.world z.world a.held z.held
-    (SparsifiesFile input (output_path output) block a.world z.world (Unprinted a.report z.report)) fault
+abbrev pub RefusesSparse : SparseCommandFault → List ℕ → List ℕ → ℕ → Bool → State → State → Type 0
+RefusesSparse fault input output block tail a z = RefusesRaw input block a.world z.world a.held z.held
+    (SparsifiesFile input (output_path output) tail block a.world z.world (Unprinted a.report z.report)) fault
 
 abbrev pub RefusesCutting : SparseCommandFault → List ℕ → ℕ → Naming → Option ℕ → State → State → Type 0
 RefusesCutting fault input limit names raw a z =
@@ -195,7 +197,8 @@ abbrev pub RefusesTask : SparseCommandFault → SparseTask → State → State �
 RefusesTask fault (tasks.Expand inputs output) a z =
     RefusesExpand fault (map (λ word. word.now) inputs.items) output.now a z
 RefusesTask fault (tasks.List input) a z = RefusesListing fault input.now a z
-RefusesTask fault (tasks.Sparse input output block) a z = RefusesSparse fault input.now output.now block a z
+RefusesTask fault (tasks.Sparse input output block tail) a z =
+    RefusesSparse fault input.now output.now block tail a z
 RefusesTask fault (tasks.Cut input limit prefix from_zero raw) a z =
     RefusesCutting fault input.now limit (naming prefix.now from_zero) raw a z
 RefusesTask fault (tasks.Flash input partition raw pieces) a z =

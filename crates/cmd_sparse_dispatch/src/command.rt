@@ -53,7 +53,8 @@ pub fn sparse_command<'a, D: Disk>(
             input,
             output,
             block,
-        } => sparsify(disk, report, input, output, block, w, m),
+            is_tail_raw,
+        } => sparsify(disk, report, input, output, block, is_tail_raw, w, m),
         SparseTask::Cut {
             input,
             limit,

@@ -27,7 +27,7 @@ fn sparse(image: &[u8], room: &mut [u8], w: &mut Window, m: &mut Meter) -> Resul
     let mut digest = Digest::new();
     let mut source = Memory::new(image);
     let mut output = SliceOutput::new(room);
-    let written = sparsify_at(&mut source, BLOCK, MOST, &mut output, w, m)?;
+    let written = sparsify_at(&mut source, BLOCK, false, MOST, &mut output, w, m)?;
     digest.put(0, output.written());
     digest.note(u64::from(written.chunks));
     Ok(digest)

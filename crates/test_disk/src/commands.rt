@@ -86,7 +86,7 @@ fn is_written(
         Command::ExpandSeveral => {
             expand_several(disk, report, &["in", "more"], place, alloc, w, m).is_ok()
         }
-        Command::Sparse => sparse_file(disk, report, input, place, 4, w, m).is_ok(),
+        Command::Sparse => sparse_file(disk, report, input, place, 4, false, w, m).is_ok(),
         Command::Cut => cut_file(disk, report, cutting, w, m).is_ok(),
         Command::CutRaw => cut_file(disk, report, raw, w, m).is_ok(),
         _ => false,

@@ -53,7 +53,7 @@ fn run(rt: HostRuntime, disk: &mut MemoryDisk, output: &str, block: u32) -> bool
     let mut m = Meter::new();
     let input = FileArg::new("IN", "in");
     let output = FileArg::new("OUT", output);
-    sparse_file(disk, &mut report, input, output, block, w, &mut m).is_ok()
+    sparse_file(disk, &mut report, input, output, block, false, w, &mut m).is_ok()
 }
 
 #[test]

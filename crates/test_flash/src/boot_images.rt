@@ -45,6 +45,7 @@ fn delivered(image: &[u8], limit: u32, cells: &mut [u8]) -> (u64, Result<Deliver
     let written = sparsify(
         &mut SliceSource::new(image),
         4096,
+        false,
         1,
         &mut output,
         &mut w,

@@ -82,8 +82,16 @@ fn write(
     let mut w = Window::new();
     let mut m = Meter::new();
     let answer = match way {
-        Way::EndToEnd => sparsify(&mut source, size, most, &mut output, &mut w, &mut m),
-        Way::WrittenOver => sparsify_at(&mut source, size, most, &mut output, &mut w, &mut m),
+        Way::EndToEnd => sparsify(&mut source, size, false, most, &mut output, &mut w, &mut m),
+        Way::WrittenOver => sparsify_at(
+            &mut source,
+            size,
+            false,
+            most,
+            &mut output,
+            &mut w,
+            &mut m,
+        ),
     };
     Writing {
         answer,
@@ -111,6 +119,36 @@ fn each_row_is_answered_as_it_says(rt: HostRuntime) {
     for (i, row) in ROWS.iter().enumerate() {
         assert!(rt; is_right(Way::EndToEnd, row), "row {i} from end to end");
         assert!(rt; is_right(Way::WrittenOver, row), "row {i} written over");
+    }
+}
+
+/// The image of nine zeros in blocks of 4 bytes, of which the last is raw.
+#[rattlefmt::skip]
+const TAILED: [u8; 60] = [
+    0x3a, 0xff, 0x26, 0xed, 1, 0, 0, 0, 28, 0, 12, 0, 4, 0, 0, 0, 3, 0, 0, 0, 2, 0, 0, 0, 0, 0, 0, 0,
+    0xc2, 0xca, 0, 0, 2, 0, 0, 0, 16, 0, 0, 0, 0, 0, 0, 0,
+    0xc1, 0xca, 0, 0, 1, 0, 0, 0, 16, 0, 0, 0, 0, 0, 0, 0,
+];
+
+#[test]
+fn a_block_that_is_filled_up_is_raw_where_that_is_asked_for(rt: HostRuntime) {
+    for way in [Way::EndToEnd, Way::WrittenOver] {
+        let mut room = [0u8; 60];
+        let mut source = SliceSource::new(&[0; 9]);
+        let mut output = SliceOutput::new(&mut room);
+        let mut w = Window::new();
+        let mut m = Meter::new();
+        let answer = match way {
+            Way::EndToEnd => sparsify(&mut source, 4, true, 1, &mut output, &mut w, &mut m),
+            Way::WrittenOver => sparsify_at(&mut source, 4, true, 1, &mut output, &mut w, &mut m),
+        };
+        let written = Written {
+            blocks: 3,
+            chunks: 2,
+            bytes: 60,
+        };
+        assert!(rt; answer == Ok(written));
+        assert!(rt; output.written() == TAILED.as_slice());
     }
 }
 

@@ -74,8 +74,9 @@ abbrev pub AsksSparse : List Answer → SparseTask → Type 0
 AsksSparse all (sparse.Expand inputs output) = (map (λ s. s.now) inputs.items ≡ words_named (codes "IN") all)
     × (output.now ≡ word_named (codes "OUT") all)
 AsksSparse all (sparse.List input) = input.now ≡ word_named (codes "IN") all
-AsksSparse all (sparse.Sparse input output block) = (input.now ≡ word_named (codes "IN") all)
+AsksSparse all (sparse.Sparse input output block tail) = (input.now ≡ word_named (codes "IN") all)
     × (output.now ≡ word_named (codes "OUT") all) × (block ≡ unwrap_or (number_named (codes "block") all) 0)
+    × (tail ≡ false)
 AsksSparse all (sparse.Cut input limit prefix from_zero raw) = (input.now ≡ word_named (codes "IN") all)
     × (limit ≡ unwrap_or (number_named (codes "LIMIT") all) 0) × (prefix.now ≡ word_named (codes "PREFIX") all)
     × (from_zero ≡ false) × (raw ≡ number_named (codes "raw") all)

@@ -176,7 +176,7 @@ name_of works.Completions = codes "completions"
 abbrev pub work_of_sparse : SparseTask → Work
 work_of_sparse (sparse.Expand inputs output) = works.Expand
 work_of_sparse (sparse.List input) = works.List
-work_of_sparse (sparse.Sparse input output block) = works.Sparse
+work_of_sparse (sparse.Sparse input output block tail) = works.Sparse
 work_of_sparse (sparse.Cut input limit prefix from_zero raw) = works.Cut
 work_of_sparse (sparse.Flash input partition raw pieces) = works.Flash
 work_of_sparse (sparse.Verify input partition raw) = works.Verify

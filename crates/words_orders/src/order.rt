@@ -47,6 +47,8 @@ pub enum SparseTask<'a> {
         input: &'a str,
         output: &'a str,
         block: u32,
+        /// Whether a last block that is not whole is raw, whatever its bytes are.
+        is_tail_raw: bool,
     },
     /// Cut an image into pieces of at most this many bytes; a raw one if the bytes of its blocks are given.
     Cut {

@@ -208,6 +208,7 @@ fn make_sparse<'a>(answers: &Answers<'a>) -> SparseTask<'a>
         input: answers.given_word("IN"),
         output: answers.given_word("OUT"),
         block: answers.given_number("block"),
+        is_tail_raw: false,
     }
 }
 

@@ -88,11 +88,12 @@ tool_rows tool = []
 abbrev pub standard_or : List ℕ → List ℕ
 standard_or word = if bytes_eq word (codes "-") then codes "/proc/self/fd/0" else word
 
--- `sparse` in blocks of BLOCK bytes, or of 4096
+-- `sparse` in blocks of BLOCK bytes, or of 4096, of which a last one that is not whole is raw
 abbrev pub AsksBlocks : List Answer → Task → Type 0
-AsksBlocks all (tasks.Sparse (sparse.Sparse input output block)) =
+AsksBlocks all (tasks.Sparse (sparse.Sparse input output block tail)) =
     (input.now ≡ standard_or (word_named (codes "IN") all))
     × (output.now ≡ word_named (codes "OUT") all) × (block ≡ unwrap_or (number_named (codes "BLOCK") all) 4096)
+    × (tail ≡ true)
 AsksBlocks all task = ⊥
 
 -- `cut` of a sparse image into pieces of at most MAX bytes, of which the first has the number 0

@@ -145,6 +145,7 @@ fn make_sparse<'a>(answers: &Answers<'a>) -> Task<'a>
         input: standard_or(answers.given_word("IN")),
         output: answers.given_word("OUT"),
         block: answers.number("BLOCK").unwrap_or(4096),
+        is_tail_raw: true,
     })
 }
 

@@ -29,14 +29,18 @@ returns-in-Ok g c =
     let most = c.most_raw-most.result in
     let uncut : IsUncut r.size limit most = c.most_raw-most.ensures.uncut in
     let sound = o.made.sound uncut in
-    let behind : Behind r.blocks u.piece.past c.pass.new.self.stage = record { end = sound.end; done = p.done; between = p.between } in
+    let behind : Behind r.blocks u.piece.past c.pass.new.self.stage = record
+    { end = sound.end; done = p.done; between = p.between } in
     let more : has_more c.args.cutter.now.stage ≡ true = search rules in
-    let long : IsTrue g.S.Source.models → r.blocks ≡ length l = λ models. sym (raw_long r.length r.blocks r.size x r.some r.covers r.last (c.requires.ready.opened models)) in
+    let long : IsTrue g.S.Source.models → r.blocks ≡ length l = λ models. sym
+    (raw_long r.length r.blocks r.size x r.some r.covers r.last (c.requires.ready.opened models)) in
     record {
       cutter = record { same_image = p.runs; same_limit = p.limit; unbegun = behind_unbegun _ _ _ behind };
       grows = record { grown = q.lays.grown; before = q.before; unfinished = tt };
       made = record {
-        image = piece_image g.S.Source.models x r.size r.blocks limit most start.block u.piece.past u.chunks old new (omega (arith, r.some), r.words, omega (arith, r.window)) c.most_raw-most.ensures.some c.most_raw-most.ensures.small r.fits o.made.whole;
+        image = piece_image g.S.Source.models false x r.size r.blocks limit most start.block u.piece.past u.chunks old
+            new (omega (arith, r.some), r.words, omega (arith, r.window)) c.most_raw-most.ensures.some
+            c.most_raw-most.ensures.small r.fits o.made.whole;
         piece = rw (p.piece, p.start) (record {
           passed = (behind_passed _ _ _ _ sound.moves behind);
           begins = sound.first;
@@ -51,9 +55,13 @@ returns-in-Ok g c =
         going_turns = rw p.piece o.work.going_turns;
       };
       laid = λ models. rw p.piece (record {
-        written = rw sound.first (piece_told g.S.Source.models x r.size r.blocks limit most start.block u.piece.past u.chunks old new uncut models (long models) o.made.whole);
-        coming = piece_told g.S.Source.models x r.size r.blocks limit most start.block u.piece.past u.chunks old new uncut models (long models) o.made.whole ∙ ap (λ (y : List ℕ). old ++ y) (piece_is r.size limit l start.block u.piece.past (o.made.whole.told models).1);
-        exact = (piece_exact g.S.Source.models x r.size r.blocks limit most start.block u.chunks old new u.piece uncut models (long models) sound.first sound.order sound.end o.made.written o.made.bytes o.made.whole);
+        written = rw sound.first (piece_told g.S.Source.models false x r.size r.blocks limit most start.block
+            u.piece.past u.chunks old new uncut models (long models) o.made.whole);
+        coming = piece_told g.S.Source.models false x r.size r.blocks limit most start.block u.piece.past u.chunks old
+            new uncut models (long models) o.made.whole ∙ ap (λ (y : List ℕ). old ++ y)
+            (piece_is r.size limit l start.block u.piece.past (o.made.whole.told models).1);
+        exact = (piece_exact g.S.Source.models false x r.size r.blocks limit most start.block u.chunks old new u.piece
+            uncut models (long models) sound.first sound.order sound.end o.made.written o.made.bytes o.made.whole);
         greatest = rw sound.first (o.made.whole.told models).1;
       });
       costs = record {
@@ -68,7 +76,8 @@ returns-in-Ok g c =
         frame = q.lays.write_frame;
         faults = q.lays.write_faults;
         clean = o.lays.clean.1;
-        full_faults = let going : has_failed c.args.cutter.now.stage ≡ false = search rules in rw going o.lays.full_faults;
+        full_faults = let going : has_failed c.args.cutter.now.stage
+            ≡ false = search rules in rw going o.lays.full_faults;
       };
       reads = record {
         content = q.lays.content;
@@ -77,7 +86,9 @@ returns-in-Ok g c =
         faults = q.lays.faults;
         clean = o.lays.clean.0;
       };
-      told = λ models. rw (p.limit, p.made, p.start) (told_more _ _ (λ (d : Cursor). RawPlace r.blocks r.size d) _ r.blocks _ _ _ start u _ _ more (c.requires.ready.told models) sound (long models) (o.made.whole.told models).1 o.made.next behind.done behind.between);
+      told = λ models. rw (p.limit, p.made, p.start) (told_more _ _ (λ (d : Cursor). RawPlace r.blocks r.size d) _
+          r.blocks _ _ _ start u _ _ more (c.requires.ready.told models) sound (long models) (o.made.whole.told models).1
+          o.made.next behind.done behind.between);
       within = let long = q.long uncut in omega (arith, long);
       over = record {
         none = tt;
@@ -103,7 +114,12 @@ returns-in-Err g c =
     let new = g.O.Output.written c.lay_piece.new.output in
     record {
       cutter = record { same_image = x.rest.0; same_limit = x.rest.1; unbegun = rw x.stage refl };
-      grows = record { grown = q.lays.grown; before = q.before; unfinished = unfinished_refused old new c.in-Err.ensures.unfinished };
+      grows = record {
+        grown = q.lays.grown;
+        before = q.before;
+        unfinished = unfinished_refused old new
+            c.in-Err.ensures.unfinished;
+      };
       made = tt;
       laid = λ models. tt;
       costs = record {
@@ -118,7 +134,8 @@ returns-in-Err g c =
         frame = q.lays.write_frame;
         faults = q.lays.write_faults;
         clean = tt;
-        full_faults = let going : has_failed c.args.cutter.now.stage ≡ false = search rules in rw (going, x.fault) c.in-Err.ensures.lays.full_faults;
+        full_faults = let going : has_failed c.args.cutter.now.stage
+            ≡ false = search rules in rw (going, x.fault) c.in-Err.ensures.lays.full_faults;
       };
       reads = record {
         content = q.lays.content;
@@ -129,7 +146,8 @@ returns-in-Err g c =
       };
       told = λ models.
           let more : has_more c.args.cutter.now.stage ≡ true = search rules in
-          rw (x.rest.1, x.rest.3, x.rest.2, x.stage) (told_failed _ _ _ _ _ _ c.args.cutter.now.start _ _ more (c.requires.ready.told models));
+          rw (x.rest.1, x.rest.3, x.rest.2, x.stage) (told_failed _ _ _ _ _ _ c.args.cutter.now.start _ _ more
+          (c.requires.ready.told models));
       within = let long = q.long c.most_raw-most.ensures.uncut in omega (arith, long);
       over = record {
         none = tt;
@@ -142,6 +160,7 @@ returns-in-Err g c =
         calls = q.work.calls;
         turns = q.work.turns;
       };
-      full = λ h e. let z = rw x.fault at e in let long = c.in-Err.ensures.long c.most_raw-most.ensures.uncut in (c.in-Err.ensures.lays.full z, omega (arith, long, z));
+      full = λ h e. let z = rw x.fault at e in let long = c.in-Err.ensures.long c.most_raw-most.ensures.uncut in
+          (c.in-Err.ensures.lays.full z, omega (arith, long, z));
       cause = inr (rw x.fault c.in-Err.ensures.lays.cause);
     }

@@ -4,7 +4,8 @@ use Rattle.abt_pieces.proofs.Fronts.{as_many, no_more, max_most, run_unfilled, r
 use Rattle.abt_pieces.specs.declared.fault.PieceFault.{PieceFault}
 use Rattle.abt_sparsify.specs.Sparsify.{IsRawSize}
 use Rattle.abt_sparsify.specs.declared.count.Written.{Written}
-use Rattle.abt_sparsify.proofs.SparseSteps.{within_blocks, few_blocks, sparsify_causes, refused_bad, refused_large, refused_cause}
+use Rattle.abt_sparsify.proofs.SparseSteps.{within_blocks, few_blocks, sparsify_causes, refused_bad, refused_large}
+use Rattle.abt_sparsify.proofs.SparseSteps.{refused_cause}
 use Rattle.abt_sparse.specs.Block.{Block}
 use Rattle.abt_sparse.specs.Chunk.{spelling, chunks_of}
 use Rattle.abt_placed.proofs.Pieces.{piece_image, image_blocks, unfinished_refused}
@@ -31,7 +32,14 @@ returns-in-Err g c =
         bad_block = λ bad. (ap fails (refused_bad _ _ _ _ is refused bad), refl, refl);
         too_large = λ good large. (ap fails (refused_large _ _ _ _ is refused good), refl, refl);
         within = λ n fits. no_more _ _;
-        costs = record { given = as_many _; steps = as_many _; greatest = max_most _ _; calls = omega arith; turns = omega arith };
+        costs = record {
+          given = as_many _;
+          steps = as_many _;
+          greatest = max_most _ _;
+          calls = omega arith;
+          turns =
+              omega arith;
+        };
         full = λ says. absurd (run_unsaid _ _ is says);
         cause = refused_cause _ _ _ _ _ _ _ _ _ is refused;
       };
@@ -58,7 +66,9 @@ returns-in-Ok-lay_piece g c =
     let old = g.O.Output.written c.args.output.now in
     let new = g.O.Output.written c.lay_piece.new.output in
     let all : u.piece.past ≡ r.blocks = o.made.reached (omega arith) in
-    let blocks = λ (models : IsTrue g.S.Source.models). image_blocks g.S.Source.models x r.size r.length r.blocks 18446744073709551615 c.args.most u.piece.past u.chunks old new r.some r.covers r.last (omega (arith, e.opened)) models all o.made.whole in
+    let blocks = λ (models : IsTrue g.S.Source.models). image_blocks g.S.Source.models c.args.is_tail_raw x r.size
+    r.length r.blocks 18446744073709551615 c.args.most u.piece.past u.chunks old new r.some r.covers r.last
+    (omega (arith, e.opened)) models all o.made.whole in
     let laid = o.made.whole.laid in
     record {
       does = record {
@@ -77,7 +87,8 @@ returns-in-Ok-lay_piece g c =
           full_faults = o.lays.full_faults;
         };
         bad_block = λ bad. absurd (let own : IsRawSize r.size = (r.some, r.window, r.words) in bad (rw size at own));
-        too_large = λ good large. absurd (few_blocks r.blocks c.args.block_size _ (rw size at r.covers) r.fits (rw e.size.1 large));
+        too_large = λ good large. absurd (few_blocks r.blocks c.args.block_size _ (rw size at r.covers) r.fits
+            (rw e.size.1 large));
         within = λ n fits.
             let p = within_blocks r.blocks n r.size r.length r.last (rw (size, e.size.1) fits) in
             let q = rw size at p in
@@ -96,16 +107,24 @@ returns-in-Ok-lay_piece g c =
       written = record {
         blocks = (rw (size, e.size.1) at r.covers, rw (size, e.size.1) at r.last);
         long = o.made.bytes;
-        image = rw size at (piece_image g.S.Source.models x r.size r.blocks 18446744073709551615 c.args.most 0 u.piece.past u.chunks old new (omega (arith, r.some), r.words, omega (arith, r.window)) c.requires.some (rw size c.requires.small) r.fits o.made.whole);
+        image = rw size at (piece_image g.S.Source.models c.args.is_tail_raw x r.size r.blocks 18446744073709551615
+            c.args.most 0 u.piece.past u.chunks old new (omega (arith, r.some), r.words, omega (arith, r.window))
+            c.requires.some (rw size c.requires.small) r.fits o.made.whole);
       };
-      chunks = λ models. (rw size at (sym laid.count ∙ ap length (blocks models)), rw size at (laid.chunks_are ∙ ap (λ (l : List Block). length (chunks_of c.args.most l)) (blocks models)));
+      chunks = λ models. (
+        rw size at (sym laid.count ∙ ap length (blocks models)),
+        rw size at
+            (laid.chunks_are ∙ ap (λ (l : List Block). length (chunks_of c.args.most l)) (blocks models)),
+      );
       grows = record { grown = w.lays.grown; before = w.before; unfinished = tt };
-      whole = λ models. rw size at (laid.stands ∙ ap (λ (l : List Block). old ++ spelling r.size c.args.most l) (blocks models));
+      whole = λ models. rw size at (laid.stands ∙ ap (λ (l : List Block). old ++ spelling r.size c.args.most l)
+          (blocks models));
       takes = record {
         economy = let read = rw e.size.1 at w.work.economy in omega (arith, read);
         once =
             let whole : u.piece.past * r.size ≡ r.blocks * r.size = ap (λ (n : ℕ). n * r.size) all in
-            let read : g.S.Source.given c.lay_piece.new.source ≡ g.S.Source.given c.args.source.now + r.length = omega (arith, whole, r.covers, w.work.economy, o.work.least) in
+            let read : g.S.Source.given c.lay_piece.new.source ≡ g.S.Source.given c.args.source.now
+            + r.length = omega (arith, whole, r.covers, w.work.economy, o.work.least) in
             rw e.size.1 at read;
       };
     }
@@ -137,7 +156,8 @@ returns-in-Err-lay_piece g c =
           full_faults = x.lays.full_faults;
         };
         bad_block = λ bad. absurd (let own : IsRawSize r.size = (r.some, r.window, r.words) in bad (rw size at own));
-        too_large = λ good large. absurd (few_blocks r.blocks c.args.block_size _ (rw size at r.covers) r.fits (rw e.size.1 large));
+        too_large = λ good large. absurd (few_blocks r.blocks c.args.block_size _ (rw size at r.covers) r.fits
+            (rw e.size.1 large));
         within = λ n fits.
             let p = within_blocks r.blocks n r.size r.length r.last (rw (size, e.size.1) fits) in
             let q = rw size at p in
@@ -151,7 +171,8 @@ returns-in-Err-lay_piece g c =
           turns = let turns = rw size at w.work.turns in omega (arith, turns, w.lays.given, w.lays.grown);
         };
         full = x.lays.full;
-        cause = sparsify_causes (let r : Result Written PieceFault = Err c.in-Err-lay_piece.fault in r) _ _ _ _ _ _ _ x.lays.cause;
+        cause = sparsify_causes (let r : Result Written PieceFault = Err c.in-Err-lay_piece.fault in r) _ _ _ _ _ _ _
+            x.lays.cause;
       };
       written = tt;
       chunks = λ models. tt;

@@ -11,7 +11,7 @@ use Rattle.abt_sparsify.proofs.count.count_runs.Goals as goal
 -- before the first block
 pub loop-gatherer-init : goal.loop-gatherer-init
 loop-gatherer-init g c =
-    let r = c.args.runs.now in
+    let r = c.args.runs.now.raw in
     let s = c.start.ensures in
     let begun = c.begin-gatherer.ensures in
     let none = c.begin-counted.ensures in
@@ -22,7 +22,8 @@ loop-gatherer-init g c =
       reads = reads_none _ g.S.Source _;
       sound = rw begun (gatherer_sound _ _ c.start.result s.first s.within);
       told = λ models.
-          let o = raw_blocks r.blocks r.size r.length _ r.some r.covers r.last (c.requires.opened models) in
+          let o = raw_blocks c.args.runs.now.is_tail_raw r.blocks r.size r.length _ r.some r.covers r.last
+          (c.requires.opened models) in
           rw begun (gatherer_told _ _ _ c.start.result s.first s.within o.0);
       bounds = rw (begun, none) (first_count _ _ c.start.result);
       numbers = λ models. rw (begun, none) (counted_first _ _ c.start.result _ s.first);
@@ -39,7 +40,7 @@ pub and_run-counted-requires-clause-chunks : goal.and_run-counted-requires-claus
 and_run-counted-requires-clause-chunks g c =
     let i = c.loop-gatherer.invariant in
     let e = c.in-Ok.ensures in
-    let r = c.args.runs.now in
+    let r = c.args.runs.now.raw in
     let run = rw c.in-Some.is at e.run in
     let z = sound_count_on _ c.args.most c.loop-gatherer.gatherer c.gather.new.self c.in-Some.run'
     c.loop-gatherer.counted c.requires.some i.sound.behind_it run i.bounds in
@@ -50,7 +51,7 @@ pub and_run-counted-requires-clause-bytes : goal.and_run-counted-requires-clause
 and_run-counted-requires-clause-bytes g c =
     let i = c.loop-gatherer.invariant in
     let e = c.in-Ok.ensures in
-    let r = c.args.runs.now in
+    let r = c.args.runs.now.raw in
     let run = rw c.in-Some.is at e.run in
     let z = sound_count_on _ c.args.most c.loop-gatherer.gatherer c.gather.new.self c.in-Some.run'
     c.loop-gatherer.counted c.requires.some i.sound.behind_it run i.bounds in
@@ -61,7 +62,7 @@ pub loop-gatherer-preserved-in-Some : goal.loop-gatherer-preserved-in-Some
 loop-gatherer-preserved-in-Some g c =
     let i = c.loop-gatherer.invariant in
     let e = c.in-Ok.ensures in
-    let r = c.args.runs.now in
+    let r = c.args.runs.now.raw in
     let run = rw c.in-Some.is at e.run in
     let z = sound_count_on _ c.args.most c.loop-gatherer.gatherer c.gather.new.self c.in-Some.run'
     c.loop-gatherer.counted c.requires.some i.sound.behind_it run i.bounds in
@@ -79,7 +80,8 @@ loop-gatherer-preserved-in-Some g c =
       told = λ models. rw (i.count, i.reads.content models) at (e.told models);
       bounds = rw now z;
       numbers = λ models.
-          let o = raw_blocks r.blocks r.size r.length _ r.some r.covers r.last (c.requires.opened models) in
+          let o = raw_blocks c.args.runs.now.is_tail_raw r.blocks r.size r.length _ r.some r.covers r.last
+          (c.requires.opened models) in
           let closed = rw (i.count, i.reads.content models, c.in-Some.is) at (e.closed models) in
           rw now (counted_on _ _ _ _ c.loop-gatherer.gatherer c.gather.new.self c.in-Some.run' c.loop-gatherer.counted
           c.requires.some o.0 o.1 (i.told models).gathered closed run (i.numbers models));
@@ -97,7 +99,7 @@ pub loop-gatherer-preserved : goal.loop-gatherer-preserved
 loop-gatherer-preserved g c =
     let i = c.loop-gatherer.invariant in
     let e = c.in-Ok.ensures in
-    let r = c.args.runs.now in
+    let r = c.args.runs.now.raw in
     let grows = rw c.in-None.is at e.grows in
     let going = sym c.loop-gatherer-test.ensures in
     let most = silent_most r.blocks r.blocks c.loop-gatherer.gatherer in
@@ -129,10 +131,11 @@ loop-gatherer-preserved g c =
 pub returns : goal.returns
 returns g c =
     let i = c.loop-gatherer.invariant in
-    let r = c.args.runs.now in
+    let r = c.args.runs.now.raw in
     let z = i.sound.ended (sym c.loop-gatherer-test.ensures) in
     let whole = λ (models : IsTrue g.S.Source.models).
-    let o = raw_blocks r.blocks r.size r.length _ r.some r.covers r.last (c.requires.opened models) in
+    let o = raw_blocks c.args.runs.now.is_tail_raw r.blocks r.size r.length _ r.some r.covers r.last
+    (c.requires.opened models) in
     counted_whole r.size _ _ _ c.loop-gatherer.gatherer c.loop-gatherer.counted o.0 z.0 z.1 (i.numbers models) in
     let most = words_most r.size r.blocks (min c.loop-gatherer.gatherer.at.block r.blocks) in
     record {

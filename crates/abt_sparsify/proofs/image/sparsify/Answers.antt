@@ -41,7 +41,7 @@ returns-in-Err g c =
 -- the opened image is written
 pub returns : goal.returns
 returns g c =
-    let r = c.in-Ok.runs in
+    let r = c.in-Ok.raw in
     let e = c.in-Ok.ensures in
     let w = c.write_image.ensures in
     let size = e.size.0 in

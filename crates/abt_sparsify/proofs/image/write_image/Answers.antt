@@ -34,7 +34,7 @@ returns-in-Err g c =
 -- the header is not written
 pub returns-in-Err-write_header : goal.returns-in-Err-write_header
 returns-in-Err-write_header g c =
-    let i = c.args.runs.now in
+    let i = c.args.runs.now.raw in
     let e = c.in-Ok.ensures in
     let a = c.count_runs.ensures in
     let s = c.close_step.ensures in
@@ -48,7 +48,8 @@ returns-in-Err-write_header g c =
         cause = f.cause;
       };
       told = λ models.
-          let o = raw_blocks i.blocks i.size i.length _ i.some i.covers i.last (c.requires.ready.opened models) in
+          let o = raw_blocks c.args.runs.now.is_tail_raw i.blocks i.size i.length _ i.some i.covers i.last
+          (c.requires.ready.opened models) in
           let whole = header_first i.size c.args.most _ c.block_size-size.result c.in-Ok.counted.blocks
           c.in-Ok.counted.chunks c.block_size-size.ensures (e.blocks ∙ o.0) (e.counts models).chunks in
           record { chunks = tt; front = wrote_part _ _ _ _ _ f.put.front whole; whole = tt; economy = tt };
@@ -66,7 +67,7 @@ returns-in-Err-write_header g c =
 -- the image is written
 pub returns-in-Ok-write_runs : goal.returns-in-Ok-write_runs
 returns-in-Ok-write_runs g c =
-    let i = c.args.runs.now in
+    let i = c.args.runs.now.raw in
     let e = c.in-Ok.ensures in
     let a = c.count_runs.ensures in
     let s = c.close_step.ensures in
@@ -82,7 +83,8 @@ returns-in-Ok-write_runs g c =
         cause = tt;
       };
       told = λ models.
-          let o = raw_blocks i.blocks i.size i.length _ i.some i.covers i.last (c.requires.ready.opened models) in
+          let o = raw_blocks c.args.runs.now.is_tail_raw i.blocks i.size i.length _ i.some i.covers i.last
+          (c.requires.ready.opened models) in
           let header = header_first i.size c.args.most _ c.block_size-size.result c.in-Ok.counted.blocks
           c.in-Ok.counted.chunks c.block_size-size.ensures (e.blocks ∙ o.0) (e.counts models).chunks in
           record {
@@ -133,7 +135,7 @@ returns-in-Ok-write_runs g c =
 -- the chunks are not
 pub returns-in-Err-write_runs : goal.returns-in-Err-write_runs
 returns-in-Err-write_runs g c =
-    let i = c.args.runs.now in
+    let i = c.args.runs.now.raw in
     let e = c.in-Ok.ensures in
     let a = c.count_runs.ensures in
     let s = c.close_step.ensures in
@@ -149,7 +151,8 @@ returns-in-Err-write_runs g c =
         cause = cause_since c.in-Err-write_runs.fault _ _ _ _ _ _ _ a.source.reads.faults b.writes.faults z.moves.cause;
       };
       told = λ models.
-          let o = raw_blocks i.blocks i.size i.length _ i.some i.covers i.last (c.requires.ready.opened models) in
+          let o = raw_blocks c.args.runs.now.is_tail_raw i.blocks i.size i.length _ i.some i.covers i.last
+          (c.requires.ready.opened models) in
           let header = header_first i.size c.args.most _ c.block_size-size.result c.in-Ok.counted.blocks
           c.in-Ok.counted.chunks c.block_size-size.ensures (e.blocks ∙ o.0) (e.counts models).chunks in
           record {

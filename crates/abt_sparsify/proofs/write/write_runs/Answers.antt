@@ -19,7 +19,7 @@ loop-m-preserved g c =
     let e = c.step.ensures.stepped in
     let o = c.in_ok-step.ensures in
     let s = o.stepped in
-    let r = c.args.runs.now in
+    let r = c.args.runs.now.raw in
     let going = c.if-not-branch.true in
     let paid = s.paid going in
     let place = is_end_place r.blocks r.size r.window in
@@ -79,7 +79,7 @@ returns g c =
     let e = c.step.ensures.stepped in
     let o = c.in_ok-step.ensures in
     let s = o.stepped in
-    let r = c.args.runs.now in
+    let r = c.args.runs.now.raw in
     let test = c.if-not-branch.false in
     let done = o.ended test in
     let place = is_end_place r.blocks r.size r.window in
@@ -164,12 +164,13 @@ returns-in_err-step g c =
 -- before the first chunk
 pub loop-m-init : goal.loop-m-init
 loop-m-init g c =
-    let r = c.args.runs.now in
+    let r = c.args.runs.now.raw in
     let s = c.start.ensures in
     let begun = rw c.blocks-count.ensures at c.writer_of-writer.ensures in
     let start = c.start.result in
     let silent = silent_most r.blocks r.blocks (first_gatherer start) in
-    let blocks = λ (models : IsTrue g.S.Source.models). raw_blocks r.blocks r.size r.length _ r.some r.covers r.last
+    let blocks = λ (models : IsTrue g.S.Source.models). raw_blocks c.args.runs.now.is_tail_raw r.blocks r.size r.length
+    _ r.some r.covers r.last
     (c.requires.ready.opened models) in
     record {
       reads = reads_none _ g.S.Source _;

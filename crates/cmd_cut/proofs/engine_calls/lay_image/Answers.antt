@@ -8,7 +8,7 @@ returns-in-Err-clause-broken g c = broken _ _ c.requires.ready.empty c.in-Err.en
 
 pub returns-in-Ok-clause-lays : goal.returns-in-Ok-clause-lays
 returns-in-Ok-clause-lays g c = record {
-  written = λ t. written _ _ _ _ _ _ c.requires.ready.empty c.requires.ready.fits.most (c.in-Ok.ensures.chunks t)
+  written = λ t. written _ _ _ _ _ _ _ c.requires.ready.empty c.requires.ready.fits.most (c.in-Ok.ensures.chunks t)
       c.in-Ok.ensures.written.long (c.in-Ok.ensures.whole t);
   fails = record {
     outside = λ t. tt;

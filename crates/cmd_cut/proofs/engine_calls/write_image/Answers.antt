@@ -6,7 +6,8 @@ use Rattle.cmd_cut.proofs.engine_calls.write_image.Goals as goal
 pub returns-in-Ok : goal.returns-in-Ok
 returns-in-Ok g c = record {
   lays = record {
-    written = λ t. written _ _ _ _ _ _ c.requires.ready.empty c.requires.ready.fits.most (c.in-Ok.ensures.told t).chunks
+    written = λ t. written _ _ _ _ _ _ _ c.requires.ready.empty c.requires.ready.fits.most
+        (c.in-Ok.ensures.told t).chunks
         c.in-Ok.ensures.sparse.long (c.in-Ok.ensures.told t).whole;
     fails = record {
       outside = λ t. tt;

@@ -16,7 +16,7 @@ returns-in_err-source-clause-left g c = λ t. record {
   others = untouched (c.in_err-source.ensures.world t);
   input = λ f there. ap (λ w. w.holds f) (c.in_err-source.ensures.world t);
   closed = ap (λ k. k.output) (c.in_err-source.ensures.kept t) ∙ (c.requires.first t).output;
-  whole = λ o. part_same _ _ _ _ _ (c.in_err-source.ensures.world t);
+  whole = λ o. part_same _ _ _ _ _ _ (c.in_err-source.ensures.world t);
   clean = search rules;
 }
 
@@ -24,7 +24,7 @@ returns-in_err-source-clause-left g c = λ t. record {
 
 pub returns-in-Err-clause-left : goal.returns-in-Err-clause-left
 returns-in-Err-clause-left g c = λ t.
-    left_unbegun _ _ _ _ _ _ _ _ _ (none_open _ _ _ _ _ (c.in_ok-source.ensures.opened t) (c.requires.first t).output)
+    left_unbegun _ _ _ _ _ _ _ _ _ _ (none_open _ _ _ _ _ (c.in_ok-source.ensures.opened t) (c.requires.first t).output)
     (c.in_ok-source.ensures.world t)
 
 pub returns-in-Err-clause-refused : goal.returns-in-Err-clause-refused
@@ -45,7 +45,7 @@ returns-in_err-image-clause-left g c = λ t. record {
       (c.in_err-image.ensures.only t);
   closed = ap (λ k. k.output) (c.in_err-image.ensures.kept t) ∙ none_open _ _ _ _ _ (c.in_ok-source.ensures.opened t)
       (c.requires.first t).output;
-  whole = λ o. part_emptied (path_of c.args.input) (path_out c.args.output) _ (g.D.Disk.world c.args.disk.now)
+  whole = λ o. part_emptied (path_of c.args.input) (path_out c.args.output) _ _ (g.D.Disk.world c.args.disk.now)
       (g.D.Disk.world c.source.new.self) (g.D.Disk.world c.image.new.self) (c.in_ok-source.ensures.world t)
       (c.in_err-image.ensures.empties t);
   clean = search rules;
@@ -62,7 +62,7 @@ returns-in-Err-write_whole-clause-left g c = λ t.
       others = only_behind _ _ _ _ _ _ _ _ (c.in_ok-source.ensures.opened t) (c.in_ok-source.ensures.world t) only;
       input = kept_behind _ _ _ _ _ _ _ _ (c.in_ok-source.ensures.opened t) (c.in_ok-source.ensures.world t) only;
       closed = ap (λ k. k.output) (c.in-Err-write_whole.ensures.writes t).closed.closed;
-      whole = λ o. part_left _ _ _ _ _ _ _ _ _ _ _ _ c.in-Ok.ensures.size (c.in_ok-source.ensures.opened t) made
+      whole = λ o. part_left _ _ _ _ _ _ _ _ _ _ _ _ _ c.in-Ok.ensures.size (c.in_ok-source.ensures.opened t) made
           (c.in-Err-write_whole.ensures.writes t).rest
           (c.in-Err-write_whole.ensures.broken t (c.in_ok-image.ensures.kind t ∙ o));
       clean = tt;
@@ -80,7 +80,7 @@ returns-in-Err-write_whole-clause-refused g c = λ t.
 pub returns-in-Err-printed-clause-left : goal.returns-in-Err-printed-clause-left
 returns-in-Err-printed-clause-left g c = λ t.
     let made = c.in_ok-image.ensures.created t in
-    left_whole _ _ _ _ _ _ c.in-Ok-write_whole.end.0 _ _ _ _ _ _ _ _ _ c.in-Ok.ensures.size
+    left_whole _ _ _ _ _ _ _ c.in-Ok-write_whole.end.0 _ _ _ _ _ _ _ _ _ c.in-Ok.ensures.size
     (c.in_ok-source.ensures.opened t) (c.in_ok-source.ensures.world t) made (c.in-Ok-write_whole.ensures.writes t).holds
     (c.in-Ok-write_whole.ensures.writes t).rest (c.in-Ok-write_whole.ensures.writes t).closed tt tt
 
@@ -88,7 +88,7 @@ pub returns-in-Err-printed-clause-refused : goal.returns-in-Err-printed-clause-r
 returns-in-Err-printed-clause-refused g c = λ t.
     refuses_host _ _ _ _ (g.D.Disk.held c.args.disk.now) (g.D.Disk.held c.write_whole.new.disk) _ _
     c.in-Err-printed.refusal.fault c.into.ensures
-    (inr (sparsifies _ _ _ _ _ c.in-Ok-write_whole.end.0 _ _ _ _ _ _ _ _ c.in-Ok.ensures.size
+    (inr (sparsifies _ _ _ _ _ _ c.in-Ok-write_whole.end.0 _ _ _ _ _ _ _ _ c.in-Ok.ensures.size
     c.in-Ok.ensures.granted
     (c.in_ok-source.ensures.opened t) (c.in_ok-source.ensures.world t) (c.in_ok-image.ensures.created t)
     (c.in-Ok-write_whole.ensures.writes t).holds c.in-Err-printed.ensures.refused))
@@ -98,7 +98,7 @@ returns-in-Err-printed-clause-refused g c = λ t.
 pub returns-in-Ok-printed-clause-left : goal.returns-in-Ok-printed-clause-left
 returns-in-Ok-printed-clause-left g c = λ t.
     let made = c.in_ok-image.ensures.created t in
-    left_whole _ _ _ _ _ _ c.in-Ok-write_whole.end.0 _ _ _ _ _ _ _ _ _ c.in-Ok.ensures.size
+    left_whole _ _ _ _ _ _ _ c.in-Ok-write_whole.end.0 _ _ _ _ _ _ _ _ _ c.in-Ok.ensures.size
     (c.in_ok-source.ensures.opened t) (c.in_ok-source.ensures.world t) made (c.in-Ok-write_whole.ensures.writes t).holds
     (c.in-Ok-write_whole.ensures.writes t).rest (c.in-Ok-write_whole.ensures.writes t).closed
     (synced_behind _ _ _ _ _ _ _ _ _ _ (c.in_ok-source.ensures.opened t) made
@@ -108,7 +108,7 @@ returns-in-Ok-printed-clause-left g c = λ t.
 
 pub returns-in-Ok-printed-clause-done : goal.returns-in-Ok-printed-clause-done
 returns-in-Ok-printed-clause-done g c = λ t.
-    sparsifies _ _ _ _ _ c.in-Ok-write_whole.end.0 _ _ _ _ _ _ _ _ c.in-Ok.ensures.size c.in-Ok.ensures.granted
+    sparsifies _ _ _ _ _ _ c.in-Ok-write_whole.end.0 _ _ _ _ _ _ _ _ c.in-Ok.ensures.size c.in-Ok.ensures.granted
     (c.in_ok-source.ensures.opened t) (c.in_ok-source.ensures.world t) (c.in_ok-image.ensures.created t)
     (c.in-Ok-write_whole.ensures.writes t).holds
     (beside c.args.report.now c.printed.new.report _ _ _ (c.in-Ok-write_whole.ensures.stream t)

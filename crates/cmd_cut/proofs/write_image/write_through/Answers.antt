@@ -10,7 +10,7 @@ returns g c = record {
       let fails = c.write_image-answer.ensures.lays.fails in
       record {
         holds = rw (c.let_go_source.ensures.held t, c.let_go_source.ensures.world t) at
-            (holds_end c.write_image-answer.result c.ended.result _ _ _ _ _ _
+            (holds_end c.write_image-answer.result c.ended.result _ _ _ _ _ _ _
             (c.write_image-answer.ensures.lays.written told) c.ended.ensures.done (c.ended.ensures.ended t));
         closed = closes_answer _ _ _ _ _ _ _ _ _ (c.requires.ready.image.read t)
             (c.requires.ready.output.clean t) (c.let_go_source.ensures.held t) (c.ended.ensures.closed t) fails.clean

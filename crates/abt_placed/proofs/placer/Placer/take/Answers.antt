@@ -22,9 +22,10 @@ returns-in-Err g c =
         passed = tt;
         same = (refl, refl);
         writes = fails e.writes (omega arith) (omega arith);
-        within = begun_within c.args.size c.args.blocks _ _ _ c.args.bytes.now s c.args.kind h (λ _. c.requires.part.bytes) c.requires.part.some k.within (omega arith);
+        within = begun_within c.args.size c.args.blocks _ _ _ c.args.bytes.now s c.args.kind h
+            (λ _. c.requires.part.bytes) c.requires.part.some k.within (omega arith);
       };
-      laid = λ blocks placed. tt;
+      laid = λ blocks p all placed. tt;
       adds = omega (arith, e.adds);
     }
 
@@ -47,9 +48,10 @@ returns-in-Err-put_data g c =
         passed = tt;
         same = (refl, refl);
         writes = onward all.writes e.writes;
-        within = begun_within c.args.size c.args.blocks _ _ _ c.args.bytes.now s c.args.kind h (λ _. c.requires.part.bytes) c.requires.part.some k.within d.within;
+        within = begun_within c.args.size c.args.blocks _ _ _ c.args.bytes.now s c.args.kind h
+            (λ _. c.requires.part.bytes) c.requires.part.some k.within d.within;
       };
-      laid = λ blocks placed. tt;
+      laid = λ blocks p all placed. tt;
       adds = omega (arith, long, all.adds, e.adds);
     }
 
@@ -62,25 +64,29 @@ returns g c =
     let x = c.args.bytes.now in
     let t = c.and_blocks.result in
     let k = c.begin_chunk.ensures in
-    let all = c.in-Ok.ensures in
+    let begun = c.in-Ok.ensures in
     let d = c.put_data.ensures in
     let e = c.in-Ok-put_data.ensures in
     let old = g.O.Output.written c.args.output.now in
     let w = g.O.Output.written c.begin_chunk.new.output in
     let new = g.O.Output.written c.put_data.new.output in
     let long = data_long c.args.kind c.args.blocks b x c.requires.part.bytes in
-    let made : new ≡ taking s c.args.kind b x old = e.written ∙ ap (λ (l : List ℕ). l ++ data_for c.args.kind x) {y = beginning s c.args.kind b old} all.written in
+    let made : new ≡ taking s c.args.kind b x old = e.written
+    ∙ ap (λ (l : List ℕ). l ++ data_for c.args.kind x) {y = beginning s c.args.kind b old} begun.written in
     let passed = part_passed b _ c.args.blocks s t c.args.kind h c.and_blocks.ensures in
     record {
       ok = c.and_blocks.ensures;
       goes = record {
         kept = keeps_then _ _ w _ k.kept (keeps_less _ _ w _ (omega (arith, h.room, k.writes.grown)) d.kept);
-        sound = sound_taken b c.args.blocks old w new x s t c.args.kind c.requires.part.some c.requires.part.goes c.requires.cap c.requires.part.bytes k.within h c.and_blocks.ensures all.written e.written;
+        sound = sound_taken b c.args.blocks old w new x s t c.args.kind c.requires.part.some c.requires.part.goes
+            c.requires.cap c.requires.part.bytes k.within h c.and_blocks.ensures begun.written e.written;
         passed = passed.0;
         same = passed.1;
-        writes = onward all.writes e.writes;
-        within = begun_within b c.args.blocks _ _ _ x s c.args.kind h (λ _. c.requires.part.bytes) c.requires.part.some k.within d.within;
+        writes = onward begun.writes e.writes;
+        within = begun_within b c.args.blocks _ _ _ x s c.args.kind h (λ _. c.requires.part.bytes)
+            c.requires.part.some k.within d.within;
       };
-      laid = λ blocks placed. taken_placed b blocks old new x s t c.args.kind c.args.blocks c.requires.part.some c.requires.part.words c.requires.part.bytes c.requires.part.all h c.and_blocks.ensures made placed;
-      adds = omega (arith, long, all.adds, e.adds);
+      laid = λ blocks p all placed. taken_placed b p blocks old new x s t c.args.kind c.args.blocks
+          c.requires.part.some c.requires.part.words c.requires.part.bytes all h c.and_blocks.ensures made placed;
+      adds = omega (arith, long, begun.adds, e.adds);
     }

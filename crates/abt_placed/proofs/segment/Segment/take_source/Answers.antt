@@ -18,13 +18,23 @@ loop-ended-preserved g c =
     let new = g.O.Output.written c.step.new.output in
     let m = c.tick.ensures in
     record {
-      lays = lays_then i.lays (lays_then {x = false} (lays_value e.lays.lays) (lays_written _ _ (ticked g.O.Output c.step.new.output c.step.new.m c.tick.new.self 1 (omega (arith, m.turns)) m.steps m.greatest)));
+      lays = lays_then i.lays (lays_then {x = false} (lays_value e.lays.lays)
+          (lays_written _ _ (ticked g.O.Output c.step.new.output c.step.new.m c.tick.new.self 1
+          (omega (arith, m.turns)) m.steps m.greatest)));
       given = omega (arith, i.given, e.once on);
       sound = e.lays.segment.sound;
       within = e.lays.inside;
-      told = same_told g.S.Source.models (g.S.Source.content c.loop-ended.source) (g.S.Source.content c.args.source.now) r.size new c.step.new.self i.lays.content e.lays.told;
-      same = (t.segment.same.0 ∙ i.same.0, t.segment.same.1 ∙ i.same.1, t.segment.same.2 ∙ i.same.2, t.segment.same.3 ∙ i.same.3);
-      kept = keeps_then (c.args.self.now.placer.front + 28) old now new i.kept (subst (λ (j : ℕ). KeepsFront (j + 28) now new) i.same.1 t.segment.kept);
+      told = same_told g.S.Source.models c.args.is_tail_raw (g.S.Source.content c.loop-ended.source)
+          (g.S.Source.content c.args.source.now) r.size new c.step.new.self i.lays.content e.lays.told;
+      same = (
+        t.segment.same.0 ∙ i.same.0,
+        t.segment.same.1 ∙ i.same.1,
+        t.segment.same.2 ∙ i.same.2,
+        t.segment.same.3
+            ∙ i.same.3,
+      );
+      kept = keeps_then (c.args.self.now.placer.front + 28) old now new i.kept
+          (subst (λ (j : ℕ). KeepsFront (j + 28) now new) i.same.1 t.segment.kept);
       calls = omega (arith, i.calls, e.going_calls on, i.lays.given, t.lays.given);
       turns = omega (arith, i.turns, e.going_turns on, i.lays.given, t.lays.given, m.turns);
     }
@@ -59,13 +69,21 @@ returns-then-ended g c =
     record {
       lays = record {
         lays = lays_value (lays_then i.lays e.lays.lays);
-        told = same_told g.S.Source.models x y r.size new c.step.new.self i.lays.content e.lays.told;
+        told = same_told g.S.Source.models c.args.is_tail_raw x y r.size new c.step.new.self i.lays.content e.lays.told;
         segment = record {
-          kept = keeps_then (c.args.self.now.placer.front + 28) old now new i.kept (subst (λ (j : ℕ). KeepsFront (j + 28) now new) i.same.1 t.segment.kept);
+          kept = keeps_then (c.args.self.now.placer.front + 28) old now new i.kept
+              (subst (λ (j : ℕ). KeepsFront (j + 28) now new) i.same.1 t.segment.kept);
           sound = e.lays.segment.sound;
-          same = (t.segment.same.0 ∙ i.same.0, t.segment.same.1 ∙ i.same.1, t.segment.same.2 ∙ i.same.2, t.segment.same.3 ∙ i.same.3);
+          same = (
+            t.segment.same.0 ∙ i.same.0,
+            t.segment.same.1 ∙ i.same.1,
+            t.segment.same.2
+                ∙ i.same.2,
+            t.segment.same.3 ∙ i.same.3,
+          );
           within = omega (arith, t.segment.within, i.same.1);
-          long = λ uncut. let long = e.lays.segment.long (rw (i.same.3, i.same.0) uncut) in omega (arith, i.same.1, i.same.3, long);
+          long = λ uncut. let long = e.lays.segment.long (rw (i.same.3, i.same.0) uncut) in omega
+              (arith, i.same.1, i.same.3, long);
         };
         inside = e.lays.inside;
         reads = record {
@@ -74,7 +92,8 @@ returns-then-ended g c =
           last = omega (arith, i.given, e.lays.reads.last);
         };
       };
-      ended = same_ended g.S.Source.models x y r.size r.blocks c.step.new.self i.lays.content (e.ended c.if-ended.true);
+      ended = same_ended g.S.Source.models c.args.is_tail_raw x y r.size r.blocks c.step.new.self i.lays.content
+          (e.ended c.if-ended.true);
       calls = omega (arith, i.calls, c.step.ensures.calls, i.lays.given, t.lays.given);
       turns = omega (arith, i.turns, c.step.ensures.turns, i.lays.given, t.lays.given);
     }
@@ -93,11 +112,19 @@ returns-in-Err g c =
         lays = lays_fault (lays_then i.lays e.lays.lays);
         told = tt;
         segment = record {
-          kept = keeps_then (c.args.self.now.placer.front + 28) old now new i.kept (subst (λ (j : ℕ). KeepsFront (j + 28) now new) i.same.1 t.segment.kept);
+          kept = keeps_then (c.args.self.now.placer.front + 28) old now new i.kept
+              (subst (λ (j : ℕ). KeepsFront (j + 28) now new) i.same.1 t.segment.kept);
           sound = tt;
-          same = (t.segment.same.0 ∙ i.same.0, t.segment.same.1 ∙ i.same.1, t.segment.same.2 ∙ i.same.2, t.segment.same.3 ∙ i.same.3);
+          same = (
+            t.segment.same.0 ∙ i.same.0,
+            t.segment.same.1 ∙ i.same.1,
+            t.segment.same.2
+                ∙ i.same.2,
+            t.segment.same.3 ∙ i.same.3,
+          );
           within = omega (arith, t.segment.within, i.same.1);
-          long = λ uncut. let long = e.lays.segment.long (rw (i.same.3, i.same.0) uncut) in omega (arith, i.same.1, i.same.3, long);
+          long = λ uncut. let long = e.lays.segment.long (rw (i.same.3, i.same.0) uncut) in omega
+              (arith, i.same.1, i.same.3, long);
         };
         inside = tt;
         reads = record {

@@ -1,15 +1,17 @@
-use Rattle.std.proofs.Common.{arith, ◌∙◌, ap, refl, sym, ◌≡◌, ◌*◌, ◌≤◌, ◌<◌, ◌-◌, ℕ, min, true, false, length}
+use Rattle.std.proofs.Common.{arith, ◌∙◌, ap, refl, sym, ◌≡◌, ◌*◌, ◌≤◌, ◌<◌, ◌-◌, ℕ, min, true, false, length, nat_lt}
 use Rattle.std.proofs.Common.{mul-le-mul_right}
-use Rattle.std.proofs.lemmas.Bool.{true≢false}
-use Rattle.abt_runs.specs.RawLaws.{raw_long, raw_count, raw_padded, own_size}
+use Rattle.std.proofs.lemmas.Bool.{true≢false, ltb-true, ltb-false}
+use Rattle.abt_runs.specs.RawLaws.{raw_count, raw_padded, own_size}
+use Rattle.abt_runs.specs.TailLaws.{list_long}
 use Rattle.abt_runs.specs.Raw.{RawPlace}
 use Rattle.abt_runs.specs.Part.{is_end}
 use Rattle.abt_io.proofs.Lent.{reads_none, reads_ok}
-use Rattle.abt_runs.proofs.Classes.{raw_all, never, if_none}
+use Rattle.abt_runs.proofs.Classes.{never, if_none}
+use Rattle.abt_runs.proofs.Tailed.{read_all}
 use Rattle.abt_runs.proofs.Charges.{raw_charged, charge_fresh, charge_end, raw_turns, raw_takes, raw_copies, raw_onward}
 use Rattle.abt_runs.proofs.Charges.{raw_first, minus_zero, raw_next, no_more, no_more_than, none_added, none_behind}
 use Rattle.abt_runs.proofs.Charges.{nothing_read}
-use Rattle.abt_runs.proofs.raw.RawRunsBlockRuns.next_part.Goals as goal
+use Rattle.abt_runs.proofs.raw.RawRuns.part_from.Goals as goal
 
 -- no block is left
 pub returns-then-from-self : goal.returns-then-from-self
@@ -24,7 +26,7 @@ returns-then-from-self g c =
         source = record { reads = reads_none _ g.S.Source _; cause = tt };
         told = λ models. record {
           part =
-              let n = raw_long self.length self.blocks self.size _ self.some self.covers self.last
+              let n = list_long c.args.is_tail_raw self.length self.blocks self.size _ self.some self.covers self.last
               (c.requires.asks.told models).0 in
               record {
                 within = omega (arith, n, c.if-from-self.true);
@@ -112,18 +114,25 @@ returns g c =
           part =
               let x = g.S.Source.content c.args.source.now in
               let e = (c.requires.asks.told models).0 in
-              let long = raw_long self.length self.blocks self.size x self.some self.covers self.last e in
+              let long = list_long c.args.is_tail_raw self.length self.blocks self.size x self.some self.covers
+              self.last e in
               let read = c.part.ensures.value ∙ if_none c.load_filled-loaded.result.fault c.in_default.is
               (c.load_filled-loaded.ensures.bytes models) in
               record {
                 within = omega (arith, long, l.within, a.within);
                 next = n.block;
-                all = raw_all c.leading-kind.result.0 self.size from.block blocks asked self.blocks c.min-want.result
-                    c.place_of-at.result (asked * self.size) x c.part.result.now
-                    (raw_count self.length self.blocks self.size x self.some self.covers self.last e) a.within l.within
+                all =
+                    let cl = c.classed-classed.ensures.is in
+                    let p = c.classed-classed.result in
+                    read_all c.args.is_tail_raw c.leading-kind.result.0 self.size from.block blocks asked self.blocks
+                    c.min-want.result c.place_of-at.result (asked * self.size) self.length x c.part.result.now
+                    (nat_lt from.block p)
+                    (raw_count self.length self.blocks self.size x self.some self.covers self.last e) e a.within
+                    l.within
                     at (omega (arith, e, below)) (omega (arith, e, self.covers)) refl
                     (c.min-want.ensures ∙ ap (λ (j : ℕ). min (j - c.place_of-at.result) (asked * self.size)) e) read
-                    l.all;
+                    (λ is. let y = ltb-true from.block p is in let z = a.classed y in omega (arith, z, cl))
+                    (λ is. let y = ltb-false from.block p is in omega (arith, y, cl)) l.all l.raw;
                 ended = never _ _ _ l.goes;
               };
           place = next;
