@@ -43,7 +43,7 @@ NAMES_DEFINED_TWICE = {
     "with_part": "a window with bytes in it; a placer with blocks taken",
 }
 # The longest line of specs/ and proofs/, and the files from before that have longer ones: each with its checksum.
-COLUMNS, LONG_LISTED, LONG_FILES = 120, os.path.join("tools", "long_lines.txt"), 345
+COLUMNS, LONG_LISTED, LONG_FILES = 120, os.path.join("tools", "long_lines.txt"), 327
 
 # The crates of each family, and how many hundreds of lines of src/, specs/ and proofs/ they have at most.
 FAMILIES = {
@@ -67,18 +67,18 @@ FAMILIES = {
 }
 LINES = {
     "devices": 98,
-    "definitions and reading": 162,
-    "writing": 171,
+    "definitions and reading": 163,
+    "writing": 172,
     "flashing and verifying": 119,
     "boot images": 219,
     "system": 82,
     "words": 95,
-    "commands over sparse images": 131,
+    "commands over sparse images": 132,
     "commands over boot images": 137,
     "laws": 58,
     "memory": 28,
     "for programs in C": 25,
-    "tests and benchmark": 104,
+    "tests and benchmark": 105,
 }
 
 FUNCTION = re.compile(r"\s*(?:pub(?:\(\w+\))? )?(?:const )?(?:unsafe )?(?:extern \"C\" )?(?:final )?fn (\w+)")

@@ -28,8 +28,7 @@ boot_magic = 0x41 ∷ 0x4e ∷ 0x44 ∷ 0x52 ∷ 0x4f ∷ 0x49 ∷ 0x44 ∷ 0x21
 
 -- versions 0 to 2, bytes 0 to 47
 abbrev pub front_numbers : ℕ → BootFront → List (List ℕ)
-front_numbers version f =
-    boot_magic
+front_numbers version f = boot_magic
     ∷ little_bytes 4 f.kernel_size ∷ little_bytes 4 f.kernel_addr
     ∷ little_bytes 4 f.ramdisk_size ∷ little_bytes 4 f.ramdisk_addr
     ∷ little_bytes 4 f.second_size ∷ little_bytes 4 f.second_addr
@@ -51,8 +50,7 @@ dtb_fields d = little_bytes 4 d.dtb_size ∷ little_bytes 8 d.dtb_addr ∷ []
 
 -- versions 3 and 4, bytes 0 to 23
 abbrev pub short_numbers : ShortFront → List (List ℕ)
-short_numbers f =
-    boot_magic
+short_numbers f = boot_magic
     ∷ little_bytes 4 f.kernel_size ∷ little_bytes 4 f.ramdisk_size
     ∷ little_bytes 4 f.os_version.number ∷ little_bytes 4 f.header_size ∷ []
 

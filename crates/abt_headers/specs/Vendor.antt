@@ -52,8 +52,7 @@ vendor_magic = 0x56 ∷ 0x4e ∷ 0x44 ∷ 0x52 ∷ 0x42 ∷ 0x4f ∷ 0x4f ∷ 0x
 
 -- bytes 0 to 27
 abbrev pub vendor_head : ℕ → VendorFront → List (List ℕ)
-vendor_head version f =
-    vendor_magic
+vendor_head version f = vendor_magic
     ∷ little_bytes 4 version ∷ little_bytes 4 (page_bytes f.page_size)
     ∷ little_bytes 4 f.kernel_addr ∷ little_bytes 4 f.ramdisk_addr ∷ little_bytes 4 f.vendor_ramdisk_size ∷ []
 

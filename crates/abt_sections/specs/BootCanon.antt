@@ -70,8 +70,7 @@ short_for s sizes header_size = record {
 }
 
 unfoldable pub boot_header_with : Bool → BootFields → PageSize → List ℕ → List ℕ → BootHeader
-boot_header_with is_ended s page sizes id =
-    if s.version == 0 then V0 (front_with is_ended s page sizes id)
+boot_header_with is_ended s page sizes id = if s.version == 0 then V0 (front_with is_ended s page sizes id)
     else if s.version == 1 then V1 (front_with is_ended s page sizes id) (dtbo_for page sizes 1648)
     else if s.version == 2 then V2 (front_with is_ended s page sizes id) (dtbo_for page sizes 1660) (dtb_for s sizes)
     else if s.version == 3 then V3 (short_for s sizes 1580)

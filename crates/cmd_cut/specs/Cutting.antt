@@ -330,8 +330,7 @@ pub record FirstStand (names : Naming) (from : ℕ) (held held' : OpenFiles) (ol
 
 -- The file at one path held an image, and all its pieces are stored. Their lines were printed, and then their number.
 pub record CutsFile (raw : Option ℕ) (limit : ℕ) (input : List ℕ) (names : Naming) (held held' : OpenFiles)
-    (old new : World)
-    (shows : ℕ → List Block → Type 0) : Type 0 where
+    (old new : World) (shows : ℕ → List Block → Type 0) : Type 0 where
   pub from : ℕ
   pub there : old.at input ≡ Some from
   pub size : ℕ

@@ -79,8 +79,7 @@ pub record LeavesExpanded {X F : Type 0} (r : Result X F) (from onto : List ℕ)
 
 -- why it fails: for a fault of the contents of IN; because a device or the system failed; or only its line failed
 abbrev pub RefusesFile : SparseCommandFault → List ℕ → List ℕ → World → World → OpenFiles → OpenFiles
-    → (List ℕ → Type 0)
-    → Type 0
+    → (List ℕ → Type 0) → Type 0
 RefusesFile (faults.Sparse f) input output old new held held' untold =
     OfDevice f (HasFailed held held') (HasFault input old f)
 RefusesFile (faults.Host f) input output old new held held' untold =

@@ -89,8 +89,7 @@ FlashesUntold input partition old new held held' untold =
 
 -- why the command fails: for what the files hold; or a file or a device has failed, or the report
 abbrev pub RefusesFlash : SparseCommandFault → List ℕ → List ℕ → World → World → OpenFiles → OpenFiles
-    → (List ℕ → Type 0)
-    → Type 0
+    → (List ℕ → Type 0) → Type 0
 RefusesFlash (faults.Flash f) input partition old new held held' untold =
     OnClosed held' (Between input partition old new (IsUnflashed (HasFailed held held') f))
 RefusesFlash (faults.Host f) input partition old new held held' untold =

@@ -145,8 +145,7 @@ abbrev pub RefusesPieces : SparseCommandFault → Option ℕ → ℕ → ℕ →
 RefusesPieces (faults.Flash f) raw limit before input partition spool old new held held' untold =
     OnClosed held' (Across input partition spool old new (IsUndelivered (HasFailed held held') raw f limit before))
 RefusesPieces (faults.Host f) raw limit before input partition spool old new held held' untold =
-    FailsAround partition old new held held'
-    (Across input partition spool old new (IsDeliveredWhole raw limit before))
+    FailsAround partition old new held held' (Across input partition spool old new (IsDeliveredWhole raw limit before))
     ⊎ FlashesPiecesUntold raw limit before input partition spool old new held held' untold
 RefusesPieces fault raw limit before input partition spool old new held held' untold =
     OfFile input old (IsUncuttable raw fault limit) × (new ≡ old)

@@ -61,8 +61,7 @@ pub data SaysNext (table : List Shape) : List (List ℕ) → List Saying → Lis
   apart : (row : Shape) (value : List ℕ) (rest : List (List ℕ))
       → Contains table row → is_option row.place ≡ true
       → SaysNext table ((codes "--" ++ row.name) ∷ (value ∷ rest)) (of_row row value ∷ []) rest
-  flag : (row : Shape) (rest : List (List ℕ))
-      → Contains table row → is_flag row.place ≡ true
+  flag : (row : Shape) (rest : List (List ℕ)) → Contains table row → is_flag row.place ≡ true
       → SaysNext table ((codes "--" ++ row.name) ∷ rest) (of_row row (codes "true") ∷ []) rest
   letters : (letter : ℕ) (more : List ℕ) (said : List Saying) (rest : List (List ℕ))
       → AllZip (IsLetter table) (letter ∷ more) said
@@ -74,8 +73,7 @@ pub data SaysNext (table : List Shape) : List (List ℕ) → List Saying → Lis
 pub data WordsSay (table : List Shape) : List (List ℕ) → List Saying → Type 0 where
   end : WordsSay table [] []
   more : (words : List (List ℕ)) (said : List Saying) (rest : List (List ℕ)) (later : List Saying)
-      → SaysNext table words said rest → WordsSay table rest later
-      → WordsSay table words (said ++ later)
+      → SaysNext table words said rest → WordsSay table rest later → WordsSay table words (said ++ later)
 
 -- what was said before, and what the first of these words says
 pub record AddsSaid (table : List Shape) (words : List (List ℕ)) (before after : List Saying) (rest : List (List ℕ))
@@ -146,8 +144,7 @@ words_of_row row said placed =
 -- the same for each row of a table, where a positional row gets words that those before it left
 abbrev pub answers_due : List Shape → List Saying → List (List ℕ) → List Saying
 answers_due [] said placed = []
-answers_due (row ∷ rows) said placed =
-    map (of_row row) (words_of_row row said placed)
+answers_due (row ∷ rows) said placed = map (of_row row) (words_of_row row said placed)
     ++ answers_due rows said (drop (words_due row.place (length placed)) placed)
 
 -- the positional words that no row has
