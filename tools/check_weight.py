@@ -43,7 +43,7 @@ NAMES_DEFINED_TWICE = {
     "with_part": "a window with bytes in it; a placer with blocks taken",
 }
 # The longest line of specs/ and proofs/, and the files from before that have longer ones: each with its checksum.
-COLUMNS, LONG_LISTED, LONG_FILES = 120, os.path.join("tools", "long_lines.txt"), 327
+COLUMNS, LONG_LISTED, LONG_FILES = 120, os.path.join("tools", "long_lines.txt"), 326
 
 # The crates of each family, and how many hundreds of lines of src/, specs/ and proofs/ they have at most.
 FAMILIES = {
@@ -75,7 +75,7 @@ LINES = {
     "words": 95,
     "commands over sparse images": 132,
     "commands over boot images": 137,
-    "laws": 58,
+    "laws": 59,
     "memory": 28,
     "for programs in C": 25,
     "tests and benchmark": 105,
