@@ -39,7 +39,7 @@ pub struct FileSpool {
 impl FileSpool {
     /// A spool of at most `capacity` bytes, over a file that is empty (as one that was opened with its
     /// content cut off).
-    pub fn new(file: File, capacity: u64) -> FileSpool {
+    pub(crate) fn new(file: File, capacity: u64) -> FileSpool {
         FileSpool {
             file,
             capacity,
