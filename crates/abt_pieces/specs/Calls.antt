@@ -1,5 +1,5 @@
 -- When a call that writes an image, or a piece of one, has failed, and what it costs.
-use Rattle.std.specs.Prelude.{◌≡◌, ℕ, ◌+◌, ◌-◌, ◌*◌, ◌≤◌, length, max, Result, OnOk, IfErr}
+use Rattle.std.specs.Prelude.{◌≡◌, ℕ, ◌+◌, ◌-◌, ◌*◌, ◌≤◌, length, max, Result, IfErr}
 use Rattle.abt_io.specs.Lent.{OnlyReads, OneStep}
 use Rattle.abt_io.specs.declared.device.Source as sources
 use Rattle.abt_io.specs.declared.device.Output as outputs
@@ -33,12 +33,6 @@ pub record ReadsCut {X : Type 0} (r : Result X PieceFault) {A : Type 0} (s : sou
   where
     pub reads : OnlyReads r s old new
     pub cause : IfErr r (λ e. CutCause e s.models (s.read_faults old) (s.read_faults new) 0 0)
-
--- no count of faults falls, and after an Ok none has risen
-pub record Failing {X : Type 0} (r : Result X PieceFault) (a z : Devices) : Type 0 where
-  pub read : a.read_faults ≤ z.read_faults
-  pub write : a.write_faults ≤ z.write_faults
-  pub clean : OnOk r ((z.read_faults ≡ a.read_faults) × (z.write_faults ≡ a.write_faults))
 
 -- The calls of both devices, and the turns of loops, are at most 8 for each byte that was moved and for each of n, the
 -- bytes of a block, and 512. No step receives more than a window.

@@ -11,7 +11,7 @@ use Rattle.abt_runs.specs.declared.part.RunFault.{RunFault}
 use Rattle.abt_runs.specs.declared.part.RunFault.TheVariants.{Sparse, Read, TooLarge, SourceChanged, BadBlock}
 use Rattle.abt_runs.specs.declared.stage.OpeningStage.{OpeningStage}
 use Rattle.abt_runs.specs.declared.stage.OpeningStage.TheVariants as stages
-use Rattle.abt_runs.specs.declared.opening_state.Opening.{Opening}
+use Rattle.abt_runs.specs.declared.opening_state.SparseOpening.{SparseOpening}
 
 -- an image ends with its header and so many bytes after it, and all else with a fault
 abbrev pub ends : Outcome → Result (Header × ℕ) SparseFault
@@ -35,7 +35,7 @@ Verdict (stages.Failed (Sparse f)) h long index have at x v = Err f ≡ v
 Verdict (stages.Failed (Read d)) h long index have at x v = ⊤
 Verdict (stages.Failed f) h long index have at x v = ⊥
 
-abbrev pub ComesTo : Opening → List ℕ → Result (Header × ℕ) SparseFault → Type 0
+abbrev pub ComesTo : SparseOpening → List ℕ → Result (Header × ℕ) SparseFault → Type 0
 ComesTo o x v = Verdict o.stage (view o.header) o.length o.index o.have o.at x v
 
 -- the length that an opening has found, once it has, is that of x
@@ -68,7 +68,7 @@ steps_left stages.Header index total = 2 ^ 33
 steps_left stages.Chunks index total = 1 + (total - index)
 steps_left s index total = 0
 
-abbrev pub to_do : Opening → ℕ
+abbrev pub to_do : SparseOpening → ℕ
 to_do o = steps_left o.stage o.index o.header.total_chunks
 
 -- an image was opened exactly where the bytes are one, and else the first fault is returned

@@ -20,7 +20,7 @@
 //! | `words.rt`, `reading.rt` | `equal_word`, by lanes; bytes of the source loaded into the window |
 //! | `raw.rt`, `head.rt` | `RawRuns`, a raw image; the header of a chunk |
 //! | `tail.rt` | `TailRuns`, a raw image whose last block may be raw, whatever its bytes are |
-//! | `stage.rt`, `opening_state.rt`, `opening_steps.rt` | `Opening`: goes through all chunk headers, in steps |
+//! | `stage.rt`, `opening_state.rt`, `opening_steps.rt` | `SparseOpening`: goes through all chunk headers, in steps |
 //! | `sparse.rt`, `sparse_open.rt`, `sparse_parts.rt` | `SparseRuns`, a sparse image |
 //!
 //! `specs/` defines these terms (`Part` and `Whole` first, then `Raw`, and `Sparse`, `Head`, `Verdict` for sparse
@@ -42,7 +42,7 @@ mod tail;
 mod whole;
 mod words;
 
-pub use opening_state::Opening;
+pub use opening_state::SparseOpening;
 pub use part::{Cursor, Run, RunFault, RunKind};
 pub use raw::{RawRuns, leading, load_filled};
 pub use reading::Loaded;

@@ -8,7 +8,7 @@ use abt_sparse::SparseHeader;
 /// An opening of a sparse image: it goes through all chunk headers, step by step, and passes over
 /// the data between them by position. It holds numbers and the image's header alone.
 #[derive(Clone, Copy, Drop)]
-pub struct Opening {
+pub struct SparseOpening {
     /// What it does next.
     pub stage: OpeningStage,
     /// The image's header, once it was read.

@@ -10,7 +10,7 @@ ghost use Rattle.abt_runs.specs.Head.{chunk_header_of};
 
 use crate::head::{CHUNK_HEADER, head_at};
 use crate::reading::load;
-use crate::{Opening, OpeningProgress, OpeningStage, RunFault};
+use crate::{OpeningProgress, OpeningStage, RunFault, SparseOpening};
 use abt_io::{Meter, Source, Window};
 use abt_sparse::{
     ChunkHeader, SparseFault, SparseHeader, counted_blocks, data_length, header_of, u16_at,
@@ -19,13 +19,13 @@ use abt_sparse::{
 /// How long an image's header is, but for extra bytes.
 const FILE_HEADER: usize = 28;
 
-impl Opening {
+impl SparseOpening {
     /// An opening that has done nothing yet.
-    pub fn begin() -> Opening
+    pub fn begin() -> SparseOpening
         ensures fresh { result.stage ≡ OpeningStage.Header }
         ensures told { (x : List ℕ) → ComesTo result x (ends (outcome x)) }
     {
-        Opening {
+        SparseOpening {
             stage: OpeningStage::Header,
             header: SparseHeader {
                 minor: 0,
@@ -76,7 +76,7 @@ impl Opening {
                 if size < u64::from(header.file_hdr_sz) {
                     return self.fail(RunFault::Sparse(SparseFault::Truncated { at: size }));
                 }
-                *self = Opening {
+                *self = SparseOpening {
                     stage: OpeningStage::Chunks,
                     header,
                     length: size,
@@ -124,7 +124,7 @@ impl Opening {
         if self.length - self.at < u64::from(chunk.total) {
             return self.fail(RunFault::Sparse(SparseFault::Truncated { at: self.length }));
         }
-        *self = Opening {
+        *self = SparseOpening {
             stage: OpeningStage::Chunks,
             header,
             length: self.length,

@@ -7,10 +7,10 @@ ghost use Rattle.abt_runs.specs.Stage.{is_opening_done};
 ghost use Rattle.abt_runs.specs.Verdict.{ComesTo, CausedAt, Refuses, ends};
 ghost use Rattle.abt_runs.specs.Sparse.{SparseOpened};
 
-use crate::{Opening, OpeningProgress, OpeningStage, RunFault, SparseRuns};
+use crate::{OpeningProgress, OpeningStage, RunFault, SparseOpening, SparseRuns};
 use abt_io::{Meter, Source, Window};
 
-impl Opening {
+impl SparseOpening {
     /// The image that was opened.
     pub fn into_runs(self) -> SparseRuns
         requires { is_opening_done self.stage ≡ true }
@@ -29,7 +29,7 @@ impl Opening {
 impl SparseRuns {
     /// Opens the sparse image at the beginning of a source: goes through all its chunk headers.
     ///
-    /// It refuses as `Opening::opening_step` does.
+    /// It refuses as `SparseOpening::opening_step` does.
     pub fn open<S: Source>(
         source: &mut S,
         w: &mut Window,
@@ -49,7 +49,7 @@ impl SparseRuns {
             (S.read_faults source.new)
             (IsTrue S.models)) }
     {
-        let mut opening = Opening::begin();
+        let mut opening = SparseOpening::begin();
         'steps: loop {
             m.tick();
             match opening.opening_step(source, w, m) {

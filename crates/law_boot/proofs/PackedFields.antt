@@ -1,6 +1,6 @@
 -- The fields of a header that was made of fields pack the same header again.
 use Rattle.std.proofs.Common.{◌≡◌, ℕ, zero, suc, ◌+◌, ◌≤◌, ◌<◌, ◌^◌, inl, inr, Bool, true, false, cond, not, ◌==◌, List}
-use Rattle.std.proofs.Common.{[], ◌∷◌, ◌++◌, length, take, drop, map, replicate, refl, sym, ap, subst, ◌∙◌, rules}
+use Rattle.std.proofs.Common.{[], ◌∷◌, ◌++◌, length, take, drop, map, replicate, refl, sym, ap, subst, ◌∙◌}
 use Rattle.std.proofs.Common.{arith, lit<, ◌⊎◌}
 use Rattle.std.proofs.lemmas.Bool.{and_parts, cases_lt}
 use Rattle.std.proofs.lemmas.List.Sums.{take_while-cons}
@@ -25,10 +25,6 @@ use Rattle.law_boot.specs.Said.{boot_fields_of, vendor_fields_of}
 use Rattle.cmd_common_texts.specs.Words.{text_of, text_over}
 
 -- ---- texts
-
-not_zero : (c : Bool) → not c ≡ true → c ≡ false
-not_zero true e = absurd (search (rules, e))
-not_zero false e = refl
 
 -- zeros behind a text end it
 pub text_back : (t : List ℕ) (k : ℕ) → no_zero t ≡ true → text_of (t ++ replicate k 0) ≡ t

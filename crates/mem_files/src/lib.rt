@@ -7,4 +7,4 @@
 
 mod memory_file;
 
-pub use memory_file::MemoryFile;
+pub use memory_file::OpenMemoryFile;

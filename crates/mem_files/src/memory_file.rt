@@ -12,7 +12,7 @@ use sys_file::{Stamp, SystemFile};
 /// Bytes that are read and written as a file is. The call of this number fails, counted down from there, and after it
 /// none does.
 #[derive(Drop)]
-pub struct MemoryFile {
+pub struct OpenMemoryFile {
     pub bytes: Vec<u8>,
     pub left: u64,
     pub history: History,
@@ -20,13 +20,13 @@ pub struct MemoryFile {
     pub ghost told: { AreBytes bytes.items },
 }
 
-impl MemoryFile {
+impl OpenMemoryFile {
     /// These bytes.
-    pub fn new(bytes: Vec<u8>, left: u64) -> MemoryFile
+    pub fn new(bytes: Vec<u8>, left: u64) -> OpenMemoryFile
         ensures { result.bytes ≡ bytes }
     {
         are_bytes(bytes.as_slice());
-        MemoryFile {
+        OpenMemoryFile {
             bytes,
             left,
             history: History::new(),
@@ -47,7 +47,7 @@ impl MemoryFile {
     }
 }
 
-impl SystemFile for MemoryFile {
+impl SystemFile for OpenMemoryFile {
     ghost models = { true };
 
     ghost stands = { λ f. f.bytes.items };

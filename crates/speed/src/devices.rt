@@ -95,21 +95,21 @@ impl Input for Memory<'_> {
 
 /// Takes bytes one after another.
 #[derive(Drop)]
-pub struct Sink {
+pub struct ChecksumSink {
     pub length: u64,
     pub digest: Digest,
 }
 
-impl Sink {
-    pub fn new() -> Sink {
-        Sink {
+impl ChecksumSink {
+    pub fn new() -> ChecksumSink {
+        ChecksumSink {
             length: 0,
             digest: Digest::new(),
         }
     }
 }
 
-impl Write for Sink {
+impl Write for ChecksumSink {
     fn write(&mut self, bytes: &[u8]) -> io::Result<usize> {
         self.digest.put(self.length, bytes);
         self.length = self.length.wrapping_add(bytes.len() as u64);

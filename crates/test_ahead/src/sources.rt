@@ -2,7 +2,7 @@
 
 use crate::short_file::ShortFile;
 use abt_io::{DeviceFault, Source};
-use mem_files::MemoryFile;
+use mem_files::OpenMemoryFile;
 use std::alloc::Global;
 use sys_devices::{AheadSource, FileSource};
 use sys_file::{Stamp, SystemFile};
@@ -105,7 +105,7 @@ fn faults<F: SystemFile + Drop>(
 fn a_source_gives_what_stands(rt: HostRuntime) {
     for size in SIZES.iter() {
         let held = image(rt.alloc(), *size);
-        let memory = MemoryFile::new(image(rt.alloc(), *size), 0);
+        let memory = OpenMemoryFile::new(image(rt.alloc(), *size), 0);
         let mut source = ahead(rt.alloc(), memory).expect(&rt, "there is memory");
         assert!(rt; source.length() == *size as u64);
         assert!(rt;
@@ -145,7 +145,7 @@ fn what_fails_is_told(rt: HostRuntime) {
     let mut source = ahead(rt.alloc(), file).expect(&rt, "there is memory");
     assert!(rt; source.read_at(100, &mut out) == Err(DeviceFault::Failed));
     assert!(rt; source.read_at(100, &mut out) == Ok(300));
-    let none = AheadSource::new(rt.alloc(), FileSource::<MemoryFile>::empty());
+    let none = AheadSource::new(rt.alloc(), FileSource::<OpenMemoryFile>::empty());
     let mut none = none.expect(&rt, "there is memory");
     assert!(rt; none.length() == 0);
     assert!(rt; none.read_at(0, &mut out) == Ok(0));

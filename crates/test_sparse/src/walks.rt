@@ -2,7 +2,7 @@
 
 use abt_io::{DeviceFault, Meter, SliceSource, Window};
 use abt_runs::{
-    BlockRuns, Opening, OpeningProgress, RawRuns, RunFault, RunKind, SparseRuns, equal_word,
+    BlockRuns, OpeningProgress, RawRuns, RunFault, RunKind, SparseOpening, SparseRuns, equal_word,
 };
 use abt_sparse::SparseFault;
 use mem_devices::{Cut, Faulty, Long};
@@ -104,7 +104,7 @@ fn each_step_of_an_opening_that_fails_is_answered_again(rt: HostRuntime) {
         let mut source = Faulty::new(SliceSource::new(&THREE_KINDS), n);
         let mut w = Window::new();
         let mut m = Meter::new();
-        let mut opening = Opening::begin();
+        let mut opening = SparseOpening::begin();
         for _ in 1..n {
             assert!(rt;
                 opening.opening_step(&mut source, &mut w, &mut m) == Ok(OpeningProgress::More)

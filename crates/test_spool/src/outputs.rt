@@ -5,7 +5,7 @@ ghost use Rattle.std.specs.Prelude.{◌≡◌, []};
 use crate::faulty_file::FaultyFile;
 use crate::given::{Call, Given};
 use crate::spools::{has, opened, text};
-use mem_files::MemoryFile;
+use mem_files::OpenMemoryFile;
 use std::alloc::Global;
 use sys_file::SystemFile;
 use sys_outputs::{HeldFile, HoleFile, Room};
@@ -55,10 +55,10 @@ fn holes<F: SystemFile + Drop>(holes: &mut HoleFile<F>, given: &mut Given) -> bo
 }
 
 // A file in memory of which this call fails.
-fn memory(alloc: Global, fails: u64) -> MemoryFile
+fn memory(alloc: Global, fails: u64) -> OpenMemoryFile
     ensures { result.bytes.items ≡ [] }
 {
-    MemoryFile::new(Vec::new(alloc), fails)
+    OpenMemoryFile::new(Vec::new(alloc), fails)
 }
 
 /// Over a file in memory, of which any one call fails.

@@ -6,7 +6,7 @@ ghost use Rattle.std.specs.Prelude.{◌≤◌, IsTrue, length};
 use crate::faulty_file::{FaultyFile, WHY};
 use crate::taken::{Call, Taken, front};
 use abt_io::{DeviceFault, Input, Output, Overwrite, Spool, WINDOW};
-use mem_files::MemoryFile;
+use mem_files::OpenMemoryFile;
 use std::alloc::{Alloc, Global};
 use std::fs;
 use std::fs::OpenOptions;
@@ -160,7 +160,7 @@ fn a_spool_is_right_in_memory(rt: HostRuntime) {
         let mut before = Vec::new(rt.alloc());
         assert!(rt; before.extend_from_slice(BEFORE).is_ok());
         let stands = before.len();
-        let file = MemoryFile::new(before, k / 2);
+        let file = OpenMemoryFile::new(before, k / 2);
         let mut spool = gathering(rt.alloc(), file, stands, k % 2 == 1);
         let mut taken = Taken::new(rt.alloc());
         for call in CALLS.iter() {

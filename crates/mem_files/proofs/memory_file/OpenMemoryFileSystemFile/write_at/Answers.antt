@@ -3,7 +3,7 @@ use Rattle.abt_io.specs.Moment.{wrote, put_at}
 use Rattle.abt_io.proofs.Moments.{one_wrote}
 use Rattle.mem_devices.proofs.Outside.{kept_wrote, unsettled_wrote}
 use Rattle.sys_file.proofs.Pasts.{lays_none}
-use Rattle.mem_files.proofs.memory_file.MemoryFileSystemFile.write_at.Goals as goal
+use Rattle.mem_files.proofs.memory_file.OpenMemoryFileSystemFile.write_at.Goals as goal
 
 pub returns-then-is_over-clause-lays : goal.returns-then-is_over-clause-lays
 returns-then-is_over-clause-lays c = λ models fits.

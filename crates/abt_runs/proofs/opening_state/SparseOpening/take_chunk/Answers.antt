@@ -2,7 +2,7 @@ use Rattle.std.proofs.Common.{rules, arith, ap, sym, ◌∙◌, ◌≤◌, ◌+�
 use Rattle.abt_sparse.specs.View.{view}
 use Rattle.abt_sparse.specs.declared.fault.SparseFault.TheVariants.{ChunkType}
 use Rattle.abt_runs.proofs.Opened.{kind_ends, no_kind, failed_is, from_chunks}
-use Rattle.abt_runs.proofs.opening_state.Opening.take_chunk.Goals as goal
+use Rattle.abt_runs.proofs.opening_state.SparseOpening.take_chunk.Goals as goal
 
 pub returns-in-None : goal.returns-in-None
 returns-in-None c = record {

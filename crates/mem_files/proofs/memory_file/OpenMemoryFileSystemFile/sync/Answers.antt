@@ -1,6 +1,6 @@
 use Rattle.std.proofs.Common.{rules, refl}
 use Rattle.abt_io.proofs.Moments.{one_settled}
-use Rattle.mem_files.proofs.memory_file.MemoryFileSystemFile.sync.Goals as goal
+use Rattle.mem_files.proofs.memory_file.OpenMemoryFileSystemFile.sync.Goals as goal
 
 pub returns : goal.returns
 returns c = λ models. record {

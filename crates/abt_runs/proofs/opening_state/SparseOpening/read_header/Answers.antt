@@ -2,8 +2,8 @@ use Rattle.std.proofs.Common.{rules, arith, ap, sym, ◌∙◌, ◌≡◌, ℕ, 
 use Rattle.abt_sparse.specs.View.{view}
 use Rattle.abt_sparse.specs.declared.fault.SparseFault.TheVariants.{Truncated}
 use Rattle.abt_runs.proofs.Opened.{no_header, failed_is, failed_advances, from_header, load_caused, own_caused}
-use Rattle.abt_runs.proofs.opening_state.Opening.read_header.Goals as goal
-use Rattle.abt_runs.proofs.opening_state.Opening.read_header.Goals.{in-Some, in-None}
+use Rattle.abt_runs.proofs.opening_state.SparseOpening.read_header.Goals as goal
+use Rattle.abt_runs.proofs.opening_state.SparseOpening.read_header.Goals.{in-Some, in-None}
 
 pub returns-then-size : goal.returns-then-size
 returns-then-size g c = record {

@@ -4,7 +4,7 @@ use Rattle.abt_sparse.specs.Reading.{counted, data_len}
 use Rattle.abt_sparse.specs.declared.fault.SparseFault.TheVariants.{Truncated}
 use Rattle.abt_runs.specs.Verdict.{rest_ends}
 use Rattle.abt_runs.proofs.Opened.{known_is, length_ends, room_ends, cut_ends, past_ends, failed_is, from_chunks}
-use Rattle.abt_runs.proofs.opening_state.Opening.take_known.Goals as goal
+use Rattle.abt_runs.proofs.opening_state.SparseOpening.take_known.Goals as goal
 
 pub returns-then-from-data : goal.returns-then-from-data
 returns-then-from-data c = record {

@@ -2,8 +2,8 @@ use Rattle.std.proofs.Common.{rules, arith, ap, sym, ◌∙◌, ◌<◌, ◌-◌
 use Rattle.abt_sparse.specs.View.{view}
 use Rattle.abt_sparse.specs.declared.fault.SparseFault.TheVariants.{Truncated}
 use Rattle.abt_runs.proofs.Opened.{short_ends, failed_is, failed_advances, from_chunks, load_caused, own_caused}
-use Rattle.abt_runs.proofs.opening_state.Opening.read_chunk.Goals as goal
-use Rattle.abt_runs.proofs.opening_state.Opening.read_chunk.Goals.{in-Some, in-None}
+use Rattle.abt_runs.proofs.opening_state.SparseOpening.read_chunk.Goals as goal
+use Rattle.abt_runs.proofs.opening_state.SparseOpening.read_chunk.Goals.{in-Some, in-None}
 
 pub returns-then-self-2 : goal.returns-then-self-2
 returns-then-self-2 g c = record {

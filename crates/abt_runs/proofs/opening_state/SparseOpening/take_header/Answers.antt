@@ -4,22 +4,25 @@ use Rattle.abt_sparse.specs.declared.fault.SparseFault.TheVariants.{Truncated}
 use Rattle.abt_runs.specs.Verdict.{rest_ends}
 use Rattle.abt_runs.proofs.Opened.{bad_header, cut_header, past_header, header_low, failed_is, failed_takes}
 use Rattle.abt_runs.proofs.Opened.{from_header}
-use Rattle.abt_runs.proofs.opening_state.Opening.take_header.Goals as goal
+use Rattle.abt_runs.proofs.opening_state.SparseOpening.take_header.Goals as goal
 
 pub returns-then-size-from-clause-keeps : goal.returns-then-size-from-clause-keeps
 returns-then-size-from-clause-keeps c x long is v old =
     let s = c.args.self.now in
     let o = from_header s.stage (view s.header) s.length s.index s.have s.at x v c.requires.here old in
     let short : length x < c.in-Ok.header.file_hdr_sz = omega (arith, long, c.if-size-from.true, c.from.ensures) in
-    let cut = cut_header (view c.in-Ok.header) c.args.bytes.now x is (omega (arith, long, c.requires.long)) c.in-Ok.ensures short in
-    failed_is c.fail.new.self.stage _ _ _ _ _ _ x v c.fail.ensures.failed (sym (cut ∙ ap (λ (n : ℕ). Err (Truncated n)) long) ∙ o)
+    let cut = cut_header (view c.in-Ok.header) c.args.bytes.now x is (omega (arith, long, c.requires.long))
+    c.in-Ok.ensures short in
+    failed_is c.fail.new.self.stage _ _ _ _ _ _ x v c.fail.ensures.failed
+    (sym (cut ∙ ap (λ (n : ℕ). Err (Truncated n)) long) ∙ o)
 
 pub returns-else-size-from-clause-keeps : goal.returns-else-size-from-clause-keeps
 returns-else-size-from-clause-keeps c x long is v old =
     let s = c.args.self.now in
     let o = from_header s.stage (view s.header) s.length s.index s.have s.at x v c.requires.here old in
     let enough : c.in-Ok.header.file_hdr_sz ≤ length x = omega (arith, long, c.if-size-from.false, c.from.ensures) in
-    let past = past_header (view c.in-Ok.header) c.args.bytes.now x is (omega (arith, long, c.requires.long)) c.in-Ok.ensures enough in
+    let past = past_header (view c.in-Ok.header) c.args.bytes.now x is (omega (arith, long, c.requires.long))
+    c.in-Ok.ensures enough in
     (sym long, ap (λ (n : ℕ). rest_ends (view c.in-Ok.header) 0 0 n x) c.from-in-Ok.ensures ∙ sym past ∙ o)
 
 pub returns-in-Err-clause-keeps : goal.returns-in-Err-clause-keeps
