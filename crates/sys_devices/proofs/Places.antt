@@ -52,16 +52,6 @@ stands_same c x y at e s = record {
 pub none_stands : (c : List ℕ) (at : ℕ) → FoundAt c at []
 none_stands c at = record { present = omega arith; same = refl }
 
--- a front of what stands somewhere
-pub front_stands : (c x : List ℕ) (at n : ℕ) → FoundAt c at x → n ≤ length x → FoundAt c at (take n x)
-front_stands c x at n s le =
-    let long = length-take-le n x le in
-    record {
-      present = omega (arith, long, le, s.present);
-      same = ap (take n) s.same ∙ take-take n (length x) (drop at c) le
-          ∙ ap (λ (j : ℕ). take j (drop at c)) (sym long);
-    }
-
 -- the last ones of what stands somewhere, where these lead to a place
 pub last_stand : (c bytes : List ℕ) (place at held last count : ℕ) → FoundAt c place (take count bytes)
     → held ≤ count → held ≤ length bytes → last ≤ held → (0 < last → at ≡ place + held)

@@ -1,4 +1,3 @@
-pub mod Blank
 pub mod Ends
 pub mod Follows
 pub mod Given

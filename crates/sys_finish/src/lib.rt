@@ -18,6 +18,6 @@ mod target;
 
 pub use gathered::Gathered;
 pub use image_file::ImageFile;
-pub use output_file::{Finished, ImageOutput, OutputFile};
+pub use output_file::{Finished, OutputFile};
 pub use sink::Sink;
 pub use target::Ended;

@@ -6,7 +6,6 @@ ghost use Rattle.sys_finish.specs.Given.{given_by_writer, SettlesWriter};
 ghost use Rattle.abt_io.specs.Frame.{nothing_logged};
 
 use crate::gathered::Gathered;
-use crate::image_file::ImageFile;
 use crate::sink::Sink;
 use crate::target::Ended;
 use abt_io::{DeviceFault, Output};
@@ -127,14 +126,4 @@ impl<F: SystemFile + Drop> Reasons for OutputFile<F> {
     fn why(&self) -> Option<i32> {
         self.to.why()
     }
-}
-
-/// The output of an image that has a magic.
-#[derive(Drop)]
-pub enum ImageOutput<F: SystemFile + Drop> {
-    /// A regular file, which can be overwritten: so the magic is written last, and an image that was broken off has
-    /// none.
-    File(ImageFile<F>),
-    /// A pipe, a device or standard output, which is written from its beginning on.
-    Stream(OutputFile<F>),
 }

@@ -1,8 +1,9 @@
 -- The output that a command begins to write.
 use Rattle.std.specs.Prelude.{◌≡◌, ◌≤◌, ℕ, [], Result, IfOk, OnOk}
-use Rattle.sys_finish.specs.Blank.{IsBlank}
+use Rattle.sys_disk.specs.Images.{OfImage}
+use Rattle.sys_disk.specs.declared.image_to.ImageTo.{ImageTo}
 use Rattle.sys_finish.specs.Given.{given_by_writer}
-use Rattle.sys_finish.specs.declared.output_file.ImageOutput.{ImageOutput}
+use Rattle.sys_finish.specs.declared.image_file.ImageFile.{ImageFile}
 use Rattle.sys_finish.specs.declared.output_file.OutputFile.{OutputFile}
 use Rattle.sys_host.specs.Streams.{Mixed}
 use Rattle.sys_host.specs.Taken.{Forbidden, Adds, WritesOne}
@@ -17,10 +18,11 @@ pub record BeginsOutput {E F : Type 0} {g : _} (r : Result (OutputFile F g) E) (
   pub empty : IfOk r (λ output. given_by_writer output.to.writer ≡ [])
 
 -- the same of an image that has a magic
-pub record BeginsImage {E F : Type 0} {g : _} (r : Result (ImageOutput F g) E) (streams : Streams)
-    (taken taken' : Taken) : Type 0 where
+pub record BeginsImage {E F : Type 0} {g : _} (r : Result (ImageTo (ImageFile F g) (OutputFile F g)) E)
+    (streams : Streams) (taken taken' : Taken) : Type 0 where
   pub writes : OnOk r (WritesOne streams taken taken')
-  pub blank : IfOk r IsBlank
+  pub blank : IfOk r (OfImage (λ image. given_by_writer image.output.to.writer ≡ [])
+      (λ output. given_by_writer output.to.writer ≡ []))
 
 -- one more file is written, for pieces of at most this many bytes, and it holds no more than that
 pub record BeginsKeptSpool {X F : Type 0} (n : ℕ) (r : Result (X × ℕ) F) (streams : Streams) (taken taken' : Taken)

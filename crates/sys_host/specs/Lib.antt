@@ -4,5 +4,6 @@ pub mod Begins
 pub mod Forward
 pub mod Left
 pub mod Opens
+pub mod Places
 pub mod Streams
 pub mod Taken

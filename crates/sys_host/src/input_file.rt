@@ -1,10 +1,10 @@
 //! An input that is read forward: a file, or standard input.
 
 ghost use Rattle.std.specs.Io.Buffered.{reader_buffer, reader_capacity, reader_inner, reader_remaining};
-ghost use Rattle.std.specs.Prelude.{◌≡◌, ◌<◌, ◌≤◌, false, length, take, drop, IsTrue, is_some};
+ghost use Rattle.std.specs.Prelude.{◌≡◌, ◌<◌, ◌≤◌, false, length, take, drop, IsTrue, is_some, IfOk};
 ghost use Rattle.abt_io.specs.Bytes.{AreBytes};
 ghost use Rattle.sys_host.specs.Forward.{bytes_of_known, ReaderGoesPast};
-ghost use Rattle.sys_host.specs.Left.{left_of};
+ghost use Rattle.sys_host.specs.Left.{left_of, Remains};
 ghost use Rattle.sys_host.specs.Opens.{WasOpened};
 
 use crate::open_file::{OpenedFile, not_opened};
@@ -33,7 +33,10 @@ pub struct InputFile<F: SystemFile + Drop> {
 }
 
 impl<F: SystemFile + Drop> InputFile<F> {
-    pub(crate) fn standard<'a>(alloc: Global, file: F) -> Result<InputFile<F>, HostRefusal<'a>> {
+    pub(crate) fn standard<'a>(alloc: Global, file: F) -> Result<InputFile<F>, HostRefusal<'a>>
+        ensures { IsTrue F.models → IfOk result (λ input. Remains F.models F.stands F.place input.reader
+            (drop (F.place file) (F.stands file))) }
+    {
         InputFile::buffered(alloc, Origin::stream(file), None)
     }
 
@@ -43,6 +46,8 @@ impl<F: SystemFile + Drop> InputFile<F> {
         place: FileArg<'a>,
     ) -> Result<InputFile<F>, HostRefusal<'a>>
         requires { WasOpened F.models F.stands F.place F.past false opened }
+        ensures { IsTrue F.models → IfOk result (λ input. Remains F.models F.stands F.place input.reader
+            (F.stands opened.file)) }
     {
         let length = if opened.found.is_file() {
             Some(opened.found.length)
@@ -59,7 +64,10 @@ impl<F: SystemFile + Drop> InputFile<F> {
         alloc: Global,
         origin: Origin<F>,
         length: Option<u64>,
-    ) -> Result<InputFile<F>, HostRefusal<'a>> {
+    ) -> Result<InputFile<F>, HostRefusal<'a>>
+        ensures { IsTrue F.models → IfOk result (λ input. Remains F.models F.stands F.place input.reader
+            (drop (F.place origin.file) (F.stands origin.file))) }
+    {
         match BufReader::new(alloc, origin) {
             Ok(reader) => Ok(InputFile {
                 reader,
@@ -73,7 +81,9 @@ impl<F: SystemFile + Drop> InputFile<F> {
     }
 
     /// Its bytes, to be read as any others.
-    pub(crate) fn into_reader(self) -> BufReader<Origin<F>> {
+    pub(crate) fn into_reader(self) -> BufReader<Origin<F>>
+        ensures { result ≡ self.reader }
+    {
         self.reader
     }
 

@@ -1,9 +1,10 @@
 //! Opening one file: how it is opened, and what kind of file it has to be.
 
-ghost use Rattle.std.specs.Prelude.{◌≡◌, IfOk};
+ghost use Rattle.std.specs.Prelude.{◌≡◌, IsTrue, IfOk};
 ghost use Rattle.sys_file.specs.System.{creates};
 ghost use Rattle.sys_host.specs.Access.{may_write, may_create, asks_to_write};
-ghost use Rattle.sys_host.specs.Opens.{WasOpened};
+ghost use Rattle.sys_host.specs.Opens.{WasOpened, OpensPlace};
+ghost use Rattle.sys_refusals.specs.Paths.{path_of};
 
 use std::io;
 use sys_file::{Kind, Opening, System};
@@ -73,7 +74,9 @@ pub fn open_file<'a, S: System>(
     place: FileArg<'a>,
     access: Access,
 ) -> Result<OpenedFile<S::File>, HostRefusal<'a>>
-    ensures { IfOk result (WasOpened S.File.models S.File.stands S.File.place S.File.past (may_create access)) }
+    ensures opens { IfOk result (WasOpened S.File.models S.File.stands S.File.place S.File.past (may_create access)) }
+    ensures place { IsTrue S.File.models → OpensPlace S.number S.known S.which S.File.stands (may_create access)
+        (path_of place.entry) result (S.at system.old) (S.at system.new) (S.holds system.old) (S.holds system.new) }
 {
     let Ok(path) = place.path(system.alloc()) else {
         return Err(HostRefusal::memory());
@@ -113,7 +116,9 @@ fn opened_at<S: System>(
     path: &str,
     access: Access,
 ) -> io::Result<OpenedFile<S::File>>
-    ensures { IfOk result (WasOpened S.File.models S.File.stands S.File.place S.File.past (may_create access)) }
+    ensures opens { IfOk result (WasOpened S.File.models S.File.stands S.File.place S.File.past (may_create access)) }
+    ensures place { IsTrue S.File.models → OpensPlace S.number S.known S.which S.File.stands (may_create access)
+        path.now result (S.at system.old) (S.at system.new) (S.holds system.old) (S.holds system.new) }
 {
     let before = found_at(system, path).ok();
     if let Some(found) = before {

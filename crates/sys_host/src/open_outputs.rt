@@ -1,10 +1,15 @@
 //! The outputs of a command, which are opened once all its inputs are open.
 
 ghost use Rattle.std.specs.Prelude.{◌≡◌, ◌↔◌, ◌⊎◌, ◌≤◌, [], true, IsTrue, OnOk, OnErr, IfOk, IfErr, length, replicate};
+ghost use Rattle.std.specs.Prelude.{codes, is_some};
 ghost use Rattle.sys_finish.specs.Given.{given_by_writer};
 ghost use Rattle.abt_io.specs.Frame.{nothing_logged};
+ghost use Rattle.sys_file.specs.System.{KeepsFiles};
+ghost use Rattle.sys_identity.specs.Identity.{IsIdentityOf};
 ghost use Rattle.sys_host.specs.Access.{may_write, may_create};
-ghost use Rattle.sys_host.specs.Opens.{WasOpened, OpensEmpty};
+ghost use Rattle.sys_host.specs.Opens.{WasOpened, OpensEmpty, OpensPlace};
+ghost use Rattle.sys_host.specs.Places.{WritesPlace, WritesOver, KeepsPaths, IsAtPlace, IsFreeAt};
+ghost use Rattle.sys_refusals.specs.Paths.{path_of, path_out};
 ghost use Rattle.sys_host.specs.Begins.{BeginsOutput, BeginsImage, BeginsKeptSpool, Admits};
 ghost use Rattle.sys_host.specs.Streams.{Mixed};
 ghost use Rattle.sys_host.specs.Taken.{Forbidden, Adds, WritesOne};
@@ -14,8 +19,9 @@ use crate::reading::Reading;
 use std::alloc::{AllocError, Global};
 use std::{io, mem};
 use sys_devices::FilePartition;
+use sys_disk::ImageTo;
 use sys_file::{Opening, System, SystemFile};
-use sys_finish::{ImageFile, ImageOutput, OutputFile, Sink};
+use sys_finish::{ImageFile, OutputFile, Sink};
 use sys_identity::{
     Found, Identity, OUTPUT, found_of, identity_at, is_in_use, is_shared, is_shown, next_number,
     open_again,
@@ -71,6 +77,10 @@ impl<S: System + Drop> Writing<S> {
     ) -> Result<FilePartition<S::File>, HostRefusal<'a>>
         ensures writes { OnOk result (WritesOne self.old.reading.streams self.old.reading.taken
             self.new.reading.taken) }
+        ensures place { IsTrue S.File.models → IfOk result (λ part. WritesOver S.number S.known (path_of place.entry)
+            (S.File.stands part.file) (S.at self.new.reading.system) (S.holds self.old.reading.system)
+            self.old.reading.taken self.new.reading.taken) }
+        ensures keeps { IsTrue S.File.models → KeepsFiles S.at S.holds self.old.reading.system self.new.reading.system }
     {
         let opened = self.admitted(place, Access::InPlace)?;
         self.is_part_new = false;
@@ -82,8 +92,12 @@ impl<S: System + Drop> Writing<S> {
 
     /// Creates or empties the file of a raw image, in which zeros may be holes. `-` is standard output.
     pub fn raw<'a>(&mut self, place: FileArg<'a>) -> Result<OutputFile<S::File>, HostRefusal<'a>>
-        ensures { BeginsOutput result self.old.reading.streams self.old.reading.taken
+        ensures begins { BeginsOutput result self.old.reading.streams self.old.reading.taken
             self.new.reading.taken }
+        ensures place { IsTrue S.File.models → IsIdentityOf S.number S.known S.stdout self.old.reading.streams.out
+            → OnOk result (WritesPlace S.number S.known (path_out place.entry) (S.at self.new.reading.system)
+            self.old.reading.taken self.new.reading.taken) }
+        ensures kept { IsTrue S.File.models → KeepsPaths S.at S.holds self.old.reading.system self.new.reading.system }
     {
         if place.is_standard() {
             return self.standard(place);
@@ -104,12 +118,16 @@ impl<S: System + Drop> Writing<S> {
         &mut self,
         place: FileArg<'a>,
         is_gathered: bool,
-    ) -> Result<ImageOutput<S::File>, HostRefusal<'a>>
-        ensures { BeginsImage result self.old.reading.streams self.old.reading.taken
+    ) -> Result<ImageTo<ImageFile<S::File>, OutputFile<S::File>>, HostRefusal<'a>>
+        ensures begins { BeginsImage result self.old.reading.streams self.old.reading.taken
             self.new.reading.taken }
+        ensures place { IsTrue S.File.models → IsIdentityOf S.number S.known S.stdout self.old.reading.streams.out
+            → OnOk result (WritesPlace S.number S.known (path_out place.entry) (S.at self.new.reading.system)
+            self.old.reading.taken self.new.reading.taken) }
+        ensures kept { IsTrue S.File.models → KeepsPaths S.at S.holds self.old.reading.system self.new.reading.system }
     {
         if place.is_standard() {
-            return Ok(ImageOutput::Stream(self.standard(place)?));
+            return Ok(ImageTo::Stream(self.standard(place)?));
         }
         let OpenedFile { file, found, .. } = self.created(place, Access::Create)?;
         let sink = if is_gathered && found.is_file() {
@@ -119,16 +137,19 @@ impl<S: System + Drop> Writing<S> {
         };
         let output = self.buffered(place, sink, found.identity.holds_data)?;
         if found.is_file() {
-            Ok(ImageOutput::File(ImageFile::new(output)))
+            Ok(ImageTo::File(ImageFile::new(output)))
         } else {
-            Ok(ImageOutput::Stream(output))
+            Ok(ImageTo::Stream(output))
         }
     }
 
     /// Creates or empties a file.
     pub fn plain<'a>(&mut self, place: FileArg<'a>) -> Result<OutputFile<S::File>, HostRefusal<'a>>
-        ensures { BeginsOutput result self.old.reading.streams self.old.reading.taken
+        ensures begins { BeginsOutput result self.old.reading.streams self.old.reading.taken
             self.new.reading.taken }
+        ensures place { IsTrue S.File.models → OnOk result (WritesPlace S.number S.known (path_of place.entry)
+            (S.at self.new.reading.system) self.old.reading.taken self.new.reading.taken) }
+        ensures kept { IsTrue S.File.models → KeepsPaths S.at S.holds self.old.reading.system self.new.reading.system }
     {
         let OpenedFile { file, found, .. } = self.created(place, Access::Create)?;
         self.buffered(place, Sink::stream(file), found.identity.holds_data)
@@ -143,6 +164,10 @@ impl<S: System + Drop> Writing<S> {
     ) -> Result<FilePartition<S::File>, HostRefusal<'a>>
         ensures writes { OnOk result (WritesOne self.old.reading.streams self.old.reading.taken
             self.new.reading.taken) }
+        ensures zeros { IsTrue S.File.models → IfOk result (λ part. S.File.stands part.file ≡ replicate bytes 0) }
+        ensures place { IsTrue S.File.models → OnOk result (WritesPlace S.number S.known (path_of place.entry)
+            (S.at self.new.reading.system) self.old.reading.taken self.new.reading.taken) }
+        ensures kept { IsTrue S.File.models → KeepsPaths S.at S.holds self.old.reading.system self.new.reading.system }
     {
         if place.is_standard() {
             return Err(HostRefusal::at(HostFault::CannotOpen, place, None));
@@ -159,6 +184,9 @@ impl<S: System + Drop> Writing<S> {
         ensures writes { OnOk result (WritesOne self.old.reading.streams self.old.reading.taken
             self.new.reading.taken) }
         ensures empty { IsTrue S.File.models → IfOk result (λ file. S.File.stands file ≡ []) }
+        ensures place { IsTrue S.File.models → OnOk result (WritesPlace S.number S.known (path_of place.entry)
+            (S.at self.new.reading.system) self.old.reading.taken self.new.reading.taken) }
+        ensures kept { IsTrue S.File.models → KeepsPaths S.at S.holds self.old.reading.system self.new.reading.system }
     {
         let created = self.created(place, Access::Spool)?;
         Ok(created.file)
@@ -174,6 +202,9 @@ impl<S: System + Drop> Writing<S> {
         ensures begins { BeginsKeptSpool limit result self.old.reading.streams self.old.reading.taken
             self.new.reading.taken }
         ensures long { IsTrue S.File.models → IfOk result (λ kept. length (S.File.stands kept.0) ≤ kept.1) }
+        ensures place { IsTrue S.File.models → OnOk result (WritesPlace S.number S.known (path_of place.entry)
+            (S.at self.new.reading.system) self.old.reading.taken self.new.reading.taken) }
+        ensures kept { IsTrue S.File.models → KeepsPaths S.at S.holds self.old.reading.system self.new.reading.system }
     {
         let OpenedFile {
             mut file,
@@ -230,7 +261,10 @@ impl<S: System + Drop> Writing<S> {
     }
 
     /// Fails if a path that is going to be written is a file that is read, or written already.
-    pub fn refuse_taken<'a>(&self, place: FileArg<'a>) -> Result<(), HostRefusal<'a>> {
+    pub fn refuse_taken<'a>(&self, place: FileArg<'a>) -> Result<(), HostRefusal<'a>>
+        ensures { IsTrue S.File.models → OnOk result (IsFreeAt S.number S.known (path_of place.entry)
+            (S.at self.now.reading.system) self.now.reading.taken) }
+    {
         let Ok(path) = place.path(self.alloc) else {
             return Err(HostRefusal::memory());
         };
@@ -243,7 +277,9 @@ impl<S: System + Drop> Writing<S> {
 
     /// Whether something is at this path.
     pub fn is_there<'a>(&self, place: FileArg<'a>) -> Result<bool, HostRefusal<'a>>
-        ensures { IfErr result (λ refusal. refusal.fault ≡ HostFault.Memory) }
+        ensures there { IsTrue S.File.models → IfOk result (λ is. is ≡ is_some (S.at self.now.reading.system
+            (path_of place.entry))) }
+        ensures memory { IfErr result (λ refusal. refusal.fault ≡ HostFault.Memory) }
     {
         match place.path(self.alloc) {
             Ok(path) => Ok(identity_at(&self.reading.system, path.as_str()).is_some()),
@@ -263,8 +299,12 @@ impl<S: System + Drop> Writing<S> {
 
     // Data goes to standard output.
     fn standard<'a>(&mut self, place: FileArg<'a>) -> Result<OutputFile<S::File>, HostRefusal<'a>>
-        ensures { BeginsOutput result self.old.reading.streams self.old.reading.taken
+        ensures begins { BeginsOutput result self.old.reading.streams self.old.reading.taken
             self.new.reading.taken }
+        ensures place { IsTrue S.File.models → IsIdentityOf S.number S.known S.stdout self.old.reading.streams.out
+            → OnOk result (WritesPlace S.number S.known (codes "/dev/stdout") (S.at self.new.reading.system)
+            self.old.reading.taken self.new.reading.taken) }
+        ensures kept { IsTrue S.File.models → KeepsPaths S.at S.holds self.old.reading.system self.new.reading.system }
     {
         let identity = self.reading.streams.out;
         self.refuse_shared(identity, place)?;
@@ -289,6 +329,7 @@ impl<S: System + Drop> Writing<S> {
     ) -> Result<Option<S::File>, HostRefusal<'a>>
         ensures data { self.new.is_data_on_output ≡ self.old.is_data_on_output }
         ensures taken { self.new.reading.taken ≡ self.old.reading.taken }
+        ensures kept { IsTrue S.File.models → KeepsPaths S.at S.holds self.old.reading.system self.new.reading.system }
     {
         if !self.reading.is_synced {
             return Ok(None);
@@ -337,6 +378,9 @@ impl<S: System + Drop> Writing<S> {
             self.new.reading.taken }
         ensures empty { IfOk result (λ opened. OpensEmpty S.File.models S.File.stands S.File.place S.File.past
             opened.file) }
+        ensures place { IsTrue S.File.models → IsAtPlace S.number S.known (path_of place.entry) result
+            (S.at self.new.reading.system) }
+        ensures kept { IsTrue S.File.models → KeepsPaths S.at S.holds self.old.reading.system self.new.reading.system }
     {
         let mut opened = self.admitted(place, access)?;
         match access {
@@ -361,6 +405,9 @@ impl<S: System + Drop> Writing<S> {
             self.new.reading.taken }
         ensures opens { IfOk result (WasOpened S.File.models S.File.stands S.File.place S.File.past
             (may_create access)) }
+        ensures place { IsTrue S.File.models → OpensPlace S.number S.known S.which S.File.stands (may_create access)
+            (path_of place.entry) result (S.at self.old.reading.system) (S.at self.new.reading.system)
+            (S.holds self.old.reading.system) (S.holds self.new.reading.system) }
     {
         let opened = open_file(&mut self.reading.system, place, access)?;
         let descriptor = self.reading.system.descriptor(&opened.file);
@@ -422,6 +469,7 @@ impl<S: System + Drop> Writing<S> {
             (refusal.fault ≡ HostFault.SameFile) ⊎ (refusal.fault ≡ HostFault.Memory)) }
         ensures kept { OnErr result (self.new.reading.taken.files.items ≡ self.old.reading.taken.files.items) }
         ensures on_output { OnOk result (self.old.reading.streams.out ≡ identity → IsTrue self.new.is_data_on_output) }
+        ensures system { self.new.reading ≡ record self.old.reading { taken = self.new.reading.taken } }
     {
         if self.is_refused(identity) {
             return Err(self.same_file(identity, place));
@@ -485,7 +533,9 @@ impl<S: System + Drop> Writing<S> {
 }
 
 // Opens standard output once more: to write, or if that is denied to read.
-fn opened_output<S: System>(system: &mut S) -> io::Result<S::File> {
+fn opened_output<S: System>(system: &mut S) -> io::Result<S::File>
+    ensures { IsTrue S.File.models → KeepsFiles S.at S.holds system.old system.new }
+{
     match open_again(system, OUTPUT, Opening::Write) {
         Ok(file) => Ok(file),
         Err(error) if error.kind() == io::ErrorKind::PermissionDenied => {
@@ -496,7 +546,9 @@ fn opened_output<S: System>(system: &mut S) -> io::Result<S::File> {
 }
 
 // Syncs the folder of a file. Some file systems sync no folders.
-fn sync_folder_of<S: System>(system: &mut S, path: &str) -> io::Result<()> {
+fn sync_folder_of<S: System>(system: &mut S, path: &str) -> io::Result<()>
+    ensures { IsTrue S.File.models → KeepsFiles S.at S.holds system.old system.new }
+{
     let whole = system.whole_path(path)?;
     let Some((folder, _)) = whole.as_str().rsplit_once('/') else {
         return Ok(());

@@ -1,9 +1,14 @@
 //! The inputs of a command, which are open before it writes.
 
 ghost use Rattle.std.specs.Prelude.{◌≡◌, ◌≤◌, ◌^◌, [], false, true, IsTrue, length, string_bytes, OnOk, IfOk, IfErr};
+ghost use Rattle.std.specs.Prelude.{codes, drop};
 ghost use Rattle.sys_file.specs.File.{file_bytes};
+ghost use Rattle.sys_file.specs.System.{KeepsFiles};
+ghost use Rattle.sys_identity.specs.Identity.{IsIdentityOf};
+ghost use Rattle.sys_refusals.specs.Paths.{path_in, path_of};
 ghost use Rattle.sys_host.specs.Access.{may_write, may_create};
-ghost use Rattle.sys_host.specs.Opens.{WasOpened};
+ghost use Rattle.sys_host.specs.Opens.{WasOpened, OpensPlace};
+ghost use Rattle.sys_host.specs.Places.{ReadsPlace};
 ghost use Rattle.sys_host.specs.Streams.{Reported};
 ghost use Rattle.sys_host.specs.Taken.{Adds, ReadsOne};
 
@@ -12,6 +17,7 @@ use crate::open_file::{Access, OpenedFile, not_opened, open_file};
 use crate::open_outputs::Writing;
 use crate::streams::Streams;
 use crate::taken::Taken;
+use abt_io::{Input, Source};
 use std::alloc::Global;
 use std::io;
 use std::io::Read;
@@ -49,7 +55,8 @@ pub struct Reading<S: System + Drop> {
 impl<S: System + Drop> Reading<S> {
     /// Nothing is open.
     pub fn new(system: S) -> Reading<S>
-        ensures { result.taken.files.items ≡ [] }
+        ensures none { result.taken.files.items ≡ [] }
+        ensures out { IsTrue S.File.models → IsIdentityOf S.number S.known S.stdout result.streams.out }
     {
         let alloc = system.alloc();
         let streams = Streams::of_system(&system);
@@ -99,6 +106,10 @@ impl<S: System + Drop> Reading<S> {
     /// Opens what is read forward: `-` is standard input, which is no file of ours.
     pub fn input<'a>(&mut self, place: FileArg<'a>) -> Result<InputFile<S::File>, HostRefusal<'a>>
         ensures reads { OnOk result (ReadsOne self.old.streams self.old.taken self.new.taken) }
+        ensures place { IsTrue S.File.models → IfOk result (λ input. ReadsPlace S.number S.known (path_in place.entry)
+            (⟦<InputFile<S::File> as Input>⟧.remaining input) (S.at self.old.system) (S.holds self.old.system)
+            self.old.taken self.new.taken) }
+        ensures keeps { IsTrue S.File.models → KeepsFiles S.at S.holds self.old.system self.new.system }
     {
         if place.is_standard() {
             return self.standard(place);
@@ -111,6 +122,10 @@ impl<S: System + Drop> Reading<S> {
 
     fn standard<'a>(&mut self, place: FileArg<'a>) -> Result<InputFile<S::File>, HostRefusal<'a>>
         ensures reads { OnOk result (ReadsOne self.old.streams self.old.taken self.new.taken) }
+        ensures place { IsTrue S.File.models → IfOk result (λ input. ReadsPlace S.number S.known (codes "/dev/stdin")
+            (⟦<InputFile<S::File> as Input>⟧.remaining input) (S.at self.old.system) (S.holds self.old.system)
+            self.old.taken self.new.taken) }
+        ensures system { self.new.system ≡ self.old.system }
     {
         let identity = identity_of_stream(&self.system, INPUT);
         self.take(identity, place)?;
@@ -124,6 +139,10 @@ impl<S: System + Drop> Reading<S> {
     /// Opens what is read at any offset. Fails for what is neither a file nor a block device, and so has no length.
     pub fn source<'a>(&mut self, place: FileArg<'a>) -> Result<FileSource<S::File>, HostRefusal<'a>>
         ensures reads { OnOk result (ReadsOne self.old.streams self.old.taken self.new.taken) }
+        ensures place { IsTrue S.File.models → IfOk result (λ source. ReadsPlace S.number S.known (path_of place.entry)
+            (file_bytes S.File.stands source.file) (S.at self.old.system) (S.holds self.old.system) self.old.taken
+            self.new.taken) }
+        ensures keeps { IsTrue S.File.models → KeepsFiles S.at S.holds self.old.system self.new.system }
     {
         let OpenedFile { file, .. } = self.opened(place, Access::AnyPlace)?;
         source_of(file, place)
@@ -136,6 +155,10 @@ impl<S: System + Drop> Reading<S> {
         place: FileArg<'a>,
     ) -> Result<StandardSource<S::File>, HostRefusal<'a>>
         ensures reads { OnOk result (ReadsOne self.old.streams self.old.taken self.new.taken) }
+        ensures place { IsTrue S.File.models → IfOk result (λ source. ReadsPlace S.number S.known (codes "/dev/stdin")
+            (⟦<StandardSource<S::File> as Source>⟧.content source) (S.at self.old.system) (S.holds self.old.system)
+            self.old.taken self.new.taken) }
+        ensures keeps { IsTrue S.File.models → KeepsFiles S.at S.holds self.old.system self.new.system }
     {
         let found = match found_of(&self.system, INPUT) {
             Ok(found) => found,
@@ -155,8 +178,9 @@ impl<S: System + Drop> Reading<S> {
         source: &FileSource<S::File>,
         place: FileArg<'a>,
     ) -> Result<FileSource<S::File>, HostRefusal<'a>>
-        ensures { IsTrue S.File.models → IfOk result (λ again. file_bytes S.File.stands again.file
+        ensures content { IsTrue S.File.models → IfOk result (λ again. file_bytes S.File.stands again.file
             ≡ file_bytes S.File.stands source.now.file) }
+        ensures kept { self.new ≡ record self.old { read = self.new.read } }
     {
         let Some(file) = &source.file else {
             return Ok(FileSource::empty());
@@ -176,6 +200,7 @@ impl<S: System + Drop> Reading<S> {
     pub fn text<'a>(&mut self, place: FileArg<'a>) -> Result<String, HostRefusal<'a>>
         ensures reads { OnOk result (ReadsOne self.old.streams self.old.taken self.new.taken) }
         ensures length { IfOk result (λ text. length (string_bytes text) ≤ 2 ^ 20) }
+        ensures keeps { IsTrue S.File.models → KeepsFiles S.at S.holds self.old.system self.new.system }
     {
         let input = self.input(place)?;
         match text_of(&self.system, &mut self.read, input) {
@@ -203,6 +228,9 @@ impl<S: System + Drop> Reading<S> {
         ensures taken { IfOk result (λ opened. Adds self.old.taken self.new.taken opened.found.identity) }
         ensures opens { IfOk result (WasOpened S.File.models S.File.stands S.File.place S.File.past
             (may_create access)) }
+        ensures place { IsTrue S.File.models → OpensPlace S.number S.known S.which S.File.stands false
+            (path_of place.entry) result (S.at self.old.system) (S.at self.new.system) (S.holds self.old.system)
+            (S.holds self.new.system) }
     {
         let opened = match open_file(&mut self.system, place, access) {
             Ok(opened) => opened,
@@ -221,8 +249,7 @@ impl<S: System + Drop> Reading<S> {
         found: Found,
         place: FileArg<'a>,
     ) -> Result<(), HostRefusal<'a>>
-        ensures taken { self.new.taken ≡ self.old.taken }
-        ensures streams { self.new.streams ≡ self.old.streams }
+        ensures { self.new ≡ record self.old { read = self.new.read } }
     {
         match self.read.add(descriptor, place, found) {
             Ok(()) => Ok(()),
@@ -236,6 +263,7 @@ impl<S: System + Drop> Reading<S> {
         ensures taken { OnOk result (Adds self.old.taken self.new.taken identity) }
         ensures refused { IfErr result (λ refusal. refusal.fault ≡ HostFault.SameFile
             → Reported self.old.streams identity) }
+        ensures kept { self.new ≡ record self.old { taken = self.new.taken } }
     {
         self.streams.spare(identity, place)?;
         match self.taken.take(identity) {

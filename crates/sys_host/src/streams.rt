@@ -1,6 +1,7 @@
 //! Where reports go: not into a file that is read, and not into one that data goes to.
 
 ghost use Rattle.std.specs.Prelude.{◌≡◌, ◌↔◌, IsTrue, OnOk, IfErr};
+ghost use Rattle.sys_identity.specs.Identity.{IsIdentityOf};
 ghost use Rattle.sys_host.specs.Streams.{Reported, Mixed};
 
 use sys_file::System;
@@ -15,7 +16,9 @@ pub struct Streams {
 }
 
 impl Streams {
-    pub fn of_system<S: System>(system: &S) -> Streams {
+    pub fn of_system<S: System>(system: &S) -> Streams
+        ensures { IsTrue S.File.models → IsIdentityOf S.number S.known S.stdout result.out }
+    {
         Streams {
             out: identity_of_stream(system, OUTPUT),
             err: identity_of_stream(system, ERRORS),

@@ -9,7 +9,7 @@ use std::alloc::AllocError;
 use sys_devices::{FilePartition, GatheringSpool};
 use sys_disk::{Disk, ImageTo};
 use sys_file::{System, SystemFile};
-use sys_finish::{ImageFile, ImageOutput, OutputFile};
+use sys_finish::{ImageFile, OutputFile};
 use sys_host::{InputFile, Reading, Writing, not_opened};
 use sys_identity::{INPUT, is_standard_input, standard_source_again};
 use sys_refusals::{FileArg, HostFault, HostRefusal};
@@ -288,11 +288,7 @@ impl<S: System + Drop> Disk for Host<S> {
         place: FileArg<'a>,
         is_gathered: bool,
     ) -> Result<ImageTo<ImageFile<S::File>, OutputFile<S::File>>, HostRefusal<'a>> {
-        match self.writing.image(place, is_gathered) {
-            Ok(ImageOutput::File(image)) => Ok(ImageTo::File(image)),
-            Ok(ImageOutput::Stream(output)) => Ok(ImageTo::Stream(output)),
-            Err(refusal) => Err(refusal),
-        }
+        self.writing.image(place, is_gathered)
     }
 
     fn finish_image<'a>(

@@ -1,6 +1,9 @@
 //! What is open under a descriptor. std can ask that only by paths: a stream by `/dev/stdin` and the like. If that does
 //! not exist, and for other descriptors, the path is in `/proc/self/fd`.
 
+ghost use Rattle.std.specs.Prelude.{◌≡◌, false, IsTrue, IsOk, IfOk, IsSome, IfSome, pos, codes};
+ghost use Rattle.sys_file.specs.System.{Describes, KeepsFiles, creates};
+
 use std::io;
 use sys_file::{Opening, Stat, System};
 
@@ -14,7 +17,12 @@ pub const OUTPUT: i32 = 1;
 pub const ERRORS: i32 = 2;
 
 /// What the system reports about the file that is open under a descriptor.
-pub fn stat_of_open<S: System>(system: &S, descriptor: i32) -> io::Result<Stat> {
+pub fn stat_of_open<S: System>(system: &S, descriptor: i32) -> io::Result<Stat>
+    ensures input { IsTrue S.File.models → descriptor ≡ pos 0 → IsOk result × Describes S.number S.known S.stdin
+        result }
+    ensures output { IsTrue S.File.models → descriptor ≡ pos 1 → IsOk result × Describes S.number S.known S.stdout
+        result }
+{
     if let Some(stream) = stream_at(descriptor)
         && let Ok(told) = system.look(stream)
     {
@@ -25,7 +33,12 @@ pub fn stat_of_open<S: System>(system: &S, descriptor: i32) -> io::Result<Stat> 
 }
 
 /// Opens once more what is open under a descriptor.
-pub fn open_again<S: System>(system: &mut S, descriptor: i32, how: Opening) -> io::Result<S::File> {
+pub fn open_again<S: System>(system: &mut S, descriptor: i32, how: Opening) -> io::Result<S::File>
+    requires { creates how ≡ false }
+    ensures input { IsTrue S.File.models → descriptor ≡ pos 0 → IfOk result (λ f. (S.which f ≡ S.stdin)
+        × (S.File.stands f ≡ S.holds system.new S.stdin)) }
+    ensures keeps { IsTrue S.File.models → KeepsFiles S.at S.holds system.old system.new }
+{
     if let Some(stream) = stream_at(descriptor) {
         match system.open(stream, how) {
             Err(error) if error.kind() == io::ErrorKind::NotFound => {}
@@ -42,7 +55,9 @@ pub fn is_shown<S: System>(system: &S) -> bool {
 }
 
 /// The position of standard input: 0 if the system does not show it.
-pub fn place_of_input<S: System>(system: &S) -> u64 {
+pub fn place_of_input<S: System>(system: &S) -> u64
+    ensures { IsTrue S.File.models → result ≡ 0 }
+{
     let Ok(bytes) = system.contents("/proc/self/fdinfo/0") else {
         return 0;
     };
@@ -57,7 +72,10 @@ pub fn place_of_input<S: System>(system: &S) -> u64 {
     0
 }
 
-fn stream_at(descriptor: i32) -> Option<&'static str> {
+fn stream_at(descriptor: i32) -> Option<&'static str>
+    ensures input { descriptor ≡ pos 0 → IfSome result (λ path. path.now ≡ codes "/dev/stdin") × IsSome result }
+    ensures output { descriptor ≡ pos 1 → IfSome result (λ path. path.now ≡ codes "/dev/stdout") × IsSome result }
+{
     match descriptor {
         INPUT => Some("/dev/stdin"),
         OUTPUT => Some("/dev/stdout"),

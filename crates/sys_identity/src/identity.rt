@@ -1,8 +1,8 @@
 //! The identity of a file, whatever path, link or descriptor led to it, and what else the system reports about it.
 
-ghost use Rattle.std.specs.Prelude.{◌≡◌, ◌↔◌, Some, None, IsTrue, true};
+ghost use Rattle.std.specs.Prelude.{◌≡◌, ◌↔◌, Some, None, IsTrue, IsOk, IfOk, pos, true};
 ghost use Rattle.sys_file.specs.declared.stat.Kind.{Kind};
-ghost use Rattle.sys_identity.specs.Identity.{identity_of};
+ghost use Rattle.sys_identity.specs.Identity.{identity_of, FindsAt, IdentifiesAt, IsIdentityOf};
 
 use crate::descriptors::stat_of_open;
 use std::io;
@@ -128,7 +128,12 @@ impl Found {
 }
 
 /// What is open under this descriptor.
-pub fn found_of<S: System>(system: &S, descriptor: i32) -> io::Result<Found> {
+pub fn found_of<S: System>(system: &S, descriptor: i32) -> io::Result<Found>
+    ensures input { IsTrue S.File.models → descriptor ≡ pos 0 → IsOk result × IfOk result (λ found.
+        IsIdentityOf S.number S.known S.stdin found.identity) }
+    ensures output { IsTrue S.File.models → descriptor ≡ pos 1 → IsOk result × IfOk result (λ found.
+        IsIdentityOf S.number S.known S.stdout found.identity) }
+{
     match stat_of_open(system, descriptor) {
         Ok(stat) => Ok(Found::new(&stat)),
         Err(error) => Err(error),
@@ -136,7 +141,9 @@ pub fn found_of<S: System>(system: &S, descriptor: i32) -> io::Result<Found> {
 }
 
 /// What is at this path, after following links.
-pub fn found_at<S: System>(system: &S, path: &str) -> io::Result<Found> {
+pub fn found_at<S: System>(system: &S, path: &str) -> io::Result<Found>
+    ensures { IsTrue S.File.models → FindsAt S.number S.known (S.at system.now path.now) result }
+{
     match system.look(path) {
         Ok(stat) => Ok(Found::new(&stat)),
         Err(error) => Err(error),
@@ -145,7 +152,10 @@ pub fn found_at<S: System>(system: &S, path: &str) -> io::Result<Found> {
 
 /// The identity of standard input, standard output or standard error. If that is closed, or the system does not show
 /// it, it is like no file.
-pub fn identity_of_stream<S: System>(system: &S, descriptor: i32) -> Identity {
+pub fn identity_of_stream<S: System>(system: &S, descriptor: i32) -> Identity
+    ensures input { IsTrue S.File.models → descriptor ≡ pos 0 → IsIdentityOf S.number S.known S.stdin result }
+    ensures output { IsTrue S.File.models → descriptor ≡ pos 1 → IsIdentityOf S.number S.known S.stdout result }
+{
     match found_of(system, descriptor) {
         Ok(found) => found.identity,
         Err(_) => Identity::unknown(),
@@ -153,7 +163,9 @@ pub fn identity_of_stream<S: System>(system: &S, descriptor: i32) -> Identity {
 }
 
 /// The identity of the file at this path, if there is one.
-pub fn identity_at<S: System>(system: &S, path: &str) -> Option<Identity> {
+pub fn identity_at<S: System>(system: &S, path: &str) -> Option<Identity>
+    ensures { IsTrue S.File.models → IdentifiesAt S.number S.known (S.at system.now path.now) result }
+{
     match found_at(system, path) {
         Ok(found) => Some(found.identity),
         Err(_) => None,

@@ -1,8 +1,9 @@
 //! Standard input that is a file or a block device. It is read at any offset, counted from its position.
 
-ghost use Rattle.std.specs.Prelude.{◌-◌, drop};
+ghost use Rattle.std.specs.Prelude.{◌≡◌, ◌-◌, drop, IsTrue, IfOk};
 ghost use Rattle.abt_io.specs.BytesLaws.{bytes_of_drop};
 ghost use Rattle.sys_file.specs.File.{are_bytes_of, file_bytes};
+ghost use Rattle.sys_file.specs.System.{KeepsFiles};
 ghost use Rattle.sys_identity.specs.Behind.{long_behind};
 
 use crate::descriptors::{INPUT, open_again, place_of_input};
@@ -25,7 +26,11 @@ pub struct StandardSource<F: SystemFile + Drop> {
 pub fn standard_source<S: System>(
     system: &mut S,
     found: Found,
-) -> io::Result<StandardSource<S::File>> {
+) -> io::Result<StandardSource<S::File>>
+    ensures content { IsTrue S.File.models → IfOk result (λ s. drop s.base (file_bytes S.File.stands s.source.file)
+        ≡ S.holds system.new S.stdin) }
+    ensures keeps { IsTrue S.File.models → KeepsFiles S.at S.holds system.old system.new }
+{
     if !found.is_file() && !found.is_block() {
         return Err(io::Error::from(io::ErrorKind::InvalidInput));
     }
@@ -37,7 +42,10 @@ pub fn standard_source<S: System>(
 pub fn standard_source_again<S: System>(
     system: &S,
     source: &StandardSource<S::File>,
-) -> io::Result<StandardSource<S::File>> {
+) -> io::Result<StandardSource<S::File>>
+    ensures { IsTrue S.File.models → IfOk result (λ s. drop s.base (file_bytes S.File.stands s.source.file)
+        ≡ drop source.now.base (file_bytes S.File.stands source.now.source.file)) }
+{
     match &source.source.file {
         Some(file) => StandardSource::new(system.again(file)?, source.base),
         None => Err(io::Error::from(io::ErrorKind::InvalidInput)),
@@ -46,7 +54,11 @@ pub fn standard_source_again<S: System>(
 
 impl<F: SystemFile + Drop> StandardSource<F> {
     // A file from an offset on.
-    fn new(file: F, base: u64) -> io::Result<StandardSource<F>> {
+    fn new(file: F, base: u64) -> io::Result<StandardSource<F>>
+        ensures base { IfOk result (λ s. s.base ≡ base) }
+        ensures content { IfOk result (λ s. file_bytes F.stands s.source.file ≡ F.stands file) }
+        ensures clean { IfOk result (λ s. s.source.faults.number ≡ 0) }
+    {
         let Ok(source) = FileSource::new(file) else {
             return Err(io::Error::from(io::ErrorKind::InvalidInput));
         };

@@ -1,7 +1,8 @@
 //! Opening files of the system, and identifying them.
 
-ghost use Rattle.std.specs.Prelude.{◌≡◌, [], IsTrue, false};
-ghost use Rattle.sys_file.specs.System.{IsJustOpened};
+ghost use Rattle.std.specs.Prelude.{◌≡◌, [], None, IsTrue, false};
+ghost use Rattle.std.proofs.lemmas.Bool.{false≢true};
+ghost use Rattle.sys_file.specs.System.{IsJustOpened, nothing_known};
 
 use crate::os_file::OsFile;
 use std::alloc::Global;
@@ -9,7 +10,7 @@ use std::fs::{File, Metadata, OpenOptions, ReadDir};
 use std::os::fd::AsRawFd;
 use std::os::unix;
 use std::os::unix::fs::MetadataExt;
-use std::{fs, io};
+use std::{fs, io, mem};
 use sys_file::{Kind, Opening, Stat, System, SystemFile};
 
 /// The system of this process.
@@ -24,6 +25,22 @@ impl System for OsSystem {
     type Names = Box<ReadDir>;
 
     ghost is_file = { λ _. false };
+
+    ghost which = { λ _. 0 };
+
+    ghost number = { λ _ _. 0 };
+
+    ghost known = { λ _. nothing_known };
+
+    ghost at = { λ _ _. None };
+
+    ghost holds = { λ _ _. [] };
+
+    ghost stdin = { 0 };
+
+    ghost stdout = { 0 };
+
+    ghost has_streams = { λ t. absurd (false≢true t) };
 
     fn alloc(&self) -> Global {
         self.rt.alloc()
@@ -50,6 +67,10 @@ impl System for OsSystem {
 
     fn again(&self, file: &OsFile) -> io::Result<OsFile> {
         Ok(OsFile::File(file.file()?.try_clone()?))
+    }
+
+    fn close(&mut self, file: OsFile) {
+        mem::drop(file)
     }
 
     fn descriptor(&self, file: &OsFile) -> i32 {
@@ -82,8 +103,7 @@ impl System for OsSystem {
     // The reader of a folder has 8 KiB. A call, and each function that passes it on, would have them on the stack.
     #[inline(never)]
     fn names(&self, folder: &str) -> io::Result<Box<ReadDir>> {
-        let names = fs::read_dir(&self.rt, folder)?;
-        Ok(Box::new(self.rt.alloc(), names)?)
+        Ok(Box::new(self.rt.alloc(), fs::read_dir(&self.rt, folder)?)?)
     }
 
     fn next_name(&self, names: &mut Box<ReadDir>) -> Option<io::Result<String>> {

@@ -3,7 +3,8 @@
 use crate::made::{Random, bytes, part};
 use crate::spools::same;
 use abt_io::{DeviceFault, Output, Overwrite, WINDOW};
-use sys_finish::{ImageFile, ImageOutput};
+use sys_disk::ImageTo;
+use sys_finish::{ImageFile, OutputFile};
 use sys_host::{Reading, Writing};
 use sys_refusals::FileArg;
 use sys_std::{OsFile, OsSystem};
@@ -22,10 +23,10 @@ const TURNS: [u64; 3] = [400, 3000, 30];
 const HEADERS: [usize; 6] = [12, 12, 12, 12, 4, 28];
 
 /// The file of an image.
-fn file(output: ImageOutput<OsFile>) -> Option<ImageFile<OsFile>> {
+fn file(output: ImageTo<ImageFile<OsFile>, OutputFile<OsFile>>) -> Option<ImageFile<OsFile>> {
     match output {
-        ImageOutput::File(image) => Some(image),
-        ImageOutput::Stream(_) => None,
+        ImageTo::File(image) => Some(image),
+        ImageTo::Stream(_) => None,
     }
 }
 
