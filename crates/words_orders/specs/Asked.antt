@@ -1,6 +1,6 @@
 -- The order that the answers to the rows of a command's table ask for.
-use Rattle.std.specs.Prelude.{◌≡◌, ℕ, ◌++◌, List, [], Bool, false, Option, Some, None, map, codes, bytes_eq, is_some}
-use Rattle.std.specs.Prelude.{unwrap_or, option_map, IsTrue, IfSome, ◌∷◌, ◌||◌}
+use Rattle.std.specs.Prelude.{◌≡◌, ℕ, ◌++◌, List, [], Bool, true, false, Option, Some, None, map, codes, bytes_eq}
+use Rattle.std.specs.Prelude.{unwrap_or, option_map, IsTrue, IfSome, ◌∷◌, ◌||◌, is_some}
 use Rattle.std.specs.Prelude.{if◌then◌else◌, nat_lt}
 use Rattle.std.specs.List.{filter, find, All, AllZip}
 use Rattle.words_values.specs.NumberWord.{IsRead}
@@ -18,7 +18,8 @@ use Rattle.words_orders.specs.declared.order.Pieces.{Pieces}
 use Rattle.words_orders.specs.declared.order.PackOrder.{PackOrder}
 use Rattle.words_orders.specs.declared.order.Given.{Given}
 use Rattle.words_orders.specs.Table.{Shape, name_of, option_rows, rows_of, shape_of, telling_rows, work_of}
-use Rattle.words_orders.specs.Words.{AreRead, Saying, answers_due, says_name, left_over, of_row, words_by_place}
+use Rattle.words_orders.specs.Words.{AreRead, Saying, WordsSay, answers_due, says_name, left_over, of_row}
+use Rattle.words_orders.specs.Words.{words_by_place}
 
 -- whether this is an answer to the row of this name
 abbrev pub is_named : List ℕ → Answer → Bool
@@ -147,6 +148,12 @@ pub record AreAnswers (table : List Shape) (said : List Saying) (all : List Answ
 pub record IsSplit (words : List (List ℕ)) (command : List ℕ) (front behind : List (List ℕ)) : Type 0 where
   pub program : List ℕ
   pub parts : words ≡ program ∷ (front ++ (command ∷ behind))
+
+-- the answers of these words, where names may be abbreviated: each word is used once
+pub record AreAnswersOf (table : List Shape) (words : List (List ℕ)) (all : List Answer) : Type 0 where
+  pub said : List Saying
+  pub says : WordsSay true table words said
+  pub answers : AreAnswers table said all
 
 -- the words ask for it: each of them is used once, and what they answer to the rows of the command asks for its task
 pub record IsOrderOf (words : List (List ℕ)) (order : Order) : Type 0 where

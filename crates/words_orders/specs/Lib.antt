@@ -1,5 +1,4 @@
 pub mod Asked
 pub mod Refused
-pub mod Spelled
 pub mod Table
 pub mod Words

@@ -1,13 +1,11 @@
 -- The table of the command line: the rows of each command.
-use Rattle.std.specs.Prelude.{ℕ, List, [], ◌∷◌, ◌++◌, Bool, true, false, Option, Some, None, Contains, codes}
+use Rattle.std.specs.Prelude.{ℕ, List, [], ◌∷◌, ◌++◌, Bool, true, false, Option, Some, None, codes}
 use Rattle.std.specs.Prelude.{option_map}
-use Rattle.std.specs.List.{All}
 use Rattle.words_values.specs.declared.rows.WordPlace.{WordPlace}
 use Rattle.words_values.specs.declared.rows.WordPlace.TheVariants as places
 use Rattle.words_values.specs.declared.rows.Row.{Row}
 use Rattle.words_values.specs.declared.rows.Value.{Value}
 use Rattle.words_values.specs.declared.rows.Value.TheVariants as values
-use Rattle.words_orders.specs.declared.answers.Answer.{Answer}
 use Rattle.words_orders.specs.declared.order.BootTask.{BootTask}
 use Rattle.words_orders.specs.declared.order.BootTask.TheVariants as boot
 use Rattle.words_orders.specs.declared.order.SparseTask.{SparseTask}
@@ -150,13 +148,6 @@ shared_rows_of work = telling_rows
 
 abbrev pub rows_of : Work → List Shape
 rows_of work = own_rows_of work ++ (filling_rows_of work ++ shared_rows_of work)
-
--- each of these rows is in the table, or each of these answers is one to a row of it
-abbrev pub AreRows : List Shape → List Row → Type 0
-AreRows table rows = All (λ row. Contains table (shape_of row)) rows
-
-abbrev pub AreFrom : List Shape → List Answer → Type 0
-AreFrom table all = All (λ a. Contains table (shape_of a.row.now)) all
 
 -- ---- the command that an order is of
 

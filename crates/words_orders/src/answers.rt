@@ -8,15 +8,13 @@ ghost use Rattle.words_values.specs.NumberWord.{IsRead};
 ghost use Rattle.words_orders.specs.Asked.{IsEnough, IsGiven, IsReadRight, saying_of_answer, answer_named};
 ghost use Rattle.words_orders.specs.Asked.{answer_number, flag_named, number_named, word_named, words_named};
 ghost use Rattle.words_orders.specs.Refused.{TellsNoNumber};
-ghost use Rattle.words_orders.specs.Table.{AreFrom, AreRows, Shape, shape_of};
+ghost use Rattle.words_orders.specs.Table.{shape_of};
 ghost use Rattle.words_orders.specs.Words.{answers_due, words_due, default_words, left_over, of_row, option_list};
 ghost use Rattle.words_orders.specs.Words.{saying_of, words_of_row};
 
 use crate::fault::WordsFault;
 use crate::order::Given;
-use crate::saying::{Said, push_said};
-use crate::spelling::is_placed;
-use clap::ArgMatches;
+use crate::saying::{Said, is_placed, push_counted};
 use std::alloc::{AllocError, Global};
 use words_values::{Row, Value, WordPlace, number_in, number_word};
 
@@ -73,37 +71,6 @@ impl<'a> Answers<'a> {
         }
     }
 
-    /// What a parse found for the rows of a tool.
-    pub fn of_rows(
-        alloc: Global,
-        rows: &'static [Row],
-        found: &ArgMatches<'a>,
-    ) -> Result<Answers<'a>, WordsFault>
-        ensures { IfOk result (λ answers. AreFrom (map shape_of rows.now) answers.all.items) }
-    {
-        let mut answers = Answers::new(alloc, false);
-        answers.read_found(alloc, rows, found)?;
-        Ok(answers)
-    }
-
-    fn read_found(
-        &mut self,
-        alloc: Global,
-        rows: &'static [Row],
-        found: &ArgMatches<'a>,
-    ) -> Result<(), WordsFault>
-        ensures { (table : List Shape) → AreFrom table self.old.all.items → AreRows table rows.now →
-            OnOk result (AreFrom table self.new.all.items) }
-    {
-        for row in rows {
-            let Some(words) = found.get_strs(row.name) else {
-                continue;
-            };
-            self.read_words(alloc, row, words)?;
-        }
-        Ok(())
-    }
-
     /// Adds what is said of each of these rows, else its default, with these positional words. Returns whether none of
     /// these is left.
     pub(crate) fn read_rows(
@@ -134,8 +101,6 @@ impl<'a> Answers<'a> {
         row: &'static Row,
         words: &[&'a str],
     ) -> Result<(), WordsFault>
-        ensures from { (table : List Shape) → AreFrom table self.old.all.items → Contains table (shape_of row.now) →
-            OnOk result (AreFrom table self.new.all.items) }
         ensures are { OnOk result (map saying_of_answer self.new.all.items ≡ map saying_of_answer self.old.all.items
             ++ map (of_row (shape_of row.now)) (map (λ s. s.now) words.now)) }
         ensures read { OnOk result (All IsReadRight self.old.all.items → All IsReadRight self.new.all.items) }
@@ -319,7 +284,7 @@ fn words_for<'a>(
         words.extend_from_slice(next_words(row.place, placed))?;
         return Ok(words);
     }
-    push_said(row.name, said, &mut words)?;
+    push_counted(row, said, &mut words)?;
     if words.is_empty() {
         if let Some(word) = default_word(row.place, row.default) {
             words.push(word)?;

@@ -21,9 +21,39 @@ _abootimg_word_files() {
     done < <(compgen -f -- "${1#@}")
     [ -z "$is_plain" ] || compopt +o filenames 2>/dev/null
 }
+_abootimg_tool() {
+    local words
+    case $2 in
+        -*)
+            case $1 in
+                mkbootimg) words='--kernel --ramdisk --second --dtb --recovery_dtbo --recovery_acpio --cmdline --vendor_cmdline --base --kernel_offset --ramdisk_offset --second_offset --dtb_offset --os_version --os_patch_level --tags_offset --board --pagesize --id --header_version --output -o --vendor_boot --vendor_ramdisk --vendor_bootconfig --ramdisk_type --ramdisk_name --vendor_ramdisk_fragment --board_id0 --board_id1 --board_id2 --board_id3 --board_id4 --board_id5 --board_id6 --board_id7 --board_id8 --board_id9 --board_id10 --board_id11 --board_id12 --board_id13 --board_id14 --board_id15 -h --help' ;;
+                unpack_bootimg) words='--boot_img --out --format -0 --null -h --help' ;;
+                *) words='-h --help' ;;
+            esac ;;
+        *)
+            case $3 in
+                --format) words='info mkbootimg' ;;
+                --ramdisk_type) words='none platform recovery dlkm' ;;
+                *)
+                    _abootimg_files "$2"
+                    return ;;
+            esac ;;
+    esac
+    compopt +o filenames 2>/dev/null
+    COMPREPLY=($(compgen -W "$words" -- "$2"))
+}
 _abootimg() {
     local word=${2-${COMP_WORDS[COMP_CWORD]}} words= at=1
     COMPREPLY=()
+    case " simg2img img2simg mkbootimg simg2simg unpack_bootimg " in
+        *" ${COMP_WORDS[0]##*/} "*)
+            _abootimg_tool "${COMP_WORDS[0]##*/}" "$word" "${COMP_WORDS[COMP_CWORD-1]}"
+            return ;;
+    esac
+    if [ "${COMP_WORDS[1]}" = as ] && [ "$COMP_CWORD" -gt 2 ]; then
+        _abootimg_tool "${COMP_WORDS[2]}" "$word" "${COMP_WORDS[COMP_CWORD-1]}"
+        return
+    fi
     while [ "$at" -lt "$COMP_CWORD" ] && [ "${COMP_WORDS[at]#-}" != "${COMP_WORDS[at]}" ]; do
         at=$((at + 1))
     done
@@ -62,13 +92,39 @@ _abootimg() {
     compopt +o filenames 2>/dev/null
     COMPREPLY=($(compgen -W "$words" -- "$word"))
 }
-complete -o filenames -F _abootimg abootimg
+complete -o filenames -F _abootimg abootimg simg2img img2simg mkbootimg simg2simg unpack_bootimg
 "#;
 
 #[rattlefmt::skip]
-pub(crate) const ZSH: &str = r#"#compdef abootimg
+pub(crate) const ZSH: &str = r#"#compdef abootimg simg2img img2simg mkbootimg simg2simg unpack_bootimg
+_abootimg_tool() {
+    if [[ $words[CURRENT] == --*=* ]]; then
+        compset -P 1 '*='
+        _files
+    elif [[ $words[CURRENT] == -* ]]; then
+        case $1 in
+            mkbootimg) compadd -- --kernel --ramdisk --second --dtb --recovery_dtbo --recovery_acpio --cmdline --vendor_cmdline --base --kernel_offset --ramdisk_offset --second_offset --dtb_offset --os_version --os_patch_level --tags_offset --board --pagesize --id --header_version --output -o --vendor_boot --vendor_ramdisk --vendor_bootconfig --ramdisk_type --ramdisk_name --vendor_ramdisk_fragment --board_id0 --board_id1 --board_id2 --board_id3 --board_id4 --board_id5 --board_id6 --board_id7 --board_id8 --board_id9 --board_id10 --board_id11 --board_id12 --board_id13 --board_id14 --board_id15 -h --help ;;
+            unpack_bootimg) compadd -- --boot_img --out --format -0 --null -h --help ;;
+            *) compadd -- -h --help ;;
+        esac
+    else
+        case $words[CURRENT-1] in
+            --format) compadd -- info mkbootimg ;;
+            --ramdisk_type) compadd -- none platform recovery dlkm ;;
+            *) _files ;;
+        esac
+    fi
+}
 _abootimg() {
     local at=2
+    if [[ " simg2img img2simg mkbootimg simg2simg unpack_bootimg " == *" ${words[1]:t} "* ]]; then
+        _abootimg_tool ${words[1]:t}
+        return
+    fi
+    if [[ $words[2] == as ]] && (( CURRENT > 3 )); then
+        _abootimg_tool $words[3]
+        return
+    fi
     while (( at < CURRENT )) && [[ $words[at] == -* ]]; do
         (( at += 1 ))
     done
@@ -112,7 +168,7 @@ _abootimg() {
 if [ "$funcstack[1]" = _abootimg ]; then
     _abootimg "$@"
 else
-    compdef _abootimg abootimg
+    compdef _abootimg abootimg simg2img img2simg mkbootimg simg2simg unpack_bootimg
 fi
 "#;
 
@@ -234,4 +290,53 @@ complete -c abootimg -n 'test (count (commandline -opc)) = 2; and __fish_seen_su
 complete -c abootimg -n 'string match -q -- \'@*\' (commandline -ct)' -a '(complete -C "\'\' "(string sub -s 2 -- (commandline -ct)) | string replace -r -- \'^\' @)'
 complete -c abootimg -n '__fish_seen_subcommand_from completions' -f -a 'bash zsh fish'
 complete -c abootimg -n '__fish_seen_subcommand_from help' -f -a 'expand list sparse cut flash verify pack repack unpack info completions'
+complete -c abootimg -n 'test (count (commandline -opc)) -gt 2; and test (commandline -opc)[2] = as' -f -a '(complete -C (string join \' \' -- (string escape -- (commandline -opc)[3..-1]) (commandline -ct)))'
+complete -c mkbootimg -l kernel -r -d 'The kernel'
+complete -c mkbootimg -l ramdisk -r -d 'The ramdisk'
+complete -c mkbootimg -l second -r -d 'The second stage'
+complete -c mkbootimg -l dtb -r -d 'The device tree blob'
+complete -c mkbootimg -l recovery_dtbo -r -d 'The recovery DTBO'
+complete -c mkbootimg -l recovery_acpio -r -d 'The recovery ACPIO, in the place of the DTBO'
+complete -c mkbootimg -l cmdline -r -d 'The kernel\'s command line'
+complete -c mkbootimg -l vendor_cmdline -r -d 'The command line of a vendor boot image'
+complete -c mkbootimg -l base -r -d 'What the offsets count from'
+complete -c mkbootimg -l kernel_offset -r -d 'Of the kernel from the base'
+complete -c mkbootimg -l ramdisk_offset -r -d 'Of the ramdisk from the base'
+complete -c mkbootimg -l second_offset -r -d 'Of the second stage from the base'
+complete -c mkbootimg -l dtb_offset -r -d 'Of the device tree blob from the base'
+complete -c mkbootimg -l os_version -r -d 'The OS version, A.B.C'
+complete -c mkbootimg -l os_patch_level -r -d 'The patch level, YYYY-MM'
+complete -c mkbootimg -l tags_offset -r -d 'Of the kernel\'s tags from the base'
+complete -c mkbootimg -l board -r -d 'The product\'s name, at most 15 bytes'
+complete -c mkbootimg -l pagesize -r -d 'Bytes in a page: 2048, 4096, 8192 or 16384'
+complete -c mkbootimg -l id -d 'Prints the id of the image; only where it has none'
+complete -c mkbootimg -l header_version -r -d 'The header version, 0 to 4'
+complete -c mkbootimg -l output -r -d 'The boot image, which is created or emptied'
+complete -c mkbootimg -s o -r -d 'The same as --output'
+complete -c mkbootimg -l vendor_boot -r -d 'The vendor boot image, which is created or emptied'
+complete -c mkbootimg -l vendor_ramdisk -r -d 'The ramdisk of a vendor boot image'
+complete -c mkbootimg -l vendor_bootconfig -r -d 'The bootconfig of a vendor boot image'
+complete -c mkbootimg -l ramdisk_type -x -a 'none platform recovery dlkm' -d 'The type of a fragment: none, platform, recovery, dlkm or a number'
+complete -c mkbootimg -l ramdisk_name -r -d 'The name of a fragment'
+complete -c mkbootimg -l vendor_ramdisk_fragment -r -d 'The file of a fragment, behind its other options'
+complete -c mkbootimg -l board_id0 -r -d 'A number of the board id of a fragment'
+complete -c mkbootimg -l board_id1 -r -d 'A number of the board id of a fragment'
+complete -c mkbootimg -l board_id2 -r -d 'A number of the board id of a fragment'
+complete -c mkbootimg -l board_id3 -r -d 'A number of the board id of a fragment'
+complete -c mkbootimg -l board_id4 -r -d 'A number of the board id of a fragment'
+complete -c mkbootimg -l board_id5 -r -d 'A number of the board id of a fragment'
+complete -c mkbootimg -l board_id6 -r -d 'A number of the board id of a fragment'
+complete -c mkbootimg -l board_id7 -r -d 'A number of the board id of a fragment'
+complete -c mkbootimg -l board_id8 -r -d 'A number of the board id of a fragment'
+complete -c mkbootimg -l board_id9 -r -d 'A number of the board id of a fragment'
+complete -c mkbootimg -l board_id10 -r -d 'A number of the board id of a fragment'
+complete -c mkbootimg -l board_id11 -r -d 'A number of the board id of a fragment'
+complete -c mkbootimg -l board_id12 -r -d 'A number of the board id of a fragment'
+complete -c mkbootimg -l board_id13 -r -d 'A number of the board id of a fragment'
+complete -c mkbootimg -l board_id14 -r -d 'A number of the board id of a fragment'
+complete -c mkbootimg -l board_id15 -r -d 'A number of the board id of a fragment'
+complete -c unpack_bootimg -l boot_img -r -d 'The boot image or vendor boot image'
+complete -c unpack_bootimg -l out -r -d 'The folder of its parts, which is made where it is not there'
+complete -c unpack_bootimg -l format -x -a 'info mkbootimg' -d 'What is printed: what the header says, or the words of mkbootimg that make the image again'
+complete -c unpack_bootimg -l null -s 0 -d 'Each word of mkbootimg ends in a zero byte, and none is quoted'
 "#;

@@ -8,7 +8,6 @@
 //! | `reading.rt` | reading the words: the order that the answers ask for |
 //! | `saying.rt` | what words say, by the rows of a table |
 //! | `answers.rt` | the answers of a command: what was given for each row of its table |
-//! | `spelling.rt` | whether answers are among the words |
 //! | `fault.rt` | why words are rejected |
 //! | `completions.rt`, `completion_texts.rt` | the shells that can complete words, and what they read for that |
 #![tactic(auto)]
@@ -22,7 +21,6 @@ mod parser;
 mod reading;
 mod rows;
 mod saying;
-mod spelling;
 mod table;
 
 pub use answers::{Answer, Answers};
@@ -30,7 +28,6 @@ pub use completions::Shell;
 pub use fault::WordsFault;
 pub use order::{BootTask, Given, Order, PackOrder, Pieces, SparseTask, Task};
 pub use parser::with_rows;
-pub use reading::{expand, order_of};
+pub use reading::{answers_of, expand, order_of};
 pub use rows::Work;
-pub use spelling::{are_in_turn, is_read, is_said, placed_in, says_value_at};
 pub use table::{FLAG, PART, PATH, TEXT, VERSION, options};

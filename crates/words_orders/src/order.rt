@@ -47,8 +47,9 @@ pub enum SparseTask<'a> {
         input: &'a str,
         output: &'a str,
         block: u32,
-        /// Whether a last block that is not whole is raw, whatever its bytes are.
-        is_tail_raw: bool,
+        /// Whether it is as img2simg makes it: a last block that is not whole is raw, whatever its bytes are, and a raw
+        /// chunk is as long as its header can say.
+        as_img2simg: bool,
     },
     /// Cut an image into pieces of at most this many bytes; a raw one if the bytes of its blocks are given.
     Cut {

@@ -14,7 +14,7 @@ pub(crate) fn program<'a>(alloc: Global) -> Result<Command<'a>, AllocError> {
         .about(ABOUT)
         .after_help(AFTER_HELP)
         .subcommand_required(true);
-    let mut program = with_rows(alloc, program, telling())?;
+    let mut program = with_rows(alloc, program, telling(), false)?;
     for row in commands() {
         program = program.subcommand(command(alloc, row)?)?;
     }
@@ -25,28 +25,39 @@ fn command<'a>(alloc: Global, row: &'static CommandRow) -> Result<Command<'a>, A
     let command = Command::new(alloc, row.name)
         .about(row.about)
         .after_help(row.after_help);
-    let command = with_rows(alloc, command, row.own_rows())?;
-    let command = with_rows(alloc, command, row.filling_rows())?;
-    with_rows(alloc, command, row.shared_rows())
+    let command = with_rows(alloc, command, row.own_rows(), false)?;
+    let command = with_rows(alloc, command, row.filling_rows(), false)?;
+    with_rows(alloc, command, row.shared_rows(), false)
 }
 
-/// The parser with an argument for each of these rows.
+/// The parser with an argument for each of these rows. With `takes_hyphens` the value of an option may begin with a
+/// hyphen.
 pub fn with_rows<'a>(
     alloc: Global,
     command: Command<'a>,
     rows: &'static [Row],
+    takes_hyphens: bool,
 ) -> Result<Command<'a>, AllocError> {
     let mut command = command;
     for row in rows {
-        command = command.arg(argument(alloc, row)?)?;
+        command = command.arg(argument(alloc, row, takes_hyphens)?)?;
     }
     Ok(command)
 }
 
-fn argument<'a>(alloc: Global, row: &'static Row) -> Result<Arg<'a>, AllocError> {
+fn argument<'a>(
+    alloc: Global,
+    row: &'static Row,
+    takes_hyphens: bool,
+) -> Result<Arg<'a>, AllocError> {
+    let is_option = match row.place {
+        WordPlace::Option | WordPlace::Letter => true,
+        _ => false,
+    };
     let arg = Arg::new(alloc, row.name)
         .help(row.help)
-        .required(row.is_required);
+        .required(row.is_required)
+        .allow_hyphen_values(takes_hyphens && is_option);
     let arg = with_value(placed(arg, row), row);
     if let Some(other) = row.needs {
         return arg.requires_arg(other);

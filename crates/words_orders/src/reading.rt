@@ -3,7 +3,7 @@
 ghost use Rattle.std.specs.Prelude.{◌≡◌, ◌||◌, [], ℕ, List, IfOk, IfSome, map};
 ghost use Rattle.std.specs.List.{AllZip};
 ghost use Rattle.words_orders.specs.Asked.{AreAnswers, Asks, AsksBoot, AsksPack, AsksPieces, AsksSparse, IsGiven};
-ghost use Rattle.words_orders.specs.Asked.{IsOrderOf, IsSplit};
+ghost use Rattle.words_orders.specs.Asked.{AreAnswersOf, IsOrderOf, IsSplit};
 ghost use Rattle.words_orders.specs.Table.{name_of, option_rows, shape_of, telling_rows, work_of, work_of_boot};
 ghost use Rattle.words_orders.specs.Table.{work_of_sparse};
 ghost use Rattle.words_orders.specs.Words.{AreRead, says_name, saying_of, words_by_place};
@@ -15,8 +15,8 @@ use crate::fault::WordsFault;
 use crate::order::{BootTask, Given, Order, PackOrder, Pieces, SparseTask, Task};
 use crate::parser::program;
 use crate::rows::{CommandRow, Work};
-use crate::saying::{Said, is_said, placed_words, read};
-use crate::table::{commands, front_rows, options};
+use crate::saying::{Said, is_said, placed_words, read, said_by};
+use crate::table::{commands, front_rows, listed, options};
 use clap::error::ErrorKind;
 use std::alloc::{AllocError, Global};
 use std::convert::AsStr;
@@ -141,6 +141,23 @@ fn answers_to<'a>(
     }
 }
 
+/// The answers of these words to the rows of a tool, where a name may be abbreviated; none if a word says nothing, or
+/// is left over.
+pub fn answers_of<'a, S: AsStr>(
+    alloc: Global,
+    rows: &'static [Row],
+    words: &'a [S],
+) -> Result<Option<Answers<'a>>, WordsFault>
+    ensures { IfOk result (λ found. IfSome found (λ answers. AreAnswersOf (map shape_of rows.entry.now)
+        (map S.text words.entry.now) answers.all.items)) }
+{
+    let rows = listed(alloc, rows)?;
+    match said_by(alloc, rows.as_slice(), true, words)? {
+        Some(said) => answers_to(alloc, rows.as_slice(), said.as_slice(), false),
+        None => Ok(None),
+    }
+}
+
 // Clap read the words differently, which no correct parser does.
 fn misread(alloc: Global) -> Result<WordsFault, AllocError> {
     let error = program(alloc)?.error(ErrorKind::InvalidValue, "the words were read as others")?;
@@ -208,7 +225,7 @@ fn make_sparse<'a>(answers: &Answers<'a>) -> SparseTask<'a>
         input: answers.given_word("IN"),
         output: answers.given_word("OUT"),
         block: answers.given_number("block"),
-        is_tail_raw: false,
+        as_img2simg: false,
     }
 }
 

@@ -1,14 +1,14 @@
 //! What words say, by the rows of a table: each word is used once, and none is left.
 
-ghost use Rattle.std.specs.Prelude.{◌≡◌, ◌≢◌, ◌≤◌, ◌++◌, ◌∷◌, [], List, IfOk, IfSome, IsTrue, OnOk, Contains, codes, map, length};
-ghost use Rattle.std.specs.Prelude.{ℕ, None, option_map};
+ghost use Rattle.std.specs.Prelude.{◌≡◌, ◌≢◌, ◌≤◌, ◌++◌, ◌∷◌, [], ℕ, List, Bool, None, IfOk, IfSome, IsTrue, OnOk};
+ghost use Rattle.std.specs.Prelude.{Contains, codes, map, length, option_map};
 ghost use Rattle.std.specs.List.{All, AllZip};
 ghost use Rattle.words_values.specs.declared.rows.WordPlace.TheVariants as places;
 ghost use Rattle.words_orders.specs.Table.{Shape, shape_of};
-ghost use Rattle.words_orders.specs.Words.{AddsSaid, IsLetter, IsOnce, IsNoOption, AreRead, WordsSay, Saying};
-ghost use Rattle.words_orders.specs.Words.{by_place, is_again, is_flag, is_of_name, is_option, says_name, said_words};
-ghost use Rattle.words_orders.specs.Words.{saying_of};
-ghost use Rattle.words_orders.specs.Words.{words_by_place, written};
+ghost use Rattle.words_orders.specs.Words.{AddsSaid, AreRead, IsLetter, IsNoOption, IsOnce, IsOnly, IsShortOf};
+ghost use Rattle.words_orders.specs.Words.{NamesOption, Saying, WordsSay, by_place, counted_words, is_again, is_flag};
+ghost use Rattle.words_orders.specs.Words.{is_of_name, is_option, is_word, last_word, letter_value, said_words};
+ghost use Rattle.words_orders.specs.Words.{saying_of, says_name, words_by_place, written};
 
 use std::alloc::{AllocError, Global};
 use std::convert::AsStr;
@@ -32,7 +32,7 @@ pub(crate) fn read<'a, S: AsStr>(
     ensures { IfOk result (λ found. IfSome found (λ said. AreRead (map (λ row. shape_of row.now) rows.now)
         (map S.text words.entry.now) (map saying_of said.items))) }
 {
-    let Some(said) = said_by(alloc, rows, words)? else {
+    let Some(said) = said_by(alloc, rows, false, words)? else {
         return Ok(None);
     };
     if are_once(rows, said.as_slice()) {
@@ -42,18 +42,20 @@ pub(crate) fn read<'a, S: AsStr>(
     }
 }
 
-fn said_by<'a, S: AsStr>(
+/// The same, where an option may be said again, and by a short name if `is_short` is true.
+pub(crate) fn said_by<'a, S: AsStr>(
     alloc: Global,
     rows: &[&'static Row],
+    is_short: bool,
     words: &'a [S],
 ) -> Result<Option<Vec<Said<'a>>>, AllocError>
-    ensures { IfOk result (λ found. IfSome found (λ said. WordsSay (map (λ row. shape_of row.now) rows.now)
+    ensures { IfOk result (λ found. IfSome found (λ said. WordsSay is_short (map (λ row. shape_of row.now) rows.now)
         (map S.text words.entry.now) (map saying_of said.items))) }
 {
     let mut said = Vec::new(alloc);
     let mut left = words;
     while let Some((word, rest)) = left.split_first() {
-        match push_next(rows, word.as_str(), rest, &mut said)? {
+        match push_next(rows, is_short, word.as_str(), rest, &mut said)? {
             Some(behind) => left = behind,
             None => return Ok(None),
         }
@@ -64,13 +66,14 @@ fn said_by<'a, S: AsStr>(
 // Adds what a word says, alone or with the value after it; returns the words that are left.
 fn push_next<'a, S: AsStr>(
     rows: &[&'static Row],
+    is_short: bool,
     word: &'a str,
     rest: &'a [S],
     said: &mut Vec<Said<'a>>,
 ) -> Result<Option<&'a [S]>, AllocError>
-    ensures adds { IfOk result (λ next. IfSome next (λ behind. AddsSaid (map (λ row. shape_of row.now) rows.now)
-        (word.entry.now ∷ map S.text rest.entry.now) (map saying_of said.old.items) (map saying_of said.new.items)
-        (map S.text behind.now))) }
+    ensures adds { IfOk result (λ next. IfSome next (λ behind. AddsSaid is_short
+        (map (λ row. shape_of row.now) rows.now) (word.entry.now ∷ map S.text rest.entry.now)
+        (map saying_of said.old.items) (map saying_of said.new.items) (map S.text behind.now))) }
     ensures fewer { IfOk result (λ next. IfSome next (λ behind. length behind.now ≤ length rest.entry.now)) }
 {
     if is_plain(word) {
@@ -81,8 +84,11 @@ fn push_next<'a, S: AsStr>(
         push_placed(rest, said)?;
         return Ok(Some(&[]));
     }
-    if let Some(found) = found_in(rows, word) {
+    if let Some(found) = found_in(rows, is_short, word) {
         return push_found(found, rest, said);
+    }
+    if let Some(found) = letter_in(rows, word) {
+        return push_lettered(found, rest, said);
     }
     match letters_in(word) {
         Some(letters) if push_letters(rows, letters, said)? => Ok(Some(rest)),
@@ -124,43 +130,95 @@ fn push_placed<'a, S: AsStr>(words: &'a [S], said: &mut Vec<Said<'a>>) -> Result
 
 // ---- options
 
-/// An option or a flag of a table, and the value that its word has.
+/// An option or a flag of a table, the name that says it, and the value that its word has.
 #[derive(Clone, Copy)]
 pub(crate) struct Found<'a> {
     row: &'static Row,
+    name: &'a str,
     value: Option<&'a str>,
 }
 
 // The option or the flag that a word names.
-fn found_in<'a>(rows: &[&'static Row], word: &'a str) -> Option<Found<'a>>
+fn found_in<'a>(rows: &[&'static Row], is_short: bool, word: &'a str) -> Option<Found<'a>>
     ensures stands { IfSome result (λ found. Contains (map (λ row. shape_of row.now) rows.now)
         (shape_of found.row.now)) }
-    ensures names { IfSome result (λ found. word.entry.now ≡ codes "--" ++ written found.row.now.name.now
+    ensures named { IfSome result (λ found. NamesOption is_short (map (λ row. shape_of row.now) rows.now) found.name.now
+        found.row.now.name.now) }
+    ensures names { IfSome result (λ found. word.entry.now ≡ codes "--" ++ written found.name.now
         (option_map (λ s. s.now) found.value)) }
 {
     let text = word.strip_prefix("--")?;
+    let (name, value) = name_and_value(text);
+    let row = row_named(rows, is_short, name)?;
+    Some(Found { row, name, value })
+}
+
+// The name of an option, and the value after `=`.
+fn name_and_value<'a>(text: &'a str) -> (&'a str, Option<&'a str>)
+    ensures { text.entry.now ≡ written result.0.now (option_map (λ s. s.now) result.1) }
+{
+    match text.split_once('=') {
+        Some((name, value)) => (name, Some(value)),
+        None => (text, None),
+    }
+}
+
+fn row_named(rows: &[&'static Row], is_short: bool, said: &str) -> Option<&'static Row>
+    ensures stands { IfSome result (λ row. Contains (map (λ row. shape_of row.now) rows.now) (shape_of row.now)) }
+    ensures named { IfSome result (λ row. NamesOption is_short (map (λ row. shape_of row.now) rows.now) said.now
+        row.now.name.now) }
+{
     for row in rows {
-        if let Some(found) = found_as(row, text) {
-            return Some(found);
+        if is_named(rows, is_short, said, row.name) {
+            return Some(*row);
         }
     }
     None
 }
 
-// Whether this is the name of a row, or the name, `=` and a value.
-fn found_as<'a>(row: &'static Row, text: &'a str) -> Option<Found<'a>>
-    ensures row { IfSome result (λ found. found.row.now ≡ row.now) }
-    ensures names { IfSome result (λ found. text.entry.now ≡ written row.now.name.now
-        (option_map (λ s. s.now) found.value)) }
+// Whether a name says the option of another: that name itself, or one that is short for it.
+fn is_named(rows: &[&'static Row], is_short: bool, said: &str, name: &str) -> bool
+    ensures { IsTrue result → NamesOption is_short (map (λ row. shape_of row.now) rows.now) said.now name.now }
 {
-    let rest = text.strip_prefix(row.name)?;
-    if rest == "" {
-        return Some(Found { row, value: None });
+    if said == name {
+        return true;
     }
-    Some(Found {
-        row,
-        value: Some(rest.strip_prefix('=')?),
-    })
+    is_short && is_short_of(rows, said, name)
+}
+
+// Whether this is a prefix of the name, and of no other.
+fn is_short_of(rows: &[&'static Row], short: &str, name: &str) -> bool
+    ensures { IsTrue result → IsShortOf (map (λ row. shape_of row.now) rows.now) short.now name.now }
+{
+    match behind(name, short) {
+        Some(_rest) => is_only(rows, short, name),
+        None => false,
+    }
+}
+
+// What follows a prefix.
+fn behind<'a>(name: &'a str, front: &str) -> Option<&'a str>
+    ensures { IfSome result (λ rest. name.entry.now ≡ front.now ++ rest.now) }
+{
+    name.strip_prefix(front)
+}
+
+fn is_only(rows: &[&'static Row], short: &str, name: &str) -> bool
+    ensures { IsTrue result → All (λ row. IsOnly short.now name.now row.now.name.now) rows.now }
+{
+    for row in rows {
+        if !is_this(row.name, short, name) {
+            return false;
+        }
+    }
+    true
+}
+
+// Whether a name is this one, or doesn't begin so.
+fn is_this(other: &str, short: &str, name: &str) -> bool
+    ensures { IsTrue result → IsOnly short.now name.now other.now }
+{
+    other == name || !other.starts_with(short)
 }
 
 // Adds what an option or a flag says, if it has a value where it is an option; returns the words that are left.
@@ -169,9 +227,10 @@ fn push_found<'a, S: AsStr>(
     rest: &'a [S],
     said: &mut Vec<Said<'a>>,
 ) -> Result<Option<&'a [S]>, AllocError>
-    ensures adds { IfOk result (λ next. IfSome next (λ behind. (table : List Shape) →
+    ensures adds { IfOk result (λ next. IfSome next (λ behind. (short : Bool) (table : List Shape) →
         Contains table (shape_of found.entry.row.now) →
-        AddsSaid table ((codes "--" ++ written found.entry.row.now.name.now (option_map (λ s. s.now) found.entry.value))
+        NamesOption short table found.entry.name.now found.entry.row.now.name.now → AddsSaid short table
+        ((codes "--" ++ written found.entry.name.now (option_map (λ s. s.now) found.entry.value))
         ∷ map S.text rest.entry.now) (map saying_of said.old.items) (map saying_of said.new.items)
         (map S.text behind.now))) }
     ensures fewer { IfOk result (λ next. IfSome next (λ left. length left.now ≤ length rest.entry.now)) }
@@ -207,6 +266,17 @@ fn push_found<'a, S: AsStr>(
     Ok(Some(behind))
 }
 
+/// Whether a row is a positional word.
+pub(crate) fn is_placed(place: WordPlace) -> bool
+    ensures { result ≡ is_word place }
+{
+    match place {
+        WordPlace::Word | WordPlace::Words | WordPlace::LastWords => true,
+        WordPlace::Option | WordPlace::Options | WordPlace::Letter => false,
+        WordPlace::Flag | WordPlace::ShortFlag(_) => false,
+    }
+}
+
 fn is_option(place: WordPlace) -> bool
     ensures { result ≡ is_option place }
 {
@@ -227,6 +297,84 @@ fn is_flag(place: WordPlace) -> bool
     }
 }
 
+// ---- an option with the name of a letter
+
+/// Such an option of a table, and what follows its name in its word.
+#[derive(Clone, Copy)]
+pub(crate) struct Lettered<'a> {
+    row: &'static Row,
+    more: &'a str,
+}
+
+fn letter_in<'a>(rows: &[&'static Row], word: &'a str) -> Option<Lettered<'a>>
+    ensures stands { IfSome result (λ found. Contains (map (λ row. shape_of row.now) rows.now)
+        (shape_of found.row.now)) }
+    ensures letter { IfSome result (λ found. found.row.now.place ≡ places.Letter) }
+    ensures names { IfSome result (λ found. word.entry.now ≡ 45 ∷ (found.row.now.name.now ++ found.more.now)) }
+{
+    let text = behind_hyphen(word)?;
+    for row in rows {
+        if let Some(more) = behind_letter(row, text) {
+            return Some(Lettered { row: *row, more });
+        }
+    }
+    None
+}
+
+// What follows the name of a letter.
+fn behind_letter<'a>(row: &Row, text: &'a str) -> Option<&'a str>
+    ensures letter { IfSome result (λ more. row.now.place ≡ places.Letter) }
+    ensures names { IfSome result (λ more. text.entry.now ≡ row.now.name.now ++ more.now) }
+{
+    match row.place {
+        WordPlace::Letter => behind(text, row.name),
+        _ => None,
+    }
+}
+
+// Adds what such an option says, if it has a value; returns the words that are left.
+fn push_lettered<'a, S: AsStr>(
+    found: Lettered<'a>,
+    rest: &'a [S],
+    said: &mut Vec<Said<'a>>,
+) -> Result<Option<&'a [S]>, AllocError>
+    ensures adds { IfOk result (λ next. IfSome next (λ behind. (short : Bool) (table : List Shape) →
+        Contains table (shape_of found.entry.row.now) → found.entry.row.now.place ≡ places.Letter →
+        AddsSaid short table ((45 ∷ (found.entry.row.now.name.now ++ found.entry.more.now)) ∷ map S.text rest.entry.now)
+        (map saying_of said.old.items) (map saying_of said.new.items) (map S.text behind.now))) }
+    ensures fewer { IfOk result (λ next. IfSome next (λ left. length left.now ≤ length rest.entry.now)) }
+{
+    let row = found.row;
+    if let Some(word) = letter_value(found.more) {
+        said.push(Said {
+            row: Some(row),
+            word,
+        })?;
+        return Ok(Some(rest));
+    }
+    let Some((value, left)) = rest.split_first() else {
+        return Ok(None);
+    };
+    said.push(Said {
+        row: Some(row),
+        word: value.as_str(),
+    })?;
+    Ok(Some(left))
+}
+
+// The value behind a letter in its word, of which a first `=` is no part.
+fn letter_value<'a>(more: &'a str) -> Option<&'a str>
+    ensures { option_map (λ s. s.now) result ≡ letter_value more.entry.now }
+{
+    if more.is_empty() {
+        return None;
+    }
+    match more.strip_prefix('=') {
+        Some(value) => Some(value),
+        None => Some(more),
+    }
+}
+
 // ---- letters
 
 fn letters_in<'a>(word: &'a str) -> Option<&'a [u8]>
@@ -242,8 +390,8 @@ fn push_letters<'a>(
     said: &mut Vec<Said<'a>>,
 ) -> Result<bool, AllocError>
     ensures { IfOk result (λ are. IsTrue are → (table : List Shape) → table ≡ map (λ row. shape_of row.now) rows.now →
-        (words : List (List ℕ)) → AddsSaid table ((45 ∷ letters.now) ∷ words) (map saying_of said.old.items)
-        (map saying_of said.new.items) words) }
+        (short : Bool) (words : List (List ℕ)) → AddsSaid short table ((45 ∷ letters.now) ∷ words)
+        (map saying_of said.old.items) (map saying_of said.new.items) words) }
 {
     for letter in letters {
         let Some(row) = flag_of(rows, *letter) else {
@@ -323,12 +471,40 @@ pub(crate) fn is_said(name: &str, said: &[Said<'_>]) -> bool
     count_said(name, said) != 0
 }
 
-/// Adds the words that are said of the row of this name.
-pub(crate) fn push_said<'a>(
-    name: &str,
+/// Adds those that count of the words that are said of a row: the last, or all if the row may be said again.
+pub(crate) fn push_counted<'a>(
+    row: &Row,
     said: &[Said<'a>],
     words: &mut Vec<&'a str>,
 ) -> Result<(), AllocError>
+    ensures { OnOk result (map (λ s. s.now) words.new.items ≡ map (λ s. s.now) words.old.items
+        ++ counted_words row.now.place (said_words row.now.name.now (map saying_of said.now))) }
+{
+    if is_again(row.place) {
+        return push_said(row.name, said, words);
+    }
+    if let Some(word) = last_said(row.name, said) {
+        words.push(word)?;
+    }
+    Ok(())
+}
+
+// The last word that is said of the row of this name.
+fn last_said<'a>(name: &str, said: &[Said<'a>]) -> Option<&'a str>
+    ensures { option_map (λ s. s.now) result ≡ last_word (said_words name.now (map saying_of said.now)) }
+{
+    let mut last = None;
+    for one in said {
+        if !is_of(one, name) {
+            continue;
+        }
+        last = Some(one.word);
+    }
+    last
+}
+
+// Adds the words that are said of the row of this name.
+fn push_said<'a>(name: &str, said: &[Said<'a>], words: &mut Vec<&'a str>) -> Result<(), AllocError>
     ensures { OnOk result (map (λ s. s.now) words.new.items ≡ map (λ s. s.now) words.old.items
         ++ said_words name.now (map saying_of said.now)) }
 {

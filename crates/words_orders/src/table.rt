@@ -159,8 +159,15 @@ pub(crate) fn telling() -> &'static [Row]
 pub(crate) fn front_rows(alloc: Global) -> Result<Vec<&'static Row>, AllocError>
     ensures { IfOk result (λ rows. map (λ row. shape_of row.now) rows.items ≡ telling_rows) }
 {
+    listed(alloc, telling())
+}
+
+/// A reference to each of these rows.
+pub(crate) fn listed(alloc: Global, more: &'static [Row]) -> Result<Vec<&'static Row>, AllocError>
+    ensures { IfOk result (λ rows. map (λ row. shape_of row.now) rows.items ≡ map shape_of more.entry.now) }
+{
     let mut rows: Vec<&'static Row> = Vec::new(alloc);
-    push_rows(telling(), &mut rows)?;
+    push_rows(more, &mut rows)?;
     Ok(rows)
 }
 

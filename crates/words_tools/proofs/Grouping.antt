@@ -4,9 +4,9 @@ use Rattle.std.specs.Borrow.{Bor}
 use Rattle.std.specs.List.{AllZip}
 use Rattle.std.specs.Prelude.{Bool, true, if◌then◌else◌}
 use Rattle.std.proofs.lemmas.Slice.Zip.{all_zipped_more}
-use Rattle.std.proofs.lemmas.List.{append-nil, append_assoc, drop_more}
+use Rattle.std.proofs.lemmas.List.{append_assoc, drop_more}
 use Rattle.words_orders.specs.declared.answers.Answer.{Answer}
-use Rattle.words_tools.specs.Fragments.{BoardSaid, FragmentSaid, GroupSaid, IsBoardText, IsFragmentText, board_by}
+use Rattle.words_tools.specs.Fragments.{BoardSaid, FragmentSaid, GroupSaid, board_by}
 use Rattle.words_tools.specs.Fragments.{boards_said, count_behind, ended_by, fragments_said, group_behind}
 
 -- texts are there of some, and the rest makes up the whole
@@ -15,12 +15,6 @@ pub record ToldSoFar {X : Type 0} (R : X → Bor (List ℕ) → Type 0) (whole r
   pub done : List X
   pub so_far : AllZip R done texts
   pub behind : done ++ rest ≡ whole
-
-pub all_told : {X : Type 0} (R : X → Bor (List ℕ) → Type 0) (whole rest : List X) (texts : List (Bor (List ℕ)))
-    → rest ≡ [] → ToldSoFar R whole rest texts → AllZip R whole texts
-all_told R whole rest texts none told =
-    subst (λ l. AllZip R l texts) (sym (append-nil told.done) ∙ ap (λ l. told.done ++ l) (sym none) ∙ told.behind)
-    told.so_far
 
 told_more : {X : Type 0} (R : X → Bor (List ℕ) → Type 0) (whole here rest rest' : List X)
     (texts texts' : List (Bor (List ℕ))) → (told : ToldSoFar R whole rest texts) → rest ≡ here ++ rest'

@@ -1,3 +1,5 @@
 pub mod Behind
+pub mod Calling
 pub mod Grouping
 pub mod Parting
+pub mod Standing

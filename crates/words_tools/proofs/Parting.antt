@@ -55,18 +55,6 @@ say_equals words o o' s s' short v w r a parted named there is word more same =
     (ap (λ x. codes "--" ++ (short ++ (61 ∷ x))) is.same_word ∙ sym word)
     (with_equals short a [] [] [] (said_of short v r a named there is) none)) more same
 
-pub await_one : (words o o' : List (List ℕ)) (s s' : List Answer) (short w : List ℕ) (row : Row) → AreParted words s o
-    → w ≡ codes "--" ++ short → IsNameOf short row.name.now → Contains fragment_rows (shape_of row)
-    → AwaitsValue (words ++ (w ∷ [])) s o row
-await_one words o o' s s' short w row r word named there = record {
-  front = words;
-  short = short;
-  last = ap (λ v. words ++ (v ∷ [])) word;
-  named = named;
-  row_in = there;
-  parted = r;
-}
-
 pub say_next : (words o o' : List (List ℕ)) (s s' : List Answer) (w : List ℕ) (row : Row) (a : Answer)
     → AwaitsValue words s o row → IsAnswerTo row w a → s' ≡ s ++ (a ∷ []) → o' ≡ o
     → AreParted (words ++ (w ∷ [])) s' o'

@@ -15,7 +15,7 @@ use Rattle.words_orders.specs.Table.{Shape, part, row, shape_of}
 use Rattle.words_tools.specs.declared.fragments.WordKind.{WordKind}
 use Rattle.words_tools.specs.declared.fragments.WordKind.TheVariants as kinds
 use Rattle.words_tools.specs.declared.groups.Group.{Group}
-use Rattle.words_tools.specs.Shortened.{IsShortOf}
+use Rattle.words_orders.specs.Words.{IsShortOf}
 
 -- ---- their table
 

@@ -1,5 +1,4 @@
 pub mod Fragments
 pub mod Mkbootimg
-pub mod Shortened
 pub mod Tools
 pub mod UnpackBootimg

@@ -1,6 +1,6 @@
 -- What the answers to mkbootimg's rows ask for: a vendor boot image, a boot image, or both.
 use Rattle.std.specs.Prelude.{◌≡◌, ◌+◌, ◌*◌, ◌&&◌, ◌==◌, ◌++◌, ℕ, List, [], ◌∷◌, Bool, true, false}
-use Rattle.std.specs.Prelude.{not, Option, Some, None, codes, length, map}
+use Rattle.std.specs.Prelude.{not, Option, Some, None, codes, length}
 use Rattle.std.specs.Prelude.{bytes_eq, if◌then◌else◌, nat_le, nat_lt, option_map, unwrap_or, Contains}
 use Rattle.std.specs.List.{AllZip}
 use Rattle.words_values.specs.declared.rows.Row.{Row}

@@ -13,12 +13,11 @@ use Rattle.words_orders.specs.declared.rows.Work.TheVariants as works
 use Rattle.words_tools.specs.declared.orders.Orders.{Orders}
 use Rattle.words_tools.specs.declared.tools.Tool.{Tool}
 use Rattle.words_tools.specs.declared.tools.Tool.TheVariants as tools
-use Rattle.words_orders.specs.Asked.{Asks, number_named, word_named}
+use Rattle.words_orders.specs.Asked.{AreAnswersOf, Asks, number_named, word_named}
 use Rattle.words_tools.specs.Mkbootimg.{AreImagesOf, PacksImage, id_asked}
-use Rattle.words_tools.specs.Shortened.{AreSpelledIn}
 use Rattle.words_tools.specs.UnpackBootimg.{AsksUnpack, unpack_rows}
 use Rattle.words_tools.specs.declared.unpack_bootimg.UnpackImage.{UnpackImage}
-use Rattle.words_orders.specs.Table.{AreFrom, Shape, excludes, flag, part, path, required, row, usual, work_of}
+use Rattle.words_orders.specs.Table.{Shape, excludes, flag, part, path, required, row, usual, work_of}
 
 -- ---- which tool it is
 
@@ -31,6 +30,10 @@ tool_name tools.UnpackBootimg = codes "unpack_bootimg"
 tool_name tools.Append2simg = codes "append2simg"
 tool_name tools.SimgDump = codes "simg_dump"
 
+-- what a name follows in a path: nothing, or a folder with its slash
+abbrev pub IsFolder : List ℕ → Type 0
+IsFolder front = (front ≡ []) ⊎ ((folder : List ℕ) × (front ≡ folder ++ (47 ∷ [])))
+
 -- a path ends in this name, alone or after a folder
 abbrev pub IsLastPart : List ℕ → List ℕ → Type 0
 IsLastPart name path = (path ≡ name) ⊎ ((folder : List ℕ) × (path ≡ folder ++ (47 ∷ name)))
@@ -38,10 +41,14 @@ IsLastPart name path = (path ≡ name) ⊎ ((folder : List ℕ) × (path ≡ fol
 abbrev pub IsBehindAs : List (List ℕ) → List (List ℕ) → Type 0
 IsBehindAs words own = (program : List ℕ) × (words ≡ program ∷ (codes "as" ∷ own))
 
--- the words call a tool, and these are its own: all, or those after `as`
+-- no tool has the name that a path ends in
+abbrev pub CallsNone : List ℕ → Type 0
+CallsNone path = (tool : Tool) → IsLastPart (tool_name tool) path → ⊥
+
+-- the words call a tool, and these are its own: all, or those after `as` if the program's own name is not a tool's
 pub record IsCalled (words : List (List ℕ)) (tool : Tool) (own : List (List ℕ)) : Type 0 where
   pub name : IsLastPart (tool_name tool) (get_or own 0 [])
-  pub behind : (own ≡ words) ⊎ IsBehindAs words own
+  pub behind : (own ≡ words) ⊎ (IsBehindAs words own × CallsNone (get_or words 0 []))
 
 -- ---- the tables
 
@@ -88,7 +95,7 @@ tool_rows tool = []
 abbrev pub standard_or : List ℕ → List ℕ
 standard_or word = if bytes_eq word (codes "-") then codes "/proc/self/fd/0" else word
 
--- `sparse` in blocks of BLOCK bytes, or of 4096, of which a last one that is not whole is raw
+-- `sparse` in blocks of BLOCK bytes, or of 4096, as img2simg makes the image
 abbrev pub AsksBlocks : List Answer → Task → Type 0
 AsksBlocks all (tasks.Sparse (sparse.Sparse input output block tail)) =
     (input.now ≡ standard_or (word_named (codes "IN") all))
@@ -168,10 +175,12 @@ AsksOrders tools.Simg2simg all said orders = AsksAlone tools.Simg2simg all order
 AsksOrders tools.UnpackBootimg all said orders = AsksUnpacking all orders
 AsksOrders tool all said orders = ⊥
 
--- the words give these orders: answers to rows of the tool's table are among the words, and ask for these, with what
--- was said of ramdisk fragments by other words
+-- the words give these orders: the first calls the tool, each of the others is used once, and what they answer to the
+-- rows of the tool's table asks for these, with what was said of ramdisk fragments by other words
 pub record AreOrdersOf (tool : Tool) (words : List (List ℕ)) (said : List Answer) (orders : Orders) : Type 0 where
+  pub caller : List ℕ
+  pub own : List (List ℕ)
+  pub words_are : words ≡ caller ∷ own
   pub all : List Answer
-  pub from : AreFrom (tool_rows tool) all
-  pub spelled : AreSpelledIn (tool_rows tool) words (get_or words 0 []) all
+  pub answers : AreAnswersOf (tool_rows tool) own all
   pub asks : AsksOrders tool all said orders

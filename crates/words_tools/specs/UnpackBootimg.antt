@@ -1,5 +1,5 @@
 -- What the answers to unpack_bootimg's rows ask for.
-use Rattle.std.specs.Prelude.{◌≡◌, ℕ, List, [], ◌∷◌, Option, None, codes, bytes_eq, if◌then◌else◌}
+use Rattle.std.specs.Prelude.{◌≡◌, ℕ, List, [], ◌∷◌, None, codes, bytes_eq, if◌then◌else◌}
 use Rattle.words_values.specs.declared.rows.WordPlace.TheVariants as places
 use Rattle.words_values.specs.declared.rows.Value.TheVariants as values
 use Rattle.words_orders.specs.declared.answers.Answer.{Answer}

@@ -4,8 +4,10 @@ ghost use Rattle.std.specs.Prelude.{◌≡◌, ◌++◌, ℕ, List, [], ◌∷�
 ghost use Rattle.words_orders.specs.Table.{shape_of};
 ghost use Rattle.words_tools.specs.Fragments.{AreParted, AreParting, IsAnswerTo, IsNameOf, SaysOption, fragment_rows};
 
+use crate::hyphens::is_value;
 use crate::shortening::is_short_of;
 use crate::table::fragment_rows;
+use crate::tools::Tool;
 use std::alloc::{AllocError, Global};
 use std::convert::AsStr;
 use words_orders::{Answer, WordsFault};
@@ -47,8 +49,7 @@ impl<'a> Parted<'a> {
         Ok(parted)
     }
 
-    // Takes the next word, which may follow an option that awaits its value. Returns the option that awaits one now. A
-    // value does not begin with a hyphen, as an option does, but for the number `-0`.
+    // Takes the next word, which may follow an option that awaits its value. Returns the option that awaits one now.
     fn take(
         &mut self,
         alloc: Global,
@@ -60,7 +61,7 @@ impl<'a> Parted<'a> {
             self.new.said.items (map (λ it. it.now) self.new.others.items)) }
     {
         if let Some(row) = before {
-            if word.starts_with('-') && word != "-0" {
+            if !(is_value(fragment_rows(), word) && is_value(Tool::Mkbootimg.rows(), word)) {
                 return Err(WordsFault::NotTaken(NO_VALUE));
             }
             self.say(answer_of(alloc, row, word)?)?;

@@ -5,6 +5,7 @@
 //! | `tools.rt` | the tools, and which of them the words call |
 //! | `table.rt`, `parser.rt` | the words and options of each tool, and their parser |
 //! | `fragments.rt` | the words of ramdisk fragments, separated from the others |
+//! | `hyphens.rt` | which words with a hyphen are values |
 //! | `orders.rt`, `mkbootimg.rt`, `groups.rt` | the orders that the answers ask for |
 //! | `unpack_bootimg.rt` | the image that unpack_bootimg is to unpack |
 //! | `texts.rt` | texts that the orders need and that are no words |
@@ -13,6 +14,7 @@
 
 mod fragments;
 mod groups;
+mod hyphens;
 mod mkbootimg;
 mod orders;
 mod parser;

@@ -1,20 +1,19 @@
 //! Reading the words of AOSP's tools: the orders that they give.
 
-ghost use Rattle.std.specs.Prelude.{◌≡◌, [], IfOk, get_or, map};
+ghost use Rattle.std.specs.Prelude.{◌≡◌, IfOk, map};
 ghost use Rattle.words_tools.specs.Tools.{AreOrdersOf, AsksBlocks, AsksCut, AsksImages, AsksOrders, AsksUnpacking};
 ghost use Rattle.words_tools.specs.Tools.{IsToolOrder};
 ghost use Rattle.words_tools.specs.Tools.{PacksAsked, standard_or};
 
 use crate::mkbootimg::{Image, id_asked, images_of, names_again, packing, refusal_of};
 use crate::parser::tool_program;
-use crate::shortening::are_spelled_in;
 use crate::texts::fragment_texts;
 use crate::tools::Tool;
 use crate::unpack_bootimg::{UnpackImage, unpacking};
 use clap::error::ErrorKind;
 use std::alloc::{AllocError, Global};
 use std::convert::AsStr;
-use words_orders::{Answer, Answers, Order, SparseTask, Task, WordsFault, expand};
+use words_orders::{Answer, Answers, Order, SparseTask, Task, WordsFault, answers_of, expand};
 
 /// The orders of a tool's words, which are done one after the other, or none.
 #[derive(Drop)]
@@ -28,9 +27,9 @@ pub struct Orders<'a> {
     pub unpack: Option<UnpackImage<'a>>,
 }
 
-/// Reads the words of a tool, of which the first calls it, without those that say something of ramdisk fragments. How
-/// clap reads them is not trusted: each answer is found again among the words. `texts` are what `texts_of` makes of
-/// them, which is not trusted either.
+/// Reads the words of a tool, of which the first calls it, without those that say something of ramdisk fragments. Clap
+/// reports what is wrong with them. They are read here, and no contract depends on how clap read them. `texts` are what
+/// `texts_of` makes of them, which is not trusted either.
 pub fn orders_of<'a, S: AsStr>(
     alloc: Global,
     tool: Tool,
@@ -43,12 +42,13 @@ pub fn orders_of<'a, S: AsStr>(
     if let Some(instead) = tool.instead() {
         return Err(WordsFault::NotTaken(instead));
     }
-    let found = tool_program(alloc, tool)?.try_get_matches_from(words)?;
-    let rows = tool.rows();
-    let answers = Answers::of_rows(alloc, rows, &found)?;
-    if !are_spelled_in(alloc, words, rows, caller(words), answers.all.as_slice())? {
+    let _found = tool_program(alloc, tool, words)?.try_get_matches_from(words)?;
+    let Some((_caller, own)) = words.split_first() else {
         return Err(misread(alloc, tool)?);
-    }
+    };
+    let Some(answers) = answers_of(alloc, tool.rows(), own)? else {
+        return Err(misread(alloc, tool)?);
+    };
     let orders = orders_for(alloc, tool, &answers, said, texts)?;
     Ok(orders)
 }
@@ -64,7 +64,7 @@ pub fn texts_of<S: AsStr>(
     if tool.instead().is_some() {
         return Ok(Vec::new(alloc));
     }
-    let found = tool_program(alloc, tool)?.try_get_matches_from(words)?;
+    let found = tool_program(alloc, tool, words)?.try_get_matches_from(words)?;
     Ok(fragment_texts(alloc, found.get_str("vendor_ramdisk"), said)?)
 }
 
@@ -105,20 +105,10 @@ fn unpack_orders<'a>(answers: &Answers<'a>) -> Orders<'a>
     }
 }
 
-// The word that calls the tool.
-fn caller<S: AsStr>(words: &[S]) -> &str
-    ensures { result.now ≡ get_or (map S.text words.now) 0 [] }
-{
-    if words.is_empty() {
-        ""
-    } else {
-        words[0].as_str()
-    }
-}
-
 // Clap read the words differently, which no correct parser does.
 fn misread(alloc: Global, tool: Tool) -> Result<WordsFault, AllocError> {
-    let mut program = tool_program(alloc, tool)?;
+    let no_words: [&str; 0] = [];
+    let mut program = tool_program(alloc, tool, &no_words)?;
     let error = program.error(ErrorKind::InvalidValue, "the words were read as others")?;
     Ok(WordsFault::Usage(error))
 }
@@ -145,7 +135,7 @@ fn make_sparse<'a>(answers: &Answers<'a>) -> Task<'a>
         input: standard_or(answers.given_word("IN")),
         output: answers.given_word("OUT"),
         block: answers.number("BLOCK").unwrap_or(4096),
-        is_tail_raw: true,
+        as_img2simg: true,
     })
 }
 

@@ -1,7 +1,7 @@
 //! The tools of AOSP by whose names the program may be called.
 
-ghost use Rattle.std.specs.Prelude.{◌≡◌, ◌≤◌, [], IsTrue, IfSome, get_or, map};
-ghost use Rattle.words_tools.specs.Tools.{IsBehindAs, IsCalled, IsLastPart, tool_name};
+ghost use Rattle.std.specs.Prelude.{◌≡◌, ◌≢◌, ◌≤◌, ◌↔◌, ◌++◌, ◌∷◌, ℕ, List, [], IsTrue, IfSome, None, get_or, map};
+ghost use Rattle.words_tools.specs.Tools.{CallsNone, IsBehindAs, IsCalled, IsFolder, IsLastPart, tool_name};
 
 use std::convert::AsStr;
 
@@ -35,7 +35,8 @@ impl Tool {
 
     /// The exit status where the words are wrong.
     pub fn wrong_words(self) -> u8
-        ensures { result ≤ 2 }
+        ensures some { result ≢ 0 }
+        ensures most { result ≤ 2 }
     {
         match self {
             Tool::Mkbootimg | Tool::UnpackBootimg => 2,
@@ -56,7 +57,8 @@ impl Tool {
 
     // The tool whose name is the last part of a path.
     fn of_path(path: &str) -> Option<Tool>
-        ensures { IfSome result (λ tool. IsLastPart (tool_name tool) path.now) }
+        ensures calls { IfSome result (λ tool. IsLastPart (tool_name tool) path.now) }
+        ensures none { result ≡ None → CallsNone path.now }
     {
         for tool in &TOOLS {
             if is_last_part(tool.name(), path) {
@@ -79,18 +81,47 @@ static TOOLS: [Tool; 7] = [
 
 // Whether a path ends in this name, after a folder or alone.
 fn is_last_part(name: &str, path: &str) -> bool
-    ensures { IsTrue result → IsLastPart name.now path.now }
+    ensures { IsTrue result ↔ IsLastPart name.now path.now }
 {
-    match path.strip_suffix(name) {
-        Some(front) => front.is_empty() || front.ends_with('/'),
+    match front_of(path, name) {
+        Some(front) => is_folder(front),
         None => false,
     }
 }
 
+// What is before the end of a path.
+fn front_of<'a>(path: &'a str, end: &str) -> Option<&'a str>
+    ensures some { IfSome result (λ front. path.entry.now ≡ front.now ++ end.now) }
+    ensures none { result ≡ None → (front : List ℕ) → path.entry.now ≢ front ++ end.now }
+{
+    path.strip_suffix(end)
+}
+
+// Whether a name can follow: nothing is before it, or a folder with its slash.
+fn is_folder(front: &str) -> bool
+    ensures { IsTrue result ↔ IsFolder front.now }
+{
+    if front.is_empty() {
+        return true;
+    }
+    match before_slash(front) {
+        Some(_folder) => true,
+        None => false,
+    }
+}
+
+fn before_slash<'a>(text: &'a str) -> Option<&'a str>
+    ensures some { IfSome result (λ folder. text.entry.now ≡ folder.now ++ (47 ∷ [])) }
+    ensures none { result ≡ None → (folder : List ℕ) → text.entry.now ≢ folder ++ (47 ∷ []) }
+{
+    text.strip_suffix('/')
+}
+
 /// The tool that the words call, and its words, of which the first calls it: the program's own name, or the word after
-/// `as`.
+/// `as`. None only if they call none.
 pub fn called<S: AsStr>(words: &[S]) -> Option<(Tool, &[S])>
-    ensures { IfSome result (λ call. IsCalled (map S.text words.now) call.0 (map S.text call.1.now)) }
+    ensures calls { IfSome result (λ call. IsCalled (map S.text words.now) call.0 (map S.text call.1.now)) }
+    ensures none { result ≡ None → (tool : Tool) (own : List (List ℕ)) → IsCalled (map S.text words.now) tool own → ⊥ }
 {
     if let Some(tool) = first_tool(words) {
         return Some((tool, words));
@@ -102,17 +133,19 @@ pub fn called<S: AsStr>(words: &[S]) -> Option<(Tool, &[S])>
 
 // The tool that the first word is a path of.
 fn first_tool<S: AsStr>(words: &[S]) -> Option<Tool>
-    ensures { IfSome result (λ tool. IsLastPart (tool_name tool) (get_or (map S.text words.now) 0 [])) }
+    ensures calls { IfSome result (λ tool. IsLastPart (tool_name tool) (get_or (map S.text words.now) 0 [])) }
+    ensures none { result ≡ None → CallsNone (get_or (map S.text words.now) 0 []) }
 {
     match words {
         [word, ..] => Tool::of_path(word.as_str()),
-        [] => None,
+        [] => Tool::of_path(""),
     }
 }
 
 // The words after the program's name and `as`.
 fn behind_as<S: AsStr>(words: &[S]) -> Option<&[S]>
-    ensures { IfSome result (λ own. IsBehindAs (map S.text words.now) (map S.text own.now)) }
+    ensures some { IfSome result (λ own. IsBehindAs (map S.text words.now) (map S.text own.now)) }
+    ensures none { result ≡ None → (own : List (List ℕ)) → IsBehindAs (map S.text words.now) own → ⊥ }
 {
     match words {
         [_, word, own @ ..] if word.as_str() == "as" => Some(own),

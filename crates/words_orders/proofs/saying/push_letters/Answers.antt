@@ -21,13 +21,14 @@ loop-letter-preserved c =
     })
 
 pub returns : goal.returns
-returns c = λ some table is words.
+returns c = λ some table is short words.
     let own = map (λ row. shape_of row.now) c.args.rows.now in
     let text = c.args.letters.now in
     let inv = c.loop-letter.invariant in
-    subst (λ t. AddsSaid t ((45 ∷ text) ∷ words) (map saying_of c.args.said.now.items)
+    subst (λ t. AddsSaid short t ((45 ∷ text) ∷ words) (map saying_of c.args.said.now.items)
     (map saying_of c.loop-letter.said.items) words) (sym is)
-    (letters_all own text words (map saying_of c.args.said.now.items) (map saying_of c.loop-letter.said.items) inv.0
+    (letters_all short own text words (map saying_of c.args.said.now.items) (map saying_of c.loop-letter.said.items)
+    inv.0
     (some_letters (length text) c.is_empty.result c.is_empty.ensures some) inv.1
     (subst (λ l. AllZip (IsLetter own) l inv.0) (take_all c.loop-letter.letter-index text c.loop-letter-test.false)
     inv.2))

@@ -9,7 +9,7 @@ use Rattle.words_orders.proofs.saying.push_next.Goals as goal
 pub returns-then-is_plain-clause-adds : goal.returns-then-is_plain-clause-adds
 returns-then-is_plain-clause-adds g c =
     let rest = map g.S.AsStr.text c.args.rest.now in
-    adds_one saying_of (map (λ row. shape_of row.now) c.args.rows.now) (c.args.word.now ∷ rest) rest
+    adds_one saying_of c.args.is_short (map (λ row. shape_of row.now) c.args.rows.now) (c.args.word.now ∷ rest) rest
     c.args.said.now.items c.push.new.self.items _ (by_place c.args.word.now) c.in_ok-push.ensures.items refl
     (plain c.args.word.now rest (c.is_plain.ensures c.if-is_plain.true))
 
@@ -21,6 +21,6 @@ returns-then-eq-clause-adds g c =
     record {
       said = map by_place rest;
       after_is = c.in_ok-push_placed.ensures;
-      says = subst (λ w. SaysNext (map (λ row. shape_of row.now) c.args.rows.now) (w ∷ rest) (map by_place rest) [])
-          (sym is) (ended rest);
+      says = subst (λ w. SaysNext c.args.is_short (map (λ row. shape_of row.now) c.args.rows.now) (w ∷ rest)
+          (map by_place rest) []) (sym is) (ended rest);
     }

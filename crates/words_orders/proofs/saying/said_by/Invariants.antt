@@ -5,8 +5,9 @@ use Rattle.words_orders.proofs.saying.said_by.Given as goal
 
 abbrev pub invariant-loop-word : goal.invariant-loop-word
 invariant-loop-word g l =
-    (later : List Saying) → WordsSay (map (λ row. shape_of row.now) l.rows) (map g.S.AsStr.text l.left) later
-    → WordsSay (map (λ row. shape_of row.now) l.rows) (map g.S.AsStr.text l.words) (map saying_of l.said.items ++ later)
+    (later : List Saying) → WordsSay l.is_short (map (λ row. shape_of row.now) l.rows) (map g.S.AsStr.text l.left) later
+    → WordsSay l.is_short (map (λ row. shape_of row.now) l.rows) (map g.S.AsStr.text l.words)
+    (map saying_of l.said.items ++ later)
 
 abbrev pub decreases-loop-word : goal.decreases-loop-word
 decreases-loop-word g l = length l.left

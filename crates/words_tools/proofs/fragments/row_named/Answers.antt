@@ -1,4 +1,4 @@
-use Rattle.words_orders.proofs.Among.{rows_last}
+use Rattle.words_tools.proofs.Standing.{rows_last}
 use Rattle.words_tools.specs.Fragments.{fragment_rows}
 use Rattle.words_tools.proofs.fragments.row_named.Goals as goal
 

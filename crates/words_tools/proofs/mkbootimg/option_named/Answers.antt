@@ -1,7 +1,7 @@
 use Rattle.std.proofs.Common.{◌∙◌, sym}
 use Rattle.std.proofs.lemmas.Slice.Eq.{bytes_eq-Decides}
 use Rattle.words_orders.specs.Table.{option_rows}
-use Rattle.words_orders.proofs.Among.{rows_last}
+use Rattle.words_tools.proofs.Standing.{rows_last}
 use Rattle.words_tools.proofs.mkbootimg.option_named.Goals as goal
 
 pub returns-then-eq : goal.returns-then-eq

@@ -1,7 +1,7 @@
 use Rattle.std.proofs.Common.{ℕ, ◌<◌}
 use Rattle.std.specs.Prelude.{slice_index_or}
 use Rattle.words_values.specs.declared.rows.Row.{Row}
-use Rattle.words_tools.specs.Shortened.{IsOnly}
+use Rattle.words_orders.specs.Words.{IsOnly}
 use Rattle.words_tools.proofs.shortening.is_only.Given as goal
 
 abbrev pub invariant-loop-row : goal.invariant-loop-row

@@ -1,6 +1,6 @@
 use Rattle.std.proofs.lemmas.List.Elements.{All-map}
 use Rattle.words_orders.specs.Table.{Shape, shape_of}
-use Rattle.words_tools.specs.Shortened.{IsOnly}
+use Rattle.words_orders.specs.Words.{IsOnly}
 use Rattle.words_tools.proofs.shortening.is_short_of.Goals as goal
 
 pub returns-in-Some : goal.returns-in-Some

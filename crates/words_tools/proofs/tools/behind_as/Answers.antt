@@ -5,8 +5,8 @@ use Rattle.std.proofs.lemmas.Slice.Eq.{bytes_eq-Decides}
 use Rattle.words_tools.proofs.Behind.{third_on, two_first}
 use Rattle.words_tools.proofs.tools.behind_as.Goals as goal
 
-pub returns-in-len2-up : goal.returns-in-len2-up
-returns-in-len2-up g c =
+pub returns-in-len2-up-clause-some : goal.returns-in-len2-up-clause-some
+returns-in-len2-up-clause-some g c =
     let text = g.S.AsStr.text in
     let words = c.args.words.now in
     let here : get_or (map text words) 1 [] ≡ codes "as" =

@@ -1,7 +1,5 @@
-use Rattle.std.proofs.Common.{[], ◌∷◌, ◌++◌, ◌∙◌, sym, subst}
-use Rattle.std.specs.Prelude.{Contains}
+use Rattle.std.proofs.Common.{[], ◌∷◌, ◌++◌, ◌∙◌}
 use Rattle.std.proofs.lemmas.List.Elements.{All-push, All-same}
-use Rattle.words_orders.specs.declared.answers.Answer.{Answer}
 use Rattle.words_orders.specs.Asked.{IsReadRight, saying_of_answer}
 use Rattle.words_orders.specs.Table.{shape_of}
 use Rattle.words_orders.specs.Words.{of_row}
@@ -13,18 +11,13 @@ loop-word-preserved c =
     let all = c.loop-word.self.all.items in
     let answer = c.in_ok-answer.answer in
     let row = shape_of c.args.row.now in (
-      λ table before stands.
-          let P = λ (a : Answer). Contains table (shape_of a.row.now) in
-          All-same P c.push.new.self.all.items (all ++ (answer ∷ [])) c.in_ok-push.ensures
-          (All-push P all answer (c.loop-word.invariant.0 table before stands)
-          (subst (λ r. Contains table (shape_of r)) (sym c.in_ok-answer.ensures.row) stands)),
       added_more_of saying_of_answer (of_row row) (λ s. s.now) all c.push.new.self.all.items c.args.words.now
           c.loop-word.word-index _ answer c.loop-word-test.true c.in_ok-push.ensures
           (answer_is answer c.args.row.now _ c.in_ok-answer.ensures.row c.in_ok-answer.ensures.word)
-          ∙ c.loop-word.invariant.1,
+          ∙ c.loop-word.invariant.0,
       λ before.
           All-same IsReadRight c.push.new.self.all.items (all ++ (answer ∷ [])) c.in_ok-push.ensures
-          (All-push IsReadRight all answer (c.loop-word.invariant.2 before)
+          (All-push IsReadRight all answer (c.loop-word.invariant.1 before)
           (read_is answer c.args.row.now _ c.in_ok-answer.ensures.row c.in_ok-answer.ensures.word
           c.in_ok-answer.ensures.number)),
     )
