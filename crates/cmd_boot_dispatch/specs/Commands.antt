@@ -18,11 +18,11 @@ use Rattle.cmd_pack.specs.RefusingAgain.{RefusesRepack}
 use Rattle.cmd_pack.specs.Repacking.{HoldsNoPartAgain, KeepsRead, RepacksFile, ShowsFirst}
 use Rattle.cmd_boot_dispatch.specs.Ordered.{IsCommandOf}
 use Rattle.cmd_boot_dispatch.specs.declared.command.BootCommand.{BootCommand}
-use Rattle.cmd_boot_dispatch.specs.declared.command.Kind.{Kind}
-use Rattle.cmd_boot_dispatch.specs.declared.command.Kind.TheVariants as kinds
+use Rattle.cmd_boot_dispatch.specs.declared.command.BootCommandKind.{BootCommandKind}
+use Rattle.cmd_boot_dispatch.specs.declared.command.BootCommandKind.TheVariants as kinds
 
 -- the command that a task asks for, with the bytes that its arguments encode
-abbrev pub IsKindOf : BootTask → Kind → Type 0
+abbrev pub IsKindOf : BootTask → BootCommandKind → Type 0
 IsKindOf (tasks.Pack order) (kinds.Pack command) = IsCommandOf order command
 IsKindOf (tasks.Repack input order) (kinds.Repack from command) = (from.now ≡ input.now) × IsCommandOf order command
 IsKindOf (tasks.Unpack input folder with_words) (kinds.Unpack from onto are_wanted) =
@@ -37,7 +37,8 @@ SyncsOne old new = new.syncs ≡ old.syncs + (if old.is_synced then 1 else 0)
 
 -- ---- what is done, from one state to another, where these outputs are where standard output goes
 
-abbrev pub DoesKind : (List ℕ → Bool) → Kind → World → OpenFiles → Report → World → OpenFiles → Report → Type 0
+abbrev pub DoesKind : (List ℕ → Bool) → BootCommandKind → World → OpenFiles → Report → World → OpenFiles → Report
+    → Type 0
 DoesKind on_output (kinds.Pack command) world held report world' held' report' =
     PacksFile command world world' (ShowsBeside (on_output (output_path command.output.now)) report report')
     × SyncsOne held held'
@@ -52,7 +53,7 @@ DoesKind on_output (kinds.Info input with_check with_hex) world held report worl
 
 -- ---- what stays, whatever the outcome: only OUT, or files with the parts' names, may hold anything else
 
-abbrev pub SparesKind : Kind → World → OpenFiles → World → OpenFiles → Type 0
+abbrev pub SparesKind : BootCommandKind → World → OpenFiles → World → OpenFiles → Type 0
 SparesKind (kinds.Pack command) world held world' held' =
     OnlyAt held.read (output_path command.output.now) world world' × KeepsGiven command world world'
 SparesKind (kinds.Repack input command) world held world' held' =
@@ -63,7 +64,7 @@ SparesKind (kinds.Unpack input folder with_words) world held world' held' =
 SparesKind (kinds.Info input with_check with_hex) world held world' held' = world' ≡ world
 
 -- OUT of these has no part of an image, where it can be overwritten
-abbrev pub LeavesNoPartOfBoot : (List ℕ → Bool) → Kind → World → World → Type 0
+abbrev pub LeavesNoPartOfBoot : (List ℕ → Bool) → BootCommandKind → World → World → Type 0
 LeavesNoPartOfBoot over (kinds.Pack command) world world' =
     IsTrue (over (output_path command.output.now)) → HoldsNoPart command world world'
 LeavesNoPartOfBoot over (kinds.Repack input command) world world' =
@@ -73,7 +74,8 @@ LeavesNoPartOfBoot over (kinds.Info input with_check with_hex) world world' = Un
 
 -- ---- why it fails
 
-abbrev pub RefusesKind : BootCommandFault → Kind → World → OpenFiles → Report → World → OpenFiles → Report → Type 0
+abbrev pub RefusesKind : BootCommandFault → BootCommandKind → World → OpenFiles → Report → World → OpenFiles → Report
+    → Type 0
 RefusesKind fault (kinds.Pack command) world held report world' held' report' =
     RefusesPack command world world' held held' (PacksFile command world world' (Unprinted report report')) fault
 RefusesKind fault (kinds.Repack input command) world held report world' held' report' =

@@ -20,12 +20,12 @@ use words_orders::BootTask;
 /// A command of boot images, with its arguments parsed.
 #[derive(Drop)]
 pub struct BootCommand<'a> {
-    pub kind: Kind<'a>,
+    pub kind: BootCommandKind<'a>,
 }
 
 /// Which command it is.
 #[derive(Drop)]
-pub enum Kind<'a> {
+pub enum BootCommandKind<'a> {
     Pack(PackCommand<'a>),
     Repack {
         input: &'a str,
@@ -50,18 +50,18 @@ impl<'a> BootCommand<'a> {
     {
         let kind = match task {
             BootTask::Pack(order) => match command_of(alloc, order) {
-                Ok(command) => Kind::Pack(command),
+                Ok(command) => BootCommandKind::Pack(command),
                 Err(error) => return Err(error),
             },
             BootTask::Repack { input, order } => match command_of(alloc, order) {
-                Ok(command) => Kind::Repack { input, command },
+                Ok(command) => BootCommandKind::Repack { input, command },
                 Err(error) => return Err(error),
             },
             BootTask::Unpack {
                 input,
                 folder,
                 with_words,
-            } => Kind::Unpack {
+            } => BootCommandKind::Unpack {
                 input,
                 folder,
                 with_words,
@@ -70,7 +70,7 @@ impl<'a> BootCommand<'a> {
                 input,
                 with_check,
                 with_hex,
-            } => Kind::Info {
+            } => BootCommandKind::Info {
                 input,
                 with_check,
                 with_hex,
@@ -104,16 +104,16 @@ pub fn boot_command<'t, 'a, D: Disk>(
         (D.world disk.old) (D.held disk.old) report.old (D.world disk.new) (D.held disk.new) report.new) }
 {
     match &command.kind {
-        Kind::Pack(command) => pack_file(disk, report, command, w, m),
-        Kind::Repack { input, command } => {
+        BootCommandKind::Pack(command) => pack_file(disk, report, command, w, m),
+        BootCommandKind::Repack { input, command } => {
             repack_file(disk, report, input_at(input), command, w, m)
         }
-        Kind::Unpack {
+        BootCommandKind::Unpack {
             input,
             folder,
             with_words,
         } => unpack_file(disk, report, input_at(input), folder, *with_words, w, m),
-        Kind::Info {
+        BootCommandKind::Info {
             input,
             with_check,
             with_hex,

@@ -12,4 +12,4 @@ mod command;
 mod pack_order;
 
 pub use cmd_common_boot::{BootCommandFault, BootOutcome};
-pub use command::{BootCommand, Kind, boot_command};
+pub use command::{BootCommand, BootCommandKind, boot_command};

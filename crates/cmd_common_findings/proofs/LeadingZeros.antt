@@ -2,10 +2,9 @@
 use Rattle.std.proofs.Common.{◌≡◌, ℕ, zero, suc, ◌+◌, ◌-◌, ◌≤◌, ◌<◌, ◌==◌, ◌&&◌, Bool, true, false, inl, inr, List, []}
 use Rattle.std.proofs.Common.{◌∷◌, length, take, drop, min, Option, Some, None, is_none, refl, sym, ap, ◌∙◌, arith}
 use Rattle.std.proofs.Common.{drop-drop}
-use Rattle.std.proofs.Common.{get_or, if◌then◌else◌, option_map}
+use Rattle.std.proofs.Common.{if◌then◌else◌, option_map}
 use Rattle.std.proofs.lemmas.Bool.{and_parts, cases_Bool, cond-true, cond-false, ne_eqb, true≢false}
-use Rattle.std.proofs.lemmas.Bool.Decides.{Decides-eqb}
-use Rattle.std.proofs.lemmas.List.{drop_more, length-drop, length-take, take_min}
+use Rattle.std.proofs.lemmas.List.{length-drop, length-take, take_min}
 use Rattle.abt_headers.specs.declared.sections.SectionPlace.{SectionPlace}
 use Rattle.abt_sections.specs.Check.{all_zero, padded_places, padding_holds, zeros_there}
 use Rattle.abt_sections.specs.Header.{Header, page_of, places_of, size_of}
@@ -165,16 +164,4 @@ stops s s' at done ask n zeros same le so_far seen few =
     ap Some place ∙ sym (cond-false _ _ _ (ne_eqb (leading_zeros (take n (drop at s))) n
     (λ is. let q : leading_zeros (take n (drop at s)) ≡ n = is in omega (arith, all, q, few, le))))
 
-pub none_found : (s : List ℕ) (at n : ℕ) → leading_zeros (take n (drop at s)) ≡ n → None ≡ first_set_in s at n
-none_found s at n all = sym (cond-true _ _ _ ((Decides-eqb (leading_zeros (take n (drop at s))) n).1 all))
-
 -- ---- place by place
-
-pub next_place : (x : List ℕ) (page i : ℕ) (ps : List SectionPlace) (p : SectionPlace) → i < length ps → p
-    ≡ get_or ps i p
-    → first_behind x page (drop i ps) ≡ or_first (first_set_in x (p.at + p.size) (padding p.size page))
-    (first_behind x page (drop (i + 1) ps))
-next_place x page i ps p within is =
-    ap (first_behind x page) (drop_more ps i p within)
-    ∙ ap (λ (q : SectionPlace). or_first (first_set_in x (q.at + q.size) (padding q.size page))
-    (first_behind x page (drop (i + 1) ps))) (sym is)

@@ -21,7 +21,7 @@ pub broken : (old new : List ℕ) → old ≡ [] → (new ≡ old) ⊎ IsNoImage
 broken old new empty (inl same) = inl (subst (λ l. length l < 4) (sym (same ∙ empty)) (omega arith))
 broken old new empty (inr none) = inr (subst (λ l. IsNoImage (drop (length l) new)) empty none)
 
-pub written : (u : Bool) (size most : ℕ) (x old new : List ℕ) (a : Written) → old ≡ [] → most ≡ most_of size
+pub written : (u : Bool) (size most : ℕ) (x old new : List ℕ) (a : Written) → old ≡ [] → most ≡ most_of u size
     → (a.blocks ≡ length (raw_list u size x)) × (a.chunks ≡ length (chunks_of most (raw_list u size x)))
     → length new ≡ length old + a.bytes → new ≡ old ++ spelling size most (raw_list u size x) → IsWritten u size x a new
 written u size most x old new a empty is counts more whole =

@@ -5,12 +5,11 @@ use Rattle.std.specs.Prelude.{IsTrue, IsOk, IfOk, OnOk, OnErr, Result, Ok, Err, 
 use Rattle.std.proofs.lemmas.Bool.{false≢true}
 use Rattle.abt_pieces.specs.declared.fault.PieceFault.{PieceFault}
 use Rattle.abt_pieces.specs.declared.fault.PieceFault.TheVariants as pieces
-use Rattle.abt_pieces.specs.Fault.{CutCause}
 use Rattle.abt_sparsify.specs.Sparsify.{SparsifyCause}
 use Rattle.sys_disk.specs.World.{World, OpenFiles, OpensFile, Creates, HasFailed, HasNotFailed, failing, ended, unended}
-use Rattle.sys_disk.specs.World.{ClosesOutput, SparesRest}
+use Rattle.sys_disk.specs.World.{ClosesOutput}
 use Rattle.cmd_common_sparse.specs.Blocks.{IsRawBlockSize}
-use Rattle.cmd_cut.specs.Sparsing.{GivesUp, IsOfPieceDevices}
+use Rattle.cmd_cut.specs.Sparsing.{GivesUp}
 
 -- ---- of the engine's calls
 

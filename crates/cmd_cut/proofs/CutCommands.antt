@@ -1,6 +1,6 @@
 -- One piece more, and all of them.
 use Rattle.std.proofs.Common.{inl, inr, arith, ◌⊎◌, ◌+◌, ◌-◌, ◌*◌, ◌≡◌, ℕ, zero, suc, ◌<◌, ◌≤◌, List, [], ◌∷◌, Some}
-use Rattle.std.proofs.Common.{None, Bool, true, false, refl, sym, ◌∙◌, ap, subst, below_more, length, map}
+use Rattle.std.proofs.Common.{None, Bool, true, false, refl, sym, ◌∙◌, ap, subst, below_more, length}
 use Rattle.std.proofs.Common.{length-append}
 use Rattle.std.specs.Prelude.{unwrap_or, Contains, if◌then◌else◌, ◌&&◌, Option, is_none, option_map, codes, bytes_eq}
 use Rattle.std.proofs.lemmas.Bool.{false≢true}
@@ -169,6 +169,15 @@ pub path_behind : (p : FileArg) (names before begun : PieceNaming) (count n : �
     → before ≡ names → count ≡ n → path_out p ≡ path_in_turn (naming_of names) n
 path_behind p names before begun count n folder number name same is behind =
     piece_place p names.prefix.now (number_in_turn names.is_from_zero n) folder
+    (number ∙ ap (λ k. Some (number_in_turn k.is_from_zero count)) (same ∙ is)
+    ∙ ap (λ k. Some (number_in_turn names.is_from_zero k)) behind)
+    (ap (λ s. s.now) name ∙ ap (λ k. k.prefix.now) is)
+
+pub path_behind_of : (p : FileArg) (names before begun : PieceNaming) (count n : ℕ) → p.folder ≡ None
+    → p.number ≡ Some (number_in_turn begun.is_from_zero count) → p.name ≡ before.prefix → begun ≡ before
+    → before ≡ names → count ≡ n → path_of p ≡ path_in_turn (naming_of names) n
+path_behind_of p names before begun count n folder number name same is behind =
+    piece_path_of p names.prefix.now (number_in_turn names.is_from_zero n) folder
     (number ∙ ap (λ k. Some (number_in_turn k.is_from_zero count)) (same ∙ is)
     ∙ ap (λ k. Some (number_in_turn names.is_from_zero k)) behind)
     (ap (λ s. s.now) name ∙ ap (λ k. k.prefix.now) is)

@@ -3,6 +3,8 @@ pub mod Beside
 pub mod Counted
 pub mod CutCommands
 pub mod Files
+pub mod Fronts
+pub mod Leavings
 pub mod Nexts
 pub mod Opened
 pub mod Wholes

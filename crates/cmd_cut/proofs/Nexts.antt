@@ -1,5 +1,5 @@
 -- What the engine's results mean for the next piece.
-use Rattle.std.proofs.Common.{◌+◌, ◌≡◌, ℕ, List, [], ◌++◌, true, false, sym, ◌∙◌, ap, subst, length}
+use Rattle.std.proofs.Common.{◌≡◌, ℕ, List, [], ◌++◌, sym, ◌∙◌, ap, subst, length}
 use Rattle.std.proofs.lemmas.Bool.{false≢true}
 use Rattle.abt_sparse.specs.Block.{Block}
 use Rattle.abt_sparse.specs.Chunk.{piece}

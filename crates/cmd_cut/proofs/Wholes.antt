@@ -1,9 +1,8 @@
 -- All of a run that cuts an image, from the image's opening on.
-use Rattle.std.proofs.Common.{inl, inr, arith, ◌⊎◌, ◌+◌, ◌*◌, ◌≡◌, ◌≢◌, ℕ, zero, suc, ◌<◌, List, [], Some, None, true}
-use Rattle.std.proofs.Common.{false, sym}
+use Rattle.std.proofs.Common.{inl, inr, arith, ◌⊎◌, ◌+◌, ◌*◌, ◌≡◌, ◌≢◌, ℕ, zero, suc, ◌<◌, List, [], Some, None}
+use Rattle.std.proofs.Common.{sym}
 use Rattle.std.proofs.Common.{◌∙◌, ap, subst, Bool}
-use Rattle.std.specs.Prelude.{OnOk, Result, Ok, Err, Option, unwrap_or, is_some, Contains, if◌then◌else◌}
-use Rattle.std.proofs.lemmas.Bool.{false≢true}
+use Rattle.std.specs.Prelude.{OnOk, Result, Ok, Err, Option, unwrap_or, Contains, if◌then◌else◌}
 use Rattle.std.proofs.lemmas.List.Elements.{Contains-push, Contains-append_cases}
 use Rattle.abt_sparse.specs.Block.{Block}
 use Rattle.abt_sparse.specs.Pieces.{pieces}
@@ -13,7 +12,6 @@ use Rattle.sys_refusals.specs.declared.refusal.HostFault.{HostFault}
 use Rattle.sys_refusals.specs.declared.refusal.HostFault.TheVariants as hosts
 use Rattle.sys_disk.specs.World.{World, OpenFiles, OpensFile, KeepsFile, HasFailed, HasNotFailed, failing}
 use Rattle.cmd_common_sparse.specs.PieceNames.{Naming}
-use Rattle.cmd_common_sparse.specs.declared.lines.Line.TheVariants as lines
 use Rattle.cmd_common_sparse.specs.declared.fault.SparseCommandFault.{SparseCommandFault}
 use Rattle.cmd_common_sparse.specs.declared.fault.SparseCommandFault.TheVariants as faults
 use Rattle.cmd_cut.specs.Sparsing.{IsOutsideSparse}

@@ -28,7 +28,7 @@ use Rattle.abt_pieces.specs.declared.fault.PieceFault.TheVariants as of_pieces
 use Rattle.sys_refusals.specs.Paths.{numbered}
 use Rattle.sys_refusals.specs.declared.refusal.HostFault.{HostFault}
 use Rattle.sys_refusals.specs.declared.refusal.HostFault.TheVariants as hosts
-use Rattle.sys_disk.specs.World.{World, OpenFiles, Ends, KeepsFile, Spares, SparesRest, HasFailed, HasNotFailed, ended}
+use Rattle.sys_disk.specs.World.{World, OpenFiles, Ends, KeepsFile, SparesRest, HasFailed, HasNotFailed, ended}
 use Rattle.sys_disk.specs.World.{failing}
 use Rattle.cmd_common_sparse.specs.Blocks.{IsRawBlockSize}
 use Rattle.cmd_common_sparse.specs.Lines.{line_text}

@@ -18,16 +18,16 @@ use Rattle.cmd_common_sparse.specs.declared.fault.SparseCommandFault.{SparseComm
 use Rattle.cmd_common_sparse.specs.declared.fault.SparseCommandFault.TheVariants as faults
 use Rattle.cmd_common_sparse.specs.declared.lines.Line.TheVariants as lines
 
--- the sparse image of these bytes in blocks of this size, in how many blocks and chunks; a last block that is filled
--- up is raw where t says so
+-- the sparse image of these bytes in blocks of this size, in how many blocks and chunks; as img2simg makes it where t
+-- says so: a last block that is filled up is raw, and raw chunks are as long as can be
 abbrev pub image_of_raw : Bool → ℕ → List ℕ → List ℕ
-image_of_raw t size x = spelling size (most_of size) (raw_list t size x)
+image_of_raw t size x = spelling size (most_of t size) (raw_list t size x)
 
 abbrev pub blocks_of_raw : Bool → ℕ → List ℕ → ℕ
 blocks_of_raw t size x = length (raw_list t size x)
 
 abbrev pub chunks_of_raw : Bool → ℕ → List ℕ → ℕ
-chunks_of_raw t size x = length (chunks_of (most_of size) (raw_list t size x))
+chunks_of_raw t size x = length (chunks_of (most_of t size) (raw_list t size x))
 
 -- The file at one path held bytes. The file at the other path is another file. It holds their sparse image and
 -- nothing else. No other file has changed, and the line that was printed has the image's numbers.
@@ -121,14 +121,14 @@ pub record GivesUp (faults : ℕ) (held held' : OpenFiles) (old new : World) : T
   pub rest : SparesRest held.output old new
 
 -- a raw image of this many bytes can be written in these blocks
-pub record FitsBlocks (blocks : Blocks) (bytes : ℕ) : Type 0 where
+pub record FitsBlocks (t : Bool) (blocks : Blocks) (bytes : ℕ) : Type 0 where
   pub sized : IsRawBlockSize blocks.size
-  pub most : blocks.most ≡ most_of blocks.size
+  pub most : blocks.most ≡ most_of t blocks.size
   pub few : bytes ≤ (2 ^ 32 - 1) * blocks.size
 
 -- what is read is such an image, and has not failed
-pub record ReadyRawImage (models : Bool) (blocks : Blocks) (bytes reads : ℕ) : Type 0 where
-  pub fits : FitsBlocks blocks bytes
+pub record ReadyRawImage (models t : Bool) (blocks : Blocks) (bytes reads : ℕ) : Type 0 where
+  pub fits : FitsBlocks t blocks bytes
   pub read : IsTrue models → reads ≡ 0
 
 -- nothing was written yet, and nothing has failed
@@ -137,14 +137,14 @@ pub record ReadyOutput (models : Bool) (written : List ℕ) (faults : ℕ) : Typ
   pub clean : IsTrue models → faults ≡ 0
 
 -- both
-pub record ReadyToWrite (models : Bool) (blocks : Blocks) (bytes reads : ℕ) (written : List ℕ) (faults : ℕ) : Type 0
-  where
-    pub image : ReadyRawImage models blocks bytes reads
-    pub output : ReadyOutput models written faults
+pub record ReadyToWrite (models t : Bool) (blocks : Blocks) (bytes reads : ℕ) (written : List ℕ) (faults : ℕ)
+    : Type 0 where
+  pub image : ReadyRawImage models t blocks bytes reads
+  pub output : ReadyOutput models written faults
 
 -- such an image can be written to an empty output
-pub record ReadyToLay (blocks : Blocks) (bytes : ℕ) (written : List ℕ) : Type 0 where
-  pub fits : FitsBlocks blocks bytes
+pub record ReadyToLay (t : Bool) (blocks : Blocks) (bytes : ℕ) (written : List ℕ) : Type 0 where
+  pub fits : FitsBlocks t blocks bytes
   pub empty : written ≡ []
 
 -- Of devices that had failed so often before, and have now, none has failed more where all was done; and where it was

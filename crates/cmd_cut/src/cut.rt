@@ -11,6 +11,7 @@ ghost use Rattle.abt_runs.specs.Sparse.{SparseOpened, SparsePlace, blocks_togeth
 ghost use Rattle.abt_sparse.specs.View.{view};
 ghost use Rattle.cmd_cut.specs.Cutting.{CutsFile, CutsImage, CutsSoFar, IsPiecePath, IsUnbegun, IsUncutSparse};
 ghost use Rattle.cmd_cut.specs.Cutting.{LeavesCut, LeavesPieces, RefusesCut, ShowsCut, StopsImage};
+ghost use Rattle.cmd_cut.specs.Leaving.{BeginsCut, SparesImage};
 ghost use Rattle.cmd_common_sparse.specs.PieceNames.{naming_of};
 
 use crate::cut_loop::cut_pieces;
@@ -62,6 +63,11 @@ pub fn cut_file<'a, D: Disk>(
     // after an Ok nothing has failed
     ensures leaves { IsTrue D.models → LeavesCut result (path_of order.entry.input) order.entry.names.prefix.now
         (D.held disk.old) (D.held disk.new) (D.world disk.old) (D.world disk.new) }
+    // nothing was changed where an existing file with the name of a piece is IN's; no file that can be overwritten has
+    // a part of a piece
+    ensures spares { IsTrue D.models → SparesImage order.entry.raw order.entry.limit D.is_over
+        (naming_of order.entry.names) order.entry.input.name.now (path_of order.entry.input) (D.world disk.old)
+        (D.world disk.new) }
     // it fails for what IN holds, for the limit, or for a fault of files or devices
     ensures refused { IsTrue D.models → IfErr result (λ refusal. RefusesCut order.entry.raw order.entry.limit
         (path_of order.entry.input) (naming_of order.entry.names) refusal.fault (D.held disk.old) (D.held disk.new)
@@ -95,6 +101,8 @@ fn cut_raw<'a, D: Disk>(
         (ShowsCut (naming_of order.entry.names) order.entry.limit (D.world disk.new) report.old report.new)) }
     ensures leaves { IsTrue D.models → LeavesPieces result (IsPiecePath order.entry.names.prefix.now) (D.held disk.old)
         (D.held disk.new) (D.world disk.old) (D.world disk.new) }
+    ensures begins { IsTrue D.models → BeginsCut (Some size) order.entry.limit D.is_over (naming_of order.entry.names)
+        order.entry.input.name.now (D.At.content source) (D.held disk.old) (D.world disk.old) (D.world disk.new) }
     ensures refused { IsTrue D.models → IfErr result (λ refusal. StopsImage (Some size) order.entry.limit
         (D.At.content source) refusal.fault (HasFailed (D.held disk.old) (D.held disk.new)) (CannotPrint report.old
         report.new) (D.world disk.new ≡ D.world disk.old)
@@ -132,6 +140,8 @@ fn cut_sparse<'a, D: Disk>(
         (ShowsCut (naming_of order.entry.names) order.entry.limit (D.world disk.new) report.old report.new)) }
     ensures leaves { IsTrue D.models → LeavesPieces result (IsPiecePath order.entry.names.prefix.now) (D.held disk.old)
         (D.held disk.new) (D.world disk.old) (D.world disk.new) }
+    ensures begins { IsTrue D.models → BeginsCut None order.entry.limit D.is_over (naming_of order.entry.names)
+        order.entry.input.name.now (D.At.content source) (D.held disk.old) (D.world disk.old) (D.world disk.new) }
     ensures refused { IsTrue D.models → IfErr result (λ refusal. StopsImage None order.entry.limit (D.At.content source)
         refusal.fault (HasFailed (D.held disk.old) (D.held disk.new)) (CannotPrint report.old
         report.new) (D.world disk.new ≡ D.world disk.old)

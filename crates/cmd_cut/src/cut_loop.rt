@@ -1,12 +1,14 @@
 //! All pieces of an image, one after another.
 
-ghost use Rattle.std.specs.Prelude.{◌≡◌, ◌<◌, ◌≤◌, ◌+◌, ◌⊎◌, None, length, IsTrue, IfOk, IfErr, OnOk, OnErr};
-ghost use Rattle.sys_disk.specs.World.{HasFailed};
+ghost use Rattle.std.specs.Prelude.{◌≡◌, ◌<◌, ◌≤◌, ◌+◌, ◌-◌, ◌^◌, ◌⊎◌, None, length, IsTrue, IfOk, IfErr, OnOk, OnErr};
+ghost use Rattle.sys_disk.specs.World.{HasFailed, IsFree};
 ghost use Rattle.sys_report.specs.Shows.{CannotPrint, IsNoted, Shows, refusals};
 ghost use Rattle.cmd_common_sparse.specs.PieceNames.{naming_of};
 ghost use Rattle.cmd_cut.specs.Cutting.{ChangesNoFile, CutsAll, CutsSoFar, IsPiecePath, IsUnbegun};
 ghost use Rattle.cmd_cut.specs.Cutting.{LeavesPieces, OnlyLeaves, ReadyFirstPiece, ShowsCount, ShowsCut};
 ghost use Rattle.cmd_cut.specs.Cutting.{ShowsPieces, StopsCut, cut_into, piece_line};
+ghost use Rattle.cmd_cut.specs.Leaving.{AreFreeInTurn, LeavesNoPart, LooksAtPieces};
+ghost use Rattle.cmd_common_sparse.specs.PieceNames.{IsPieceName};
 
 use crate::next_piece::LaysPieces;
 use crate::pieces::put_piece;
@@ -45,6 +47,12 @@ pub(crate) fn cut_pieces<'a, D: Disk, B: BlockRuns + LaysPieces + Drop>(
     // whatever the outcome, only piece files were created or changed, and none is open; after an Ok nothing has failed
     ensures leaves { IsTrue D.models → LeavesPieces result (IsPiecePath names.entry.prefix.now) (D.held disk.old)
         (D.held disk.new) (D.world disk.old) (D.world disk.new) }
+    // nothing was changed where the name of a piece leads to the image's file, as far as the look comes; no file that
+    // can be overwritten has a part of a piece
+    ensures spares { IsTrue D.models → LooksAtPieces (naming_of names.entry) input.entry.name.now (D.held disk.old)
+        (D.world disk.old) (D.world disk.new) × LeavesNoPart D.is_over (naming_of names.entry)
+        (cut_into pieces.cutter.limit (B.size pieces.cutter.runs) (B.list pieces.cutter.runs (D.At.content source)))
+        (D.world disk.old) (D.world disk.new) }
     // it fails where something has failed, or can't be printed
     ensures refused { IsTrue D.models → IfErr result (λ refusal. StopsCut refusal.fault
         (HasFailed (D.held disk.old) (D.held disk.new)) (CannotPrint report.old report.new)
@@ -136,6 +144,9 @@ fn write_pieces<'a, D: Disk, B: BlockRuns + LaysPieces + Drop>(
     ensures named { IfOk result.1 (λ files. files.names ≡ names.entry) }
     ensures left { IsTrue D.models → OnlyLeaves (IsPiecePath names.entry.prefix.now) (D.held disk.old) (D.held disk.new)
         (D.world disk.old) (D.world disk.new) }
+    ensures whole { IsTrue D.models → LeavesNoPart D.is_over (naming_of names.entry) (cut_into pieces.cutter.limit
+        (B.size pieces.cutter.runs) (B.list pieces.cutter.runs (D.At.content source))) (D.world disk.old)
+        (D.world disk.new) }
     ensures refused { IsTrue D.models → IfErr result.1 (λ refusal. StopsCut refusal.fault
         ((D.held disk.old).failed + D.At.read_faults source
         < (D.held disk.new).failed + D.At.read_faults result.0) (CannotPrint report.old report.new)
@@ -200,6 +211,10 @@ fn refuse_image_as_piece<'a, D: Disk>(
     image: &'a str,
     names: PieceNaming<'a>,
 ) -> Result<(), HostRefusal<'a>>
+    ensures free { IsTrue D.models → OnOk result (AreFreeInTurn (naming_of names.entry) (2 ^ 32 - 1) (D.held disk.old)
+        (D.world disk.old)) }
+    ensures named { IsTrue D.models → OnOk result (IsPieceName names.entry.prefix.now image.now
+        → IsFree image.now (D.held disk.old) (D.world disk.old)) }
     ensures held { IsTrue D.models → OnOk result (D.held disk.new ≡ D.held disk.old) }
     ensures refused { IsTrue D.models → IfErr result (λ refusal. (refusal.fault ≡ HostFault.Memory)
         ⊎ HasFailed (D.held disk.old) (D.held disk.new)) }
@@ -207,13 +222,19 @@ fn refuse_image_as_piece<'a, D: Disk>(
         (D.world disk.new) }
 {
     if is_piece_name(image, names.prefix) {
-        match disk.refuse_taken(FileArg::new("PIECE", image)) {
+        let place = FileArg {
+            role: "PIECE",
+            folder: None,
+            name: image,
+            number: None,
+        };
+        match disk.refuse_taken(place) {
             Ok(()) => {}
             Err(refusal) => return Err(refusal),
         }
     }
     let mut files = PieceFiles::new(names);
-    for _ in 0..u32::MAX {
+    for index in 0..u32::MAX {
         let place = files.next();
         match disk.is_there(place) {
             Ok(true) => {}

@@ -13,19 +13,19 @@ use sys_report::Carried;
 pub(crate) fn lay_image<S: Source, O: Overwrite>(
     source: &mut Carried<'_, S>,
     blocks: Blocks,
-    is_tail_raw: bool,
+    as_img2simg: bool,
     output: &mut O,
     w: &mut Window,
     m: &mut Meter,
 ) -> Result<Written, SparseCommandFault>
-    requires ready { ReadyToLay blocks (S.size source.old.device) (O.written output.old) }
-    ensures lays { LaysSparseImage result S.models is_tail_raw blocks.size (S.content source.old.device)
+    requires ready { ReadyToLay as_img2simg blocks (S.size source.old.device) (O.written output.old) }
+    ensures lays { LaysSparseImage result S.models as_img2simg blocks.size (S.content source.old.device)
         (O.written output.new) (S.read_faults source.old.device + O.write_faults output.old)
         (S.read_faults source.new.device + O.write_faults output.new) }
     ensures broken { OnErr result (HoldsNoSparse (O.written output.new)) }
 {
     let Blocks { size, most } = blocks;
-    match sparsify_at(source, size, is_tail_raw, most, output, w, m) {
+    match sparsify_at(source, size, as_img2simg, most, output, w, m) {
         Ok(written) => Ok(written),
         Err(fault) => Err(SparseCommandFault::Piece(fault)),
     }
@@ -35,18 +35,18 @@ pub(crate) fn lay_image<S: Source, O: Overwrite>(
 pub(crate) fn write_image<S: Source, O: Output>(
     source: &mut Carried<'_, S>,
     blocks: Blocks,
-    is_tail_raw: bool,
+    as_img2simg: bool,
     output: &mut O,
     w: &mut Window,
     m: &mut Meter,
 ) -> Result<Written, SparseCommandFault>
-    requires ready { ReadyToLay blocks (S.size source.old.device) (O.written output.old) }
-    ensures lays { LaysSparseImage result S.models is_tail_raw blocks.size (S.content source.old.device)
+    requires ready { ReadyToLay as_img2simg blocks (S.size source.old.device) (O.written output.old) }
+    ensures lays { LaysSparseImage result S.models as_img2simg blocks.size (S.content source.old.device)
         (O.written output.new) (S.read_faults source.old.device + O.write_faults output.old)
         (S.read_faults source.new.device + O.write_faults output.new) }
 {
     let Blocks { size, most } = blocks;
-    match sparsify(source, size, is_tail_raw, most, output, w, m) {
+    match sparsify(source, size, as_img2simg, most, output, w, m) {
         Ok(written) => Ok(written),
         Err(fault) => Err(SparseCommandFault::Piece(fault)),
     }

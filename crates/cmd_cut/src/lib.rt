@@ -9,6 +9,7 @@
 //! | `cut.rt` | the command `cut` |
 //! | `cut_loop.rt`, `pieces.rt` | writing all pieces of an image; writing one piece to a file of its own |
 //! | `next_piece.rt` | the engine's calls for one piece, to a file or a stream |
+//! | `zero_first.rt` | an output that writes its first byte last |
 #![tactic(auto)]
 
 mod cut;
@@ -19,6 +20,7 @@ mod pieces;
 mod sparse;
 mod stopped_command;
 mod write_image;
+mod zero_first;
 
 pub use cut::{Cutting, cut_file};
 pub use sparse::sparse_file;

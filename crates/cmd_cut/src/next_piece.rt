@@ -1,12 +1,13 @@
 //! The engine's calls that write the next piece of an image, with the progress of the command.
 
-ghost use Rattle.std.specs.Prelude.{◌≡◌, ◌+◌, [], None, Some, IsTrue, IfOk, IfSome};
+ghost use Rattle.std.specs.Prelude.{◌≡◌, ◌+◌, [], None, Some, IsTrue, IfOk, IfSome, OnErr};
 ghost use Rattle.abt_pieces.specs.Turn.{HasAt};
 ghost use Rattle.abt_sparse.specs.Pieces.{pieces};
 ghost use Rattle.cmd_cut.specs.Cutting.{CutsPiece, ReadyPiece, NumbersOfPiece};
-ghost use Rattle.cmd_cut.specs.Sparsing.{OnlyDevicesFail};
+ghost use Rattle.cmd_cut.specs.Sparsing.{HoldsNoSparse, OnlyDevicesFail};
 
-use abt_io::{FrontLast, Meter, Output, Overwrite, Window};
+use crate::zero_first::ZeroFirst;
+use abt_io::{Meter, Output, Overwrite, Window};
 use abt_pieces::{Cutter, Piece, PieceFault};
 use abt_placed::next_piece_at;
 use abt_runs::{BlockRuns, RawRuns, SparseRuns};
@@ -86,7 +87,9 @@ pub(crate) trait LaysPieces: BlockRuns + Drop {
             cutter.old.start cutter.new.start cutter.new.stage }
         // it fails where one of the devices has failed
         ensures fails { OnlyDevicesFail result.1 S.models (S.read_faults source.old.device + O.write_faults image)
-            (S.read_faults source.new.device + O.write_faults result.0) };
+            (S.read_faults source.new.device + O.write_faults result.0) }
+        // then what was written is no image
+        ensures broken { IsTrue S.models → OnErr result.1 (HoldsNoSparse (O.written result.0)) };
 }
 
 /// The pieces of a sparse image are written from their first byte on.
@@ -98,15 +101,15 @@ impl LaysPieces for SparseRuns {
         w: &mut Window,
         m: &mut Meter,
     ) -> (O, Result<Piece, SparseCommandFault>) {
-        let mut front = FrontLast::new(image);
+        let mut front = ZeroFirst::new(image);
         match write_next(cutter, source, &mut front, w, m) {
-            Ok(piece) => match front.finish(m) {
-                Ok(()) => (front.output, Ok(piece)),
-                Err(_) => (
-                    front.output,
-                    Err(SparseCommandFault::Host(HostFault::Write)),
-                ),
-            },
+            Ok(piece) => {
+                let (image, answer) = front.finish(m);
+                match answer {
+                    Ok(()) => (image, Ok(piece)),
+                    Err(_) => (image, Err(SparseCommandFault::Host(HostFault::Write))),
+                }
+            }
             Err(fault) => (front.output, Err(fault)),
         }
     }

@@ -4,7 +4,9 @@ ghost use Rattle.std.specs.Prelude.{◌≡◌, ◌<◌, ◌+◌, [], None, IsTru
 ghost use Rattle.sys_refusals.specs.Paths.{path_out};
 ghost use Rattle.cmd_cut.specs.Cutting.{AddsNone, AddsPiece, CutsPiece, OnlyLeaves, PutsPiece, ReadyPiece};
 ghost use Rattle.cmd_cut.specs.Cutting.{NumbersOfPiece, cut_into};
+ghost use Rattle.cmd_cut.specs.Leaving.{HoldsNoneOrPiece, KeepsOrHolds};
 ghost use Rattle.cmd_cut.specs.Sparsing.{IsOutsideSparse, GivesUp, ReadyOutput};
+ghost use Rattle.sys_disk.specs.Images.{Leaves};
 
 use crate::next_piece::{LaysPieces, write_next};
 use crate::stopped_command::stopped;
@@ -37,6 +39,11 @@ pub(crate) fn put_piece<'a, D: Disk, B: BlockRuns + LaysPieces + Drop>(
         pieces.old.cutter.made (path_out place.entry) (D.held disk.old) (D.held disk.new) (D.world disk.old)
         (D.world disk.new)) }
     ensures keeps { IsTrue D.models → OnErr result (AddsNone (D.held disk.old) (D.held disk.new) (D.world disk.old)
+        (D.world disk.new)) }
+    // where its file can be overwritten, it has no part of the piece
+    ensures broken { IsTrue D.models → IsTrue (D.is_over (path_out place.entry)) → OnErr result (KeepsOrHolds
+        (cut_into pieces.old.cutter.limit (B.size pieces.old.cutter.runs) (B.list pieces.old.cutter.runs
+        (D.At.content source.old.device))) pieces.old.cutter.made (path_out place.entry) (D.world disk.old)
         (D.world disk.new)) }
     // whatever the outcome, no other file was changed, and none is open
     ensures left { IsTrue D.models → OnlyLeaves (λ path. path ≡ path_out place.entry) (D.held disk.old)
@@ -107,6 +114,9 @@ fn put_in_file<'a, D: Disk, B: BlockRuns + LaysPieces + Drop>(
         pieces.new.cutter.runs source.old.device source.new.device pieces.old.cutter.limit pieces.new.cutter.limit
         pieces.old.cutter.made pieces.new.cutter.made pieces.old.cutter.start pieces.new.cutter.start
         pieces.new.cutter.stage }
+    ensures broken { IsTrue D.models → OnErr result (HoldsNoneOrPiece (cut_into pieces.old.cutter.limit
+        (B.size pieces.old.cutter.runs) (B.list pieces.old.cutter.runs (D.At.content source.old.device)))
+        pieces.old.cutter.made (D.held disk.old).output (D.world disk.new)) }
 {
     let (image, answer) = B::lay_next(&mut pieces.cutter, source, image, w, m);
     match answer {
@@ -152,6 +162,7 @@ fn put_in_stream<'a, D: Disk, B: BlockRuns + LaysPieces + Drop>(
 
 // Closes an image whose magic could not be written.
 fn unended<'a, D: Disk>(disk: &mut D, image: D::Image, place: FileArg<'a>) -> SparseRefusal<'a>
+    ensures holds { IsTrue D.models → Leaves (D.held disk.old).output (D.Image.Output.written image) (D.world disk.new) }
     ensures closed { IsTrue D.models → GivesUp (D.Image.Output.write_faults image) (D.held disk.old) (D.held disk.new)
         (D.world disk.old) (D.world disk.new) }
     ensures outside { IsOutsideSparse result.fault }

@@ -15,8 +15,8 @@ use sys_disk::Disk;
 use sys_refusals::{FileArg, HostRefusal, Sides};
 use sys_report::Report;
 
-/// Writes the sparse image of a raw one, and prints what it has. With `is_tail_raw` a last block that is filled up
-/// with zeros is raw, whatever its bytes are.
+/// Writes the sparse image of a raw one, and prints what it has. With `as_img2simg` it is as that tool makes it: a last
+/// block that is filled up with zeros is raw, whatever its bytes are, and a raw chunk is as long as its header can say.
 ///
 /// The block size is checked before OUT is created or emptied.
 #[inline(never)]
@@ -26,30 +26,30 @@ pub fn sparse_file<'a, D: Disk>(
     input: FileArg<'a>,
     output: FileArg<'a>,
     block: u32,
-    is_tail_raw: bool,
+    as_img2simg: bool,
     w: &mut Window,
     m: &mut Meter,
 ) -> Result<(), SparseRefusal<'a>>
     requires first { IsTrue D.models → IsReading (D.held disk.old) }
     // OUT is another file than IN, and holds the sparse image of what IN holds; the printed line has its numbers
     ensures done { IsTrue D.models → OnOk result (SparsifiesFile (path_of input.entry) (path_out output.entry)
-        is_tail_raw block (D.world disk.old) (D.world disk.new) (ShowsBeside (D.on_output (path_out output.entry))
+        as_img2simg block (D.world disk.old) (D.world disk.new) (ShowsBeside (D.on_output (path_out output.entry))
         report.old report.new)) }
     // whatever the outcome, only OUT may hold anything else, IN holds what it held, and a file has no part of an
     // image; after an Ok OUT was synced, where that is requested, and nothing has failed
-    ensures left { IsTrue D.models → LeavesImage result (path_of input.entry) (path_out output.entry) is_tail_raw
+    ensures left { IsTrue D.models → LeavesImage result (path_of input.entry) (path_out output.entry) as_img2simg
         block (D.is_over (path_out output.entry)) (D.held disk.old) (D.held disk.new) (D.world disk.old)
         (D.world disk.new) }
     // it fails for a block size that doesn't fit IN, before anything is changed; or for a fault of files or devices;
     // or where everything was done, but its line can't be printed
     ensures refused { IsTrue D.models → IfErr result (λ refusal. RefusesRaw (path_of input.entry) block
         (D.world disk.old) (D.world disk.new) (D.held disk.old) (D.held disk.new)
-        (SparsifiesFile (path_of input.entry) (path_out output.entry) is_tail_raw block (D.world disk.old)
+        (SparsifiesFile (path_of input.entry) (path_out output.entry) as_img2simg block (D.world disk.old)
         (D.world disk.new) (Unprinted report.old report.new)) refusal.fault) }
 {
     let source = disk.source(input)?;
     let sides = Sides::none().reading(input, None);
-    let blocks = match blocks_of(&source, block) {
+    let blocks = match blocks_of(&source, block, as_img2simg) {
         Ok(blocks) => blocks,
         Err(fault) => return Err(sides.refuse(SparseCommandFault::Run(fault))),
     };
@@ -59,7 +59,7 @@ pub fn sparse_file<'a, D: Disk>(
         disk,
         source,
         blocks,
-        is_tail_raw,
+        as_img2simg,
         image,
         output,
         sides,

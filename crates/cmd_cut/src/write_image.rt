@@ -24,7 +24,7 @@ pub(crate) fn write_whole<'a, D: Disk>(
     disk: &mut D,
     source: D::At,
     blocks: Blocks,
-    is_tail_raw: bool,
+    as_img2simg: bool,
     image: ImageTo<D::Image, D::Onto>,
     output: FileArg<'a>,
     sides: Sides<'a>,
@@ -32,14 +32,14 @@ pub(crate) fn write_whole<'a, D: Disk>(
     w: &mut Window,
     m: &mut Meter,
 ) -> Result<(Written, bool), SparseRefusal<'a>>
-    requires ready { ReadyRawImage D.models blocks (D.At.size source) (D.At.read_faults source) }
+    requires ready { ReadyRawImage D.models as_img2simg blocks (D.At.size source) (D.At.read_faults source) }
     requires empty { OfImage (λ file. D.Image.Output.written file ≡ []) (λ onto. D.Onto.written onto ≡ []) image }
     requires clean { IsTrue D.models → OfImage (λ file. D.Image.Output.write_faults file ≡ 0)
         (λ onto. D.Onto.write_faults onto ≡ 0) image }
-    ensures writes { IsTrue D.models → WritesSparseImage result (λ refusal. refusal.fault) is_tail_raw blocks.size
+    ensures writes { IsTrue D.models → WritesSparseImage result (λ refusal. refusal.fault) as_img2simg blocks.size
         (D.At.content source) (D.held disk.old) (D.held disk.new) (D.world disk.old) (D.world disk.new) }
     ensures stream { IsTrue D.models → IfOk result (λ end. end.1 ≡ D.on_output (path_out output.entry)) }
-    ensures broken { IsTrue D.models → IsTrue (is_file image) → OnErr result (LeavesNoneOrSparse is_tail_raw blocks.size
+    ensures broken { IsTrue D.models → IsTrue (is_file image) → OnErr result (LeavesNoneOrSparse as_img2simg blocks.size
         (D.At.content source) (D.held disk.old).output (D.world disk.new)) }
 {
     match image {
@@ -47,7 +47,7 @@ pub(crate) fn write_whole<'a, D: Disk>(
             disk,
             source,
             blocks,
-            is_tail_raw,
+            as_img2simg,
             file,
             output,
             sides,
@@ -61,7 +61,7 @@ pub(crate) fn write_whole<'a, D: Disk>(
                 disk,
                 source,
                 blocks,
-                is_tail_raw,
+                as_img2simg,
                 onto,
                 output,
                 sides,
@@ -78,7 +78,7 @@ fn write_over<'a, D: Disk>(
     disk: &mut D,
     source: D::At,
     blocks: Blocks,
-    is_tail_raw: bool,
+    as_img2simg: bool,
     image: D::Image,
     output: FileArg<'a>,
     sides: Sides<'a>,
@@ -86,12 +86,12 @@ fn write_over<'a, D: Disk>(
     w: &mut Window,
     m: &mut Meter,
 ) -> Result<(Written, bool), SparseRefusal<'a>>
-    requires ready { ReadyToWrite D.models blocks (D.At.size source) (D.At.read_faults source)
+    requires ready { ReadyToWrite D.models as_img2simg blocks (D.At.size source) (D.At.read_faults source)
         (D.Image.Output.written image) (D.Image.Output.write_faults image) }
-    ensures writes { IsTrue D.models → WritesSparseImage result (λ refusal. refusal.fault) is_tail_raw blocks.size
+    ensures writes { IsTrue D.models → WritesSparseImage result (λ refusal. refusal.fault) as_img2simg blocks.size
         (D.At.content source) (D.held disk.old) (D.held disk.new) (D.world disk.old) (D.world disk.new) }
     ensures stream { IsTrue D.models → IfOk result (λ end. end.1 ≡ D.on_output (path_out output.entry)) }
-    ensures broken { IsTrue D.models → OnErr result (LeavesNoneOrSparse is_tail_raw blocks.size (D.At.content source)
+    ensures broken { IsTrue D.models → OnErr result (LeavesNoneOrSparse as_img2simg blocks.size (D.At.content source)
         (D.held disk.old).output (D.world disk.new)) }
 {
     let mut carried = Carried {
@@ -99,7 +99,7 @@ fn write_over<'a, D: Disk>(
         progress,
     };
     let mut image = image;
-    let answer = lay_image(&mut carried, blocks, is_tail_raw, &mut image, w, m);
+    let answer = lay_image(&mut carried, blocks, as_img2simg, &mut image, w, m);
     let Carried { device: source, .. } = carried;
     disk.let_go_source(source);
     match answer {
@@ -116,7 +116,7 @@ fn write_through<'a, D: Disk>(
     disk: &mut D,
     source: D::At,
     blocks: Blocks,
-    is_tail_raw: bool,
+    as_img2simg: bool,
     onto: D::Onto,
     output: FileArg<'a>,
     sides: Sides<'a>,
@@ -124,9 +124,9 @@ fn write_through<'a, D: Disk>(
     w: &mut Window,
     m: &mut Meter,
 ) -> Result<(Written, bool), SparseRefusal<'a>>
-    requires ready { ReadyToWrite D.models blocks (D.At.size source) (D.At.read_faults source) (D.Onto.written onto)
-        (D.Onto.write_faults onto) }
-    ensures writes { IsTrue D.models → WritesSparseImage result (λ refusal. refusal.fault) is_tail_raw blocks.size
+    requires ready { ReadyToWrite D.models as_img2simg blocks (D.At.size source) (D.At.read_faults source)
+        (D.Onto.written onto) (D.Onto.write_faults onto) }
+    ensures writes { IsTrue D.models → WritesSparseImage result (λ refusal. refusal.fault) as_img2simg blocks.size
         (D.At.content source) (D.held disk.old) (D.held disk.new) (D.world disk.old) (D.world disk.new) }
     ensures stream { IsTrue D.models → IfOk result (λ end. end.1 ≡ D.on_output (path_out output.entry)) }
 {
@@ -135,7 +135,7 @@ fn write_through<'a, D: Disk>(
         progress,
     };
     let mut onto = onto;
-    let answer = write_image(&mut carried, blocks, is_tail_raw, &mut onto, w, m);
+    let answer = write_image(&mut carried, blocks, as_img2simg, &mut onto, w, m);
     let Carried { device: source, .. } = carried;
     disk.let_go_source(source);
     ended(disk, answer, onto, output, sides)

@@ -158,10 +158,6 @@ span_more o found k l i m p told e fits all is =
     (subst (λ q. IsSpanOf (span_with found k i q) (SaidBelow l q)) (sym e)
     (with_if (gives_kind k && nat_lt i (i + m)) found k l i m refl fits all is))
 
--- no part was looked at, and all were
-pub span_none : (l : List Block) (i : ℕ) → i ≡ 0 → IsSpanOf None (SaidBelow l i)
-span_none l i none n so = let low : n < i = so.0 in omega (arith, low, none)
-
 pub span_all : (found : Option Span) (l : List Block) (i : ℕ) → i ≡ length l → IsSpanOf found (SaidBelow l i)
     → IsSpanOf found (Said l)
 span_all found l i end is =

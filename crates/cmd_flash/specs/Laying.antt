@@ -36,3 +36,9 @@ pub record OnlyLays {X : Type 0} (r : Result X CopyFault) {A C : Type 0} (s : so
   pub refused : IfErr r (IsOfDevices s.models
       (s.read_faults source + p.put_faults onto < s.read_faults source' + p.put_faults onto'))
   pub clean : OnOk r (s.read_faults source' + p.put_faults onto' ≡ s.read_faults source + p.put_faults onto)
+
+-- Each of so many bytes was read once, and each of so many written once.
+pub record MovesOnce {A C : Type 0} (s : sources.Ghosts A) (p : partitions.Ghosts C) (read put : ℕ) (source source' : A)
+    (onto onto' : C) : Type 0 where
+  pub given : s.given source' ≡ s.given source + read
+  pub taken : p.taken onto' ≡ p.taken onto + put

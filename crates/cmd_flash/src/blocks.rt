@@ -4,7 +4,7 @@ ghost use Rattle.std.specs.Prelude.{◌≡◌, ◌≤◌, ◌<◌, ◌+◌, ◌*
 ghost use Rattle.abt_flash.specs.Raw.{IsFilled};
 ghost use Rattle.cmd_flash.specs.Flashing.{SyncsOnce};
 ghost use Rattle.cmd_flash.specs.FlashingRaw.{LaysRaw};
-ghost use Rattle.cmd_flash.specs.Laying.{unlaid};
+ghost use Rattle.cmd_flash.specs.Laying.{MovesOnce, unlaid};
 
 use crate::flash_source::lay_filled;
 use abt_flash_faults::FlashFault;
@@ -24,6 +24,9 @@ pub(crate) fn flash_blocks<S: Source, P: Partition>(
     // how many blocks they are, and that the partition has room for them
     ensures filled { IfOk result (λ blocks. IsFilled blocks size (S.size source.old)) }
     ensures room { IfOk result (λ blocks. blocks * size ≤ P.size onto.old) }
+    // each byte of the image was read once, and each byte of the blocks written once
+    ensures moves { IfOk result (λ blocks. MovesOnce S.Source P.Partition.own (S.size source.old) (blocks * size)
+        source.old source.new onto.old onto.new) }
     // what the partition holds, or why not
     ensures lays { IsTrue S.models → IsTrue P.models → LaysRaw
         (S.read_faults source.old + P.put_faults onto.old < S.read_faults source.new + P.put_faults onto.new) result

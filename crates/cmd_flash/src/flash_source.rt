@@ -6,7 +6,7 @@ ghost use Rattle.abt_io.specs.Moment.{in_range, put_at};
 ghost use Rattle.abt_sparse.specs.Block.{filled_to};
 ghost use Rattle.cmd_flash.specs.Files.{HoldsBut};
 ghost use Rattle.cmd_flash.specs.FlashingRaw.{IsLaidInPart};
-ghost use Rattle.cmd_flash.specs.Laying.{OnlyLays, torn_by};
+ghost use Rattle.cmd_flash.specs.Laying.{MovesOnce, OnlyLays, torn_by};
 
 use abt_io::{CopyFault, Meter, Partition, Source, WINDOW, Window, write_all_at};
 
@@ -26,6 +26,8 @@ pub(crate) fn lay_filled<S: Source, P: Partition>(
         ≡ put_at (P.content onto.old) 0 (filled_to need (S.content source.old))) }
     ensures broken { IsTrue S.models → IsTrue P.models → IfErr result (λ fault. IsLaidInPart (torn_by fault)
         (S.content source.old) (P.content onto.old) (P.content onto.new)) }
+    ensures moves { OnOk result (MovesOnce S.Source P.Partition.own (S.size source.old) need source.old source.new
+        onto.old onto.new) }
     ensures lays { OnlyLays result S.Source P.Source P.Partition.own source.old source.new onto.old onto.new }
 {
     let held = source.length();
@@ -52,6 +54,8 @@ fn lay_source<S: Source, P: Partition>(
         ≡ put_at (P.content onto.old) 0 (S.content source.old)) }
     ensures broken { IsTrue S.models → IsTrue P.models → IfErr result (λ fault. IsLaidInPart (torn_by fault)
         (S.content source.old) (P.content onto.old) (P.content onto.new)) }
+    ensures moves { OnOk result (MovesOnce S.Source P.Partition.own held held source.old source.new onto.old
+        onto.new) }
     ensures lays { OnlyLays result S.Source P.Source P.Partition.own source.old source.new onto.old onto.new }
 {
     let mut at = 0;
@@ -86,6 +90,8 @@ fn lay_step<S: Source, P: Partition>(
     ensures torn { IsTrue P.models → IfErr result (λ fault. HoldsBut (in_range at (torn_by fault)) (P.content onto.old)
         (P.content onto.new)) }
     ensures content { IsTrue S.models → S.content source.new ≡ S.content source.old }
+    ensures moves { IfOk result (λ got. MovesOnce S.Source P.Partition.own got got source.old source.new onto.old
+        onto.new) }
     ensures lays { OnlyLays result S.Source P.Source P.Partition.own source.old source.new onto.old onto.new }
 {
     match source.read_at(at, w.part_mut(0, ask)) {

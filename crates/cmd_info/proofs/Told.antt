@@ -1,17 +1,13 @@
 -- What a check finds, and which faults are reported.
-use Rattle.std.proofs.Common.{◌≡◌, ◌<◌, ◌≤◌, ◌+◌, ◌-◌, ◌⊎◌, inl, inr, ℕ, suc, List, Some, Bool, true, false, IsTrue}
+use Rattle.std.proofs.Common.{◌≡◌, ◌<◌, ◌≤◌, ◌+◌, ◌-◌, ◌⊎◌, inl, inr, ℕ, List, Some, Bool, true, false, IsTrue}
 use Rattle.std.proofs.Common.{◌&&◌}
-use Rattle.std.proofs.Common.{[], ◌∷◌, ◌++◌, length, take, get_or, flat_map, Option, option_map, option_to_list, Result}
+use Rattle.std.proofs.Common.{[], ◌∷◌, ◌++◌, length, take, flat_map, Option, option_map, option_to_list, Result}
 use Rattle.std.proofs.Common.{Ok}
 use Rattle.std.proofs.Common.{Err, refl, sym, ◌∙◌, ap, subst, arith}
-use Rattle.std.proofs.Math.Bool.{or-false}
-use Rattle.std.proofs.Math.Seq.{take-suc}
 use Rattle.std.proofs.lemmas.Bool.{true≢false}
-use Rattle.std.proofs.lemmas.Grind.{flat_map-append}
-use Rattle.std.proofs.lemmas.List.{append-nil, append_assoc, take_all}
 use Rattle.sys_disk.specs.World.{World, OpenFiles, OpensFile, failing}
 use Rattle.abt_headers.proofs.Fields.{IsBytes}
-use Rattle.sys_report.specs.Shows.{CannotPrint, GoesOut, ShowsHere}
+use Rattle.sys_report.specs.Shows.{CannotPrint, ShowsHere}
 use Rattle.sys_report.specs.declared.report.Report.{Report}
 use Rattle.sys_refusals.specs.declared.refusal.HostFault.{HostFault}
 use Rattle.abt_sections.proofs.Canonical.{canonical_iff}
@@ -26,7 +22,7 @@ use Rattle.abt_sections.specs.Header.{Header, view_of}
 use Rattle.abt_sections.specs.Open.{HasImage, IsOpened}
 use Rattle.cmd_common_findings.specs.Finding.{first_unpadded}
 use Rattle.cmd_common_findings.specs.LeftOut.{end_of}
-use Rattle.cmd_common_findings.specs.ReasonLines.{finding_text, lines_of, printed}
+use Rattle.cmd_common_findings.specs.ReasonLines.{lines_of, printed}
 use Rattle.cmd_common_findings.specs.Reasons.{ReasonCause, ReasonsAre}
 use Rattle.cmd_common_findings.specs.declared.reason_lines.Finding.{Finding}
 use Rattle.cmd_common_findings.specs.declared.reasons.Findings.{Findings}
@@ -120,16 +116,6 @@ pub reasons_told : (f : SectionFault) (v : Verdict) (r r' : ℕ) (changed unprin
 reasons_told f v r r' changed unprinted fault same cause =
     subst (λ g. IsCheckRefusal v (r < r') changed unprinted g) (sym same)
     (reasons_fail f v r r' changed unprinted cause)
-
-pub line_told : (v : Verdict) (failed changed unprinted : Type 0) (fault : BootCommandFault) (host : HostFault)
-    → fault ≡ faults.Host host → unprinted → IsCheckRefusal v failed changed unprinted fault
-line_told v failed changed unprinted fault host same cannot =
-    subst (λ g. IsCheckRefusal v failed changed unprinted g) (sym same) cannot
-
-pub flaw_told : (v : Verdict) (failed changed unprinted : Type 0) (fault : BootCommandFault)
-    → fault ≡ faults.CheckFailed → is_good v ≡ false → IsCheckRefusal v failed changed unprinted fault
-flaw_told v failed changed unprinted fault same bad =
-    subst (λ g. IsCheckRefusal v failed changed unprinted g) (sym same) bad
 
 -- what could not be printed after a text that was
 pub cannot_behind : (old between new : Report) → between.out.faults.number ≡ old.out.faults.number
@@ -301,49 +287,6 @@ tells_findings x image v found old new opened right reasons padding trailing sho
   shown = shown;
 }
 
-none_goes : (b : Bool) (o e : List ℕ) → GoesOut b o o e e []
-none_goes true o e = (sym (append-nil e), refl)
-none_goes false o e = (sym (append-nil o), refl)
-
-pub shows_nothing : (r : Report) → ShowsHere r r []
-shows_nothing r =
-    let none = none_goes r.is_data_on_output r.out.log.state.bytes r.err.log.state.bytes in
-    ((none, λ on. on), sym (or-false r.is_data_on_output))
-
-goes_then : (f : Bool) (o o' o'' e e' e'' x y : List ℕ) → GoesOut f o o' e e' x → GoesOut f o' o'' e' e'' y
-    → GoesOut f o o'' e e'' (x ++ y)
-goes_then true o o' o'' e e' e'' x y p q =
-    (q.0 ∙ ap (λ l. l ++ y) p.0 ∙ append_assoc e x y, q.1 ∙ p.1)
-goes_then false o o' o'' e e' e'' x y p q =
-    (q.0 ∙ ap (λ l. l ++ y) p.0 ∙ append_assoc o x y, q.1 ∙ p.1)
-
-pub shows_then : (a b c : Report) (x y : List ℕ) → ShowsHere a b x → ShowsHere b c y → ShowsHere a c (x ++ y)
-shows_then a b c x y p q =
-    let same : c.is_data_on_output ≡ b.is_data_on_output = q.1 ∙ or-false b.is_data_on_output in
-    let first = subst (λ f. GoesOut f a.out.log.state.bytes b.out.log.state.bytes a.err.log.state.bytes
-    b.err.log.state.bytes x) (sym same) p.0.0 in (
-      (goes_then c.is_data_on_output _ _ _ _ _ _ x y first q.0.0, λ on. q.0.1 (p.0.1 on)),
-      same ∙ p.1,
-    )
-
 -- the lines of the first i
 abbrev pub upto : List (Option Finding) → ℕ → List ℕ
 upto lines i = printed (flat_map (λ line. option_to_list line) (take i lines))
-
-pub upto_more : (lines : List (Option Finding)) (i : ℕ) (line : Option Finding) → i < length lines
-    → line ≡ get_or lines i line → upto lines (i + 1) ≡ upto lines i ++ printed (option_to_list line)
-upto_more lines i line within is =
-    let next : i + 1 ≡ suc i = omega arith in
-    let each : Option Finding → List Finding = λ it. option_to_list it in
-    ap (λ n. upto lines n) next
-    ∙ ap (λ l. printed (flat_map each l)) (take-suc lines i line within)
-    ∙ ap printed (flat_map-append each (take i lines) (get_or lines i line ∷ []))
-    ∙ flat_map-append (λ it. finding_text it ++ (10 ∷ [])) (flat_map each (take i lines))
-    (flat_map each (get_or lines i line ∷ []))
-    ∙ ap (λ l. upto lines i ++ printed l) (append-nil (option_to_list (get_or lines i line)))
-    ∙ ap (λ it. upto lines i ++ printed (option_to_list it)) (sym is)
-
-pub upto_all : (lines : List (Option Finding)) (i : ℕ) (all : List Finding) → length lines ≤ i
-    → flat_map (λ line. option_to_list line) lines ≡ all → upto lines i ≡ printed all
-upto_all lines i all out is =
-    ap (λ l. printed (flat_map (λ line. option_to_list line) l)) (take_all i lines out) ∙ ap printed is

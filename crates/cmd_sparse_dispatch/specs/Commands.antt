@@ -61,8 +61,7 @@ abbrev pub ListsImage : List ℕ → State → State → Type 0
 ListsImage input a z = OfFile (image_path input) a.world (λ x. IsListed x (λ text.
     z.report.out.log.state.bytes ≡ a.report.out.log.state.bytes ++ text))
 
--- a raw image is written as a sparse one, in blocks of this many bytes; a last block that is filled up is raw if that
--- is requested
+-- a raw image is written as a sparse one, in blocks of this many bytes; as img2simg makes it if that is requested
 abbrev pub Sparsifies : (List ℕ → Bool) → List ℕ → List ℕ → ℕ → Bool → State → State → Type 0
 Sparsifies on_output input output block tail a z =
     SparsifiesFile input (output_path output) tail block a.world z.world

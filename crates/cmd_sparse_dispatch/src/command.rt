@@ -53,8 +53,8 @@ pub fn sparse_command<'a, D: Disk>(
             input,
             output,
             block,
-            is_tail_raw,
-        } => sparsify(disk, report, input, output, block, is_tail_raw, w, m),
+            as_img2simg,
+        } => sparsify(disk, report, input, output, block, as_img2simg, w, m),
         SparseTask::Cut {
             input,
             limit,

@@ -62,8 +62,8 @@ pub(crate) fn expand_files<'a, D: Disk>(
     expand_one(disk, report, place("IN", inputs[0]), output, w, m)
 }
 
-/// Writes the sparse image of a raw one, and prints what it has. `-` is standard output. With `is_tail_raw` a last
-/// block that is filled up with zeros is raw, whatever its bytes are.
+/// Writes the sparse image of a raw one, and prints what it has. `-` is standard output. With `as_img2simg` the image
+/// is as that tool makes it.
 #[inline(never)]
 pub(crate) fn sparsify<'a, D: Disk>(
     disk: &mut D,
@@ -71,22 +71,22 @@ pub(crate) fn sparsify<'a, D: Disk>(
     input: &'a str,
     output: &'a str,
     block: u32,
-    is_tail_raw: bool,
+    as_img2simg: bool,
     w: &mut Window,
     m: &mut Meter,
 ) -> Result<(), SparseRefusal<'a>>
     requires first { IsTrue D.models → IsReading (D.held disk.old) }
-    ensures done { IsTrue D.models → OnOk result (Sparsifies D.on_output input.now output.now block is_tail_raw
+    ensures done { IsTrue D.models → OnOk result (Sparsifies D.on_output input.now output.now block as_img2simg
         (state (D.world disk.old) (D.held disk.old) report.old)
         (state (D.world disk.new) (D.held disk.new) report.new)) }
     ensures leaves { IsTrue D.models → LeavesSpared result (SparesSparsified input.now output.now)
         (state (D.world disk.old) (D.held disk.old) report.old)
         (state (D.world disk.new) (D.held disk.new) report.new) }
     ensures whole { IsTrue D.models → IsTrue (D.is_over (output_path output.now)) →
-        HoldsNoPartOfSparse input.now (output_path output.now) is_tail_raw block (D.world disk.old)
+        HoldsNoPartOfSparse input.now (output_path output.now) as_img2simg block (D.world disk.old)
         (D.world disk.new) }
     ensures refused { IsTrue D.models → IfErr result (λ refusal. RefusesSparse refusal.fault input.now output.now block
-        is_tail_raw (state (D.world disk.old) (D.held disk.old) report.old)
+        as_img2simg (state (D.world disk.old) (D.held disk.old) report.old)
         (state (D.world disk.new) (D.held disk.new) report.new)) }
 {
     sparse_file(
@@ -95,7 +95,7 @@ pub(crate) fn sparsify<'a, D: Disk>(
         place("IN", input),
         place("OUT", output),
         block,
-        is_tail_raw,
+        as_img2simg,
         w,
         m,
     )

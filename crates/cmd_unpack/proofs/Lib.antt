@@ -1,4 +1,5 @@
 pub mod Counts
+pub mod Looks
 pub mod Loops
 pub mod Shown
 pub mod UnpackSteps

@@ -8,9 +8,10 @@ use Rattle.abt_sections.specs.Header.{Header, places_of, fragment_count, fragmen
 use Rattle.abt_sections.specs.Layout.{part_of}
 use Rattle.abt_sections.specs.Open.{HasImage}
 use Rattle.sys_refusals.specs.Paths.{in_folder, numbered}
-use Rattle.sys_disk.specs.World.{World, OpenFiles}
+use Rattle.sys_disk.specs.World.{World, OpenFiles, IsFree}
 use Rattle.cmd_common_boot.specs.declared.part_names.ImagePart.{ImagePart}
 use Rattle.cmd_common_boot.specs.declared.part_names.ImagePart.TheVariants as parts
+use Rattle.cmd_common_boot.specs.Unpacked.{IsPart}
 use Rattle.cmd_common_texts.specs.Words.{words_text, image_words}
 use Rattle.sys_disk.specs.Among.{FileHolds, IsMade, OnlyAmong}
 use Rattle.cmd_unpack.specs.Lines.{told_parts}
@@ -67,6 +68,25 @@ pub record IsPartOf (input folder : List ℕ) (with_words : Bool) (world : World
   pub header : Header
   pub image : HasImage (world.holds from) header
   pub is_part : IsPartPath folder with_words header path
+
+-- ---- the look at all names, before the first part
+
+-- part i has a name that leads to no file that is read or was begun
+pub record HasFreeName (folder : List ℕ) (h : Header) (held : OpenFiles) (world : World) (i : ℕ) : Type 0 where
+  pub part : ImagePart
+  pub is_part : IsPart h i part
+  pub free : IsFree (path_of_part folder part) held world
+
+-- so have the first m parts
+abbrev pub HaveFreeNames : List ℕ → Header → ℕ → OpenFiles → World → Type 0
+HaveFreeNames folder h m held world = (i : ℕ) → i < m → HasFreeName folder h held world i
+
+-- Nothing was changed; or the file at a path held an image, and the name of none of its parts leads to that file.
+pub data LooksAtParts (input folder : List ℕ) (with_words : Bool) (old new : World) : Type 0 where
+  unchanged : new ≡ old → LooksAtParts input folder with_words old new
+  none_taken : (from : ℕ) → old.at input ≡ Some from → (header : Header) → HasImage (old.holds from) header
+      → ((path : List ℕ) → IsPartPath folder with_words header path → ¬ (old.at path ≡ Some from))
+      → LooksAtParts input folder with_words old new
 
 -- ---- on the way
 

@@ -8,7 +8,10 @@ ghost use Rattle.sys_disk.specs.DiskCalls.{FailsOnly, KeepsInput};
 ghost use Rattle.sys_report.specs.Shows.{CannotPrint};
 ghost use Rattle.cmd_common_boot.specs.ImageFaults.{RefusesImage};
 ghost use Rattle.cmd_unpack.specs.Lines.{ShowsEach};
-ghost use Rattle.cmd_unpack.specs.Unpacking.{IsPartOf, LeavesParts, PartsStand, SyncsParts, Unpacks};
+ghost use Rattle.cmd_common_boot.specs.Unpacked.{part_count};
+ghost use Rattle.abt_sections.specs.Header.{view_of};
+ghost use Rattle.cmd_unpack.specs.Unpacking.{HaveFreeNames, IsPartOf, LeavesParts, LooksAtParts, PartsStand, SyncsParts};
+ghost use Rattle.cmd_unpack.specs.Unpacking.{Unpacks};
 
 use crate::names::place_of;
 use crate::parts::write_parts;
@@ -45,6 +48,9 @@ pub fn unpack_file<'t, 'a, D: Disk>(
         (D.held disk.old).read (D.held disk.new).begun (D.world disk.old) (D.world disk.new) }
     ensures keeps { KeepsInput D.models result (path_of input.entry) (D.held disk.old) (D.held disk.new)
         (D.world disk.old) (D.world disk.new) }
+    // where the name of a part leads to IN's file, nothing was changed
+    ensures looks { IsTrue D.models → LooksAtParts (path_of input.entry) folder.now with_words (D.world disk.old)
+        (D.world disk.new) }
     // after an Err, the parts before the one at fault are stored, and no file but theirs and its own was changed
     ensures stands { IsTrue D.models → OnErr result (LeavesParts (path_of input.entry) folder.now (D.held disk.old)
         (D.held disk.new) (D.world disk.old) (D.world disk.new)) }
@@ -108,7 +114,9 @@ fn refuse_taken<'t, D: Disk>(
     folder: &'t str,
     with_words: bool,
 ) -> Result<(), HostRefusal<'t>>
-    ensures { FailsOnly D.models (unless (is_ok result)) (D.held disk.old) (D.held disk.new) (D.world disk.old)
+    ensures free { IsTrue D.models → OnOk result (HaveFreeNames folder.now (view_of image.now.header)
+        (part_count (view_of image.now.header) with_words) (D.held disk.old) (D.world disk.old)) }
+    ensures fails { FailsOnly D.models (unless (is_ok result)) (D.held disk.old) (D.held disk.new) (D.world disk.old)
         (D.world disk.new) }
 {
     for i in 0..part_count(image, with_words) {

@@ -4,6 +4,8 @@ use Rattle.cmd_cut.specs.Cutting.{IsPiecePath}
 use Rattle.cmd_cut.proofs.Opened.{if_err}
 use Rattle.sys_disk.proofs.Amongs.{among_none}
 use Rattle.cmd_cut.proofs.Wholes.{cuts_file_as, cuts_shown, leaves_cut, refuses_file_as, refuses_unopened}
+use Rattle.cmd_cut.specs.Leaving.{unchanged}
+use Rattle.cmd_cut.proofs.Leavings.{spares_file_as}
 use Rattle.cmd_cut.proofs.cut.cut_file.Goals as goal
 
 pub returns-in-Err-clause-refused : goal.returns-in-Err-clause-refused
@@ -57,3 +59,16 @@ returns-in-None-clause-refused g c = λ t.
     refuses_file_as _ c.args.order.raw _ _ _ _ _ e.fault _ _ _ _ _ _ c.in-None.is (c.requires.first t).begun
     (c.in-Ok.ensures.opened t) (c.in-Ok.ensures.world t) why)
     (c.cut_sparse.ensures.refused t)
+
+pub returns-in-Err-clause-spares : goal.returns-in-Err-clause-spares
+returns-in-Err-clause-spares g c = λ t. unchanged (c.in-Err.ensures.world t)
+
+pub returns-in-Some-clause-spares : goal.returns-in-Some-clause-spares
+returns-in-Some-clause-spares g c = λ t.
+    spares_file_as c.args.order.raw _ _ _ _ _ _ _ _ _ _ _ _ c.in-Some.is (c.in-Ok.ensures.opened t)
+    (c.in-Ok.ensures.world t) (c.cut_raw.ensures.begins t)
+
+pub returns-in-None-clause-spares : goal.returns-in-None-clause-spares
+returns-in-None-clause-spares g c = λ t.
+    spares_file_as c.args.order.raw _ _ _ _ _ _ _ _ _ _ _ _ c.in-None.is (c.in-Ok.ensures.opened t)
+    (c.in-Ok.ensures.world t) (c.cut_sparse.ensures.begins t)

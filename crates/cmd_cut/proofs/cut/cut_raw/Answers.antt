@@ -3,6 +3,8 @@ use Rattle.abt_sparse.specs.Block.{classify}
 use Rattle.cmd_common_sparse.specs.PieceNames.{naming_of}
 use Rattle.cmd_cut.specs.Cutting.{ShowsCut}
 use Rattle.cmd_cut.proofs.Opened.{cut_of, if_err, raw_image, raw_uncut, stop_of}
+use Rattle.cmd_cut.specs.Leaving.{unbegun}
+use Rattle.cmd_cut.proofs.Leavings.{begun_of}
 use Rattle.cmd_cut.proofs.cut.cut_raw.Goals as goal
 
 pub returns-in-Ok-clause-done : goal.returns-in-Ok-clause-done
@@ -30,3 +32,14 @@ returns-clause-refused g c = λ t.
     raw_uncut _ c.in-Err.fault c.refuse.result.fault c.args.size _ c.args.order.limit
     (g.D.At.Source.content c.args.source) _ _ _ c.refuse.ensures
     (g.met.D.At.Source.sized c.args.source (g.met.D.Disk.source_told t)) c.in-Err.ensures.refused refl
+
+pub returns-in-Ok-clause-begins : goal.returns-in-Ok-clause-begins
+returns-in-Ok-clause-begins g c = λ t.
+    let x = g.D.At.Source.content c.args.source in
+    let runs = c.in-Ok.ensures.runs in
+    begun_of (Some c.args.size) c.args.size _ c.args.order.limit _ (classify c.args.size x) _ _
+    (naming_of c.args.order.names) _ x _ _ _ (raw_image c.args.size x c.in-Ok.ensures.granted.0) runs.0 runs.1
+    (ap (λ n. classify n x) runs.0) (c.cut_pieces.ensures.spares t).0 (c.cut_pieces.ensures.spares t).1
+
+pub returns-clause-begins : goal.returns-clause-begins
+returns-clause-begins g c = λ t. unbegun refl

@@ -4,6 +4,8 @@ use Rattle.abt_sparse.proofs.Exactly.{is_so}
 use Rattle.cmd_common_sparse.specs.PieceNames.{naming_of}
 use Rattle.cmd_cut.specs.Cutting.{ShowsCut}
 use Rattle.cmd_cut.proofs.Opened.{cut_of, if_err, sparse_image, sparse_uncut, stop_of}
+use Rattle.cmd_cut.specs.Leaving.{unbegun}
+use Rattle.cmd_cut.proofs.Leavings.{begun_of}
 use Rattle.cmd_cut.proofs.cut.cut_sparse.Goals as goal
 
 pub returns-in-Ok-clause-done : goal.returns-in-Ok-clause-done
@@ -37,3 +39,16 @@ returns-in-Err-clause-refused g c = λ t.
     (is_so x (g.met.D.At.Source.are_bytes c.args.source told)) c.refuse.ensures (c.in-Err.ensures.refused told)
     (λ more. omega (arith, more, (c.requires.fresh t).clean, ap (λ k. k.failed) (c.let_go_source.ensures.held t)))
     (c.let_go_source.ensures.world t)
+
+pub returns-in-Ok-clause-begins : goal.returns-in-Ok-clause-begins
+returns-in-Ok-clause-begins g c = λ t.
+    let told = g.met.D.Disk.source_told t in
+    let x = g.D.At.Source.content c.args.source in
+    let size = c.in-Ok.pieces.cutter.runs.header.blk_sz in
+    begun_of None size size c.args.order.limit _ (sparse_list x) _ _ (naming_of c.args.order.names) _ x _ _ _
+    (sparse_image _ _ _ x (is_so x (g.met.D.At.Source.are_bytes c.args.source told)) (c.in-Ok.ensures.opened told))
+    refl c.in-Ok.ensures.limit (ap sparse_list (c.sparse_pieces.ensures.reads.content told))
+    (c.cut_pieces.ensures.spares t).0 (c.cut_pieces.ensures.spares t).1
+
+pub returns-in-Err-clause-begins : goal.returns-in-Err-clause-begins
+returns-in-Err-clause-begins g c = λ t. unbegun (c.let_go_source.ensures.world t)

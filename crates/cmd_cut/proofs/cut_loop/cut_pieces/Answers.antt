@@ -1,7 +1,9 @@
-use Rattle.std.proofs.Common.{rules, sym, subst, arith, inl, inr, ◌⊎◌, ◌<◌, ◌≤◌, ℕ}
+use Rattle.std.proofs.Common.{rules, subst, arith, inl, inr, ◌⊎◌, ◌<◌, ◌≤◌, ℕ}
 use Rattle.cmd_common_sparse.specs.PieceNames.{naming_of}
 use Rattle.cmd_cut.specs.Cutting.{IsPiecePath, ShowsCount, untold}
 use Rattle.cmd_cut.proofs.Wholes.{cuts_between, left_between, left_failed, stops_between, stops_host}
+use Rattle.cmd_cut.specs.Leaving.{looked, unlooked}
+use Rattle.cmd_cut.proofs.Leavings.{no_part_between, no_part_same}
 use Rattle.cmd_cut.proofs.cut_loop.cut_pieces.Goals as goal
 
 -- a count that rose after others has risen since they began
@@ -81,3 +83,31 @@ returns-in-Err-tell_all-clause-refused g c = λ t.
     c.in-Ok-answer.files.count c.in-Ok-answer.files.count _ _ _ _ _ _ _ _ _ (c.in-Ok.ensures.held t)
     (c.refuse_image_as_piece.ensures.keeps t).world (rw c.in-Ok-answer.is at (c.write_pieces-source.ensures.done t))
     (c.let_go_source.ensures.held t) (c.let_go_source.ensures.world t))
+
+-- no part of a piece is left, and the names were looked at
+
+pub returns-in-Err-clause-spares : goal.returns-in-Err-clause-spares
+returns-in-Err-clause-spares g c = λ t.
+    let same = (c.refuse_image_as_piece.ensures.keeps t).world in
+    (unlooked same, no_part_same g.D.Disk.is_over _ _ _ _ same)
+
+pub returns-in-Err-answer-clause-spares : goal.returns-in-Err-answer-clause-spares
+returns-in-Err-answer-clause-spares g c = λ t. (
+  looked (c.in-Ok.ensures.free t) (c.in-Ok.ensures.named t),
+  no_part_between g.D.Disk.is_over _ _ _ _ _ _ (c.refuse_image_as_piece.ensures.keeps t).world
+      (c.let_go_source.ensures.world t) (c.write_pieces-source.ensures.whole t),
+)
+
+pub returns-in-Ok-tell_all-clause-spares : goal.returns-in-Ok-tell_all-clause-spares
+returns-in-Ok-tell_all-clause-spares g c = λ t. (
+  looked (c.in-Ok.ensures.free t) (c.in-Ok.ensures.named t),
+  no_part_between g.D.Disk.is_over _ _ _ _ _ _ (c.refuse_image_as_piece.ensures.keeps t).world
+      (c.let_go_source.ensures.world t) (c.write_pieces-source.ensures.whole t),
+)
+
+pub returns-in-Err-tell_all-clause-spares : goal.returns-in-Err-tell_all-clause-spares
+returns-in-Err-tell_all-clause-spares g c = λ t. (
+  looked (c.in-Ok.ensures.free t) (c.in-Ok.ensures.named t),
+  no_part_between g.D.Disk.is_over _ _ _ _ _ _ (c.refuse_image_as_piece.ensures.keeps t).world
+      (c.let_go_source.ensures.world t) (c.write_pieces-source.ensures.whole t),
+)

@@ -1,4 +1,4 @@
-use Rattle.std.proofs.Common.{◌≡◌, ℕ, ◌<◌, ◌^◌, List, Option, Some, None, refl, ap, ◌∙◌, subst, rules}
+use Rattle.std.proofs.Common.{◌≡◌, ℕ, ◌<◌, ◌^◌, Option, Some, None, ap, ◌∙◌, subst}
 use Rattle.sys_disk.specs.LeftOver.{IsNextLeft}
 use Rattle.cmd_cut.proofs.cut_loop.tell_all.Goals as goal
 

@@ -1,15 +1,16 @@
-use Rattle.std.proofs.Common.{◌≡◌, ◌<◌, ◌≤◌, ◌+◌, ℕ, suc, List, Some, refl, sym, ap, ◌∙◌, arith, inl, inr, subst}
-use Rattle.std.specs.Prelude.{unwrap_or}
+use Rattle.std.proofs.Common.{◌≡◌, ◌≤◌, ◌+◌, ℕ, suc, refl, sym, ap, ◌∙◌, arith, inl, subst}
+use Rattle.std.specs.Prelude.{unwrap_or, IsTrue}
 use Rattle.abt_pieces.specs.Cutter.{has_more}
-use Rattle.abt_pieces.specs.declared.stage.CutterStage.TheVariants.{Between, Done}
+use Rattle.abt_pieces.specs.declared.stage.CutterStage.TheVariants.{Between}
 use Rattle.sys_refusals.specs.Paths.{path_out}
 use Rattle.abt_sparse.specs.Pieces.{pieces}
 use Rattle.cmd_common_sparse.specs.PieceNames.{naming_of, number_in_turn}
 use Rattle.sys_report.specs.Shows.{Shows}
 use Rattle.cmd_cut.specs.Cutting.{CutsSoFar, ShowsPieces, failed, path_in_turn, piece_line, untold}
 use Rattle.cmd_cut.proofs.Nexts.{not_done}
-use Rattle.cmd_cut.proofs.CutCommands.{all_made, countable, cuts_more, cuts_none, cuts_left, cuts_stop, left_less}
+use Rattle.cmd_cut.proofs.CutCommands.{all_made, countable, cuts_more, cuts_none, cuts_left, cuts_stop}
 use Rattle.cmd_cut.proofs.CutCommands.{now_done, path_behind, stands_more, still_between}
+use Rattle.cmd_cut.proofs.Leavings.{no_part_stop, no_part_yet}
 use Rattle.cmd_cut.proofs.cut_loop.write_pieces.Goals as goal
 
 next_of : (n : ℕ) → suc n ≡ n + 1
@@ -214,3 +215,44 @@ returns-in-Err-print_piece-clause-refused g c = λ t.
     (naming_of c.args.names) _ cutter.made _ _ _ _ _ _ _ path (i.cuts t)
     (rw (i.runs, i.limit, i.kept (g.met.D.Disk.source_told t)) at (c.in-Ok.ensures.adds t))
     (c.put_piece-answer.ensures.left t).only)
+
+-- no part of a piece is left
+
+pub returns-then-not-more-clause-whole : goal.returns-then-not-more-clause-whole
+returns-then-not-more-clause-whole g c = λ t all f. no_part_yet _ _ _ _ _ _ _ (c.pieces.invariant.cuts t) f
+
+pub returns-in-Err-clause-whole : goal.returns-in-Err-clause-whole
+returns-in-Err-clause-whole g c = λ t all f.
+    let i = c.pieces.invariant in
+    let cutter = c.pieces.pieces.cutter in
+    let is : cutter.stage ≡ Between = still_between _ i.stands.where_is (sym c.more.ensures ∙ c.if-not-more.false) in
+    let left : cutter.made ≤ cutter.start.block = cutter.sound.left (ap has_more is) in
+    let few = countable (g.B.BlockRuns.count c.args.pieces.cutter.runs) cutter.made cutter.start.block cutter.stage
+    i.stands is left (omega arith) in
+    let one = c.next-place.ensures.counted (omega (arith, few, i.counted)) in
+    let behind : c.next-place.new.self.count ≡ cutter.made + 1 = omega (arith, one, i.counted) in
+    let path : path_out c.next-place.result ≡ path_in_turn (naming_of c.args.names) (cutter.made + 1)
+    = path_behind c.next-place.result c.args.names _ _ _ (cutter.made + 1) c.next-place.ensures.folder
+    c.next-place.ensures.number c.next-place.ensures.name c.next-place.ensures.begins i.named behind in
+    no_part_stop (naming_of c.args.names) _ cutter.made _ _ _ _ _ _ _ path (i.cuts t) (c.in-Err.ensures.keeps t)
+    (c.in-Err.ensures.left t).only
+    (rw (i.runs, i.limit, i.kept (g.met.D.Disk.source_told t)) at
+    (c.in-Err.ensures.broken t (subst (λ p. IsTrue (g.D.Disk.is_over p)) (sym path) (all _)))) f
+
+pub returns-in-Err-print_piece-clause-whole : goal.returns-in-Err-print_piece-clause-whole
+returns-in-Err-print_piece-clause-whole g c = λ t all f.
+    let i = c.pieces.invariant in
+    let o = c.in-Ok.ensures in
+    let cutter = c.pieces.pieces.cutter in
+    let is : cutter.stage ≡ Between = still_between _ i.stands.where_is (sym c.more.ensures ∙ c.if-not-more.false) in
+    let left : cutter.made ≤ cutter.start.block = cutter.sound.left (ap has_more is) in
+    let few = countable (g.B.BlockRuns.count c.args.pieces.cutter.runs) cutter.made cutter.start.block cutter.stage
+    i.stands is left (omega arith) in
+    let one = c.next-place.ensures.counted (omega (arith, few, i.counted)) in
+    let behind : c.next-place.new.self.count ≡ cutter.made + 1 = omega (arith, one, i.counted) in
+    let path : path_out c.next-place.result ≡ path_in_turn (naming_of c.args.names) (cutter.made + 1)
+    = path_behind c.next-place.result c.args.names _ _ _ (cutter.made + 1) c.next-place.ensures.folder
+    c.next-place.ensures.number c.next-place.ensures.name c.next-place.ensures.begins i.named behind in
+    no_part_yet _ _ _ _ _ _ _ (cuts_more (naming_of c.args.names) _ cutter.made _ _ _ _ _ _ _ path (i.cuts t)
+    (rw (i.runs, i.limit, i.kept (g.met.D.Disk.source_told t)) at (o.adds t))
+    (c.put_piece-answer.ensures.left t).only) f

@@ -1,4 +1,4 @@
-use Rattle.std.proofs.Common.{◌≡◌, ◌≤◌, ◌+◌, ◌-◌}
+use Rattle.std.proofs.Common.{◌≡◌, ◌≤◌, ◌+◌}
 use Rattle.std.specs.Prelude.{IsTrue}
 use Rattle.abt_pieces.specs.Cutter.{ToldCutter}
 use Rattle.abt_sparse.specs.Pieces.{pieces}

@@ -1,7 +1,12 @@
 use Rattle.std.proofs.Common.{◌∙◌, ap, refl}
 use Rattle.cmd_cut.proofs.Beside.{adds_none, adds_none_refused, adds_piece, cause_piece, clean_piece, goes_piece}
 use Rattle.cmd_cut.proofs.Beside.{any_refused, none_open}
+use Rattle.std.proofs.lemmas.Bool.{false≢true}
+use Rattle.abt_sparse.specs.Pieces.{pieces}
+use Rattle.sys_refusals.specs.Paths.{path_out}
 use Rattle.sys_disk.proofs.Amongs.{goes_refused}
+use Rattle.cmd_cut.proofs.Fronts.{any_err}
+use Rattle.cmd_cut.proofs.Leavings.{holds_emptied, holds_left}
 use Rattle.cmd_cut.proofs.pieces.put_piece.Goals as goal
 
 pub returns-in_err-image-clause-left : goal.returns-in_err-image-clause-left
@@ -83,3 +88,20 @@ returns-in-File-clause-told g c = λ t.
 pub returns-in-Stream-clause-told : goal.returns-in-Stream-clause-told
 returns-in-Stream-clause-told g c = λ t.
     rw (c.forget.ensures.content (g.met.D.Disk.source_told t)) at (c.put_in_stream.ensures.told t)
+
+pub returns-in_err-image-clause-broken : goal.returns-in_err-image-clause-broken
+returns-in_err-image-clause-broken g c = λ t over.
+    any_err c.from_residual.result (holds_emptied (pieces c.args.pieces.now.cutter.limit
+    (g.B.BlockRuns.size c.args.pieces.now.cutter.runs) (g.B.BlockRuns.list c.args.pieces.now.cutter.runs
+    (g.D.At.Source.content c.args.source.now.device))) c.args.pieces.now.cutter.made (path_out c.args.place)
+    (g.D.Disk.world c.args.disk.now) (g.D.Disk.world c.image.new.self) (c.in_err-image.ensures.empties t))
+
+pub returns-in-File-clause-broken : goal.returns-in-File-clause-broken
+returns-in-File-clause-broken g c = λ t over.
+    let told = g.met.D.Disk.source_told t in
+    holds_left c.put_in_file.result _ _ _ _ _ _ _ _ (c.in_ok-image.ensures.created t)
+    (c.put_in_file.ensures.puts t).rest (rw (c.forget.ensures.content told) at (c.put_in_file.ensures.broken t))
+
+pub returns-in-Stream-clause-broken : goal.returns-in-Stream-clause-broken
+returns-in-Stream-clause-broken g c = λ t over.
+    absurd (false≢true (rw c.in-Stream.is at (c.in_ok-image.ensures.kind t) ∙ over))

@@ -6,7 +6,7 @@ use Rattle.cmd_cut.proofs.write_image.write_over.Goals as goal
 pub returns-in-Err-finish_image-clause-broken : goal.returns-in-Err-finish_image-clause-broken
 returns-in-Err-finish_image-clause-broken g c = λ t.
     rw (c.let_go_source.ensures.held t) at
-    (left_whole _ c.args.is_tail_raw c.args.blocks.size (g.D.At.Source.content c.args.source) _ _ _
+    (left_whole _ c.args.as_img2simg c.args.blocks.size (g.D.At.Source.content c.args.source) _ _ _
     (c.in-Ok.ensures.lays.written
     (g.met.D.Disk.source_told t)) (c.in-Err-finish_image.ensures.left t))
 
@@ -22,7 +22,7 @@ returns-in-Err-finish_image-clause-writes g c = λ t. record {
 pub returns-in-Err-clause-broken : goal.returns-in-Err-clause-broken
 returns-in-Err-clause-broken g c = λ t.
     rw (c.let_go_source.ensures.held t) at
-    (left_broken _ c.args.is_tail_raw c.args.blocks.size (g.D.At.Source.content c.args.source) _ _
+    (left_broken _ c.args.as_img2simg c.args.blocks.size (g.D.At.Source.content c.args.source) _ _
     c.in-Err.ensures.broken
     (c.stopped.ensures.left t))
 
@@ -44,7 +44,7 @@ returns-in-Ok-finish_image-clause-writes g c = λ t.
     let fails = c.in-Ok.ensures.lays.fails in
     record {
       holds = rw (c.let_go_source.ensures.held t, c.let_go_source.ensures.world t) at
-          (holds _ c.args.is_tail_raw c.args.blocks.size (g.D.At.Source.content c.args.source) _ c.in-Ok.written _ _
+          (holds _ c.args.as_img2simg c.args.blocks.size (g.D.At.Source.content c.args.source) _ c.in-Ok.written _ _
           (c.in-Ok.ensures.lays.written told) (c.in-Ok-finish_image.ensures.ended t));
       closed = closes_done _ _ _ _ _ (c.let_go_source.ensures.held t) (c.in-Ok-finish_image.ensures.closed t)
           (omega (arith, fails.clean, c.requires.ready.image.read t, c.requires.ready.output.clean t));

@@ -11,11 +11,15 @@ loop-at-preserved g c =
       size = e.lays.size ∙ i.size;
       synced = e.lays.synced ∙ i.synced;
       clean = e.lays.clean ∙ i.clean;
+      given = omega (arith, i.given, e.moves.given);
+      taken = omega (arith, i.taken, e.moves.taken);
       content = λ t. e.content t ∙ i.content t;
       laid = λ s p.
-          let room : length (g.S.Source.content c.args.source.now) ≤ length (g.P.Source.content c.args.onto.now) = omega (arith, c.requires.all, c.requires.room, g.met.S.Source.sized c.args.source.now s, g.met.P.Source.sized c.args.onto.now p) in
+          let long = g.met.S.Source.sized c.args.source.now s in
+          let room : length (g.S.Source.content c.args.source.now) ≤ length (g.P.Source.content c.args.onto.now)
+          = omega (arith, c.requires.all, c.requires.room, long, g.met.P.Source.sized c.args.onto.now p) in
           laid_more _ _ _ (g.S.Source.content c.args.source.now) c.loop-at.at c.in-Ok.got _ (i.laid s p)
-          (rw (i.content s) at (e.laid s p)) (omega (arith, i.within, c.requires.all, g.met.S.Source.sized c.args.source.now s)) room refl;
+          (rw (i.content s) at (e.laid s p)) (omega (arith, i.within, c.requires.all, long)) room refl;
     }
 
 pub returns-in-Err-clause-lays : goal.returns-in-Err-clause-lays
@@ -33,3 +37,9 @@ pub returns-clause-lays : goal.returns-clause-lays
 returns-clause-lays g c =
     let i = c.loop-at.invariant in
     record { synced = i.synced; size = i.size; refused = tt; clean = i.clean }
+
+pub returns-clause-moves : goal.returns-clause-moves
+returns-clause-moves g c =
+    let i = c.loop-at.invariant in
+    let all : c.loop-at.at ≡ c.args.held = omega (arith, i.within, c.loop-at-test.false) in
+    record { given = omega (arith, i.given, all); taken = omega (arith, i.taken, all) }

@@ -10,6 +10,8 @@ invariant-loop-at g l = record {
   synced : (g.P.Partition.past l.onto).synced ≡ (g.P.Partition.past l.fn.onto).synced;
   clean : g.S.Source.read_faults l.source + g.P.Partition.put_faults l.onto
       ≡ g.S.Source.read_faults l.fn.source + g.P.Partition.put_faults l.fn.onto;
+  given : g.S.Source.given l.source ≡ g.S.Source.given l.fn.source + l.at;
+  taken : g.P.Partition.taken l.onto ≡ g.P.Partition.taken l.fn.onto + l.at;
   content : IsTrue g.S.Source.models → g.S.Source.content l.source ≡ g.S.Source.content l.fn.source;
   laid : IsTrue g.S.Source.models → IsTrue g.P.Source.models → g.P.Source.content l.onto
       ≡ put_at (g.P.Source.content l.fn.onto) 0 (take l.at (g.S.Source.content l.fn.source));

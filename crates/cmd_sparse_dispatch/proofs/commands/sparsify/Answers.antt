@@ -16,6 +16,6 @@ returns-clause-leaves g c = λ t.
 
 pub returns-clause-whole : goal.returns-clause-whole
 returns-clause-whole g c = λ t.
-    whole_at g.D.Disk.is_over _ _ _ _ c.args.is_tail_raw c.args.block (g.D.Disk.world c.args.disk.now)
+    whole_at g.D.Disk.is_over _ _ _ _ c.args.as_img2simg c.args.block (g.D.Disk.world c.args.disk.now)
     (g.D.Disk.world c.sparse_file.new.disk) c.place.ensures.at c.place-2.ensures.written
     (c.sparse_file.ensures.left t).whole

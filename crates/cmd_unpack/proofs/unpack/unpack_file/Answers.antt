@@ -1,13 +1,14 @@
 use Rattle.std.proofs.Common.{◌∙◌, sym, subst}
 use Rattle.sys_refusals.specs.Paths.{path_of}
 use Rattle.cmd_unpack.specs.Lines.{ShowsEach}
-use Rattle.cmd_unpack.specs.Unpacking.{Unpacks, no_part}
+use Rattle.cmd_unpack.specs.Unpacking.{Unpacks, no_part, unchanged}
 use Rattle.sys_disk.proofs.Amongs.{among_none}
 use Rattle.cmd_common_boot.proofs.Causes.{host_image, open_failed, opened, opened_as, opens_as, refuses_file}
 use Rattle.cmd_common_boot.proofs.Causes.{section_refused}
 use Rattle.cmd_common_boot.proofs.Causes.{source_failed}
 use Rattle.cmd_unpack.proofs.Counts.{clean_within, failed_within, syncs_within}
 use Rattle.cmd_unpack.proofs.Counts.{taken_failed}
+use Rattle.cmd_unpack.proofs.Looks.{looks}
 use Rattle.cmd_unpack.proofs.Loops.{begun_later}
 use Rattle.cmd_unpack.proofs.Wholes.{has_as, keeps_let_go, keeps_same, leaves_parts, only_let_go, only_opened}
 use Rattle.cmd_unpack.proofs.Wholes.{parts_stand, syncs_parts, twice, unpacks}
@@ -62,28 +63,28 @@ returns-in-Err-open-clause-refused g c = λ t.
 -- it is one of the files
 pub returns-in-Err-refuse_taken-clause-stands : goal.returns-in-Err-refuse_taken-clause-stands
 returns-in-Err-refuse_taken-clause-stands g c = λ t.
-    no_part (c.let_go_source-in-Err-refuse_taken.ensures.world t ∙ c.in-Err-refuse_taken.ensures.world t
+    no_part (c.let_go_source-in-Err-refuse_taken.ensures.world t ∙ c.in-Err-refuse_taken.ensures.fails.world t
     ∙ c.in-Ok.ensures.world t)
 
 pub returns-in-Err-refuse_taken-clause-only : goal.returns-in-Err-refuse_taken-clause-only
 returns-in-Err-refuse_taken-clause-only g c = λ t.
     only_opened _ _ _ _ _ _ _ _ _ (c.requires.first t).begun (c.in-Ok.ensures.opened t)
-    (c.let_go_source-in-Err-refuse_taken.ensures.world t ∙ c.in-Err-refuse_taken.ensures.world t ∙ c.in-Ok.ensures.world
-    t)
-    (twice _ _ _ _ _ (c.in-Err-refuse_taken.ensures.held t) (c.let_go_source-in-Err-refuse_taken.ensures.held t))
+    (c.let_go_source-in-Err-refuse_taken.ensures.world t ∙ c.in-Err-refuse_taken.ensures.fails.world t
+    ∙ c.in-Ok.ensures.world t)
+    (twice _ _ _ _ _ (c.in-Err-refuse_taken.ensures.fails.held t) (c.let_go_source-in-Err-refuse_taken.ensures.held t))
 
 pub returns-in-Err-refuse_taken-clause-keeps : goal.returns-in-Err-refuse_taken-clause-keeps
 returns-in-Err-refuse_taken-clause-keeps g c = record {
   input = λ t.
-      keeps_same _ _ _ (c.let_go_source-in-Err-refuse_taken.ensures.world t ∙ c.in-Err-refuse_taken.ensures.world t
-      ∙ c.in-Ok.ensures.world t);
+      keeps_same _ _ _ (c.let_go_source-in-Err-refuse_taken.ensures.world t
+      ∙ c.in-Err-refuse_taken.ensures.fails.world t ∙ c.in-Ok.ensures.world t);
   clean = λ t. tt;
 }
 
 pub returns-in-Err-refuse_taken-clause-refused : goal.returns-in-Err-refuse_taken-clause-refused
 returns-in-Err-refuse_taken-clause-refused g c = λ t.
     host_image (path_of c.args.input) (g.D.Disk.world c.args.disk.now) _ _ _ _ c.into-in-Err-refuse_taken.ensures
-    (taken_failed _ _ _ _ _ _ _ _ (c.in-Ok.ensures.opened t) (c.in-Err-refuse_taken.ensures.held t)
+    (taken_failed _ _ _ _ _ _ _ _ (c.in-Ok.ensures.opened t) (c.in-Err-refuse_taken.ensures.fails.held t)
     (c.let_go_source-in-Err-refuse_taken.ensures.held t))
 
 -- all parts are written
@@ -104,28 +105,28 @@ returns-in-Ok-write_parts-clause-synced g c = λ t.
     let told = g.met.D.Disk.source_told t in
     let same = c.in-Ok-open.ensures.reads.only.content told in
     syncs_parts _ _ _ _ _ _ _ _ (c.in-Ok.ensures.opened t) (c.in-Ok-open.ensures.opens told).has
-    (syncs_within _ _ _ _ _ _ _ _ _ _ (c.in-Ok.ensures.opened t) (c.in-Ok-refuse_taken.ensures.held t)
+    (syncs_within _ _ _ _ _ _ _ _ _ _ (c.in-Ok.ensures.opened t) (c.in-Ok-refuse_taken.ensures.fails.held t)
     (c.in-Ok-write_parts.ensures.writes t).synced (c.let_go_source-in-Ok-write_parts.ensures.held t))
 
 pub returns-in-Ok-write_parts-clause-only : goal.returns-in-Ok-write_parts-clause-only
 returns-in-Ok-write_parts-clause-only g c = λ t.
     let told = g.met.D.Disk.source_told t in
     only_let_go _ _ _ _ _ _ _ _ _ _ _ _ _ _ _ _ (c.requires.first t).begun (c.in-Ok.ensures.opened t)
-    (c.in-Ok-refuse_taken.ensures.world t ∙ c.in-Ok.ensures.world t) (c.in-Ok-open.ensures.opens told).has
-    (c.in-Ok-refuse_taken.ensures.held t) (c.in-Ok-write_parts.ensures.writes t).only
+    (c.in-Ok-refuse_taken.ensures.fails.world t ∙ c.in-Ok.ensures.world t) (c.in-Ok-open.ensures.opens told).has
+    (c.in-Ok-refuse_taken.ensures.fails.held t) (c.in-Ok-write_parts.ensures.writes t).only
     (c.let_go_source-in-Ok-write_parts.ensures.held t) (c.let_go_source-in-Ok-write_parts.ensures.world t)
 
 pub returns-in-Ok-write_parts-clause-keeps : goal.returns-in-Ok-write_parts-clause-keeps
 returns-in-Ok-write_parts-clause-keeps g c = record {
   input = λ t.
       keeps_let_go _ _ _ _ _ _ _ _ _ _ _ _ _ _ (c.in-Ok.ensures.opened t)
-      (c.in-Ok-refuse_taken.ensures.world t ∙ c.in-Ok.ensures.world t)
-      (c.in-Ok-refuse_taken.ensures.held t) (c.in-Ok-write_parts.ensures.writes t).only
+      (c.in-Ok-refuse_taken.ensures.fails.world t ∙ c.in-Ok.ensures.world t)
+      (c.in-Ok-refuse_taken.ensures.fails.held t) (c.in-Ok-write_parts.ensures.writes t).only
       (c.let_go_source-in-Ok-write_parts.ensures.held t) (c.let_go_source-in-Ok-write_parts.ensures.world t);
   clean = λ t.
       clean_within _ _ _ _ _ _ _ _ _ _ _ (c.in-Ok.ensures.opened t) (c.in-Ok.ensures.clean t)
       c.in-Ok-open.ensures.reads.only.clean
-      (c.in-Ok-refuse_taken.ensures.held t) (c.in-Ok-write_parts.ensures.writes t).clean
+      (c.in-Ok-refuse_taken.ensures.fails.held t) (c.in-Ok-write_parts.ensures.writes t).clean
       (c.let_go_source-in-Ok-write_parts.ensures.held t);
 }
 
@@ -133,16 +134,16 @@ pub returns-in-Err-write_parts-clause-only : goal.returns-in-Err-write_parts-cla
 returns-in-Err-write_parts-clause-only g c = λ t.
     let told = g.met.D.Disk.source_told t in
     only_let_go _ _ _ _ _ _ _ _ _ _ _ _ _ _ _ _ (c.requires.first t).begun (c.in-Ok.ensures.opened t)
-    (c.in-Ok-refuse_taken.ensures.world t ∙ c.in-Ok.ensures.world t) (c.in-Ok-open.ensures.opens told).has
-    (c.in-Ok-refuse_taken.ensures.held t) (c.in-Err-write_parts.ensures.writes t).only
+    (c.in-Ok-refuse_taken.ensures.fails.world t ∙ c.in-Ok.ensures.world t) (c.in-Ok-open.ensures.opens told).has
+    (c.in-Ok-refuse_taken.ensures.fails.held t) (c.in-Err-write_parts.ensures.writes t).only
     (c.let_go_source-in-Err-write_parts.ensures.held t) (c.let_go_source-in-Err-write_parts.ensures.world t)
 
 pub returns-in-Err-write_parts-clause-keeps : goal.returns-in-Err-write_parts-clause-keeps
 returns-in-Err-write_parts-clause-keeps g c = record {
   input = λ t.
       keeps_let_go _ _ _ _ _ _ _ _ _ _ _ _ _ _ (c.in-Ok.ensures.opened t)
-      (c.in-Ok-refuse_taken.ensures.world t ∙ c.in-Ok.ensures.world t)
-      (c.in-Ok-refuse_taken.ensures.held t) (c.in-Err-write_parts.ensures.writes t).only
+      (c.in-Ok-refuse_taken.ensures.fails.world t ∙ c.in-Ok.ensures.world t)
+      (c.in-Ok-refuse_taken.ensures.fails.held t) (c.in-Err-write_parts.ensures.writes t).only
       (c.let_go_source-in-Err-write_parts.ensures.held t) (c.let_go_source-in-Err-write_parts.ensures.world t);
   clean = λ t. tt;
 }
@@ -154,8 +155,8 @@ returns-in-Err-write_parts-clause-stands g c = λ t.
     let same = c.in-Ok-open.ensures.reads.only.content told in
     leaves_parts _ _ _ _ _ _ _ _ _ _ _ _ _ _ _ (c.requires.first t).begun
     (opens_as _ _ _ _ _ _ same (c.in-Ok.ensures.opened t))
-    (c.in-Ok-refuse_taken.ensures.world t ∙ c.in-Ok.ensures.world t)
-    (has_as _ _ c.in-Ok-open.image same (c.in-Ok-open.ensures.opens told)) (c.in-Ok-refuse_taken.ensures.held t)
+    (c.in-Ok-refuse_taken.ensures.fails.world t ∙ c.in-Ok.ensures.world t)
+    (has_as _ _ c.in-Ok-open.image same (c.in-Ok-open.ensures.opens told)) (c.in-Ok-refuse_taken.ensures.fails.held t)
     (c.in-Err-write_parts.ensures.stands t) (c.let_go_source-in-Err-write_parts.ensures.held t)
     (c.let_go_source-in-Err-write_parts.ensures.world t)
 
@@ -167,7 +168,7 @@ returns-in-Err-write_parts-clause-refused g c = λ t.
     refuses_file _ _ _ _ _ _ _ _ _ _ opens
     (c.in-Err-write_parts.ensures.refused t (opened_as _ _ c.in-Ok-open.image same (c.in-Ok-open.ensures.opens told)))
     (λ failed. failed_within _ _ _ _ _ _ _ _ _ _ _ (c.in-Ok.ensures.opened t) (c.in-Ok.ensures.clean t)
-    c.in-Ok-open.ensures.reads.only.clean (c.in-Ok-refuse_taken.ensures.held t) failed
+    c.in-Ok-open.ensures.reads.only.clean (c.in-Ok-refuse_taken.ensures.fails.held t) failed
     (c.let_go_source-in-Err-write_parts.ensures.held t))
     (λ begun. (
       parts_stand _ _ _ _ _ _ _ _ _ _ opens
@@ -176,3 +177,30 @@ returns-in-Err-write_parts-clause-refused g c = λ t.
           (c.let_go_source-in-Err-write_parts.ensures.world t) begun.0),
       begun.1,
     ))
+
+-- ---- the look at the names
+
+pub returns-in-Err-clause-looks : goal.returns-in-Err-clause-looks
+returns-in-Err-clause-looks g c = λ t. unchanged (c.in-Err.ensures.world t)
+
+pub returns-in-Err-open-clause-looks : goal.returns-in-Err-open-clause-looks
+returns-in-Err-open-clause-looks g c = λ t. unchanged (c.let_go_source.ensures.world t ∙ c.in-Ok.ensures.world t)
+
+pub returns-in-Err-refuse_taken-clause-looks : goal.returns-in-Err-refuse_taken-clause-looks
+returns-in-Err-refuse_taken-clause-looks g c = λ t.
+    unchanged (c.let_go_source-in-Err-refuse_taken.ensures.world t ∙ c.in-Err-refuse_taken.ensures.fails.world t
+    ∙ c.in-Ok.ensures.world t)
+
+pub returns-in-Ok-write_parts-clause-looks : goal.returns-in-Ok-write_parts-clause-looks
+returns-in-Ok-write_parts-clause-looks g c = λ t.
+    let told = g.met.D.Disk.source_told t in
+    let same = c.in-Ok-open.ensures.reads.only.content told in
+    looks _ _ _ _ _ _ _ _ _ _ (opens_as _ _ _ _ _ _ same (c.in-Ok.ensures.opened t)) (c.in-Ok.ensures.world t)
+    (has_as _ _ c.in-Ok-open.image same (c.in-Ok-open.ensures.opens told)) (c.in-Ok-refuse_taken.ensures.free t)
+
+pub returns-in-Err-write_parts-clause-looks : goal.returns-in-Err-write_parts-clause-looks
+returns-in-Err-write_parts-clause-looks g c = λ t.
+    let told = g.met.D.Disk.source_told t in
+    let same = c.in-Ok-open.ensures.reads.only.content told in
+    looks _ _ _ _ _ _ _ _ _ _ (opens_as _ _ _ _ _ _ same (c.in-Ok.ensures.opened t)) (c.in-Ok.ensures.world t)
+    (has_as _ _ c.in-Ok-open.image same (c.in-Ok-open.ensures.opens told)) (c.in-Ok-refuse_taken.ensures.free t)
