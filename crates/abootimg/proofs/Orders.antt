@@ -3,7 +3,7 @@ use Rattle.std.proofs.Common.{◌≡◌, Bool, ℕ, List, true, false, subst}
 use Rattle.sys_disk.specs.World.{OpenFiles, World}
 use Rattle.sys_report.specs.declared.report.Report.{Report}
 use Rattle.words_orders.specs.declared.order.SparseTask.{SparseTask}
-use Rattle.cmd_boot_dispatch.specs.declared.command.Kind.{Kind}
+use Rattle.cmd_boot_dispatch.specs.declared.command.BootCommandKind.{BootCommandKind}
 use Rattle.cmd_sparse_dispatch.specs.Commands.{DoesTask, State, state}
 use Rattle.abootimg.specs.BootDone.{BootDone}
 use Rattle.abootimg.specs.OrderDone.{IsReadyForOrder, synced_if}
@@ -24,9 +24,8 @@ does_from on task w w' h h' r z world held does =
     subst (λ (k : OpenFiles). DoesTask on task (state w k r) z) held
     (subst (λ (x : World). DoesTask on task (state x h' r) z) world does)
 
-pub boot_from : (on : List ℕ → Bool) (kind : Kind) (w w' z : World) (h h' k : OpenFiles) (r r' : Report) → w' ≡ w → h'
-    ≡ h
-    → BootDone on kind w' h' r z k r' → BootDone on kind w h r z k r'
+pub boot_from : (on : List ℕ → Bool) (kind : BootCommandKind) (w w' z : World) (h h' k : OpenFiles) (r r' : Report)
+    → w' ≡ w → h' ≡ h → BootDone on kind w' h' r z k r' → BootDone on kind w h r z k r'
 boot_from on kind w w' z h h' k r r' world held done =
     subst (λ (l : OpenFiles). BootDone on kind w l r z k r') held
     (subst (λ (x : World). BootDone on kind x h' r z k r') world done)

@@ -1,6 +1,6 @@
--- What a status of 0 means.
-use Rattle.std.proofs.Common.{arith, ◌≡◌, ℕ, List, [], ◌∷◌, Bool, true, false, Some, None, map, sym, subst, cond}
-use Rattle.std.specs.Prelude.{Result, Ok, Err, IfErr, OnOk}
+-- What is done, and what stays, whatever is printed after it.
+use Rattle.std.proofs.Common.{ℕ, List, [], ◌∷◌, Bool, Some, None, map, sym, subst}
+use Rattle.std.specs.Prelude.{Result, Ok, Err, OnOk}
 use Rattle.words_orders.specs.declared.order.SparseTask.{SparseTask}
 use Rattle.words_orders.specs.declared.order.SparseTask.TheVariants as tasks
 use Rattle.sys_disk.specs.World.{World, OpenFiles}
@@ -10,16 +10,6 @@ use Rattle.sys_host.specs.Answering.{PrintsNothing}
 use Rattle.cmd_common_sparse.specs.PieceNames.{naming}
 use Rattle.cmd_sparse_dispatch.proofs.Told.{cuts_as}
 use Rattle.cmd_sparse_dispatch.specs.Commands.{DoesTask, ExpandsImages, SparesExpanded, SparesFiles, State, state}
-
-not_zero : (n : ℕ) (wrong : Bool) → n ≡ cond wrong 2 1 → n ≡ 0 → ⊥
-not_zero n true is zero_is = omega (arith, is, zero_is)
-not_zero n false is zero_is = omega (arith, is, zero_is)
-
--- status 0 is the status of no error
-pub status_zero : {X E : Type 0} (r : Result X E) (n : ℕ) (P : Type 0) (wrong : E → Bool)
-    → IfErr r (λ e. n ≡ cond (wrong e) 2 1) → n ≡ 0 → OnOk r P → P
-status_zero (Ok x) n P wrong refused zero_is is = is
-status_zero (Err e) n P wrong refused zero_is is = absurd (not_zero n (wrong e) refused zero_is)
 
 -- ---- how far it is has no part in what is done, nor in what stays
 

@@ -1,2 +1,4 @@
 pub mod BootDone
 pub mod OrderDone
+pub mod OrderEnds
+pub mod WordsEnd

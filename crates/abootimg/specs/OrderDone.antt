@@ -6,7 +6,7 @@ use Rattle.words_orders.specs.declared.order.Order.{Order}
 use Rattle.words_orders.specs.declared.order.Task.{Task}
 use Rattle.words_orders.specs.declared.order.Task.TheVariants as tasks
 use Rattle.cmd_boot_dispatch.specs.Commands.{IsKindOf}
-use Rattle.cmd_boot_dispatch.specs.declared.command.Kind.{Kind}
+use Rattle.cmd_boot_dispatch.specs.declared.command.BootCommandKind.{BootCommandKind}
 use Rattle.cmd_sparse_dispatch.specs.Commands.{DoesTask, state}
 use Rattle.abootimg.specs.BootDone.{BootDone}
 
@@ -25,7 +25,7 @@ abbrev pub TaskDone : (List ℕ → Bool) → Task → World → OpenFiles → R
 TaskDone on_output (tasks.Sparse task) world held report world' held' report' =
     DoesTask on_output task (state world held report) (state world' held' report')
 TaskDone on_output (tasks.Boot task) world held report world' held' report' =
-    (kind : Kind) × (IsKindOf task kind × BootDone on_output kind world held report world' held' report')
+    (kind : BootCommandKind) × (IsKindOf task kind × BootDone on_output kind world held report world' held' report')
 TaskDone on_output (tasks.Completions shell) world held report world' held' report' =
     (text : List ℕ) × (report'.out.log.state.bytes ≡ report.out.log.state.bytes ++ text)
 

@@ -1,6 +1,6 @@
 //! The exit status and message of a command's result.
 
-ghost use Rattle.std.specs.Prelude.{◌≡◌, IfErr, OnOk, if◌then◌else◌};
+ghost use Rattle.std.specs.Prelude.{◌≡◌, IfErr, OnOk, if◌then◌else◌, min};
 ghost use Rattle.sys_host.specs.Answering.{PrintsNothing};
 
 use sys_host::{Telling, answer};
@@ -21,4 +21,20 @@ pub(crate) fn told<F: Told + Drop>(
     ensures refused { IfErr end.entry (λ refusal. result ≡ (if F.wrong_words refusal.fault then 2 else 1)) }
 {
     answer(end, how, rt, report)
+}
+
+/// The same, where the status is no higher than this.
+#[inline(never)]
+pub(crate) fn told_at_most<F: Told + Drop>(
+    end: Result<(), Refusal<'_, F>>,
+    most: u8,
+    how: Telling,
+    rt: HostRuntime,
+    report: &mut Report,
+) -> u8
+    ensures done { OnOk end.entry (result ≡ 0) }
+    ensures quiet { OnOk end.entry (PrintsNothing report.old report.new) }
+    ensures refused { IfErr end.entry (λ refusal. result ≡ min (if F.wrong_words refusal.fault then 2 else 1) most) }
+{
+    answer(end, how, rt, report).min(most)
 }

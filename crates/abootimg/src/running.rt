@@ -1,7 +1,12 @@
 //! Doing what the words ask for, and the exit status.
 
-ghost use Rattle.std.specs.Prelude.{◌≡◌, ◌≤◌, IsTrue};
+ghost use Rattle.std.specs.Prelude.{◌≡◌, ◌≢◌, ◌≤◌, ◌||◌, IfOk, IsTrue, map, string_bytes};
+ghost use Rattle.sys_disk.specs.World.{HasNotFailed};
+ghost use Rattle.sys_host.specs.Answering.{PrintsNothing};
+ghost use Rattle.words_orders.specs.Asked.{IsOrderOf};
 ghost use Rattle.abootimg.specs.OrderDone.{IsReadyForOrder, OrderDone};
+ghost use Rattle.abootimg.specs.OrderEnds.{OrderRefused, OrderSpares};
+ghost use Rattle.abootimg.specs.WordsEnd.{FoundEnds, WordsEnd};
 
 use crate::beginning::{Beginning, begin};
 use crate::boot_task::do_boot;
@@ -37,37 +42,98 @@ pub fn run(
 ) -> u8
     ensures { result ≤ 2 }
 {
-    let alloc = rt.alloc();
     let is_terminal = rt.stderr().is_terminal();
-    let how = telling(is_terminal || ask_for_more(words));
     let mut disk = Host::new(Reading::new(OsSystem { rt }));
-    let texts = match read_word_files(&mut disk, words, alloc) {
+    do_words(rt, words, is_terminal, &mut disk, report, w, m)
+}
+
+/// Does on any disk what the words ask for, where standard error is a terminal or is not.
+fn do_words<D: Beginning>(
+    rt: HostRuntime,
+    words: &[String],
+    is_terminal: bool,
+    disk: &mut D,
+    report: &mut Report,
+    w: &mut Window,
+    m: &mut Meter,
+) -> u8
+    requires ready { IsTrue D.models → IsReadyForOrder (D.held disk.old) }
+    ensures status { result ≤ 2 }
+    // the words of files are read, and the order that all of them ask for is carried out, if one is found
+    ensures ends { IsTrue D.models → WordsEnd D.on_output (map string_bytes words.now) (D.world disk.old)
+        (D.held disk.old) report.old (D.world disk.new) (D.held disk.new) report.new result }
+    // the status is 2 only if every file is as before
+    ensures wrong { IsTrue D.models → result ≡ 2 → D.world disk.new ≡ D.world disk.old }
+{
+    let alloc = rt.alloc();
+    let how = telling(is_terminal || ask_for_more(words));
+    let texts = match read_word_files(disk, words, alloc) {
         Ok(texts) => texts,
         Err(refusal) => return refused(rt, refusal, how, report),
     };
-    let Ok(words) = expanded(alloc, words, texts.as_slice()) else {
+    let Ok(all) = expanded(alloc, words, texts.as_slice()) else {
         return refused(rt, HostRefusal::memory(), how, report);
     };
-    match ordered(alloc, words.as_slice()) {
+    let all = all.as_slice();
+    do_found(
+        rt,
+        ordered(alloc, all),
+        all,
+        is_terminal,
+        disk,
+        report,
+        w,
+        m,
+    )
+}
+
+// Carries out the order that was found in these words, or tells what is wrong with them.
+fn do_found<D: Beginning>(
+    rt: HostRuntime,
+    found: Result<Order<'_>, WordsFault>,
+    words: &[&str],
+    is_terminal: bool,
+    disk: &mut D,
+    report: &mut Report,
+    w: &mut Window,
+    m: &mut Meter,
+) -> u8
+    requires ready { IsTrue D.models → IsReadyForOrder (D.held disk.old) }
+    ensures status { result ≤ 2 }
+    ensures ends { IsTrue D.models → FoundEnds D.on_output found.entry (D.world disk.old) (D.held disk.old) report.old
+        (D.world disk.new) (D.held disk.new) report.new result }
+    ensures wrong { IsTrue D.models → result ≡ 2 → D.world disk.new ≡ D.world disk.old }
+{
+    match found {
         Ok(order) => {
-            let how = telling(order.is_verbose || is_terminal);
-            if is_terminal && !order.is_quiet {
-                report.progress = Progress::shown(rt, order.command);
-            }
-            carry_out(rt, order, &mut disk, how, report, w, m)
+            let how = telling_for(&order, is_terminal);
+            begin_progress(rt, &order, is_terminal, report);
+            carry_out(rt, order, disk, how, report, w, m)
         }
-        Err(fault) => wrong_words(
-            rt,
-            None,
-            words.as_slice(),
-            &fault,
-            telling(is_terminal),
-            report,
-        ),
+        Err(fault) => wrong_words(rt, None, words, &fault, telling(is_terminal), report),
     }
 }
 
-fn telling(is_verbose: bool) -> Telling {
+// How the faults of an order are told: with a second line if the order says so, or on a terminal.
+fn telling_for(order: &Order<'_>, is_terminal: bool) -> Telling
+    ensures { result.is_verbose ≡ (order.now.is_verbose || is_terminal) }
+{
+    telling(order.is_verbose || is_terminal)
+}
+
+// A terminal is shown the progress of an order, unless the order says not to.
+fn begin_progress(rt: HostRuntime, order: &Order<'_>, is_terminal: bool, report: &mut Report)
+    ensures shown { PrintsNothing report.old report.new }
+    ensures quiet { IsTrue order.now.is_quiet → report.new ≡ report.old }
+{
+    if is_terminal && !order.is_quiet {
+        report.progress = Progress::shown(rt, order.command);
+    }
+}
+
+fn telling(is_verbose: bool) -> Telling
+    ensures { result.is_verbose ≡ is_verbose }
+{
     Telling {
         program: PROGRAM,
         is_verbose,
@@ -76,7 +142,9 @@ fn telling(is_verbose: bool) -> Telling {
 
 // The order that the words give. The stack for reading them is free again while it is carried out.
 #[inline(never)]
-fn ordered<'a>(alloc: Global, words: &'a [&str]) -> Result<Order<'a>, WordsFault> {
+fn ordered<'a>(alloc: Global, words: &'a [&str]) -> Result<Order<'a>, WordsFault>
+    ensures { IfOk result (IsOrderOf (map (λ word. word.now) words.entry.now)) }
+{
     order_of(alloc, words)
 }
 
@@ -122,6 +190,16 @@ pub(crate) fn carry_out<D: Beginning>(
     // the status is 0 only if all is done that the order says, and its outputs are synced if it says so
     ensures done { IsTrue D.models → result ≡ 0 → OrderDone D.on_output order.entry (D.world disk.old)
         (D.held disk.old) report.old (D.world disk.new) (D.held disk.new) report.new }
+    // and if nothing failed
+    ensures clean { IsTrue D.models → result ≡ 0 → HasNotFailed (D.held disk.old) (D.held disk.new) }
+    // else the order's command refuses it, as it says
+    ensures refused { IsTrue D.models → result ≢ 0 → OrderRefused order.entry (D.world disk.old) (D.held disk.old)
+        report.old (D.world disk.new) (D.held disk.new) result }
+    // whatever the status, what is read holds what it held, and nothing has changed but what is to be written
+    ensures spares { IsTrue D.models → OrderSpares order.entry (D.world disk.old) (D.held disk.old) report.old
+        (D.world disk.new) (D.held disk.new) report.new }
+    // it is 2 only if every file is as before
+    ensures wrong { IsTrue D.models → result ≡ 2 → D.world disk.new ≡ D.world disk.old }
 {
     begin(disk, order.is_synced, order.is_mounted_allowed);
     match order.task {
