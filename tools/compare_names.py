@@ -92,12 +92,15 @@ ROWS = (
     Row("unpack_bootimg", "fails", "done", "status", "a text that is not UTF-8", "theirs breaks off there"),
 )
 OLD_ROWS = (
+    Row("img2simg", "fails", "done", "status", "the word --", "Android 10's img2simg has no options"),
     Row("mkbootimg", "fails", "done", "status", "recovery", "Android 10's mkbootimg breaks off at a recovery DTBO"),
     Row("mkbootimg", "fails", "done", "status", "no kernel", "Android 10's mkbootimg needs a kernel"),
     Row("mkbootimg", "fails", "done", "status", "no dtb", "Android 10's mkbootimg needs a dtb in a vendor boot image"),
     Row("mkbootimg", "done", "(done|fails)", "(status|file .*)", "a long command line", "Android 10 has other limits"),
+    Row("mkbootimg", "done", "fails", "status", "a board of 16 bytes", "Android 10 has other limits"),
     Row("unpack_bootimg", "done", "fails", "status", "no whole header", "Android 10's unpack_bootimg takes any magic"),
-    Row("mkbootimg", "done", "done", r"file (boot|vendor)\.img", "version 3", "Android 10 writes another header_size"),
+    Row("mkbootimg", "done", "done", r"(file (boot|vendor)\.img|standard output)", "version 3",
+        "Android 10 writes another header_size"),
     Row("unpack_bootimg", "done", "done", "standard output", "", "Android 10's unpack_bootimg prints another text"),
 )
 
@@ -227,8 +230,10 @@ def with_old(call):
         found.add("no kernel")
     if not call.files.get("dtb") or not any(re.match("--dtb(=|$)", it) for it in call.words):
         found.add("no dtb")
-    if any(re.match(r"(--hea\w*=)?[ +]?(3|0x0*3|0b11|0o3|0X3)\s*$", it) for it in call.words):
+    if any(re.match(r"(--hea\w*=)?\s*[+]?(3|0x0*3|0b11|0o3|0X3)\s*$", it) for it in call.words):
         found.add("version 3")
+    if any(it.rpartition("=")[2] == 16 * "b" for it in call.words):
+        found.add("a board of 16 bytes")
     return call._replace(peculiar=found)
 
 

@@ -16,6 +16,9 @@ TABLE = ROOT / "crates/words_orders/src/table.rt"
 TEXTS = ROOT / "crates/words_orders/src/completion_texts.rt"
 COMMANDS = ROOT / "docs/COMMANDS.md"
 TOOLS = ROOT / "crates/words_tools/src/tools.rt"
+TOOL_TABLES = (ROOT / "crates/words_tools/src/table.rt", ROOT / "crates/words_tools/src/unpack_bootimg.rt")
+# The words that an option of a tool takes, in place of a file.
+WORDS_OF = {"format": "info mkbootimg", "ramdisk_type": "none platform recovery dlkm"}
 
 
 # ---- reading the table
@@ -27,10 +30,14 @@ class Row:
         self.name, self.help, place = fields["name"], fields["help"], fields["place"]
         self.is_flag = "Flag" in place
         self.is_option = self.is_flag or "Option" in place
-        self.letter = place[-3] if "ShortFlag" in place else None
+        self.letter = place[-3] if "ShortFlag" in place else self.name if "Letter" in place else None
+        self.is_letter_alone = "Letter" in place
+        self.is_taken = "NotTaken" not in fields["value"]
 
     def options(self):
         """As they are typed, the letter first."""
+        if self.is_letter_alone:
+            return [f"-{self.letter}"]
         letter = [f"-{self.letter}"] if self.letter else []
         return letter + [f"--{self.name}"] if self.is_option else []
 
@@ -79,14 +86,28 @@ def rows_by_work(text, function):
     return {work: name for works, name in arms for work in works.split(" | ")}
 
 
-def read_table():
-    """The commands of the table, and the rows that stand before a command as well."""
-    text = re.sub(r"^\s*//.*\n", "", TABLE.read_text(), flags=re.M)
-    shared = dict(re.findall(rf"const (\w+): &str =\s*{TEXT};", text))
+def arrays_of(path, shared):
+    """The arrays of rows of a file, by name. `shared` gets the texts and rows that it names."""
+    text = re.sub(r"^\s*//.*\n", "", path.read_text(), flags=re.M)
+    shared.update(re.findall(rf"const (\w+): &str =\s*{TEXT};", text))
     for name, body in re.findall(r"const (\w+): Row = Row \{(.*?)\};", text, re.S):
         shared[name] = fields_of(body, shared)
     arrays = re.findall(r"static (\w+): \[Row; \d+\] = \[(.*?)\];", text, re.S)
-    rows = {name: rows_of(body, shared) for name, body in arrays}
+    return text, {name: rows_of(body, shared) for name, body in arrays}
+
+
+def rows_of_tools():
+    """The options of each tool that has some."""
+    shared, rows = {}, {}
+    for path in (TABLE, *TOOL_TABLES):
+        rows.update(arrays_of(path, shared)[1])
+    found = {"mkbootimg": rows["MKBOOTIMG"] + rows["FRAGMENTS"], "unpack_bootimg": rows["UNPACK_BOOTIMG"]}
+    return {tool: [row for row in of if row.is_taken] for tool, of in found.items()}
+
+
+def read_table():
+    """The commands of the table, and the rows that stand before a command as well."""
+    text, rows = arrays_of(TABLE, {})
     groups = [rows_by_work(text, function) for function in ("own_rows", "filling_rows", "shared_rows")]
     found = re.findall(rf'CommandRow \{{\s*name: "(\w+)",\s*work: (Work::\w+),\s*about: {TEXT},', text)
     commands = []
@@ -116,6 +137,17 @@ def joined(commands, line):
     return "\n".join(line.format(command.name, typed(command.rows)) for command in commands)
 
 
+def joined_tools(line):
+    """The same for each of AOSP's tools that has options, and for the others."""
+    options = [line.format(tool, typed(rows)) for tool, rows in rows_of_tools().items()]
+    return "\n".join([*options, line.format("*", "-h --help")])
+
+
+def values_of(line):
+    """A line for each option of a tool that takes one of some words."""
+    return "\n".join(line.format(*it) for it in WORDS_OF.items())
+
+
 def names_of(commands):
     return " ".join(command.name for command in commands)
 
@@ -142,9 +174,36 @@ _abootimg_word_files() {{
     done < <(compgen -f -- "${{1#@}}")
     [ -z "$is_plain" ] || compopt +o filenames 2>/dev/null
 }}
+_abootimg_tool() {{
+    local words
+    case $2 in
+        -*)
+            case $1 in
+{joined_tools("                {}) words='{}' ;;")}
+            esac ;;
+        *)
+            case $3 in
+{values_of("                --{}) words='{}' ;;")}
+                *)
+                    _abootimg_files "$2"
+                    return ;;
+            esac ;;
+    esac
+    compopt +o filenames 2>/dev/null
+    COMPREPLY=($(compgen -W "$words" -- "$2"))
+}}
 _abootimg() {{
     local word=${{2-${{COMP_WORDS[COMP_CWORD]}}}} words= at=1
     COMPREPLY=()
+    case " {tools()} " in
+        *" ${{COMP_WORDS[0]##*/}} "*)
+            _abootimg_tool "${{COMP_WORDS[0]##*/}}" "$word" "${{COMP_WORDS[COMP_CWORD-1]}}"
+            return ;;
+    esac
+    if [ "${{COMP_WORDS[1]}}" = as ] && [ "$COMP_CWORD" -gt 2 ]; then
+        _abootimg_tool "${{COMP_WORDS[2]}}" "$word" "${{COMP_WORDS[COMP_CWORD-1]}}"
+        return
+    fi
     while [ "$at" -lt "$COMP_CWORD" ] && [ "${{COMP_WORDS[at]#-}}" != "${{COMP_WORDS[at]}}" ]; do
         at=$((at + 1))
     done
@@ -173,15 +232,38 @@ _abootimg() {{
     compopt +o filenames 2>/dev/null
     COMPREPLY=($(compgen -W "$words" -- "$word"))
 }}
-complete -o filenames -F _abootimg abootimg
+complete -o filenames -F _abootimg abootimg {tools()}
 """
 
 
 def zsh(commands, before):
     return f"""\
-#compdef abootimg
+#compdef abootimg {tools()}
+_abootimg_tool() {{
+    if [[ $words[CURRENT] == --*=* ]]; then
+        compset -P 1 '*='
+        _files
+    elif [[ $words[CURRENT] == -* ]]; then
+        case $1 in
+{joined_tools("            {}) compadd -- {} ;;")}
+        esac
+    else
+        case $words[CURRENT-1] in
+{values_of("            --{}) compadd -- {} ;;")}
+            *) _files ;;
+        esac
+    fi
+}}
 _abootimg() {{
     local at=2
+    if [[ " {tools()} " == *" ${{words[1]:t}} "* ]]; then
+        _abootimg_tool ${{words[1]:t}}
+        return
+    fi
+    if [[ $words[2] == as ]] && (( CURRENT > 3 )); then
+        _abootimg_tool $words[3]
+        return
+    fi
     while (( at < CURRENT )) && [[ $words[at] == -* ]]; do
         (( at += 1 ))
     done
@@ -215,7 +297,7 @@ _abootimg() {{
 if [ "$funcstack[1]" = _abootimg ]; then
     _abootimg "$@"
 else
-    compdef _abootimg abootimg
+    compdef _abootimg abootimg {tools()}
 fi
 """
 
@@ -232,6 +314,17 @@ def fish_option(condition, row):
     return f"-n {condition} -l {row.name}{letter}{value} -d {quoted(row.help)}"
 
 
+def fish_tool_option(row):
+    """The same of an option of one of AOSP's tools."""
+    name = "" if row.is_letter_alone else f" -l {row.name}"
+    letter = f" -s {row.letter}" if row.letter else ""
+    value = f" -x -a '{WORDS_OF[row.name]}'" if row.name in WORDS_OF else "" if row.is_flag else " -r"
+    return f"{name[1:]}{letter if name else letter[1:]}{value} -d {quoted(row.help)}"
+
+
+# In fish: whether the words are those of a tool behind `as`, and what fish offers for that tool.
+OF_TOOL = "test (count (commandline -opc)) -gt 2; and test (commandline -opc)[2] = as"
+OFFERS_OF_TOOL = "(complete -C (string join ' ' -- (string escape -- (commandline -opc)[3..-1]) (commandline -ct)))"
 # In fish: whether the word at hand is behind an @, and the words for that.
 AT_FILE = "string match -q -- '@*' (commandline -ct)"
 AT_FILES = "(complete -C \"'' \"(string sub -s 2 -- (commandline -ct)) | string replace -r -- '^' @)"
@@ -249,7 +342,9 @@ def fish(commands, before):
     lines.append(f"-n {quoted(AT_FILE)} -a {quoted(AT_FILES)}")
     lines.append("-n '__fish_seen_subcommand_from completions' -f -a 'bash zsh fish'")
     lines.append(f"-n '__fish_seen_subcommand_from help' -f -a '{names_of(commands)}'")
-    return "".join(f"complete -c abootimg {line}\n" for line in lines)
+    lines.append(f"-n {quoted(OF_TOOL)} -f -a {quoted(OFFERS_OF_TOOL)}")
+    of_tools = [f"-c {tool} {fish_tool_option(row)}" for tool, rows in rows_of_tools().items() for row in rows]
+    return "".join(f"complete {line}\n" for line in [*(f"-c abootimg {it}" for it in lines), *of_tools])
 
 
 def constant(name, text):

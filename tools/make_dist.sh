@@ -29,6 +29,11 @@ completions() { mkdir -p "$(dirname "$top/share/$2")" && "$here/tools/make_compl
 completions bash bash-completion/completions/abootimg
 completions zsh zsh/site-functions/_abootimg
 completions fish fish/vendor_completions.d/abootimg.fish
+# bash and fish look for the file of a tool's name; that of zsh names the tools.
+for tool in $("$here/tools/make_completions.py" --tools); do
+    ln -s abootimg "$top/share/bash-completion/completions/$tool"
+    ln -s abootimg.fish "$top/share/fish/vendor_completions.d/$tool.fish"
+done
 install -D -m 644 "$here/include/abootimg.h" "$top/include/abootimg.h"
 install -D -m 644 "$library" "$top/lib/libabootimg.a"
 # The folder is unpacked anywhere, so the file for pkg-config says where it stands itself.

@@ -28,7 +28,8 @@ SPOILS = (
     ["--base", "-9999999999"], ["--pagesize", "4095"], ["--pagesize", "32768"], ["--header_version", "5"],
     ["--header_version", "x"],
     ["--header_version", "-1"], ["--board", 16 * "b"], ["--cmdline", 1536 * "c"], ["--vendor_cmdline", 2048 * "v"],
-    ["--cmdline", "-x"], ["--id=1"], ["-o", "none/x"], ["-h"],
+    ["--cmdline", "-x"], ["--id=1"], ["-o", "none/x"], ["-h"], ["--board", "-1e3"], ["--board", "-1."], ["--kernel", "-5"],
+    ["--board", "--id"], ["--board", "-o b"], ["--board", "--ker=a b"], ["--board", "-"], ["--board", "-a"],
     ["--recovery_dtbo", "kernel", "--recovery_acpio", "kernel"],
     ["--ramdisk_name", "late"], ["--vendor_ramdisk_fragment=kernel"], ["--board_id3", "1"], ["--gki_signing_key", "k"],
     ["--output"])
@@ -74,9 +75,16 @@ def call_of_simg2img(maker):
     return Call("simg2img", words, files, stdin, set(names) - {out}, peculiar)
 
 
+def long_image(maker):
+    """A raw image around 64 MiB, where AOSP's newer img2simg splits chunks: no block of it is a fill, or all are, or half."""
+    size = maker.near(maker.one(64 << 20, 65 << 20, 128 << 20), 4096)
+    unit = maker.one(bytes(range(256)) * 4, bytes(1024), bytes(range(256)) * (1 << 18) + bytes(64 << 20))
+    return (unit * (size // len(unit) + 1))[:size]
+
+
 def call_of_img2simg(maker):
     size = maker.near(maker.one(0, 1024, 4096, 65_536, 3 * 65_536, 300_000), 9)
-    files = {"raw": maker.data(size)}
+    files = {"raw": long_image(maker) if chance_of(maker, 3) else maker.data(size)}
     blocks = ("1024", "2048", "4096", "8192", "65536", " 4096", "+1024", "4096x", "131072", "1048576", "1028",
               "4294971392")
     block = maker.one(*["", *blocks] * 3, "1000", "1026", "0x1000", "-4096", "x", "", "99999999999999999999", "0")
@@ -90,6 +98,8 @@ def call_of_img2simg(maker):
         peculiar.add("an output that is an input")
     if "-s" in words:
         peculiar.add("-s")
+    if "--" in words:
+        peculiar.add("the word --")
     if block and not (re.fullmatch("[0-9]+", block) and int(block) < 2**32):
         peculiar.add("a BLOCK that is not digits alone")
     number = block.strip().rstrip("x").lstrip("+")
@@ -138,12 +148,12 @@ def option(maker, name, value, among=OPTIONS):
     spelt = maker.one(*short) if short and chance_of(maker, 10) else f"--{name}"
     if name == "output":
         return maker.one(["-o", value], ["-o", value], [f"-o{value}"], [f"-o={value}"], [f"{spelt}={value}"])
-    is_dashed = value.startswith("-") and value != "-"
-    return [f"{spelt}={value}"] if is_dashed or chance_of(maker, 20) else [spelt, value]
+    percent = 50 if value.startswith("-") and value != "-" else 20
+    return [f"{spelt}={value}"] if chance_of(maker, percent) else [spelt, value]
 
 
 def text_for(maker, most):
-    some = ("", "a", "console=ttyS0 quiet", "é", "it's \"x\"", "-x y", "#$ \\n`", "a=b c=d")
+    some = ("", "a", "console=ttyS0 quiet", "é", "it's \"x\"", "-x y", "#$ \\n`", "a=b c=d", "-5", "-.5", "--kern l")
     text = maker.one(*some, most * "x", 511 * "y", 512 * "z")
     return text if len(text.encode()) <= most else text.encode()[:most].decode("utf-8", "ignore")
 

@@ -37,6 +37,26 @@ TYPED = [
     ("help li", ["help", "list"]),
     ("completions f", ["completions", "fish"]),
     ("pack --recov", ["pack", "--recovery-dtbo"]),
+    ("as unp", ["as", "unpack_bootimg"]),
+    ("as mkbootimg --recovery_d", ["as", "mkbootimg", "--recovery_dtbo"]),
+    ("as mkbootimg --kernel on", ["as", "mkbootimg", "--kernel", "on.img"]),
+    ("as simg2img on", ["as", "simg2img", "on.img"]),
+]
+# The same of AOSP's tools, whose words the command of that name gets.
+TOOLS_TYPED = [
+    ("mkbootimg --ker", ["--kernel"]),
+    ("mkbootimg --kernel_o", ["--kernel_offset"]),
+    ("mkbootimg --kernel on", ["--kernel", "on.img"]),
+    ("mkbootimg --kernel=on", ["--kernel=on.img"]),
+    ("mkbootimg --kernel my\\ f", ["--kernel", "my file"]),
+    ("mkbootimg --ramdisk_type dl", ["--ramdisk_type", "dlkm"]),
+    ("./mkbootimg --header_v", ["--header_version"]),
+    ("unpack_bootimg --fo", ["--format"]),
+    ("unpack_bootimg --format mk", ["--format", "mkbootimg"]),
+    ("unpack_bootimg --boot_img on", ["--boot_img", "on.img"]),
+    ("simg2img on", ["on.img"]),
+    ("img2simg my\\ f\tmy\\ o", ["my file", "my other"]),
+    ("simg2simg on", ["on.img"]),
 ]
 BASH_TYPED = [("pack out platform::on", ["pack", "out", "platform::on.img"])]
 
@@ -54,17 +74,32 @@ OFFERED = [
     ("help li", ["list"]),
     ("completions f", ["fish"]),
     ("pack --recov", ["--recovery-dtbo"]),
+    ("as unp", ["unpack_bootimg"]),
+    ("as mkbootimg --recovery_d", ["--recovery_dtbo"]),
+    ("as mkbootimg --kernel on", ["on.img"]),
+    ("as unpack_bootimg --format ", ["info", "mkbootimg"]),
+    ("as simg2img on", ["on.img"]),
+]
+TOOLS_OFFERED = [
+    ("mkbootimg --kern", ["--kernel", "--kernel_offset"]),
+    ("mkbootimg --kernel on", ["on.img"]),
+    ("mkbootimg --kernel=on", ["--kernel=on.img"]),
+    ("mkbootimg --ramdisk_type dl", ["dlkm"]),
+    ("unpack_bootimg --fo", ["--format"]),
+    ("unpack_bootimg --format ", ["info", "mkbootimg"]),
+    ("simg2img on", ["on.img"]),
 ]
 
-BASH = """PS1='ready> '
-abootimg() { printf 'told: '; printf '[%s]' "$@"; echo; }
-. texts/_abootimg
+CALLS = """PS1='ready> '
+for it in abootimg mkbootimg unpack_bootimg simg2img img2simg simg2simg; do
+    eval "$it() { printf 'told: '; printf '[%s]' \\"\\$@\\"; echo; }"
+done
 """
-ZSH = """PS1='ready> '
-fpath=($PWD/texts $fpath)
+BASH = CALLS + """. texts/_abootimg
+"""
+ZSH = CALLS + """fpath=($PWD/texts $fpath)
 autoload -Uz compinit
 compinit -u -D
-abootimg() { printf 'told: '; printf '[%s]' "$@"; echo; }
 """
 
 
@@ -96,7 +131,7 @@ class Terminal:
     def words_of(self, line):
         """The words that a command gets of this line and a tab."""
         time.sleep(0.1)
-        os.write(self.to, f"abootimg {line}\t\r".encode())
+        os.write(self.to, f"{line}\t\r".encode())
         told = self.until(r"told: ([^\r\n]*)[\r\n]")
         self.until("ready> ")
         return told[1] if told else "nothing"
@@ -111,21 +146,26 @@ def of_terminal(words, more, rows):
 
 
 def of_fish():
-    for line, wanted in OFFERED:
+    for line, wanted in calls(OFFERED, TOOLS_OFFERED):
         code = "source texts/_abootimg; complete -C $argv[1]"
-        told = subprocess.run(["fish", "--no-config", "-c", code, f"abootimg {line}"], capture_output=True, text=True)
+        told = subprocess.run(["fish", "--no-config", "-c", code, line], capture_output=True, text=True)
         yield line, str(wanted), str(sorted(it.split("\t")[0] for it in told.stdout.splitlines()))
+
+
+def calls(own, tools):
+    """The rows of this program's own words, and those of tools."""
+    return [*((f"abootimg {line}", words) for line, words in own), *tools]
 
 
 def rows_of(shell):
     if shell == "bash":
         with open("texts/rc", "w") as file:
             file.write(BASH)
-        return of_terminal(["bash", "--rcfile", "texts/rc", "-i"], {}, TYPED + BASH_TYPED)
+        return of_terminal(["bash", "--rcfile", "texts/rc", "-i"], {}, calls(TYPED + BASH_TYPED, TOOLS_TYPED))
     if shell == "zsh":
         with open("texts/.zshrc", "w") as file:
             file.write(ZSH)
-        return of_terminal(["zsh", "-i"], {"ZDOTDIR": os.getcwd() + "/texts"}, TYPED)
+        return of_terminal(["zsh", "-i"], {"ZDOTDIR": os.getcwd() + "/texts"}, calls(TYPED, TOOLS_TYPED))
     return of_fish()
 
 
@@ -144,6 +184,8 @@ END_OF_COMPLETE
 mkdir list texts 'some folder'
 touch 'my file' 'my other' 'a*b' words on.img 'some folder/inner'
 mv complete.py texts
+printf '#!/bin/sh\nprintf "told: "; printf "[%%s]" "$@"; echo\n' >mkbootimg
+chmod 755 mkbootimg
 for shell in bash zsh fish; do
     lacks "the completions of $shell" "$shell" python3 && continue
     "$program" completions "$shell" >texts/_abootimg
