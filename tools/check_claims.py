@@ -5,7 +5,7 @@
 
 Of docs/claims.tsv, whose head explains its columns:
   - each definition that must be believed is defined in the file of specs/ that is named, and all of them together have fewer
-    than 1450 lines, with the comments above them;
+    than 1470 lines, with the comments above them;
   - each claim's function is public (in a crate that only the program depends on it may be private), its contract has a
     clause of each name, the definitions are there, and so is each must-fail edit, in the function's crate or one below it
     (further edits in its more-edits/); where a function names no edit, words say why; a claim with further edits has one
@@ -31,7 +31,7 @@ import subprocess
 import sys
 
 HERE = os.path.dirname(os.path.dirname(os.path.abspath(__file__)))
-MOST_LINES = 1450
+MOST_LINES = 1470
 MOST_PAGE_LINES = 400
 PAGE, ROWS = "docs/CLAIMS.md", "docs/claims.tsv"
 # How many columns a row has, by its first one. A number there is that of a claim, whose rows may leave columns empty.
@@ -48,14 +48,6 @@ OF_THE_PROGRAM = (
 # What the name of a crate begins with, and the two crates that are programs. docs/ARCHITECTURE.md says what each means.
 PREFIXES = ("abt_", "sys_", "words_", "cmd_", "law_", "mem_", "test_")
 PROGRAMS = ("abootimg", "speed")
-
-# The public types of src/ that two crates define, and why: no crate sees both but where that is said.
-TYPES_DEFINED_TWICE = {
-    "Kind": "of an order for a boot image, in `cmd_boot_dispatch`; of a file, in `sys_file`",
-    "MemoryFile": "a file of the disk in memory, in `mem_disk`; an open file in memory, in `mem_files`",
-    "Opening": "how `sys_file` opens a path; a list of chunks that `abt_runs` has begun to check",
-    "Sink": "an output of `sys_finish`; in `speed`, a program by itself, an output that keeps a checksum alone",
-}
 
 # The program begins to count, as the benchmark does, and what it prints and shows is counted by nobody.
 MAKE_METERS = ("abootimg", "sys_report", "sys_text", "speed")
@@ -441,11 +433,9 @@ def check_crates(checks, under):
             for found in map(public.match, lines_of(os.path.relpath(path, HERE))):
                 if found:
                     defined.setdefault(found[1], set()).add(crate)
-    twice = {name for name, crates_with in defined.items() if len(crates_with) > 1}
-    for name in sorted(twice - set(TYPES_DEFINED_TWICE)):
+    twice = sorted(name for name, crates_with in defined.items() if len(crates_with) > 1)
+    for name in twice:
         checks.that(False, f"one crate defines a public type {name}: {', '.join(sorted(defined[name]))}")
-    for name in TYPES_DEFINED_TWICE:
-        checks.that(name in twice, f"two crates define a public type {name}, as tools/check_claims.py says")
     once = len(defined) - len(twice)
     checks.that(once, f"{once} public types have a name of their own")
 

@@ -24,11 +24,11 @@ from repository import HERE, crate_lines
 
 # The most functions of a crate, and those that have more; docs/DECISIONS.md says why these are not taken apart.
 FUNCTIONS = 100
-MORE_FUNCTIONS = {"abt_sections": 107, "words_orders": 104, "cmd_unpack_aosp_texts": 106, "words_tools": 101}
+MORE_FUNCTIONS = {"abt_sections": 107, "words_orders": 106, "cmd_unpack_aosp_texts": 106, "words_tools": 101}
 # How many functions have contracts of more clauses than this.
 LONG_CONTRACTS = {15: 3, 20: 1}
 # How many clauses are, to the letter, one that stands before, in any function of any crate.
-REPEATED_CLAUSES = 601
+REPEATED_CLAUSES = 632
 # The names that two files define, each with what it says in the one and in the other.
 NAMES_DEFINED_TWICE = {
     "Begins": "of a spool's and of a file's bytes, of which they are a front; of a text, which has grown by one",
@@ -43,7 +43,7 @@ NAMES_DEFINED_TWICE = {
     "with_part": "a window with bytes in it; a placer with blocks taken",
 }
 # The longest line of specs/ and proofs/, and the files from before that have longer ones: each with its checksum.
-COLUMNS, LONG_LISTED, LONG_FILES = 120, os.path.join("tools", "long_lines.txt"), 326
+COLUMNS, LONG_LISTED, LONG_FILES = 120, os.path.join("tools", "long_lines.txt"), 321
 
 # The crates of each family, and how many hundreds of lines of src/, specs/ and proofs/ they have at most.
 FAMILIES = {
@@ -66,15 +66,15 @@ FAMILIES = {
         "test_spool test_disk speed",
 }
 LINES = {
-    "devices": 98,
+    "devices": 99,
     "definitions and reading": 163,
     "writing": 172,
     "flashing and verifying": 119,
     "boot images": 219,
-    "system": 82,
-    "words": 95,
-    "commands over sparse images": 132,
-    "commands over boot images": 137,
+    "system": 85,
+    "words": 101,
+    "commands over sparse images": 139,
+    "commands over boot images": 139,
     "laws": 59,
     "memory": 28,
     "for programs in C": 25,
