@@ -2,7 +2,7 @@
 
 ghost use Rattle.std.specs.Prelude.{◌≡◌, false};
 
-use crate::devices::{ChecksumSink, Memory};
+use crate::devices::{Memory, Sink};
 use crate::digest::Digest;
 use crate::images::{Maker, WORD};
 use crate::jobs::Size;
@@ -20,7 +20,7 @@ use sys_readers::ToWrite;
 fn next_piece<S: Source>(
     pieces: &mut PiecesOf<SparseRuns>,
     source: &mut S,
-    output: &mut ToWrite<ChecksumSink>,
+    output: &mut ToWrite<Sink>,
     w: &mut Window,
     m: &mut Meter,
 ) -> Result<Option<Piece>, PieceFault>
@@ -43,7 +43,7 @@ fn cut<S: Source>(
     let Ok(mut pieces) = PiecesOf::open(runs, limit) else {
         bail!("the limit is too small");
     };
-    let mut output = ToWrite::new(ChecksumSink::new());
+    let mut output = ToWrite::new(Sink::new());
     for _ in 0..u32::MAX {
         match next_piece(&mut pieces, source, &mut output, w, m)? {
             Some(piece) => digest.note(piece.bytes),

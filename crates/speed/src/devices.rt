@@ -95,21 +95,21 @@ impl Input for Memory<'_> {
 
 /// Takes bytes one after another.
 #[derive(Drop)]
-pub struct ChecksumSink {
+pub struct Sink {
     pub length: u64,
     pub digest: Digest,
 }
 
-impl ChecksumSink {
-    pub fn new() -> ChecksumSink {
-        ChecksumSink {
+impl Sink {
+    pub fn new() -> Sink {
+        Sink {
             length: 0,
             digest: Digest::new(),
         }
     }
 }
 
-impl Write for ChecksumSink {
+impl Write for Sink {
     fn write(&mut self, bytes: &[u8]) -> io::Result<usize> {
         self.digest.put(self.length, bytes);
         self.length = self.length.wrapping_add(bytes.len() as u64);

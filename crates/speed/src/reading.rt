@@ -1,6 +1,6 @@
 //! Reading sparse images forward: expanding them, listing them, and feeding them in parts as a C program does.
 
-use crate::devices::{ChecksumSink, Memory};
+use crate::devices::{Memory, Sink};
 use crate::digest::Digest;
 use crate::images::{BLOCK, Maker, WORD};
 use crate::jobs::Size;
@@ -13,7 +13,7 @@ use sys_readers::ToWrite;
 
 fn expanded(image: &[u8], w: &mut Window, m: &mut Meter) -> Result<Digest, SparseFault> {
     let mut input = Memory::new(image);
-    let mut output = ToWrite::new(ChecksumSink::new());
+    let mut output = ToWrite::new(Sink::new());
     let expanded = expand(&mut input, &mut output, w, m)?;
     let mut digest = output.writer.digest;
     digest.note(expanded.bytes);
