@@ -1,20 +1,13 @@
 -- How an order begins.
-use Rattle.std.proofs.Common.{◌≡◌, Bool, ℕ, List, true, false, subst}
+use Rattle.std.proofs.Common.{◌≡◌, Bool, ℕ, List, subst}
 use Rattle.sys_disk.specs.World.{OpenFiles, World}
 use Rattle.sys_report.specs.declared.report.Report.{Report}
 use Rattle.words_orders.specs.declared.order.SparseTask.{SparseTask}
 use Rattle.cmd_boot_dispatch.specs.declared.command.BootCommandKind.{BootCommandKind}
 use Rattle.cmd_sparse_dispatch.specs.Commands.{DoesTask, State, state}
 use Rattle.abootimg.specs.BootDone.{BootDone}
-use Rattle.abootimg.specs.OrderDone.{IsReadyForOrder, synced_if}
 
-pub ready_if : (b : Bool) (h : OpenFiles) → IsReadyForOrder h → IsReadyForOrder (synced_if b h)
-ready_if true h r = record {
-  reading = record { begun = r.reading.begun; output = r.reading.output };
-  part = r.part;
-  spool = r.spool;
 }
-ready_if false h r = r
 
 -- a task is done from the state in which its order has begun
 pub does_from : (on : List ℕ → Bool) (task : SparseTask) (w w' : World) (h h' : OpenFiles) (r : Report) (z : State)

@@ -1,5 +1,5 @@
 -- What a status above 0 means for a command.
-use Rattle.std.proofs.Common.{arith, ◌≡◌, ◌≢◌, ℕ, ◌≤◌, List, Bool, true, false, ap, refl, sym, ◌∙◌, cond, min}
+use Rattle.std.proofs.Common.{arith, ◌≡◌, ◌≢◌, ℕ, List, Bool, true, false, ap, refl, sym, ◌∙◌, cond, min}
 use Rattle.std.specs.Prelude.{Result, Ok, Err, IfErr, OnOk}
 use Rattle.sys_disk.specs.World.{World, OpenFiles}
 use Rattle.sys_report.specs.declared.report.Report.{Report}
@@ -173,7 +173,3 @@ pub boot_same : {X E : Type 0} (fault : E → BootCommandFault) (r : Result X E)
 boot_same fault (Ok x) n kind w w' h h' report told spares none is refuses two = absurd (not_two n two none)
 boot_same fault (Err e) n kind w w' h h' report told spares none is refuses two =
     kind_same (fault e) kind w w' h h' report told spares refuses (sym is ∙ two)
-
--- no status above 1 is that of a task of sparse images
-pub not_above : (n : ℕ) → n ≤ 1 → n ≡ 2 → ⊥
-not_above n most two = omega (arith, most, two)

@@ -1,5 +1,5 @@
 -- From a step of the machine to the results of a listing.
-use Rattle.std.proofs.Common.{◌≡◌, ℕ, ◌+◌, ◌<◌, ◌≤◌, Bool, true, false, List, [], ◌∷◌, ◌++◌, length, Err, sym, ap, ◌∙◌, arith, ◌==◌, if◌then◌else◌, ne_eqb, eq-eqb}
+use Rattle.std.proofs.Common.{◌≡◌, ℕ, ◌+◌, ◌<◌, Bool, true, false, List, [], ◌∷◌, ◌++◌, length, Err, sym, ap, ◌∙◌, arith, ◌==◌, if◌then◌else◌, ne_eqb, eq-eqb}
 use Rattle.abt_sparse.specs.declared.fault.SparseFault.{SparseFault}
 use Rattle.abt_sparse.specs.declared.fault.SparseFault.TheVariants as faults
 use Rattle.abt_sparse.specs.View.{view}
@@ -9,21 +9,12 @@ use Rattle.abt_chunks.specs.declared.walk.Phase.TheVariants as phases
 use Rattle.abt_chunks.specs.declared.walk.Walk.{Walk}
 use Rattle.abt_chunks.specs.declared.walk.Part.{Part}
 use Rattle.abt_chunks.specs.declared.walk.Part.TheVariants as parts
-use Rattle.abt_chunks.specs.Expanding.{answer_of, OnMoreExpanding}
+use Rattle.abt_chunks.specs.Expanding.{answer_of}
 use Rattle.abt_chunks.specs.Listing.{Listing, listing_from, listing_of}
 use Rattle.abt_chunks.specs.Turns.{IsWalkOver}
-use Rattle.abt_chunks.specs.Parts.{Moved}
-use Rattle.abt_chunks.specs.ListingAhead.{MayEnd, Numbers, is_between, at_end, Empties, Lists, info_at, shown_before, upcoming, with_begun}
+use Rattle.abt_chunks.specs.ListingAhead.{Numbers, is_between, at_end, Lists, info_at, shown_before, upcoming, with_begun}
 use Rattle.abt_chunks.specs.Showing.{ListsTo}
 use Rattle.abt_chunks.proofs.Listed.{ended_listing, upcoming_body, upcoming_header}
-
-pub moves_on : (q : Part) (s s' : Walk) (r m : ℕ) → Moved q r → Empties q s s' m m → s.words ≤ m → OnMoreExpanding (answer_of q) (at_end s' ≡ false → 0 < r)
-moves_on (parts.Raw n) s s' r m moved empties le = λ e. omega (arith, moved.0, moved.1)
-moves_on (parts.Words word n) s s' r m moved empties le = λ e. absurd (let a = empties le in let b : true ≡ false = sym a ∙ e in cc)
-moves_on (parts.Skip n) s s' r m moved empties le = λ e. absurd (let a = empties le in let b : true ≡ false = sym a ∙ e in cc)
-moves_on parts.Nothing s s' r m moved empties le = λ e. moved
-moves_on parts.End s s' r m moved empties le = tt
-moves_on (parts.Fault f) s s' r m moved empties le = tt
 
 lists_fault : (f : SparseFault) (s s' : Walk) (c t x : List ℕ) → c ++ t ≡ x → Lists (parts.Fault f) s s' c t → ListsTo (Err f) s s' x t
 lists_fault (faults.Read d) s s' c t x e h = tt
@@ -49,13 +40,6 @@ more_index phases.Body s s1 r b e again stands n =
     let i : s1.index ≡ s.index + 1 = n.0 ∙ ap (λ (v : Bool). if v then s.index + 1 else s.index) b in (omega arith, n.1 b)
 more_index phases.Done s s1 r b e again stands n = absurd (let q : phases.Body ≡ phases.Done = sym stands ∙ ap (λ (w : Walk). w.phase) (again tt) ∙ e in cc)
 more_index (phases.Failed f) s s1 r b e again stands n = absurd (let q : phases.Body ≡ phases.Failed f = sym stands ∙ ap (λ (w : Walk). w.phase) (again tt) ∙ e in cc)
-
--- where the image ends, or has ended before, its header stays
-pub ended_header : (p : Phase) (s s1 : Walk) → s.phase ≡ p → MayEnd p s → (s.phase ≡ phases.Body → s1.header ≡ s.header) → (IsWalkOver p → s1 ≡ s) → s1.header ≡ s.header
-ended_header phases.Header s s1 e may same again = absurd may
-ended_header phases.Body s s1 e may same again = same e
-ended_header phases.Done s s1 e may same again = ap (λ (w : Walk). w.header) (again tt)
-ended_header (phases.Failed f) s s1 e may same again = absurd may
 
 -- a chunk is shown
 pub shown_next : (s s1 s2 : Walk) (x x1 y : List ℕ) → upcoming s x ≡ with_begun s1 x1 → with_begun s1 x1 ≡ with_begun s2 y

@@ -1,23 +1,13 @@
 -- How sections are written one after another.
-use Rattle.std.proofs.Common.{◌≡◌, ℕ, zero, suc, ◌+◌, ◌-◌, ◌*◌, ◌<◌, ◌≤◌, ◌^◌, List, [], ◌∷◌, ◌++◌, length, get_or, take, drop, set, refl, sym, ap, ◌∙◌, append_assoc, arith, nat_lt, inl, inr}
+use Rattle.std.proofs.Common.{◌≡◌, ℕ, zero, suc, ◌+◌, ◌-◌, ◌*◌, ◌<◌, ◌≤◌, List, [], ◌∷◌, ◌++◌, length, take, set, refl, ap, arith, nat_lt, inl, inr}
 use Rattle.std.proofs.Math.Nat.{mul-le-mul_right, div-mul-le_self, lt-div-mul-add}
-use Rattle.std.proofs.lemmas.List.{take_more_set, drop_more}
 use Rattle.std.proofs.lemmas.Bool.{cases_Bool, ltb-true, ltb-false}
 use Rattle.std.proofs.lemmas.Grind.{div_ceil_times}
 use Rattle.std.specs.Int.{div_ceil}
 use Rattle.abt_headers.specs.declared.sections.Section.{Section}
 use Rattle.abt_headers.specs.declared.sections.SectionPlace.{SectionPlace}
 use Rattle.abt_headers.specs.Page.{pages}
-use Rattle.abt_headers.specs.Places.{section_place, places_from, EachLow}
-
-pub laid : (p k k' i : ℕ) (ps : List SectionPlace) (ss : List (Section × ℕ)) (d : Section × ℕ) → i < length ss → i < length ps → k' ≡ k + pages (get_or ss i d).1 p
-    → take (i + 1) (set ps i (record { kind = (get_or ss i d).0; at = p * k; size = (get_or ss i d).1 })) ++ places_from p k' (drop (i + 1) ss) ≡ take i ps ++ places_from p k (drop i ss)
-laid p k k' i ps ss d h l e =
-    let y : SectionPlace = record { kind = (get_or ss i d).0; at = p * k; size = (get_or ss i d).1 } in
-    ap (λ (t : List SectionPlace). t ++ places_from p k' (drop (i + 1) ss)) (take_more_set ps i y l)
-    ∙ append_assoc (take i ps) (y ∷ []) (places_from p k' (drop (i + 1) ss))
-    ∙ ap (λ (n : ℕ). take i ps ++ (y ∷ places_from p n (drop (i + 1) ss))) e
-    ∙ ap (λ (t : List (Section × ℕ)). take i ps ++ places_from p k t) (sym (drop_more ss i d h))
+use Rattle.abt_headers.specs.Places.{section_place, places_from}
 
 pub enough_pages : (n p : ℕ) → 0 < p → n ≤ pages n p * p
 enough_pages n p h = omega (arith, lt-div-mul-add {a = n + (p - 1)} {b = p} h)
@@ -37,16 +27,6 @@ one_count q r p n a b c d = elim (cases_Bool (nat_lt q r)) [ inl t ↦ absurd (a
 
 pub ceil_pages : (n p : ℕ) → 0 < p → div_ceil n p ≡ pages n p
 ceil_pages n p h = let b = div_ceil_times n p h in one_count (div_ceil n p) (pages n p) p n b.0 b.1 (enough_pages n p h) (least_pages n p h)
-
-each_more : (ps : List SectionPlace) (y : SectionPlace) → EachLow ps → y.at + y.size < 2 ^ 63 → EachLow (ps ++ (y ∷ []))
-each_more [] y h low zero q lt is = let at : q.at ≡ y.at = ap (λ (r : SectionPlace). r.at) is in let size : q.size ≡ y.size = ap (λ (r : SectionPlace). r.size) is in omega arith
-each_more [] y h low (suc i) q lt is = absurd (omega arith)
-each_more (p ∷ ps) y h low zero q lt is = h zero q (omega arith) is
-each_more (p ∷ ps) y h low (suc i) q lt is = each_more ps y (λ j r m e. h (suc j) r (omega arith) e) low i q (omega arith) is
-
--- nor is that of a section after few pages
-pub near : (page k size : ℕ) → page ≤ 131072 → k ≤ 10485767 → size < 2 ^ 32 → page * k + size < 2 ^ 63
-near page k size h l s = let m : page * k ≤ 131072 * k = mul-le-mul_right k h in omega arith
 
 -- the places of the first sections are the first places
 pub first_places : (p k : ℕ) (ss rest : List (Section × ℕ)) → take (length ss) (places_from p k (ss ++ rest)) ≡ places_from p k ss

@@ -17,11 +17,6 @@ pub as_front_of : (w0 w' l : List ℕ) (k n : ℕ) → w' ≡ w0 ++ take k l →
 as_front_of w0 w' l k n e long le =
     e ∙ ap (λ (x : List ℕ). w0 ++ x) (sym (take-take k n l le)) ∙ ap (λ (j : ℕ). w0 ++ take j (take n l)) (sym long)
 
--- a part of a window whose beginning is zeros
-pub zeros_part : (bytes part : List ℕ) (front ask : ℕ) → take front bytes ≡ replicate front 0 → part ≡ take ask bytes → ask ≤ front → part ≡ replicate ask 0
-zeros_part bytes part front ask laid e le =
-    e ∙ sym (take-take ask front bytes le) ∙ ap (λ (l : List ℕ). take ask l) laid ∙ take-replicate ask front 0 le
-
 pub zeros_more : (w0 w w' part : List ℕ) (at ask : ℕ) → w ≡ w0 ++ replicate at 0 → w' ≡ w ++ part → part ≡ replicate ask 0 → w' ≡ w0 ++ replicate (at + ask) 0
 zeros_more w0 w w' part at ask before e same =
     e ∙ ap (λ (l : List ℕ). w ++ l) same ∙ ap (λ (l : List ℕ). l ++ replicate ask 0) before
@@ -35,10 +30,6 @@ zeros_stay w0 w w' at n before e room long =
     let here : length w' - length w0 ≡ at = omega (arith, ap length same) in
     same ∙ before ∙ ap (λ (l : List ℕ). w0 ++ l) (sym (take-replicate at n 0 room))
     ∙ ap (λ (j : ℕ). w0 ++ take j (replicate n 0)) (sym here)
-
--- the part of a window is all zeros
-pub zeros_all : (part : List ℕ) (front : ℕ) → part ≡ replicate front 0 → length part ≡ front → part ≡ replicate (length part) 0
-zeros_all part front e long = e ∙ ap (λ (k : ℕ). replicate k 0) (sym long)
 
 -- what was written stays, one part after another
 pub grown_more : (w0 w1 w2 : List ℕ) → take (length w0) w1 ≡ w0 → take (length w1) w2 ≡ w1 → length w0 ≤ length w1 → take (length w0) w2 ≡ w0

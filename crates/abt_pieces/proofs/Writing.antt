@@ -13,7 +13,7 @@ use Rattle.abt_runs.specs.Part.{AllOf, IsRaw, raw_of}
 use Rattle.abt_runs.specs.declared.part.RunKind.{RunKind}
 use Rattle.abt_runs.specs.declared.part.RunKind.TheVariants as kinds
 use Rattle.abt_pieces.specs.Plan.{between}
-use Rattle.abt_pieces.specs.Contents.{head_len, copy_len}
+use Rattle.abt_pieces.specs.Contents.{head_len}
 use Rattle.abt_pieces.specs.Gather.{frame}
 use Rattle.abt_pieces.specs.Write.{front_bytes, chunk_len}
 
@@ -91,12 +91,6 @@ front_long b kinds.End (x ∷ g) n t h some good = refl
 front_long b (kinds.Fill w) (Fill v ∷ g) n t h some good = let e : v ≡ w = (let f : Fill v ≡ Fill w = cc in cc) in let four : length w ≡ 4 = rw e at good.0 in omega (arith, four, length-append (chunk_record (record { kind = chunks.Fill; blocks = n; total = t }) 0) w)
 front_long b (kinds.Fill w) (Raw v ∷ g) n t h some good = absurd (let e : Raw v ≡ Fill w = cc in cc)
 front_long b (kinds.Fill w) (Skip ∷ g) n t h some good = absurd (let e : Skip ≡ Fill w = cc in cc)
-
-pub data_long : (b : ℕ) (k : RunKind) (g : List Block) → AllOf k g → AreBlocks b g → length (run_data k g) ≡ copy_len k (length g) b
-data_long b kinds.Raw g h good = length_raw b g h good
-data_long b (kinds.Fill w) g h good = refl
-data_long b kinds.Skip g h good = refl
-data_long b kinds.End g h good = refl
 
 -- ---- the bytes of a raw run, part by part
 

@@ -1,6 +1,6 @@
 -- The numbers of a part that is taken, or of which a write fails.
-use Rattle.std.proofs.Common.{◌≡◌, ℕ, ◌+◌, ◌*◌, ◌<◌, ◌≤◌, true, false, List, length, refl, ap, arith, mul-le-mul_right}
-use Rattle.std.proofs.Common.{Bool, Result, Err, ◌^◌, if◌then◌else◌}
+use Rattle.std.proofs.Common.{◌≡◌, ℕ, ◌+◌, ◌*◌, ◌<◌, ◌≤◌, true, false, List, length, refl, ap, arith}
+use Rattle.std.proofs.Common.{Bool, Result, Err, if◌then◌else◌}
 use Rattle.abt_io.specs.Count.{full_in, full_of}
 use Rattle.abt_io.specs.declared.device.DeviceFault.{DeviceFault}
 use Rattle.abt_io.specs.declared.device.DeviceFault.TheVariants.{Failed, Full}
@@ -43,9 +43,6 @@ pub part_passed : (b long q : ℕ) (s s' : Placer) (k : RunKind) → SoundPlacer
 part_passed b long q s s' k h e = rw e (passed_as (goes_on_with s k) s k q h.chunks h.none h.some)
 
 -- ---- the open chunk is made whole
-
-pub raw_fits : (q most b : ℕ) → q ≤ most → 12 + most * b < 2 ^ 32 → 12 + q * b < 2 ^ 32
-raw_fits q most b le small = let m : q * b ≤ most * b = mul-le-mul_right b le in omega (arith, m, small)
 
 -- a fault says at most once that the device is full
 pub full_once : (f : DeviceFault) → full_in f ≤ 1

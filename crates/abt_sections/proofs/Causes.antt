@@ -1,15 +1,12 @@
 -- A cause that is handed on: counts of faults never fall.
-use Rattle.std.proofs.Common.{◌≡◌, ℕ, ◌≤◌, ◌<◌, ◌+◌, List, length, get_or, set, arith, refl, sym, subst}
+use Rattle.std.proofs.Common.{◌≡◌, ℕ, ◌≤◌, ◌<◌, ◌+◌, List, length, get_or, set, arith, sym, subst}
 use Rattle.std.proofs.Common.{Option, None, Result, Ok, Err}
 use Rattle.std.specs.Prelude.{OnOk, OnErr, IfErr}
 use Rattle.std.proofs.lemmas.List.Sums.{sum_by-set}
 use Rattle.abt_sections.specs.declared.fault.SectionFault.{SectionFault}
 use Rattle.abt_sections.specs.declared.fault.SectionFault.TheVariants.{Read, Write, SourceChanged}
-use Rattle.abt_io.specs.Cause.{CopyCause, full_in_copy}
-use Rattle.abt_io.specs.declared.copying.CopyFault.{CopyFault}
 use Rattle.abt_io.specs.declared.copying.CopyFault.TheVariants as copies
-use Rattle.abt_sections.specs.Cause.{MoveCause, ReadCause, OpenCause, PackCause, copy_fault, full_in_section_fault, total}
-use Rattle.abt_sections.specs.Header.{Header as OfHeader}
+use Rattle.abt_sections.specs.Cause.{MoveCause, ReadCause, OpenCause, PackCause, total}
 use Rattle.abt_sections.specs.Open.{EntryRefusedAs}
 
 pub move_on : (e : SectionFault) (r0 r r' r1 w0 w w' w1 : ℕ) (C D : Type 0) → r0 ≤ r → r' ≤ r1 → w0 ≤ w → w' ≤ w1
@@ -23,18 +20,6 @@ pub read_on : (e : SectionFault) (r0 r r' r1 : ℕ) (C D : Type 0) → r0 ≤ r 
     → ReadCause e r0 r1 D
 read_on e r0 r r' r1 C D a b h x = let z : 0 ≤ 0 = omega arith in move_on e r0 r r' r1 0 0 0 0 C D a b z z h x
 
--- of a copy
-pub copy_moves : (e : CopyFault) (r r' w w' : ℕ) (C D : Type 0) → (C → D) → CopyCause e C r r' w w'
-    → MoveCause (copy_fault e) r r' w w' D
-copy_moves (copies.Read f) r r' w w' C D h x = x
-copy_moves (copies.Write f) r r' w w' C D h x = x
-copy_moves copies.Changed r r' w w' C D h x = h x
-
-pub copy_full : (e : CopyFault) → full_in_section_fault (copy_fault e) ≡ full_in_copy e
-copy_full (copies.Read f) = refl
-copy_full (copies.Write f) = refl
-copy_full copies.Changed = refl
-
 -- one of several that were borrowed in turn, at index i
 pub part_move : {S : Type 0} (f : S → ℕ) (ps : List S) (i t w0 w w' w1 : ℕ) (d s' : S) (e : SectionFault)
     (C D : Type 0) → i < length ps → t ≤ total f ps → w0 ≤ w → w' ≤ w1 → (C → D)
@@ -43,12 +28,6 @@ part_move f ps i t w0 w w' w1 d s' (Read k) C D a b l m h x = omega (arith, sum_
 part_move f ps i t w0 w w' w1 d s' (Write k) C D a b l m h x = omega arith
 part_move f ps i t w0 w w' w1 d s' SourceChanged C D a b l m h x = h x
 part_move f ps i t w0 w w' w1 d s' e C D a b l m h x = absurd x
-
-pub part_read : {S : Type 0} (f : S → ℕ) (ps : List S) (i t : ℕ) (d s' : S) (e : SectionFault) (C D : Type 0)
-    → i < length ps → t ≤ total f ps → (C → D) → ReadCause e (f (get_or ps i d)) (f s') C
-    → ReadCause e t (total f (set ps i s')) D
-part_read f ps i t d s' e C D a b h x =
-    let z : 0 ≤ 0 = omega arith in part_move f ps i t 0 0 0 0 d s' e C D a b z z h x
 
 -- of opening
 pub read_opens : (e : SectionFault) (r0 r r' r1 : ℕ) (C D : Type 0) → r0 ≤ r → r' ≤ r1 → (C → D) → ReadCause e r r' C

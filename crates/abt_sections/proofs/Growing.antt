@@ -1,11 +1,10 @@
 -- What an output was given, write after write.
 use Rattle.std.proofs.Common.{◌≡◌, ℕ, ◌+◌, ◌-◌, ◌≤◌, List, ◌++◌, length, take, refl, sym, ap, ◌∙◌, append_assoc, arith}
 use Rattle.std.proofs.Common.{length-append, length-take, drop, take-append-drop}
-use Rattle.std.proofs.lemmas.List.{take-append-le, take_all, take_at, drop_at}
+use Rattle.std.proofs.lemmas.List.{take-append-le, take_at, drop_at}
 use Rattle.std.proofs.Math.Seq.{take-append-add}
 use Rattle.abt_io.proofs.Parts.{take_plus}
 use Rattle.abt_sections.specs.Grown.{AppendsFront, Grows}
-use Rattle.abt_sections.specs.Layout.{padded, zeros_behind}
 
 -- more could have come
 pub begins_stop : (a b x y : List ℕ) → AppendsFront a b x → AppendsFront a b (x ++ y)
@@ -52,10 +51,6 @@ grows_on a b c first then le =
     ∙ take-append-le (length a) b (drop (length b) c) le
     ∙ first
 
--- what was given is more
-pub grows_by : (a b x : List ℕ) → b ≡ a ++ x → Grows a b
-grows_by a b x e = ap (take (length a)) e ∙ take_at a x (length a) refl
-
 -- one part more of what a source has
 pub written_next : (a b c s s' : List ℕ) (at n : ℕ) → s' ≡ s → b ≡ a ++ take at s → c ≡ b ++ take n (drop at s')
     → c ≡ a ++ take (at + n) s
@@ -63,11 +58,3 @@ written_next a b c s s' at n same first then =
     then_all a b c (take at s) (take n (drop at s')) first then
     ∙ ap (λ (l : List ℕ). a ++ (take at s ++ take n (drop at l))) same
     ∙ ap (λ (l : List ℕ). a ++ l) (take_plus at n s)
-
--- all of a source that has n bytes, and zeros after n bytes
-pub padded_whole : (a b c s : List ℕ) (n page : ℕ) → n ≡ length s → b ≡ a ++ take n s → c ≡ b ++ zeros_behind n page
-    → c ≡ a ++ padded page s
-padded_whole a b c s n page long first then =
-    then_all a b c (take n s) (zeros_behind n page) first then
-    ∙ ap (λ (l : List ℕ). a ++ (l ++ zeros_behind n page)) (take_all n s (omega arith))
-    ∙ ap (λ (k : ℕ). a ++ (s ++ zeros_behind k page)) long

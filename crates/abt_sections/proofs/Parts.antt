@@ -1,7 +1,7 @@
 -- Devices that are borrowed one after another, out of a slice.
-use Rattle.std.proofs.Common.{◌≡◌, ℕ, zero, suc, ◌+◌, ◌<◌, ◌≤◌, List, [], ◌∷◌, ◌++◌, length, take, map, get_or, set}
-use Rattle.std.proofs.Common.{refl, sym, ap, ◌∙◌, arith, replicate, ◌-◌, Result, Ok, Err}
-use Rattle.std.proofs.lemmas.List.{length-map, map-set, set-get_or, take_all, take_more, take_more_set, get_or_default}
+use Rattle.std.proofs.Common.{◌≡◌, ℕ, zero, suc, ◌+◌, ◌<◌, List, [], ◌∷◌, ◌++◌, length, take, map, get_or, set}
+use Rattle.std.proofs.Common.{refl, sym, ap, ◌∙◌, arith, replicate, ◌-◌, Result, Ok}
+use Rattle.std.proofs.lemmas.List.{length-map, map-set, set-get_or, take_more, take_more_set, get_or_default}
 use Rattle.std.proofs.lemmas.List.{get_or_append_left}
 use Rattle.std.proofs.lemmas.List.Sums.{sum_by-set}
 use Rattle.abt_io.specs.Lent.{OnlyReads, OnlyReadsAll}
@@ -59,12 +59,6 @@ sizes_next f ps i s' sizes h k before here =
     ∙ ap (λ (n : ℕ). take i sizes ++ (n ∷ [])) here
     ∙ sym (take_more sizes i 0 k)
 
--- and of all of them
-pub sizes_all : {S : Type 0} (f : S → ℕ) (ps : List S) (sizes : List ℕ) (i n : ℕ) → length ps ≤ i → i ≡ n
-    → take i (map f ps) ≡ take i sizes → map f ps ≡ take n sizes
-sizes_all f ps sizes i n over is before =
-    sym (take_all i (map f ps) (omega (arith, over, length-map ps f))) ∙ before ∙ ap (λ (k : ℕ). take k sizes) is
-
 -- one of them was read, after all of them were
 pub all_part : {X Y E F : Type 0} {y : Y} {r : Result X E} {A : Type 0} (s : sources.Ghosts A) (ps0 ps : List A)
     (i : ℕ) (d a : A) → i < length ps → OnlyReadsAll {E = F} (Ok y) s ps0 ps → OnlyReads r s (get_or ps i d) a
@@ -78,8 +72,3 @@ all_part {r = r} s ps0 ps i d a within k e =
       faults = omega (arith, k.faults, risen, e.faults);
       clean = on_ok_then r (λ same. omega (arith, k.clean, risen, same)) e.clean;
     }
-
--- what was refused stays so, whatever is returned
-pub all_err : {X Y E F : Type 0} {e : E} (f : F) {A : Type 0} {s : sources.Ghosts A} {a z : List A}
-    → OnlyReadsAll {X = X} (Err e) s a z → OnlyReadsAll {X = Y} (Err f) s a z
-all_err f k = record { content = k.content; size = k.size; frame = k.frame; faults = k.faults; clean = tt }

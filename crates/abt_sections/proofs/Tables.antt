@@ -1,6 +1,6 @@
 -- Sections that are there, and what is stored in them.
 use Rattle.std.proofs.Common.{◌≡◌, ℕ, zero, suc, ◌+◌, ◌*◌, ◌≤◌, ◌<◌, Bool, true, false, cond, List, [], ◌∷◌, length, get_or, refl, sym, ap, ◌∙◌, arith, Option, Some, None, nat_lt, ◌&&◌, ◌-◌, take, drop, drop-drop}
-use Rattle.std.proofs.lemmas.List.{take-take, drop-take, get_or_default}
+use Rattle.std.proofs.lemmas.List.{take-take, drop-take}
 use Rattle.std.proofs.lemmas.Bool.{ltb-false, lt-ltb}
 use Rattle.abt_headers.specs.declared.sections.SectionPlace.{SectionPlace}
 use Rattle.abt_headers.specs.declared.sections.Section.{Section}
@@ -70,10 +70,6 @@ part_within x at r o n h =
     let e : r ≡ o + (r - o) = omega arith in
     let k : n ≤ r - o = omega arith in
     sym (ap (λ (m : ℕ). take n (drop o (take m (drop at x)))) e ∙ ap (take n) (drop-take o (r - o) (drop at x)) ∙ take-take n (r - o) (drop o (drop at x)) k ∙ ap (take n) (drop-drop o at x))
-
--- the section at a place of the list is one
-pub same_place : (ps : List SectionPlace) (i : ℕ) (p q : SectionPlace) → i < length ps → p ≡ get_or ps i p → q ≡ get_or ps i q → p ≡ q
-same_place ps i p q lt a b = a ∙ get_or_default ps i p q lt ∙ sym b
 
 -- the fragment that an entry says
 pub fragment_is : (x x' : List ℕ) (h : Header) (i at : ℕ) (e : RamdiskEntry) → x' ≡ x → at ≡ ramdisk_at h + e.ramdisk_offset → e ≡ entry_of x h i → take e.ramdisk_size (drop at x') ≡ fragment_of x h i

@@ -1,5 +1,5 @@
 -- An image whose sections are there, by its parts and by what reading finds.
-use Rattle.std.proofs.Common.{◌≡◌, ℕ, suc, ◌+◌, ◌-◌, ◌*◌, ◌≤◌, ◌<◌, Bool, false, cond, inl, inr, List, [], ◌∷◌, ◌++◌, length, drop, refl, sym, ap, subst, ◌∙◌, arith, length-take, length-drop, take-append-drop, nat_lt, Option, Some, None, Result, Ok, Err}
+use Rattle.std.proofs.Common.{◌≡◌, ℕ, suc, ◌+◌, ◌-◌, ◌*◌, ◌≤◌, ◌<◌, Bool, false, cond, inl, inr, List, [], ◌∷◌, ◌++◌, length, drop, refl, sym, ap, ◌∙◌, arith, length-take, length-drop, take-append-drop, nat_lt, Option, Some, None, Result, Ok}
 use Rattle.std.specs.Prelude.{◌↔◌}
 use Rattle.std.proofs.lemmas.Bool.{and_left, and_right, le-ltb, cases_lt}
 use Rattle.abt_headers.specs.declared.fault.HeaderFault.{HeaderFault}
@@ -10,12 +10,11 @@ use Rattle.abt_headers.specs.Page.{pages}
 use Rattle.abt_headers.specs.Places.{places_from}
 use Rattle.abt_headers.specs.Vendor.{Tail}
 use Rattle.abt_headers.proofs.Fields.{IsBytes}
-use Rattle.abt_sections.specs.declared.fault.SectionFault.{SectionFault}
 use Rattle.abt_sections.specs.declared.fault.SectionFault.TheVariants as faults
 use Rattle.abt_sections.specs.Header.{Header, OfBoot, OfVendor, image_header_at, places_of, sections_of, page_of, size_of, entry_of, IsWithin, EachWithin}
 use Rattle.abt_sections.specs.Layout.{PartsPlaced, part_of, parts_of}
 use Rattle.abt_sections.specs.Check.{sizes_before, FragmentsFill, EndToEnd, IsCanonical}
-use Rattle.abt_sections.specs.Open.{beyond, ends_beyond, HasImage, IsWholeImage, IsTruncated, HasBadEntry, RefusedAs, IsReadFault}
+use Rattle.abt_sections.specs.Open.{beyond, ends_beyond, HasImage, IsWholeImage}
 use Rattle.abt_sections.proofs.Decoding.{decoded, header_again}
 use Rattle.abt_sections.proofs.Digests.{there_length}
 use Rattle.abt_sections.proofs.FragmentLists.{before_sum}
@@ -102,37 +101,3 @@ whole_to x h w =
 
 pub whole_iff : (x : List ℕ) (h : Header) → IsBytes x → (HasImage x h ↔ IsWholeImage x h)
 whole_iff x h k = (whole_from x h k, whole_to x h)
-
--- ---- what is refused is no image
-
-no_header : (x : List ℕ) (f : HeaderFault) (h : Header) → image_header_at x ≡ Err f → image_header_at x ≡ Ok h → ⊥
-no_header x f h a b = absurd (ok_err h f (sym b ∙ a))
-  where
-    ok_err : (h : Header) (f : HeaderFault) → ok_of h ≡ Err f → ⊥
-    ok_err h f e = absurd cc
-
-no_section : (s : Section) (o : Option Section) → o ≡ Some s → o ≡ None → ⊥
-no_section s (Some t) a b = absurd cc
-no_section s None a b = absurd cc
-
-not_whole : (x : List ℕ) (g h : Header) (s : Section) → IsTruncated x g s → HasImage x h → ⊥
-not_whole x g h s t has =
-    let same = ok_same g h (sym t.header ∙ has.header) in
-    no_section s (beyond (places_of g) (length x)) t.truncated (ap (λ (f : Header). beyond (places_of f) (length x)) same ∙ has.there)
-
-not_within : (x : List ℕ) (g h : Header) (i : ℕ) → HasBadEntry x g i → HasImage x h → ⊥
-not_within x g h i b has =
-    let same = ok_same g h (sym b.header ∙ has.header) in
-    let each : EachWithin x g = subst (λ (f : Header). EachWithin x f) (sym same) has.within in
-    b.first.outside (each i b.first.there)
-
-pub refused_not : (x : List ℕ) (f : SectionFault) (h : Header) → RefusedAs x f → HasImage x h → IsReadFault f
-refused_not x (faults.Read f) h r has = tt
-refused_not x (faults.Write f) h r has = absurd r
-refused_not x faults.SourceChanged h r has = absurd r
-refused_not x (faults.Header f) h r has = no_header x f h r has.header
-refused_not x (faults.Entry i) h r has = not_within x r.0 h i r.1 has
-refused_not x faults.Name h r has = absurd r
-refused_not x faults.CommandLine h r has = absurd r
-refused_not x (faults.SectionTruncated s) h r has = not_whole x r.0 h s r.1 has
-refused_not x (faults.SectionTooLarge s) h r has = absurd r

@@ -92,17 +92,6 @@ sums b gs = sum_by (run_weight b) gs
 sums-cons : (b : ℕ) (g : List Block) (gs : List (List Block)) → sums b (g ∷ gs) ≡ run_weight b g + sums b gs
 sums-cons b g gs = sum_by-cons (run_weight b) g gs
 
-total_is : (b : ℕ) (l : List Block) → sums b (runs l) ≡ total b l
-total_is b [] = refl
-total_is b (y ∷ []) = omega (arith, sums-cons b (y ∷ []) [])
-total_is b (y ∷ z ∷ l) =
-    let v = runs_head z l in
-    let ih : sums b ((z ∷ v.0) ∷ v.1) ≡ total b (z ∷ l) = rw v.2 at (total_is b (z ∷ l)) in
-    elim (cases_Bool (alike y z)) [
-      | inl e ↦ rw (grouped-alike y z v.0 v.1 (runs (z ∷ l)) v.2 e, e) (omega (arith, sums-cons b (y ∷ z ∷ v.0) v.1, sums-cons b (z ∷ v.0) v.1, grow_one b y z v.0 e, ih))
-      | inr e ↦ rw (grouped-apart y z v.0 v.1 (runs (z ∷ l)) v.2 e, e) (omega (arith, sums-cons b (y ∷ []) ((z ∷ v.0) ∷ v.1), ih))
-    ]
-
 grow_last : (b : ℕ) (y z : Block) (g : List Block) (gs : List (List Block)) → alike y z ≡ true → sums b (without_last ((y ∷ z ∷ g) ∷ gs)) ≡ more b y + sums b (without_last ((z ∷ g) ∷ gs))
 grow_last b y z g [] e = elim (cases_Bool (begins_skip (z ∷ g))) [
   | inl s ↦ let t = same_edge y z g e ∙ s in rw (s, t, skip_is y (z ∷ g) t) refl

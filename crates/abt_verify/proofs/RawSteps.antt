@@ -1,11 +1,11 @@
 -- A raw image: what stands so far, and the next bytes of it.
-use Rattle.std.proofs.Common.{◌≡◌, ℕ, ◌+◌, ◌≤◌, Bool, true, false, refl, if◌then◌else◌, List, ◌++◌, length, take, drop, Option, Some, None, Err, sym, ap, subst, ◌∙◌, arith, take-append-drop, ◌==◌, nat_lt, ltb-false, inl, inr}
-use Rattle.std.specs.Prelude.{OnOk, IfNone, IsNone, IsTrue}
+use Rattle.std.proofs.Common.{◌≡◌, ℕ, ◌+◌, ◌≤◌, Bool, false, List, ◌++◌, length, take, drop, Option, Some, None, Err, sym, ap, subst, ◌∙◌, arith, take-append-drop, ◌==◌, nat_lt, ltb-false, inl, inr}
+use Rattle.std.specs.Prelude.{OnOk, IfNone}
 use Rattle.std.proofs.lemmas.List.{length-map, length-take-le, map-append, take_all}
 use Rattle.std.proofs.lemmas.Bool.{cases_Bool}
 use Rattle.abt_io.specs.declared.device.DeviceFault.{DeviceFault}
 use Rattle.abt_chunks.specs.Places.{from_place}
-use Rattle.abt_verify.specs.Fault.{HasRawCause, short_fault}
+use Rattle.abt_verify.specs.Fault.{short_fault}
 use Rattle.abt_io.proofs.Parts.{take_plus}
 use Rattle.abt_chunks.specs.declared.progress.MachineProgress.{MachineProgress}
 use Rattle.abt_chunks.specs.Ahead.{somes}
@@ -65,17 +65,3 @@ all_came None came wanted e = elim (cases_Bool (nat_lt came wanted)) [
   | inl t ↦ absurd (let z : (let a : Option VerifyFault = None in let b : Option VerifyFault = Some fails.SourceChanged in a ≡ b) = rw t at e in cc)
   | inr t ↦ ltb-false came wanted t
 ]
-
--- ---- refusals
-
-not_telling : (b : Bool) → (IsTrue b → ⊥) → b ≡ false
-not_telling true h = absurd (h refl)
-not_telling false h = refl
-
-too_few : (b : Bool) (f : VerifyFault) (models : Bool) (r r' p : ℕ) → (let a : Option VerifyFault = Some f in a ≡ (if b then Some fails.SourceChanged else None)) → (b ≡ true → models ≡ false) → r' ≡ r → HasRawCause f models r r' p p
-too_few true f models r r' p e changed same = subst (λ (g : VerifyFault). HasRawCause g models r r' p p) (let z : fails.SourceChanged ≡ f = cc in z) (changed refl, same, refl)
-too_few false f models r r' p e changed same = absurd cc
-
-pub none_failed : (o : Option DeviceFault) (came wanted : ℕ) → (let a : Option VerifyFault = None in a ≡ short_fault o came wanted) → IsNone o
-none_failed (Some d) came wanted e = absurd cc
-none_failed None came wanted e = refl

@@ -1,5 +1,5 @@
 -- One step: from a part of the image to what is compared of it.
-use Rattle.std.proofs.Common.{◌≡◌, ℕ, ◌+◌, ◌*◌, ◌<◌, ◌≤◌, Bool, true, false, List, [], ◌++◌, length, take, replicate, Option, Some, None, Ok, Err, refl, sym, ap, ◌∙◌, arith}
+use Rattle.std.proofs.Common.{◌≡◌, ℕ, ◌+◌, ◌*◌, ◌≤◌, Bool, true, false, List, [], ◌++◌, length, take, replicate, Option, Some, None, Ok, Err, refl, sym, ap, ◌∙◌, arith}
 use Rattle.std.specs.Prelude.{IsTrue}
 use Rattle.std.specs.List.{concat}
 use Rattle.std.proofs.lemmas.List.{length-map, length-replicate, length-take-le}
@@ -25,7 +25,7 @@ use Rattle.abt_verify.specs.declared.stage.VerifyStage.TheVariants as stages
 use Rattle.abt_verify.specs.Comparing.{ReadsNothing, PartDiffers, compared_len}
 use Rattle.abt_verify.specs.Fault.{PartCause, verify_fault_of}
 use Rattle.abt_verify.specs.Standing.{FirstDiffers, Stands}
-use Rattle.abt_verify.specs.Stepping.{Compares, IsComparing, LeavesWalk}
+use Rattle.abt_verify.specs.Stepping.{Compares, IsComparing}
 use Rattle.abt_verify.proofs.Said.{said_nones, said_somes, stands_none}
 
 -- ---- where the blocks end
@@ -73,25 +73,6 @@ at_fault s' t f e = ap (λ (ph : Phase). ahead_in ph s' t) e
 
 some_none : (f : VerifyFault) → (let a : Option VerifyFault = Some f in a ≡ None) → ⊥
 some_none f e = cc
-
--- ---- who is to blame
-
-read_rose : (d : DeviceFault) (ph : Phase) (r r' : ℕ) → IsGoing ph → Caused (parts.Fault (faults.Read d)) ph r r' → r < r'
-read_rose d phases.Header r r' going h = h
-read_rose d phases.Body r r' going h = h
-read_rose d phases.Done r r' going h = absurd going
-read_rose d (phases.Failed f) r r' going h = absurd going
-
--- ---- the phase that is left
-
-sparse_leaves : (f : SparseFault) (ph : Phase) → PartLeaves (parts.Fault f) ph
-    → LeavesWalk (answer_by verify_fault_of (parts.Fault f)) ph
-sparse_leaves (faults.Read d) ph h = tt
-sparse_leaves f ph h = h
-
-pub answer_leaves : (q : Part) (ph : Phase) → PartLeaves q ph → LeavesWalk (answer_by verify_fault_of q) ph
-answer_leaves (parts.Fault f) ph h = sparse_leaves f ph h
-answer_leaves q ph h = h
 
 -- ---- what a step compares
 

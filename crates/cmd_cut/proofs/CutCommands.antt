@@ -244,18 +244,6 @@ stands_more n made made' s e block st passed one_more at = elim (e_below e n) [
   }
 ]
 
-pub left_less : (n s e block : ℕ) (st st' : CutterStage) → st ≡ Between → s ≤ n → Passed n s e st' → block ≡ e
-    → left_of n block st' < left_of n s st
-left_less n s e block st st' between inside passed at = elim (e_below e n) [
-  | inl below ↦
-      let old : left_of n s st ≡ (n + 1) - s = ap (λ q. if has_more q then (n + 1) - s else 0) between in
-      let new : left_of n block st' ≡ (n + 1) - block = ap (λ q. if has_more q then (n + 1) - block else 0)
-      (passed.between below) in
-      omega (arith, old, new, passed.moves below, at, inside, below)
-  | inr past ↦
-      let old : left_of n s st ≡ (n + 1) - s = ap (λ q. if has_more q then (n + 1) - s else 0) between in
-      let new : left_of n block st' ≡ 0 = ap (λ q. if has_more q then (n + 1) - block else 0) (passed.done past) in
-      omega (arith, old, new, inside)
 ]
 
 -- a piece of a prefix of fewer than 2^32 blocks may be counted

@@ -1,8 +1,7 @@
 -- No part of a piece is left, and no piece has the image's own file.
-use Rattle.std.proofs.Common.{inl, inr, arith, ◌⊎◌, ◌+◌, ◌≡◌, ℕ, ◌<◌, List, length, Some, None, Bool, false}
+use Rattle.std.proofs.Common.{inl, inr, arith, ◌⊎◌, ◌+◌, ◌≡◌, ℕ, ◌<◌, List, length, Some, None, Bool}
 use Rattle.std.proofs.Common.{sym, ◌∙◌, ap, subst, below_more}
-use Rattle.std.specs.Prelude.{Option, is_some, unwrap_or, Contains, OnErr, Result, Ok, Err}
-use Rattle.std.proofs.lemmas.Bool.{cases_lt, false≢true}
+use Rattle.std.specs.Prelude.{Option, unwrap_or, Contains, OnErr, Result, Ok, Err}
 use Rattle.std.proofs.lemmas.List.Elements.{Contains-push}
 use Rattle.abt_pieces.specs.Turn.{HasAt}
 use Rattle.abt_sparse.specs.Block.{Block}
@@ -115,33 +114,12 @@ no_part_between over names ps a a1 b c first last leaves =
 pub none_failed : (h : OpenFiles) → failing 0 h ≡ h
 none_failed h = ap (λ (n : ℕ). record h { failed = n }) (omega arith)
 
-pub free_none : (names : Naming) (held : OpenFiles) (w : World) → AreFreeInTurn names 0 held w
-free_none names held w = λ j below. absurd (omega (arith, below))
-
 pub free_more : (names : Naming) (n : ℕ) (path : List ℕ) (held : OpenFiles) (w : World)
     → path ≡ path_in_turn names (n + 1) → AreFreeInTurn names n held w → IsFree path held w
     → AreFreeInTurn names (n + 1) held w
 free_more names n path held w is_path all free =
     below_more (λ j. AreThere names j w → IsFree (path_in_turn names (j + 1)) held w) n all
     (λ there. subst (λ p. IsFree p held w) is_path free)
-
--- no file has the name of the next piece
-pub free_end : (names : Naming) (n m : ℕ) (path : List ℕ) (held : OpenFiles) (w : World)
-    → path ≡ path_in_turn names (n + 1) → AreFreeInTurn names n held w → is_some (w.at path) ≡ false
-    → AreFreeInTurn names m held w
-free_end names n m path held w is_path all none = λ j below there file at.
-    let gone : is_some (w.at (path_in_turn names (n + 1))) ≡ false
-    = subst (λ p. is_some (w.at p) ≡ false) is_path none in
-    elim (cases_lt j n) [
-      | inl before ↦ all j before there file at
-      | inr up ↦ elim (cases_lt n j) [
-        | inl after ↦ absurd (false≢true (sym gone ∙ there n after))
-        | inr down ↦
-            let same : j ≡ n = omega (arith, up, down) in
-            absurd (false≢true (sym gone ∙ ap (λ (k : ℕ). is_some (w.at (path_in_turn names (k + 1)))) (sym same)
-            ∙ ap is_some at))
-      ]
-    ]
 
 -- ---- the image, and the file that holds it
 

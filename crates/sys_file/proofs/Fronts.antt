@@ -1,7 +1,7 @@
 -- What stands at the front of a file, and what is written behind it or over it.
-use Rattle.std.proofs.Common.{◌≡◌, ℕ, zero, suc, ◌+◌, ◌-◌, ◌≤◌, List, [], ◌∷◌, ◌++◌, length, take, drop, replicate}
+use Rattle.std.proofs.Common.{◌≡◌, ℕ, zero, suc, ◌+◌, ◌-◌, ◌≤◌, List, [], ◌∷◌, ◌++◌, length, take, drop}
 use Rattle.std.proofs.Common.{max, refl, sym, ◌∙◌, ap, arith, append_assoc, length-append, length-drop}
-use Rattle.std.proofs.lemmas.List.{length-take-le, take_all, take_at, take-take, length-replicate}
+use Rattle.std.proofs.lemmas.List.{length-take-le, take_all, take_at, take-take}
 use Rattle.std.proofs.Math.ListN.{length-take}
 use Rattle.abt_io.proofs.Overs.{slice_put, length_put}
 use Rattle.abt_io.specs.Moment.{put_at}
@@ -13,9 +13,6 @@ front_within s c h = omega (arith, ap length h, length-take (length s) c)
 
 pub begins_self : (s : List ℕ) → Begins s s
 begins_self s = take_all (length s) s (omega arith)
-
-pub begins_append : (s x : List ℕ) → Begins s (s ++ x)
-begins_append s x = take_at s x (length s) refl
 
 pub begins_then : (a b c : List ℕ) → Begins a b → Begins b c → Begins a c
 begins_then a b c h k =
@@ -32,12 +29,6 @@ begins_take (suc n) (x ∷ c) = ap (λ (l : List ℕ). x ∷ l) (begins_take n c
 pub front_stays : (s c c' : List ℕ) (at : ℕ) → Begins s c → length s ≤ at → Begins (take at c) c' → Begins s c'
 front_stays s c c' at h le k =
     begins_then s (take at c) c' (take-take (length s) at c le ∙ h) k
-
--- where all of a front is written over, or bytes behind it
-pub front_grows : (s c c' x : List ℕ) → Begins s c → c' ≡ put_at c (length s) x → Begins (s ++ x) c'
-front_grows s c c' x h e =
-    ap (take (length (s ++ x))) (e ∙ ap (λ (l : List ℕ). l ++ x ++ drop (length s + length x) c) h)
-    ∙ take_at (s ++ x) (drop (length s + length x) c) (length (s ++ x)) refl
 
 pub front_over : (s c c' x : List ℕ) (at : ℕ) → Begins s c → c' ≡ put_at c at x → at + length x ≤ length s
     → Begins (put_at s at x) c'
@@ -67,18 +58,6 @@ put_changes c c' x at le e = record {
   long = omega (arith, ap length e, long_put c x at le);
 }
 
--- all of a file, where nothing stands behind the front
-pub exactly : (s c : List ℕ) → Begins s c → length c ≤ length s → c ≡ s
-exactly s c h le = sym (take_all (length s) c le) ∙ h
-
--- how long a file is that was cut off or made longer
-pub long_set : (c c' : List ℕ) (n : ℕ) → c' ≡ take n c ++ replicate (n - length c) 0 → length c' ≡ n
-long_set c c' n e = omega (
-  arith,
-  ap length e,
-  length-append (take n c) (replicate (n - length c) 0),
-  length-take n c,
-  length-replicate {A = ℕ} (n - length c) 0,
 )
 
 -- one change after the other

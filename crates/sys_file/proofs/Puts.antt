@@ -7,13 +7,6 @@ use Rattle.std.proofs.Math.ListN.{drop_of_length-le}
 use Rattle.abt_io.proofs.Parts.{take_plus}
 use Rattle.abt_io.specs.Moment.{put_at}
 
--- a write behind all that stands
-pub put_end : (c x : List ℕ) (at : ℕ) → length c ≡ at → put_at c at x ≡ c ++ x
-put_end c x at long =
-    ap (λ (l : List ℕ). take at c ++ x ++ l) (drop_of_length-le c {i = at + length x} (omega (arith, long)))
-    ∙ append-nil (take at c ++ x)
-    ∙ ap (λ (l : List ℕ). l ++ x) (take_all at c (omega (arith, long)))
-
 -- a write that goes on where the last one ended
 pub put_then : (c x y : List ℕ) (at : ℕ) → at ≤ length c → put_at (put_at c at x) (at + length x) y
     ≡ put_at c at (x ++ y)

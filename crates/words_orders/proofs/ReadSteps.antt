@@ -19,17 +19,6 @@ use Rattle.words_orders.specs.Words.{said_words, saying_of}
 use Rattle.words_orders.specs.Words.{words_due, words_of_row}
 use Rattle.words_orders.specs.declared.saying.Said.{Said}
 
--- an element of a list is added as what stands for it; the others follow
-pub added_more : {X Y Z : Type 0} (f : X → Z) (g : Y → Z) (xs new : List X) (ys : List Y) (i : ℕ) (d : Y) (x : X)
-    → i < length ys → new ≡ xs ++ (x ∷ []) → f x ≡ g (get_or ys i d)
-    → map f new ++ map g (drop (i + 1) ys) ≡ map f xs ++ map g (drop i ys)
-added_more f g xs new ys i d x below is same =
-    ap (λ l. map f l ++ map g (drop (i + 1) ys)) is
-    ∙ ap (λ l. l ++ map g (drop (i + 1) ys)) (map-append f xs (x ∷ []))
-    ∙ append_assoc (map f xs) (f x ∷ []) (map g (drop (i + 1) ys))
-    ∙ ap (λ z. map f xs ++ (z ∷ map g (drop (i + 1) ys))) same
-    ∙ ap (λ l. map f xs ++ map g l) (sym (drop_more ys i d below))
-
 -- the same where another stands for each of these
 pub added_more_of : {X Y W Z : Type 0} (f : X → Z) (g : W → Z) (h : Y → W) (xs new : List X) (ys : List Y) (i : ℕ)
     (d : Y) (x : X) → i < length ys → new ≡ xs ++ (x ∷ []) → f x ≡ g (h (get_or ys i d))

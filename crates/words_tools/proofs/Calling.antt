@@ -1,5 +1,5 @@
 -- The tool whose name ends a path, and words that call none.
-use Rattle.std.proofs.Common.{arith, ◌≡◌, ◌≢◌, ◌<◌, ◌∙◌, ℕ, List, [], ◌∷◌, ◌++◌, inl, inr, sym, ap, subst, drop, get_or}
+use Rattle.std.proofs.Common.{arith, ◌≡◌, ◌≢◌, ◌<◌, ◌∙◌, ℕ, List, [], ◌∷◌, ◌++◌, inl, inr, sym, ap, subst, get_or}
 use Rattle.std.proofs.Common.{append_assoc, ⊎_elim}
 use Rattle.std.specs.Prelude.{◌↔◌}
 use Rattle.std.proofs.lemmas.List.{append_cancel_right}
@@ -28,22 +28,12 @@ other_end name path not last =
 
 -- ---- words that call no tool
 
-pub behind_is : (words own other : List (List ℕ)) → IsBehindAs words own → IsBehindAs words other → own ≡ other
-behind_is words own other a b = ap (drop 2) (sym a.1 ∙ b.1)
-
 pub not_behind : (words : List (List ℕ)) → CallsNone (get_or words 0 [])
     → ((own : List (List ℕ)) → IsBehindAs words own → ⊥) → (tool : Tool) (own : List (List ℕ))
     → IsCalled words tool own → ⊥
 not_behind words none not tool own called =
     ⊎_elim (λ same. none tool (subst (λ l. IsLastPart (tool_name tool) (get_or l 0 [])) same called.name))
     (λ behind. not own behind.0) called.behind
-
-pub none_behind : (words other : List (List ℕ)) → CallsNone (get_or words 0 []) → IsBehindAs words other
-    → CallsNone (get_or other 0 []) → (tool : Tool) (own : List (List ℕ)) → IsCalled words tool own → ⊥
-none_behind words other none is nor tool own called =
-    ⊎_elim (λ same. none tool (subst (λ l. IsLastPart (tool_name tool) (get_or l 0 [])) same called.name))
-    (λ behind. nor tool (subst (λ l. IsLastPart (tool_name tool) (get_or l 0 []))
-    (behind_is words own other behind.0 is) called.name)) called.behind
 
 -- ---- all tools
 

@@ -1,13 +1,9 @@
 -- Words that name a file of words, taken apart.
-use Rattle.std.proofs.Common.{rules, ◌≡◌, ◌<◌, ◌+◌, ℕ, List, [], ◌∷◌, ◌++◌, Bool, true, false, Option, Some, None, refl, sym, ap, ◌∙◌, inl, inr, eqb, length, drop, get_or, append_assoc}
+use Rattle.std.proofs.Common.{rules, ◌≡◌, ◌<◌, ◌+◌, ℕ, List, [], ◌∷◌, ◌++◌, Bool, true, false, Option, Some, None, refl, ap, inl, inr, eqb, length, drop, get_or, append_assoc}
 use Rattle.std.specs.Prelude.{is_some, not}
 use Rattle.std.proofs.lemmas.List.{at_drop_more}
 use Rattle.std.proofs.lemmas.Bool.{cases_Bool, ne_eqb, eqb-false, eqb-true}
 use Rattle.words_values.specs.WordFile.{IsNamed, names_file, own, stands_for, texts_behind, expansion}
-
-pub named : (word path : List ℕ) → word ≡ 64 ∷ path → IsNamed path → names_file word ≡ true
-named word [] e h = absurd h
-named word (letter ∷ rest) e h = rw (e, ne_eqb letter 64 h) refl
 
 at_front : (at letter : ℕ) (rest : List ℕ) → ((path : List ℕ) → at ∷ (letter ∷ rest) ≡ 64 ∷ path → IsNamed path → ⊥)
     → eqb at 64 ≡ true → eqb letter 64 ≡ false → ⊥
