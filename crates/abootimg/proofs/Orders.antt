@@ -7,8 +7,6 @@ use Rattle.cmd_boot_dispatch.specs.declared.command.BootCommandKind.{BootCommand
 use Rattle.cmd_sparse_dispatch.specs.Commands.{DoesTask, State, state}
 use Rattle.abootimg.specs.BootDone.{BootDone}
 
-}
-
 -- a task is done from the state in which its order has begun
 pub does_from : (on : List ℕ → Bool) (task : SparseTask) (w w' : World) (h h' : OpenFiles) (r : Report) (z : State)
     → w' ≡ w

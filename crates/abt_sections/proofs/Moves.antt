@@ -27,5 +27,3 @@ moves_part {f = f} {s = s} {o = o} {ps0 = ps0} {p = p} {q = q} {t = t} {C = C} {
     }
 
 }
-
-}

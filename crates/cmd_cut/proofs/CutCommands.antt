@@ -244,8 +244,6 @@ stands_more n made made' s e block st passed one_more at = elim (e_below e n) [
   }
 ]
 
-]
-
 -- a piece of a prefix of fewer than 2^32 blocks may be counted
 pub countable : (n made block : ℕ) (st : CutterStage) → StandsNow n made block st → st ≡ Between → made ≤ block
     → n < 4294967296

@@ -58,8 +58,6 @@ put_changes c c' x at le e = record {
   long = omega (arith, ap length e, long_put c x at le);
 }
 
-)
-
 -- one change after the other
 pub changes_then : (a b c : List ℕ) (p q e f m : ℕ) → ChangesFrom a b p e → ChangesFrom b c q f → p ≤ q → e ≤ m
     → f ≤ m → ChangesFrom a c p m

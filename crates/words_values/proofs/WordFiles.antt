@@ -1,5 +1,6 @@
 -- Words that name a file of words, taken apart.
-use Rattle.std.proofs.Common.{rules, ◌≡◌, ◌<◌, ◌+◌, ℕ, List, [], ◌∷◌, ◌++◌, Bool, true, false, Option, Some, None, refl, ap, inl, inr, eqb, length, drop, get_or, append_assoc}
+use Rattle.std.proofs.Common.{rules, ◌≡◌, ◌<◌, ◌+◌, ℕ, List, [], ◌∷◌, ◌++◌, Bool, true, false, Option, Some, None, refl}
+use Rattle.std.proofs.Common.{ap, inl, inr, eqb, length, drop, get_or, append_assoc}
 use Rattle.std.specs.Prelude.{is_some, not}
 use Rattle.std.proofs.lemmas.List.{at_drop_more}
 use Rattle.std.proofs.lemmas.Bool.{cases_Bool, ne_eqb, eqb-false, eqb-true}
@@ -27,7 +28,8 @@ pub own_unmarked : (word : List ℕ) → ((rest : List ℕ) → word ≡ 64 ∷ 
 own_unmarked [] none = refl
 own_unmarked (at ∷ []) none = refl
 own_unmarked (at ∷ (letter ∷ rest)) none =
-    let f : eqb at 64 ≡ false = ne_eqb at 64 (λ (q : at ≡ 64). none (letter ∷ rest) (ap (λ (k : ℕ). k ∷ (letter ∷ rest)) q)) in
+    let f : eqb at 64 ≡ false =
+    ne_eqb at 64 (λ (q : at ≡ 64). none (letter ∷ rest) (ap (λ (k : ℕ). k ∷ (letter ∷ rest)) q)) in
     rw f refl
 
 -- ---- what stands for a word
@@ -36,7 +38,8 @@ pub is_none_none : {A : Type 0} (r : Option A) (b : Bool) → is_some r ≡ not 
 is_none_none None b e t = refl
 is_none_none (Some x) b e t = absurd (search (rules, e, t))
 
-pub stands_unnamed : (word : List ℕ) (texts : List (List ℕ)) → names_file word ≡ false → stands_for word texts ≡ own word ∷ []
+pub stands_unnamed : (word : List ℕ) (texts : List (List ℕ)) → names_file word ≡ false
+    → stands_for word texts ≡ own word ∷ []
 stands_unnamed word [] f = rw f refl
 stands_unnamed word (text ∷ texts) f = rw f refl
 
@@ -44,12 +47,14 @@ pub behind_unnamed : (word : List ℕ) (texts : List (List ℕ)) → names_file 
 behind_unnamed word [] f = refl
 behind_unnamed word (text ∷ texts) f = rw f refl
 
-pub one_word_more : (all more : List (List ℕ)) (words : List (List ℕ)) (i : ℕ) (word : List ℕ) (left behind whole : List (List ℕ))
+pub one_word_more : (all more : List (List ℕ)) (words : List (List ℕ)) (i : ℕ) (word : List ℕ)
+    (left behind whole : List (List ℕ))
     → i < length words → get_or words i [] ≡ word → more ≡ all ++ stands_for word left → behind ≡ texts_behind word left
     → all ++ expansion (drop i words) left ≡ whole → more ++ expansion (drop (i + 1) words) behind ≡ whole
 one_word_more all more words i word left behind whole l w m b e =
     let d = at_drop_more (λ ws. expansion ws left) words i [] l in
-    let s : expansion (get_or words i [] ∷ drop (i + 1) words) left ≡ stands_for word left ++ expansion (drop (i + 1) words) behind =
+    let s : expansion (get_or words i [] ∷ drop (i + 1) words) left ≡ stands_for word left
+    ++ expansion (drop (i + 1) words) behind =
     rw (w, b) refl in
     let a = append_assoc all (stands_for word left) (expansion (drop (i + 1) words) behind) in
     rw m (search (rules, a, d, s, e))
