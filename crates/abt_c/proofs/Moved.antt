@@ -1,5 +1,6 @@
 -- What a pull made of its bytes, in the numbers of the states.
-use Rattle.std.proofs.Common.{◌≡◌, ℕ, ◌<◌, ◌≤◌, ◌+◌, ◌-◌, ◌*◌, ◌^◌, Bool, if◌then◌else◌, ◌==◌, ◌&&◌, refl, arith, ap, sym, ◌∙◌}
+use Rattle.std.proofs.Common.{◌≡◌, ℕ, ◌<◌, ◌≤◌, ◌+◌, ◌-◌, ◌*◌, ◌^◌, Bool, if◌then◌else◌, ◌==◌, ◌&&◌, refl, arith, ap}
+use Rattle.std.proofs.Common.{sym, ◌∙◌}
 use Rattle.std.specs.Prelude.{min}
 use Rattle.abt_sparse.specs.declared.kind.ChunkKind.{ChunkKind}
 use Rattle.abt_sparse.specs.Chunk.{Header}
@@ -26,7 +27,8 @@ pub ended_is : (s : AbtSparse) (p : Puller) → StandsFor s p → chunk_ended s 
 ended_is s p e =
     ap (λ (v : ℕ). (v == 0) && is_spent (state_kind s) (s.due == 1) s.raw s.words) e.extra
     ∙ ap (λ (v : ChunkKind). (p.walk.extra == 0) && is_spent v (s.due == 1) s.raw s.words) (ap kind_or e.kind)
-    ∙ ap (λ (v : Bool). (p.walk.extra == 0) && is_spent p.walk.kind v s.raw s.words) (ap (λ (n : ℕ). n == 1) e.due ∙ due_back p.walk.due)
+    ∙ ap (λ (v : Bool). (p.walk.extra == 0) && is_spent p.walk.kind v s.raw s.words) (ap (λ (n : ℕ). n == 1) e.due
+    ∙ due_back p.walk.due)
     ∙ ap (λ (v : ℕ). (p.walk.extra == 0) && is_spent p.walk.kind p.walk.due v s.words) e.raw
     ∙ ap (λ (v : ℕ). (p.walk.extra == 0) && is_spent p.walk.kind p.walk.due p.walk.raw v) e.words
 
@@ -36,7 +38,8 @@ todo_numbers phase extra raw words due total index =
     else if phase == 1 then 1 + (extra + raw + words + (if due then 1 else 0)) + (total - index) * 2 ^ 68
     else 0
 
-todo_in_phase : (q : Phase) (w : Walk) → w.phase ≡ q → todo_numbers (phase_number q) w.extra w.raw w.words w.due w.header.total_chunks w.index ≡ todo w
+todo_in_phase : (q : Phase) (w : Walk) → w.phase ≡ q
+    → todo_numbers (phase_number q) w.extra w.raw w.words w.due w.header.total_chunks w.index ≡ todo w
 todo_in_phase phases.Header w e = rw e refl
 todo_in_phase phases.Body w e = rw e refl
 todo_in_phase phases.Done w e = rw e refl
@@ -45,15 +48,22 @@ todo_in_phase (phases.Failed f) w e = rw e refl
 pub todo_is : (s : AbtSparse) (p : Puller) → StandsFor s p → left_to_do s ≡ todo p.walk
 todo_is s p e =
     ap (λ (v : ℕ). todo_numbers v s.extra s.raw s.words (s.due == 1) s.total_chunks s.index) e.phase
-    ∙ ap (λ (v : ℕ). todo_numbers (phase_number p.walk.phase) v s.raw s.words (s.due == 1) s.total_chunks s.index) e.extra
-    ∙ ap (λ (v : ℕ). todo_numbers (phase_number p.walk.phase) p.walk.extra v s.words (s.due == 1) s.total_chunks s.index) e.raw
-    ∙ ap (λ (v : ℕ). todo_numbers (phase_number p.walk.phase) p.walk.extra p.walk.raw v (s.due == 1) s.total_chunks s.index) e.words
-    ∙ ap (λ (v : Bool). todo_numbers (phase_number p.walk.phase) p.walk.extra p.walk.raw p.walk.words v s.total_chunks s.index) (ap (λ (n : ℕ). n == 1) e.due ∙ due_back p.walk.due)
-    ∙ ap (λ (v : Header). todo_numbers (phase_number p.walk.phase) p.walk.extra p.walk.raw p.walk.words p.walk.due v.total_chunks s.index) e.header
-    ∙ ap (λ (v : ℕ). todo_numbers (phase_number p.walk.phase) p.walk.extra p.walk.raw p.walk.words p.walk.due p.walk.header.total_chunks v) e.index
+    ∙ ap (λ (v : ℕ). todo_numbers (phase_number p.walk.phase) v s.raw s.words (s.due == 1) s.total_chunks s.index)
+    e.extra
+    ∙ ap (λ (v : ℕ). todo_numbers (phase_number p.walk.phase) p.walk.extra v s.words
+    (s.due == 1) s.total_chunks s.index) e.raw
+    ∙ ap (λ (v : ℕ). todo_numbers (phase_number p.walk.phase) p.walk.extra p.walk.raw v
+    (s.due == 1) s.total_chunks s.index) e.words
+    ∙ ap (λ (v : Bool). todo_numbers (phase_number p.walk.phase) p.walk.extra p.walk.raw p.walk.words v s.total_chunks
+    s.index) (ap (λ (n : ℕ). n == 1) e.due ∙ due_back p.walk.due)
+    ∙ ap (λ (v : Header). todo_numbers (phase_number p.walk.phase) p.walk.extra p.walk.raw p.walk.words p.walk.due
+    v.total_chunks s.index) e.header
+    ∙ ap (λ (v : ℕ). todo_numbers (phase_number p.walk.phase) p.walk.extra p.walk.raw p.walk.words p.walk.due
+    p.walk.header.total_chunks v) e.index
     ∙ todo_in_phase p.walk.phase p.walk refl
 
-falls_in : (s s' : AbtSparse) (p p' : Puller) → StandsFor s p → StandsFor s' p' → todo p'.walk < todo p.walk → left_to_do s' < left_to_do s
+falls_in : (s s' : AbtSparse) (p p' : Puller) → StandsFor s p → StandsFor s' p' → todo p'.walk < todo p.walk
+    → left_to_do s' < left_to_do s
 falls_in s s' p p' e f h = let a = todo_is s p e in let b = todo_is s' p' f in omega (arith, a, b, h)
 
 -- ---- a pull
@@ -93,7 +103,8 @@ nears (pulls.Gives (parts.Fault y)) o s s' p p' is e f n d l x = record {
   fault = λ j. (f.phase ∙ ap phase_number x, n ∙ ap kept_fault x ∙ sym is.1, d ∙ ap kept_detail x ∙ sym is.2);
 }
 
-pub moved : (q : Pull) (o : AbtPart) (s s' : AbtSparse) (p p' : Puller) (used n : ℕ) → o.used ≡ used → PartIs q o → StandsFor s p → StandsFor s' p'
+pub moved : (q : Pull) (o : AbtPart) (s s' : AbtSparse) (p p' : Puller) (used n : ℕ) → o.used ≡ used → PartIs q o
+    → StandsFor s p → StandsFor s' p'
     → PullMoves q p.walk p'.walk used n → Nears o s s' → Moves o s s' n
 moved pulls.Need o s s' p p' used n u is e f m near = record {
   raw = λ j. absurd (omega (arith, is.0, j));

@@ -1,5 +1,6 @@
 -- Sections at their places in a list.
-use Rattle.std.proofs.Common.{◌≡◌, ◌≤◌, ◌<◌, ℕ, zero, suc, List, [], ◌∷◌, length, get_or, refl, sym, arith, ap, Option, Some, None}
+use Rattle.std.proofs.Common.{◌≡◌, ◌≤◌, ◌<◌, ℕ, zero, suc, List, [], ◌∷◌, length, get_or, refl, sym, arith, ap, Option}
+use Rattle.std.proofs.Common.{Some, None}
 use Rattle.abt_headers.specs.declared.sections.SectionPlace.{SectionPlace}
 use Rattle.abt_headers.specs.declared.boot.BootHeader.{BootHeader}
 use Rattle.abt_headers.specs.declared.boot.BootHeader.TheVariants.{V0, V1, V2, V3, V4}
@@ -8,7 +9,8 @@ use Rattle.abt_headers.specs.Boot.{boot_places}
 use Rattle.abt_headers.specs.Vendor.{Tail, Vendor, vendor_places}
 use Rattle.abt_c.specs.Told.{no_section, section_at, section_told}
 
-pub section_is : (ps : List SectionPlace) (i : ℕ) (q : SectionPlace) → i < length ps → q ≡ get_or ps i q → section_at ps i ≡ section_told q
+pub section_is : (ps : List SectionPlace) (i : ℕ) (q : SectionPlace) → i < length ps → q ≡ get_or ps i q
+    → section_at ps i ≡ section_told q
 section_is [] i q lt e = absurd (omega (arith, lt))
 section_is (p ∷ ps) zero q lt e = ap section_told (sym e)
 section_is (p ∷ ps) (suc i) q lt e = section_is ps i q (omega (arith, lt)) e

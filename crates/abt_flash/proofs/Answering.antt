@@ -1,5 +1,6 @@
 -- What a step returns for a part that is written, clause by clause.
-use Rattle.std.proofs.Common.{◌≡◌, ℕ, ◌≤◌, ◌<◌, ◌||◌, Bool, List, [], true, false, Ok, Err, refl, sym, ◌∙◌, arith, nat_lt, inl, inr}
+use Rattle.std.proofs.Common.{◌≡◌, ℕ, ◌≤◌, ◌<◌, ◌||◌, Bool, List, [], true, false, Ok, Err, refl, sym, ◌∙◌, arith}
+use Rattle.std.proofs.Common.{nat_lt, inl, inr}
 use Rattle.std.specs.Prelude.{IsTrue, if◌then◌else◌}
 use Rattle.std.proofs.lemmas.Bool.{cases_Bool, lt-ltb}
 use Rattle.abt_io.specs.declared.device.DeviceFault.TheVariants as devices
@@ -66,7 +67,8 @@ or_true true = refl
 or_true false = refl
 
 -- a chunk is begun only after the header
-begins_in : (p : Phase) (s s' : Walk) (r : ℕ) → s'.phase ≡ phases.Body → Numbers p s s' r → (IsWalkOver p → s'.phase ≡ p) → 0 < s'.index → passed_in p s ≡ true
+begins_in : (p : Phase) (s s' : Walk) (r : ℕ) → s'.phase ≡ phases.Body → Numbers p s s' r
+    → (IsWalkOver p → s'.phase ≡ p) → 0 < s'.index → passed_in p s ≡ true
 begins_in phases.Header s s' r body n over some = absurd (omega (arith, n, some))
 begins_in phases.Body s s' r body n over some = elim (cases_Bool (at_end s)) [
   | inl t ↦ rw t (or_true (nat_lt 0 s.index))
@@ -76,10 +78,14 @@ begins_in phases.Body s s' r body n over some = elim (cases_Bool (at_end s)) [
       rw lt refl
 ]
 begins_in phases.Done s s' r body n over some = absurd (let z : phases.Body ≡ phases.Done = sym body ∙ over tt in cc)
-begins_in (phases.Failed f) s s' r body n over some = absurd (let z : phases.Body ≡ phases.Failed f = sym body ∙ over tt in cc)
+begins_in (phases.Failed f) s s' r body n over some =
+    absurd (let z : phases.Body ≡ phases.Failed f = sym body ∙ over tt in cc)
 
-pub begins_of : (q : Part) (s s' : Walk) (r : ℕ) → PartLeaves q s'.phase → (IsTrue (goes_on q) → Numbers s.phase s s' r) → (IsWalkOver s.phase → s'.phase ≡ s.phase) → OnMoreExpanding (answer_by fault_of_sparse q) (0 < s'.index → passed s ≡ true)
-begins_of q s s' r leaves numbers over = on_more q _ (λ goes. begins_in s.phase s s' r (goes_body q s'.phase goes leaves) (numbers goes) over)
+pub begins_of : (q : Part) (s s' : Walk) (r : ℕ) → PartLeaves q s'.phase
+    → (IsTrue (goes_on q) → Numbers s.phase s s' r) → (IsWalkOver s.phase → s'.phase ≡ s.phase)
+    → OnMoreExpanding (answer_by fault_of_sparse q) (0 < s'.index → passed s ≡ true)
+begins_of q s s' r leaves numbers over =
+    on_more q _ (λ goes. begins_in s.phase s s' r (goes_body q s'.phase goes leaves) (numbers goes) over)
 
 pub faults_rise : (f : FlashFault) (p p' : ℕ) → PutCause {X = Unit {0}} (Err f) p p' → p ≤ p'
 faults_rise (fails.Write d) p p' h = omega (arith, h.0)
@@ -87,24 +93,28 @@ faults_rise (fails.Sync d) p p' h = omega (arith, h.0)
 faults_rise f p p' h = absurd h
 
 -- nor does a partition that refuses a part
-pub refused_short : (f : FlashFault) (P : Type 0) (p p' : ℕ) → PutCause {X = Unit {0}} (Err f) p p' → OnShort {X = Unit {0}} (Err f) P
+pub refused_short : (f : FlashFault) (P : Type 0) (p p' : ℕ) → PutCause {X = Unit {0}} (Err f) p p'
+    → OnShort {X = Unit {0}} (Err f) P
 refused_short (fails.Write d) P p p' h = tt
 refused_short (fails.Sync d) P p p' h = tt
 refused_short f P p p' h = absurd h
 
 -- a partition that is not too small, and at the end of the image the header has been passed
-pub answer_measures : (q : Part) (s : Walk) (size : ℕ) → IsGoing s.phase → Closes q s.phase s → (passed s ≡ true → need_of s ≤ size) → Measures (answer_by fault_of_sparse q) s size
+pub answer_measures : (q : Part) (s : Walk) (size : ℕ) → IsGoing s.phase → Closes q s.phase s
+    → (passed s ≡ true → need_of s ≤ size) → Measures (answer_by fault_of_sparse q) s size
 answer_measures (parts.Raw n) s size going closes all = all
 answer_measures (parts.Words word n) s size going closes all = all
 answer_measures (parts.Skip n) s size going closes all = all
 answer_measures parts.Nothing s size going closes all = all
-answer_measures parts.End s size going closes all = refused_measures parts.End (fails.Sync devices.Failed) s size 0 1 (omega arith, refl) refl going closes all
+answer_measures parts.End s size going closes all =
+    refused_measures parts.End (fails.Sync devices.Failed) s size 0 1 (omega arith, refl) refl going closes all
 answer_measures (parts.Fault (faults.Read d)) s size going closes all = all
 answer_measures (parts.Fault (faults.Write d)) s size going closes all = all
 answer_measures (parts.Fault f) s size going closes all = all
 
 -- the sync of the end, which has succeeded
-pub answer_done : (q : Part) → syncs_by q (Ok tt) ≡ (if is_done stages.Going (answer_by fault_of_sparse q) then 1 else 0)
+pub answer_done : (q : Part)
+    → syncs_by q (Ok tt) ≡ (if is_done stages.Going (answer_by fault_of_sparse q) then 1 else 0)
 answer_done (parts.Raw n) = refl
 answer_done (parts.Words word n) = refl
 answer_done (parts.Skip n) = refl
@@ -130,7 +140,8 @@ answer_refused (parts.Fault (faults.Read d)) = refl
 answer_refused (parts.Fault (faults.Write d)) = refl
 answer_refused (parts.Fault f) = refl
 
-pub answer_settles : (q : Part) (pending : List (ℕ × ℕ)) → Settles q pending → OnDone (answer_by fault_of_sparse q) (pending ≡ [])
+pub answer_settles : (q : Part) (pending : List (ℕ × ℕ)) → Settles q pending
+    → OnDone (answer_by fault_of_sparse q) (pending ≡ [])
 answer_settles (parts.Raw n) pending h = tt
 answer_settles (parts.Words word n) pending h = tt
 answer_settles (parts.Skip n) pending h = tt

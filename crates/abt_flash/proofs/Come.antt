@@ -1,5 +1,8 @@
 -- A flash from its beginning: what has been written so far, and how it ends.
-use Rattle.std.proofs.Common.{◌≡◌, ℕ, ◌+◌, ◌-◌, ◌*◌, ◌/◌, ◌^◌, ◌<◌, ◌≤◌, min, Bool, true, false, List, [], ◌∷◌, ◌++◌, length, take, drop, Option, Some, None, Result, Ok, Err, refl, sym, ap, subst, ◌∙◌, append-nil, append_assoc, arith, inl, inr, length-append, take-append-drop, nat_lt, ltb-true, ltb-false, ◌||◌, ◌==◌, eq-eqb}
+use Rattle.std.proofs.Common.{◌≡◌, ℕ, ◌+◌, ◌-◌, ◌*◌, ◌/◌, ◌^◌, ◌<◌, ◌≤◌, min, Bool, true, false, List, [], ◌∷◌, ◌++◌}
+use Rattle.std.proofs.Common.{length, take, drop, Option, Some, None, Result, Ok, Err, refl, sym, ap, subst, ◌∙◌}
+use Rattle.std.proofs.Common.{append-nil, append_assoc, arith, inl, inr, length-append, take-append-drop, nat_lt}
+use Rattle.std.proofs.Common.{ltb-true, ltb-false, ◌||◌, ◌==◌, eq-eqb}
 use Rattle.std.proofs.lemmas.Bool.{cases_Bool}
 use Rattle.std.proofs.Math.Nat.{mul-div_cancel_left, mul-le-mul}
 use Rattle.std.specs.Prelude.{IsTrue, OnOk, is_err}
@@ -36,15 +39,18 @@ use Rattle.abt_flash.specs.declared.stage.Flashed.{Flashed}
 use Rattle.abt_flash.specs.declared.stage.FlashStage.{FlashStage}
 use Rattle.abt_flash.specs.declared.stage.FlashStage.TheVariants as stages
 use Rattle.abt_flash.specs.Laying.{During, writes}
-use Rattle.abt_flash.specs.Stepping.{Goes, Heads, IsFresh, IsFresh_in, Laid, Leaves, Measures, OnShort, UnlessFlashing, UnlessFlashingDevice, need_of, passed, passed_in}
+use Rattle.abt_flash.specs.Stepping.{Goes, Heads, IsFresh, IsFresh_in, Laid, Leaves, Measures, OnShort, UnlessFlashing}
+use Rattle.abt_flash.specs.Stepping.{UnlessFlashingDevice, need_of, passed, passed_in}
 use Rattle.abt_flash.specs.Flashing.{Flashes, Holds, RefusedFlash, WholeFlash}
-use Rattle.abt_flash.proofs.Cells.{over_more, unwritten_behind, unwritten_front, written_by-append, written_cells, written_le_blocks}
+use Rattle.abt_flash.proofs.Cells.{over_more, unwritten_behind, unwritten_front, written_by-append, written_cells}
+use Rattle.abt_flash.proofs.Cells.{written_le_blocks}
 use Rattle.abt_flash.proofs.Heads.{head_spelled, passed_head, spelled_head}
 use Rattle.abt_flash.proofs.Moments.{during_then, during_within, unsynced_during, unsynced_within}
 use Rattle.abt_chunks.specs.Places.{from_place, said_by}
 
 -- After k bytes of x these cells have been written, and the walk is at s.
-pub record Come (models : Bool) (s : Walk) (k : ℕ) (x : List ℕ) (size : ℕ) (past0 past : Past) (p0 p : List ℕ) (taken0 taken laid : ℕ) : Type 0 where
+pub record Come (models : Bool) (s : Walk) (k : ℕ) (x : List ℕ) (size : ℕ) (past0 past : Past) (p0 p : List ℕ)
+    (taken0 taken laid : ℕ) : Type 0 where
   pub cells : List (Option ℕ)
   pub told : (t : List ℕ) → seen (outcome (take k x ++ t)) ≡ before cells (ahead s t)
   pub placed : place_of s ≡ length cells
@@ -54,7 +60,8 @@ pub record Come (models : Bool) (s : Walk) (k : ℕ) (x : List ℕ) (size : ℕ)
   pub kept : IsTrue models → Keeps (writes cells) (moment_of past0 p0) (moment_of past p)
   pub moments : IsTrue models → EachSince past0.moments past.moments (KeepsUnsynced (writes cells) (moment_of past0 p0))
   pub head : (listing_of x).head ≡ (upcoming s (drop k x)).head
-  pub fits : s.phase ≡ phases.Body → 0 < s.index → (h : Header) → (listing_of x).head ≡ Some h → h.total_blks * h.blk_sz ≤ size
+  pub fits : s.phase ≡ phases.Body → 0 < s.index → (h : Header) → (listing_of x).head ≡ Some h
+      → h.total_blks * h.blk_sz ≤ size
 
 over_none : (p : List ℕ) → p ≡ over p []
 over_none [] = refl
@@ -64,7 +71,9 @@ ahead_first : (s : Walk) (t : List ℕ) → s.phase ≡ phases.Header → ahead 
 ahead_first s t e = ap (λ (ph : Phase). ahead_in ph s t) e
 
 -- at the beginning nothing has
-pub come_first : (models : Bool) (s : Walk) (k : ℕ) (x : List ℕ) (size : ℕ) (past : Past) (p : List ℕ) (taken laid : ℕ) → s.phase ≡ phases.Header → k ≡ 0 → laid ≡ 0 → Come models s k x size past past p p taken taken laid
+pub come_first : (models : Bool) (s : Walk) (k : ℕ) (x : List ℕ) (size : ℕ) (past : Past) (p : List ℕ)
+    (taken laid : ℕ) → s.phase ≡ phases.Header → k ≡ 0 → laid ≡ 0
+    → Come models s k x size past past p p taken taken laid
 come_first models s k x size past p taken laid first none fine = record {
   cells = [];
   told = λ t. ap (λ (j : ℕ). seen (outcome (take j x ++ t))) none ∙ sym (ahead_first s t first);
@@ -74,7 +83,8 @@ come_first models s k x size past p taken laid first none fine = record {
   content = λ t. over_none p;
   kept = λ t. keeps_same _ (moment_of past p);
   moments = λ t. none_since past.moments _;
-  head = sym (ap (λ (ph : Phase). (upcoming_in ph s (drop k x)).head) first ∙ ap (λ (j : ℕ). (listing_of (drop j x)).head) none);
+  head = sym (ap (λ (ph : Phase). (upcoming_in ph s (drop k x)).head) first
+      ∙ ap (λ (j : ℕ). (listing_of (drop j x)).head) none);
   fits = λ body some h e. absurd (let q : phases.Header ≡ phases.Body = sym first ∙ body in cc);
 }
 
@@ -83,7 +93,8 @@ unless_fault (fails.Read d) P Q go h = tt
 unless_fault (fails.Write d) P Q go h = tt
 unless_fault f P Q go h = go h
 
-pub unless_map : {X : Type 0} (r : Result X FlashFault) (P Q : Type 0) → (P → Q) → UnlessFlashing r P → UnlessFlashing r Q
+pub unless_map : {X : Type 0} (r : Result X FlashFault) (P Q : Type 0) → (P → Q) → UnlessFlashing r P
+    → UnlessFlashing r Q
 unless_map (Ok v) P Q go h = go h
 unless_map (Err f) P Q go h = unless_fault f P Q go h
 
@@ -92,7 +103,8 @@ seen_given (Image h cs rest) = refl
 seen_given (Fault f cs) = refl
 
 -- A flash that returns r, where x was read as far as rest: all cells that it wrote or may have touched.
-pub record Ends (models : Bool) (r : Result MachineProgress FlashFault) (s' : Walk) (x read rest : List ℕ) (past0 past' : Past) (p0 p' : List ℕ) (taken0 taken' laid' : ℕ) : Type 0 where
+pub record Ends (models : Bool) (r : Result MachineProgress FlashFault) (s' : Walk) (x read rest : List ℕ)
+    (past0 past' : Past) (p0 p' : List ℕ) (taken0 taken' laid' : ℕ) : Type 0 where
   pub all : List (Option ℕ)
   pub more : List ℕ → List (Option ℕ)
   pub front : (t : List ℕ) → given (outcome (read ++ t)) ≡ all ++ more t
@@ -102,13 +114,16 @@ pub record Ends (models : Bool) (r : Result MachineProgress FlashFault) (s' : Wa
   pub noted : OnOk r (laid' ≡ min (said_by all) (2 ^ 64 - 1))
   pub content : IsTrue models → UnlessFlashing r (p' ≡ over p0 all)
   pub kept : IsTrue models → Keeps (writes all) (moment_of past0 p0) (moment_of past' p')
-  pub moments : IsTrue models → EachSince past0.moments past'.moments (During (writes all) (moment_of past0 p0) (moment_of past' p'))
+  pub moments : IsTrue models
+      → EachSince past0.moments past'.moments (During (writes all) (moment_of past0 p0) (moment_of past' p'))
 
 -- ---- one step more
 
-module _ (models : Bool) (stage : FlashStage) (s s' : Walk) (x x' rest : List ℕ) (k n j size : ℕ) (past0 past past' : Past) (p0 p p' : List ℕ) (taken0 taken taken' laid : ℕ) (r : Result MachineProgress FlashFault)
+module _ (models : Bool) (stage : FlashStage) (s s' : Walk) (x x' rest : List ℕ) (k n j size : ℕ)
+    (past0 past past' : Past) (p0 p p' : List ℕ) (taken0 taken taken' laid : ℕ) (r : Result MachineProgress FlashFault)
     (left : x' ≡ drop k x) (same : j ≡ k + n) (unsynced : past.synced ≡ past0.synced)
-    (i : Come models s k x size past0 past p0 p taken0 taken laid) (e : Laid models stage r s s' (take n x') rest past past' p p' taken taken') where
+    (i : Come models s k x size past0 past p0 p taken0 taken laid)
+    (e : Laid models stage r s s' (take n x') rest past past' p p' taken taken') where
   abbrev All : List (Option ℕ)
   All = i.cells ++ e.cells
 
@@ -120,7 +135,8 @@ module _ (models : Bool) (stage : FlashStage) (s s' : Walk) (x x' rest : List �
 
   split_at : (t : List ℕ) → take j x ++ t ≡ take k x ++ (take n x' ++ t)
   split_at t =
-      ap (λ (m : ℕ). take m x ++ t) same ∙ ap (λ (l : List ℕ). l ++ t) (sym (take_plus k n x)) ∙ append_assoc (take k x) (take n (drop k x)) t
+      ap (λ (m : ℕ). take m x ++ t) same ∙ ap (λ (l : List ℕ). l ++ t) (sym (take_plus k n x))
+      ∙ append_assoc (take k x) (take n (drop k x)) t
       ∙ ap (λ (l : List ℕ). take k x ++ (take n l ++ t)) (sym left)
 
   -- the cells so far are a prefix of what is given, whatever follows
@@ -129,42 +145,53 @@ module _ (models : Bool) (stage : FlashStage) (s s' : Walk) (x x' rest : List �
       ap (λ (l : List ℕ). (seen (outcome l)).cells) (split_at t) ∙ ap (λ (a : Ahead). a.cells) (i.told (take n x' ++ t))
       ∙ ap (λ (cs : List (Option ℕ)). i.cells ++ cs) (e.front t) ∙ sym (append_assoc i.cells e.cells (e.more t))
 
-  all_from : (t : List ℕ) → ahead s (take n x' ++ t) ≡ before e.cells (ahead s' t) → seen (outcome (take j x ++ t)) ≡ before All (ahead s' t)
+  all_from : (t : List ℕ) → ahead s (take n x' ++ t) ≡ before e.cells (ahead s' t)
+      → seen (outcome (take j x ++ t)) ≡ before All (ahead s' t)
   all_from t q =
       ap (λ (l : List ℕ). seen (outcome l)) (split_at t) ∙ i.told (take n x' ++ t)
       ∙ ap (λ (a : Ahead). before i.cells a) q ∙ sym (before-append i.cells e.cells (ahead s' t))
 
-  pub all_told : (t : List ℕ) → (IsTrue (is_err r) → t ≡ rest) → UnlessFlashing r (seen (outcome (take j x ++ t)) ≡ before All (ahead s' t))
+  pub all_told : (t : List ℕ) → (IsTrue (is_err r) → t ≡ rest)
+      → UnlessFlashing r (seen (outcome (take j x ++ t)) ≡ before All (ahead s' t))
   all_told t h = unless_map r _ _ (all_from t) (e.told t h)
 
   behind : (m : ℕ) → writes All m ≡ false → writes (from_place (place_of s) e.cells) m ≡ false
   behind m q = rw i.placed (unwritten_behind i.cells e.cells m q)
 
   kept_before : IsTrue models → Keeps (writes All) First (moment_of past p)
-  kept_before t = keeps_within (writes i.cells) (writes All) First (moment_of past p) (unwritten_front i.cells e.cells) (i.kept t)
+  kept_before t = keeps_within (writes i.cells) (writes All) First (moment_of past p)
+      (unwritten_front i.cells e.cells) (i.kept t)
 
   pub all_kept : IsTrue models → Keeps (writes All) First Last
-  all_kept t = keeps_then (writes All) First (moment_of past p) Last (kept_before t) (keeps_within _ (writes All) (moment_of past p) Last behind (e.kept t))
+  all_kept t = keeps_then (writes All) First (moment_of past p) Last (kept_before t)
+      (keeps_within _ (writes All) (moment_of past p) Last behind (e.kept t))
 
   pub all_moments : IsTrue models → EachSince past0.moments past'.moments (During (writes All) First Last)
   all_moments t =
-      during_then (writes All) _ First (moment_of past p) Last past0.moments past.moments past'.moments behind (kept_before t) unsynced
-      (unsynced_within (writes i.cells) (writes All) First past0.moments past.moments (unwritten_front i.cells e.cells) (i.moments t)) (e.moments t)
+      during_then (writes All) _ First (moment_of past p) Last past0.moments past.moments past'.moments behind
+      (kept_before t) unsynced
+      (unsynced_within (writes i.cells) (writes All) First past0.moments past.moments
+      (unwritten_front i.cells e.cells) (i.moments t)) (e.moments t)
 
   pub all_content : IsTrue models → UnlessFlashing r (p' ≡ over p0 All)
-  all_content t = unless_map r _ _ (λ q. over_more p0 p p' i.cells e.cells (place_of s) (i.content t) i.placed q) (e.content t)
+  all_content t = unless_map r _ _ (λ q. over_more p0 p p' i.cells e.cells (place_of s) (i.content t) i.placed q)
+      (e.content t)
 
   pub all_counted : UnlessFlashing r (taken' ≡ taken0 + said_by All)
   all_counted = unless_map r _ _ (λ q. omega (arith, q, i.counted, written_by-append i.cells e.cells)) e.counted
 
-  on_ok : {X : Type 0} (q : Result X FlashFault) (A B C : Type 0) → (A → B → C) → UnlessFlashing q A → OnOk q B → OnOk q C
+  on_ok : {X : Type 0} (q : Result X FlashFault) (A B C : Type 0) → (A → B → C) → UnlessFlashing q A → OnOk q B
+      → OnOk q C
   on_ok (Ok v) A B C go a b = go a b
   on_ok (Err f) A B C go a b = tt
 
-  pub all_noted : (laid' : ℕ) → OnOk r (laid' ≡ min (laid + (taken' - taken)) (2 ^ 64 - 1)) → OnOk r (laid' ≡ min (said_by All) (2 ^ 64 - 1))
-  all_noted laid' note = on_ok r _ _ _ (λ a b. omega (arith, a, b, i.noted, written_by-append i.cells e.cells)) e.counted note
+  pub all_noted : (laid' : ℕ) → OnOk r (laid' ≡ min (laid + (taken' - taken)) (2 ^ 64 - 1))
+      → OnOk r (laid' ≡ min (said_by All) (2 ^ 64 - 1))
+  all_noted laid' note =
+      on_ok r _ _ _ (λ a b. omega (arith, a, b, i.noted, written_by-append i.cells e.cells)) e.counted note
 
-  pub ends : (laid' : ℕ) → rest ≡ drop j x → OnOk r (laid' ≡ min (laid + (taken' - taken)) (2 ^ 64 - 1)) → Ends models r s' x (take j x) rest past0 past' p0 p' taken0 taken' laid'
+  pub ends : (laid' : ℕ) → rest ≡ drop j x → OnOk r (laid' ≡ min (laid + (taken' - taken)) (2 ^ 64 - 1))
+      → Ends models r s' x (take j x) rest past0 past' p0 p' taken0 taken' laid'
   ends laid' at_rest note =
       let whole : take j x ++ rest ≡ x = ap (λ (l : List ℕ). take j x ++ l) at_rest ∙ take-append-drop j x in
       record {
@@ -172,7 +199,8 @@ module _ (models : Bool) (stage : FlashStage) (s s' : Walk) (x x' rest : List �
         more = e.more;
         front = λ t. sym (seen_given (outcome (take j x ++ t))) ∙ all_front t;
         whole = whole;
-        told = unless_map r _ _ (λ q. ap (λ (l : List ℕ). seen (outcome l)) (sym whole) ∙ q) (all_told rest (λ z. refl));
+        told = unless_map r _ _ (λ q. ap (λ (l : List ℕ). seen (outcome l)) (sym whole)
+            ∙ q) (all_told rest (λ z. refl));
         counted = all_counted;
         noted = all_noted laid' note;
         content = all_content;
@@ -192,30 +220,50 @@ some_same : (g h : Header) → (let a : Option Header = Some g in let b : Option
 some_same g h e = cc
 
 -- the header that the walk has read is the one at the beginning
-pub known_head : (models : Bool) (s : Walk) (k : ℕ) (x : List ℕ) (size : ℕ) (past0 past : Past) (p0 p : List ℕ) (taken0 taken laid : ℕ) → Come models s k x size past0 past p0 p taken0 taken laid → IsGoing s.phase → passed s ≡ true
+pub known_head : (models : Bool) (s : Walk) (k : ℕ) (x : List ℕ) (size : ℕ) (past0 past : Past) (p0 p : List ℕ)
+    (taken0 taken laid : ℕ) → Come models s k x size past0 past p0 p taken0 taken laid → IsGoing s.phase
+    → passed s ≡ true
     → (listing_of x).head ≡ Some (view s.header)
-known_head models s k x size past0 past p0 p taken0 taken laid i going e = i.head ∙ passed_head s (drop k x) (body_of s.phase s going e) e
+known_head models s k x size past0 past p0 p taken0 taken laid i going e =
+    i.head ∙ passed_head s (drop k x) (body_of s.phase s going e) e
 
-fits_known : (s : Walk) (x : List ℕ) (size : ℕ) (h : Header) → (listing_of x).head ≡ Some (view s.header) → (listing_of x).head ≡ Some h → need_of s ≤ size → h.total_blks * h.blk_sz ≤ size
-fits_known s x size h known e le = let same : view s.header ≡ h = some_same (view s.header) h (sym known ∙ e) in rw (← same) le
+fits_known : (s : Walk) (x : List ℕ) (size : ℕ) (h : Header) → (listing_of x).head ≡ Some (view s.header)
+    → (listing_of x).head ≡ Some h → need_of s ≤ size → h.total_blks * h.blk_sz ≤ size
+fits_known s x size h known e le = let same : view s.header ≡ h = some_same (view s.header) h (sym known ∙ e) in
+    rw (← same) le
 
-pub come_next : (models : Bool) (stage : FlashStage) (s s' : Walk) (x x' rest : List ℕ) (k n j size : ℕ) (past0 past past' : Past) (p0 p p' : List ℕ) (taken0 taken taken' laid laid' : ℕ)
-    → x' ≡ drop k x → j ≡ k + n → past.synced ≡ past0.synced → Come models s k x size past0 past p0 p taken0 taken laid → Laid models stage (Ok answers.More) s s' (take n x') rest past past' p p' taken taken'
-    → laid' ≡ min (laid + (taken' - taken)) (2 ^ 64 - 1) → rest ≡ drop j x → Heads (Ok answers.More) s s' x' rest → (0 < s'.index → passed s ≡ true) → Measures (Ok answers.More) s size → IsGoing s.phase → past'.synced ≡ past.synced
+pub come_next : (models : Bool) (stage : FlashStage) (s s' : Walk) (x x' rest : List ℕ) (k n j size : ℕ)
+    (past0 past past' : Past) (p0 p p' : List ℕ) (taken0 taken taken' laid laid' : ℕ)
+    → x' ≡ drop k x → j ≡ k + n → past.synced ≡ past0.synced
+    → Come models s k x size past0 past p0 p taken0 taken laid
+    → Laid models stage (Ok answers.More) s s' (take n x') rest past past' p p' taken taken'
+    → laid' ≡ min (laid + (taken' - taken)) (2 ^ 64 - 1) → rest ≡ drop j x → Heads (Ok answers.More) s s' x' rest
+    → (0 < s'.index → passed s ≡ true) → Measures (Ok answers.More) s size → IsGoing s.phase
+    → past'.synced ≡ past.synced
     → Come models s' j x size past0 past' p0 p' taken0 taken' laid'
-come_next models stage s s' x x' rest k n j size past0 past past' p0 p p' taken0 taken taken' laid laid' left same unsynced i e note behind heads begins measures going quiet = record {
-  cells = i.cells ++ e.cells;
-  told = λ t. all_told models stage s s' x x' rest k n j size past0 past past' p0 p p' taken0 taken taken' laid (Ok answers.More) left same unsynced i e t (λ z. absurd cc);
-  placed = e.moved ∙ omega (arith, i.placed, length-append i.cells e.cells);
-  counted = all_counted models stage s s' x x' rest k n j size past0 past past' p0 p p' taken0 taken taken' laid (Ok answers.More) left same unsynced i e;
-  noted = omega (arith, note, i.noted, e.counted, written_by-append i.cells e.cells);
-  content = all_content models stage s s' x x' rest k n j size past0 past past' p0 p p' taken0 taken taken' laid (Ok answers.More) left same unsynced i e;
-  kept = all_kept models stage s s' x x' rest k n j size past0 past past' p0 p p' taken0 taken taken' laid (Ok answers.More) left same unsynced i e;
-  moments = λ t. unsynced_during (writes (i.cells ++ e.cells)) (moment_of past0 p0) (moment_of past' p') past0.moments past'.moments (quiet ∙ unsynced)
-      (all_moments models stage s s' x x' rest k n j size past0 past past' p0 p p' taken0 taken taken' laid (Ok answers.More) left same unsynced i e t);
-  head = i.head ∙ ap (λ (l : List ℕ). (upcoming s l).head) (sym left) ∙ heads ∙ ap (λ (l : List ℕ). (upcoming s' l).head) behind;
-  fits = λ body some h q. fits_known s x size h (known_head models s k x size past0 past p0 p taken0 taken laid i going (begins some)) q (measures (begins some));
-}
+come_next models stage s s' x x' rest k n j size past0 past past' p0 p p' taken0 taken taken' laid laid' left same
+    unsynced i e note behind heads begins measures going quiet = record {
+      cells = i.cells ++ e.cells;
+      told = λ t. all_told models stage s s' x x' rest k n j size past0 past past' p0 p p' taken0 taken taken' laid
+          (Ok answers.More) left same unsynced i e t (λ z. absurd cc);
+      placed = e.moved ∙ omega (arith, i.placed, length-append i.cells e.cells);
+      counted = all_counted models stage s s' x x' rest k n j size past0 past past' p0 p p' taken0 taken taken' laid
+          (Ok answers.More) left same unsynced i e;
+      noted = omega (arith, note, i.noted, e.counted, written_by-append i.cells e.cells);
+      content = all_content models stage s s' x x' rest k n j size past0 past past' p0 p p' taken0 taken taken' laid
+          (Ok answers.More) left same unsynced i e;
+      kept = all_kept models stage s s' x x' rest k n j size past0 past past' p0 p p' taken0 taken taken' laid
+          (Ok answers.More) left same unsynced i e;
+      moments = λ t. unsynced_during (writes (i.cells ++ e.cells)) (moment_of past0 p0)
+          (moment_of past' p') past0.moments past'.moments (quiet ∙ unsynced)
+          (all_moments models stage s s' x x' rest k n j size past0 past past' p0 p p' taken0 taken taken' laid
+          (Ok answers.More) left same unsynced i e t);
+      head = i.head ∙ ap (λ (l : List ℕ). (upcoming s l).head) (sym left) ∙ heads
+          ∙ ap (λ (l : List ℕ). (upcoming s' l).head) behind;
+      fits = λ body some h q. fits_known s x size h
+          (known_head models s k x size past0 past p0 p taken0 taken laid i going (begins some)) q
+          (measures (begins some));
+    }
 
 -- ---- the ends
 
@@ -230,38 +278,46 @@ abbrev left_in : List ℕ → Ending → List ℕ
 left_in d (Ok e) = e.1
 left_in d (Err f) = d
 
-ended_header : (g h : Header) (l m : List ℕ) → (let a : Ending = Ok (g, l) in let b : Ending = Ok (h, m) in a ≡ b) → g ≡ h
+ended_header : (g h : Header) (l m : List ℕ) → (let a : Ending = Ok (g, l) in let b : Ending = Ok (h, m) in a ≡ b)
+    → g ≡ h
 ended_header g h l m q = ap (header_in g) q
 
 ended_left : (g h : Header) (l m : List ℕ) → (let a : Ending = Ok (g, l) in let b : Ending = Ok (h, m) in a ≡ b) → l ≡ m
 ended_left g h l m q = ap (left_in l) q
 
-err_ok : (f : SparseFault) (h : Header) (l : List ℕ) → (let a : Ending = Err f in let b : Ending = Ok (h, l) in a ≡ b) → ⊥
+err_ok : (f : SparseFault) (h : Header) (l : List ℕ) → (let a : Ending = Err f in let b : Ending = Ok (h, l) in a ≡ b)
+    → ⊥
 err_ok f h l q = cc
 
-ok_err : (f : SparseFault) (h : Header) (l : List ℕ) → (let a : Ending = Ok (h, l) in let b : Ending = Err f in a ≡ b) → ⊥
+ok_err : (f : SparseFault) (h : Header) (l : List ℕ) → (let a : Ending = Ok (h, l) in let b : Ending = Err f in a ≡ b)
+    → ⊥
 ok_err f h l q = cc
 
 err_err : (g f : SparseFault) → (let a : Ending = Err g in let b : Ending = Err f in a ≡ b) → g ≡ f
 err_err g f q = cc
 
-at_done : (s' : Walk) (rest : List ℕ) → s'.phase ≡ phases.Done → ahead s' rest ≡ record { cells = []; ending = Ok (view s'.header, rest) }
+at_done : (s' : Walk) (rest : List ℕ) → s'.phase ≡ phases.Done
+    → ahead s' rest ≡ record { cells = []; ending = Ok (view s'.header, rest) }
 at_done s' rest e = ap (λ (ph : Phase). ahead_in ph s' rest) e
 
 at_fault : (s' : Walk) (rest : List ℕ) (f : SparseFault) → s'.phase ≡ phases.Failed f → ahead s' rest ≡ stopping f
 at_fault s' rest f e = ap (λ (ph : Phase). ahead_in ph s' rest) e
 
 -- so many blocks of b bytes are counted again from their bytes
-counted_back : (b w most : ℕ) → 0 < b → b < 2 ^ 32 → most < 2 ^ 32 → w ≤ most → min (min (b * w) (2 ^ 64 - 1) / b) most ≡ w
+counted_back : (b w most : ℕ) → 0 < b → b < 2 ^ 32 → most < 2 ^ 32 → w ≤ most
+    → min (min (b * w) (2 ^ 64 - 1) / b) most ≡ w
 counted_back b w most some small few le =
-    let bound : b * w ≤ 4294967295 * 4294967295 = mul-le-mul (let q : b ≤ 4294967295 = omega arith in q) (let q : w ≤ 4294967295 = omega arith in q) in
+    let bound : b * w ≤ 4294967295 * 4294967295 = mul-le-mul (let q : b ≤ 4294967295 = omega arith in
+    q) (let q : w ≤ 4294967295 = omega arith in q) in
     let whole : min (b * w) (2 ^ 64 - 1) ≡ b * w = omega (arith, bound) in
     let back : min (b * w) (2 ^ 64 - 1) / b ≡ w = ap (λ (n : ℕ). n / b) whole ∙ mul-div_cancel_left w some in
     omega (arith, back, le)
 
 -- ---- what is touched
 
-module _ (models : Bool) (r : Result MachineProgress FlashFault) (s' : Walk) (x read rest : List ℕ) (past0 past' : Past) (p0 p' : List ℕ) (taken0 taken' laid' : ℕ) (e : Ends models r s' x read rest past0 past' p0 p' taken0 taken' laid') where
+module _ (models : Bool) (r : Result MachineProgress FlashFault) (s' : Walk) (x read rest : List ℕ)
+    (past0 past' : Past) (p0 p' : List ℕ) (taken0 taken' laid' : ℕ)
+    (e : Ends models r s' x read rest past0 past' p0 p' taken0 taken' laid') where
   given_all : given (outcome x) ≡ e.all ++ e.more rest
   given_all = ap (λ (l : List ℕ). given (outcome l)) (sym e.whole) ∙ e.front rest
 
@@ -269,24 +325,35 @@ module _ (models : Bool) (r : Result MachineProgress FlashFault) (s' : Walk) (x 
   given_read = ap (λ (l : List ℕ). given (outcome l)) (sym (append-nil read)) ∙ e.front []
 
   within_all : (i : ℕ) → writes (given (outcome x)) i ≡ false → writes e.all i ≡ false
-  within_all i q = unwritten_front e.all (e.more rest) i (ap (λ (cs : List (Option ℕ)). writes cs i) (sym given_all) ∙ q)
+  within_all i q = unwritten_front e.all (e.more rest) i (ap (λ (cs : List (Option ℕ)). writes cs i) (sym given_all)
+      ∙ q)
 
   within_read : (i : ℕ) → writes (given (outcome read)) i ≡ false → writes e.all i ≡ false
-  within_read i q = unwritten_front e.all (e.more []) i (ap (λ (cs : List (Option ℕ)). writes cs i) (sym given_read) ∙ q)
+  within_read i q = unwritten_front e.all (e.more []) i (ap (λ (cs : List (Option ℕ)). writes cs i) (sym given_read)
+      ∙ q)
 
   pub ends_kept : IsTrue models → Keeps (writes (given (outcome x))) (moment_of past0 p0) (moment_of past' p')
-  ends_kept t = keeps_within (writes e.all) (writes (given (outcome x))) (moment_of past0 p0) (moment_of past' p') within_all (e.kept t)
+  ends_kept t = keeps_within (writes e.all) (writes (given (outcome x))) (moment_of past0 p0)
+      (moment_of past' p') within_all (e.kept t)
 
-  pub ends_moments : IsTrue models → EachSince past0.moments past'.moments (During (writes (given (outcome x))) (moment_of past0 p0) (moment_of past' p'))
-  ends_moments t = during_within (writes e.all) (writes (given (outcome x))) (moment_of past0 p0) (moment_of past' p') past0.moments past'.moments within_all (e.moments t)
+  pub ends_moments : IsTrue models
+      → EachSince past0.moments past'.moments (During (writes (given (outcome x))) (moment_of past0 p0)
+      (moment_of past' p'))
+  ends_moments t = during_within (writes e.all) (writes (given (outcome x))) (moment_of past0 p0)
+      (moment_of past' p') past0.moments past'.moments within_all (e.moments t)
 
   pub ends_seen : IsTrue models → Keeps (writes (given (outcome read))) (moment_of past0 p0) (moment_of past' p')
-  ends_seen t = keeps_within (writes e.all) (writes (given (outcome read))) (moment_of past0 p0) (moment_of past' p') within_read (e.kept t)
+  ends_seen t = keeps_within (writes e.all) (writes (given (outcome read))) (moment_of past0 p0)
+      (moment_of past' p') within_read (e.kept t)
 
 -- ---- an image
 
-image_of : (x : List ℕ) (all : List (Option ℕ)) (rest : List ℕ) (hs ht : SparseHeader) (e : Flashed) (size taken0 taken' laid' : ℕ) (o : Outcome) → IsOutcome x o → seen o ≡ before all (record { cells = []; ending = Ok (view ht, rest) })
-    → (listing_of x).head ≡ Some (view hs) → hs.total_blks * hs.blk_sz ≤ size → taken' ≡ taken0 + said_by all → laid' ≡ min (said_by all) (2 ^ 64 - 1) → e.blocks ≡ min (laid' / ht.blk_sz) ht.total_blks → WholeFlash e size taken0 taken' x rest
+image_of : (x : List ℕ) (all : List (Option ℕ)) (rest : List ℕ) (hs ht : SparseHeader) (e : Flashed)
+    (size taken0 taken' laid' : ℕ) (o : Outcome) → IsOutcome x o
+    → seen o ≡ before all (record { cells = []; ending = Ok (view ht, rest) })
+    → (listing_of x).head ≡ Some (view hs) → hs.total_blks * hs.blk_sz ≤ size → taken' ≡ taken0 + said_by all
+    → laid' ≡ min (said_by all) (2 ^ 64 - 1) → e.blocks ≡ min (laid' / ht.blk_sz) ht.total_blks
+    → WholeFlash e size taken0 taken' x rest
 image_of x all rest hs ht e size taken0 taken' laid' (Image h cs left) is q known fits count note blocks =
     let b = h.blk_sz in
     let w = written_in (classed cs) in
@@ -300,10 +367,12 @@ image_of x all rest hs ht e size taken0 taken' laid' (Image h cs left) is q know
     let cells_are : cells b (classed cs) ≡ all = ap (λ (a : Ahead). a.cells) q ∙ append-nil all in
     let bytes : said_by all ≡ b * w = ap said_by (sym cells_are) ∙ written_cells b (classed cs) ok.blk_sz.1 bs.0 in
     let few : w ≤ h.total_blks = omega (arith, written_le_blocks (classed cs), bs.1) in
-    let again : min (min (b * w) (2 ^ 64 - 1) / b) h.total_blks ≡ w = counted_back b w h.total_blks ok.blk_sz.0 ok.blk_sz.2 ok.total_blks few in
+    let again : min (min (b * w) (2 ^ 64 - 1) / b) h.total_blks ≡ w =
+    counted_back b w h.total_blks ok.blk_sz.0 ok.blk_sz.2 ok.total_blks few in
     let noted : laid' ≡ min (b * w) (2 ^ 64 - 1) = note ∙ ap (λ (n : ℕ). min n (2 ^ 64 - 1)) bytes in
     let answer : e.blocks ≡ w =
-    blocks ∙ ap (λ (n : ℕ). min (n / ht.blk_sz) ht.total_blks) noted ∙ ap (λ (n : ℕ). min (min (b * w) (2 ^ 64 - 1) / n) ht.total_blks) (sym size_is)
+    blocks ∙ ap (λ (n : ℕ). min (n / ht.blk_sz) ht.total_blks) noted
+    ∙ ap (λ (n : ℕ). min (min (b * w) (2 ^ 64 - 1) / n) ht.total_blks) (sym size_is)
     ∙ ap (λ (n : ℕ). min (min (b * w) (2 ^ 64 - 1) / b) n) (sym most_is) ∙ again in
     let same : view hs ≡ h = some_same (view hs) h (sym known ∙ spelled_head x h is.front.after is.front.header) in
     record {
@@ -314,24 +383,33 @@ image_of x all rest hs ht e size taken0 taken' laid' (Image h cs left) is q know
       blocks = answer;
       once = count ∙ ap (λ (n : ℕ). taken0 + n) (bytes ∙ ap (λ (n : ℕ). b * n) (sym answer));
     }
-image_of x all rest hs ht e size taken0 taken' laid' (Fault f cs) is q known fits count note blocks = absurd (err_ok f (view ht) rest (ap (λ (a : Ahead). a.ending) q))
+image_of x all rest hs ht e size taken0 taken' laid' (Fault f cs) is q known fits count note blocks =
+    absurd (err_ok f (view ht) rest (ap (λ (a : Ahead). a.ending) q))
 
-module _ (models : Bool) (s s' : Walk) (x read rest : List ℕ) (past0 past' : Past) (p0 p' : List ℕ) (taken0 taken' laid' : ℕ) (e : Ends models (Ok answers.Done) s' x read rest past0 past' p0 p' taken0 taken' laid') (ended : s'.phase ≡ phases.Done) where
+module _ (models : Bool) (s s' : Walk) (x read rest : List ℕ) (past0 past' : Past) (p0 p' : List ℕ)
+    (taken0 taken' laid' : ℕ) (e : Ends models (Ok answers.Done) s' x read rest past0 past' p0 p' taken0 taken' laid')
+    (ended : s'.phase ≡ phases.Done) where
   done_told : seen (outcome x) ≡ before e.all (record { cells = []; ending = Ok (view s'.header, rest) })
   done_told = e.told ∙ ap (λ (a : Ahead). before e.all a) (at_done s' rest ended)
 
   -- the end of an image that fits
-  pub done_whole : (f : Flashed) (size : ℕ) → IsBytes x → (listing_of x).head ≡ Some (view s.header) → need_of s ≤ size → f.blocks ≡ min (laid' / s'.header.blk_sz) s'.header.total_blks → WholeFlash f size taken0 taken' x rest
-  done_whole f size bytes known fits blocks = image_of x e.all rest s.header s'.header f size taken0 taken' laid' (outcome x) (is_so x bytes) done_told known fits e.counted e.noted blocks
+  pub done_whole : (f : Flashed) (size : ℕ) → IsBytes x → (listing_of x).head ≡ Some (view s.header)
+      → need_of s ≤ size → f.blocks ≡ min (laid' / s'.header.blk_sz) s'.header.total_blks
+      → WholeFlash f size taken0 taken' x rest
+  done_whole f size bytes known fits blocks = image_of x e.all rest s.header s'.header f size taken0 taken' laid'
+      (outcome x) (is_so x bytes) done_told known fits e.counted e.noted blocks
 
   pub done_holds : IsTrue models → p' ≡ flashed p0 x
   done_holds t =
-      let are : given (outcome x) ≡ e.all = sym (seen_given (outcome x)) ∙ ap (λ (a : Ahead). a.cells) done_told ∙ append-nil e.all in
+      let are : given (outcome x) ≡ e.all = sym (seen_given (outcome x)) ∙ ap (λ (a : Ahead). a.cells) done_told
+      ∙ append-nil e.all in
       e.content t ∙ ap (over p0) (sym are)
 
 -- ---- a fault
 
-refused_of : (f : SparseFault) (x : List ℕ) (all : List (Option ℕ)) (size : ℕ) (o : Outcome) → IsOutcome x o → seen o ≡ before all (stopping f) → ((h : Header) (y : List ℕ) → SpellsHeader x h y → h.total_blks * h.blk_sz ≤ size) → RefusedFlash f size x
+refused_of : (f : SparseFault) (x : List ℕ) (all : List (Option ℕ)) (size : ℕ) (o : Outcome) → IsOutcome x o
+    → seen o ≡ before all (stopping f) → ((h : Header) (y : List ℕ) → SpellsHeader x h y
+    → h.total_blks * h.blk_sz ≤ size) → RefusedFlash f size x
 refused_of f x all size (Image h cs left) is q fits = absurd (ok_err f h left (ap (λ (a : Ahead). a.ending) q))
 refused_of f x all size (Fault g cs) is q fits =
     let same : g ≡ f = err_err g f (ap (λ (a : Ahead). a.ending) q) in
@@ -359,24 +437,28 @@ no_cells : (cs : List (Option ℕ)) → length cs ≡ 0 → cs ≡ []
 no_cells [] e = refl
 no_cells (c ∷ cs) e = absurd (omega (arith, e))
 
-module _ (models : Bool) (s s' : Walk) (x x' read rest : List ℕ) (k size : ℕ) (past0 past past' : Past) (p0 p p' : List ℕ) (taken0 taken taken' laid laid' : ℕ) (bytes : IsBytes x) (going : IsGoing s.phase)
+module _ (models : Bool) (s s' : Walk) (x x' read rest : List ℕ) (k size : ℕ) (past0 past past' : Past)
+    (p0 p p' : List ℕ) (taken0 taken taken' laid laid' : ℕ) (bytes : IsBytes x) (going : IsGoing s.phase)
     (left : x' ≡ drop k x) (i : Come models s k x size past0 past p0 p taken0 taken laid) where
   known : passed s ≡ true → (listing_of x).head ≡ Some (view s.header)
   known q = known_head models s k x size past0 past p0 p taken0 taken laid i going q
 
-  fits_all : (g : SparseFault) → Heads (Err (fails.Sparse g)) s s' x' rest → (passed s ≡ true → need_of s ≤ size) → (h : Header) (y : List ℕ) → SpellsHeader x h y → h.total_blks * h.blk_sz ≤ size
+  fits_all : (g : SparseFault) → Heads (Err (fails.Sparse g)) s s' x' rest → (passed s ≡ true → need_of s ≤ size)
+      → (h : Header) (y : List ℕ) → SpellsHeader x h y → h.total_blks * h.blk_sz ≤ size
   fits_all g heads measures h y sp =
       let here = spelled_head x h y sp in
       elim (cases_Bool (passed s)) [
         | inl t ↦ fits_known s x size h (known t) here (measures t)
-        | inr t ↦ absurd (none_some h (sym (head_none s.phase s going t) ∙ sym heads ∙ ap (λ (l : List ℕ). (upcoming s l).head) left ∙ sym i.head ∙ here))
+        | inr t ↦ absurd (none_some h (sym (head_none s.phase s going t) ∙ sym heads
+            ∙ ap (λ (l : List ℕ). (upcoming s l).head) left ∙ sym i.head ∙ here))
       ]
 
   short_none : passed s ≡ true → size < need_of s → i.cells ≡ []
   short_none q lt = elim (cases_Bool (nat_lt 0 s.index)) [
     | inl t ↦
         let body : s.phase ≡ phases.Body = body_of s.phase s going q in
-        let le : (view s.header).total_blks * (view s.header).blk_sz ≤ size = i.fits body (ltb-true _ _ t) (view s.header) (known q) in
+        let le : (view s.header).total_blks * (view s.header).blk_sz ≤ size =
+        i.fits body (ltb-true _ _ t) (view s.header) (known q) in
         absurd (omega (arith, le, lt))
     | inr t ↦
         let less : s.index ≤ 0 = ltb-false _ _ t in
@@ -390,8 +472,12 @@ module _ (models : Bool) (s s' : Walk) (x x' read rest : List ℕ) (k size : ℕ
     place_none phases.Done s e = omega (arith, e)
     place_none (phases.Failed g) s e = omega (arith, e)
 
-  pub fault_flashes : (f : FlashFault) → Ends models (Err f) s' x read rest past0 past' p0 p' taken0 taken' laid' → Leaves (Err f) s'.phase → Heads (Err f) s s' x' rest → Measures (Err f) s size → OnShort {X = MachineProgress} (Err f) (taken' ≡ taken) → Flashes (Err f) size taken0 taken' x rest
-  fault_flashes (fails.Sparse g) e leaves heads measures none = refused_of g x e.all size (outcome x) (is_so x bytes) (e.told ∙ ap (λ (a : Ahead). before e.all a) (at_fault s' rest g leaves)) (fits_all g heads measures)
+  pub fault_flashes : (f : FlashFault) → Ends models (Err f) s' x read rest past0 past' p0 p' taken0 taken' laid'
+      → Leaves (Err f) s'.phase → Heads (Err f) s s' x' rest → Measures (Err f) s size
+      → OnShort {X = MachineProgress} (Err f) (taken' ≡ taken) → Flashes (Err f) size taken0 taken' x rest
+  fault_flashes (fails.Sparse g) e leaves heads measures none =
+      refused_of g x e.all size (outcome x) (is_so x bytes) (e.told
+      ∙ ap (λ (a : Ahead). before e.all a) (at_fault s' rest g leaves)) (fits_all g heads measures)
   fault_flashes (fails.PartitionTooSmall need) e leaves heads measures none =
       let at = known measures.0 in
       let zero = short_none measures.0 (rw (← measures.1) measures.2) in
@@ -406,21 +492,29 @@ module _ (models : Bool) (s s' : Walk) (x x' read rest : List ℕ) (k size : ℕ
       }
   fault_flashes (fails.Sync d) e leaves heads measures none =
       let laid = min (said_by e.all) (2 ^ 64 - 1) in
-      let answer : Flashed = record { blocks = min (laid / s'.header.blk_sz) s'.header.total_blks } in
-      (answer, image_of x e.all rest s.header s'.header answer size taken0 taken' laid (outcome x) (is_so x bytes) (e.told ∙ ap (λ (a : Ahead). before e.all a) (at_done s' rest leaves)) (known measures.0) measures.1 e.counted refl refl)
+      let answer : Flashed = record { blocks = min (laid / s'.header.blk_sz) s'.header.total_blks } in (
+        answer,
+        image_of x e.all rest s.header s'.header answer size taken0 taken' laid (outcome x) (is_so x bytes)
+            (e.told ∙ ap (λ (a : Ahead). before e.all a) (at_done s' rest leaves))
+            (known measures.0) measures.1 e.counted refl refl,
+      )
   fault_flashes f e leaves heads measures none = tt
 
-  pub fault_holds : (f : FlashFault) → Ends models (Err f) s' x read rest past0 past' p0 p' taken0 taken' laid' → Leaves (Err f) s'.phase → Measures (Err f) s size → OnShort {X = MachineProgress} (Err f) (p' ≡ p) → IsTrue models → Holds (Err f) p0 p' x
+  pub fault_holds : (f : FlashFault) → Ends models (Err f) s' x read rest past0 past' p0 p' taken0 taken' laid'
+      → Leaves (Err f) s'.phase → Measures (Err f) s size → OnShort {X = MachineProgress} (Err f) (p' ≡ p)
+      → IsTrue models → Holds (Err f) p0 p' x
   fault_holds (fails.Sparse g) e leaves measures same t =
       let q = e.told ∙ ap (λ (a : Ahead). before e.all a) (at_fault s' rest g leaves) in
-      let are : given (outcome x) ≡ e.all = sym (seen_given (outcome x)) ∙ ap (λ (a : Ahead). a.cells) q ∙ append-nil e.all in
+      let are : given (outcome x) ≡ e.all = sym (seen_given (outcome x)) ∙ ap (λ (a : Ahead). a.cells) q
+      ∙ append-nil e.all in
       e.content t ∙ ap (over p0) (sym are)
   fault_holds (fails.PartitionTooSmall need) e leaves measures same t =
       let zero = short_none measures.0 (rw (← measures.1) measures.2) in
       same ∙ i.content t ∙ ap (over p0) zero ∙ sym (over_none p0)
   fault_holds (fails.Sync d) e leaves measures same t =
       let q = e.told ∙ ap (λ (a : Ahead). before e.all a) (at_done s' rest leaves) in
-      let are : given (outcome x) ≡ e.all = sym (seen_given (outcome x)) ∙ ap (λ (a : Ahead). a.cells) q ∙ append-nil e.all in
+      let are : given (outcome x) ≡ e.all = sym (seen_given (outcome x)) ∙ ap (λ (a : Ahead). a.cells) q
+      ∙ append-nil e.all in
       e.content t ∙ ap (over p0) (sym are)
   fault_holds f e leaves measures same t = tt
 
@@ -429,21 +523,26 @@ going_phase stages.Going p h = h
 going_phase stages.Done p h = absurd h
 going_phase (stages.Failed f) p h = absurd h
 
-pub short_same : (f : FlashFault) (A B : Type 0) → (A → B) → OnShort {X = MachineProgress} (Err f) A → OnShort {X = MachineProgress} (Err f) B
+pub short_same : (f : FlashFault) (A B : Type 0) → (A → B) → OnShort {X = MachineProgress} (Err f) A
+    → OnShort {X = MachineProgress} (Err f) B
 short_same (fails.PartitionTooSmall need) A B go h = go h
 short_same f A B go h = tt
 
 -- ---- the partition's size, whatever the input
 
-pub need_stays : (s s' : Walk) (size : ℕ) → IsGoing s.phase → passed s ≡ true → (s.phase ≡ phases.Body → s'.header ≡ s.header) → need_of s ≤ size → need_of s' ≤ size
+pub need_stays : (s s' : Walk) (size : ℕ) → IsGoing s.phase → passed s ≡ true
+    → (s.phase ≡ phases.Body → s'.header ≡ s.header) → need_of s ≤ size → need_of s' ≤ size
 need_stays s s' size going e stays le = rw (stays (body_of s.phase s going e)) le
 
 -- it is found too small only before the first chunk
-pub short_first : (f : FlashFault) (s : Walk) (size : ℕ) (A B : Type 0) → IsGoing s.phase → Measures (Err f) s size → (s.phase ≡ phases.Body → 0 < s.index → need_of s ≤ size) → (IsFresh s → A) → {C : Type 0} → (A → C → B) → OnShort {X = MachineProgress} (Err f) C → OnShort {X = Flashed} (Err f) B
+pub short_first : (f : FlashFault) (s : Walk) (size : ℕ) (A B : Type 0) → IsGoing s.phase → Measures (Err f) s size
+    → (s.phase ≡ phases.Body → 0 < s.index → need_of s ≤ size) → (IsFresh s → A) → {C : Type 0} → (A → C → B)
+    → OnShort {X = MachineProgress} (Err f) C → OnShort {X = Flashed} (Err f) B
 short_first (fails.PartitionTooSmall need) s size A B going measures measured fresh go short =
     let body : s.phase ≡ phases.Body = body_of s.phase s going measures.0 in
     elim (cases_Bool (nat_lt 0 s.index)) [
-      | inl t ↦ let le : need_of s ≤ size = measured body (ltb-true _ _ t) in absurd (omega (arith, le, measures.1, measures.2))
+      | inl t ↦ let le : need_of s ≤ size = measured body (ltb-true _ _ t) in
+          absurd (omega (arith, le, measures.1, measures.2))
       | inr t ↦
           let none : s.index ≤ 0 = ltb-false _ _ t in
           let first : s.index ≡ 0 = omega (arith, none) in

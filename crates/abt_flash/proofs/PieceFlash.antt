@@ -1,5 +1,7 @@
 -- What flashing a piece leaves, and why it may be refused.
-use Rattle.std.proofs.Common.{◌≡◌, ℕ, ◌+◌, ◌-◌, ◌*◌, ◌^◌, ◌≤◌, ◌<◌, Bool, List, [], ◌++◌, length, map, take, drop, Option, Result, Ok, Err, refl, sym, ap, subst, ◌∙◌, append-nil, arith, length-drop, take-append-drop}
+use Rattle.std.proofs.Common.{◌≡◌, ℕ, ◌+◌, ◌-◌, ◌*◌, ◌^◌, ◌≤◌, ◌<◌, Bool, List, [], ◌++◌, length, map, take, drop}
+use Rattle.std.proofs.Common.{Option, Result, Ok, Err, refl, sym, ap, subst, ◌∙◌, append-nil, arith, length-drop}
+use Rattle.std.proofs.Common.{take-append-drop}
 use Rattle.std.specs.Prelude.{IsTrue}
 use Rattle.std.proofs.lemmas.List.{length-take-le, drop-drop}
 use Rattle.std.proofs.Math.Seq.{drop-append_seam}
@@ -33,7 +35,9 @@ use Rattle.abt_flash.specs.Causes.{cutting_cause, flashing_cause}
 use Rattle.abt_flash.specs.Going.{blocks_at}
 use Rattle.abt_flash.specs.declared.stage.Flashed.{Flashed}
 use Rattle.abt_flash_faults.specs.declared.fault.FlashFault.{FlashFault}
-use Rattle.abt_flash_faults.specs.declared.fault.FlashFault.TheVariants.{Sparse, Read, Write, TooLarge, SourceChanged, BadBlock, LimitTooSmall, PartitionTooSmall, Sync, Stopped, NoSuchPiece}
+use Rattle.abt_flash_faults.specs.declared.fault.FlashFault.TheVariants.{Sparse, Read, Write, TooLarge, SourceChanged}
+use Rattle.abt_flash_faults.specs.declared.fault.FlashFault.TheVariants.{BadBlock, LimitTooSmall, PartitionTooSmall}
+use Rattle.abt_flash_faults.specs.declared.fault.FlashFault.TheVariants.{Sync, Stopped, NoSuchPiece}
 
 -- ---- a piece as an image
 
@@ -49,10 +53,13 @@ pub record Reads (b n : ℕ) (f : List Block) (y : List ℕ) : Type 0 where
 -- the parts of an image round a segment
 pub parts_are : (l : List Block) (s e : ℕ) → s ≤ e → take s l ++ (between l s e ++ drop e l) ≡ l
 parts_are l s e order =
-    let rest : drop (e - s) (drop s l) ≡ drop e l = drop-drop (e - s) s l ∙ ap (λ (k : ℕ). drop k l) (let z : s + (e - s) ≡ e = omega (arith, order) in z) in
-    ap (λ (x : List Block). take s l ++ (between l s e ++ x)) (sym rest) ∙ ap (λ (x : List Block). take s l ++ x) (take-append-drop (e - s) (drop s l)) ∙ take-append-drop s l
+    let rest : drop (e - s) (drop s l) ≡ drop e l = drop-drop (e - s) s l
+    ∙ ap (λ (k : ℕ). drop k l) (let z : s + (e - s) ≡ e = omega (arith, order) in z) in
+    ap (λ (x : List Block). take s l ++ (between l s e ++ x)) (sym rest)
+    ∙ ap (λ (x : List Block). take s l ++ x) (take-append-drop (e - s) (drop s l)) ∙ take-append-drop s l
 
-pub piece_reads : (limit b : ℕ) (l : List Block) (s e : ℕ) → IsBlockSize b → AreBlocks b l → length l < 2 ^ 32 → limit < 2 ^ 32 → FirstPiece b l limit s e → Reads b (length l) (frame l s e) (piece b (frame l s e))
+pub piece_reads : (limit b : ℕ) (l : List Block) (s e : ℕ) → IsBlockSize b → AreBlocks b l → length l < 2 ^ 32
+    → limit < 2 ^ 32 → FirstPiece b l limit s e → Reads b (length l) (frame l s e) (piece b (frame l s e))
 piece_reads limit b l s e size good few small h =
     let part = between l s e in
     let after = length l - e in
@@ -61,27 +68,34 @@ piece_reads limit b l s e size good few small h =
     let long : length part ≡ e - s = length-take-le (e - s) (drop s l) (omega (arith, h.within, length-drop s l)) in
     let all : s + length part + after ≡ length l = omega (arith, long, h.order, h.within) in
     let inner : AreBlocks b (take s l ++ (part ++ drop e l)) = rw (parts_are l s e h.order) good in
-    let mine : AreBlocks b part = (AreBlocks-parts b part (drop e l) (AreBlocks-parts b (take s l) (part ++ drop e l) inner).1).0 in
+    let mine : AreBlocks b part =
+    (AreBlocks-parts b part (drop e l) (AreBlocks-parts b (take s l) (part ++ drop e l) inner).1).0 in
     let r = pieces_read b s after part [] size mine (omega (arith, all, few)) (omega (arith, h.fits, small)) in
     record {
       header = plain_header b (s + length part + after) (length (runs f));
       chunks = map chunk_of_run (runs f);
-      spelled = subst (λ (z : List ℕ). Spells z (plain_header b (s + length part + after) (length (runs f))) (map chunk_of_run (runs f)) []) (append-nil y) r.0;
+      spelled = subst (λ (z : List ℕ). Spells z (plain_header b (s + length part + after) (length (runs f)))
+          (map chunk_of_run (runs f)) []) (append-nil y) r.0;
       size = refl;
       count = all;
       blocks = r.1;
     }
 
 -- the next piece is that of its segment
-pub blocks_at_are : (limit b : ℕ) (l : List Block) (s e : ℕ) → FirstPiece b l limit s e → blocks_at limit b l s ≡ frame l s e
+pub blocks_at_are : (limit b : ℕ) (l : List Block) (s e : ℕ) → FirstPiece b l limit s e
+    → blocks_at limit b l s ≡ frame l s e
 blocks_at_are limit b l s e h =
     let seg : segment_at b limit l s ≡ between l s e = ap first_part h.cut in
-    let long : length (between l s e) ≡ e - s = length-take-le (e - s) (drop s l) (omega (arith, h.within, length-drop s l)) in
-    let rest : length l - (s + length (segment_at b limit l s)) ≡ length l - e = let z = ap length seg in omega (arith, z, long, h.order) in
-    ap (λ (g : List Block). framed s g (length l - (s + length (segment_at b limit l s)))) seg ∙ ap (λ (n : ℕ). framed s (between l s e) n) rest
+    let long : length (between l s e) ≡ e - s =
+    length-take-le (e - s) (drop s l) (omega (arith, h.within, length-drop s l)) in
+    let rest : length l - (s + length (segment_at b limit l s)) ≡ length l - e = let z = ap length seg in
+    omega (arith, z, long, h.order) in
+    ap (λ (g : List Block). framed s g (length l - (s + length (segment_at b limit l s)))) seg
+    ∙ ap (λ (n : ℕ). framed s (between l s e) n) rest
 
 pub given_reads : (b n : ℕ) (f : List Block) (y : List ℕ) → Reads b n f y → given (outcome y) ≡ cells b f
-given_reads b n f y r = given_is y r.header r.chunks [] r.spelled ∙ ap (λ (k : ℕ). cells k (classed r.chunks)) r.size ∙ ap (cells b) r.blocks
+given_reads b n f y r = given_is y r.header r.chunks [] r.spelled ∙ ap (λ (k : ℕ). cells k (classed r.chunks)) r.size
+    ∙ ap (cells b) r.blocks
 
 -- ---- what flashing it returns
 
@@ -98,12 +112,19 @@ pub record AllFlashed (b had has : ℕ) (f : List Block) (rest : List ℕ) : Typ
   pub none : rest ≡ []
   pub taken : has ≡ had + b * written_in f
 
-pub all_flashed : (b n : ℕ) (f : List Block) (y rest : List ℕ) (e : Flashed) (size had has : ℕ) → Reads b n f y → WholeFlash e size had has y rest → AllFlashed b had has f rest
+pub all_flashed : (b n : ℕ) (f : List Block) (y rest : List ℕ) (e : Flashed) (size had has : ℕ) → Reads b n f y
+    → WholeFlash e size had has y rest → AllFlashed b had has f rest
 all_flashed b n f y rest e size had has r w =
-    let is : Image w.header w.chunks rest ≡ Image r.header r.chunks [] = sym (spelled_is y w.header w.chunks rest w.spelled) ∙ spelled_is y r.header r.chunks [] r.spelled in
+    let is : Image w.header w.chunks rest ≡ Image r.header r.chunks [] =
+    sym (spelled_is y w.header w.chunks rest w.spelled) ∙ spelled_is y r.header r.chunks [] r.spelled in
     let blk : w.header.blk_sz ≡ b = ap (λ (h : Header). h.blk_sz) (same_header is) ∙ r.size in
-    let count : e.blocks ≡ written_in f = w.blocks ∙ ap (λ (cs : List Chunk). written_in (classed cs)) (same_chunks is) ∙ ap written_in r.blocks in
-    record { none = same_rest is; taken = w.once ∙ ap (λ (k : ℕ). had + k * e.blocks) blk ∙ ap (λ (k : ℕ). had + b * k) count }
+    let count : e.blocks ≡ written_in f =
+    w.blocks ∙ ap (λ (cs : List Chunk). written_in (classed cs)) (same_chunks is) ∙ ap written_in r.blocks in
+    record {
+      none = same_rest is;
+      taken = w.once ∙ ap (λ (k : ℕ). had + k * e.blocks) blk
+          ∙ ap (λ (k : ℕ). had + b * k) count;
+    }
 
 -- it is refused by a device alone
 abbrev pub IsDevices : FlashFault → Type 0
@@ -111,23 +132,29 @@ IsDevices (Sparse f) = ⊥
 IsDevices (PartitionTooSmall n) = ⊥
 IsDevices e = Unit {0}
 
-never_faulty : (b n : ℕ) (f : List Block) (y : List ℕ) (e : SparseFault) (size : ℕ) → Reads b n f y → RefusedFlash e size y → ⊥
-never_faulty b n f y e size r h = let is : Image r.header r.chunks [] ≡ Fault e h.given = sym (spelled_is y r.header r.chunks [] r.spelled) ∙ failed_is y e h.given h.fails in cc
+never_faulty : (b n : ℕ) (f : List Block) (y : List ℕ) (e : SparseFault) (size : ℕ) → Reads b n f y
+    → RefusedFlash e size y → ⊥
+never_faulty b n f y e size r h = let is : Image r.header r.chunks [] ≡ Fault e h.given =
+    sym (spelled_is y r.header r.chunks [] r.spelled) ∙ failed_is y e h.given h.fails in cc
 
 ok_header : {h h' : Header} → (let r : Result Header SparseFault = Ok h in r) ≡ Ok h' → h ≡ h'
 ok_header {h} {h'} e = cc
 
-never_short : (b n : ℕ) (f : List Block) (y rest : List ℕ) (need size had has : ℕ) → Reads b n f y → n * b ≤ size → Short need size had has y → ⊥
+never_short : (b n : ℕ) (f : List Block) (y rest : List ℕ) (need size had has : ℕ) → Reads b n f y → n * b ≤ size
+    → Short need size had has y → ⊥
 never_short b n f y rest need size had has r room h =
     let mine = behind_header y r.header r.spelled.front.after r.spelled.front.header in
     let its = behind_header y h.header h.behind h.spelled in
     let same : h.header ≡ r.header = ok_header (sym its.1 ∙ mine.1) in
-    let is : need ≡ n * b = h.needs ∙ ap (λ (k : Header). k.total_blks * k.blk_sz) same ∙ ap (λ (k : ℕ). k * r.header.blk_sz) r.count ∙ ap (λ (k : ℕ). n * k) r.size in
+    let is : need ≡ n * b = h.needs ∙ ap (λ (k : Header). k.total_blks * k.blk_sz) same
+    ∙ ap (λ (k : ℕ). k * r.header.blk_sz) r.count ∙ ap (λ (k : ℕ). n * k) r.size in
     omega (arith, is, room, h.short)
 
-pub only_devices : (b n : ℕ) (f : List Block) (y rest : List ℕ) (e : FlashFault) (size had has : ℕ) → Reads b n f y → n * b ≤ size → Flashes (Err e) size had has y rest → IsDevices e
+pub only_devices : (b n : ℕ) (f : List Block) (y rest : List ℕ) (e : FlashFault) (size had has : ℕ) → Reads b n f y
+    → n * b ≤ size → Flashes (Err e) size had has y rest → IsDevices e
 only_devices b n f y rest (Sparse e) size had has r room h = never_faulty b n f y e size r h
-only_devices b n f y rest (PartitionTooSmall need) size had has r room h = never_short b n f y rest need size had has r room h
+only_devices b n f y rest (PartitionTooSmall need) size had has r room h =
+    never_short b n f y rest need size had has r room h
 only_devices b n f y rest (Read d) size had has r room h = tt
 only_devices b n f y rest (Write d) size had has r room h = tt
 only_devices b n f y rest (Sync d) size had has r room h = tt
@@ -138,7 +165,9 @@ only_devices b n f y rest (LimitTooSmall k) size had has r room h = tt
 only_devices b n f y rest (Stopped k c) size had has r room h = tt
 only_devices b n f y rest (NoSuchPiece k) size had has r room h = tt
 
-pub flash_stops : (e : FlashFault) (source spool : Bool) (a z : Counts) (g : ℕ) → a.spool_faults ≤ g → FlashCause e g z.spool_faults a.put_faults z.put_faults → (IsTrue spool → IsDevices e) → StopsFor (flashing_cause e) source spool a z
+pub flash_stops : (e : FlashFault) (source spool : Bool) (a z : Counts) (g : ℕ) → a.spool_faults ≤ g
+    → FlashCause e g z.spool_faults a.put_faults z.put_faults → (IsTrue spool → IsDevices e)
+    → StopsFor (flashing_cause e) source spool a z
 flash_stops (Sparse f) source spool a z g le h only = only
 flash_stops (PartitionTooSmall n) source spool a z g le h only = only
 flash_stops (Read d) source spool a z g le h only = let x = h.0 in (omega (arith, x, le), h.1)
@@ -152,7 +181,9 @@ flash_stops (Stopped n c) source spool a z g le h only = absurd h
 flash_stops (NoSuchPiece n) source spool a z g le h only = absurd h
 
 -- a piece that was not written: the source or the spool has failed, or the source models nothing
-pub cut_stops : (e : PieceFault) (source spool : Bool) (a z : Counts) (w w' : ℕ) → CutCause e source a.read_faults z.read_faults w w' → (w < w' → a.write_faults < z.write_faults) → (e ≡ cuts.Write devices.Full → ⊥) → StopsFor (cutting_cause e) source spool a z
+pub cut_stops : (e : PieceFault) (source spool : Bool) (a z : Counts) (w w' : ℕ)
+    → CutCause e source a.read_faults z.read_faults w w' → (w < w' → a.write_faults < z.write_faults)
+    → (e ≡ cuts.Write devices.Full → ⊥) → StopsFor (cutting_cause e) source spool a z
 cut_stops (cuts.Read d) source spool a z w w' h more full = h
 cut_stops (cuts.Write devices.Failed) source spool a z w w' h more full = (more h, refl)
 cut_stops (cuts.Write devices.Full) source spool a z w w' h more full = absurd (full refl)
@@ -163,10 +194,18 @@ cut_stops (cuts.LimitTooSmall n) source spool a z w w' h more full = absurd h
 
 -- an image of n blocks, whatever these are
 pub image_reads : (b n : ℕ) (y : List ℕ) (i : IsPlainImage b n y) → Reads b n (classed i.chunks) y
-image_reads b n y i = record { header = plain_header b n (length i.chunks); chunks = i.chunks; spelled = i.spelled; size = refl; count = refl; blocks = refl }
+image_reads b n y i = record {
+  header = plain_header b n (length i.chunks);
+  chunks = i.chunks;
+  spelled = i.spelled;
+  size = refl;
+  count = refl;
+  blocks = refl;
+}
 
 -- a piece that was refused is flashed whole where its sync was
-pub laid_stops : (e : FlashFault) (p p' x : List ℕ) (cs : List (Option ℕ)) → Holds (Err e) p p' x → given (outcome x) ≡ cs → OnFlashed (Err (flashing_cause e)) (p' ≡ over p cs)
+pub laid_stops : (e : FlashFault) (p p' x : List ℕ) (cs : List (Option ℕ)) → Holds (Err e) p p' x
+    → given (outcome x) ≡ cs → OnFlashed (Err (flashing_cause e)) (p' ≡ over p cs)
 laid_stops (Sync d) p p' x cs h same = h ∙ ap (over p) same
 laid_stops (Sparse f) p p' x cs h same = tt
 laid_stops (PartitionTooSmall n) p p' x cs h same = tt
@@ -180,7 +219,8 @@ laid_stops (Stopped n c) p p' x cs h same = tt
 laid_stops (NoSuchPiece n) p p' x cs h same = tt
 
 -- and only then a sync was refused
-pub unsynced_stops : (e : FlashFault) (r r' p p' : ℕ) → FlashCause e r r' p p' → unsynced_by (Err (flashing_cause e)) ≡ refused_syncs {X = Flashed} (Err e)
+pub unsynced_stops : (e : FlashFault) (r r' p p' : ℕ) → FlashCause e r r' p p'
+    → unsynced_by (Err (flashing_cause e)) ≡ refused_syncs {X = Flashed} (Err e)
 unsynced_stops (Sync d) r r' p p' h = refl
 unsynced_stops (Sparse f) r r' p p' h = refl
 unsynced_stops (PartitionTooSmall n) r r' p p' h = refl
@@ -231,5 +271,7 @@ all_read rem rest d le is none = let z = ap length (sym is ∙ none) in omega (a
 
 -- ---- what is touched
 
-pub touched_reads : (limit b n : ℕ) (l : List Block) (s e : ℕ) (rem y : List ℕ) → rem ≡ y → Reads b n (frame l s e) y → FirstPiece b l limit s e → given (outcome rem) ≡ cells b (blocks_at limit b l s)
-touched_reads limit b n l s e rem y is r h = ap (λ (z : List ℕ). given (outcome z)) is ∙ given_reads b n (frame l s e) y r ∙ ap (cells b) (sym (blocks_at_are limit b l s e h))
+pub touched_reads : (limit b n : ℕ) (l : List Block) (s e : ℕ) (rem y : List ℕ) → rem ≡ y → Reads b n (frame l s e) y
+    → FirstPiece b l limit s e → given (outcome rem) ≡ cells b (blocks_at limit b l s)
+touched_reads limit b n l s e rem y is r h = ap (λ (z : List ℕ). given (outcome z)) is
+    ∙ given_reads b n (frame l s e) y r ∙ ap (cells b) (sym (blocks_at_are limit b l s e h))

@@ -1,5 +1,6 @@
 -- What a call promises where it is refused before its first piece, and over the same image in other words.
-use Rattle.std.proofs.Common.{false, ◌≡◌, ℕ, ◌+◌, ◌-◌, ◌*◌, ◌≤◌, ◌<◌, ◌++◌, Bool, List, [], length, Result, Ok, Err, refl, ap, subst, ◌∙◌, arith}
+use Rattle.std.proofs.Common.{false, ◌≡◌, ℕ, ◌+◌, ◌-◌, ◌*◌, ◌≤◌, ◌<◌, ◌++◌, Bool, List, [], length, Result, Ok, Err}
+use Rattle.std.proofs.Common.{refl, ap, subst, ◌∙◌, arith}
 use Rattle.std.specs.Prelude.{IsTrue, IfErr, IfOk, OnOk}
 use Rattle.std.specs.List.{concat}
 use Rattle.abt_io.specs.Moment.{Past, moment_of}
@@ -15,11 +16,17 @@ use Rattle.abt_flash_faults.specs.Fault.{refused_syncs}
 use Rattle.abt_flash.specs.Devices.{Counts, PartitionState, SpoolState}
 use Rattle.abt_io.specs.declared.meter.Meter.{Meter}
 use Rattle.abt_flash.proofs.Ways.{ends_none, no_part_none}
-use Rattle.abt_flash.specs.Delivering.{AlwaysMendable, Begins, DeliveryCosts, CountsTo, EndsWhole, GaveNoPart, GivesPieces, HasBegun, ImageBlocks, IsLeast, LaysBlocks, LeavesMendable, MendsBlocks, OnEarly, OnStop, OnUnsyncedPiece, RefusedDelivery, Room, StaysMendable, begun, blocks_behind, blocks_in_first, blocks_up_to, finished, pieces_behind, pieces_in, with_cuts}
+use Rattle.abt_flash.specs.Delivering.{AlwaysMendable, Begins, DeliveryCosts, CountsTo, EndsWhole, GaveNoPart}
+use Rattle.abt_flash.specs.Delivering.{GivesPieces, HasBegun, ImageBlocks, IsLeast, LaysBlocks, LeavesMendable}
+use Rattle.abt_flash.specs.Delivering.{MendsBlocks, OnEarly, OnStop, OnUnsyncedPiece, RefusedDelivery, Room}
+use Rattle.abt_flash.specs.Delivering.{StaysMendable, begun, blocks_behind, blocks_in_first, blocks_up_to, finished}
+use Rattle.abt_flash.specs.Delivering.{pieces_behind, pieces_in, with_cuts}
 use Rattle.abt_flash.specs.Going.{PlanRefused, StopsIn}
 use Rattle.abt_flash.specs.declared.answer.Delivered.{Delivered}
 use Rattle.abt_flash_faults.specs.declared.fault.FlashFault.{FlashFault}
-use Rattle.abt_flash_faults.specs.declared.fault.FlashFault.TheVariants.{Sparse, Read, Write, TooLarge, SourceChanged, BadBlock, LimitTooSmall, PartitionTooSmall, Sync, Stopped, NoSuchPiece}
+use Rattle.abt_flash_faults.specs.declared.fault.FlashFault.TheVariants.{Sparse, Read, Write, TooLarge, SourceChanged}
+use Rattle.abt_flash_faults.specs.declared.fault.FlashFault.TheVariants.{BadBlock, LimitTooSmall, PartitionTooSmall}
+use Rattle.abt_flash_faults.specs.declared.fault.FlashFault.TheVariants.{Sync, Stopped, NoSuchPiece}
 use Rattle.abt_flash.proofs.Spooled.{fits_none}
 use Rattle.abt_flash.proofs.Staying.{from_fresh, stays_none}
 
@@ -114,7 +121,8 @@ run_begins source k made of_runs.TooLarge = refl
 run_begins source k made of_runs.SourceChanged = omega arith
 run_begins source k made (of_runs.BadBlock n) = refl
 
-pub plan_begins : (f : PieceFault) (source : Bool) (k made n : ℕ) → n ≤ made → (IsTrue source → n ≤ k) → HasBegun source k (Err (planning_fault f)) made n
+pub plan_begins : (f : PieceFault) (source : Bool) (k made n : ℕ) → n ≤ made → (IsTrue source → n ≤ k)
+    → HasBegun source k (Err (planning_fault f)) made n
 plan_begins (cuts.Read d) source k made n le few = (le, few)
 plan_begins (cuts.Write d) source k made n le few = le
 plan_begins cuts.SourceChanged source k made n le few = le
@@ -122,7 +130,8 @@ plan_begins cuts.TooLarge source k made n le few = le
 plan_begins (cuts.BadBlock m) source k made n le few = le
 plan_begins (cuts.LimitTooSmall m) source k made n le few = le
 
-pub gives_none : (forward source spool : Bool) (i : ImageBlocks) (limit made : ℕ) (e : FlashFault) (s : SpoolState) → GivesPieces forward source spool i limit made (Err e) s s
+pub gives_none : (forward source spool : Bool) (i : ImageBlocks) (limit made : ℕ) (e : FlashFault) (s : SpoolState)
+    → GivesPieces forward source spool i limit made (Err e) s s
 gives_none forward source spool i limit made e s = record {
   room = refl;
   fits = fits_none limit s.cuts (length s.written);
@@ -134,7 +143,8 @@ gives_none forward source spool i limit made e s = record {
   back = λ t u. tt;
 }
 
-pub lays_none : (source spool partition : Bool) (i : ImageBlocks) (limit made : ℕ) (e : FlashFault) (s : PartitionState) → IsEarly e → LaysBlocks source spool partition i limit made (Err e) s s
+pub lays_none : (source spool partition : Bool) (i : ImageBlocks) (limit made : ℕ) (e : FlashFault)
+    (s : PartitionState) → IsEarly e → LaysBlocks source spool partition i limit made (Err e) s s
 lays_none source spool partition i limit made e s early = record {
   size = refl;
   unread = (refl, refl);
@@ -160,18 +170,22 @@ none_stopped (PartitionTooSmall n) P h = tt
 none_stopped (Sync d) P h = absurd h
 none_stopped (Stopped n c) P h = absurd h
 
-pub mends_none : (i : ImageBlocks) (limit made : ℕ) (e : FlashFault) (s : PartitionState) → IsEarly e → MendsBlocks i limit made (Err e) s s
+pub mends_none : (i : ImageBlocks) (limit made : ℕ) (e : FlashFault) (s : PartitionState) → IsEarly e
+    → MendsBlocks i limit made (Err e) s s
 mends_none i limit made e s early = record {
   stays = stays_none limit i.size i.blocks made s.past s.content;
   stopped = none_stopped e _ early;
   mends = tt;
 }
 
-pub mendable_none : (i : ImageBlocks) (limit : ℕ) (s : PartitionState) → s.past.pending ≡ [] → AlwaysMendable i limit s s
+pub mendable_none : (i : ImageBlocks) (limit : ℕ) (s : PartitionState) → s.past.pending ≡ []
+    → AlwaysMendable i limit s s
 mendable_none i limit s none = from_fresh i limit s s none (stays_none limit i.size i.blocks 0 s.past s.content)
 
 -- an image that has room is refused as planning was
-pub plan_refuses : (e : FlashFault) (limit b n size made : ℕ) (source spool : Bool) (a z : Counts) → Room limit b n size → PlanRefused e made source a.read_faults z.read_faults → RefusedDelivery e limit b n size made source spool a z
+pub plan_refuses : (e : FlashFault) (limit b n size made : ℕ) (source spool : Bool) (a z : Counts)
+    → Room limit b n size → PlanRefused e made source a.read_faults z.read_faults
+    → RefusedDelivery e limit b n size made source spool a z
 plan_refuses (Read d) limit b n size made source spool a z room h = (room, h.0, h.1)
 plan_refuses SourceChanged limit b n size made source spool a z room h = (room, h)
 plan_refuses (NoSuchPiece k) limit b n size made source spool a z room h = (room, h.0, h.1)
@@ -185,7 +199,9 @@ plan_refuses (Sync d) limit b n size made source spool a z room h = absurd h
 plan_refuses (Stopped k c) limit b n size made source spool a z room h = absurd h
 
 -- and where its cutter was not opened, for its limit
-pub opening_refuses : (f : PieceFault) (limit b n size made : ℕ) (source spool : Bool) (a z : Counts) → f ≡ cuts.LimitTooSmall (64 + b) → limit < 64 + b → RefusedDelivery (opening_fault f) limit b n size made source spool a z
+pub opening_refuses : (f : PieceFault) (limit b n size made : ℕ) (source spool : Bool) (a z : Counts)
+    → f ≡ cuts.LimitTooSmall (64 + b) → limit < 64 + b
+    → RefusedDelivery (opening_fault f) limit b n size made source spool a z
 opening_refuses f limit b n size made source spool a z is small = rw is (refl, small)
 
 pub opening_counts : (f : PieceFault) (made k : ℕ) → CountsTo (Err (opening_fault f)) made k
@@ -220,7 +236,8 @@ early_holds (Sync d) P h = h
 -- ---- all pieces after the first ones
 
 -- a stop is not early
-pub rest_early : (made : ℕ) (r : Result Delivered FlashFault) (l s : Bool) (a z : Counts) (P : Type 0) → IfErr r (λ e. StopsIn e made l s a z) → OnEarly r P
+pub rest_early : (made : ℕ) (r : Result Delivered FlashFault) (l s : Bool) (a z : Counts) (P : Type 0)
+    → IfErr r (λ e. StopsIn e made l s a z) → OnEarly r P
 rest_early made (Ok d) l s a z P h = tt
 rest_early made (Err (Stopped j c)) l s a z P h = tt
 rest_early made (Err (NoSuchPiece j)) l s a z P h = absurd h
@@ -235,16 +252,19 @@ rest_early made (Err (PartitionTooSmall n)) l s a z P h = absurd h
 rest_early made (Err (Sync d)) l s a z P h = absurd h
 
 -- A stop leaves what is mended from its piece on: each piece before it was synced.
-pub stop_mends : (limit b : ℕ) (l : List Block) (made : ℕ) (r : Result Delivered FlashFault) (source spool : Bool) (a z : Counts) (old new : Past) (before after : List ℕ)
+pub stop_mends : (limit b : ℕ) (l : List Block) (made : ℕ) (r : Result Delivered FlashFault) (source spool : Bool)
+    (a z : Counts) (old new : Past) (before after : List ℕ)
     → IfErr r (λ e. StopsIn e made source spool a z) → new.synced ≡ old.synced + finished made r
     → StaysMendable limit b l made old new before after
     → OnStop r (λ j. (p : List ℕ) (done : ℕ) → made ≤ done → LeavesMendable limit b l p done (moment_of old before)
     → LeavesMendable limit b l p (j - 1) (moment_of new after))
 stop_mends limit b l made (Ok d) source spool a z old new before after h synced stays = tt
-stop_mends limit b l made (Err (Stopped j c)) source spool a z old new before after h synced stays = λ p done le leaves q may.
+stop_mends limit b l made (Err (Stopped j c)) source spool a z old new before after h synced stays =
+    λ p done le leaves q may.
     let order : made < j = h.0 in
     let count : made + (new.synced - old.synced) ≡ j - 1 = omega (arith, synced, order) in
-    let then : Mendable b l p q (blocks_in_first limit b l (made + (new.synced - old.synced))) = stays.now p done le leaves q may in
+    let then : Mendable b l p q (blocks_in_first limit b l (made + (new.synced - old.synced))) =
+    stays.now p done le leaves q may in
     rw count at then
 stop_mends limit b l made (Err (Read d)) source spool a z old new before after h synced stays = tt
 stop_mends limit b l made (Err SourceChanged) source spool a z old new before after h synced stays = tt
@@ -257,7 +277,8 @@ stop_mends limit b l made (Err (LimitTooSmall n)) source spool a z old new befor
 stop_mends limit b l made (Err (PartitionTooSmall n)) source spool a z old new before after h synced stays = tt
 stop_mends limit b l made (Err (Sync d)) source spool a z old new before after h synced stays = tt
 
-pub rest_begins : (source : Bool) (k made : ℕ) (r : Result Delivered FlashFault) (l s : Bool) (a z : Counts) → IfErr r (λ e. StopsIn e made l s a z) → HasBegun source k r made (begun made r)
+pub rest_begins : (source : Bool) (k made : ℕ) (r : Result Delivered FlashFault) (l s : Bool) (a z : Counts)
+    → IfErr r (λ e. StopsIn e made l s a z) → HasBegun source k r made (begun made r)
 rest_begins source k made (Ok d) l s a z h = refl
 rest_begins source k made (Err (Stopped j c)) l s a z h = refl
 rest_begins source k made (Err (NoSuchPiece j)) l s a z h = refl
@@ -271,7 +292,8 @@ rest_begins source k made (Err (LimitTooSmall n)) l s a z h = absurd h
 rest_begins source k made (Err (PartitionTooSmall n)) l s a z h = absurd h
 rest_begins source k made (Err (Sync d)) l s a z h = absurd h
 
-pub rest_more : (made : ℕ) (r : Result Delivered FlashFault) (l s : Bool) (a z : Counts) → IfErr r (λ e. StopsIn e made l s a z) → made ≤ begun made r
+pub rest_more : (made : ℕ) (r : Result Delivered FlashFault) (l s : Bool) (a z : Counts)
+    → IfErr r (λ e. StopsIn e made l s a z) → made ≤ begun made r
 rest_more made (Ok d) l s a z h = omega arith
 rest_more made (Err (Stopped j c)) l s a z h = let x = h.0 in omega (arith, x)
 rest_more made (Err (NoSuchPiece j)) l s a z h = absurd h
@@ -286,21 +308,35 @@ rest_more made (Err (PartitionTooSmall n)) l s a z h = absurd h
 rest_more made (Err (Sync d)) l s a z h = absurd h
 
 -- the public calls promise less than the private one
-pub costs_more : (source : Bool) (i : ImageBlocks) (limit words made : ℕ) (r : Result Delivered FlashFault) (a z : Counts) (m m' : Meter) → DeliveryCosts source i limit words 400 made r a z m m' → DeliveryCosts source i limit words 512 made r a z m m'
+pub costs_more : (source : Bool) (i : ImageBlocks) (limit words made : ℕ) (r : Result Delivered FlashFault)
+    (a z : Counts) (m m' : Meter) → DeliveryCosts source i limit words 400 made r a z m m'
+    → DeliveryCosts source i limit words 512 made r a z m m'
 costs_more source i limit words made r a z m m' h =
     let calls = h.calls in
     let turns = h.turns in
-    record { begun = h.begun; counted = h.counted; calls = omega (arith, calls); turns = omega (arith, turns); steps = h.steps; greatest = h.greatest }
+    record {
+      begun = h.begun;
+      counted = h.counted;
+      calls = omega (arith, calls);
+      turns = omega (arith, turns);
+      steps = h.steps;
+      greatest = h.greatest;
+    }
 
 -- ---- the same image in other words
 
-pub counts_same : (r : Result Delivered FlashFault) (limit made : ℕ) (i j : ImageBlocks) → i ≡ j → CountsTo r made (pieces_in limit i) → CountsTo r made (pieces_in limit j)
-counts_same r limit made i j e h = let P : ImageBlocks → Type 0 = λ n. CountsTo r made (pieces_in limit n) in subst P e h
+pub counts_same : (r : Result Delivered FlashFault) (limit made : ℕ) (i j : ImageBlocks) → i ≡ j
+    → CountsTo r made (pieces_in limit i) → CountsTo r made (pieces_in limit j)
+counts_same r limit made i j e h = let P : ImageBlocks → Type 0 = λ n. CountsTo r made (pieces_in limit n) in
+    subst P e h
 
-pub least_same : (r : Result Delivered FlashFault) (limit made : ℕ) (i j : ImageBlocks) → i ≡ j → IfOk r (λ d. IsLeast limit (made + d.pieces) i) → IfOk r (λ d. IsLeast limit (made + d.pieces) j)
-least_same r limit made i j e h = let P : ImageBlocks → Type 0 = λ n. IfOk r (λ d. IsLeast limit (made + d.pieces) n) in subst P e h
+pub least_same : (r : Result Delivered FlashFault) (limit made : ℕ) (i j : ImageBlocks) → i ≡ j
+    → IfOk r (λ d. IsLeast limit (made + d.pieces) i) → IfOk r (λ d. IsLeast limit (made + d.pieces) j)
+least_same r limit made i j e h = let P : ImageBlocks → Type 0 =
+    λ n. IfOk r (λ d. IsLeast limit (made + d.pieces) n) in subst P e h
 
-pub begins_same : (source : Bool) (k l made n : ℕ) (r : Result Delivered FlashFault) → (IsTrue source → k ≡ l) → HasBegun source k r made n → HasBegun source l r made n
+pub begins_same : (source : Bool) (k l made n : ℕ) (r : Result Delivered FlashFault) → (IsTrue source → k ≡ l)
+    → HasBegun source k r made n → HasBegun source l r made n
 begins_same source k l made n (Ok d) e h = h
 begins_same source k l made n (Err (Stopped j c)) e h = h
 begins_same source k l made n (Err (NoSuchPiece j)) e h = h
@@ -314,36 +350,62 @@ begins_same source k l made n (Err (LimitTooSmall m)) e h = h
 begins_same source k l made n (Err (PartitionTooSmall m)) e h = h
 begins_same source k l made n (Err (Sync d)) e h = h
 
-pub gives_same : (forward source spool : Bool) (i j : ImageBlocks) (limit made : ℕ) (r : Result Delivered FlashFault) (s z : SpoolState) → (IsTrue source → i ≡ j) → (forward ≡ false → i.size ≡ j.size) → GivesPieces forward source spool i limit made r s z → GivesPieces forward source spool j limit made r s z
+pub gives_same : (forward source spool : Bool) (i j : ImageBlocks) (limit made : ℕ) (r : Result Delivered FlashFault)
+    (s z : SpoolState) → (IsTrue source → i ≡ j) → (forward ≡ false → i.size ≡ j.size)
+    → GivesPieces forward source spool i limit made r s z → GivesPieces forward source spool j limit made r s z
 gives_same forward source spool i j limit made r s z e size h = record {
   room = h.room;
   fits = h.fits;
-  written = λ t. let P : ImageBlocks → Type 0 = λ n. OnOk r (z.written ≡ s.written ++ concat (pieces_behind limit n.size n.blocks made)) in subst P (e t) (h.written t);
-  cuts = λ t. let P : ImageBlocks → Type 0 = λ n. OnOk r (z.cuts ≡ with_cuts s.cuts (length s.written) (pieces_behind limit n.size n.blocks made)) in subst P (e t) (h.cuts t);
-  begins = λ f t. let P : ImageBlocks → Type 0 = λ n. Begins z.written (s.written ++ concat (pieces_behind limit n.size n.blocks made)) in subst P (e t) (h.begins f t);
-  no_part = λ f t. let P : ImageBlocks → Type 0 = λ n. GaveNoPart s.written z.written z.cuts (pieces_behind limit n.size n.blocks made) in subst P (e t) (h.no_part f t);
+  written = λ t. let P : ImageBlocks → Type 0 =
+      λ n. OnOk r (z.written ≡ s.written ++ concat (pieces_behind limit n.size n.blocks made)) in
+      subst P (e t) (h.written t);
+  cuts = λ t. let P : ImageBlocks → Type 0 =
+      λ n. OnOk r (z.cuts ≡ with_cuts s.cuts (length s.written) (pieces_behind limit n.size n.blocks made)) in
+      subst P (e t) (h.cuts t);
+  begins = λ f t. let P : ImageBlocks → Type 0 =
+      λ n. Begins z.written (s.written ++ concat (pieces_behind limit n.size n.blocks made)) in
+      subst P (e t) (h.begins f t);
+  no_part = λ f t. let P : ImageBlocks → Type 0 =
+      λ n. GaveNoPart s.written z.written z.cuts (pieces_behind limit n.size n.blocks made) in
+      subst P (e t) (h.no_part f t);
   ends = λ f. subst (λ (b : ℕ). EndsWhole b s.written z.written s.cuts z.cuts) (size f) (h.ends f);
   back = h.back;
 }
 
-pub lays_same : (source spool partition : Bool) (i j : ImageBlocks) (limit made : ℕ) (r : Result Delivered FlashFault) (s z : PartitionState) → (IsTrue source → i ≡ j) → LaysBlocks source spool partition i limit made r s z → LaysBlocks source spool partition j limit made r s z
+pub lays_same : (source spool partition : Bool) (i j : ImageBlocks) (limit made : ℕ) (r : Result Delivered FlashFault)
+    (s z : PartitionState) → (IsTrue source → i ≡ j) → LaysBlocks source spool partition i limit made r s z
+    → LaysBlocks source spool partition j limit made r s z
 lays_same source spool partition i j limit made r s z e h = record {
   size = h.size;
   unread = h.unread;
-  laid = λ t u v. let P : ImageBlocks → Type 0 = λ n. OnOk r (z.content ≡ over s.content (cells n.size (blocks_behind (blocks_in_first limit n.size n.blocks made) n.blocks))) in subst P (e t) (h.laid t u v);
-  laid_up_to = λ t u v. let P : ImageBlocks → Type 0 = λ n. OnUnsyncedPiece r (λ k. z.content ≡ over s.content (cells n.size (blocks_up_to (blocks_in_first limit n.size n.blocks made) (blocks_in_first limit n.size n.blocks k) n.blocks))) in subst P (e t) (h.laid_up_to t u v);
-  once = λ t u. let P : ImageBlocks → Type 0 = λ n. OnOk r (z.taken ≡ s.taken + n.size * written_in (blocks_behind (blocks_in_first limit n.size n.blocks made) n.blocks)) in subst P (e t) (h.once t u);
+  laid = λ t u v. let P : ImageBlocks → Type 0 =
+      λ n. OnOk r (z.content ≡ over s.content
+      (cells n.size (blocks_behind (blocks_in_first limit n.size n.blocks made) n.blocks))) in
+      subst P (e t) (h.laid t u v);
+  laid_up_to = λ t u v. let P : ImageBlocks → Type 0 =
+      λ n. OnUnsyncedPiece r
+      (λ k. z.content ≡ over s.content
+      (cells n.size (blocks_up_to (blocks_in_first limit n.size n.blocks made)
+      (blocks_in_first limit n.size n.blocks k) n.blocks))) in subst P (e t) (h.laid_up_to t u v);
+  once = λ t u. let P : ImageBlocks → Type 0 =
+      λ n. OnOk r (z.taken ≡ s.taken + n.size * written_in
+      (blocks_behind (blocks_in_first limit n.size n.blocks made) n.blocks)) in subst P (e t) (h.once t u);
   synced = h.synced;
   unsynced = h.unsynced;
   settled = h.settled;
   lasts = h.lasts;
 }
 
-pub mends_same : (i j : ImageBlocks) (limit made : ℕ) (r : Result Delivered FlashFault) (s z : PartitionState) → i ≡ j → MendsBlocks i limit made r s z → MendsBlocks j limit made r s z
+pub mends_same : (i j : ImageBlocks) (limit made : ℕ) (r : Result Delivered FlashFault) (s z : PartitionState) → i ≡ j
+    → MendsBlocks i limit made r s z → MendsBlocks j limit made r s z
 mends_same i j limit made r s z e h = let P : ImageBlocks → Type 0 = λ n. MendsBlocks n limit made r s z in subst P e h
 
-pub mendable_same : (i j : ImageBlocks) (limit : ℕ) (s z : PartitionState) → i ≡ j → AlwaysMendable i limit s z → AlwaysMendable j limit s z
+pub mendable_same : (i j : ImageBlocks) (limit : ℕ) (s z : PartitionState) → i ≡ j → AlwaysMendable i limit s z
+    → AlwaysMendable j limit s z
 mendable_same i j limit s z e h = let P : ImageBlocks → Type 0 = λ n. AlwaysMendable n limit s z in subst P e h
 
-pub image_same : (b c : ℕ) (l m : List Block) → b ≡ c → l ≡ m → (let i : ImageBlocks = record { size = b; blocks = l } in let j : ImageBlocks = record { size = c; blocks = m } in i ≡ j)
-image_same b c l m e f = ap (λ (n : ℕ). let i : ImageBlocks = record { size = n; blocks = l } in i) e ∙ ap (λ (k : List Block). let i : ImageBlocks = record { size = c; blocks = k } in i) f
+pub image_same : (b c : ℕ) (l m : List Block) → b ≡ c → l ≡ m
+    → (let i : ImageBlocks = record { size = b; blocks = l } in
+    let j : ImageBlocks = record { size = c; blocks = m } in i ≡ j)
+image_same b c l m e f = ap (λ (n : ℕ). let i : ImageBlocks = record { size = n; blocks = l } in i) e
+    ∙ ap (λ (k : List Block). let i : ImageBlocks = record { size = c; blocks = k } in i) f

@@ -14,7 +14,8 @@ use Rattle.abt_flash.proofs.Moments.{during_none}
 use Rattle.abt_flash.proofs.Onward.{passed_stands}
 
 -- nothing was written to the spool, and it was not cleared
-pub fits_same : (limit : ℕ) (cuts cuts' w w' : List ℕ) → cuts' ≡ cuts → w' ≡ w → PiecesFit limit cuts cuts' (length w) (length w')
+pub fits_same : (limit : ℕ) (cuts cuts' w w' : List ℕ) → cuts' ≡ cuts → w' ≡ w
+    → PiecesFit limit cuts cuts' (length w) (length w')
 fits_same limit cuts cuts' w w' e same = record { clears = []; joined = e; fit = ap length (sym same) }
 
 pub begins_same : (w w' x : List ℕ) → w' ≡ w → Begins w' (w ++ x)
@@ -22,10 +23,16 @@ begins_same w w' x e = record { more = x; joined = ap (λ (y : List ℕ). y ++ x
 
 -- the partition was not called
 pub touches_none : (cs : List (Option ℕ)) (past : Past) (p : List ℕ) → TouchesOnly cs past past p p
-touches_none cs past p = record { kept = keeps_same (writes cs) (moment_of past p); moments = during_none (writes cs) (moment_of past p) (moment_of past p) past.moments }
+touches_none cs past p =
+    record {
+      kept = keeps_same (writes cs) (moment_of past p);
+      moments = during_none (writes cs) (moment_of past p)
+          (moment_of past p) past.moments;
+    }
 
 -- the piece that was made goes on from where the cutter was
-pub goes_behind : (n k k' s e first past : ℕ) (st : CutterStage) → k' ≡ k + 1 → first ≡ s → past ≡ e → Passed n first past st → GoesBehind n k k' s e st
+pub goes_behind : (n k k' s e first past : ℕ) (st : CutterStage) → k' ≡ k + 1 → first ≡ s → past ≡ e
+    → Passed n first past st → GoesBehind n k k' s e st
 goes_behind n k k' s e first past st made begins ends h =
     let at = rw (begins, ends) at h in
     record { made = made; stands = passed_stands n s e st at; moves = at.moves }

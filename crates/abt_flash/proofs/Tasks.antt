@@ -12,7 +12,8 @@ use Rattle.abt_chunks.specs.Parts.{is_fault}
 use Rattle.abt_flash.specs.declared.write_part.PartTask.{PartTask}
 use Rattle.abt_flash.specs.declared.write_part.PartTask.TheVariants as tasks
 use Rattle.abt_flash_faults.specs.Fault.{OnUnsynced, PutCause, UnlessUnwritten, refused_syncs}
-use Rattle.abt_flash.specs.Laying.{CanDo, IsIdle, IsStill, Settles, SettlesIn, UnlessUndone, answered, bytes_by, put_by, put_in, refused_in, syncs_by, syncs_in, task_of}
+use Rattle.abt_flash.specs.Laying.{CanDo, IsIdle, IsStill, Settles, SettlesIn, UnlessUndone, answered, bytes_by, put_by}
+use Rattle.abt_flash.specs.Laying.{put_in, refused_in, syncs_by, syncs_in, task_of}
 use Rattle.abt_flash.proofs.Cells.{gap_over, nothing_over}
 use Rattle.abt_chunks.specs.Expanding.{cells_by}
 use Rattle.abt_chunks.specs.Places.{from_place}
@@ -34,7 +35,8 @@ put_same parts.End = refl
 put_same (parts.Fault f) = refl
 
 -- what is written
-pub laid_same : (q : Part) (window p : List ℕ) (at : ℕ) → over p (from_place at (somes (bytes_by (task_of q) window))) ≡ over p (from_place at (cells_by q window))
+pub laid_same : (q : Part) (window p : List ℕ) (at : ℕ)
+    → over p (from_place at (somes (bytes_by (task_of q) window))) ≡ over p (from_place at (cells_by q window))
 laid_same (parts.Raw n) window p at = refl
 laid_same (parts.Words word n) window p at = refl
 laid_same (parts.Skip n) window p at = nothing_over p at ∙ sym (gap_over p at n)
@@ -52,7 +54,8 @@ idle_still (parts.Fault f) h = tt
 
 -- ---- what is returned
 
-pub unless_answered : (t : PartTask) (r : Result (Unit {0}) DeviceFault) (P Q : Type 0) → (P → Q) → UnlessUndone t r P → UnlessUnwritten (answered t r) Q
+pub unless_answered : (t : PartTask) (r : Result (Unit {0}) DeviceFault) (P Q : Type 0) → (P → Q) → UnlessUndone t r P
+    → UnlessUnwritten (answered t r) Q
 unless_answered (tasks.Bytes n) (Ok u) P Q go h = go h
 unless_answered (tasks.Words word n) (Ok u) P Q go h = go h
 unless_answered tasks.Sync (Ok u) P Q go h = go h
@@ -62,18 +65,21 @@ unless_answered (tasks.Words word n) (Err d) P Q go h = tt
 unless_answered tasks.Sync (Err d) P Q go h = go h
 unless_answered tasks.Nothing (Err d) P Q go h = tt
 
-pub ok_answered : (t : PartTask) (r : Result (Unit {0}) DeviceFault) (P Q : Type 0) → (P → Q) → OnOk r P → OnOk (answered t r) Q
+pub ok_answered : (t : PartTask) (r : Result (Unit {0}) DeviceFault) (P Q : Type 0) → (P → Q) → OnOk r P
+    → OnOk (answered t r) Q
 ok_answered t (Ok u) P Q go h = go h
 ok_answered t (Err d) P Q go h = tt
 
-pub cause_answered : (t : PartTask) (r : Result (Unit {0}) DeviceFault) (p p' : ℕ) → OnErr r (p < p') → OnOk r (p' ≡ p) → IfErr r (λ e. e ≡ devices.Failed) → PutCause (answered t r) p p'
+pub cause_answered : (t : PartTask) (r : Result (Unit {0}) DeviceFault) (p p' : ℕ) → OnErr r (p < p')
+    → OnOk r (p' ≡ p) → IfErr r (λ e. e ≡ devices.Failed) → PutCause (answered t r) p p'
 cause_answered t (Ok u) p p' more same failed = same
 cause_answered (tasks.Bytes n) (Err d) p p' more same failed = (more, failed)
 cause_answered (tasks.Words word n) (Err d) p p' more same failed = (more, failed)
 cause_answered tasks.Sync (Err d) p p' more same failed = (more, failed)
 cause_answered tasks.Nothing (Err d) p p' more same failed = (more, failed)
 
-pub refused_answered : (t : PartTask) (r : Result (Unit {0}) DeviceFault) → refused_in t r ≡ refused_syncs (answered t r)
+pub refused_answered : (t : PartTask) (r : Result (Unit {0}) DeviceFault)
+    → refused_in t r ≡ refused_syncs (answered t r)
 refused_answered (tasks.Bytes n) (Ok u) = refl
 refused_answered (tasks.Words word n) (Ok u) = refl
 refused_answered tasks.Sync (Ok u) = refl
@@ -83,7 +89,8 @@ refused_answered (tasks.Words word n) (Err d) = refl
 refused_answered tasks.Sync (Err d) = refl
 refused_answered tasks.Nothing (Err d) = refl
 
-pub syncs_answered : (q : Part) (r : Result (Unit {0}) DeviceFault) → syncs_in (task_of q) r ≡ syncs_by q (answered (task_of q) r)
+pub syncs_answered : (q : Part) (r : Result (Unit {0}) DeviceFault)
+    → syncs_in (task_of q) r ≡ syncs_by q (answered (task_of q) r)
 syncs_answered (parts.Raw n) (Ok u) = refl
 syncs_answered (parts.Words word n) (Ok u) = refl
 syncs_answered (parts.Skip n) (Ok u) = refl
@@ -106,7 +113,8 @@ settles_part parts.End pending h = h
 settles_part (parts.Fault f) pending h = tt
 
 -- the partition refuses nothing at a fault, and a sync only at the end
-pub sound_answered : (q : Part) (r : Result (Unit {0}) DeviceFault) → (IsIdle (task_of q) → IsTrue (is_ok r)) → OnErr (answered (task_of q) r) (is_fault q ≡ false)
+pub sound_answered : (q : Part) (r : Result (Unit {0}) DeviceFault) → (IsIdle (task_of q) → IsTrue (is_ok r))
+    → OnErr (answered (task_of q) r) (is_fault q ≡ false)
 sound_answered q (Ok u) h = tt
 sound_answered (parts.Raw n) (Err d) h = refl
 sound_answered (parts.Words word n) (Err d) h = refl
@@ -126,11 +134,13 @@ ends_answered (parts.Fault f) (Err d) = tt
 
 -- ---- of a task whose call returned this
 
-pub on_put : (n : ℕ) (r : Result (Unit {0}) DeviceFault) (P Q : Type 0) → (P → Q) → OnOk r P → UnlessUndone (tasks.Bytes n) r Q
+pub on_put : (n : ℕ) (r : Result (Unit {0}) DeviceFault) (P Q : Type 0) → (P → Q) → OnOk r P
+    → UnlessUndone (tasks.Bytes n) r Q
 on_put n (Ok u) P Q go h = go h
 on_put n (Err d) P Q go h = tt
 
-pub on_words : (word : List ℕ) (n : ℕ) (r : Result (Unit {0}) DeviceFault) (P Q : Type 0) → (P → Q) → OnOk r P → UnlessUndone (tasks.Words word n) r Q
+pub on_words : (word : List ℕ) (n : ℕ) (r : Result (Unit {0}) DeviceFault) (P Q : Type 0) → (P → Q) → OnOk r P
+    → UnlessUndone (tasks.Words word n) r Q
 on_words word n (Ok u) P Q go h = go h
 on_words word n (Err d) P Q go h = tt
 

@@ -7,9 +7,11 @@ use Rattle.abt_headers.specs.declared.boot.DtbFields.{DtbFields}
 use Rattle.abt_headers.specs.declared.boot.ShortFront.{ShortFront}
 use Rattle.abt_headers.specs.Field.{number_at}
 use Rattle.abt_headers.specs.Page.{page_bytes}
-use Rattle.abt_headers.specs.Boot.{front_fields, dtbo_fields, dtb_fields, short_fields, front_at, dtbo_at, dtb_at, short_at}
+use Rattle.abt_headers.specs.Boot.{front_fields, dtbo_fields, dtb_fields, short_fields, front_at, dtbo_at, dtb_at}
+use Rattle.abt_headers.specs.Boot.{short_at}
 use Rattle.abt_headers.specs.Fits.{FrontFits, DtboFits, DtbFits, ShortFits}
-use Rattle.abt_headers.proofs.Fields.{IsBytes, next, next_number, part_here, number_here, part_field, field, field_is, joined_to}
+use Rattle.abt_headers.proofs.Fields.{IsBytes, next, next_number, part_here, number_here, part_field, field, field_is}
+use Rattle.abt_headers.proofs.Fields.{joined_to}
 use Rattle.abt_headers.proofs.PageLaws.{page_fits}
 
 -- ---- what was written is read
@@ -21,7 +23,8 @@ pub record FrontRead (v : ℕ) (f : BootFront) (x rest : List ℕ) : Type 0 wher
   pub front : front_at f.page_size x ≡ f
   pub behind : drop 1632 x ≡ rest
 
-pub front_again : (v : ℕ) (f : BootFront) (x rest : List ℕ) → v < 2 ^ 32 → FrontFits f → x ≡ joined_to (front_fields v f) rest → FrontRead v f x rest
+pub front_again : (v : ℕ) (f : BootFront) (x rest : List ℕ) → v < 2 ^ 32 → FrontFits f
+    → x ≡ joined_to (front_fields v f) rest → FrontRead v f x rest
 unfolding front_at
 front_again v f x rest small fits e0 =
     let f0 = number_here 0 8 0x2144494f52444e41 x _ e0 (lit< tt) in
@@ -54,9 +57,29 @@ front_again v f x rest small fits e0 =
     let e608 = next 576 32 x f.id _ e576 fits.id in
     let f608 = part_here 608 1024 x f.extra_cmdline _ e608 fits.extra_cmdline in
     let e1632 = next 608 1024 x f.extra_cmdline _ e608 fits.extra_cmdline in
-    record { magic = f0; page = f36; version = f40; behind = e1632; front = rw (f8, f12, f16, f20, f24, f28, f32, f44, f48, f64, f576, f608) refl }
+    record {
+      magic = f0;
+      page = f36;
+      version = f40;
+      behind = e1632;
+      front = rw (
+        f8,
+        f12,
+        f16,
+        f20,
+        f24,
+        f28,
+        f32,
+        f44,
+        f48,
+        f64,
+        f576,
+        f608,
+      ) refl;
+    }
 
-pub dtbo_again : (d : DtboFields) (x rest : List ℕ) → DtboFits d → drop 1632 x ≡ joined_to (dtbo_fields d) rest → (dtbo_at x ≡ d) × (drop 1648 x ≡ rest)
+pub dtbo_again : (d : DtboFields) (x rest : List ℕ) → DtboFits d → drop 1632 x ≡ joined_to (dtbo_fields d) rest
+    → (dtbo_at x ≡ d) × (drop 1648 x ≡ rest)
 unfolding dtbo_at
 dtbo_again d x rest fits e1632 =
     let f1632 = number_here 1632 4 d.recovery_dtbo_size x _ e1632 fits.recovery_dtbo_size in
@@ -67,7 +90,8 @@ dtbo_again d x rest fits e1632 =
     let e1648 = next_number 1644 4 d.header_size x _ e1644 in
     (rw (f1632, f1636, f1644) refl, e1648)
 
-pub dtb_again : (d : DtbFields) (x rest : List ℕ) → DtbFits d → drop 1648 x ≡ joined_to (dtb_fields d) rest → (dtb_at x ≡ d) × (drop 1660 x ≡ rest)
+pub dtb_again : (d : DtbFields) (x rest : List ℕ) → DtbFits d → drop 1648 x ≡ joined_to (dtb_fields d) rest
+    → (dtb_at x ≡ d) × (drop 1660 x ≡ rest)
 unfolding dtb_at
 dtb_again d x rest fits e1648 =
     let f1648 = number_here 1648 4 d.dtb_size x _ e1648 fits.dtb_size in
@@ -82,7 +106,8 @@ pub record ShortRead (v : ℕ) (f : ShortFront) (x rest : List ℕ) : Type 0 whe
   pub front : short_at x ≡ f
   pub behind : drop 1580 x ≡ rest
 
-pub short_again : (v : ℕ) (f : ShortFront) (x rest : List ℕ) → v < 2 ^ 32 → ShortFits f → x ≡ joined_to (short_fields v f) rest → ShortRead v f x rest
+pub short_again : (v : ℕ) (f : ShortFront) (x rest : List ℕ) → v < 2 ^ 32 → ShortFits f
+    → x ≡ joined_to (short_fields v f) rest → ShortRead v f x rest
 unfolding short_at
 short_again v f x rest small fits e0 =
     let f0 = number_here 0 8 0x2144494f52444e41 x _ e0 (lit< tt) in
@@ -105,7 +130,8 @@ short_again v f x rest small fits e0 =
 
 -- ---- what is read is encoded so
 
-pub front_back : (v : ℕ) (p : PageSize) (x rest : List ℕ) → 1632 ≤ length x → IsBytes x → number_at 0 8 x ≡ 0x2144494f52444e41 → number_at 36 4 x ≡ page_bytes p → number_at 40 4 x ≡ v → rest ≡ drop 1632 x
+pub front_back : (v : ℕ) (p : PageSize) (x rest : List ℕ) → 1632 ≤ length x → IsBytes x
+    → number_at 0 8 x ≡ 0x2144494f52444e41 → number_at 36 4 x ≡ page_bytes p → number_at 40 4 x ≡ v → rest ≡ drop 1632 x
     → joined_to (front_fields v (front_at p x)) rest ≡ x
 unfolding front_at
 front_back v p x rest h k is0 is36 is40 e =
@@ -126,7 +152,8 @@ front_back v p x rest h k is0 is36 is40 e =
     let e0 = field_is 0 8 _ x _ (omega arith) k is0 e8 in
     e0
 
-pub dtbo_back : (x rest : List ℕ) → 1648 ≤ length x → IsBytes x → rest ≡ drop 1648 x → joined_to (dtbo_fields (dtbo_at x)) rest ≡ drop 1632 x
+pub dtbo_back : (x rest : List ℕ) → 1648 ≤ length x → IsBytes x → rest ≡ drop 1648 x
+    → joined_to (dtbo_fields (dtbo_at x)) rest ≡ drop 1632 x
 unfolding dtbo_at
 dtbo_back x rest h k e =
     let e1644 = field 1644 4 x _ (omega arith) k e in
@@ -134,14 +161,16 @@ dtbo_back x rest h k e =
     let e1632 = field 1632 4 x _ (omega arith) k e1636 in
     e1632
 
-pub dtb_back : (x rest : List ℕ) → 1660 ≤ length x → IsBytes x → rest ≡ drop 1660 x → joined_to (dtb_fields (dtb_at x)) rest ≡ drop 1648 x
+pub dtb_back : (x rest : List ℕ) → 1660 ≤ length x → IsBytes x → rest ≡ drop 1660 x
+    → joined_to (dtb_fields (dtb_at x)) rest ≡ drop 1648 x
 unfolding dtb_at
 dtb_back x rest h k e =
     let e1652 = field 1652 8 x _ (omega arith) k e in
     let e1648 = field 1648 4 x _ (omega arith) k e1652 in
     e1648
 
-pub short_back : (v : ℕ) (x rest : List ℕ) → 1580 ≤ length x → IsBytes x → number_at 0 8 x ≡ 0x2144494f52444e41 → number_at 40 4 x ≡ v → rest ≡ drop 1580 x
+pub short_back : (v : ℕ) (x rest : List ℕ) → 1580 ≤ length x → IsBytes x → number_at 0 8 x ≡ 0x2144494f52444e41
+    → number_at 40 4 x ≡ v → rest ≡ drop 1580 x
     → joined_to (short_fields v (short_at x)) rest ≡ x
 unfolding short_at
 short_back v x rest h k is0 is40 e =

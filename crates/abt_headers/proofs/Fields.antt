@@ -1,5 +1,7 @@
 -- Fields that are written and read.
-use Rattle.std.proofs.Common.{◌≡◌, ℕ, zero, suc, ◌+◌, ◌*◌, ◌/◌, ◌%◌, ◌^◌, ◌<◌, ◌≤◌, List, [], ◌∷◌, ◌++◌, length, get_or, take, drop, refl, sym, ap, ◌∙◌, append_assoc, append-nil, arith, length-drop, get_or-drop, take-append-drop, drop-drop}
+use Rattle.std.proofs.Common.{◌≡◌, ℕ, zero, suc, ◌+◌, ◌*◌, ◌/◌, ◌%◌, ◌^◌, ◌<◌, ◌≤◌, List, [], ◌∷◌, ◌++◌, length, get_or}
+use Rattle.std.proofs.Common.{take, drop, refl, sym, ap, ◌∙◌, append_assoc, append-nil, arith, length-drop, get_or-drop}
+use Rattle.std.proofs.Common.{take-append-drop, drop-drop}
 use Rattle.std.proofs.Math.Nat.{div-div-eq-div-mul, pow-succ'}
 use Rattle.std.proofs.lemmas.List.{take_at, drop_at}
 use Rattle.std.specs.Int.{byte_at, bytes_low_first}
@@ -33,7 +35,8 @@ higher : (j a m : ℕ) → a < 256 → byte_at (suc j) (a + 256 * m) ≡ byte_at
 higher zero a m h = let e : (a + 256 * m) / 256 ^ suc zero ≡ m = omega arith in ap (λ (k : ℕ). k % 256) e
 higher (suc j) a m h =
     let e : (a + 256 * m) / 256 ≡ m = omega arith in
-    ap (λ (k : ℕ). k % 256) (ap (λ (p : ℕ). (a + 256 * m) / p) (pow-succ' 256 (suc j)) ∙ sym (div-div-eq-div-mul (a + 256 * m) 256 (256 ^ suc j)) ∙ ap (λ (k : ℕ). k / 256 ^ suc j) e)
+    ap (λ (k : ℕ). k % 256) (ap (λ (p : ℕ). (a + 256 * m) / p) (pow-succ' 256 (suc j))
+    ∙ sym (div-div-eq-div-mul (a + 256 * m) 256 (256 ^ suc j)) ∙ ap (λ (k : ℕ). k / 256 ^ suc j) e)
 
 shift : (j k a m : ℕ) → a < 256 → bytes_low_first (suc j) k (a + 256 * m) ≡ bytes_low_first j k m
 shift j zero a m h = refl
@@ -49,16 +52,19 @@ bytes_back (suc n) (a ∷ r) h k =
     rw (m, low, shift 0 n a (little_from 0 n r) (k 0), rest) refl
 
 pub part_field : (p n : ℕ) (x rest : List ℕ) → rest ≡ drop (p + n) x → part_at p n x ++ rest ≡ drop p x
-part_field p n x rest e = ap (λ (t : List ℕ). take n (drop p x) ++ t) (e ∙ sym (drop-drop n p x)) ∙ take-append-drop n (drop p x)
+part_field p n x rest e = ap (λ (t : List ℕ). take n (drop p x) ++ t) (e ∙ sym (drop-drop n p x))
+    ∙ take-append-drop n (drop p x)
 
 -- a number that is known
-pub field_is : (p n v : ℕ) (x rest : List ℕ) → p + n ≤ length x → IsBytes x → number_at p n x ≡ v → rest ≡ drop (p + n) x → little_bytes n v ++ rest ≡ drop p x
+pub field_is : (p n v : ℕ) (x rest : List ℕ) → p + n ≤ length x → IsBytes x → number_at p n x ≡ v
+    → rest ≡ drop (p + n) x → little_bytes n v ++ rest ≡ drop p x
 field_is p n v x rest h k is e =
     ap (λ (m : ℕ). little_bytes n m ++ rest) (sym is)
     ∙ ap (λ (t : List ℕ). t ++ rest) (bytes_back n (drop p x) (omega (arith, length-drop p x)) (IsBytes-drop p x k))
     ∙ part_field p n x rest e
 
-pub field : (p n : ℕ) (x rest : List ℕ) → p + n ≤ length x → IsBytes x → rest ≡ drop (p + n) x → little_bytes n (number_at p n x) ++ rest ≡ drop p x
+pub field : (p n : ℕ) (x rest : List ℕ) → p + n ≤ length x → IsBytes x → rest ≡ drop (p + n) x
+    → little_bytes n (number_at p n x) ++ rest ≡ drop p x
 field p n x rest h k e = field_is p n (number_at p n x) x rest h k refl e
 
 -- ---- fields in a row
@@ -72,15 +78,19 @@ joined_rest [] rest = refl
 joined_rest (f ∷ fs) rest = append_assoc f (joined_fields fs) rest ∙ ap (λ (t : List ℕ). f ++ t) (joined_rest fs rest)
 
 -- one write more, after what was written
-pub put_more : (front base now new b : List ℕ) (p n : ℕ) → length front ≡ p → length b ≡ n → now ≡ front ++ drop p base → new ≡ take p now ++ (b ++ drop (p + length b) now) → new ≡ (front ++ b) ++ drop (p + n) base
+pub put_more : (front base now new b : List ℕ) (p n : ℕ) → length front ≡ p → length b ≡ n
+    → now ≡ front ++ drop p base → new ≡ take p now ++ (b ++ drop (p + length b) now) → new ≡ (front ++ b)
+    ++ drop (p + n) base
 put_more front base now new b p n l m e f =
     f ∙ ap (λ (t : List ℕ). take p t ++ (b ++ drop (p + length b) t)) e
     ∙ ap (λ (t : List ℕ). t ++ (b ++ drop (p + length b) (front ++ drop p base))) (take_at front (drop p base) p l)
     ∙ ap (λ (k : ℕ). front ++ (b ++ drop (p + k) (front ++ drop p base))) m
-    ∙ ap (λ (t : List ℕ). front ++ (b ++ t)) (sym (drop-drop n p (front ++ drop p base)) ∙ ap (drop n) (drop_at front (drop p base) p l) ∙ drop-drop n p base)
+    ∙ ap (λ (t : List ℕ). front ++ (b ++ t)) (sym (drop-drop n p (front ++ drop p base))
+    ∙ ap (drop n) (drop_at front (drop p base) p l) ∙ drop-drop n p base)
     ∙ sym (append_assoc front b (drop (p + n) base))
 
-pub regroup_5 : (h a b c d rest : List ℕ) → ((((h ++ a) ++ b) ++ c) ++ d) ++ rest ≡ (h ++ (a ++ (b ++ (c ++ (d ++ []))))) ++ rest
+pub regroup_5 : (h a b c d rest : List ℕ) → ((((h ++ a) ++ b) ++ c) ++ d)
+    ++ rest ≡ (h ++ (a ++ (b ++ (c ++ (d ++ []))))) ++ rest
 regroup_5 h a b c d rest = simp (append_assoc, append-nil)
 
 pub regroup_4 : (h a b c rest : List ℕ) → (((h ++ a) ++ b) ++ c) ++ rest ≡ (h ++ (a ++ (b ++ (c ++ [])))) ++ rest
@@ -88,7 +98,9 @@ regroup_4 h a b c rest = simp (append_assoc, append-nil)
 
 pub joined-append : (fs gs : List (List ℕ)) → joined_fields (fs ++ gs) ≡ joined_fields fs ++ joined_fields gs
 joined-append [] gs = refl
-joined-append (f ∷ fs) gs = ap (λ (t : List ℕ). f ++ t) (joined-append fs gs) ∙ sym (append_assoc f (joined_fields fs) (joined_fields gs))
+joined-append (f ∷ fs) gs = ap (λ (t : List ℕ). f ++ t) (joined-append fs gs)
+    ∙ sym (append_assoc f (joined_fields fs) (joined_fields gs))
 
-pub regroup_ends : (h a b c d rest : List ℕ) → ((((h ++ a) ++ b) ++ c) ++ d) ++ rest ≡ (h ++ (a ++ (b ++ (c ++ d)))) ++ rest
+pub regroup_ends : (h a b c d rest : List ℕ) → ((((h ++ a) ++ b) ++ c) ++ d) ++ rest ≡ (h ++ (a ++ (b ++ (c ++ d))))
+    ++ rest
 regroup_ends h a b c d rest = simp append_assoc

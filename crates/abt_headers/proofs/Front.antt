@@ -1,5 +1,6 @@
 -- A header is read from its first bytes alone.
-use Rattle.std.proofs.Common.{◌≡◌, ℕ, ◌+◌, ◌-◌, ◌<◌, ◌≤◌, List, length, take, drop, refl, sym, ap, ◌∙◌, arith, length-take-le, nat_lt, inl, inr, ◌⊎◌}
+use Rattle.std.proofs.Common.{◌≡◌, ℕ, ◌+◌, ◌-◌, ◌<◌, ◌≤◌, List, length, take, drop, refl, sym, ap, ◌∙◌, arith}
+use Rattle.std.proofs.Common.{length-take-le, nat_lt, inl, inr, ◌⊎◌}
 use Rattle.std.proofs.lemmas.List.{take-take, take_all, drop-take}
 use Rattle.std.proofs.lemmas.Bool.{cases_Bool, ltb-true, ltb-false, le-ltb}
 use Rattle.byteorder.specs.Endian.{little_number}
@@ -22,7 +23,8 @@ cut : (p m : ℕ) (x : List ℕ) → p ≤ m → drop p (take m x) ≡ take (m -
 cut p m x h = ap (λ (k : ℕ). drop p (take k x)) (add_back p m h) ∙ drop-take p (m - p) x
 
 same_number : (p n m : ℕ) (x : List ℕ) → p + n ≤ m → number_at p n (take m x) ≡ number_at p n x
-same_number p n m x h = ap (little_number n) (cut p m x (omega arith)) ∙ little_from-take 0 n (m - p) (drop p x) (omega arith)
+same_number p n m x h = ap (little_number n) (cut p m x (omega arith))
+    ∙ little_from-take 0 n (m - p) (drop p x) (omega arith)
 
 same_part : (p n m : ℕ) (x : List ℕ) → p + n ≤ m → part_at p n (take m x) ≡ part_at p n x
 same_part p n m x h = ap (take n) (cut p m x (omega arith)) ∙ take-take n (m - p) (drop p x) (omega arith)
@@ -148,4 +150,8 @@ long_vendor_same m x h k =
     simp (s8, s12, magic, version, o)
 
 pub vendor_same : (m : ℕ) (x : List ℕ) → 2128 ≤ m → vendor_at (take m x) ≡ vendor_at x
-vendor_same m x h = elim (order m (length x)) [ inl k ↦ long_vendor_same m x h k | inr k ↦ ap vendor_at (take_all m x k) ]
+vendor_same m x h = elim (order m (length x)) [
+  | inl k ↦ long_vendor_same m x h k
+  | inr k ↦ ap vendor_at
+      (take_all m x k)
+]

@@ -12,7 +12,8 @@ raws_take zero xs h = tt
 raws_take (suc q) [] h = tt
 raws_take (suc q) (x ∷ xs) h = (h.0, raws_take q xs h.1)
 
-same_take : (q : ℕ) (x : Block) (xs : List Block) → xs ≡ replicate (length xs) x → take q xs ≡ replicate (length (take q xs)) x
+same_take : (q : ℕ) (x : Block) (xs : List Block) → xs ≡ replicate (length xs) x
+    → take q xs ≡ replicate (length (take q xs)) x
 same_take zero x xs h = refl
 same_take (suc q) x [] h = refl
 same_take (suc q) x (y ∷ xs) h =

@@ -1,5 +1,6 @@
 -- The numbers of a piece, counted from left to right part by part.
-use Rattle.std.proofs.Common.{◌≡◌, ℕ, zero, suc, ◌+◌, ◌<◌, true, false, List, [], ◌∷◌, ◌++◌, length, replicate, refl, sym, ap, ◌∙◌, arith, inl, inr}
+use Rattle.std.proofs.Common.{◌≡◌, ℕ, zero, suc, ◌+◌, ◌<◌, true, false, List, [], ◌∷◌, ◌++◌, length, replicate, refl}
+use Rattle.std.proofs.Common.{sym, ap, ◌∙◌, arith, inl, inr}
 use Rattle.std.proofs.lemmas.Bool.{cases_Bool}
 use Rattle.abt_sparse.specs.Block.{Block, Raw, Fill, Skip, AreBlocks}
 use Rattle.abt_sparse.specs.Runs.{runs, alike}
@@ -11,14 +12,16 @@ use Rattle.abt_runs.specs.declared.part.RunKind.{RunKind}
 use Rattle.abt_runs.specs.declared.part.RunKind.TheVariants as kinds
 use Rattle.abt_runs.specs.Whole.{alike_kinds}
 use Rattle.abt_pieces.specs.declared.contents.PieceContents.{PieceContents}
-use Rattle.abt_pieces.specs.Contents.{run_kind_of, opens, opens_len, copy_len, held, with_blocks, contents_before, chunks_of_kinds, sizes, written_in, last_of, IsContents}
+use Rattle.abt_pieces.specs.Contents.{run_kind_of, opens, opens_len, copy_len, held, with_blocks, contents_before}
+use Rattle.abt_pieces.specs.Contents.{chunks_of_kinds, sizes, written_in, last_of, IsContents}
 use Rattle.abt_pieces.specs.Plan.{last_kind}
 use Rattle.abt_pieces.specs.declared.segment_tail.Tail.TheVariants as tails
 use Rattle.abt_runs.proofs.Alike.{kind_is, alike_is, self_alike, tail_of_all}
 
 -- ---- two lists in a row
 
-pub counts-append : (j : RunKind) (l m : List Block) → chunks_of_kinds j (l ++ m) ≡ chunks_of_kinds j l + chunks_of_kinds (last_of j l) m
+pub counts-append : (j : RunKind) (l m : List Block)
+    → chunks_of_kinds j (l ++ m) ≡ chunks_of_kinds j l + chunks_of_kinds (last_of j l) m
 counts-append j [] m = omega arith
 counts-append j (x ∷ l) m = omega (arith, counts-append (run_kind_of x) l m)
 
@@ -100,7 +103,8 @@ one_part b j k (x ∷ xs) h some =
 
 -- ---- a piece that grows
 
-pub contents_on : (b : ℕ) (l xs : List Block) (c : PieceContents) (j k : RunKind) (q : ℕ) → IsContents b l c → j ≡ last_of kinds.End l → AllOf k xs → 0 < q → length xs ≡ q
+pub contents_on : (b : ℕ) (l xs : List Block) (c : PieceContents) (j k : RunKind) (q : ℕ) → IsContents b l c
+    → j ≡ last_of kinds.End l → AllOf k xs → 0 < q → length xs ≡ q
     → IsContents b (l ++ xs) (with_blocks c j k q b) × (last_of kinds.End (l ++ xs) ≡ k)
 contents_on b l xs c j k q h last all some long =
     let p = one_part b (last_of kinds.End l) k xs all (omega arith) in
@@ -149,15 +153,18 @@ runs_behind y (x ∷ l) =
           ap length (grouped-alike y x v.0 v.1 (runs (x ∷ l)) v.2 e) ∙ ap length (sym v.2) ∙ r ∙ (rw a (omega arith))
       | inr e ↦
           let a : alike_kinds (run_kind_of y) (run_kind_of x) ≡ false = sym (alike_is y x) ∙ e in
-          ap length (grouped-apart y x v.0 v.1 (runs (x ∷ l)) v.2 e) ∙ ap (λ (gs : List (List Block)). suc (length gs)) (sym v.2) ∙ ap suc r ∙ (rw a (omega arith))
+          ap length (grouped-apart y x v.0 v.1 (runs (x ∷ l)) v.2 e)
+          ∙ ap (λ (gs : List (List Block)). suc (length gs)) (sym v.2) ∙ ap suc r ∙ (rw a (omega arith))
     ]
 
 pub runs_count : (l : List Block) → length (runs l) ≡ chunks_of_kinds kinds.End l
 runs_count [] = refl
-runs_count (x ∷ l) = runs_behind x l ∙ (let z : suc (chunks_of_kinds (run_kind_of x) l) ≡ 1 + chunks_of_kinds (run_kind_of x) l = omega arith in z)
+runs_count (x ∷ l) = runs_behind x l
+    ∙ (let z : suc (chunks_of_kinds (run_kind_of x) l) ≡ 1 + chunks_of_kinds (run_kind_of x) l = omega arith in z)
 
 -- a block that goes with the one before it and a block that goes with the one after it add the same
-swap : (b : ℕ) (y z : Block) → full b y + (opens_len (run_kind_of y) (run_kind_of z) + copy_len (run_kind_of z) 1 b) ≡ step b y z + full b z
+swap : (b : ℕ) (y z : Block) → full b y + (opens_len (run_kind_of y) (run_kind_of z) + copy_len (run_kind_of z) 1 b)
+    ≡ step b y z + full b z
 swap b (Raw x) (Raw y) = omega arith
 swap b (Raw x) (Fill w) = omega arith
 swap b (Raw x) Skip = omega arith

@@ -72,7 +72,8 @@ costs_join one words silent a y z m m' tick m'' e given grown steps greatest cal
       given = omega (arith, given, e.given);
       steps = steps_join a.given y.given z.given m.steps.number m'.steps.number tick.steps.number m''.steps.number steps
           same_steps e.steps e.received;
-      greatest = greatest_join m.greatest.number m'.greatest.number tick.greatest.number m''.greatest.number y.given z.given
+      greatest = greatest_join m.greatest.number m'.greatest.number tick.greatest.number m''.greatest.number y.given
+          z.given
           greatest same_greatest e.greatest e.received;
       calls = calls_most a.given y.given z.given a.written y.written z.written a.reads y.reads z.reads a.writes y.writes
           z.writes silent given e.given grown e.grown calls writes e.calls e.write_calls;

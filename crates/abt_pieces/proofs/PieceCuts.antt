@@ -1,5 +1,7 @@
 -- Raw runs in chunks of r blocks: how many there are, how long they are, and the next one.
-use Rattle.std.proofs.Common.{◌≡◌, ℕ, zero, suc, ◌+◌, ◌-◌, ◌*◌, ◌/◌, ◌%◌, ◌<◌, ◌≤◌, min, nat_lt, List, [], ◌∷◌, ◌++◌, length, map, take, drop, refl, sym, ap, ◌∙◌, append_assoc, append-nil, arith, inl, inr, length-append, length-drop, mul-le-mul_left}
+use Rattle.std.proofs.Common.{◌≡◌, ℕ, zero, suc, ◌+◌, ◌-◌, ◌*◌, ◌/◌, ◌%◌, ◌<◌, ◌≤◌, min, nat_lt, List, [], ◌∷◌, ◌++◌}
+use Rattle.std.proofs.Common.{length, map, take, drop, refl, sym, ap, ◌∙◌, append_assoc, append-nil, arith, inl, inr}
+use Rattle.std.proofs.Common.{length-append, length-drop, mul-le-mul_left}
 use Rattle.std.specs.List.{AllByRecursion, flat_map}
 use Rattle.std.proofs.lemmas.Grind.{flat_map-append}
 use Rattle.std.proofs.lemmas.List.{length-map, length-take-le, take_all}
@@ -20,14 +22,17 @@ use Rattle.abt_pieces.proofs.Writing.{blocks_take, blocks_drop, run_bytes, front
 -- ---- how many chunks
 
 pub no_cut : (r : ℕ) → 0 < r → chunks_in kinds.Raw 0 r ≡ 0
-no_cut r some = ap (λ (n : ℕ). n / r) (let z : 0 + (r - 1) ≡ 0 * r + (r - 1) = omega arith in z) ∙ div-mul-add 0 r (r - 1) (omega arith)
+no_cut r some = ap (λ (n : ℕ). n / r) (let z : 0 + (r - 1) ≡ 0 * r + (r - 1) = omega arith in z)
+    ∙ div-mul-add 0 r (r - 1) (omega arith)
 
 pub one_cut : (q r : ℕ) → 0 < r → 0 < q → chunks_in kinds.Raw q r ≡ suc (chunks_in kinds.Raw (q - min q r) r)
 one_cut q r some more = elim (cases_Bool (nat_lt q r)) [
   | inl e ↦
       let lt = ltb-true q r e in
       let z : q - min q r ≡ 0 = omega arith in
-      ap (λ (n : ℕ). n / r) (let y : q + (r - 1) ≡ 1 * r + (q - 1) = omega arith in y) ∙ div-mul-add 1 r (q - 1) (omega arith) ∙ sym (ap (λ (n : ℕ). suc (chunks_in kinds.Raw n r)) z ∙ ap suc (no_cut r some))
+      ap (λ (n : ℕ). n / r) (let y : q + (r - 1) ≡ 1 * r + (q - 1) = omega arith in y)
+      ∙ div-mul-add 1 r (q - 1) (omega arith) ∙ sym (ap (λ (n : ℕ). suc (chunks_in kinds.Raw n r)) z
+      ∙ ap suc (no_cut r some))
   | inr e ↦
       let le = ltb-false q r e in
       let z : q - min q r ≡ q - r = omega arith in
@@ -35,7 +40,8 @@ one_cut q r some more = elim (cases_Bool (nat_lt q r)) [
       let m = (q - r + (r - 1)) % r in
       let d : a * r + m ≡ q - r + (r - 1) = div-add-mod' (q - r + (r - 1)) r in
       let small : m < r = omega arith in
-      ap (λ (n : ℕ). n / r) (let y : q + (r - 1) ≡ suc a * r + m = omega (arith, d) in y) ∙ div-mul-add (suc a) r m small ∙ sym (ap (λ (n : ℕ). suc (chunks_in kinds.Raw n r)) z)
+      ap (λ (n : ℕ). n / r) (let y : q + (r - 1) ≡ suc a * r + m = omega (arith, d) in y)
+      ∙ div-mul-add (suc a) r m small ∙ sym (ap (λ (n : ℕ). suc (chunks_in kinds.Raw n r)) z)
 ]
 
 pub few_cuts : (k : RunKind) (q r : ℕ) → 0 < r → 0 < q → chunks_in k q r ≤ q
@@ -43,7 +49,8 @@ few_cuts kinds.Raw q r some more = elim (cases_Bool (nat_lt q ((q + (r - 1)) / r
   | inl e ↦
       let lt = ltb-true q ((q + (r - 1)) / r) e in
       let d : (q + (r - 1)) / r * r + (q + (r - 1)) % r ≡ q + (r - 1) = div-add-mod' (q + (r - 1)) r in
-      let m : r * (q + 1) ≤ r * ((q + (r - 1)) / r) = mul-le-mul_left r (let z : q + 1 ≤ (q + (r - 1)) / r = omega arith in z) in
+      let m : r * (q + 1) ≤ r * ((q + (r - 1)) / r) =
+      mul-le-mul_left r (let z : q + 1 ≤ (q + (r - 1)) / r = omega arith in z) in
       let n : q * 1 ≤ q * r = mul-le-mul_left q (let z : 1 ≤ r = omega arith in z) in
       absurd (omega (arith, d, m, n))
   | inr e ↦ ltb-false q ((q + (r - 1)) / r) e
@@ -61,23 +68,31 @@ often r zero s (y ∷ ys) some a b = absurd (omega (arith, a))
 often r (suc t) zero (y ∷ ys) some a b = absurd (omega (arith, b))
 often r (suc t) (suc s) (y ∷ ys) some a b =
     let few : length (drop r (y ∷ ys)) ≤ length ys = omega (arith, length-drop r (y ∷ ys)) in
-    ap (λ (cs : List Chunk). Raws (take r (y ∷ ys)) ∷ cs) (often r t s (drop r (y ∷ ys)) some (omega (arith, few, a)) (omega (arith, few, b)))
+    ap (λ (cs : List Chunk). Raws (take r (y ∷ ys)) ∷ cs) (often r t s (drop r (y ∷ ys)) some (omega (arith, few, a))
+    (omega (arith, few, b)))
 
-next_cut : (r : ℕ) (ys : List (List ℕ)) → 0 < r → 0 < length ys → cut_run r (Raws ys) ≡ Raws (take r ys) ∷ cut_run r (Raws (drop r ys))
+next_cut : (r : ℕ) (ys : List (List ℕ)) → 0 < r → 0 < length ys → cut_run r (Raws ys) ≡ Raws (take r ys)
+    ∷ cut_run r (Raws (drop r ys))
 next_cut r [] some more = absurd (omega (arith, more))
-next_cut r (y ∷ ys) some more = ap (λ (cs : List Chunk). Raws (take r (y ∷ ys)) ∷ cs) (often r (length ys) (length (drop r (y ∷ ys))) (drop r (y ∷ ys)) some (omega (arith, length-drop r (y ∷ ys))) (omega arith))
+next_cut r (y ∷ ys) some more =
+    ap (λ (cs : List Chunk). Raws (take r (y ∷ ys)) ∷ cs) (often r (length ys) (length (drop r (y ∷ ys)))
+    (drop r (y ∷ ys)) some (omega (arith, length-drop r (y ∷ ys))) (omega arith))
 
 -- to take more than there is, and to drop it
 take-min : {X : Type 0} (r : ℕ) (ys : List X) → take r ys ≡ take (min (length ys) r) ys
 take-min r ys = elim (cases_Bool (nat_lt (length ys) r)) [
-  | inl e ↦ let lt = ltb-true (length ys) r e in take_all r ys (omega arith) ∙ sym (take_all (min (length ys) r) ys (omega arith))
-  | inr e ↦ let le = ltb-false (length ys) r e in ap (λ (n : ℕ). take n ys) (let z : r ≡ min (length ys) r = omega arith in z)
+  | inl e ↦ let lt = ltb-true (length ys) r e in take_all r ys (omega arith)
+      ∙ sym (take_all (min (length ys) r) ys (omega arith))
+  | inr e ↦ let le = ltb-false (length ys) r e in
+      ap (λ (n : ℕ). take n ys) (let z : r ≡ min (length ys) r = omega arith in z)
 ]
 
 drop-min : {X : Type 0} (r : ℕ) (ys : List X) → drop r ys ≡ drop (min (length ys) r) ys
 drop-min r ys = elim (cases_Bool (nat_lt (length ys) r)) [
-  | inl e ↦ let lt = ltb-true (length ys) r e in drop_of_length-le ys (let z : length ys ≤ r = omega arith in z) ∙ sym (drop_of_length-le ys (let z : length ys ≤ min (length ys) r = omega arith in z))
-  | inr e ↦ let le = ltb-false (length ys) r e in ap (λ (n : ℕ). drop n ys) (let z : r ≡ min (length ys) r = omega arith in z)
+  | inl e ↦ let lt = ltb-true (length ys) r e in drop_of_length-le ys (let z : length ys ≤ r = omega arith in z)
+      ∙ sym (drop_of_length-le ys (let z : length ys ≤ min (length ys) r = omega arith in z))
+  | inr e ↦ let le = ltb-false (length ys) r e in
+      ap (λ (n : ℕ). drop n ys) (let z : r ≡ min (length ys) r = omega arith in z)
 ]
 
 map-take : (n : ℕ) (g : List Block) → take n (map raw_bytes g) ≡ map raw_bytes (take n g)
@@ -108,7 +123,8 @@ pub record NextCut (b r : ℕ) (g : List Block) (q : ℕ) : Type 0 where
   pub bytes : cut_bytes r g ≡ front_bytes kinds.Raw q (12 + q * b) ++ (raw_of (take q g) ++ cut_bytes r (drop q g))
   pub count : length (cut_run r (Raws (map raw_bytes g))) ≡ suc (length (cut_run r (Raws (map raw_bytes (drop q g)))))
 
-pub cut_next : (b r : ℕ) (g : List Block) (q : ℕ) → 0 < r → 0 < length g → q ≡ min (length g) r → AllOf kinds.Raw g → AreBlocks b g → NextCut b r g q
+pub cut_next : (b r : ℕ) (g : List Block) (q : ℕ) → 0 < r → 0 < length g → q ≡ min (length g) r → AllOf kinds.Raw g
+    → AreBlocks b g → NextCut b r g q
 cut_next b r g q some more is all good =
     let ys = map raw_bytes g in
     let same : min (length ys) r ≡ q = ap (λ (n : ℕ). min n r) (length-map g raw_bytes) ∙ sym is in
@@ -118,9 +134,11 @@ cut_next b r g q some more is all good =
     let cut : cut_run r (Raws ys) ≡ Raws (map raw_bytes (take q g)) ∷ cut_run r (Raws (map raw_bytes (drop q g))) =
     next_cut r ys some (omega (arith, length-map g raw_bytes)) ∙ rw (t, d) refl in
     let one : plain (Raws (map raw_bytes (take q g))) ≡ front_bytes kinds.Raw q (12 + q * b) ++ raw_of (take q g) =
-    ap plain (sym (raw_run (take q g) (raws_take q g all) (omega (arith, long)))) ∙ run_bytes b kinds.Raw (take q g) q (all_take kinds.Raw q g all) long (omega arith) (blocks_take b q g good) in
+    ap plain (sym (raw_run (take q g) (raws_take q g all) (omega (arith, long))))
+    ∙ run_bytes b kinds.Raw (take q g) q (all_take kinds.Raw q g all) long (omega arith) (blocks_take b q g good) in
     record {
-      bytes = ap (λ (cs : List Chunk). flat_map plain cs) cut ∙ ap (λ (x : List ℕ). x ++ cut_bytes r (drop q g)) one ∙ append_assoc (front_bytes kinds.Raw q (12 + q * b)) (raw_of (take q g)) (cut_bytes r (drop q g));
+      bytes = ap (λ (cs : List Chunk). flat_map plain cs) cut ∙ ap (λ (x : List ℕ). x ++ cut_bytes r (drop q g)) one
+          ∙ append_assoc (front_bytes kinds.Raw q (12 + q * b)) (raw_of (take q g)) (cut_bytes r (drop q g));
       count = ap length cut;
     }
 
@@ -142,16 +160,27 @@ cut_sizes b r (suc t) (x ∷ g) some few all good =
     let rest = drop q (x ∷ g) in
     let less : length rest ≡ n - q = length-drop q (x ∷ g) in
     let next = cut_next b r (x ∷ g) q some (omega arith) refl all good in
-    let ih = cut_sizes b r t rest some (omega (arith, less, few, some)) (raws_drop q (x ∷ g) all) (blocks_drop b q (x ∷ g) good) in
-    let one : chunks_in kinds.Raw n r ≡ suc (chunks_in kinds.Raw (length rest) r) = one_cut n r some (omega arith) ∙ ap (λ (m : ℕ). suc (chunks_in kinds.Raw m r)) (sym less) in
+    let ih = cut_sizes b r t rest some (omega (arith, less, few, some)) (raws_drop q (x ∷ g) all)
+    (blocks_drop b q (x ∷ g) good) in
+    let one : chunks_in kinds.Raw n r ≡ suc (chunks_in kinds.Raw (length rest) r) = one_cut n r some (omega arith)
+    ∙ ap (λ (m : ℕ). suc (chunks_in kinds.Raw m r)) (sym less) in
     let long : length (take q (x ∷ g)) ≡ q = length-take-le q (x ∷ g) (omega arith) in
-    let raw : length (raw_of (take q (x ∷ g))) ≡ q * b = length_raw b (take q (x ∷ g)) (raws_take q (x ∷ g) all) (blocks_take b q (x ∷ g) good) ∙ ap (λ (m : ℕ). m * b) long in
+    let raw : length (raw_of (take q (x ∷ g))) ≡ q * b =
+    length_raw b (take q (x ∷ g)) (raws_take q (x ∷ g) all) (blocks_take b q (x ∷ g) good)
+    ∙ ap (λ (m : ℕ). m * b) long in
     let front = front_bytes kinds.Raw q (12 + q * b) in
     let total : length (cut_bytes r (x ∷ g)) ≡ 12 + (q * b + length (cut_bytes r rest)) =
-    ap length next.bytes ∙ length-append front (raw_of (take q (x ∷ g)) ++ cut_bytes r rest) ∙ ap (λ (m : ℕ). 12 + m) (length-append (raw_of (take q (x ∷ g))) (cut_bytes r rest) ∙ ap (λ (m : ℕ). m + length (cut_bytes r rest)) raw) in
-    let split : n * b ≡ q * b + (n - q) * b = ap (λ (m : ℕ). m * b) (let z : n ≡ q + (n - q) = omega arith in z) ∙ two_parts q (n - q) b in
+    ap length next.bytes ∙ length-append front (raw_of (take q (x ∷ g)) ++ cut_bytes r rest)
+    ∙ ap (λ (m : ℕ). 12 + m) (length-append (raw_of (take q (x ∷ g))) (cut_bytes r rest)
+    ∙ ap (λ (m : ℕ). m + length (cut_bytes r rest)) raw) in
+    let split : n * b ≡ q * b + (n - q) * b = ap (λ (m : ℕ). m * b) (let z : n ≡ q + (n - q) = omega arith in z)
+    ∙ two_parts q (n - q) b in
     let lr : length rest * b ≡ (n - q) * b = ap (λ (m : ℕ). m * b) less in
-    record { count = next.count ∙ ap suc ih.count ∙ sym one; bytes = rw one (omega (arith, total, ih.bytes, split, lr)) }
+    record {
+      count = next.count ∙ ap suc ih.count
+          ∙ sym one;
+      bytes = rw one (omega (arith, total, ih.bytes, split, lr));
+    }
 
 pub cut_size : (b r : ℕ) (g : List Block) → 0 < r → AllOf kinds.Raw g → AreBlocks b g → CutSize b r g
 cut_size b r g some all good = cut_sizes b r (length g) g some (omega arith) all good
@@ -168,10 +197,12 @@ run_rest kinds.End r g = []
 pub record RunCut (b r : ℕ) (k : RunKind) (g : List Block) : Type 0 where
   pub bytes : flat_map plain (cut_run r (chunk_of_run g)) ≡ run_front k (length g) ++ run_rest k r g
   pub count : length (cut_run r (chunk_of_run g)) ≡ chunks_in k (length g) r
-  pub long : length (flat_map plain (cut_run r (chunk_of_run g))) ≡ chunks_in k (length g) r * head_len k + copy_len k (length g) b
+  pub long : length (flat_map plain (cut_run r (chunk_of_run g))) ≡ chunks_in k (length g) r * head_len k + copy_len k
+      (length g) b
   pub head : length (run_front k (length g)) ≡ run_head k
 
-not_raws : (r : ℕ) (k : RunKind) (g : List Block) → (k ≡ kinds.Raw → ⊥) → AllOf k g → 0 < length g → cut_run r (chunk_of_run g) ≡ chunk_of_run g ∷ []
+not_raws : (r : ℕ) (k : RunKind) (g : List Block) → (k ≡ kinds.Raw → ⊥) → AllOf k g → 0 < length g
+    → cut_run r (chunk_of_run g) ≡ chunk_of_run g ∷ []
 not_raws r k [] nay all some = absurd (omega (arith, some))
 not_raws r kinds.Raw (x ∷ g) nay all some = absurd (nay refl)
 not_raws r (kinds.Fill w) (Fill v ∷ g) nay all some = refl
@@ -183,27 +214,39 @@ not_raws r kinds.Skip (Fill v ∷ g) nay all some = absurd (let e : Fill v ≡ S
 not_raws r kinds.End (x ∷ g) nay all some = absurd cc
 
 -- a run that is one chunk without bytes of its own
-alone : (b r : ℕ) (k : RunKind) (g : List Block) (front : List ℕ) (head : ℕ) → cut_run r (chunk_of_run g) ≡ chunk_of_run g ∷ [] → plain (chunk_of_run g) ≡ front ++ [] → length front ≡ head
-    → (flat_map plain (cut_run r (chunk_of_run g)) ≡ front ++ []) × (length (cut_run r (chunk_of_run g)) ≡ 1) × (length (flat_map plain (cut_run r (chunk_of_run g))) ≡ 1 * head + 0)
+alone : (b r : ℕ) (k : RunKind) (g : List Block) (front : List ℕ) (head : ℕ)
+    → cut_run r (chunk_of_run g) ≡ chunk_of_run g ∷ [] → plain (chunk_of_run g) ≡ front ++ [] → length front ≡ head
+    → (flat_map plain (cut_run r (chunk_of_run g)) ≡ front ++ []) × (length (cut_run r (chunk_of_run g)) ≡ 1)
+    × (length (flat_map plain (cut_run r (chunk_of_run g))) ≡ 1 * head + 0)
 alone b r k g front head one bytes long =
-    let all : flat_map plain (cut_run r (chunk_of_run g)) ≡ front ++ [] = ap (λ (cs : List Chunk). flat_map plain cs) one ∙ append-nil (plain (chunk_of_run g)) ∙ bytes in
-    (all, ap length one, ap length all ∙ length-append front [] ∙ (let z : length front + 0 ≡ 1 * head + 0 = omega (arith, long) in z))
+    let all : flat_map plain (cut_run r (chunk_of_run g)) ≡ front ++ [] =
+    ap (λ (cs : List Chunk). flat_map plain cs) one ∙ append-nil (plain (chunk_of_run g)) ∙ bytes in (
+      all,
+      ap length one,
+      ap length all ∙ length-append front []
+          ∙ (let z : length front + 0 ≡ 1 * head + 0 = omega (arith, long) in z),
+    )
 
-pub run_cut : (b r : ℕ) (k : RunKind) (g : List Block) → 0 < r → AllOf k g → 0 < length g → AreBlocks b g → RunCut b r k g
+pub run_cut : (b r : ℕ) (k : RunKind) (g : List Block) → 0 < r → AllOf k g → 0 < length g → AreBlocks b g
+    → RunCut b r k g
 run_cut b r kinds.Raw g some all more good =
     let c = cut_size b r g some all good in
-    let e : cut_run r (chunk_of_run g) ≡ cut_run r (Raws (map raw_bytes g)) = ap (λ (x : Chunk). cut_run r x) (raw_run g all more) in
-    let f : flat_map plain (cut_run r (chunk_of_run g)) ≡ cut_bytes r g = ap (λ (cs : List Chunk). flat_map plain cs) e in
+    let e : cut_run r (chunk_of_run g) ≡ cut_run r (Raws (map raw_bytes g)) =
+    ap (λ (x : Chunk). cut_run r x) (raw_run g all more) in
+    let f : flat_map plain (cut_run r (chunk_of_run g)) ≡ cut_bytes r g =
+    ap (λ (cs : List Chunk). flat_map plain cs) e in
     record { bytes = f; count = ap length e ∙ c.count; long = ap length f ∙ c.bytes; head = refl }
 run_cut b r (kinds.Fill w) g some all more good =
     let front = front_bytes (kinds.Fill w) (length g) 16 in
     let long = front_long b (kinds.Fill w) g (length g) 16 all more good in
-    let x = alone b r (kinds.Fill w) g front 16 (not_raws r (kinds.Fill w) g (λ e. absurd cc) all more) (run_bytes b (kinds.Fill w) g (length g) all refl more good) long in
+    let x = alone b r (kinds.Fill w) g front 16 (not_raws r (kinds.Fill w) g (λ e. absurd cc) all more)
+    (run_bytes b (kinds.Fill w) g (length g) all refl more good) long in
     record { bytes = x.0; count = x.1; long = x.2; head = long }
 run_cut b r kinds.Skip g some all more good =
     let front = front_bytes kinds.Skip (length g) 12 in
     let long = front_long b kinds.Skip g (length g) 12 all more good in
-    let x = alone b r kinds.Skip g front 12 (not_raws r kinds.Skip g (λ e. absurd cc) all more) (run_bytes b kinds.Skip g (length g) all refl more good) long in
+    let x = alone b r kinds.Skip g front 12 (not_raws r kinds.Skip g (λ e. absurd cc) all more)
+    (run_bytes b kinds.Skip g (length g) all refl more good) long in
     record { bytes = x.0; count = x.1; long = x.2; head = long }
 run_cut b r kinds.End g some all more good = absurd (omega (arith, more, ap length all))
 
@@ -211,15 +254,23 @@ run_cut b r kinds.End g some all more good = absurd (omega (arith, more, ap leng
 pub record FirstCut (b r : ℕ) (k : RunKind) (g rest whole : List Block) : Type 0 where
   pub bytes : bytes_of r whole ≡ run_front k (length g) ++ (run_rest k r g ++ bytes_of r rest)
   pub count : length (chunks_of r whole) ≡ chunks_in k (length g) r + length (chunks_of r rest)
-  pub long : length (bytes_of r whole) ≡ chunks_in k (length g) r * head_len k + copy_len k (length g) b + length (bytes_of r rest)
+  pub long : length (bytes_of r whole) ≡ chunks_in k (length g) r * head_len k + copy_len k (length g) b + length
+      (bytes_of r rest)
 
-pub first_cut : (b r : ℕ) (k : RunKind) (g rest whole : List Block) → runs whole ≡ g ∷ runs rest → 0 < r → AllOf k g → 0 < length g → AreBlocks b g → FirstCut b r k g rest whole
+pub first_cut : (b r : ℕ) (k : RunKind) (g rest whole : List Block) → runs whole ≡ g ∷ runs rest → 0 < r → AllOf k g
+    → 0 < length g → AreBlocks b g → FirstCut b r k g rest whole
 first_cut b r k g rest whole first some all more good =
     let c = run_cut b r k g some all more good in
-    let cs : chunks_of r whole ≡ cut_run r (chunk_of_run g) ++ chunks_of r rest = ap (λ (gs : List (List Block)). flat_map (λ h. cut_run r (chunk_of_run h)) gs) first in
-    let bs : bytes_of r whole ≡ flat_map plain (cut_run r (chunk_of_run g)) ++ bytes_of r rest = ap (λ (xs : List Chunk). flat_map plain xs) cs ∙ flat_map-append plain (cut_run r (chunk_of_run g)) (chunks_of r rest) in
+    let cs : chunks_of r whole ≡ cut_run r (chunk_of_run g) ++ chunks_of r rest =
+    ap (λ (gs : List (List Block)). flat_map (λ h. cut_run r (chunk_of_run h)) gs) first in
+    let bs : bytes_of r whole ≡ flat_map plain (cut_run r (chunk_of_run g)) ++ bytes_of r rest =
+    ap (λ (xs : List Chunk). flat_map plain xs) cs ∙ flat_map-append plain (cut_run r (chunk_of_run g))
+    (chunks_of r rest) in
     record {
-      bytes = bs ∙ ap (λ (x : List ℕ). x ++ bytes_of r rest) c.bytes ∙ append_assoc (run_front k (length g)) (run_rest k r g) (bytes_of r rest);
-      count = ap length cs ∙ length-append (cut_run r (chunk_of_run g)) (chunks_of r rest) ∙ ap (λ (m : ℕ). m + length (chunks_of r rest)) c.count;
-      long = ap length bs ∙ length-append (flat_map plain (cut_run r (chunk_of_run g))) (bytes_of r rest) ∙ ap (λ (m : ℕ). m + length (bytes_of r rest)) c.long;
+      bytes = bs ∙ ap (λ (x : List ℕ). x ++ bytes_of r rest) c.bytes
+          ∙ append_assoc (run_front k (length g)) (run_rest k r g) (bytes_of r rest);
+      count = ap length cs ∙ length-append (cut_run r (chunk_of_run g)) (chunks_of r rest)
+          ∙ ap (λ (m : ℕ). m + length (chunks_of r rest)) c.count;
+      long = ap length bs ∙ length-append (flat_map plain (cut_run r (chunk_of_run g))) (bytes_of r rest)
+          ∙ ap (λ (m : ℕ). m + length (bytes_of r rest)) c.long;
     }

@@ -1,5 +1,6 @@
 -- What taking costs, and how much it writes at most.
-use Rattle.std.proofs.Common.{inl, inr, ◌≡◌, ℕ, zero, suc, ◌+◌, ◌-◌, ◌*◌, ◌^◌, ◌<◌, ◌≤◌, nat_lt, min, false, arith, refl, mul-le-mul_left, mul-le-mul_right, ◌/◌, ◌%◌, ap, ◌∙◌}
+use Rattle.std.proofs.Common.{inl, inr, ◌≡◌, ℕ, zero, suc, ◌+◌, ◌-◌, ◌*◌, ◌^◌, ◌<◌, ◌≤◌, nat_lt, min, false, arith}
+use Rattle.std.proofs.Common.{refl, mul-le-mul_left, mul-le-mul_right, ◌/◌, ◌%◌, ap, ◌∙◌}
 use Rattle.std.proofs.lemmas.Bool.{cases_Bool, ltb-true, ltb-false}
 use Rattle.abt_runs.specs.Part.{is_end}
 use Rattle.abt_runs.specs.declared.part.RunKind.{RunKind}
@@ -9,12 +10,14 @@ use Rattle.abt_placed.specs.Whole.{spare}
 use Rattle.abt_placed.specs.declared.placer.Placer.{Placer}
 
 -- a look at n blocks, and what it is to take them, in words of those blocks
-pub look_costs : (n size t1 t t0 : ℕ) → 0 < n → size % 4 ≡ 0 → 4 * t ≤ 4 * t1 + (n + 1) * (size + 4) → t1 ≡ t0 + 1 → t ≤ t0 + (n * (size / 2 + 17) - 14)
+pub look_costs : (n size t1 t t0 : ℕ) → 0 < n → size % 4 ≡ 0 → 4 * t ≤ 4 * t1 + (n + 1) * (size + 4) → t1 ≡ t0 + 1
+    → t ≤ t0 + (n * (size / 2 + 17) - 14)
 look_costs n size t1 t t0 some words le tick =
     let a : 1 * (size + 4) ≤ n * (size + 4) = mul-le-mul_right (size + 4) (let z : 1 ≤ n = omega (arith, some) in z) in
     let c : (n + 1) * (size + 4) ≡ n * (size + 4) + (size + 4) = omega arith in
     let two : size ≡ 2 * (size / 2) = omega (arith, words) in
-    let d : n * (size + 4) ≡ 2 * (n * (size / 2)) + 4 * n = ap (λ (s : ℕ). n * (s + 4)) two ∙ (let z : n * (2 * (size / 2) + 4) ≡ 2 * (n * (size / 2)) + 4 * n = omega arith in z) in
+    let d : n * (size + 4) ≡ 2 * (n * (size / 2)) + 4 * n = ap (λ (s : ℕ). n * (s + 4)) two
+    ∙ (let z : n * (2 * (size / 2) + 4) ≡ 2 * (n * (size / 2)) + 4 * n = omega arith in z) in
     let e : n * (size / 2 + 17) ≡ n * (size / 2) + 17 * n = omega arith in
     omega (arith, a, c, d, e, le, some, tick)
 
@@ -30,25 +33,31 @@ more_blocks d n m b le =
     omega (arith, a, e)
 
 open_within : (k : RunKind) (q b : ℕ) → (is_end k ≡ false → 0 < q) → open_len k q b ≤ q * (b + 16)
-open_within kinds.Raw q b some = let z = some refl in let d : q * (b + 16) ≡ q * b + 16 * q = omega arith in omega (arith, z, d)
+open_within kinds.Raw q b some = let z = some refl in let d : q * (b + 16) ≡ q * b + 16 * q = omega arith in
+    omega (arith, z, d)
 open_within (kinds.Fill w) q b some = omega arith
 open_within kinds.Skip q b some = omega arith
 open_within kinds.End q b some = omega arith
 
-pub sound_within : (b long : ℕ) (s : Placer) → SoundPlacer b long s → long ≤ s.front + 28 + (s.blocks + s.count) * (b + 16)
+pub sound_within : (b long : ℕ) (s : Placer) → SoundPlacer b long s
+    → long ≤ s.front + 28 + (s.blocks + s.count) * (b + 16)
 sound_within b long s h =
     let o = open_within s.kind s.count b h.some in
     let d : (s.blocks + s.count) * (b + 16) ≡ s.blocks * (b + 16) + s.count * (b + 16) = omega arith in
     omega (arith, h.few, o, d)
 
-pub wider : (front front' p p' d n q y size : ℕ) → front' ≡ front → p' ≡ p + d → d + n ≤ q → y ≤ front' + 28 + (p' + n) * (size + 16) → y ≤ front + 28 + (p + q) * (size + 16)
+pub wider : (front front' p p' d n q y size : ℕ) → front' ≡ front → p' ≡ p + d → d + n ≤ q
+    → y ≤ front' + 28 + (p' + n) * (size + 16) → y ≤ front + 28 + (p + q) * (size + 16)
 wider front front' p p' d n q y size same at le h =
-    let m : (p' + n) * (size + 16) ≤ (p + q) * (size + 16) = mul-le-mul_right (size + 16) (let z : p' + n ≤ p + q = omega (arith, at, le) in z) in
+    let m : (p' + n) * (size + 16) ≤ (p + q) * (size + 16) =
+    mul-le-mul_right (size + 16) (let z : p' + n ≤ p + q = omega (arith, at, le) in z) in
     omega (arith, same, m, h)
 
-pub no_further : (limit limit' i i' d n q size : ℕ) → limit ≡ limit' → i ≡ i' + d → d + n ≤ q → limit < 52 + (i + n) * (size + 16) → limit' < 52 + (i' + q) * (size + 16)
+pub no_further : (limit limit' i i' d n q size : ℕ) → limit ≡ limit' → i ≡ i' + d → d + n ≤ q
+    → limit < 52 + (i + n) * (size + 16) → limit' < 52 + (i' + q) * (size + 16)
 no_further limit limit' i i' d n q size same at le h =
-    let m : (i + n) * (size + 16) ≤ (i' + q) * (size + 16) = mul-le-mul_right (size + 16) (let z : i + n ≤ i' + q = omega (arith, at, le) in z) in
+    let m : (i + n) * (size + 16) ≤ (i' + q) * (size + 16) =
+    mul-le-mul_right (size + 16) (let z : i + n ≤ i' + q = omega (arith, at, le) in z) in
     omega (arith, same, m, h)
 
 -- ---- a window of the source
@@ -67,7 +76,8 @@ spare_all k len b i lt = elim (cases_Bool (nat_lt len (i * b))) [
 ]
 
 pub spare_most : (k len b i : ℕ) → spare k len b i ≤ k
-spare_most k len b i = elim (cases_Bool (nat_lt len (i * b))) [ inl e ↦ rw e (omega arith) | inr e ↦ rw e (omega arith) ]
+spare_most k len b i =
+    elim (cases_Bool (nat_lt len (i * b))) [ inl e ↦ rw e (omega arith) | inr e ↦ rw e (omega arith) ]
 
 -- of a blocks from block i on, of n: only the image's last can have bytes that are not read
 pub record Window (i a b len want : ℕ) : Type 0 where
@@ -96,7 +106,8 @@ part_calls (suc a) b want some four le =
     let d : suc a * b ≡ a * b + b = omega arith in
     omega (arith, m, d, le)
 
-part_turns : (a b want : ℕ) → 0 < a → 4 ≤ b → a * b + 1 ≤ want + b → 2 * (want + 2) + a * (b + 34) ≤ 14 * want + 2 * (b + 14)
+part_turns : (a b want : ℕ) → 0 < a → 4 ≤ b → a * b + 1 ≤ want + b
+    → 2 * (want + 2) + a * (b + 34) ≤ 14 * want + 2 * (b + 14)
 part_turns zero b want some four le = absurd (omega (arith, some))
 part_turns (suc a) b want some four le =
     let m : a * 4 ≤ a * b = mul-le-mul_left a four in
@@ -106,11 +117,13 @@ part_turns (suc a) b want some four le =
 
 pub half : (a b : ℕ) → 2 * (a * (b / 2 + 17)) ≤ a * (b + 34)
 half a b =
-    let m : a * (2 * (b / 2) + 34) ≤ a * (b + 34) = mul-le-mul_left a (let z : 2 * (b / 2) + 34 ≤ b + 34 = omega arith in z) in
+    let m : a * (2 * (b / 2) + 34) ≤ a * (b + 34) =
+    mul-le-mul_left a (let z : 2 * (b / 2) + 34 ≤ b + 34 = omega arith in z) in
     let d : a * (2 * (b / 2) + 34) ≡ 2 * (a * (b / 2 + 17)) = omega arith in
     omega (arith, m, d)
 
-pub window : (i a b len n want : ℕ) → i * b < len → 0 < a → 4 ≤ b → i + a ≤ n → n * b < len + b → want ≡ min (len - i * b) (a * b) → Window i a b len want
+pub window : (i a b len n want : ℕ) → i * b < len → 0 < a → 4 ≤ b → i + a ≤ n → n * b < len + b
+    → want ≡ min (len - i * b) (a * b) → Window i a b len want
 window i a b len n want below some four inside last is =
     let d : (i + a) * b ≡ i * b + a * b = omega arith in
     let m : 1 * b ≤ a * b = mul-le-mul_right b (let z : 1 ≤ a = omega (arith, some) in z) in
@@ -151,7 +164,8 @@ pub read_more : (i j b len : ℕ) → i ≤ j → min (i * b) len ≤ min (j * b
 read_more i j b len le = let m : i * b ≤ j * b = mul-le-mul_right b le in omega (arith, m)
 
 -- what was taken was read: where it is not all, a whole block at least
-pub block_read : (first past n b len given given' : ℕ) → first < past → past < n → n * b < len + b → given + min (past * b) len ≤ given' + min (first * b) len → b ≤ given' - given
+pub block_read : (first past n b len given given' : ℕ) → first < past → past < n → n * b < len + b
+    → given + min (past * b) len ≤ given' + min (first * b) len → b ≤ given' - given
 block_read first past n b len given given' some less last read =
     let m : (first + 1) * b ≤ past * b = mul-le-mul_right b (let z : first + 1 ≤ past = omega (arith, some) in z) in
     let d : (first + 1) * b ≡ first * b + b = omega arith in

@@ -1,5 +1,7 @@
 -- The numbers of a placer that takes blocks.
-use Rattle.std.proofs.Common.{inl, inr, mul-le-mul_left, ◌≡◌, ℕ, ◌+◌, ◌-◌, ◌*◌, ◌<◌, ◌≤◌, nat_lt, Bool, true, false, List, [], ◌++◌, length, refl, sym, ap, ◌∙◌, arith, append-nil, subst, length-append, ◌&&◌, if◌then◌else◌}
+use Rattle.std.proofs.Common.{inl, inr, mul-le-mul_left, ◌≡◌, ℕ, ◌+◌, ◌-◌, ◌*◌, ◌<◌, ◌≤◌, nat_lt, Bool, true, false}
+use Rattle.std.proofs.Common.{List, [], ◌++◌, length, refl, sym, ap, ◌∙◌, arith, append-nil, subst, length-append, ◌&&◌}
+use Rattle.std.proofs.Common.{if◌then◌else◌}
 use Rattle.std.proofs.lemmas.Bool.{cases_Bool, ltb-true, ltb-false}
 use Rattle.abt_io.specs.Moment.{put_at}
 use Rattle.abt_io.proofs.Overs.{length_put}
@@ -8,7 +10,8 @@ use Rattle.abt_runs.proofs.Alike.{alike_same}
 use Rattle.abt_runs.specs.declared.part.RunKind.{RunKind}
 use Rattle.abt_runs.specs.declared.part.RunKind.TheVariants as kinds
 use Rattle.abt_pieces.specs.Write.{front_bytes}
-use Rattle.abt_placed.specs.Placer.{SoundPlacer, open_len, closed_as, closed, goes_on_with, longer, with_chunk_begun, with_part, room_of, closing_as, closing, kept_for, data_for, beginning}
+use Rattle.abt_placed.specs.Placer.{SoundPlacer, open_len, closed_as, closed, goes_on_with, longer, with_chunk_begun}
+use Rattle.abt_placed.specs.Placer.{with_part, room_of, closing_as, closing, kept_for, data_for, beginning}
 use Rattle.abt_placed.specs.declared.placer.Placer.{Placer}
 
 -- with the open chunk whole
@@ -18,33 +21,43 @@ pub record ClosedNumbers (s t : Placer) : Type 0 where
   pub most : t.most ≡ s.most
   pub front : t.front ≡ s.front
 
-pub closed_numbers : (k : RunKind) (s : Placer) → s.chunks ≤ s.blocks → (is_end k ≡ true → s.count ≡ 0) → (is_end k ≡ false → 0 < s.count) → ClosedNumbers s (closed_as k s)
-closed_numbers kinds.End s c none some = let z = none refl in record { blocks = omega (arith, z); chunks = c; most = refl; front = refl }
-closed_numbers kinds.Raw s c none some = let z = some refl in record { blocks = refl; chunks = omega (arith, z, c); most = refl; front = refl }
-closed_numbers (kinds.Fill w) s c none some = let z = some refl in record { blocks = refl; chunks = omega (arith, z, c); most = refl; front = refl }
-closed_numbers kinds.Skip s c none some = let z = some refl in record { blocks = refl; chunks = omega (arith, z, c); most = refl; front = refl }
+pub closed_numbers : (k : RunKind) (s : Placer) → s.chunks ≤ s.blocks → (is_end k ≡ true → s.count ≡ 0)
+    → (is_end k ≡ false → 0 < s.count) → ClosedNumbers s (closed_as k s)
+closed_numbers kinds.End s c none some = let z = none refl in
+    record { blocks = omega (arith, z); chunks = c; most = refl; front = refl }
+closed_numbers kinds.Raw s c none some = let z = some refl in
+    record { blocks = refl; chunks = omega (arith, z, c); most = refl; front = refl }
+closed_numbers (kinds.Fill w) s c none some = let z = some refl in
+    record { blocks = refl; chunks = omega (arith, z, c); most = refl; front = refl }
+closed_numbers kinds.Skip s c none some = let z = some refl in
+    record { blocks = refl; chunks = omega (arith, z, c); most = refl; front = refl }
 
 raw_front : (n t : ℕ) → length (front_bytes kinds.Raw n t) ≡ 12
 raw_front n t = refl
 
-pub closing_long : (k : RunKind) (s : Placer) (b : ℕ) (w : List ℕ) → open_len k s.count b ≤ length w → length w ≤ length (closing_as k s b w)
+pub closing_long : (k : RunKind) (s : Placer) (b : ℕ) (w : List ℕ) → open_len k s.count b ≤ length w
+    → length w ≤ length (closing_as k s b w)
 closing_long kinds.End s b w le = omega arith
 closing_long kinds.Raw s b w le =
     let at = length w - (12 + s.count * b) in
     let f = front_bytes kinds.Raw s.count (12 + s.count * b) in
-    let e : length (put_at w at f) ≡ length w = length_put w at f (omega (arith, le, raw_front s.count (12 + s.count * b))) in
+    let e : length (put_at w at f) ≡ length w =
+    length_put w at f (omega (arith, le, raw_front s.count (12 + s.count * b))) in
     omega (arith, e)
 closing_long (kinds.Fill v) s b w le = omega (arith, length-append w (front_bytes (kinds.Fill v) s.count 16))
 closing_long kinds.Skip s b w le = omega (arith, length-append w (front_bytes kinds.Skip s.count 12))
 
-open_room : (k : RunKind) (q b : ℕ) (x : List ℕ) → (k ≡ kinds.Raw → length x ≡ q * b) → open_len k q b ≡ length (kept_for k) + length (data_for k x)
+open_room : (k : RunKind) (q b : ℕ) (x : List ℕ) → (k ≡ kinds.Raw → length x ≡ q * b)
+    → open_len k q b ≡ length (kept_for k) + length (data_for k x)
 open_room kinds.Raw q b x e = let z = e refl in omega (arith, z)
 open_room (kinds.Fill v) q b x e = refl
 open_room kinds.Skip q b x e = refl
 open_room kinds.End q b x e = refl
 
-open_more : (k : RunKind) (p q b : ℕ) (x : List ℕ) → (k ≡ kinds.Raw → length x ≡ q * b) → open_len k (p + q) b ≡ open_len k p b + length (data_for k x)
-open_more kinds.Raw p q b x e = let z = e refl in let d : (p + q) * b ≡ p * b + q * b = omega arith in omega (arith, z, d)
+open_more : (k : RunKind) (p q b : ℕ) (x : List ℕ) → (k ≡ kinds.Raw → length x ≡ q * b)
+    → open_len k (p + q) b ≡ open_len k p b + length (data_for k x)
+open_more kinds.Raw p q b x e = let z = e refl in let d : (p + q) * b ≡ p * b + q * b = omega arith in
+    omega (arith, z, d)
 open_more (kinds.Fill v) p q b x e = refl
 open_more kinds.Skip p q b x e = refl
 open_more kinds.End p q b x e = refl
@@ -59,7 +72,8 @@ both true y e = (refl, e)
 both false y e = absurd cc
 
 pub goes : (s : Placer) (k : RunKind) → goes_on_with s k ≡ true → GoesOn s k
-goes s kinds.Raw e = let h = both _ _ e in record { same = alike_same s.kind kinds.Raw h.1; room = λ _. ltb-true s.count s.most h.0 }
+goes s kinds.Raw e = let h = both _ _ e in
+    record { same = alike_same s.kind kinds.Raw h.1; room = λ _. ltb-true s.count s.most h.0 }
 goes s (kinds.Fill v) e = record { same = alike_same s.kind (kinds.Fill v) e; room = λ r. absurd cc }
 goes s kinds.Skip e = record { same = alike_same s.kind kinds.Skip e; room = λ r. absurd cc }
 goes s kinds.End e = record { same = alike_same s.kind kinds.End e; room = λ r. absurd cc }
@@ -77,14 +91,19 @@ room_most s q le = elim (cases_Bool (nat_lt s.count s.most)) [
 ]
 
 sums : (x y z b : ℕ) → x + y ≡ z → z * (b + 16) ≡ x * (b + 16) + y * (b + 16)
-sums x y z b e = ap (λ (n : ℕ). n * (b + 16)) (sym e) ∙ (let d : (x + y) * (b + 16) ≡ x * (b + 16) + y * (b + 16) = omega arith in d)
+sums x y z b e = ap (λ (n : ℕ). n * (b + 16)) (sym e)
+    ∙ (let d : (x + y) * (b + 16) ≡ x * (b + 16) + y * (b + 16) = omega arith in d)
 
-sound_as : (t : Bool) (b q : ℕ) (w x : List ℕ) (s : Placer) (k : RunKind) → goes_on_with s k ≡ t → 0 < q → is_end k ≡ false → (k ≡ kinds.Raw → q ≤ room_of s) → (k ≡ kinds.Raw → length x ≡ q * b)
-    → length (if t then w else closing s b w ++ kept_for k) + open_len s.kind s.count b ≤ length w + s.count * (b + 16) + length (kept_for k) → SoundPlacer b (length w) s
-    → let s' = if t then longer s q else with_chunk_begun (closed s) k q in SoundPlacer b (length ((if t then w else closing s b w ++ kept_for k) ++ data_for k x)) s'
+sound_as : (t : Bool) (b q : ℕ) (w x : List ℕ) (s : Placer) (k : RunKind) → goes_on_with s k ≡ t → 0 < q
+    → is_end k ≡ false → (k ≡ kinds.Raw → q ≤ room_of s) → (k ≡ kinds.Raw → length x ≡ q * b)
+    → length (if t then w else closing s b w ++ kept_for k) + open_len s.kind s.count b ≤ length w + s.count *
+    (b + 16) + length (kept_for k) → SoundPlacer b (length w) s
+    → let s' = if t then longer s q else with_chunk_begun (closed s) k q in
+    SoundPlacer b (length ((if t then w else closing s b w ++ kept_for k) ++ data_for k x)) s'
 sound_as true b q w x s k e some on cap long wide h =
     let g = goes s k e in
-    let m : open_len s.kind (s.count + q) b ≡ open_len s.kind s.count b + length (data_for k x) = rw g.same (open_more k s.count q b x long) in
+    let m : open_len s.kind (s.count + q) b ≡ open_len s.kind s.count b + length (data_for k x) =
+    rw g.same (open_more k s.count q b x long) in
     let l : length (w ++ data_for k x) ≡ length w + length (data_for k x) = length-append w (data_for k x) in
     record {
       chunks = h.chunks;
@@ -101,7 +120,8 @@ sound_as false b q w x s k e some on cap long wide h =
     let a : length w ≤ length (closing s b w) = closing_long s.kind s b w (omega (arith, h.room)) in
     let o = open_room k q b x long in
     let l1 = length-append (closing s b w) (kept_for k) in
-    let l : length ((closing s b w ++ kept_for k) ++ data_for k x) ≡ length (closing s b w) + length (kept_for k) + length (data_for k x) =
+    let l : length ((closing s b w ++ kept_for k) ++ data_for k x) ≡ length (closing s b w) + length
+    (kept_for k) + length (data_for k x) =
     length-append (closing s b w ++ kept_for k) (data_for k x) ∙ ap (λ (n : ℕ). n + length (data_for k x)) l1 in
     let d = sums s.blocks s.count (closed s).blocks b (sym c.blocks) in
     record {
@@ -115,9 +135,13 @@ sound_as false b q w x s k e some on cap long wide h =
       small = rw c.most h.small;
     }
 
-pub sound_taken : (b q : ℕ) (w w1 w' x : List ℕ) (s s' : Placer) (k : RunKind) → 0 < q → is_end k ≡ false → q ≤ room_of s → length x ≡ q * b → length w1 + open_len s.kind s.count b ≤ length w + s.count * (b + 16) + length (kept_for k) → SoundPlacer b (length w) s
+pub sound_taken : (b q : ℕ) (w w1 w' x : List ℕ) (s s' : Placer) (k : RunKind) → 0 < q → is_end k ≡ false
+    → q ≤ room_of s → length x ≡ q * b
+    → length w1 + open_len s.kind s.count b ≤ length w + s.count * (b + 16) + length (kept_for k)
+    → SoundPlacer b (length w) s
     → s' ≡ with_part s k q → w1 ≡ beginning s k b w → w' ≡ w1 ++ data_for k x → SoundPlacer b (length w') s'
-sound_taken b q w w1 w' x s s' k some on cap long wide h e f g = rw (e, g, f) (sound_as (goes_on_with s k) b q w x s k refl some on (λ _. cap) (λ _. long) (rw f at wide) h)
+sound_taken b q w w1 w' x s s' k some on cap long wide h e f g =
+    rw (e, g, f) (sound_as (goes_on_with s k) b q w x s k refl some on (λ _. cap) (λ _. long) (rw f at wide) h)
 
 -- so many blocks of those in the window
 pub blocks_fit : (d c n b : ℕ) → d + c ≤ n → n * b ≤ 65536 → d * b + c * b ≤ 65536
@@ -130,5 +154,11 @@ blocks_fit d c n b le fits =
 -- ---- what is written
 
 -- with skipped blocks more
-pub sound_skipped : (b q : ℕ) (w w' : List ℕ) (s s' : Placer) → 0 < q → length w' + open_len s.kind s.count b ≤ length w + s.count * (b + 16) + 0 → SoundPlacer b (length w) s → s' ≡ with_part s kinds.Skip q → w' ≡ beginning s kinds.Skip b w → SoundPlacer b (length w') s'
-sound_skipped b q w w' s s' some wide h e f = rw (e, f) (subst (λ (l : List ℕ). SoundPlacer b (length l) (with_part s kinds.Skip q)) (append-nil (beginning s kinds.Skip b w)) (sound_as (goes_on_with s kinds.Skip) b q w [] s kinds.Skip refl some refl (λ raw. absurd cc) (λ raw. absurd cc) (rw f at wide) h))
+pub sound_skipped : (b q : ℕ) (w w' : List ℕ) (s s' : Placer) → 0 < q
+    → length w' + open_len s.kind s.count b ≤ length w + s.count * (b + 16) + 0 → SoundPlacer b (length w) s
+    → s' ≡ with_part s kinds.Skip q → w' ≡ beginning s kinds.Skip b w → SoundPlacer b (length w') s'
+sound_skipped b q w w' s s' some wide h e f =
+    rw (e, f) (subst (λ (l : List ℕ). SoundPlacer b (length l) (with_part s kinds.Skip q))
+    (append-nil (beginning s kinds.Skip b w))
+    (sound_as (goes_on_with s kinds.Skip) b q w [] s kinds.Skip refl some refl (λ raw. absurd cc) (λ raw. absurd cc)
+    (rw f at wide) h))

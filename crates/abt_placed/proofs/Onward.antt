@@ -1,5 +1,6 @@
 -- Calls that write, one after another.
-use Rattle.std.proofs.Common.{◌≡◌, ◌∙◌, ℕ, ◌+◌, ◌<◌, ◌≤◌, length, Bool, false, Result, Ok, Err, OnOk, OnErr, refl, arith}
+use Rattle.std.proofs.Common.{◌≡◌, ◌∙◌, ℕ, ◌+◌, ◌<◌, ◌≤◌, length, Bool, false, Result, Ok, Err, OnOk, OnErr, refl}
+use Rattle.std.proofs.Common.{arith}
 use Rattle.std.proofs.Math.Nat.{le_refl, le_trans}
 use Rattle.std.specs.Prelude.{IsErrOf, IfErr, IsTrue}
 use Rattle.abt_io.specs.Count.{full_of}
@@ -26,7 +27,9 @@ still = record {
   greatest = refl;
 }
 
-pub ticked : {B : Type 0} (o : outputs.Ghosts B) (output : B) (m m' : Meter) (j : ℕ) → m'.turns.number ≤ m.turns.number + j → m'.steps.number ≡ m.steps.number → m'.greatest.number ≡ m.greatest.number → Writes {X = Bool} (Ok false) 0 j (stand o output m) (stand o output m')
+pub ticked : {B : Type 0} (o : outputs.Ghosts B) (output : B) (m m' : Meter) (j : ℕ)
+    → m'.turns.number ≤ m.turns.number + j → m'.steps.number ≡ m.steps.number → m'.greatest.number ≡ m.greatest.number
+    → Writes {X = Bool} (Ok false) 0 j (stand o output m) (stand o output m')
 ticked o output m m' j turns steps greatest = record {
   grown = le_refl _;
   frame = refl;
@@ -50,7 +53,8 @@ cause_since (Ok x) n m k e h = tt
 cause_since (Err f) n m k e h = omega (arith, e, h)
 
 -- one call after another
-pub onward : {X Y : Type 0} {x : X} {r : Result Y DeviceFault} {k k' j j' : ℕ} {a m z : Stand} → Writes (Ok x) k j a m → Writes r k' j' m z → Writes r (k + k') (j + j') a z
+pub onward : {X Y : Type 0} {x : X} {r : Result Y DeviceFault} {k k' j j' : ℕ} {a m z : Stand} → Writes (Ok x) k j a m
+    → Writes r k' j' m z → Writes r (k + k') (j + j') a z
 onward {r = r} {a = a} {m = m} {z = z} h g = record {
   grown = le_trans h.grown g.grown;
   frame = g.frame ∙ h.frame;
@@ -65,12 +69,14 @@ onward {r = r} {a = a} {m = m} {z = z} h g = record {
   greatest = g.greatest ∙ h.greatest;
 }
 
-same_fault : {X Y : Type 0} (f : DeviceFault) → IsErrOf {T = X} {E = DeviceFault} (Err f) Full → IsErrOf {T = Y} {E = DeviceFault} (Err f) Full
+same_fault : {X Y : Type 0} (f : DeviceFault) → IsErrOf {T = X} {E = DeviceFault} (Err f) Full
+    → IsErrOf {T = Y} {E = DeviceFault} (Err f) Full
 same_fault Failed h = absurd cc
 same_fault Full h = refl
 
 -- the same fault in another result, and another value
-pub fails : {X Y : Type 0} {f : DeviceFault} {k n j i : ℕ} {a z : Stand} → Writes {X = X} (Err f) k j a z → k ≤ n → j ≤ i → Writes {X = Y} (Err f) n i a z
+pub fails : {X Y : Type 0} {f : DeviceFault} {k n j i : ℕ} {a z : Stand} → Writes {X = X} (Err f) k j a z → k ≤ n
+    → j ≤ i → Writes {X = Y} (Err f) n i a z
 fails {X = X} {Y = Y} {f = f} h calls turns = record {
   grown = h.grown;
   frame = h.frame;
@@ -85,7 +91,8 @@ fails {X = X} {Y = Y} {f = f} h calls turns = record {
   greatest = h.greatest;
 }
 
-pub at_most : {X : Type 0} {r : Result X DeviceFault} {k n j i : ℕ} {a z : Stand} → Writes r k j a z → k ≤ n → j ≤ i → Writes r n i a z
+pub at_most : {X : Type 0} {r : Result X DeviceFault} {k n j i : ℕ} {a z : Stand} → Writes r k j a z → k ≤ n → j ≤ i
+    → Writes r n i a z
 at_most h calls turns = record {
   grown = h.grown;
   frame = h.frame;
@@ -144,7 +151,8 @@ laid_over {X = X} {r = r} o output output' m m' n k is long writes cause failed 
   greatest = no_step.greatest;
 }
   where
-    never_full : (r : Result X DeviceFault) → IfErr r (λ e. e ≡ Failed) → o.full_faults output' ≡ o.full_faults output + 0
+    never_full : (r : Result X DeviceFault) → IfErr r (λ e. e ≡ Failed)
+        → o.full_faults output' ≡ o.full_faults output + 0
         → o.full_faults output' ≡ o.full_faults output + full_of r
     never_full (Ok x) f e = e
     never_full (Err y) f e = rw f e

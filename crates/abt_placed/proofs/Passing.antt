@@ -14,16 +14,22 @@ use Rattle.abt_pieces.specs.declared.fault.PieceFault.TheVariants.{Write}
 use Rattle.abt_placed.proofs.Onward.{still}
 use Rattle.abt_placed.specs.Calls.{Stand, Scene, Writes, LaysOn, scene}
 
-clean_on : {X : Type 0} (r : Result X PieceFault) (a m z : Scene) → (m.faults ≡ a.faults) × (m.output.faults ≡ a.output.faults) → OnOk r ((z.faults ≡ m.faults) × (z.output.faults ≡ m.output.faults)) → OnOk r ((z.faults ≡ a.faults) × (z.output.faults ≡ a.output.faults))
+clean_on : {X : Type 0} (r : Result X PieceFault) (a m z : Scene) → (m.faults ≡ a.faults)
+    × (m.output.faults ≡ a.output.faults) → OnOk r ((z.faults ≡ m.faults) × (z.output.faults ≡ m.output.faults))
+    → OnOk r ((z.faults ≡ a.faults) × (z.output.faults ≡ a.output.faults))
 clean_on (Ok x) a m z e h = (h.0 ∙ e.0, h.1 ∙ e.1)
 clean_on (Err f) a m z e h = tt
 
-cause_on : {X : Type 0} (r : Result X PieceFault) (models : Bool) (a m z : Scene) → (m.faults ≡ a.faults) × (m.output.faults ≡ a.output.faults) → IfErr r (λ e. CutCause e models m.faults z.faults m.output.faults z.output.faults) → IfErr r (λ e. CutCause e models a.faults z.faults a.output.faults z.output.faults)
+cause_on : {X : Type 0} (r : Result X PieceFault) (models : Bool) (a m z : Scene) → (m.faults ≡ a.faults)
+    × (m.output.faults ≡ a.output.faults)
+    → IfErr r (λ e. CutCause e models m.faults z.faults m.output.faults z.output.faults)
+    → IfErr r (λ e. CutCause e models a.faults z.faults a.output.faults z.output.faults)
 cause_on (Ok x) models a m z e h = tt
 cause_on (Err f) models a m z e h = rw (e.0, e.1) at h
 
 -- one call after another
-pub lays_then : {X Y : Type 0} {x : X} {r : Result Y PieceFault} {models : Bool} {a m z : Scene} → LaysOn (Ok x) models a m → LaysOn r models m z → LaysOn r models a z
+pub lays_then : {X Y : Type 0} {x : X} {r : Result Y PieceFault} {models : Bool} {a m z : Scene}
+    → LaysOn (Ok x) models a m → LaysOn r models m z → LaysOn r models a z
 lays_then {r = r} {models = models} {a = a} {m = m} {z = z} h g = record {
   content = λ t. g.content t ∙ h.content t;
   size = λ t. g.size t ∙ h.size t;
@@ -42,7 +48,8 @@ lays_then {r = r} {models = models} {a = a} {m = m} {z = z} h g = record {
 }
 
 -- the same fault in another result, and another value
-pub lays_fault : {X Y : Type 0} {f : PieceFault} {models : Bool} {a z : Scene} → LaysOn {X = X} (Err f) models a z → LaysOn {X = Y} (Err f) models a z
+pub lays_fault : {X Y : Type 0} {f : PieceFault} {models : Bool} {a z : Scene} → LaysOn {X = X} (Err f) models a z
+    → LaysOn {X = Y} (Err f) models a z
 lays_fault h = record {
   content = h.content;
   size = h.size;
@@ -62,9 +69,17 @@ lays_fault h = record {
 
 -- a call of the output alone
 abbrev over : Scene → Stand → Scene
-over a z = record { content = a.content; size = a.size; frame = a.frame; given = a.given; faults = a.faults; output = z }
+over a z = record {
+  content = a.content;
+  size = a.size;
+  frame = a.frame;
+  given = a.given;
+  faults = a.faults;
+  output = z;
+}
 
-pub lays_written : {X Y : Type 0} {x : X} {y : Y} {k j : ℕ} {models : Bool} (a : Scene) (z : Stand) → Writes (Ok x) k j a.output z → LaysOn (Ok y) models a (over a z)
+pub lays_written : {X Y : Type 0} {x : X} {y : Y} {k j : ℕ} {models : Bool} (a : Scene) (z : Stand)
+    → Writes (Ok x) k j a.output z → LaysOn (Ok y) models a (over a z)
 lays_written a z h = record {
   content = λ t. refl;
   size = λ t. refl;
@@ -82,7 +97,8 @@ lays_written a z h = record {
   cause = tt;
 }
 
-pub lays_unwritten : {X Y : Type 0} {f : DeviceFault} {k j : ℕ} {models : Bool} (a : Scene) (z : Stand) → Writes {X = X} (Err f) k j a.output z → LaysOn {X = Y} (Err (Write f)) models a (over a z)
+pub lays_unwritten : {X Y : Type 0} {f : DeviceFault} {k j : ℕ} {models : Bool} (a : Scene) (z : Stand)
+    → Writes {X = X} (Err f) k j a.output z → LaysOn {X = Y} (Err (Write f)) models a (over a z)
 lays_unwritten {f = f} a z h = record {
   content = λ t. refl;
   size = λ t. refl;
@@ -103,13 +119,19 @@ lays_unwritten {f = f} a z h = record {
 pub lays_still : {X : Type 0} {x : X} {models : Bool} {a : Scene} → LaysOn (Ok x) models a a
 lays_still {x = x} {a = a} = lays_written a a.output (still {x = x} {k = 0} {j = 0})
 
-pub lays_value : {X Y : Type 0} {x : X} {y : Y} {models : Bool} {a z : Scene} → LaysOn (Ok x) models a z → LaysOn (Ok y) models a z
+pub lays_value : {X Y : Type 0} {x : X} {y : Y} {models : Bool} {a z : Scene} → LaysOn (Ok x) models a z
+    → LaysOn (Ok y) models a z
 lays_value h = lays_then h lays_still
 
 -- a step that reads, and writes nothing
-pub reads : {A B X Y E : Type 0} {r : Result X PieceFault} {q : Result Y E} (s : sources.Ghosts A) (o : outputs.Ghosts B) (source source' : A) (output : B) (m m1 m2 : Meter) (got : ℕ) → OnlyReads q s source source' → s.given source' ≡ s.given source + got → got ≤ 65536
-    → m1.steps.number ≡ m.steps.number → m1.greatest.number ≡ m.greatest.number → m2.steps.number ≡ m1.steps.number + 1 → m2.greatest.number ≡ max m1.greatest.number got → OnOk r (s.read_faults source' ≡ s.read_faults source) → full_cut r ≡ 0
-    → IfErr r (λ e. CutCause e s.models (s.read_faults source) (s.read_faults source') (o.write_faults output) (o.write_faults output)) → LaysOn r s.models (scene s o source output m) (scene s o source' output m2)
+pub reads : {A B X Y E : Type 0} {r : Result X PieceFault} {q : Result Y E} (s : sources.Ghosts A)
+    (o : outputs.Ghosts B) (source source' : A) (output : B) (m m1 m2 : Meter) (got : ℕ)
+    → OnlyReads q s source source' → s.given source' ≡ s.given source + got → got ≤ 65536
+    → m1.steps.number ≡ m.steps.number → m1.greatest.number ≡ m.greatest.number
+    → m2.steps.number ≡ m1.steps.number + 1 → m2.greatest.number ≡ max m1.greatest.number got
+    → OnOk r (s.read_faults source' ≡ s.read_faults source) → full_cut r ≡ 0
+    → IfErr r (λ e. CutCause e s.models (s.read_faults source) (s.read_faults source') (o.write_faults output)
+    (o.write_faults output)) → LaysOn r s.models (scene s o source output m) (scene s o source' output m2)
 reads {r = r} s o source source' output m m1 m2 got k given few steps greatest step more clean none cause = record {
   content = k.content;
   size = k.size;
@@ -127,6 +149,7 @@ reads {r = r} s o source source' output m m1 m2 got k given few steps greatest s
   cause = cause;
 }
   where
-    both_clean : {X : Type 0} (r : Result X PieceFault) → OnOk r (s.read_faults source' ≡ s.read_faults source) → OnOk r ((s.read_faults source' ≡ s.read_faults source) × (o.write_faults output ≡ o.write_faults output))
+    both_clean : {X : Type 0} (r : Result X PieceFault) → OnOk r (s.read_faults source' ≡ s.read_faults source)
+        → OnOk r ((s.read_faults source' ≡ s.read_faults source) × (o.write_faults output ≡ o.write_faults output))
     both_clean (Ok x) e = (e, refl)
     both_clean (Err f) e = tt

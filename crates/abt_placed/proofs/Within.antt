@@ -9,10 +9,13 @@ use Rattle.abt_placed.specs.declared.placer.Placer.{Placer}
 use Rattle.abt_placed.specs.declared.segment.Segment.{Segment}
 use Rattle.abt_placed.proofs.Segments.{raw_room, taking_fits}
 
-pub taken_within : (b q gain long long' full : ℕ) (s : Segment) (k : RunKind) → SoundSegment b long s → IsUncut b s.limit s.placer.most → 0 < q → is_fresh k ≡ false → gain ≡ gain_of (tail_of_open s.placer.kind) k q b → gain ≤ s.limit - s.weight
+pub taken_within : (b q gain long long' full : ℕ) (s : Segment) (k : RunKind) → SoundSegment b long s
+    → IsUncut b s.limit s.placer.most → 0 < q → is_fresh k ≡ false → gain ≡ gain_of (tail_of_open s.placer.kind) k q b
+    → gain ≤ s.limit - s.weight
     → long' + full ≤ long + taking_len s.placer k q b → long' + full ≤ s.placer.front + s.limit
 taken_within b q gain long long' full s k h uncut some held grows fits adds =
-    let room : k ≡ kinds.Raw → s.placer.kind ≡ kinds.Raw → s.placer.count < s.placer.most = λ e raw. raw_room b gain q s long h uncut some (rw e at grows) fits raw in
+    let room : k ≡ kinds.Raw → s.placer.kind ≡ kinds.Raw → s.placer.count < s.placer.most =
+    λ e raw. raw_room b gain q s long h uncut some (rw e at grows) fits raw in
     let y = taking_fits s.placer k q b held room in
     let w = h.fits uncut in
     omega (arith, y, w, h.room, adds, grows, fits)

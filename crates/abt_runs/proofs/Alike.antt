@@ -1,5 +1,6 @@
 -- Blocks of one class, and runs of them.
-use Rattle.std.proofs.Common.{◌≡◌, ℕ, ◌<◌, true, false, List, [], ◌∷◌, ◌++◌, length, replicate, refl, sym, ap, ◌∙◌, arith, bytes_eq}
+use Rattle.std.proofs.Common.{◌≡◌, ℕ, ◌<◌, true, false, List, [], ◌∷◌, ◌++◌, length, replicate, refl, sym, ap, ◌∙◌}
+use Rattle.std.proofs.Common.{arith, bytes_eq}
 use Rattle.std.specs.List.{AllByRecursion}
 use Rattle.abt_sparse.specs.Block.{Block, Raw, Fill, Skip}
 use Rattle.abt_sparse.specs.Runs.{runs, alike}
@@ -57,10 +58,12 @@ two_alike : (k : RunKind) (x y : Block) (xs : List Block) → AllOf k (x ∷ y �
 two_alike k x y xs h =
     let kx = kind_is k x (y ∷ xs) h in
     let ky = kind_is k y xs (tail_of_all k x (y ∷ xs) h) in
-    alike_is x y ∙ ap (λ (j : RunKind). alike_kinds j (kind_of y)) kx ∙ ap (λ (j : RunKind). alike_kinds k j) ky ∙ self_alike k x kx
+    alike_is x y ∙ ap (λ (j : RunKind). alike_kinds j (kind_of y)) kx ∙ ap (λ (j : RunKind). alike_kinds k j) ky
+    ∙ self_alike k x kx
 
 -- a run that has ended is the first
-pub runs_apart : (k : RunKind) (xs rest : List Block) → AllOf k xs → 0 < length xs → Ended k rest → runs (xs ++ rest) ≡ xs ∷ runs rest
+pub runs_apart : (k : RunKind) (xs rest : List Block) → AllOf k xs → 0 < length xs → Ended k rest
+    → runs (xs ++ rest) ≡ xs ∷ runs rest
 runs_apart k [] rest h some e = absurd (omega arith)
 runs_apart k (x ∷ []) [] h some e = refl
 runs_apart k (x ∷ []) (y ∷ l) h some e =
@@ -68,10 +71,12 @@ runs_apart k (x ∷ []) (y ∷ l) h some e =
     let a : alike x y ≡ false = alike_is x y ∙ ap (λ (j : RunKind). alike_kinds j (kind_of y)) (kind_is k x [] h) ∙ e in
     grouped-apart x y v.0 v.1 (runs (y ∷ l)) v.2 a ∙ ap (λ (gs : List (List Block)). (x ∷ []) ∷ gs) (sym v.2)
 runs_apart k (x ∷ y ∷ xs) rest h some e =
-    grouped-alike x y xs (runs rest) (runs (y ∷ xs ++ rest)) (runs_apart k (y ∷ xs) rest (tail_of_all k x (y ∷ xs) h) (omega arith) e) (two_alike k x y xs h)
+    grouped-alike x y xs (runs rest) (runs (y ∷ xs ++ rest)) (runs_apart k (y ∷ xs) rest (tail_of_all k x (y ∷ xs) h)
+    (omega arith) e) (two_alike k x y xs h)
 
 -- and one that may go on begins it
-pub runs_front : (k : RunKind) (xs rest : List Block) → AllOf k xs → 0 < length xs → (g : List Block) × (gs : List (List Block)) × (runs (xs ++ rest) ≡ (xs ++ g) ∷ gs)
+pub runs_front : (k : RunKind) (xs rest : List Block) → AllOf k xs → 0 < length xs → (g : List Block)
+    × (gs : List (List Block)) × (runs (xs ++ rest) ≡ (xs ++ g) ∷ gs)
 runs_front k [] rest h some = absurd (omega arith)
 runs_front k (x ∷ []) rest h some = runs_head x rest
 runs_front k (x ∷ y ∷ xs) rest h some =
@@ -82,7 +87,8 @@ raws_append : (xs ys : List Block) → AllByRecursion IsRaw xs → AllByRecursio
 raws_append [] ys h k = k
 raws_append (x ∷ xs) ys h k = (h.0, raws_append xs ys h.1 k)
 
-same_append : (x : Block) (xs ys : List Block) → xs ≡ replicate (length xs) x → ys ≡ replicate (length ys) x → xs ++ ys ≡ replicate (length (xs ++ ys)) x
+same_append : (x : Block) (xs ys : List Block) → xs ≡ replicate (length xs) x → ys ≡ replicate (length ys) x
+    → xs ++ ys ≡ replicate (length (xs ++ ys)) x
 same_append x [] ys h k = k
 same_append x (y ∷ xs) ys h k =
     let e : y ≡ x = cc in

@@ -1,13 +1,17 @@
 -- What the packer takes: fields and sizes that it doesn't refuse.
-use Rattle.std.proofs.Common.{◌≡◌, ℕ, zero, suc, ◌+◌, ◌*◌, ◌≤◌, ◌<◌, ◌^◌, Bool, true, false, cond, not, ◌&&◌, ◌||◌, nat_lt, List, [], ◌∷◌, length, replicate, refl, ap, ◌∙◌, arith, length-append, Option, Some, None}
+use Rattle.std.proofs.Common.{◌≡◌, ℕ, zero, suc, ◌+◌, ◌*◌, ◌≤◌, ◌<◌, ◌^◌, Bool, true, false, cond, not, ◌&&◌, ◌||◌}
+use Rattle.std.proofs.Common.{nat_lt, List, [], ◌∷◌, length, replicate, refl, ap, ◌∙◌, arith, length-append, Option}
+use Rattle.std.proofs.Common.{Some, None}
 use Rattle.std.specs.Prelude.{is_some}
 use Rattle.std.proofs.Math.Nat.{mul-add}
-use Rattle.std.proofs.lemmas.Bool.{and_parts, and_right, not_from_true, le-ltb, lt-ltb, ltb-false, leb-true, or_parts, or_from}
+use Rattle.std.proofs.lemmas.Bool.{and_parts, and_right, not_from_true, le-ltb, lt-ltb, ltb-false, leb-true, or_parts}
+use Rattle.std.proofs.lemmas.Bool.{or_from}
 use Rattle.sha1.specs.Sha1.{sha1, digest_bytes}
 use Rattle.abt_headers.specs.declared.fault.HeaderFault.TheVariants as header
 use Rattle.abt_headers.specs.declared.sections.Section.{Section}
 use Rattle.abt_headers.specs.declared.page.PageSize.{PageSize}
-use Rattle.abt_headers.specs.declared.page.PageSize.TheVariants.{Of2048, Of4096, Of8192, Of16384, Of32768, Of65536, Of131072}
+use Rattle.abt_headers.specs.declared.page.PageSize.TheVariants.{Of2048, Of4096, Of8192, Of16384, Of32768, Of65536}
+use Rattle.abt_headers.specs.declared.page.PageSize.TheVariants.{Of131072}
 use Rattle.abt_headers.specs.Page.{page_bytes, page_from, pages}
 use Rattle.abt_headers.proofs.Places.{least_pages}
 use Rattle.abt_sections.specs.declared.fault.SectionFault.{SectionFault}
@@ -20,7 +24,8 @@ use Rattle.abt_sections.proofs.Laying.{page_some}
 
 -- ---- refusals
 
-pub passed : (b : Bool) (f : SectionFault) (o : Option SectionFault) → cond b (Some f) o ≡ None → (b ≡ false) × (o ≡ None)
+pub passed : (b : Bool) (f : SectionFault) (o : Option SectionFault) → cond b (Some f) o ≡ None
+    → (b ≡ false) × (o ≡ None)
 passed true f o e = absurd cc
 passed false f o e = (refl, e)
 
@@ -55,7 +60,8 @@ pub boot_accepted : (s : BootFields) → boot_refusal s ≡ None → BootAccepte
 unfolding boot_refusal
 boot_accepted s e =
     let a = passed (nat_lt 4 s.version) (faults.Header (header.Version s.version)) _ e in
-    let b = passed (nat_lt s.version 3 && not (is_some (page_from s.page))) (faults.Header (header.PageSize s.page)) _ a.1 in
+    let b = passed (nat_lt s.version 3 && not (is_some (page_from s.page)))
+    (faults.Header (header.PageSize s.page)) _ a.1 in
     let c = passed (nat_lt s.version 3 && not (is_text 15 s.name)) faults.Name _ b.1 in
     let d = passed (not (is_text 1535 s.cmdline)) faults.CommandLine None c.1 in
     record {
@@ -64,12 +70,15 @@ boot_accepted s e =
       cmdline = holds (is_text 1535 s.cmdline) d.0;
     }
 
-pub boot_passes : (s : BootFields) → s.version ≤ 4 → is_some (page_from s.page) ≡ true → is_text 15 s.name ≡ true → is_text 1535 s.cmdline ≡ true → boot_refusal s ≡ None
+pub boot_passes : (s : BootFields) → s.version ≤ 4 → is_some (page_from s.page) ≡ true → is_text 15 s.name ≡ true
+    → is_text 1535 s.cmdline ≡ true → boot_refusal s ≡ None
 unfolding boot_refusal
 boot_passes s version page name cmdline =
     pass (nat_lt 4 s.version) (faults.Header (header.Version s.version)) _ (le-ltb 4 s.version version)
-    (pass (nat_lt s.version 3 && not (is_some (page_from s.page))) (faults.Header (header.PageSize s.page)) _ (and_right (nat_lt s.version 3) _ (not_from_true _ page))
-    (pass (nat_lt s.version 3 && not (is_text 15 s.name)) faults.Name _ (and_right (nat_lt s.version 3) _ (not_from_true _ name))
+    (pass (nat_lt s.version 3 && not (is_some (page_from s.page))) (faults.Header (header.PageSize s.page)) _
+    (and_right (nat_lt s.version 3) _ (not_from_true _ page))
+    (pass (nat_lt s.version 3 && not (is_text 15 s.name)) faults.Name _
+    (and_right (nat_lt s.version 3) _ (not_from_true _ name))
     (pass (not (is_text 1535 s.cmdline)) faults.CommandLine None (not_from_true _ cmdline) refl)))
 
 pub record VendorAccepted (s : VendorFields) : Type 0 where
@@ -93,10 +102,12 @@ vendor_accepted s e =
       cmdline = holds (is_text 2047 s.cmdline) d.0;
     }
 
-pub vendor_passes : (s : VendorFields) → 3 ≤ s.version → s.version ≤ 4 → is_some (page_from s.page) ≡ true → is_text 15 s.name ≡ true → is_text 2047 s.cmdline ≡ true → vendor_refusal s ≡ None
+pub vendor_passes : (s : VendorFields) → 3 ≤ s.version → s.version ≤ 4 → is_some (page_from s.page) ≡ true
+    → is_text 15 s.name ≡ true → is_text 2047 s.cmdline ≡ true → vendor_refusal s ≡ None
 unfolding vendor_refusal
 vendor_passes s low high page name cmdline =
-    pass (nat_lt s.version 3 || nat_lt 4 s.version) (faults.Header (header.Version s.version)) _ (or_from _ _ (le-ltb s.version 3 low) (le-ltb 4 s.version high))
+    pass (nat_lt s.version 3 || nat_lt 4 s.version) (faults.Header (header.Version s.version)) _
+    (or_from _ _ (le-ltb s.version 3 low) (le-ltb 4 s.version high))
     (pass (not (is_some (page_from s.page))) (faults.Header (header.PageSize s.page)) _ (not_from_true _ page)
     (pass (not (is_text 15 s.name)) faults.Name _ (not_from_true _ name)
     (pass (not (is_text 2047 s.cmdline)) faults.CommandLine None (not_from_true _ cmdline) refl)))
@@ -139,14 +150,18 @@ unfolding size_refusal
 none_large [] [] h = refl
 none_large (a ∷ names) [] h = refl
 none_large [] (n ∷ ns) h = refl
-none_large (a ∷ names) (n ∷ ns) h = pass (nat_lt 4294967295 n) (faults.SectionTooLarge a) (size_refusal names ns) (le-ltb _ _ h.0) (none_large names ns h.1)
+none_large (a ∷ names) (n ∷ ns) h = pass (nat_lt 4294967295 n) (faults.SectionTooLarge a) (size_refusal names ns)
+    (le-ltb _ _ h.0) (none_large names ns h.1)
 
-pub all_small : (names : List Section) (sizes : List ℕ) → length sizes ≤ length names → size_refusal names sizes ≡ None → AllSmall sizes
+pub all_small : (names : List Section) (sizes : List ℕ) → length sizes ≤ length names
+    → size_refusal names sizes ≡ None → AllSmall sizes
 unfolding size_refusal
 all_small [] [] l e = tt
 all_small (a ∷ names) [] l e = tt
 all_small [] (n ∷ ns) l e = absurd (omega arith)
-all_small (a ∷ names) (n ∷ ns) l e = let c = passed (nat_lt 4294967295 n) (faults.SectionTooLarge a) (size_refusal names ns) e in (ltb-false _ _ c.0, all_small names ns (omega arith) c.1)
+all_small (a ∷ names) (n ∷ ns) l e = let c =
+    passed (nat_lt 4294967295 n) (faults.SectionTooLarge a) (size_refusal names ns) e in
+    (ltb-false _ _ c.0, all_small names ns (omega arith) c.1)
 
 -- ---- the offset of the recovery dtbo, and the id
 
@@ -157,7 +172,8 @@ offset_case false n h = h
 low_pages : (n p : ℕ) → 0 < p → p ≤ 131072 → n ≤ 4294967295 → pages n p * p ≤ 4295098366
 low_pages n p some high h = let l = least_pages n p some in omega arith
 
-pub offset_fits : (page : PageSize) (k r s d : ℕ) → k ≤ 4294967295 → r ≤ 4294967295 → s ≤ 4294967295 → dtbo_offset (page_bytes page) k r s d < 2 ^ 64
+pub offset_fits : (page : PageSize) (k r s d : ℕ) → k ≤ 4294967295 → r ≤ 4294967295 → s ≤ 4294967295
+    → dtbo_offset (page_bytes page) k r s d < 2 ^ 64
 offset_fits page k r s d a b c =
     let p = page_bytes page in
     let some = page_some page in
@@ -165,7 +181,8 @@ offset_fits page k r s d a b c =
     let kp = pages k p in
     let rp = pages r p in
     let sp = pages s p in
-    let e : p * (1 + kp + rp + sp) ≡ p * 1 + p * kp + p * rp + p * sp = mul-add p (1 + kp + rp) sp ∙ ap (λ (n : ℕ). n + p * sp) (mul-add p (1 + kp) rp) ∙ ap (λ (n : ℕ). n + p * rp + p * sp) (mul-add p 1 kp) in
+    let e : p * (1 + kp + rp + sp) ≡ p * 1 + p * kp + p * rp + p * sp = mul-add p (1 + kp + rp) sp
+    ∙ ap (λ (n : ℕ). n + p * sp) (mul-add p (1 + kp) rp) ∙ ap (λ (n : ℕ). n + p * rp + p * sp) (mul-add p 1 kp) in
     let ka : pages k p * p ≤ 4295098366 = low_pages k p some high a in
     let ra : pages r p * p ≤ 4295098366 = low_pages r p some high b in
     let sa : pages s p * p ≤ 4295098366 = low_pages s p some high c in
@@ -182,4 +199,5 @@ sha1_long m = digest_long _ 5
 
 pub id_long : (parts : List (List ℕ)) → length (id_of parts) ≡ 32
 unfolding id_of
-id_long parts = length-append (sha1 (sized_parts parts)) (replicate 12 0) ∙ ap (λ (n : ℕ). n + 12) (sha1_long (sized_parts parts))
+id_long parts = length-append (sha1 (sized_parts parts)) (replicate 12 0)
+    ∙ ap (λ (n : ℕ). n + 12) (sha1_long (sized_parts parts))

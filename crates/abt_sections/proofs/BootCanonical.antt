@@ -25,7 +25,8 @@ use Rattle.abt_sections.specs.BootCanon.{boot_header_of, boot_page_for, page_or,
 use Rattle.abt_sections.specs.BootCanon.{boot_canon}
 use Rattle.abt_sections.specs.Header.{OfBoot, image_header_at, places_of}
 use Rattle.abt_sections.specs.Open.{HasImage}
-use Rattle.abt_sections.specs.Check.{all_zero, text_field, front_texts, short_texts, cmd_common_texts, boot_offset_holds}
+use Rattle.abt_sections.specs.Check.{all_zero, text_field, front_texts, short_texts, cmd_common_texts}
+use Rattle.abt_sections.specs.Check.{boot_offset_holds}
 use Rattle.abt_sections.specs.Check.{BootIdHolds, IsCanonical}
 use Rattle.abt_sections.specs.Canonical.{BootNumbers, IsBootInput, StartsAsBoot}
 use Rattle.abt_sections.specs.Unpacked.{HoldsBoot}
@@ -329,7 +330,8 @@ found_4 f n a b c fits s e o =
     }
 
 found : (x : List ℕ) (h : BootHeader) → BootFits h → Sized (boot_sections h) (parts_of x (places_of (OfBoot h)))
-    → cmd_common_texts h ≡ true → boot_offset_holds h ≡ true → BootIdHolds x h → Found h (parts_of x (places_of (OfBoot h)))
+    → cmd_common_texts h ≡ true → boot_offset_holds h ≡ true → BootIdHolds x h
+    → Found h (parts_of x (places_of (OfBoot h)))
 found x (V0 f) fits s t o id = found_0 f _ _ _ fits s t id
 found x (V1 f d) fits s t o id = found_1 f d _ _ _ _ fits s t o id
 found x (V2 f d u) fits s t o id = found_2 f d u _ _ _ _ _ fits s t o id

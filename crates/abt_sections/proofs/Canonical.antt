@@ -16,7 +16,8 @@ packed_from : (x : List ℕ) (h : Header) → IsBytes x → HasImage x h → IsC
 packed_from x (OfBoot h) k has e = inl (boot_found x h k has e)
 packed_from x (OfVendor v) k has e = inr (vendor_found x v k has e)
 
-of_header : (x : List ℕ) (g h : Header) → image_header_at x ≡ Ok g → image_header_at x ≡ Ok h → IsCanonical x g → IsCanonical x h
+of_header : (x : List ℕ) (g h : Header) → image_header_at x ≡ Ok g → image_header_at x ≡ Ok h → IsCanonical x g
+    → IsCanonical x h
 of_header x g h a b e = subst (λ (f : Header). IsCanonical x f) (ok_same g h (sym a ∙ b)) e
 
 packed_to : (x : List ℕ) (h : Header) → image_header_at x ≡ Ok h → StartsAsPacked x → IsCanonical x h
@@ -28,7 +29,10 @@ canonical_iff x h k has = (packed_from x h k has, packed_to x h has.header)
 
 -- and what the packer writes is opened
 opened : (x : List ℕ) (h : Header) → IsPacked x h → HasImage x h × IsCanonical x h
-opened x h p = (record { header = p.header; there = p.there; within = within_from x h p.canonical.fragments }, p.canonical)
+opened x h p = (
+  record { header = p.header; there = p.there; within = within_from x h p.canonical.fragments },
+  p.canonical,
+)
 
 pub packed_opens : (x : List ℕ) → StartsAsPacked x → (h : Header) × HasImage x h × IsCanonical x h
 packed_opens x (inl b) = let r = boot_starts x b in let o = opened x (OfBoot r.0) r.1 in (OfBoot r.0, o.0, o.1)

@@ -1,5 +1,7 @@
 -- A header that is read is at the beginning, with fields that fit; and one that is there is read.
-use Rattle.std.proofs.Common.{◌≡◌, ℕ, zero, suc, ◌+◌, ◌*◌, ◌≤◌, ◌<◌, ◌^◌, Bool, true, false, cond, not, ◌||◌, ◌==◌, nat_le, inl, inr, List, ◌++◌, length, take, drop, sym, ap, subst, ◌∙◌, arith, lit<, None, Result, Ok, Err}
+use Rattle.std.proofs.Common.{◌≡◌, ℕ, zero, suc, ◌+◌, ◌*◌, ◌≤◌, ◌<◌, ◌^◌, Bool, true, false, cond, not, ◌||◌, ◌==◌}
+use Rattle.std.proofs.Common.{nat_le, inl, inr, List, ◌++◌, length, take, drop, sym, ap, subst, ◌∙◌, arith, lit<, None}
+use Rattle.std.proofs.Common.{Result, Ok, Err}
 use Rattle.std.specs.Prelude.{slice_index}
 use Rattle.std.proofs.Math.Nat.{pow-succ'}
 use Rattle.std.proofs.lemmas.Bool.{and_from, and_right, or_parts, eqb-true, le-leb}
@@ -13,15 +15,18 @@ use Rattle.abt_headers.specs.declared.boot.BootHeader.TheVariants.{V0, V1, V2, V
 use Rattle.abt_headers.specs.Fault.{needing, mapped, both}
 use Rattle.abt_headers.specs.Field.{number_at, part_at}
 use Rattle.abt_headers.specs.Page.{page_at}
-use Rattle.abt_headers.specs.Boot.{boot_at, boot_of, boot_record, boot_size, boot_field_list, front_at, dtbo_at, dtb_at, short_at}
+use Rattle.abt_headers.specs.Boot.{boot_at, boot_of, boot_record, boot_size, boot_field_list, front_at, dtbo_at, dtb_at}
+use Rattle.abt_headers.specs.Boot.{short_at}
 use Rattle.abt_headers.specs.Fits.{FrontFits, DtboFits, DtbFits, ShortFits, BootFits}
-use Rattle.abt_headers.specs.Vendor.{Tail, Vendor, vendor_at, vendor_of, vendor_record, vendor_size, all_fields, vendor_front_at, tail_at, tail_or_fault}
+use Rattle.abt_headers.specs.Vendor.{Tail, Vendor, vendor_at, vendor_of, vendor_record, vendor_size, all_fields}
+use Rattle.abt_headers.specs.Vendor.{vendor_front_at, tail_at, tail_or_fault}
 use Rattle.abt_headers.specs.VendorFits.{VendorFrontFits, TailFits, VendorFits}
 use Rattle.abt_headers.proofs.Fields.{IsBytes, IsBytes-drop, joined_rest}
 use Rattle.abt_headers.proofs.PageLaws.{needing-from, guard, page_was}
 use Rattle.abt_headers.proofs.BootLaws as boot
 use Rattle.abt_headers.proofs.VendorLaws as vendor
-use Rattle.abt_sections.specs.Header.{Header, OfBoot, OfVendor, HeaderFits, record_of, size_of, is_vendor, image_header_at}
+use Rattle.abt_sections.specs.Header.{Header, OfBoot, OfVendor, HeaderFits, record_of, size_of, is_vendor}
+use Rattle.abt_sections.specs.Header.{image_header_at}
 use Rattle.abt_sections.proofs.Digests.{there_length}
 
 -- ---- numbers and texts of bytes
@@ -61,7 +66,11 @@ front_fits p x h k = record {
 
 dtbo_fits : (x : List ℕ) → IsBytes x → DtboFits (dtbo_at x)
 unfolding dtbo_at
-dtbo_fits x k = record { recovery_dtbo_size = number_small 1632 4 x k; recovery_dtbo_offset = number_small 1636 8 x k; header_size = number_small 1644 4 x k }
+dtbo_fits x k = record {
+  recovery_dtbo_size = number_small 1632 4 x k;
+  recovery_dtbo_offset = number_small 1636 8 x k;
+  header_size = number_small 1644 4 x k;
+}
 
 dtb_fits : (x : List ℕ) → IsBytes x → DtbFits (dtb_at x)
 unfolding dtb_at
@@ -91,13 +100,15 @@ module _ (x : List ℕ) (k : IsBytes x) where
       let p = page_was 1632 36 x m.0 m.1 in
       subst (λ (g : BootHeader). BootFits g) m.2 (front_fits m.0 x p.0 k)
 
-  fits_1 : (h : BootHeader) → mapped (needing 1648 x (page_at 36 x)) (λ p. V1 (front_at p x) (dtbo_at x)) ≡ Ok h → BootFits h
+  fits_1 : (h : BootHeader) → mapped (needing 1648 x (page_at 36 x)) (λ p. V1 (front_at p x) (dtbo_at x)) ≡ Ok h
+      → BootFits h
   fits_1 h e =
       let m = boot.mapped-from _ _ h e in
       let p = page_was 1648 36 x m.0 m.1 in
       subst (λ (g : BootHeader). BootFits g) m.2 (front_fits m.0 x (omega (arith, p.0)) k, dtbo_fits x k)
 
-  fits_2 : (h : BootHeader) → mapped (needing 1660 x (page_at 36 x)) (λ p. V2 (front_at p x) (dtbo_at x) (dtb_at x)) ≡ Ok h → BootFits h
+  fits_2 : (h : BootHeader) → mapped (needing 1660 x (page_at 36 x)) (λ p. V2 (front_at p x) (dtbo_at x) (dtb_at x))
+      ≡ Ok h → BootFits h
   fits_2 h e =
       let m = boot.mapped-from _ _ h e in
       let p = page_was 1660 36 x m.0 m.1 in
@@ -111,7 +122,10 @@ module _ (x : List ℕ) (k : IsBytes x) where
   fits_4 : (h : BootHeader) → needing 1584 x (Ok (V4 (short_at x) (number_at 1580 4 x))) ≡ Ok h → BootFits h
   fits_4 h e =
       let s = needing-from 1584 x (Ok (V4 (short_at x) (number_at 1580 4 x))) h e in
-      subst (λ (g : BootHeader). BootFits g) (boot_same _ h s.1) (short_fits x (omega (arith, s.0)) k, number_small 1580 4 x k)
+      subst (λ (g : BootHeader). BootFits g) (boot_same _ h s.1) (
+        short_fits x (omega (arith, s.0)) k,
+        number_small 1580 4 x k,
+      )
 
   fits_of : (v : ℕ) (h : BootHeader) → boot_of v x ≡ Ok h → BootFits h
   unfolding boot_of
@@ -171,7 +185,8 @@ ok_tail t = Ok t
 tail_same : (t u : Tail) → ok_tail t ≡ ok_tail u → t ≡ u
 tail_same t u e = cc
 
-tail_numbers : (x : List ℕ) → IsBytes x → (tail_at x).entry_size ≡ 108 → (tail_at x).table_size ≡ 108 * (tail_at x).entry_num → TailFits (tail_at x)
+tail_numbers : (x : List ℕ) → IsBytes x → (tail_at x).entry_size ≡ 108
+    → (tail_at x).table_size ≡ 108 * (tail_at x).entry_num → TailFits (tail_at x)
 unfolding tail_at
 tail_numbers x k e w = record {
   table_size = number_small 2112 4 x k;
@@ -187,29 +202,38 @@ tail_fits x u k e =
     let t = tail_at x in
     let g = guard (not (t.entry_size == 108) || not (t.table_size == 108 * t.entry_num)) faults.Table (Ok t) u e in
     let p = or_parts (not (t.entry_size == 108)) (not (t.table_size == 108 * t.entry_num)) g.0 in
-    subst (λ (w : Tail). TailFits w) (tail_same t u g.1) (tail_numbers x k (eqb-true _ _ (boot.not-false' _ p.0)) (eqb-true _ _ (boot.not-false' _ p.1)))
+    subst (λ (w : Tail). TailFits w) (tail_same t u g.1) (tail_numbers x k (eqb-true _ _ (boot.not-false' _ p.0))
+    (eqb-true _ _ (boot.not-false' _ p.1)))
 
 abbrev ok_page : PageSize → Result PageSize HeaderFault
 ok_page p = Ok p
 
-both_from : (r : Result PageSize HeaderFault) (s : Result Tail HeaderFault) (q : PageSize × Tail) → both r s ≡ Ok q → (r ≡ Ok q.0) × (s ≡ Ok q.1)
-both_from (Ok p) (Ok t) q e = let same : (p, t) ≡ q = cc in (ap (λ (w : PageSize × Tail). ok_page w.0) same, ap (λ (w : PageSize × Tail). ok_tail w.1) same)
+both_from : (r : Result PageSize HeaderFault) (s : Result Tail HeaderFault) (q : PageSize × Tail) → both r s ≡ Ok q
+    → (r ≡ Ok q.0) × (s ≡ Ok q.1)
+both_from (Ok p) (Ok t) q e = let same : (p, t) ≡ q = cc in
+    (ap (λ (w : PageSize × Tail). ok_page w.0) same, ap (λ (w : PageSize × Tail). ok_tail w.1) same)
 both_from (Ok p) (Err c) q e = absurd cc
 both_from (Err d) s q e = absurd cc
 
 module _ (x : List ℕ) (k : IsBytes x) where
-  vendor_fits_3 : (v : Vendor) → mapped (needing 2112 x (page_at 12 x)) (λ p. record { front = vendor_front_at p x; tail = None }) ≡ Ok v → VendorFits v
+  vendor_fits_3 : (v : Vendor)
+      → mapped (needing 2112 x (page_at 12 x)) (λ p. record { front = vendor_front_at p x; tail = None }) ≡ Ok v
+      → VendorFits v
   vendor_fits_3 v e =
       let m = boot.mapped-from _ _ v e in
       let p = page_was 2112 12 x m.0 m.1 in
       subst (λ (g : Vendor). VendorFits g) m.2 (vendor_front_fits m.0 x p.0 k, tt)
 
-  vendor_fits_4 : (v : Vendor) → mapped (both (needing 2128 x (page_at 12 x)) (tail_or_fault x)) (vendor.whole x) ≡ Ok v → VendorFits v
+  vendor_fits_4 : (v : Vendor)
+      → mapped (both (needing 2128 x (page_at 12 x)) (tail_or_fault x)) (vendor.whole x) ≡ Ok v → VendorFits v
   vendor_fits_4 v e =
       let m = boot.mapped-from _ _ v e in
       let b = both_from _ _ m.0 m.1 in
       let p = page_was 2128 12 x m.0.0 b.0 in
-      subst (λ (g : Vendor). VendorFits g) m.2 (vendor_front_fits m.0.0 x (omega (arith, p.0)) k, tail_fits x m.0.1 k b.1)
+      subst (λ (g : Vendor). VendorFits g) m.2 (
+        vendor_front_fits m.0.0 x (omega (arith, p.0)) k,
+        tail_fits x m.0.1 k b.1,
+      )
 
   vendor_fits_of : (n : ℕ) (v : Vendor) → vendor_of n x ≡ Ok v → VendorFits v
   unfolding vendor_of
@@ -251,20 +275,34 @@ unfolding boot_record
 boot_decoded x h k e =
     let s = boot.boot_back x h k e in
     let fits = boot_fits x h k e in
-    record { fits = fits; size = s.size; begins = begins_with x (boot_record h) (drop (boot_size h) x) (boot_size h) (boot.record_length h fits) (joined_rest (boot_field_list h) (drop (boot_size h) x) ∙ s.bytes) }
+    record {
+      fits = fits;
+      size = s.size;
+      begins = begins_with x (boot_record h) (drop (boot_size h) x) (boot_size h)
+          (boot.record_length h fits) (joined_rest (boot_field_list h) (drop (boot_size h) x) ∙ s.bytes);
+    }
 
 vendor_decoded : (x : List ℕ) (v : Vendor) → IsBytes x → vendor_at x ≡ Ok v → Decoded x (OfVendor v)
 unfolding vendor_record
 vendor_decoded x v k e =
     let s = vendor.vendor_back x v k e in
     let fits = vendor_fits_of x k (number_at 8 4 x) v (vendor_begun x v e).rest in
-    record { fits = fits; size = s.size; begins = begins_with x (vendor_record v) (drop (vendor_size v) x) (vendor_size v) (vendor.record_length v fits) (joined_rest (all_fields v.front v.tail) (drop (vendor_size v) x) ∙ s.bytes) }
+    record {
+      fits = fits;
+      size = s.size;
+      begins = begins_with x (vendor_record v) (drop (vendor_size v) x)
+          (vendor_size v) (vendor.record_length v fits)
+          (joined_rest (all_fields v.front v.tail) (drop (vendor_size v) x) ∙ s.bytes);
+    }
 
 pub decoded : (x : List ℕ) (h : Header) → IsBytes x → image_header_at x ≡ Ok h → Decoded x h
-decoded x h k e = elim (boot.either (is_vendor x) (mapped (vendor_at x) (λ v. OfVendor v)) (mapped (boot_at x) (λ b. OfBoot b)) h e) [
-  | inl a ↦ (let m = boot.mapped-from (vendor_at x) (λ v. OfVendor v) h a.1 in subst (λ (g : Header). Decoded x g) m.2 (vendor_decoded x m.0 k m.1))
-  | inr a ↦ (let m = boot.mapped-from (boot_at x) (λ b. OfBoot b) h a in subst (λ (g : Header). Decoded x g) m.2 (boot_decoded x m.0 k m.1))
-]
+decoded x h k e = elim (boot.either (is_vendor x) (mapped (vendor_at x) (λ v. OfVendor v))
+    (mapped (boot_at x) (λ b. OfBoot b)) h e) [
+      | inl a ↦ (let m = boot.mapped-from (vendor_at x) (λ v. OfVendor v) h a.1 in
+          subst (λ (g : Header). Decoded x g) m.2 (vendor_decoded x m.0 k m.1))
+      | inr a ↦ (let m = boot.mapped-from (boot_at x) (λ b. OfBoot b) h a in
+          subst (λ (g : Header). Decoded x g) m.2 (boot_decoded x m.0 k m.1))
+    ]
 
 -- ---- and back
 
@@ -282,6 +320,7 @@ again_vendor x v e =
     ap (λ (b : Bool). cond b (mapped (vendor_at x) (λ v. OfVendor v)) (mapped (boot_at x) (λ b. OfBoot b))) this
     ∙ ap (λ (r : Result Vendor HeaderFault). mapped r (λ v. OfVendor v)) e
 
-pub header_again : (x : List ℕ) (h : Header) (rest : List ℕ) → HeaderFits h → x ≡ record_of h ++ rest → image_header_at x ≡ Ok h
+pub header_again : (x : List ℕ) (h : Header) (rest : List ℕ) → HeaderFits h → x ≡ record_of h ++ rest
+    → image_header_at x ≡ Ok h
 header_again x (OfBoot h) rest fits e = again_boot x h (ap boot_at e ∙ boot.record_again h rest fits)
 header_again x (OfVendor v) rest fits e = again_vendor x v (ap vendor_at e ∙ vendor.record_again v rest fits)

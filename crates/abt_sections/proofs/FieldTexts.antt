@@ -1,7 +1,10 @@
 -- A field that is a text is the text and then zeros.
-use Rattle.std.proofs.Common.{◌≡◌, ℕ, zero, suc, ◌+◌, ◌-◌, ◌≤◌, ◌<◌, Bool, true, false, cond, not, ◌&&◌, ◌==◌, if◌then◌else◌, inl, inr, List, [], ◌∷◌, ◌++◌, length, take, drop, replicate, refl, sym, ap, ◌∙◌, append_assoc, append-nil, arith, length-append, length-drop, take-append-drop}
+use Rattle.std.proofs.Common.{◌≡◌, ℕ, zero, suc, ◌+◌, ◌-◌, ◌≤◌, ◌<◌, Bool, true, false, cond, not, ◌&&◌, ◌==◌}
+use Rattle.std.proofs.Common.{if◌then◌else◌, inl, inr, List, [], ◌∷◌, ◌++◌, length, take, drop, replicate, refl, sym}
+use Rattle.std.proofs.Common.{ap, ◌∙◌, append_assoc, append-nil, arith, length-append, length-drop, take-append-drop}
 use Rattle.std.proofs.lemmas.Bool.{and_parts, and_from, cases_lt, eqb-true, le-leb}
-use Rattle.std.proofs.lemmas.List.{length-take-le, length-replicate, take_all, take_at, drop_all, drop_at, replicate-append-replicate}
+use Rattle.std.proofs.lemmas.List.{length-take-le, length-replicate, take_all, take_at, drop_all, drop_at}
+use Rattle.std.proofs.lemmas.List.{replicate-append-replicate}
 use Rattle.abt_sections.specs.Fields.{no_zero, is_text, filled}
 use Rattle.abt_sections.specs.Check.{all_zero, text_field}
 
@@ -18,7 +21,8 @@ zeros_are (suc n) = zeros_are n
 -- ---- from a text to its field
 
 pub length_filled : (n : ℕ) (t : List ℕ) → length t ≤ n → length (filled n t) ≡ n
-length_filled n t h = omega (arith, length-append t (replicate (n - length t) 0), length-replicate {A = ℕ} (n - length t) 0)
+length_filled n t h =
+    omega (arith, length-append t (replicate (n - length t) 0), length-replicate {A = ℕ} (n - length t) 0)
 
 text_then : (t : List ℕ) (k : ℕ) → no_zero t ≡ true → text_field (t ++ replicate (suc k) 0) ≡ true
 text_then [] k e = zeros_are k
@@ -44,7 +48,8 @@ abbrev pub text_of : List ℕ → List ℕ
 text_of [] = []
 text_of (b ∷ x) = if b == 0 then [] else b ∷ text_of x
 
-no_zero_step : (c : Bool) (b : ℕ) (x : List ℕ) → (b == 0) ≡ c → no_zero (text_of x) ≡ true → no_zero (cond c [] (b ∷ text_of x)) ≡ true
+no_zero_step : (c : Bool) (b : ℕ) (x : List ℕ) → (b == 0) ≡ c → no_zero (text_of x) ≡ true
+    → no_zero (cond c [] (b ∷ text_of x)) ≡ true
 no_zero_step true b x e h = refl
 no_zero_step false b x e h = ap (λ (t : Bool). not t && no_zero (text_of x)) e ∙ h
 
@@ -54,10 +59,14 @@ text_no_zero (b ∷ x) = no_zero_step (b == 0) b x refl (text_no_zero x)
 
 text_step : (c : Bool) (b : ℕ) (x : List ℕ) → (b == 0) ≡ c → cond c (all_zero x) (text_field x) ≡ true
     → (text_field x ≡ true → (length (text_of x) < length x) × (x ≡ filled (length x) (text_of x)))
-    → (length (cond c [] (b ∷ text_of x)) < suc (length x)) × (b ∷ x ≡ filled (suc (length x)) (cond c [] (b ∷ text_of x)))
+    → (length (cond c [] (b ∷ text_of x)) < suc (length x))
+    × (b ∷ x ≡ filled (suc (length x)) (cond c [] (b ∷ text_of x)))
 text_step true b x e h ih =
-    let q : suc (length x) ≡ suc (length x) - 0 = omega arith in
-    (omega arith, ap (λ (n : ℕ). n ∷ x) (eqb-true b 0 e) ∙ ap (λ (l : List ℕ). 0 ∷ l) (all_zero_is x h) ∙ ap (λ (n : ℕ). replicate n 0) q)
+    let q : suc (length x) ≡ suc (length x) - 0 = omega arith in (
+      omega arith,
+      ap (λ (n : ℕ). n ∷ x) (eqb-true b 0 e) ∙ ap (λ (l : List ℕ). 0 ∷ l) (all_zero_is x h)
+          ∙ ap (λ (n : ℕ). replicate n 0) q,
+    )
 text_step false b x e h ih =
     let r = ih h in
     let k = r.0 in
@@ -73,7 +82,8 @@ is_short n t h e = and_from _ _ (le-leb (length t) n h) e
 
 -- ---- a text over two fields
 
-pub two_fields : (a b : ℕ) (t : List ℕ) → length t ≤ a + b → filled a (take a t) ++ filled b (drop a t) ≡ filled (a + b) t
+pub two_fields : (a b : ℕ) (t : List ℕ) → length t ≤ a + b → filled a (take a t)
+    ++ filled b (drop a t) ≡ filled (a + b) t
 two_fields a b t h = elim (cases_lt a (length t)) [
   | inl l ↦ (
       let long : length (take a t) ≡ a = length-take-le a t (omega arith) in
@@ -101,7 +111,8 @@ short_front (suc a) [] = omega arith
 short_front (suc a) (b ∷ t) = let k = short_front a t in omega arith
 
 -- the two fields of a text, each by its length
-pub each_field : (a b : ℕ) (x y t : List ℕ) → length x ≡ a → length t ≤ a + b → x ++ y ≡ filled (a + b) t → (x ≡ filled a (take a t)) × (y ≡ filled b (drop a t))
+pub each_field : (a b : ℕ) (x y t : List ℕ) → length x ≡ a → length t ≤ a + b → x ++ y ≡ filled (a + b) t
+    → (x ≡ filled a (take a t)) × (y ≡ filled b (drop a t))
 each_field a b x y t long h e =
     let same : x ++ y ≡ filled a (take a t) ++ filled b (drop a t) = e ∙ sym (two_fields a b t h) in
     let front : length (filled a (take a t)) ≡ a = length_filled a (take a t) (short_front a t) in (

@@ -24,7 +24,8 @@ padded_length p x h =
     omega (arith, length-append x (replicate (padding (length x) p) 0), zeros, enough_pages (length x) p h)
 
 placed : (p : ℕ) → 0 < p → (k : ℕ) (ss : List (Section × ℕ)) (parts : List (List ℕ)) (front rest x : List ℕ)
-    → length front ≡ p * k → x ≡ front ++ (laid p parts ++ rest) → Sized ss parts → PartsPlaced x (places_from p k ss) parts
+    → length front ≡ p * k → x ≡ front ++ (laid p parts ++ rest) → Sized ss parts
+    → PartsPlaced x (places_from p k ss) parts
 placed p h k [] [] front rest x n e s = tt
 placed p h k [] (q ∷ qs) front rest x n e s = s
 placed p h k (t ∷ ss) [] front rest x n e s = s

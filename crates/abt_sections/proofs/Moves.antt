@@ -25,5 +25,3 @@ moves_part {f = f} {s = s} {o = o} {ps0 = ps0} {p = p} {q = q} {t = t} {C = C} {
       cause = part_move s.read_faults ps i (total s.read_faults ps0) (w p) (w q) (w t) (w t) d a f C D within k.faults
           l.faults (le_refl _) h e.cause;
     }
-
-}

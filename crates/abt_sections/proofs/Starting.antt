@@ -1,5 +1,6 @@
 -- Bytes that begin with others, and sections by their sizes.
-use Rattle.std.proofs.Common.{◌≡◌, ℕ, ◌+◌, ◌*◌, List, [], ◌∷◌, ◌++◌, length, take, drop, refl, sym, ap, ◌∙◌, take-append-drop, None}
+use Rattle.std.proofs.Common.{◌≡◌, ℕ, ◌+◌, ◌*◌, List, [], ◌∷◌, ◌++◌, length, take, drop, refl, sym, ap, ◌∙◌}
+use Rattle.std.proofs.Common.{take-append-drop, None}
 use Rattle.std.proofs.lemmas.List.{take_at}
 use Rattle.abt_headers.specs.declared.sections.Section.{Section}
 use Rattle.abt_headers.specs.declared.sections.SectionPlace.{SectionPlace}
@@ -18,7 +19,8 @@ pub continues : (x y : List ℕ) → StartsWith x y → x ≡ y ++ drop (length 
 continues x y e = sym (take-append-drop (length y) x) ∙ ap (λ (l : List ℕ). l ++ drop (length y) x) e
 
 -- what is stored at the places of sections that are there has their sizes
-pub sized_there : (p k : ℕ) (ss : List (Section × ℕ)) (x : List ℕ) → beyond (places_from p k ss) (length x) ≡ None → Sized ss (parts_of x (places_from p k ss))
+pub sized_there : (p k : ℕ) (ss : List (Section × ℕ)) (x : List ℕ) → beyond (places_from p k ss) (length x) ≡ None
+    → Sized ss (parts_of x (places_from p k ss))
 sized_there p k [] x there = tt
 sized_there p k (s ∷ ss) x there =
     let place : SectionPlace = record { kind = s.0; at = p * k; size = s.1 } in

@@ -8,7 +8,10 @@ both : (a b : Bool) → (a && b) ≡ cond a b false
 both true b = refl
 both false b = refl
 
-step : (c : Bool) (b : ℕ) (x y : List ℕ) → text_field (x ++ y) ≡ cond (text_field x) (all_zero y) (no_zero x && text_field y) → cond c (all_zero (x ++ y)) (text_field (x ++ y)) ≡ cond (cond c (all_zero x) (text_field x)) (all_zero y) ((not c && no_zero x) && text_field y)
+step : (c : Bool) (b : ℕ) (x y : List ℕ)
+    → text_field (x ++ y) ≡ cond (text_field x) (all_zero y) (no_zero x && text_field y)
+    → cond c (all_zero (x ++ y)) (text_field (x ++ y)) ≡ cond (cond c (all_zero x) (text_field x)) (all_zero y)
+    ((not c && no_zero x) && text_field y)
 step true b x y ih = all_zero-append x y ∙ both (all_zero x) (all_zero y)
 step false b x y ih = ih
 

@@ -1,11 +1,14 @@
 -- A number that is read is the number that was written, and back.
-use Rattle.std.proofs.Common.{◌≡◌, ℕ, zero, suc, ◌+◌, ◌*◌, ◌/◌, ◌%◌, ◌^◌, ◌<◌, ◌≤◌, Bool, true, false, cond, List, [], ◌∷◌, ◌++◌, length, get_or, drop, Result, Ok, Err, refl, sym, ap, subst, ◌∙◌, append-nil, arith, length-drop, get_or-drop, drop-drop, not, ◌==◌, ◌||◌, nat_lt}
+use Rattle.std.proofs.Common.{◌≡◌, ℕ, zero, suc, ◌+◌, ◌*◌, ◌/◌, ◌%◌, ◌^◌, ◌<◌, ◌≤◌, Bool, true, false, cond, List, []}
+use Rattle.std.proofs.Common.{◌∷◌, ◌++◌, length, get_or, drop, Result, Ok, Err, refl, sym, ap, subst, ◌∙◌, append-nil}
+use Rattle.std.proofs.Common.{arith, length-drop, get_or-drop, drop-drop, not, ◌==◌, ◌||◌, nat_lt}
 use Rattle.std.specs.Int.{w16, w32, to_le_bytes}
 use Rattle.std.proofs.lemmas.Bool.{ltb-false, le-ltb, eqb-true, eq-eqb, ne_eqb, or_parts}
 use Rattle.std.proofs.lemmas.List.{drop_all}
 use Rattle.byteorder.specs.Endian.{little_number}
 use Rattle.abt_sparse.specs.declared.fault.SparseFault.{SparseFault}
-use Rattle.abt_sparse.specs.declared.fault.SparseFault.TheVariants.{Magic, Major, FileHeaderSize, ChunkHeaderSize, BlockSize}
+use Rattle.abt_sparse.specs.declared.fault.SparseFault.TheVariants.{Magic, Major, FileHeaderSize, ChunkHeaderSize}
+use Rattle.abt_sparse.specs.declared.fault.SparseFault.TheVariants.{BlockSize}
 use Rattle.abt_sparse.specs.Chunk.{Header, IsHeader, header_record}
 use Rattle.abt_sparse.specs.Reading.{number_at, header_at, checked_header}
 
@@ -30,7 +33,8 @@ low_2 a b h k =
     let e1 : n / 256 % 256 ≡ b = omega arith in
     rw (e0, e1) refl
 
-low_4 : (a b c d : ℕ) → a < 256 → b < 256 → c < 256 → d < 256 → to_le_bytes w32 (a + 256 * (b + 256 * (c + 256 * (d + 256 * 0)))) ≡ a ∷ b ∷ c ∷ d ∷ []
+low_4 : (a b c d : ℕ) → a < 256 → b < 256 → c < 256 → d < 256
+    → to_le_bytes w32 (a + 256 * (b + 256 * (c + 256 * (d + 256 * 0)))) ≡ a ∷ b ∷ c ∷ d ∷ []
 low_4 a b c d h k l m =
     let n = a + 256 * (b + 256 * (c + 256 * (d + 256 * 0))) in
     let e0 : n % 256 ≡ a = omega arith in
@@ -52,11 +56,15 @@ front_4 (a ∷ b ∷ c ∷ []) h k = absurd (omega arith)
 front_4 (a ∷ b ∷ c ∷ d ∷ r) h k = ap (λ (t : List ℕ). t ++ r) (low_4 a b c d (k 0) (k 1) (k 2) (k 3))
 
 -- a field and what is after it
-pub field_2 : (p : ℕ) (x rest : List ℕ) → p + 2 ≤ length x → IsBytes x → rest ≡ drop (p + 2) x → to_le_bytes w16 (number_at p 2 x) ++ rest ≡ drop p x
-field_2 p x rest h k e = rw e (ap (λ (t : List ℕ). to_le_bytes w16 (number_at p 2 x) ++ t) (sym (drop-drop 2 p x)) ∙ front_2 (drop p x) (omega (arith, length-drop p x)) (IsBytes-drop p x k))
+pub field_2 : (p : ℕ) (x rest : List ℕ) → p + 2 ≤ length x → IsBytes x → rest ≡ drop (p + 2) x
+    → to_le_bytes w16 (number_at p 2 x) ++ rest ≡ drop p x
+field_2 p x rest h k e = rw e (ap (λ (t : List ℕ). to_le_bytes w16 (number_at p 2 x) ++ t) (sym (drop-drop 2 p x))
+    ∙ front_2 (drop p x) (omega (arith, length-drop p x)) (IsBytes-drop p x k))
 
-pub field_4 : (p : ℕ) (x rest : List ℕ) → p + 4 ≤ length x → IsBytes x → rest ≡ drop (p + 4) x → to_le_bytes w32 (number_at p 4 x) ++ rest ≡ drop p x
-field_4 p x rest h k e = rw e (ap (λ (t : List ℕ). to_le_bytes w32 (number_at p 4 x) ++ t) (sym (drop-drop 4 p x)) ∙ front_4 (drop p x) (omega (arith, length-drop p x)) (IsBytes-drop p x k))
+pub field_4 : (p : ℕ) (x rest : List ℕ) → p + 4 ≤ length x → IsBytes x → rest ≡ drop (p + 4) x
+    → to_le_bytes w32 (number_at p 4 x) ++ rest ≡ drop p x
+field_4 p x rest h k e = rw e (ap (λ (t : List ℕ). to_le_bytes w32 (number_at p 4 x) ++ t) (sym (drop-drop 4 p x))
+    ∙ front_4 (drop p x) (omega (arith, length-drop p x)) (IsBytes-drop p x k))
 
 -- ---- the header
 
@@ -73,7 +81,8 @@ header-again h rest fits =
       again_4 h.image_checksum [] fits.image_checksum,
     ) refl
 
-guard_ok : {A : Type 0} (t : Bool) (d : SparseFault) (r : Result A SparseFault) (y : A) → cond t (Err d) r ≡ Ok y → (t ≡ false) × (r ≡ Ok y)
+guard_ok : {A : Type 0} (t : Bool) (d : SparseFault) (r : Result A SparseFault) (y : A) → cond t (Err d) r ≡ Ok y
+    → (t ≡ false) × (r ≡ Ok y)
 guard_ok true d r y e = absurd cc
 guard_ok false d r y e = (refl, e)
 
@@ -117,7 +126,8 @@ Checked-from x h e =
     let b = guard_ok (not (number_at 4 2 x == 1)) (Major (number_at 4 2 x)) _ h a.1 in
     let c = guard_ok (nat_lt (header_at x).file_hdr_sz 28) (FileHeaderSize (header_at x).file_hdr_sz) _ h b.1 in
     let d = guard_ok (nat_lt (header_at x).chunk_hdr_sz 12) (ChunkHeaderSize (header_at x).chunk_hdr_sz) _ h c.1 in
-    let f = guard_ok ((header_at x).blk_sz == 0 || not ((header_at x).blk_sz % 4 == 0)) (BlockSize (header_at x).blk_sz) _ h d.1 in
+    let f = guard_ok ((header_at x).blk_sz == 0 || not ((header_at x).blk_sz % 4 == 0))
+    (BlockSize (header_at x).blk_sz) _ h d.1 in
     let g = or_parts _ _ f.0 in
     let same : header_at x ≡ h = done (header_at x) h f.1 in
     record {
@@ -176,13 +186,24 @@ Checked-to x h c =
 
 -- the 28 bytes of a header and no more
 pub record-back : (x : List ℕ) (h : Header) → length x ≡ 28 → IsBytes x → checked_header x ≡ Ok h → header_record h ≡ x
-record-back x h n k e = sym (append-nil (header_record h)) ∙ ap (λ (t : List ℕ). header_record h ++ t) (sym (drop_all 28 x (omega arith))) ∙ header-back x h (omega arith) k (Checked-from x h e)
+record-back x h n k e = sym (append-nil (header_record h))
+    ∙ ap (λ (t : List ℕ). header_record h ++ t) (sym (drop_all 28 x (omega arith)))
+    ∙ header-back x h (omega arith) k (Checked-from x h e)
 
 pub record-again : (h : Header) → IsHeader h → checked_header (header_record h) ≡ Ok h
 record-again h fits = checked-again h [] fits
 
-pub fields_are : (x : List ℕ) (minor file chunk blk blks chunks sum : ℕ) → minor ≡ number_at 6 2 x → file ≡ number_at 8 2 x → chunk ≡ number_at 10 2 x → blk ≡ number_at 12 4 x
+pub fields_are : (x : List ℕ) (minor file chunk blk blks chunks sum : ℕ) → minor ≡ number_at 6 2 x
+    → file ≡ number_at 8 2 x → chunk ≡ number_at 10 2 x → blk ≡ number_at 12 4 x
     → blks ≡ number_at 16 4 x → chunks ≡ number_at 20 4 x → sum ≡ number_at 24 4 x
-    → header_at x ≡ record { minor = minor; file_hdr_sz = file; chunk_hdr_sz = chunk; blk_sz = blk; total_blks = blks; total_chunks = chunks; image_checksum = sum }
+    → header_at x ≡ record {
+      minor = minor;
+      file_hdr_sz = file;
+      chunk_hdr_sz = chunk;
+      blk_sz = blk;
+      total_blks = blks;
+      total_chunks = chunks;
+      image_checksum = sum;
+    }
 unfolding header_at
 fields_are x minor file chunk blk blks chunks sum e0 e1 e2 e3 e4 e5 e6 = rw (e0, e1, e2, e3, e4, e5, e6) refl

@@ -7,7 +7,8 @@ use Rattle.abt_sparse.specs.Gains.{Behind, Fresh, After, moved, gain, gains, beh
 use Rattle.abt_sparse.proofs.Weights.{edge, step, inner, trimmed, weight_is}
 
 -- a list and then another
-pub gains-append : (b : ℕ) (s : Behind) (l m : List Block) → gains b s (l ++ m) ≡ gains b s l + gains b (behind_all s l) m
+pub gains-append : (b : ℕ) (s : Behind) (l m : List Block)
+    → gains b s (l ++ m) ≡ gains b s l + gains b (behind_all s l) m
 gains-append b s [] m = omega arith
 gains-append b s (x ∷ l) m = omega (arith, gains-append b (moved s x) l m)
 

@@ -1,5 +1,6 @@
 -- The runs of a list are the only maximal groups of it.
-use Rattle.std.proofs.Common.{◌≡◌, ℕ, true, List, [], ◌∷◌, refl, sym, ap, ◌∙◌, inl, inr, eqb, eqb-true, eq-eqb, bytes_eq}
+use Rattle.std.proofs.Common.{◌≡◌, ℕ, true, List, [], ◌∷◌, refl, sym, ap, ◌∙◌, inl, inr, eqb, eqb-true, eq-eqb}
+use Rattle.std.proofs.Common.{bytes_eq}
 use Rattle.std.specs.List.{AllByRecursion}
 use Rattle.std.proofs.lemmas.Bool.{cases_Bool, and_parts, and_from}
 use Rattle.abt_sparse.specs.Block.{Block, Raw, Fill, Skip}
@@ -11,7 +12,8 @@ pub same_bytes : (v w : List ℕ) → bytes_eq v w ≡ true → v ≡ w
 same_bytes [] [] e = refl
 same_bytes [] (y ∷ w) e = absurd cc
 same_bytes (x ∷ v) [] e = absurd cc
-same_bytes (x ∷ v) (y ∷ w) e = let p = and_parts (eqb x y) (bytes_eq v w) e in let h : x ≡ y = eqb-true x y p.0 in let t = same_bytes v w p.1 in cc
+same_bytes (x ∷ v) (y ∷ w) e = let p = and_parts (eqb x y) (bytes_eq v w) e in let h : x ≡ y = eqb-true x y p.0 in
+    let t = same_bytes v w p.1 in cc
 
 pub bytes_same : (v : List ℕ) → bytes_eq v v ≡ true
 bytes_same [] = refl
@@ -31,11 +33,13 @@ same_run (Fill x) Skip z e = absurd cc
 same_run Skip (Raw y) z e = absurd cc
 same_run Skip (Fill y) z e = absurd cc
 
-all_same : (x y : Block) (g : List Block) → alike x y ≡ true → AllByRecursion (λ z. alike y z ≡ true) g → AllByRecursion (λ z. alike x z ≡ true) g
+all_same : (x y : Block) (g : List Block) → alike x y ≡ true → AllByRecursion (λ z. alike y z ≡ true) g
+    → AllByRecursion (λ z. alike x z ≡ true) g
 all_same x y [] e h = tt
 all_same x y (z ∷ g) e h = (same_run x y z e ∙ h.0, all_same x y g e h.1)
 
-all_back : (x y : Block) (g : List Block) → alike x y ≡ true → AllByRecursion (λ z. alike x z ≡ true) g → AllByRecursion (λ z. alike y z ≡ true) g
+all_back : (x y : Block) (g : List Block) → alike x y ≡ true → AllByRecursion (λ z. alike x z ≡ true) g
+    → AllByRecursion (λ z. alike y z ≡ true) g
 all_back x y [] e h = tt
 all_back x y (z ∷ g) e h = (sym (same_run x y z e) ∙ h.0, all_back x y g e h.1)
 
@@ -62,7 +66,8 @@ pub each-runs : (l : List Block) → AllByRecursion IsRun (runs l)
 each-runs [] = tt
 each-runs (x ∷ l) = each_grouped x (runs l) (each-runs l)
 
-apart_front : (x y : Block) (g : List Block) (gs : List (List Block)) → alike x y ≡ true → Apart ((y ∷ g) ∷ gs) → Apart ((x ∷ y ∷ g) ∷ gs)
+apart_front : (x y : Block) (g : List Block) (gs : List (List Block)) → alike x y ≡ true → Apart ((y ∷ g) ∷ gs)
+    → Apart ((x ∷ y ∷ g) ∷ gs)
 apart_front x y g [] e h = tt
 apart_front x y g ([] ∷ gs) e h = absurd h
 apart_front x y g ((z ∷ k) ∷ gs) e h = (same_run x y z e ∙ h.0, h.1)
@@ -90,17 +95,20 @@ apart_rest [] (z ∷ gs) h k = absurd h
 apart_rest (x ∷ g) ([] ∷ gs) h k = absurd k.0
 apart_rest (x ∷ g) ((y ∷ z) ∷ gs) h k = h.1
 
-apart_back : (x y : Block) (g : List Block) (gs : List (List Block)) → alike x y ≡ true → Apart ((x ∷ y ∷ g) ∷ gs) → Apart ((y ∷ g) ∷ gs)
+apart_back : (x y : Block) (g : List Block) (gs : List (List Block)) → alike x y ≡ true → Apart ((x ∷ y ∷ g) ∷ gs)
+    → Apart ((y ∷ g) ∷ gs)
 apart_back x y g [] e h = tt
 apart_back x y g ([] ∷ gs) e h = absurd h
 apart_back x y g ((z ∷ k) ∷ gs) e h = (sym (same_run x y z e) ∙ h.0, h.1)
 
-grouped_apart : (x : Block) (gs : List (List Block)) → AllByRecursion IsRun gs → Apart ((x ∷ []) ∷ gs) → grouped x gs ≡ (x ∷ []) ∷ gs
+grouped_apart : (x : Block) (gs : List (List Block)) → AllByRecursion IsRun gs → Apart ((x ∷ []) ∷ gs)
+    → grouped x gs ≡ (x ∷ []) ∷ gs
 grouped_apart x [] h k = refl
 grouped_apart x ([] ∷ gs) h k = absurd h.0
 grouped_apart x ((y ∷ g) ∷ gs) h k = rw k.0 refl
 
-pub only_runs : (l : List Block) (gs : List (List Block)) → joined gs ≡ l → AllByRecursion IsRun gs → Apart gs → runs l ≡ gs
+pub only_runs : (l : List Block) (gs : List (List Block)) → joined gs ≡ l → AllByRecursion IsRun gs → Apart gs
+    → runs l ≡ gs
 only_runs l [] e h k = rw (← e) refl
 only_runs l ([] ∷ gs) e h k = absurd h.0
 only_runs [] ((x ∷ g) ∷ gs) e h k = absurd cc
@@ -112,4 +120,8 @@ only_runs (w ∷ l) ((x ∷ y ∷ g) ∷ gs) e h k =
     let head : x ≡ w = cc in
     let rest : joined ((y ∷ g) ∷ gs) ≡ l = cc in
     let like : alike x y ≡ true = h.0.0 in
-    rw (← head, only_runs l ((y ∷ g) ∷ gs) rest (all_back x y g like h.0.1, h.1) (apart_back x y g gs like k), like) refl
+    rw (
+      ← head,
+      only_runs l ((y ∷ g) ∷ gs) rest (all_back x y g like h.0.1, h.1) (apart_back x y g gs like k),
+      like,
+    ) refl

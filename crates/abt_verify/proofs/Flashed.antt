@@ -1,5 +1,7 @@
 -- Verifying and flashing.
-use Rattle.std.proofs.Common.{◌≡◌, ℕ, zero, suc, ◌<◌, ◌≤◌, ◌⊎◌, inl, inr, true, false, List, [], ◌∷◌, length, Option, Some, None, refl, sym, ap, ◌∙◌, arith, nat_eq, nat_lt, ltb-true, ltb-false, eqb-true, eq-eqb}
+use Rattle.std.proofs.Common.{◌≡◌, ℕ, zero, suc, ◌<◌, ◌≤◌, ◌⊎◌, inl, inr, true, false, List, [], ◌∷◌, length, Option}
+use Rattle.std.proofs.Common.{Some, None, refl, sym, ap, ◌∙◌, arith, nat_eq, nat_lt, ltb-true, ltb-false, eqb-true}
+use Rattle.std.proofs.Common.{eq-eqb}
 use Rattle.std.specs.Prelude.{slice_get}
 use Rattle.std.proofs.lemmas.Bool.{cases_Bool}
 use Rattle.abt_sparse.specs.Block.{over}
@@ -52,11 +54,13 @@ one_first p cs m n f g = elim (cases_Bool (nat_lt m n)) [
 -- ---- one of the two
 
 -- the first byte is right
-stands_cons : (p q : List ℕ) (c : Option ℕ) (cs : List (Option ℕ)) → StandsAt p (c ∷ cs) 0 → ((i : ℕ) → slice_get p (suc i) ≡ slice_get q i) → Stands q cs → Stands p (c ∷ cs)
+stands_cons : (p q : List ℕ) (c : Option ℕ) (cs : List (Option ℕ)) → StandsAt p (c ∷ cs) 0
+    → ((i : ℕ) → slice_get p (suc i) ≡ slice_get q i) → Stands q cs → Stands p (c ∷ cs)
 stands_cons p q c cs here next h zero x e = here x e
 stands_cons p q c cs here next h (suc i) x e = next i ∙ h i x e
 
-first_cons : (p q : List ℕ) (c : Option ℕ) (cs : List (Option ℕ)) (n : ℕ) → StandsAt p (c ∷ cs) 0 → ((i : ℕ) → slice_get p (suc i) ≡ slice_get q i) → FirstDiffers q cs n → FirstDiffers p (c ∷ cs) (suc n)
+first_cons : (p q : List ℕ) (c : Option ℕ) (cs : List (Option ℕ)) (n : ℕ) → StandsAt p (c ∷ cs) 0
+    → ((i : ℕ) → slice_get p (suc i) ≡ slice_get q i) → FirstDiffers q cs n → FirstDiffers p (c ∷ cs) (suc n)
 first_cons p q c cs n here next f = record {
   byte = f.byte;
   said = f.said;
@@ -67,7 +71,9 @@ first_cons p q c cs n here next f = record {
   below zero lt x e = here x e
   below (suc i) lt x e = next i ∙ f.before i (omega (arith, lt)) x e
 
-found_cons : (p q : List ℕ) (c : Option ℕ) (cs : List (Option ℕ)) → StandsAt p (c ∷ cs) 0 → ((i : ℕ) → slice_get p (suc i) ≡ slice_get q i) → Stands q cs ⊎ ((n : ℕ) × FirstDiffers q cs n) → Stands p (c ∷ cs) ⊎ ((n : ℕ) × FirstDiffers p (c ∷ cs) n)
+found_cons : (p q : List ℕ) (c : Option ℕ) (cs : List (Option ℕ)) → StandsAt p (c ∷ cs) 0
+    → ((i : ℕ) → slice_get p (suc i) ≡ slice_get q i) → Stands q cs ⊎ ((n : ℕ) × FirstDiffers q cs n)
+    → Stands p (c ∷ cs) ⊎ ((n : ℕ) × FirstDiffers p (c ∷ cs) n)
 found_cons p q c cs here next (inl h) = inl (stands_cons p q c cs here next h)
 found_cons p q c cs here next (inr f) = inr (suc f.0, first_cons p q c cs f.0 here next f.1)
 
@@ -84,6 +90,11 @@ either [] (None ∷ cs) = found_cons [] [] None cs (λ x e. absurd (none_some x 
 either [] (Some b ∷ cs) = inr (0, first_here [] b cs (λ e. none_some b e))
 either (y ∷ p) (None ∷ cs) = found_cons (y ∷ p) p None cs (λ x e. absurd (none_some x e)) (λ i. refl) (either p cs)
 either (y ∷ p) (Some b ∷ cs) = elim (cases_Bool (nat_eq y b)) [
-  | inl t ↦ found_cons (y ∷ p) p (Some b) cs (λ x e. ap (λ (z : ℕ). Some z) (eqb-true y b t) ∙ e) (λ i. refl) (either p cs)
-  | inr t ↦ inr (0, first_here (y ∷ p) b cs (λ e. let same : y ≡ b = some_same y b e in absurd (let z : nat_eq y b ≡ true = eq-eqb y b same in let u : true ≡ false = sym z ∙ t in cc)))
+  | inl t ↦ found_cons (y ∷ p) p (Some b) cs (λ x e. ap (λ (z : ℕ). Some z) (eqb-true y b t) ∙ e) (λ i. refl)
+      (either p cs)
+  | inr t ↦ inr (
+    0,
+    first_here (y ∷ p) b cs (λ e. let same : y ≡ b = some_same y b e in
+        absurd (let z : nat_eq y b ≡ true = eq-eqb y b same in let u : true ≡ false = sym z ∙ t in cc)),
+  )
 ]

@@ -1,5 +1,7 @@
 -- Bytes that cells say, and bytes that are at their place.
-use Rattle.std.proofs.Common.{◌≡◌, ℕ, zero, suc, ◌+◌, ◌-◌, ◌*◌, ◌%◌, ◌/◌, ◌<◌, ◌≤◌, ◌⊎◌, inl, inr, List, [], ◌∷◌, ◌++◌, length, take, drop, replicate, Option, Some, None, get_or, refl, sym, ap, ◌∙◌, append_assoc, arith, min, nat_lt, ltb-true, ltb-false, length-take}
+use Rattle.std.proofs.Common.{◌≡◌, ℕ, zero, suc, ◌+◌, ◌-◌, ◌*◌, ◌%◌, ◌/◌, ◌<◌, ◌≤◌, ◌⊎◌, inl, inr, List, [], ◌∷◌, ◌++◌}
+use Rattle.std.proofs.Common.{length, take, drop, replicate, Option, Some, None, get_or, refl, sym, ap, ◌∙◌}
+use Rattle.std.proofs.Common.{append_assoc, arith, min, nat_lt, ltb-true, ltb-false, length-take}
 use Rattle.std.specs.Prelude.{slice_get}
 use Rattle.std.specs.List.{concat}
 use Rattle.std.proofs.lemmas.Option.{slice_get_past, slice_get-get_or, slice_get_within}
@@ -26,12 +28,14 @@ said_front [] ds i x e = absurd (none_some x (sym (get_none i) ∙ e))
 said_front (c ∷ cs) ds zero x e = e
 said_front (c ∷ cs) ds (suc i) x e = said_front cs ds i x e
 
-pub said_behind : (cs ds : List (Option ℕ)) (i x : ℕ) → get_or (from_place (length cs) ds) i None ≡ Some x → get_or (cs ++ ds) i None ≡ Some x
+pub said_behind : (cs ds : List (Option ℕ)) (i x : ℕ) → get_or (from_place (length cs) ds) i None ≡ Some x
+    → get_or (cs ++ ds) i None ≡ Some x
 said_behind [] ds i x e = e
 said_behind (c ∷ cs) ds zero x e = absurd (none_some x e)
 said_behind (c ∷ cs) ds (suc i) x e = said_behind cs ds i x e
 
-pub said_split : (cs ds : List (Option ℕ)) (i x : ℕ) → get_or (cs ++ ds) i None ≡ Some x → (get_or cs i None ≡ Some x) ⊎ (get_or (from_place (length cs) ds) i None ≡ Some x)
+pub said_split : (cs ds : List (Option ℕ)) (i x : ℕ) → get_or (cs ++ ds) i None ≡ Some x → (get_or cs i None ≡ Some x)
+    ⊎ (get_or (from_place (length cs) ds) i None ≡ Some x)
 said_split [] ds i x e = inr e
 said_split (c ∷ cs) ds zero x e = inl e
 said_split (c ∷ cs) ds (suc i) x e = said_split cs ds i x e
@@ -50,21 +54,27 @@ pub record Placed (at : ℕ) (ds : List (Option ℕ)) (i x : ℕ) : Type 0 where
 pub placed : (at : ℕ) (ds : List (Option ℕ)) (i x : ℕ) → get_or (from_place at ds) i None ≡ Some x → Placed at ds i x
 placed zero ds i x e = record { place = i; is = omega arith; said = e }
 placed (suc at) ds zero x e = absurd (none_some x e)
-placed (suc at) ds (suc i) x e = let p = placed at ds i x e in record { place = p.place; is = omega (arith, p.is); said = p.said }
+placed (suc at) ds (suc i) x e = let p = placed at ds i x e in
+    record { place = p.place; is = omega (arith, p.is); said = p.said }
 
-pub said_at : (at : ℕ) (ds : List (Option ℕ)) (j x : ℕ) → get_or ds j None ≡ Some x → get_or (from_place at ds) (at + j) None ≡ Some x
+pub said_at : (at : ℕ) (ds : List (Option ℕ)) (j x : ℕ) → get_or ds j None ≡ Some x
+    → get_or (from_place at ds) (at + j) None ≡ Some x
 said_at zero ds j x e = let z : 0 + j ≡ j = omega arith in ap (λ (k : ℕ). get_or ds k None) z ∙ e
-said_at (suc at) ds j x e = let z : suc at + j ≡ suc (at + j) = omega arith in ap (λ (k : ℕ). get_or (None ∷ from_place at ds) k None) z ∙ said_at at ds j x e
+said_at (suc at) ds j x e = let z : suc at + j ≡ suc (at + j) = omega arith in
+    ap (λ (k : ℕ). get_or (None ∷ from_place at ds) k None) z ∙ said_at at ds j x e
 
-pub stands_more : (p : List ℕ) (cs ds : List (Option ℕ)) (at : ℕ) → Stands p cs → at ≡ length cs → Stands p (from_place at ds) → Stands p (cs ++ ds)
+pub stands_more : (p : List ℕ) (cs ds : List (Option ℕ)) (at : ℕ) → Stands p cs → at ≡ length cs
+    → Stands p (from_place at ds) → Stands p (cs ++ ds)
 stands_more p cs ds at before long here = λ i x e. elim (said_split cs ds i x e) [
   | inl a ↦ before i x a
   | inr b ↦ here i x (ap (λ (k : ℕ). get_or (from_place k ds) i None) long ∙ b)
 ]
 
-pub first_more : (p : List ℕ) (cs ds more : List (Option ℕ)) (at n : ℕ) → Stands p cs → at ≡ length cs → FirstDiffers p (from_place at ds) n → FirstDiffers p ((cs ++ ds) ++ more) n
+pub first_more : (p : List ℕ) (cs ds more : List (Option ℕ)) (at n : ℕ) → Stands p cs → at ≡ length cs
+    → FirstDiffers p (from_place at ds) n → FirstDiffers p ((cs ++ ds) ++ more) n
 first_more p cs ds more at n before long f =
-    let there : get_or (cs ++ ds) n None ≡ Some f.byte = said_behind cs ds n f.byte (ap (λ (k : ℕ). get_or (from_place k ds) n None) (sym long) ∙ f.said) in
+    let there : get_or (cs ++ ds) n None ≡ Some f.byte =
+    said_behind cs ds n f.byte (ap (λ (k : ℕ). get_or (from_place k ds) n None) (sym long) ∙ f.said) in
     let within = said_within (cs ++ ds) n f.byte there in
     record {
       byte = f.byte;
@@ -84,7 +94,8 @@ first_more p cs ds more at n before long f =
 get-drop : (p : List ℕ) (at j : ℕ) → slice_get (drop at p) j ≡ slice_get p (at + j)
 get-drop p zero j = let z : j ≡ 0 + j = omega arith in ap (slice_get p) z
 get-drop [] (suc at) j = slice_get_past [] j (omega arith) ∙ sym (slice_get_past [] (suc at + j) (omega arith))
-get-drop (y ∷ p) (suc at) j = get-drop p at j ∙ (let z : suc (at + j) ≡ suc at + j = omega arith in ap (slice_get (y ∷ p)) z)
+get-drop (y ∷ p) (suc at) j = get-drop p at j ∙ (let z : suc (at + j) ≡ suc at + j = omega arith in
+    ap (slice_get (y ∷ p)) z)
 
 get-take : (k : ℕ) (x : List ℕ) (j : ℕ) → j < k → slice_get (take k x) j ≡ slice_get x j
 get-take zero x j lt = absurd (omega (arith, lt))
@@ -103,20 +114,24 @@ somes_get (b ∷ bytes) zero lt = refl
 somes_get (b ∷ bytes) (suc j) lt = somes_get bytes j (omega (arith, lt))
 
 -- as far as the first k bytes are the same
-stands_below : (p bytes : List ℕ) (at k i : ℕ) → take k (drop at p) ≡ take k bytes → i < at + k → StandsAt p (from_place at (somes bytes)) i
+stands_below : (p bytes : List ℕ) (at k i : ℕ) → take k (drop at p) ≡ take k bytes → i < at + k
+    → StandsAt p (from_place at (somes bytes)) i
 stands_below p bytes at k i same lt x e =
     let q = placed at (somes bytes) i x e in
     let below : q.place < k = omega (arith, q.is, lt) in
-    ap (slice_get p) q.is ∙ sym (get-drop p at q.place) ∙ sym (get-take k (drop at p) q.place below) ∙ ap (λ (l : List ℕ). slice_get l q.place) same
+    ap (slice_get p) q.is ∙ sym (get-drop p at q.place) ∙ sym (get-take k (drop at p) q.place below)
+    ∙ ap (λ (l : List ℕ). slice_get l q.place) same
     ∙ get-take k bytes q.place below ∙ get_somes bytes q.place x q.said
 
-pub stands_at : (p bytes : List ℕ) (at : ℕ) → take (length bytes) (drop at p) ≡ take (length bytes) bytes → Stands p (from_place at (somes bytes))
+pub stands_at : (p bytes : List ℕ) (at : ℕ) → take (length bytes) (drop at p) ≡ take (length bytes) bytes
+    → Stands p (from_place at (somes bytes))
 stands_at p bytes at same = λ i x e.
     let q = placed at (somes bytes) i x e in
     let within : q.place < length bytes = slice_get_within bytes q.place x (get_somes bytes q.place x q.said) in
     stands_below p bytes at (length bytes) i same (omega (arith, q.is, within)) x e
 
-pub differs_at : (p bytes : List ℕ) (at k : ℕ) → k < length bytes → take k (drop at p) ≡ take k bytes → (slice_get (drop at p) k ≡ slice_get bytes k → ⊥) → FirstDiffers p (from_place at (somes bytes)) (at + k)
+pub differs_at : (p bytes : List ℕ) (at k : ℕ) → k < length bytes → take k (drop at p) ≡ take k bytes
+    → (slice_get (drop at p) k ≡ slice_get bytes k → ⊥) → FirstDiffers p (from_place at (somes bytes)) (at + k)
 differs_at p bytes at k lt same other = record {
   byte = get_or bytes k 0;
   said = said_at at (somes bytes) k (get_or bytes k 0) (somes_get bytes k lt);
@@ -125,8 +140,12 @@ differs_at p bytes at k lt same other = record {
 }
 
 -- where p ends before them, a byte is missing
-pub missing_at : (p bytes : List ℕ) (at k : ℕ) → k < length bytes → take k (drop at p) ≡ take k bytes → length p - at ≤ k → FirstDiffers p (from_place at (somes bytes)) (at + k)
-missing_at p bytes at k lt same short = differs_at p bytes at k lt same (λ e. none_some (get_or bytes k 0) (sym (slice_get_past (drop at p) k (omega (arith, length-drop at p, short))) ∙ e ∙ slice_get-get_or bytes k 0 lt))
+pub missing_at : (p bytes : List ℕ) (at k : ℕ) → k < length bytes → take k (drop at p) ≡ take k bytes
+    → length p - at ≤ k → FirstDiffers p (from_place at (somes bytes)) (at + k)
+missing_at p bytes at k lt same short =
+    differs_at p bytes at k lt same
+    (λ e. none_some (get_or bytes k 0) (sym (slice_get_past (drop at p) k (omega (arith, length-drop at p, short)))
+    ∙ e ∙ slice_get-get_or bytes k 0 lt))
 
 -- ---- a window whose beginning is the image's, and whose other half the partition's
 
@@ -134,22 +153,27 @@ half_front : (n h : ℕ) (w x : List ℕ) → n ≤ h → h ≤ length w → tak
 half_front zero h w x le fits = refl
 half_front (suc n) zero w x le fits = absurd (omega (arith, le))
 half_front (suc n) (suc h) [] x le fits = absurd (omega (arith, fits))
-half_front (suc n) (suc h) (y ∷ w) x le fits = ap (λ (l : List ℕ). y ∷ l) (half_front n h w x (omega (arith, le)) (omega (arith, fits)))
+half_front (suc n) (suc h) (y ∷ w) x le fits =
+    ap (λ (l : List ℕ). y ∷ l) (half_front n h w x (omega (arith, le)) (omega (arith, fits)))
 
 half_back : (h : ℕ) (w x : List ℕ) → h ≤ length w → drop h (take h w ++ x) ≡ x
 half_back zero w x fits = refl
 half_back (suc h) [] x fits = absurd (omega (arith, fits))
 half_back (suc h) (y ∷ w) x fits = half_back h w x (omega (arith, fits))
 
-pub first_half : (n h : ℕ) (w out tail : List ℕ) → n ≤ h → h ≤ length w → take (n - 0) ((take h w ++ out) ++ tail) ≡ take n w
+pub first_half : (n h : ℕ) (w out tail : List ℕ) → n ≤ h → h ≤ length w
+    → take (n - 0) ((take h w ++ out) ++ tail) ≡ take n w
 first_half n h w out tail le fits =
     let z : n - 0 ≡ n = omega arith in
-    ap (λ (j : ℕ). take j ((take h w ++ out) ++ tail)) z ∙ ap (λ (l : List ℕ). take n l) (append_assoc (take h w) out tail) ∙ half_front n h w (out ++ tail) le fits
+    ap (λ (j : ℕ). take j ((take h w ++ out) ++ tail)) z
+    ∙ ap (λ (l : List ℕ). take n l) (append_assoc (take h w) out tail) ∙ half_front n h w (out ++ tail) le fits
 
-pub second_half : (k h : ℕ) (w out tail : List ℕ) → k ≤ length out → h ≤ length w → take (h + k - h) (drop h ((take h w ++ out) ++ tail)) ≡ take k out
+pub second_half : (k h : ℕ) (w out tail : List ℕ) → k ≤ length out → h ≤ length w
+    → take (h + k - h) (drop h ((take h w ++ out) ++ tail)) ≡ take k out
 second_half k h w out tail le fits =
     let z : h + k - h ≡ k = omega arith in
-    ap (λ (j : ℕ). take j (drop h ((take h w ++ out) ++ tail))) z ∙ ap (λ (l : List ℕ). take k (drop h l)) (append_assoc (take h w) out tail)
+    ap (λ (j : ℕ). take j (drop h ((take h w ++ out) ++ tail))) z
+    ∙ ap (λ (l : List ℕ). take k (drop h l)) (append_assoc (take h w) out tail)
     ∙ ap (λ (l : List ℕ). take k l) (half_back h w (out ++ tail) fits) ∙ take-append-le k out tail le
 
 take_front : (k n : ℕ) (l : List ℕ) → k ≤ n → take k (take n l) ≡ take k l
@@ -159,25 +183,31 @@ take_front (suc k) (suc n) [] le = refl
 take_front (suc k) (suc n) (y ∷ l) le = ap (λ (r : List ℕ). y ∷ r) (take_front k n l (omega (arith, le)))
 
 -- so many bytes came, d, and the first k of them are those that are wanted, a
-module _ (p bytes a d : List ℕ) (at k count : ℕ) (a_is : a ≡ bytes) (d_is : d ≡ take count (drop at p)) (within : k ≤ min (length a) (length d)) (same : take k a ≡ take k d) where
+module _ (p bytes a d : List ℕ) (at k count : ℕ) (a_is : a ≡ bytes) (d_is : d ≡ take count (drop at p))
+    (within : k ≤ min (length a) (length d)) (same : take k a ≡ take k d) where
   came : length d ≡ min count (length p - at)
   came = ap length d_is ∙ length-take count (drop at p) ∙ ap (λ (j : ℕ). min count j) (length-drop at p)
 
   same_there : take k (drop at p) ≡ take k bytes
-  same_there = sym (ap (λ (l : List ℕ). take k l) d_is ∙ take_front k count (drop at p) (omega (arith, within, came))) ∙ sym same ∙ ap (λ (l : List ℕ). take k l) a_is
+  same_there = sym (ap (λ (l : List ℕ). take k l) d_is ∙ take_front k count (drop at p) (omega (arith, within, came)))
+      ∙ sym same ∙ ap (λ (l : List ℕ). take k l) a_is
 
   pub all_there : length bytes ≤ k → Stands p (from_place at (somes bytes))
   all_there le =
       let whole : k ≡ length bytes = omega (arith, le, within, ap length a_is) in
-      stands_at p bytes at (sym (ap (λ (j : ℕ). take j (drop at p)) whole) ∙ same_there ∙ ap (λ (j : ℕ). take j bytes) whole)
+      stands_at p bytes at (sym (ap (λ (j : ℕ). take j (drop at p)) whole) ∙ same_there
+      ∙ ap (λ (j : ℕ). take j bytes) whole)
 
-  pub first_there : k < length bytes → (k < min (length a) (length d) → slice_get a k ≡ slice_get d k → ⊥) → count ≡ min (length bytes) (length p - at) → FirstDiffers p (from_place at (somes bytes)) (at + k)
+  pub first_there : k < length bytes → (k < min (length a) (length d) → slice_get a k ≡ slice_get d k → ⊥)
+      → count ≡ min (length bytes) (length p - at) → FirstDiffers p (from_place at (somes bytes)) (at + k)
   first_there lt other all = elim (cases_Bool (nat_lt k (length d))) [
     | inl t ↦
         let less = ltb-true k (length d) t in
         let few : k < count = omega (arith, less, came) in
-        let there : slice_get d k ≡ slice_get (drop at p) k = ap (λ (l : List ℕ). slice_get l k) d_is ∙ get-take count (drop at p) k few in
-        differs_at p bytes at k lt same_there (λ e. other (omega (arith, lt, less, ap length a_is)) (ap (λ (l : List ℕ). slice_get l k) a_is ∙ sym e ∙ sym there))
+        let there : slice_get d k ≡ slice_get (drop at p) k = ap (λ (l : List ℕ). slice_get l k) d_is
+        ∙ get-take count (drop at p) k few in
+        differs_at p bytes at k lt same_there (λ e. other (omega (arith, lt, less, ap length a_is))
+        (ap (λ (l : List ℕ). slice_get l k) a_is ∙ sym e ∙ sym there))
     | inr t ↦
         let past = ltb-false k (length d) t in
         missing_at p bytes at k lt same_there (omega (arith, past, lt, all, came))
@@ -190,7 +220,8 @@ get_nones (suc n) zero = refl
 get_nones (suc n) (suc i) = get_nones n i
 
 pub stands_nones : (p : List ℕ) (at n : ℕ) → Stands p (from_place at (replicate n None))
-stands_nones p at n = λ i x e. let q = placed at (replicate n None) i x e in absurd (none_some x (sym (get_nones n q.place) ∙ q.said))
+stands_nones p at n = λ i x e. let q = placed at (replicate n None) i x e in
+    absurd (none_some x (sym (get_nones n q.place) ∙ q.said))
 
 pub stands_none : (p : List ℕ) (at : ℕ) → Stands p (from_place at [])
 stands_none p at = stands_nones p at 0
@@ -213,9 +244,11 @@ pub said_nones : (n : ℕ) → said_by (replicate n None) ≡ 0
 said_nones zero = refl
 said_nones (suc n) = said_nones n
 
-said_block : (b : ℕ) (x : Block) → b % 4 ≡ 0 → IsBlock b x → said_by (cells_of b (block_bytes b x)) ≡ b * held_in (x ∷ [])
+said_block : (b : ℕ) (x : Block) → b % 4 ≡ 0 → IsBlock b x
+    → said_by (cells_of b (block_bytes b x)) ≡ b * held_in (x ∷ [])
 said_block b (Raw bytes) four h = said_somes bytes ∙ omega (arith, h)
-said_block b (Fill word) four h = let long = length_words (b / 4) word h in said_somes (concat (replicate (b / 4) word)) ∙ omega (arith, long)
+said_block b (Fill word) four h = let long = length_words (b / 4) word h in
+    said_somes (concat (replicate (b / 4) word)) ∙ omega (arith, long)
 said_block b Skip four h = said_nones b ∙ omega arith
 
 held_more : (x : Block) (l : List Block) → held_in (x ∷ l) ≡ held_in (x ∷ []) + held_in l
@@ -227,8 +260,15 @@ held_more Skip l = omega arith
 pub said_cells : (b : ℕ) (l : List Block) → b % 4 ≡ 0 → AreBlocks b l → said_by (cells b l) ≡ b * held_in l
 said_cells b [] four h = omega arith
 said_cells b (x ∷ l) four h =
-    let sum : b * held_in (x ∷ l) ≡ b * held_in (x ∷ []) + b * held_in l = ap (λ (n : ℕ). b * n) (held_more x l) ∙ omega arith in
-    omega (arith, said_by-append (cells_of b (block_bytes b x)) (cells b l), said_block b x four h.0, said_cells b l four h.1, sum)
+    let sum : b * held_in (x ∷ l) ≡ b * held_in (x ∷ []) + b * held_in l = ap (λ (n : ℕ). b * n) (held_more x l)
+    ∙ omega arith in
+    omega (
+      arith,
+      said_by-append (cells_of b (block_bytes b x)) (cells b l),
+      said_block b x four h.0,
+      said_cells b l four h.1,
+      sum,
+    )
 
 pub held_le : (l : List Block) → held_in l ≤ length l
 held_le [] = omega arith

@@ -1,5 +1,6 @@
 -- The range of a file that a part of an image is, as a source.
-use Rattle.std.proofs.Common.{◌≡◌, ◌≤◌, ◌+◌, ℕ, List, [], length, drop, Option, Some, None, arith, length-drop, length-take}
+use Rattle.std.proofs.Common.{◌≡◌, ◌≤◌, ◌+◌, ℕ, List, [], length, drop, Option, Some, None, arith, length-drop}
+use Rattle.std.proofs.Common.{length-take}
 use Rattle.std.specs.Prelude.{option_map}
 use Rattle.abt_io.specs.Bytes.{AreBytes}
 use Rattle.abt_io.specs.BytesLaws.{bytes_of_take, bytes_of_drop}

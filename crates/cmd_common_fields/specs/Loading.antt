@@ -1,5 +1,6 @@
 -- Where the parts of a boot image are loaded.
-use Rattle.std.specs.Prelude.{ℕ, ◌+◌, ◌^◌, nat_lt, if◌then◌else◌, Bool, true, false, Option, Some, None, ◌&&◌, not, is_some}
+use Rattle.std.specs.Prelude.{ℕ, ◌+◌, ◌^◌, nat_lt, if◌then◌else◌, Bool, true, false, Option, Some, None, ◌&&◌, not}
+use Rattle.std.specs.Prelude.{is_some}
 use Rattle.cmd_common_fields.specs.declared.fields.Address.{Address}
 use Rattle.cmd_common_fields.specs.declared.fields.Address.TheVariants.{Kernel, Ramdisk, Second, Tags, Dtb}
 use Rattle.cmd_common_fields.specs.declared.loading.AddressWords.{AddressWords}

@@ -1,5 +1,6 @@
 -- The first place of a section.
-use Rattle.std.proofs.Common.{◌≡◌, ◌<◌, ◌≤◌, ◌+◌, ℕ, suc, Bool, true, false, cond, List, [], Option, Some, None, length, get_or, drop, find, refl}
+use Rattle.std.proofs.Common.{◌≡◌, ◌<◌, ◌≤◌, ◌+◌, ℕ, suc, Bool, true, false, cond, List, [], Option, Some, None, length}
+use Rattle.std.proofs.Common.{get_or, drop, find, refl}
 use Rattle.std.proofs.Common.{sym, ap, ◌∙◌, arith, bytes_eq, codes, if◌then◌else◌}
 use Rattle.std.proofs.Math.Seq.{drop-cons}
 use Rattle.std.proofs.lemmas.List.{drop_all}

@@ -1,5 +1,6 @@
 -- What stands behind a text that two fields hold together.
-use Rattle.std.proofs.Common.{◌≡◌, ◌≢◌, ℕ, suc, ◌<◌, ◌≤◌, ◌+◌, ◌-◌, ◌==◌, Bool, true, false, not, cond, inl, inr, List, [], ◌∷◌, ◌++◌, length, take, drop, refl, sym, ap, ◌∙◌, arith}
+use Rattle.std.proofs.Common.{◌≡◌, ◌≢◌, ℕ, suc, ◌<◌, ◌≤◌, ◌+◌, ◌-◌, ◌==◌, Bool, true, false, not, cond, inl, inr, List}
+use Rattle.std.proofs.Common.{[], ◌∷◌, ◌++◌, length, take, drop, refl, sym, ap, ◌∙◌, arith}
 use Rattle.std.proofs.lemmas.Bool.{cases_Bool}
 use Rattle.std.proofs.lemmas.List.Sums.{take_while-cons}
 use Rattle.cmd_common_fields.specs.Fields.{text_of}
@@ -26,7 +27,8 @@ ends_in_front (c ∷ a) b h = elim (cases_Bool (c == 0)) [
   | inl e ↦ behind_none c (a ++ b) e ∙ ap (λ (l : List ℕ). l ++ b) (sym (behind_none c a e))
   | inr e ↦
       let long : length (text_of (c ∷ a)) ≡ suc (length (text_of a)) = ap length (text_goes_on c a e) in
-      behind_one c (a ++ b) e ∙ ends_in_front a b (omega (arith, long, h)) ∙ ap (λ (l : List ℕ). l ++ b) (sym (behind_one c a e))
+      behind_one c (a ++ b) e ∙ ends_in_front a b (omega (arith, long, h))
+      ∙ ap (λ (l : List ℕ). l ++ b) (sym (behind_one c a e))
 ]
 
 -- or it goes on in the second
@@ -42,15 +44,19 @@ ends_behind (c ∷ a) b h = elim (cases_Bool (c == 0)) [
 ]
 
 -- what is counted behind the text's end
-rest_counted : (a t : List ℕ) → t ≡ text_of a → set_in (take (length a - length t) (drop (length t) a)) ≡ set_in (behind_text a)
+rest_counted : (a t : List ℕ) → t ≡ text_of a
+    → set_in (take (length a - length t) (drop (length t) a)) ≡ set_in (behind_text a)
 rest_counted a t is = ap set_in (rest_is (length t) a) ∙ ap (λ (l : List ℕ). set_in (drop (length l) a)) is
 
-pub counted_in_front : (a b t : List ℕ) (n k : ℕ) → t ≡ text_of a → length t < length a → n ≡ set_in (take (length a - length t) (drop (length t) a)) → k ≡ set_in b → n + k ≡ set_in (behind_text (a ++ b))
+pub counted_in_front : (a b t : List ℕ) (n k : ℕ) → t ≡ text_of a → length t < length a
+    → n ≡ set_in (take (length a - length t) (drop (length t) a)) → k ≡ set_in b → n + k ≡ set_in (behind_text (a ++ b))
 counted_in_front a b t n k is ends first second =
     let short : length (text_of a) < length a = let e = ap length is in omega (arith, e, ends) in
-    ap (λ (i : ℕ). i + k) (first ∙ rest_counted a t is) ∙ ap (λ (i : ℕ). set_in (behind_text a) + i) second ∙ sym (set_append (behind_text a) b) ∙ ap set_in (sym (ends_in_front a b short))
+    ap (λ (i : ℕ). i + k) (first ∙ rest_counted a t is) ∙ ap (λ (i : ℕ). set_in (behind_text a) + i) second
+    ∙ sym (set_append (behind_text a) b) ∙ ap set_in (sym (ends_in_front a b short))
 
-pub counted_behind : (a b t u : List ℕ) (n : ℕ) → t ≡ text_of a → u ≡ text_of b → length a ≤ length t → n ≡ set_in (take (length b - length u) (drop (length u) b)) → n ≡ set_in (behind_text (a ++ b))
+pub counted_behind : (a b t u : List ℕ) (n : ℕ) → t ≡ text_of a → u ≡ text_of b → length a ≤ length t
+    → n ≡ set_in (take (length b - length u) (drop (length u) b)) → n ≡ set_in (behind_text (a ++ b))
 counted_behind a b t u n is also whole counted =
     let all : length (text_of a) < length a → ⊥ = λ q. let e = ap length is in omega (arith, e, whole, q) in
     counted ∙ rest_counted b u also ∙ ap set_in (sym (ends_behind a b all))

@@ -1,5 +1,6 @@
 -- A listing shows no more chunks than its header counts, and where it has begun, its header.
-use Rattle.std.proofs.Common.{◌≡◌, ℕ, zero, suc, ◌+◌, ◌-◌, ◌≤◌, Bool, true, false, List, [], ◌∷◌, ◌++◌, Some, Result, length, if◌then◌else◌, refl, sym, ap, subst, arith, append_assoc}
+use Rattle.std.proofs.Common.{◌≡◌, ℕ, zero, suc, ◌+◌, ◌-◌, ◌≤◌, Bool, true, false, List, [], ◌∷◌, ◌++◌, Some, Result}
+use Rattle.std.proofs.Common.{length, if◌then◌else◌, refl, sym, ap, subst, arith, append_assoc}
 use Rattle.abt_sparse.specs.declared.fault.SparseFault.{SparseFault}
 use Rattle.abt_sparse.specs.declared.fault.SparseFault.TheVariants.{TooFewBlocks}
 use Rattle.abt_sparse.specs.Chunk.{Header, Chunk}
@@ -22,7 +23,8 @@ unfolding chunks_in
 one_more c (Done cs rest) n p = omega (arith, p)
 one_more c (Failed f cs came) n p = omega (arith, p)
 
-at_end : (b : Bool) (f : SparseFault) (bytes : List ℕ) → length (chunks_in (if b then Done [] bytes else Failed f [] [])) ≤ 0
+at_end : (b : Bool) (f : SparseFault) (bytes : List ℕ)
+    → length (chunks_in (if b then Done [] bytes else Failed f [] [])) ≤ 0
 unfolding chunks_in
 at_end true f bytes = omega arith
 at_end false f bytes = omega arith
@@ -35,13 +37,16 @@ few_behind h size i have left bytes (Got c n rest) e next =
     subst (λ (r : ChunksRead). length (chunks_in r) ≤ suc left) (sym (chunks-got h size i have left bytes c n rest e))
     (one_more c (chunks_at h size (i + 1) (have + n) left rest) left (next n rest))
 few_behind h size i have left bytes (Bad f came) e next =
-    subst (λ (r : ChunksRead). length (chunks_in r) ≤ suc left) (sym (chunks-bad h size i have left bytes f came e)) (omega arith)
+    subst (λ (r : ChunksRead). length (chunks_in r) ≤ suc left) (sym (chunks-bad h size i have left bytes f came e))
+    (omega arith)
 
-few : (h : Header) (size i have left : ℕ) (bytes : List ℕ) → length (chunks_in (chunks_at h size i have left bytes)) ≤ left
+few : (h : Header) (size i have left : ℕ) (bytes : List ℕ)
+    → length (chunks_in (chunks_at h size i have left bytes)) ≤ left
 unfolding chunks_at
 few h size i have zero bytes = at_end _ (TooFewBlocks have) bytes
 few h size i have (suc left) bytes =
-    few_behind h size i have left bytes (chunk_at h size i have bytes) refl (λ n rest. few h size (i + 1) (have + n) left rest)
+    few_behind h size i have left bytes (chunk_at h size i have bytes) refl
+    (λ n rest. few h size (i + 1) (have + n) left rest)
 
 infos_long : (i : ℕ) (cs : List Chunk) → length (infos i cs) ≡ length cs
 infos_long i [] = refl
@@ -67,18 +72,23 @@ unfolding listing_from
 head_shown h size i have y = has_head h i (chunks_at h size i have (h.total_chunks - i) y)
 
 -- the same of what is yet to come, behind the header
-pub few_upcoming : (s : Walk) (y : List ℕ) → s.phase ≡ phases.Body → has_ended s ≡ true → length (upcoming s y).shown ≤ s.header.total_chunks
+pub few_upcoming : (s : Walk) (y : List ℕ) → s.phase ≡ phases.Body → has_ended s ≡ true
+    → length (upcoming s y).shown ≤ s.header.total_chunks
 few_upcoming s y e a =
     subst (λ (p : Phase). length (upcoming_in p s y).shown ≤ s.header.total_chunks) (sym e)
-    (subst (λ (b : Bool). length (upcoming_ended b s y).shown ≤ s.header.total_chunks) (sym a) (few_shown (view s.header) _ _ _ y))
+    (subst (λ (b : Bool). length (upcoming_ended b s y).shown ≤ s.header.total_chunks) (sym a)
+    (few_shown (view s.header) _ _ _ y))
 
-pub head_upcoming : (s : Walk) (y : List ℕ) → s.phase ≡ phases.Body → has_ended s ≡ true → (upcoming s y).head ≡ Some (view s.header)
+pub head_upcoming : (s : Walk) (y : List ℕ) → s.phase ≡ phases.Body → has_ended s ≡ true
+    → (upcoming s y).head ≡ Some (view s.header)
 head_upcoming s y e a =
     subst (λ (p : Phase). (upcoming_in p s y).head ≡ Some (view s.header)) (sym e)
-    (subst (λ (b : Bool). (upcoming_ended b s y).head ≡ Some (view s.header)) (sym a) (head_shown (view s.header) _ _ _ y))
+    (subst (λ (b : Bool). (upcoming_ended b s y).head ≡ Some (view s.header)) (sym a)
+    (head_shown (view s.header) _ _ _ y))
 
 pub shown_twice : (a b : List ChunkInfo) (l : Listing) → shown_before a (shown_before b l) ≡ shown_before (a ++ b) l
-shown_twice a b l = ap (λ (s : List ChunkInfo). record { head = l.head; shown = s; ending = l.ending }) (sym (append_assoc a b l.shown))
+shown_twice a b l = ap (λ (s : List ChunkInfo). record { head = l.head; shown = s; ending = l.ending })
+    (sym (append_assoc a b l.shown))
 
 pub with_ending : (l : Listing) (h : Header) (r : Result (List ℕ) SparseFault) → l.head ≡ Some h → l.ending ≡ r
     → l ≡ record { head = Some h; shown = l.shown; ending = r }

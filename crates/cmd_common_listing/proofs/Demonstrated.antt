@@ -1,12 +1,14 @@
 -- What the built-in image gives, and the line that shows it.
-use Rattle.std.proofs.Common.{◌≡◌, ℕ, ◌<◌, Option, List, [], ◌∷◌, ◌++◌, Result, Ok, Err, length, take, drop, min, codes, refl, sym, ap, subst, ◌∙◌, arith, take_all}
+use Rattle.std.proofs.Common.{◌≡◌, ℕ, ◌<◌, Option, List, [], ◌∷◌, ◌++◌, Result, Ok, Err, length, take, drop, min, codes}
+use Rattle.std.proofs.Common.{refl, sym, ap, subst, ◌∙◌, arith, take_all}
 use Rattle.hex.specs.Hex.{encode_lower, encode_with}
 use Rattle.abt_sparse.specs.declared.fault.SparseFault.{SparseFault}
 use Rattle.abt_sparse.specs.declared.fault.SparseFault.TheVariants as faults
 use Rattle.abt_sparse.specs.Block.{expansion}
 use Rattle.abt_sparse.specs.Chunk.{Header, Chunk, Raws, Fills, Skips, classed}
 use Rattle.abt_sparse.specs.Fails.{Fails}
-use Rattle.abt_sparse.specs.Reading.{Outcome, Image, Fault, outcome, body_at, chunks_at, chunk_at, checked_header, header_at}
+use Rattle.abt_sparse.specs.Reading.{Outcome, Image, Fault, outcome, body_at, chunks_at, chunk_at, checked_header}
+use Rattle.abt_sparse.specs.Reading.{header_at}
 use Rattle.abt_chunks.specs.declared.progress.Expanded.{Expanded}
 use Rattle.abt_sparse.proofs.Exactly.{failed_is, spelled_is}
 use Rattle.abt_chunks.specs.Expanding.{ExpandingRises}
@@ -14,7 +16,15 @@ use Rattle.abt_chunks.specs.Whole.{Expands, Expansion}
 use Rattle.cmd_common_listing.specs.Demo.{demo_bytes, demo_image, demo_line}
 
 demo_header : Header
-demo_header = record { minor = 0; file_hdr_sz = 28; chunk_hdr_sz = 12; blk_sz = 4; total_blks = 3; total_chunks = 3; image_checksum = 0 }
+demo_header = record {
+  minor = 0;
+  file_hdr_sz = 28;
+  chunk_hdr_sz = 12;
+  blk_sz = 4;
+  total_blks = 3;
+  total_chunks = 3;
+  image_checksum = 0;
+}
 
 demo_chunks : List Chunk
 demo_chunks = Raws (codes "ABCD" ∷ []) ∷ Fills (4 ∷ 3 ∷ 2 ∷ 1 ∷ []) 1 ∷ Skips 1 ∷ []
@@ -46,7 +56,8 @@ no_fault f given p = subst IsAnImage (failed_is demo_image f given p) is_an_imag
 
 given_whole : (e : Expanded) (new rest : List ℕ) → Expansion e [] new demo_image rest → new ≡ demo_bytes
 unfolding given_by
-given_whole e new rest p = p.written ∙ sym (ap given_by (spelled_is demo_image p.header p.chunks rest p.spelled)) ∙ gives_bytes
+given_whole e new rest p = p.written ∙ sym (ap given_by (spelled_is demo_image p.header p.chunks rest p.spelled))
+    ∙ gives_bytes
 
 -- devices that never fail leave no refusal of an image
 given : (a : Result Expanded SparseFault) (new rest : List ℕ)
@@ -83,7 +94,8 @@ kept_is bytes tape used long count kept e =
     sym (take_all 12 bytes (omega arith)) ∙ ap (λ (n : ℕ). take n bytes) (sym twelve) ∙ kept
     ∙ ap (λ (n : ℕ). take n tape) twelve ∙ ap (take 12) e
 
-pub line_is : (bytes line : List ℕ) → line ≡ codes "expand " ++ (encode_lower bytes ++ codes "\n") → bytes ≡ demo_bytes → line ≡ demo_line
+pub line_is : (bytes line : List ℕ) → line ≡ codes "expand " ++ (encode_lower bytes ++ codes "\n")
+    → bytes ≡ demo_bytes → line ≡ demo_line
 unfolding encode_with
 line_is bytes line e b =
     let computed : codes "expand " ++ (encode_lower demo_bytes ++ codes "\n") ≡ demo_line = refl in

@@ -92,7 +92,8 @@ module _ {O : Type 0} (written : O → List ℕ) (faults : O → ℕ) where
       sym to ∙ (both_printed written faults s t u a [] p q).clean none ∙ from
 
   -- all of it does
-  pub reports_all : (o : Notation) (x y : List ℕ) (h : Header) (s t u : Text O) (old new : List ℕ) → y ≡ x → HasImage x h
+  pub reports_all : (o : Notation) (x y : List ℕ) (h : Header) (s t u : Text O) (old new : List ℕ) → y ≡ x
+      → HasImage x h
       → Checked o y h (Prints written faults s t) → Prints written faults t u [] → IsNone u.fault
       → text_in u.held.bytes u.held.used ≡ [] → text_in s.held.bytes s.held.used ≡ []
       → written s.output.now ≡ old → written u.output.now ≡ new → Reports o x old new

@@ -1,5 +1,6 @@
 -- A text that two fields hold together.
-use Rattle.std.proofs.Common.{◌≡◌, ◌≢◌, ℕ, suc, ◌==◌, Bool, true, false, not, cond, inl, inr, List, [], ◌∷◌, ◌++◌, length, refl, sym, ap, ◌∙◌, arith}
+use Rattle.std.proofs.Common.{◌≡◌, ◌≢◌, ℕ, suc, ◌==◌, Bool, true, false, not, cond, inl, inr, List, [], ◌∷◌, ◌++◌}
+use Rattle.std.proofs.Common.{length, refl, sym, ap, ◌∙◌, arith}
 use Rattle.std.proofs.lemmas.Bool.{cases_Bool}
 use Rattle.std.proofs.lemmas.List.Sums.{take_while-cons}
 use Rattle.cmd_common_texts.specs.Words.{text_of, text_over}
@@ -18,7 +19,8 @@ over_whole (c ∷ a) b h = elim (cases_Bool (c == 0)) [
   | inr e ↦
       let more : suc (length (text_of a)) ≡ suc (length a) = sym (ap length (text_goes_on c a e)) ∙ h in
       let rest : length (text_of a) ≡ length a = omega (arith, more) in
-      text_goes_on c (a ++ b) e ∙ ap (λ (l : List ℕ). c ∷ l) (over_whole a b rest) ∙ ap (λ (l : List ℕ). l ++ text_of b) (sym (text_goes_on c a e))
+      text_goes_on c (a ++ b) e ∙ ap (λ (l : List ℕ). c ∷ l) (over_whole a b rest)
+      ∙ ap (λ (l : List ℕ). l ++ text_of b) (sym (text_goes_on c a e))
 ]
 
 -- the first has one
@@ -28,5 +30,6 @@ over_part (c ∷ a) b h = elim (cases_Bool (c == 0)) [
   | inl e ↦ text_ends c (a ++ b) e ∙ ap (λ (l : List ℕ). l ++ []) (sym (text_ends c a e))
   | inr e ↦
       let rest : length (text_of a) ≢ length a = λ q. h (ap length (text_goes_on c a e) ∙ ap suc q) in
-      text_goes_on c (a ++ b) e ∙ ap (λ (l : List ℕ). c ∷ l) (over_part a b rest) ∙ ap (λ (l : List ℕ). l ++ []) (sym (text_goes_on c a e))
+      text_goes_on c (a ++ b) e ∙ ap (λ (l : List ℕ). c ∷ l) (over_part a b rest)
+      ∙ ap (λ (l : List ℕ). l ++ []) (sym (text_goes_on c a e))
 ]

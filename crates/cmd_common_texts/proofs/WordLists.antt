@@ -1,5 +1,6 @@
 -- Words printed one behind another.
-use Rattle.std.proofs.Common.{◌≡◌, ℕ, zero, suc, ◌+◌, ◌<◌, List, [], ◌∷◌, ◌++◌, Result, Ok, Err, OnOk, length, take, get_or, flat_map, subst, sym, ap, ◌∙◌, arith, append_assoc, append-nil}
+use Rattle.std.proofs.Common.{◌≡◌, ℕ, zero, suc, ◌+◌, ◌<◌, List, [], ◌∷◌, ◌++◌, Result, Ok, Err, OnOk, length, take}
+use Rattle.std.proofs.Common.{get_or, flat_map, subst, sym, ap, ◌∙◌, arith, append_assoc, append-nil}
 use Rattle.std.proofs.lemmas.Grind.{flat_map-append}
 use Rattle.sys_text.specs.declared.text_output.Text.{Text}
 use Rattle.cmd_common_texts.specs.Info.{escaped, line}
@@ -11,12 +12,16 @@ abbrev pub PrintsWords : {O : Type 0} → (O → List ℕ) → (O → ℕ) → T
 PrintsWords written faults s t ws = Prints written faults s t (words_text ws)
 
 module _ {O : Type 0} (written : O → List ℕ) (faults : O → ℕ) where
-  pub both_words : (s t u : Text O) (a b : List (List ℕ)) → PrintsWords written faults s t a → PrintsWords written faults t u b → PrintsWords written faults s u (a ++ b)
-  both_words s t u a b p q = subst (Prints written faults s u) (sym (flat_map-append line a b)) (both_printed written faults s t u (words_text a) (words_text b) p q)
+  pub both_words : (s t u : Text O) (a b : List (List ℕ)) → PrintsWords written faults s t a
+      → PrintsWords written faults t u b → PrintsWords written faults s u (a ++ b)
+  both_words s t u a b p q =
+      subst (Prints written faults s u) (sym (flat_map-append line a b))
+      (both_printed written faults s t u (words_text a) (words_text b) p q)
 
   -- the second may fail
   pub then_words : {A E : Type 0} (s t u : Text O) (a b : List (List ℕ)) (r : Result A E)
-      → PrintsWords written faults s t a → OnOk r (PrintsWords written faults t u b) → OnOk r (PrintsWords written faults s u (a ++ b))
+      → PrintsWords written faults s t a → OnOk r (PrintsWords written faults t u b)
+      → OnOk r (PrintsWords written faults s u (a ++ b))
   then_words s t u a b (Ok x) p q = both_words s t u a b p q
   then_words s t u a b (Err e) p q = tt
 
@@ -37,13 +42,16 @@ then_text a b f r front rest =
     ∙ ap (flat_map escaped) (sym rest)
 
 -- a board id as far as number k
-pub one_board : (i first : ℕ) (ns : List ℕ) (k : ℕ) → k < length ns → board_words i first (take k ns) ++ board_word i (first + k) (get_or ns k 0) ≡ board_words i first (take (suc k) ns)
+pub one_board : (i first : ℕ) (ns : List ℕ) (k : ℕ) → k < length ns → board_words i first (take k ns)
+    ++ board_word i (first + k) (get_or ns k 0) ≡ board_words i first (take (suc k) ns)
 one_board i first [] k h = absurd (let q : k < 0 = h in omega arith)
 one_board i first (n ∷ ns) zero h =
     let same : first + 0 ≡ first = omega arith in
     ap (λ (m : ℕ). board_word i m n) same ∙ sym (append-nil (board_word i first n))
 one_board i first (n ∷ ns) (suc k) h =
     let next : first + suc k ≡ suc first + k = omega arith in
-    append_assoc (board_word i first n) (board_words i (suc first) (take k ns)) (board_word i (first + suc k) (get_or ns k 0))
-    ∙ ap (λ (m : ℕ). board_word i first n ++ (board_words i (suc first) (take k ns) ++ board_word i m (get_or ns k 0))) next
+    append_assoc (board_word i first n) (board_words i (suc first) (take k ns))
+    (board_word i (first + suc k) (get_or ns k 0))
+    ∙ ap (λ (m : ℕ). board_word i first n
+    ++ (board_words i (suc first) (take k ns) ++ board_word i m (get_or ns k 0))) next
     ∙ ap (λ (l : List (List ℕ)). board_word i first n ++ l) (one_board i (suc first) ns k (omega (arith, h)))

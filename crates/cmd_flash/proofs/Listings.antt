@@ -91,11 +91,13 @@ listed_whole (Ok u) x y P bytes l =
 listed_whole (Err f) x y P bytes l = tt
 
 pub unlisted : (r : Result (Unit {0}) SparseFault) (x : List ℕ) (n n' w w' : ℕ) (P : List ℕ → Type 0) → AreBytes x
-    → IfErr r (λ f. UnlessExpandingDevice f (ListingRefuses (listing_of x) f P)) → ReadTold r n n' → IfErr r (λ f. WriteTold f w w')
+    → IfErr r (λ f. UnlessExpandingDevice f (ListingRefuses (listing_of x) f P)) → ReadTold r n n'
+    → IfErr r (λ f. WriteTold f w w')
     → IfErr r (λ f. IsUnlisted (n < n') (w < w') f x)
 unlisted (Ok u) x n n' w w' P bytes h read write = tt
 unlisted (Err f) x n n' w w' P bytes h read write =
-    unlisted_for f n n' w w' x (unless_map f (ListingRefuses (listing_of x) f P) ((given : List (Option ℕ)) × Fails x f given)
+    unlisted_for f n n' w w' x (unless_map f (ListingRefuses (listing_of x) f P) ((given : List (Option ℕ))
+    × Fails x f given)
     (λ r. fault_listed x f bytes r.ending) h) read write
 
 pub read_clean : (r : Result (Unit {0}) SparseFault) (n n' : ℕ) → ReadTold r n n' → OnOk r (n' ≡ n)

@@ -1,5 +1,6 @@
 -- The words of an image say the file of each part.
-use Rattle.std.proofs.Common.{◌≡◌, ℕ, false, List, [], ◌∷◌, ◌++◌, Option, Some, None, codes, flat_map, refl, ap, ◌∙◌, append_assoc}
+use Rattle.std.proofs.Common.{◌≡◌, ℕ, false, List, [], ◌∷◌, ◌++◌, Option, Some, None, codes, flat_map, refl, ap, ◌∙◌}
+use Rattle.std.proofs.Common.{append_assoc}
 use Rattle.std.proofs.lemmas.List.Concat.{flat_map-cons}
 use Rattle.abt_io.specs.Bytes.{AreBytes}
 use Rattle.abt_headers.specs.declared.boot.BootHeader.{BootHeader}
@@ -24,8 +25,15 @@ front_back (b ∷ x) y h =
 
 module _ (folder x : List ℕ) (bytes : AreBytes folder) where
   -- a word `--NAME=FOLDER/FILE`
-  says_file : (words : List (List ℕ)) (name file : List ℕ) → value_of name words ≡ Some (flat_map escaped folder ++ file) → unescaped file ≡ file → SaysText words name (folder ++ file)
-  says_file words name file e plain = (flat_map escaped folder ++ file, e, front_back folder file bytes ∙ ap (λ (l : List ℕ). folder ++ l) plain)
+  says_file : (words : List (List ℕ)) (name file : List ℕ)
+      → value_of name words ≡ Some (flat_map escaped folder ++ file) → unescaped file ≡ file
+      → SaysText words name (folder ++ file)
+  says_file words name file e plain = (
+    flat_map escaped folder ++ file,
+    e,
+    front_back folder file bytes
+        ∙ ap (λ (l : List ℕ). folder ++ l) plain,
+  )
 
   boot_files : (h : BootHeader) → SaysFiles (image_words folder x (OfBoot h)) folder false (places_of (OfBoot h))
   boot_files (V0 f) =
@@ -75,7 +83,9 @@ module _ (folder x : List ℕ) (bytes : AreBytes folder) where
         ),
       )
 
-  vendor_files : (f : VendorFront) (o : Option Tail) → SaysFiles (image_words folder x (OfVendor (record { front = f; tail = o }))) folder (has_table (OfVendor (record { front = f; tail = o }))) (places_of (OfVendor (record { front = f; tail = o })))
+  vendor_files : (f : VendorFront) (o : Option Tail)
+      → SaysFiles (image_words folder x (OfVendor (record { front = f; tail = o }))) folder
+      (has_table (OfVendor (record { front = f; tail = o }))) (places_of (OfVendor (record { front = f; tail = o })))
   vendor_files f None =
       let words = image_words folder x (OfVendor (record { front = f; tail = None })) in (
         says_file words (codes "ramdisk") (codes "/vendor_ramdisk") refl refl,

@@ -1,5 +1,8 @@
 -- The words of a vendor boot image say its fragments.
-use Rattle.std.proofs.Common.{◌≡◌, ◌≢◌, ℕ, zero, suc, ◌+◌, ◌-◌, ◌*◌, ◌/◌, ◌%◌, ◌<◌, ◌≤◌, ◌^◌, ◌==◌, ◌&&◌, nat_lt, not, Bool, true, false, cond, inl, inr, List, [], ◌∷◌, ◌++◌, Option, Some, None, codes, decimal, length, take, drop, replicate, flat_map, slice_index, slice_index_or, refl, sym, ap, subst, ◌∙◌, rules, arith, append-nil, length-append, eq-eqb}
+use Rattle.std.proofs.Common.{◌≡◌, ◌≢◌, ℕ, zero, suc, ◌+◌, ◌-◌, ◌*◌, ◌/◌, ◌%◌, ◌<◌, ◌≤◌, ◌^◌, ◌==◌, ◌&&◌, nat_lt, not}
+use Rattle.std.proofs.Common.{Bool, true, false, cond, inl, inr, List, [], ◌∷◌, ◌++◌, Option, Some, None, codes}
+use Rattle.std.proofs.Common.{decimal, length, take, drop, replicate, flat_map, slice_index, slice_index_or, refl, sym}
+use Rattle.std.proofs.Common.{ap, subst, ◌∙◌, rules, arith, append-nil, length-append, eq-eqb}
 use Rattle.std.proofs.lemmas.Bool.{and_parts, and_right, cases_Bool, eqb-true, lt-ltb, true≢false}
 use Rattle.std.proofs.lemmas.Fmt.{decimal_nonempty, digits_decimal, digits_value-decimal}
 use Rattle.std.proofs.lemmas.List.{length-drop}
@@ -25,10 +28,12 @@ use Rattle.abt_sections.proofs.FieldTexts.{all_zero_is}
 use Rattle.cmd_common_fields.specs.declared.board_word.BoardWord.{BoardWord}
 use Rattle.cmd_common_fields.specs.Fragment.{decimal_u32, type_number}
 use Rattle.cmd_common_texts.specs.Info.{escaped, is_plain}
-use Rattle.law_boot.specs.Said.{AreBoards, SaysEach, SaysFragment, SaysFragments, without_front, board_id_of, number_after, values_of, with_value}
+use Rattle.law_boot.specs.Said.{AreBoards, SaysEach, SaysFragment, SaysFragments, without_front, board_id_of}
+use Rattle.law_boot.specs.Said.{number_after, values_of, with_value}
 use Rattle.cmd_common_fields.specs.Unescaped.{unescaped}
 use Rattle.law_boot.specs.WayBack.{spec_of, specs_of}
-use Rattle.cmd_common_texts.specs.Words.{board_option, board_word, board_words, entry_words, escaped_in_name, fragment_words, image_words, name_bytes, option_front, text_of}
+use Rattle.cmd_common_texts.specs.Words.{board_option, board_word, board_words, entry_words, escaped_in_name}
+use Rattle.cmd_common_texts.specs.Words.{fragment_words, image_words, name_bytes, option_front, text_of}
 use Rattle.cmd_common_fields.proofs.Escapes.{plain_step}
 use Rattle.law_boot.proofs.Escapes.{name_back}
 use Rattle.law_boot.proofs.FilesSay.{front_back}
@@ -46,7 +51,8 @@ with_both None a b = refl
 
 values_both : (name : List ℕ) (a b : List (List ℕ)) → values_of name (a ++ b) ≡ values_of name a ++ values_of name b
 values_both name [] b = refl
-values_both name (word ∷ a) b = ap (with_value (without_front (option_front name) word)) (values_both name a b) ∙ with_both (without_front (option_front name) word) (values_of name a) (values_of name b)
+values_both name (word ∷ a) b = ap (with_value (without_front (option_front name) word)) (values_both name a b)
+    ∙ with_both (without_front (option_front name) word) (values_of name a) (values_of name b)
 
 -- ---- a name
 
@@ -105,14 +111,18 @@ name_whole name long =
     let none : 32 - length name ≡ 0 = omega (arith, long) in
     (omega (arith, long), sym (ap (λ (k : ℕ). name ++ replicate k 0) none ∙ append-nil name))
 
-name_text : (name : List ℕ) → length name ≡ 32 → all_zero (drop (length (text_of name)) name) ≡ true → IsNameOf name (text_of name)
+name_text : (name : List ℕ) → length name ≡ 32 → all_zero (drop (length (text_of name)) name) ≡ true
+    → IsNameOf name (text_of name)
 name_text name long zeros =
     let t = text_of name in
     let rest = drop (length t) name in
     let front = text_front name in
     let left : length rest ≡ 32 - length t = length-drop (length t) name ∙ ap (λ (n : ℕ). n - length t) long in
-    let sum : length name ≡ length t + length rest = ap length front ∙ length-append t rest in
-    (omega (arith, sum, long), front ∙ ap (λ (l : List ℕ). t ++ l) (all_zero_is rest zeros) ∙ ap (λ (k : ℕ). t ++ replicate k 0) left)
+    let sum : length name ≡ length t + length rest = ap length front ∙ length-append t rest in (
+      omega (arith, sum, long),
+      front ∙ ap (λ (l : List ℕ). t ++ l) (all_zero_is rest zeros)
+          ∙ ap (λ (k : ℕ). t ++ replicate k 0) left,
+    )
 
 name_is : (name : List ℕ) → length name ≡ 32 → IsNameOf name (name_bytes name)
 name_is name long = elim (cases_Bool (all_zero (drop (length (text_of name)) name))) [
@@ -130,7 +140,8 @@ name_of_bytes name h = elim (cases_Bool (all_zero (drop (length (text_of name)) 
 
 no_name : (k : ℕ) (name : List ℕ) → k < 2 ^ 64 → all_ascii_digits name ≡ false → bytes_eq (decimal k) name ≡ false
 no_name k name small no_digits = elim (cases_Bool (bytes_eq (decimal k) name)) [
-  | inl e ↦ absurd (true≢false (sym (digits_decimal own k small) ∙ ap all_ascii_digits ((bytes_eq-Decides (decimal k) name).0 e) ∙ no_digits))
+  | inl e ↦ absurd (true≢false (sym (digits_decimal own k small)
+      ∙ ap all_ascii_digits ((bytes_eq-Decides (decimal k) name).0 e) ∙ no_digits))
   | inr e ↦ e
 ]
 
@@ -177,14 +188,19 @@ plain_front (c ∷ a) b h =
 file_again : (i : ℕ) → i < 2 ^ 32 → unescaped (codes "/fragment." ++ decimal i) ≡ codes "/fragment." ++ decimal i
 file_again i small =
     let digits : all_ascii_digits (decimal i) ≡ true = digits_decimal own i (omega (arith, small)) in
-    let none = not_in_digits own (decimal i) 92 digits (λ (q : IsInRange 48 57 92). absurd (let high : 92 ≤ 57 = q.1 in omega arith)) in
-    plain_front (codes "/fragment.") (decimal i) refl ∙ ap (λ (l : List ℕ). codes "/fragment." ++ l) (plain_text (decimal i) none)
+    let none = not_in_digits own (decimal i) 92 digits (λ (q : IsInRange 48 57 92).
+    absurd (let high : 92 ≤ 57 = q.1 in omega arith)) in
+    plain_front (codes "/fragment.") (decimal i) refl
+    ∙ ap (λ (l : List ℕ). codes "/fragment." ++ l) (plain_text (decimal i) none)
 
 -- TYPE:NAME:FILE
 abbrev value_for : List ℕ → ℕ → FragmentSpec → List ℕ
-value_for folder i f = decimal f.kind ++ (codes ":" ++ (flat_map escaped_in_name (name_bytes f.name) ++ (codes ":" ++ (flat_map escaped folder ++ (codes "/fragment." ++ decimal i)))))
+value_for folder i f =
+    decimal f.kind ++ (codes ":" ++ (flat_map escaped_in_name (name_bytes f.name)
+    ++ (codes ":" ++ (flat_map escaped folder ++ (codes "/fragment." ++ decimal i)))))
 
-says_fragment : (folder : List ℕ) (i : ℕ) (f : FragmentSpec) → AreBytes folder → AreBytes f.name → FragmentFits f → i < 2 ^ 32 → SaysFragment folder (value_for folder i f) i f
+says_fragment : (folder : List ℕ) (i : ℕ) (f : FragmentSpec) → AreBytes folder → AreBytes f.name → FragmentFits f
+    → i < 2 ^ 32 → SaysFragment folder (value_for folder i f) i f
 says_fragment folder i f bytes name fits small =
     let n = name_bytes f.name in
     let back : unescaped (flat_map escaped_in_name n) ≡ n = name_back n (name_of_bytes f.name name) in
@@ -203,15 +219,20 @@ says_fragment folder i f bytes name fits small =
           no_board = refl;
         };
       };
-      file = front_back folder (codes "/fragment." ++ decimal i) bytes ∙ ap (λ (l : List ℕ). folder ++ l) (file_again i small);
+      file = front_back folder (codes "/fragment." ++ decimal i) bytes
+          ∙ ap (λ (l : List ℕ). folder ++ l) (file_again i small);
     }
 
 -- one fragment more
-each_more : (folder : List ℕ) (vs : List (List ℕ)) (i : ℕ) (fs : List FragmentSpec) (v : List ℕ) (f : FragmentSpec) (k : ℕ) → k ≡ i + length fs → SaysEach folder vs i fs → SaysFragment folder v k f → SaysEach folder (vs ++ (v ∷ [])) i (fs ++ (f ∷ []))
-each_more folder [] i [] v f k e s one = (subst (λ (n : ℕ). SaysFragment folder v n f) (let q : k ≡ i = omega (arith, e) in q) one, tt)
+each_more : (folder : List ℕ) (vs : List (List ℕ)) (i : ℕ) (fs : List FragmentSpec) (v : List ℕ) (f : FragmentSpec)
+    (k : ℕ) → k ≡ i + length fs → SaysEach folder vs i fs → SaysFragment folder v k f
+    → SaysEach folder (vs ++ (v ∷ [])) i (fs ++ (f ∷ []))
+each_more folder [] i [] v f k e s one =
+    (subst (λ (n : ℕ). SaysFragment folder v n f) (let q : k ≡ i = omega (arith, e) in q) one, tt)
 each_more folder [] i (g ∷ fs) v f k e s one = absurd s
 each_more folder (w ∷ vs) i [] v f k e s one = absurd s
-each_more folder (w ∷ vs) i (g ∷ fs) v f k e s one = (s.0, each_more folder vs (suc i) fs v f k (omega (arith, e)) s.1 one)
+each_more folder (w ∷ vs) i (g ∷ fs) v f k e s one =
+    (s.0, each_more folder vs (suc i) fs v f k (omega (arith, e)) s.1 one)
 
 -- ---- board ids
 
@@ -223,7 +244,8 @@ abbrev boards_for : ℕ → ℕ → List ℕ → List BoardWord
 boards_for i k [] = []
 boards_for i k (n ∷ ns) = one_board (n == 0) i k n ++ boards_for i (suc k) ns
 
-boards_both : (count : ℕ) (vs ws : List (List ℕ)) (bs cs : List BoardWord) → AreBoards count vs bs → AreBoards count ws cs → AreBoards count (vs ++ ws) (bs ++ cs)
+boards_both : (count : ℕ) (vs ws : List (List ℕ)) (bs cs : List BoardWord) → AreBoards count vs bs
+    → AreBoards count ws cs → AreBoards count (vs ++ ws) (bs ++ cs)
 boards_both count [] ws [] cs h k = k
 boards_both count [] ws (b ∷ bs) cs h k = absurd h
 boards_both count (v ∷ vs) ws [] cs h k = absurd h
@@ -237,10 +259,12 @@ no_fragment : (i k : ℕ) (ns : List ℕ) → values_of (codes "fragment") (boar
 no_fragment i k [] = refl
 no_fragment i k (n ∷ ns) =
     values_both (codes "fragment") (board_word i k n) (board_words i (suc k) ns)
-    ∙ ap (λ (l : List (List ℕ)). l ++ values_of (codes "fragment") (board_words i (suc k) ns)) (no_fragment_one (n == 0) i k n)
+    ∙ ap (λ (l : List (List ℕ)). l ++ values_of (codes "fragment") (board_words i (suc k) ns))
+    (no_fragment_one (n == 0) i k n)
     ∙ no_fragment i (suc k) ns
 
-one_is_board : (c : Bool) (count i k n : ℕ) → i < count → i < 2 ^ 32 → k < 16 → n < 2 ^ 32 → AreBoards count (values_of (codes "board-id") (cond c [] (board_option i k n ∷ []))) (one_board c i k n)
+one_is_board : (c : Bool) (count i k n : ℕ) → i < count → i < 2 ^ 32 → k < 16 → n < 2 ^ 32
+    → AreBoards count (values_of (codes "board-id") (cond c [] (board_option i k n ∷ []))) (one_board c i k n)
 one_is_board true count i k n there small place fits = tt
 one_is_board false count i k n there small place fits = (
   record {
@@ -257,26 +281,34 @@ one_is_board false count i k n there small place fits = (
   tt,
 )
 
-are_boards : (count i k : ℕ) (ns : List ℕ) → i < count → i < 2 ^ 32 → k + length ns ≤ 16 → ((j : ℕ) → slice_index ns j < 2 ^ 32) → AreBoards count (values_of (codes "board-id") (board_words i k ns)) (boards_for i k ns)
+are_boards : (count i k : ℕ) (ns : List ℕ) → i < count → i < 2 ^ 32 → k + length ns ≤ 16
+    → ((j : ℕ) → slice_index ns j < 2 ^ 32) → AreBoards count (values_of (codes "board-id") (board_words i k ns))
+    (boards_for i k ns)
 are_boards count i k [] there small long fits = tt
 are_boards count i k (n ∷ ns) there small long fits =
-    subst (λ (vs : List (List ℕ)). AreBoards count vs (boards_for i k (n ∷ ns))) (sym (values_both (codes "board-id") (board_word i k n) (board_words i (suc k) ns)))
-    (boards_both count (values_of (codes "board-id") (board_word i k n)) (values_of (codes "board-id") (board_words i (suc k) ns)) (one_board (n == 0) i k n) (boards_for i (suc k) ns)
+    subst (λ (vs : List (List ℕ)). AreBoards count vs (boards_for i k (n ∷ ns)))
+    (sym (values_both (codes "board-id") (board_word i k n) (board_words i (suc k) ns)))
+    (boards_both count (values_of (codes "board-id") (board_word i k n))
+    (values_of (codes "board-id") (board_words i (suc k) ns)) (one_board (n == 0) i k n) (boards_for i (suc k) ns)
     (one_is_board (n == 0) count i k n there small (omega (arith, long)) (fits 0))
     (are_boards count i (suc k) ns there small (omega (arith, long)) (λ j. fits (suc j))))
 
 -- ---- what a number is after these words
 
-after_both : (bs : List BoardWord) (n : ℕ) (cs : List BoardWord) (i k : ℕ) → number_after n (bs ++ cs) i k ≡ number_after (number_after n bs i k) cs i k
+after_both : (bs : List BoardWord) (n : ℕ) (cs : List BoardWord) (i k : ℕ)
+    → number_after n (bs ++ cs) i k ≡ number_after (number_after n bs i k) cs i k
 after_both [] n cs i k = refl
 after_both (b ∷ bs) n cs i k = after_both bs (cond ((b.fragment == i) && (b.place == k)) b.number n) cs i k
 
 -- one more number in front
-after_one : (m n i p : ℕ) (ns : List ℕ) (j k q : ℕ) → number_after m (one_board (n == 0) i p n) j k ≡ q → number_after m (boards_for i p (n ∷ ns)) j k ≡ number_after q (boards_for i (suc p) ns) j k
-after_one m n i p ns j k q e = after_both (one_board (n == 0) i p n) m (boards_for i (suc p) ns) j k ∙ ap (λ (r : ℕ). number_after r (boards_for i (suc p) ns) j k) e
+after_one : (m n i p : ℕ) (ns : List ℕ) (j k q : ℕ) → number_after m (one_board (n == 0) i p n) j k ≡ q
+    → number_after m (boards_for i p (n ∷ ns)) j k ≡ number_after q (boards_for i (suc p) ns) j k
+after_one m n i p ns j k q e = after_both (one_board (n == 0) i p n) m (boards_for i (suc p) ns) j k
+    ∙ ap (λ (r : ℕ). number_after r (boards_for i (suc p) ns) j k) e
 
 -- a word about another number
-other_one : (left_out : Bool) (m n i p j k : ℕ) → ((i == j) && (p == k)) ≡ false → number_after m (one_board left_out i p n) j k ≡ m
+other_one : (left_out : Bool) (m n i p j k : ℕ) → ((i == j) && (p == k)) ≡ false
+    → number_after m (one_board left_out i p n) j k ≡ m
 other_one true m n i p j k e = refl
 other_one false m n i p j k e = ap (λ (t : Bool). cond t n m) e
 
@@ -301,7 +333,8 @@ places_behind m i p (n ∷ ns) k h =
     after_one m n i p ns i k m (other_place (n == 0) m n i p k (λ e. omega (arith, e, h)))
     ∙ places_behind m i (suc p) ns k (omega (arith, h))
 
-this_one : (left_out : Bool) (n i p k : ℕ) → (n == 0) ≡ left_out → p ≡ k → number_after 0 (one_board left_out i p n) i k ≡ n
+this_one : (left_out : Bool) (n i p k : ℕ) → (n == 0) ≡ left_out → p ≡ k
+    → number_after 0 (one_board left_out i p n) i k ≡ n
 this_one true n i p k e same = sym (eqb-true n 0 e)
 this_one false n i p k e same = rw (eq-eqb i i refl, eq-eqb p k same) refl
 
@@ -332,7 +365,8 @@ board_past_end : (fs : List FragmentSpec) → board_id_of fs (length fs) ≡ []
 board_past_end [] = refl
 board_past_end (g ∷ fs) = board_past_end fs
 
-board_not_at_end : (fs : List FragmentSpec) (f : FragmentSpec) (i : ℕ) → i ≢ length fs → board_id_of (fs ++ (f ∷ [])) i ≡ board_id_of fs i
+board_not_at_end : (fs : List FragmentSpec) (f : FragmentSpec) (i : ℕ) → i ≢ length fs
+    → board_id_of (fs ++ (f ∷ [])) i ≡ board_id_of fs i
 board_not_at_end [] f zero h = absurd (h refl)
 board_not_at_end [] f (suc i) h = no_board_at i
 board_not_at_end (g ∷ fs) f zero h = refl
@@ -355,7 +389,8 @@ entry_name x h k bytes =
 module _ (folder x : List ℕ) (h : Header) where
   pub specs_long : (k : ℕ) → length (specs_of x h k) ≡ k
   specs_long zero = refl
-  specs_long (suc k) = let e = specs_long k in omega (arith, length-append (specs_of x h k) (spec_of (entry_of x h k) ∷ []), e)
+  specs_long (suc k) = let e = specs_long k in
+      omega (arith, length-append (specs_of x h k) (spec_of (entry_of x h k) ∷ []), e)
 
   numbers_said : (k i j : ℕ) → slice_index (board_id_of (specs_of x h k) i) j ≡ number_after 0 (boards_of x h k) i j
   numbers_said zero i j = ap (λ (l : List ℕ). slice_index l j) (no_board_at i) ∙ none_at j
@@ -369,7 +404,9 @@ module _ (folder x : List ℕ) (h : Header) where
         | inl e ↦
             let same : i ≡ k = eqb-true i k e in
             let last : i ≡ length fs = same ∙ sym long in
-            let none : number_after 0 (boards_of x h k) i j ≡ 0 = sym old ∙ ap (λ (n : ℕ). slice_index (board_id_of fs n) j) last ∙ ap (λ (l : List ℕ). slice_index l j) (board_past_end fs) ∙ none_at j in
+            let none : number_after 0 (boards_of x h k) i j ≡ 0 =
+            sym old ∙ ap (λ (n : ℕ). slice_index (board_id_of fs n) j) last
+            ∙ ap (λ (l : List ℕ). slice_index l j) (board_past_end fs) ∙ none_at j in
             ap (λ (n : ℕ). slice_index (board_id_of (fs ++ (f ∷ [])) n) j) last
             ∙ ap (λ (l : List ℕ). slice_index l j) (board_at_end fs f)
             ∙ sym (number_here k 0 f.board_id j j (let z : j ≡ 0 + j = omega arith in z))
@@ -384,42 +421,71 @@ module _ (folder x : List ℕ) (h : Header) where
             ∙ sym both
       ]
 
-  module _ (n : ℕ) (bytes : AreBytes folder) (image : AreBytes x) (small : n < 2 ^ 32) (fits : (i : ℕ) → i < n → FragmentFits (spec_of (entry_of x h i))) where
-    each_said : (k : ℕ) → k ≤ n → SaysEach folder (values_of (codes "fragment") (fragment_words folder x h k)) 0 (specs_of x h k)
+  module _ (n : ℕ) (bytes : AreBytes folder) (image : AreBytes x) (small : n < 2 ^ 32) (fits : (i : ℕ) → i < n
+      → FragmentFits (spec_of (entry_of x h i))) where
+    each_said : (k : ℕ) → k ≤ n → SaysEach folder (values_of (codes "fragment") (fragment_words folder x h k)) 0
+        (specs_of x h k)
     each_said zero l = tt
     each_said (suc k) l =
         let f = spec_of (entry_of x h k) in
-        let own : values_of (codes "fragment") (entry_words folder k (entry_of x h k)) ≡ value_for folder k f ∷ [] = ap (λ (vs : List (List ℕ)). value_for folder k f ∷ vs) (no_fragment k 0 f.board_id) in
-        let all : values_of (codes "fragment") (fragment_words folder x h (suc k)) ≡ values_of (codes "fragment") (fragment_words folder x h k) ++ (value_for folder k f ∷ []) =
-        values_both (codes "fragment") (fragment_words folder x h k) (entry_words folder k (entry_of x h k)) ∙ ap (λ (vs : List (List ℕ)). values_of (codes "fragment") (fragment_words folder x h k) ++ vs) own in
+        let own : values_of (codes "fragment") (entry_words folder k (entry_of x h k)) ≡ value_for folder k f ∷ [] =
+        ap (λ (vs : List (List ℕ)). value_for folder k f ∷ vs) (no_fragment k 0 f.board_id) in
+        let all : values_of (codes "fragment") (fragment_words folder x h (suc k)) ≡ values_of (codes "fragment")
+        (fragment_words folder x h k) ++ (value_for folder k f ∷ []) =
+        values_both (codes "fragment") (fragment_words folder x h k) (entry_words folder k (entry_of x h k))
+        ∙ ap (λ (vs : List (List ℕ)). values_of (codes "fragment") (fragment_words folder x h k) ++ vs) own in
         let long = specs_long k in
-        let one = says_fragment folder k f bytes (entry_name x h k image) (fits k (omega (arith, l))) (omega (arith, l, small)) in
-        subst (λ (vs : List (List ℕ)). SaysEach folder vs 0 (specs_of x h (suc k))) (sym all) (each_more folder (values_of (codes "fragment") (fragment_words folder x h k)) 0 (specs_of x h k) (value_for folder k f) f k (let z : k ≡ 0 + length (specs_of x h k) = omega (arith, long) in z) (each_said k (omega (arith, l))) one)
+        let one = says_fragment folder k f bytes (entry_name x h k image) (fits k (omega (arith, l)))
+        (omega (arith, l, small)) in
+        subst (λ (vs : List (List ℕ)). SaysEach folder vs 0 (specs_of x h (suc k))) (sym all)
+        (each_more folder (values_of (codes "fragment") (fragment_words folder x h k)) 0 (specs_of x h k)
+        (value_for folder k f) f k (let z : k ≡ 0 + length (specs_of x h k) = omega (arith, long) in
+        z) (each_said k (omega (arith, l))) one)
 
-    boards_said : (k : ℕ) → k ≤ n → AreBoards n (values_of (codes "board-id") (fragment_words folder x h k)) (boards_of x h k)
+    boards_said : (k : ℕ) → k ≤ n → AreBoards n (values_of (codes "board-id") (fragment_words folder x h k))
+        (boards_of x h k)
     boards_said zero l = tt
     boards_said (suc k) l =
         let ids = (entry_of x h k).board_id in
         let fit = fits k (omega (arith, l)) in
-        let all : values_of (codes "board-id") (fragment_words folder x h (suc k)) ≡ values_of (codes "board-id") (fragment_words folder x h k) ++ values_of (codes "board-id") (board_words k 0 ids) = values_both (codes "board-id") (fragment_words folder x h k) (entry_words folder k (entry_of x h k)) in
-        let one = are_boards n k 0 ids (omega (arith, l)) (omega (arith, l, small)) (let long = fit.board_long in omega (arith, long)) fit.board_id in
-        subst (λ (vs : List (List ℕ)). AreBoards n vs (boards_of x h (suc k))) (sym all) (boards_both n (values_of (codes "board-id") (fragment_words folder x h k)) (values_of (codes "board-id") (board_words k 0 ids)) (boards_of x h k) (boards_for k 0 ids) (boards_said k (omega (arith, l))) one)
+        let all : values_of (codes "board-id") (fragment_words folder x h (suc k)) ≡ values_of (codes "board-id")
+        (fragment_words folder x h k) ++ values_of (codes "board-id") (board_words k 0 ids) =
+        values_both (codes "board-id") (fragment_words folder x h k) (entry_words folder k (entry_of x h k)) in
+        let one = are_boards n k 0 ids (omega (arith, l)) (omega (arith, l, small)) (let long = fit.board_long in
+        omega (arith, long)) fit.board_id in
+        subst (λ (vs : List (List ℕ)). AreBoards n vs (boards_of x h (suc k))) (sym all)
+        (boards_both n (values_of (codes "board-id") (fragment_words folder x h k))
+        (values_of (codes "board-id") (board_words k 0 ids)) (boards_of x h k) (boards_for k 0 ids)
+        (boards_said k (omega (arith, l))) one)
 
-    says_all : (words : List (List ℕ)) → values_of (codes "fragment") words ≡ values_of (codes "fragment") (fragment_words folder x h n) → values_of (codes "board-id") words ≡ values_of (codes "board-id") (fragment_words folder x h n) → SaysFragments words folder (specs_of x h n)
+    says_all : (words : List (List ℕ)) → values_of (codes "fragment") words ≡ values_of (codes "fragment")
+        (fragment_words folder x h n) → values_of (codes "board-id") words ≡ values_of (codes "board-id")
+        (fragment_words folder x h n) → SaysFragments words folder (specs_of x h n)
     says_all words a b = record {
       each = subst (λ (vs : List (List ℕ)). SaysEach folder vs 0 (specs_of x h n)) (sym a) (each_said n (omega arith));
       boards = boards_of x h n;
-      are_boards = subst (λ (vs : List (List ℕ)). AreBoards (length (specs_of x h n)) vs (boards_of x h n)) (sym b) (subst (λ (m : ℕ). AreBoards m (values_of (codes "board-id") (fragment_words folder x h n)) (boards_of x h n)) (sym (specs_long n)) (boards_said n (omega arith)));
+      are_boards = subst (λ (vs : List (List ℕ)). AreBoards (length (specs_of x h n)) vs (boards_of x h n)) (sym b)
+          (subst (λ (m : ℕ). AreBoards m (values_of (codes "board-id") (fragment_words folder x h n))
+          (boards_of x h n)) (sym (specs_long n)) (boards_said n (omega arith)));
       board_ids = numbers_said n;
     }
 
-vendor_says : (folder x : List ℕ) (f : VendorFront) (o : Option Tail) → AreBytes folder → AreBytes x → fragment_count (OfVendor (record { front = f; tail = o })) < 2 ^ 32
-    → ((i : ℕ) → i < fragment_count (OfVendor (record { front = f; tail = o })) → FragmentFits (spec_of (entry_of x (OfVendor (record { front = f; tail = o })) i)))
-    → SaysFragments (image_words folder x (OfVendor (record { front = f; tail = o }))) folder (specs_of x (OfVendor (record { front = f; tail = o })) (fragment_count (OfVendor (record { front = f; tail = o }))))
-vendor_says folder x f None bytes image small fits = says_all folder x (OfVendor (record { front = f; tail = None })) 0 bytes image small fits (image_words folder x (OfVendor (record { front = f; tail = None }))) refl refl
-vendor_says folder x f (Some t) bytes image small fits = says_all folder x (OfVendor (record { front = f; tail = Some t })) t.entry_num bytes image small fits (image_words folder x (OfVendor (record { front = f; tail = Some t }))) refl refl
+vendor_says : (folder x : List ℕ) (f : VendorFront) (o : Option Tail) → AreBytes folder → AreBytes x
+    → fragment_count (OfVendor (record { front = f; tail = o })) < 2 ^ 32
+    → ((i : ℕ) → i < fragment_count (OfVendor (record { front = f; tail = o }))
+    → FragmentFits (spec_of (entry_of x (OfVendor (record { front = f; tail = o })) i)))
+    → SaysFragments (image_words folder x (OfVendor (record { front = f; tail = o }))) folder
+    (specs_of x (OfVendor (record { front = f; tail = o }))
+    (fragment_count (OfVendor (record { front = f; tail = o }))))
+vendor_says folder x f None bytes image small fits =
+    says_all folder x (OfVendor (record { front = f; tail = None })) 0 bytes image small fits
+    (image_words folder x (OfVendor (record { front = f; tail = None }))) refl refl
+vendor_says folder x f (Some t) bytes image small fits =
+    says_all folder x (OfVendor (record { front = f; tail = Some t })) t.entry_num bytes image small fits
+    (image_words folder x (OfVendor (record { front = f; tail = Some t }))) refl refl
 
-pub fragments_said : (folder x : List ℕ) (v : Vendor) → AreBytes folder → AreBytes x → fragment_count (OfVendor v) < 2 ^ 32
+pub fragments_said : (folder x : List ℕ) (v : Vendor) → AreBytes folder → AreBytes x
+    → fragment_count (OfVendor v) < 2 ^ 32
     → ((i : ℕ) → i < fragment_count (OfVendor v) → FragmentFits (spec_of (entry_of x (OfVendor v) i)))
     → SaysFragments (image_words folder x (OfVendor v)) folder (specs_of x (OfVendor v) (fragment_count (OfVendor v)))
 fragments_said folder x v = vendor_says folder x v.front v.tail

@@ -1,5 +1,7 @@
 -- The words of a header say its fields.
-use Rattle.std.proofs.Common.{◌≡◌, ℕ, zero, suc, ◌+◌, ◌/◌, ◌%◌, ◌<◌, ◌≤◌, ◌^◌, nat_le, true, inl, inr, List, [], ◌∷◌, ◌++◌, Option, Some, None, codes, decimal, length, refl, sym, ap, subst, ◌∙◌, rules, arith, append-nil, flat_map, length-append, lit<}
+use Rattle.std.proofs.Common.{◌≡◌, ℕ, zero, suc, ◌+◌, ◌/◌, ◌%◌, ◌<◌, ◌≤◌, ◌^◌, nat_le, true, inl, inr, List, [], ◌∷◌}
+use Rattle.std.proofs.Common.{◌++◌, Option, Some, None, codes, decimal, length, refl, sym, ap, subst, ◌∙◌, rules, arith}
+use Rattle.std.proofs.Common.{append-nil, flat_map, length-append, lit<}
 use Rattle.std.proofs.lemmas.Bool.{and_parts, cases_Bool, leb-true}
 use Rattle.std.proofs.lemmas.Fmt.{decimal_digit, decimal_nonempty, decimal_step, digits_decimal, digits_value-decimal}
 use Rattle.std.proofs.lemmas.Str.Parse.{IsNumeralModel, numerals_by_value}
@@ -26,7 +28,8 @@ use Rattle.cmd_common_fields.specs.declared.fields.TextField.{TextField}
 use Rattle.cmd_common_fields.specs.declared.fields.TextField.TheVariants as texts
 use Rattle.cmd_common_texts.specs.Info as info
 use Rattle.cmd_common_fields.specs.OsWord.{IsNumberWord, IsOsWord}
-use Rattle.law_boot.specs.Said.{IsHeld, SaysBoot, SaysHeader, SaysNumber, SaysOs, SaysText, SaysVendor, boot_fields_of, value_of, vendor_fields_of}
+use Rattle.law_boot.specs.Said.{IsHeld, SaysBoot, SaysHeader, SaysNumber, SaysOs, SaysText, SaysVendor, boot_fields_of}
+use Rattle.law_boot.specs.Said.{value_of, vendor_fields_of}
 use Rattle.cmd_common_texts.specs.Words.{image_words, is_month, os_option, os_text, text_of, text_over}
 use Rattle.law_boot.proofs.Escapes.{escaped_back}
 
@@ -42,7 +45,8 @@ number_word n small = record {
   value = digits_value-decimal own n small;
 }
 
-says_number : (words : List (List ℕ)) (name : List ℕ) (n : ℕ) → value_of name words ≡ Some (decimal n) → n < 2 ^ 64 → SaysNumber words name n
+says_number : (words : List (List ℕ)) (name : List ℕ) (n : ℕ) → value_of name words ≡ Some (decimal n) → n < 2 ^ 64
+    → SaysNumber words name n
 says_number words name n e small = (decimal n, e, number_word n small)
 
 page_small : (p : PageSize) → page_bytes p < 2 ^ 64
@@ -56,7 +60,8 @@ page_small pages.Of131072 = lit< tt
 
 -- ---- texts
 
-says_text : (words : List (List ℕ)) (name x y : List ℕ) → value_of name words ≡ Some (flat_map info.escaped x) → x ≡ y → AreBytes x → SaysText words name y
+says_text : (words : List (List ℕ)) (name x y : List ℕ) → value_of name words ≡ Some (flat_map info.escaped x) → x ≡ y
+    → AreBytes x → SaysText words name y
 says_text words name x y e same h = (flat_map info.escaped x, e, escaped_back x h ∙ same)
 
 cons_bytes : (b : ℕ) (y : List ℕ) → b < 256 → AreBytes y → AreBytes (b ∷ y)
@@ -87,9 +92,12 @@ longer n h small = ap length (decimal_step n h small) ∙ length-append (decimal
 four_digits : (n : ℕ) → 2000 ≤ n → n < 2128 → length (decimal n) ≡ 4
 four_digits n low high =
     let b : length (decimal n) ≡ length (decimal (n / 10)) + 1 = longer n (omega (arith, low)) (omega (arith, high)) in
-    let c : length (decimal (n / 10)) ≡ length (decimal (n / 10 / 10)) + 1 = longer (n / 10) (omega (arith, low)) (omega (arith, high)) in
-    let d : length (decimal (n / 10 / 10)) ≡ length (decimal (n / 10 / 10 / 10)) + 1 = longer (n / 10 / 10) (omega (arith, low)) (omega (arith, high)) in
-    let e : length (decimal (n / 10 / 10 / 10)) ≡ 1 = ap length (decimal_digit (n / 10 / 10 / 10) (omega (arith, high))) in
+    let c : length (decimal (n / 10)) ≡ length (decimal (n / 10 / 10)) + 1 =
+    longer (n / 10) (omega (arith, low)) (omega (arith, high)) in
+    let d : length (decimal (n / 10 / 10)) ≡ length (decimal (n / 10 / 10 / 10)) + 1 =
+    longer (n / 10 / 10) (omega (arith, low)) (omega (arith, high)) in
+    let e : length (decimal (n / 10 / 10 / 10)) ≡ 1 =
+    ap length (decimal_digit (n / 10 / 10 / 10) (omega (arith, high))) in
     omega (arith, b, c, d, e)
 
 -- two digits of a month
@@ -97,7 +105,8 @@ two_are : (n : ℕ) → n ≤ 12 → info.two_digits n ≡ (48 + n / 10) ∷ (48
 two_are n h =
     let tens : n / 10 < 10 = omega (arith, h) in
     let ones : n % 10 < 10 = omega arith in
-    ap (λ (l : List ℕ). l ++ decimal (n % 10)) (decimal_digit (n / 10) tens) ∙ ap (λ (l : List ℕ). (48 + n / 10) ∷ l) (decimal_digit (n % 10) ones)
+    ap (λ (l : List ℕ). l ++ decimal (n % 10)) (decimal_digit (n / 10) tens)
+    ∙ ap (λ (l : List ℕ). (48 + n / 10) ∷ l) (decimal_digit (n % 10) ones)
 
 month_word : (n : ℕ) → n ≤ 12 → IsNumberWord (info.two_digits n) n
 month_word n h =
@@ -141,7 +150,14 @@ os_version : (n : ℕ) → n < 2 ^ 32 → is_month (os_parts n).month ≡ true �
 os_version n small e =
     let month = month_parts (os_parts n).month e in
     record {
-      bits = record { a = omega (arith, small); b = omega arith; c = omega arith; from = omega arith; year = omega arith; month = omega arith };
+      bits = record {
+        a = omega (arith, small);
+        b = omega arith;
+        c = omega arith;
+        from = omega arith;
+        year = omega arith;
+        month = omega arith;
+      };
       first = month.0;
       last = month.1;
     }
@@ -150,7 +166,8 @@ os_again : (n : ℕ) → n < 2 ^ 32 → n ≡ os_raw (os_parts n)
 os_again n small = omega (arith, small)
 
 -- words of which those of an OS version are as of its word alone
-says_os : (words : List (List ℕ)) (n : ℕ) → n < 2 ^ 32 → value_of (codes "os-number") words ≡ value_of (codes "os-number") (os_option n ∷ [])
+says_os : (words : List (List ℕ)) (n : ℕ) → n < 2 ^ 32
+    → value_of (codes "os-number") words ≡ value_of (codes "os-number") (os_option n ∷ [])
     → value_of (codes "os") words ≡ value_of (codes "os") (os_option n ∷ []) → SaysOs words n
 says_os words n small number word = elim (cases_Bool (is_month (os_parts n).month)) [
   | inl e ↦
@@ -168,11 +185,16 @@ says_os words n small number word = elim (cases_Bool (is_month (os_parts n).mont
       )
   | inr e ↦
       let said : os_option n ≡ codes "--os-number=" ++ decimal n = rw e refl in
-      inl (decimal n, number ∙ ap (λ (w : List ℕ). value_of (codes "os-number") (w ∷ [])) said, number_word n (omega (arith, small)))
+      inl (
+        decimal n,
+        number ∙ ap (λ (w : List ℕ). value_of (codes "os-number") (w ∷ [])) said,
+        number_word n (omega (arith, small)),
+      )
 ]
 
 -- neither word is another option's
-no_os : (name : List ℕ) (n : ℕ) → ((t : List ℕ) → value_of name ((codes "--os=" ++ t) ∷ []) ≡ None) → ((t : List ℕ) → value_of name ((codes "--os-number=" ++ t) ∷ []) ≡ None)
+no_os : (name : List ℕ) (n : ℕ) → ((t : List ℕ) → value_of name ((codes "--os=" ++ t) ∷ []) ≡ None)
+    → ((t : List ℕ) → value_of name ((codes "--os-number=" ++ t) ∷ []) ≡ None)
     → value_of name (os_option n ∷ []) ≡ None
 no_os name n word number = elim (cases_Bool (is_month (os_parts n).month)) [
   | inl e ↦
@@ -186,52 +208,82 @@ no_os name n word number = elim (cases_Bool (is_month (os_parts n).month)) [
 -- ---- whole headers
 
 module _ (folder x : List ℕ) where
-  front_0 : (f : BootFront) → IsHeld (OfBoot (V0 f)) → SaysBoot (image_words folder x (OfBoot (V0 f))) (boot_fields_of (V0 f))
+  front_0 : (f : BootFront) → IsHeld (OfBoot (V0 f))
+      → SaysBoot (image_words folder x (OfBoot (V0 f))) (boot_fields_of (V0 f))
   front_0 f k = record {
     version = says_number (image_words folder x (OfBoot (V0 f))) (codes "version") 0 refl (lit< tt);
-    page = says_number (image_words folder x (OfBoot (V0 f))) (codes "page") (page_bytes f.page_size) refl (page_small f.page_size);
-    kernel_addr = inl (says_number (image_words folder x (OfBoot (V0 f))) (codes "kernel-addr") f.kernel_addr refl (k.addresses addresses.Kernel f.kernel_addr refl));
-    ramdisk_addr = inl (says_number (image_words folder x (OfBoot (V0 f))) (codes "ramdisk-addr") f.ramdisk_addr refl (k.addresses addresses.Ramdisk f.ramdisk_addr refl));
-    second_addr = inl (says_number (image_words folder x (OfBoot (V0 f))) (codes "second-addr") f.second_addr refl (k.addresses addresses.Second f.second_addr refl));
-    tags_addr = inl (says_number (image_words folder x (OfBoot (V0 f))) (codes "tags-addr") f.tags_addr refl (k.addresses addresses.Tags f.tags_addr refl));
+    page = says_number (image_words folder x (OfBoot (V0 f))) (codes "page") (page_bytes f.page_size) refl
+        (page_small f.page_size);
+    kernel_addr = inl (says_number (image_words folder x (OfBoot (V0 f))) (codes "kernel-addr") f.kernel_addr refl
+        (k.addresses addresses.Kernel f.kernel_addr refl));
+    ramdisk_addr = inl (says_number (image_words folder x (OfBoot (V0 f))) (codes "ramdisk-addr") f.ramdisk_addr refl
+        (k.addresses addresses.Ramdisk f.ramdisk_addr refl));
+    second_addr = inl (says_number (image_words folder x (OfBoot (V0 f))) (codes "second-addr") f.second_addr refl
+        (k.addresses addresses.Second f.second_addr refl));
+    tags_addr = inl (says_number (image_words folder x (OfBoot (V0 f))) (codes "tags-addr") f.tags_addr refl
+        (k.addresses addresses.Tags f.tags_addr refl));
     dtb_addr = inr (no_os (codes "dtb-addr") f.os_version.number (λ t. refl) (λ t. refl), refl);
     os = says_os (image_words folder x (OfBoot (V0 f))) f.os_version.number (k.os f.os_version.number refl) refl refl;
-    name = inl (says_text (image_words folder x (OfBoot (V0 f))) (codes "name") (text_over f.name []) (text_of f.name) refl (alone f.name) (over_bytes f.name [] (k.texts texts.Name f.name refl) none_are_bytes));
-    cmdline = says_text (image_words folder x (OfBoot (V0 f))) (codes "cmdline") (text_over f.cmdline f.extra_cmdline) (text_over f.cmdline f.extra_cmdline) refl refl
-        (over_bytes f.cmdline f.extra_cmdline (k.texts texts.Cmdline f.cmdline refl) (k.texts texts.Extra f.extra_cmdline refl));
+    name = inl (says_text (image_words folder x (OfBoot (V0 f))) (codes "name") (text_over f.name [])
+        (text_of f.name) refl (alone f.name) (over_bytes f.name [] (k.texts texts.Name f.name refl) none_are_bytes));
+    cmdline = says_text (image_words folder x (OfBoot (V0 f))) (codes "cmdline") (text_over f.cmdline f.extra_cmdline)
+        (text_over f.cmdline f.extra_cmdline) refl refl
+        (over_bytes f.cmdline f.extra_cmdline (k.texts texts.Cmdline f.cmdline refl)
+        (k.texts texts.Extra f.extra_cmdline refl));
   }
 
-  front_1 : (f : BootFront) (d : DtboFields) → IsHeld (OfBoot (V1 f d)) → SaysBoot (image_words folder x (OfBoot (V1 f d))) (boot_fields_of (V1 f d))
+  front_1 : (f : BootFront) (d : DtboFields) → IsHeld (OfBoot (V1 f d))
+      → SaysBoot (image_words folder x (OfBoot (V1 f d))) (boot_fields_of (V1 f d))
   front_1 f d k = record {
     version = says_number (image_words folder x (OfBoot (V1 f d))) (codes "version") 1 refl (lit< tt);
-    page = says_number (image_words folder x (OfBoot (V1 f d))) (codes "page") (page_bytes f.page_size) refl (page_small f.page_size);
-    kernel_addr = inl (says_number (image_words folder x (OfBoot (V1 f d))) (codes "kernel-addr") f.kernel_addr refl (k.addresses addresses.Kernel f.kernel_addr refl));
-    ramdisk_addr = inl (says_number (image_words folder x (OfBoot (V1 f d))) (codes "ramdisk-addr") f.ramdisk_addr refl (k.addresses addresses.Ramdisk f.ramdisk_addr refl));
-    second_addr = inl (says_number (image_words folder x (OfBoot (V1 f d))) (codes "second-addr") f.second_addr refl (k.addresses addresses.Second f.second_addr refl));
-    tags_addr = inl (says_number (image_words folder x (OfBoot (V1 f d))) (codes "tags-addr") f.tags_addr refl (k.addresses addresses.Tags f.tags_addr refl));
+    page = says_number (image_words folder x (OfBoot (V1 f d))) (codes "page") (page_bytes f.page_size) refl
+        (page_small f.page_size);
+    kernel_addr = inl (says_number (image_words folder x (OfBoot (V1 f d))) (codes "kernel-addr") f.kernel_addr refl
+        (k.addresses addresses.Kernel f.kernel_addr refl));
+    ramdisk_addr = inl (says_number (image_words folder x (OfBoot (V1 f d)))
+        (codes "ramdisk-addr") f.ramdisk_addr refl (k.addresses addresses.Ramdisk f.ramdisk_addr refl));
+    second_addr = inl (says_number (image_words folder x (OfBoot (V1 f d))) (codes "second-addr") f.second_addr refl
+        (k.addresses addresses.Second f.second_addr refl));
+    tags_addr = inl (says_number (image_words folder x (OfBoot (V1 f d))) (codes "tags-addr") f.tags_addr refl
+        (k.addresses addresses.Tags f.tags_addr refl));
     dtb_addr = inr (no_os (codes "dtb-addr") f.os_version.number (λ t. refl) (λ t. refl), refl);
     os = says_os (image_words folder x (OfBoot (V1 f d))) f.os_version.number (k.os f.os_version.number refl) refl refl;
-    name = inl (says_text (image_words folder x (OfBoot (V1 f d))) (codes "name") (text_over f.name []) (text_of f.name) refl (alone f.name) (over_bytes f.name [] (k.texts texts.Name f.name refl) none_are_bytes));
-    cmdline = says_text (image_words folder x (OfBoot (V1 f d))) (codes "cmdline") (text_over f.cmdline f.extra_cmdline) (text_over f.cmdline f.extra_cmdline) refl refl
-        (over_bytes f.cmdline f.extra_cmdline (k.texts texts.Cmdline f.cmdline refl) (k.texts texts.Extra f.extra_cmdline refl));
+    name = inl (says_text (image_words folder x (OfBoot (V1 f d))) (codes "name") (text_over f.name [])
+        (text_of f.name) refl (alone f.name) (over_bytes f.name [] (k.texts texts.Name f.name refl) none_are_bytes));
+    cmdline = says_text (image_words folder x (OfBoot (V1 f d))) (codes "cmdline")
+        (text_over f.cmdline f.extra_cmdline) (text_over f.cmdline f.extra_cmdline) refl refl
+        (over_bytes f.cmdline f.extra_cmdline (k.texts texts.Cmdline f.cmdline refl)
+        (k.texts texts.Extra f.extra_cmdline refl));
   }
 
-  front_2 : (f : BootFront) (d : DtboFields) (t : DtbFields) → IsHeld (OfBoot (V2 f d t)) → SaysBoot (image_words folder x (OfBoot (V2 f d t))) (boot_fields_of (V2 f d t))
+  front_2 : (f : BootFront) (d : DtboFields) (t : DtbFields) → IsHeld (OfBoot (V2 f d t))
+      → SaysBoot (image_words folder x (OfBoot (V2 f d t))) (boot_fields_of (V2 f d t))
   front_2 f d t k = record {
     version = says_number (image_words folder x (OfBoot (V2 f d t))) (codes "version") 2 refl (lit< tt);
-    page = says_number (image_words folder x (OfBoot (V2 f d t))) (codes "page") (page_bytes f.page_size) refl (page_small f.page_size);
-    kernel_addr = inl (says_number (image_words folder x (OfBoot (V2 f d t))) (codes "kernel-addr") f.kernel_addr refl (k.addresses addresses.Kernel f.kernel_addr refl));
-    ramdisk_addr = inl (says_number (image_words folder x (OfBoot (V2 f d t))) (codes "ramdisk-addr") f.ramdisk_addr refl (k.addresses addresses.Ramdisk f.ramdisk_addr refl));
-    second_addr = inl (says_number (image_words folder x (OfBoot (V2 f d t))) (codes "second-addr") f.second_addr refl (k.addresses addresses.Second f.second_addr refl));
-    tags_addr = inl (says_number (image_words folder x (OfBoot (V2 f d t))) (codes "tags-addr") f.tags_addr refl (k.addresses addresses.Tags f.tags_addr refl));
-    dtb_addr = inl (says_number (image_words folder x (OfBoot (V2 f d t))) (codes "dtb-addr") t.dtb_addr refl (k.addresses addresses.Dtb t.dtb_addr refl));
-    os = says_os (image_words folder x (OfBoot (V2 f d t))) f.os_version.number (k.os f.os_version.number refl) refl refl;
-    name = inl (says_text (image_words folder x (OfBoot (V2 f d t))) (codes "name") (text_over f.name []) (text_of f.name) refl (alone f.name) (over_bytes f.name [] (k.texts texts.Name f.name refl) none_are_bytes));
-    cmdline = says_text (image_words folder x (OfBoot (V2 f d t))) (codes "cmdline") (text_over f.cmdline f.extra_cmdline) (text_over f.cmdline f.extra_cmdline) refl refl
-        (over_bytes f.cmdline f.extra_cmdline (k.texts texts.Cmdline f.cmdline refl) (k.texts texts.Extra f.extra_cmdline refl));
+    page = says_number (image_words folder x (OfBoot (V2 f d t))) (codes "page") (page_bytes f.page_size) refl
+        (page_small f.page_size);
+    kernel_addr = inl (says_number (image_words folder x (OfBoot (V2 f d t))) (codes "kernel-addr") f.kernel_addr refl
+        (k.addresses addresses.Kernel f.kernel_addr refl));
+    ramdisk_addr = inl (says_number (image_words folder x (OfBoot (V2 f d t)))
+        (codes "ramdisk-addr") f.ramdisk_addr refl (k.addresses addresses.Ramdisk f.ramdisk_addr refl));
+    second_addr = inl (says_number (image_words folder x (OfBoot (V2 f d t))) (codes "second-addr") f.second_addr refl
+        (k.addresses addresses.Second f.second_addr refl));
+    tags_addr = inl (says_number (image_words folder x (OfBoot (V2 f d t))) (codes "tags-addr") f.tags_addr refl
+        (k.addresses addresses.Tags f.tags_addr refl));
+    dtb_addr = inl (says_number (image_words folder x (OfBoot (V2 f d t))) (codes "dtb-addr") t.dtb_addr refl
+        (k.addresses addresses.Dtb t.dtb_addr refl));
+    os = says_os (image_words folder x (OfBoot (V2 f d t))) f.os_version.number
+        (k.os f.os_version.number refl) refl refl;
+    name = inl (says_text (image_words folder x (OfBoot (V2 f d t))) (codes "name") (text_over f.name [])
+        (text_of f.name) refl (alone f.name) (over_bytes f.name [] (k.texts texts.Name f.name refl) none_are_bytes));
+    cmdline = says_text (image_words folder x (OfBoot (V2 f d t))) (codes "cmdline")
+        (text_over f.cmdline f.extra_cmdline) (text_over f.cmdline f.extra_cmdline) refl refl
+        (over_bytes f.cmdline f.extra_cmdline (k.texts texts.Cmdline f.cmdline refl)
+        (k.texts texts.Extra f.extra_cmdline refl));
   }
 
-  short_3 : (f : ShortFront) → IsHeld (OfBoot (V3 f)) → SaysBoot (image_words folder x (OfBoot (V3 f))) (boot_fields_of (V3 f))
+  short_3 : (f : ShortFront) → IsHeld (OfBoot (V3 f))
+      → SaysBoot (image_words folder x (OfBoot (V3 f))) (boot_fields_of (V3 f))
   short_3 f k = record {
     version = says_number (image_words folder x (OfBoot (V3 f))) (codes "version") 3 refl (lit< tt);
     page = says_number (image_words folder x (OfBoot (V3 f))) (codes "page") 4096 refl (lit< tt);
@@ -242,10 +294,13 @@ module _ (folder x : List ℕ) where
     dtb_addr = inr (no_os (codes "dtb-addr") f.os_version.number (λ t. refl) (λ t. refl), refl);
     os = says_os (image_words folder x (OfBoot (V3 f))) f.os_version.number (k.os f.os_version.number refl) refl refl;
     name = inr (no_os (codes "name") f.os_version.number (λ t. refl) (λ t. refl), refl);
-    cmdline = says_text (image_words folder x (OfBoot (V3 f))) (codes "cmdline") (text_over f.cmdline []) (text_of f.cmdline) refl (alone f.cmdline) (over_bytes f.cmdline [] (k.texts texts.Cmdline f.cmdline refl) none_are_bytes);
+    cmdline = says_text (image_words folder x (OfBoot (V3 f))) (codes "cmdline") (text_over f.cmdline [])
+        (text_of f.cmdline) refl (alone f.cmdline)
+        (over_bytes f.cmdline [] (k.texts texts.Cmdline f.cmdline refl) none_are_bytes);
   }
 
-  short_4 : (f : ShortFront) (signature : ℕ) → IsHeld (OfBoot (V4 f signature)) → SaysBoot (image_words folder x (OfBoot (V4 f signature))) (boot_fields_of (V4 f signature))
+  short_4 : (f : ShortFront) (signature : ℕ) → IsHeld (OfBoot (V4 f signature))
+      → SaysBoot (image_words folder x (OfBoot (V4 f signature))) (boot_fields_of (V4 f signature))
   short_4 f signature k = record {
     version = says_number (image_words folder x (OfBoot (V4 f signature))) (codes "version") 4 refl (lit< tt);
     page = says_number (image_words folder x (OfBoot (V4 f signature))) (codes "page") 4096 refl (lit< tt);
@@ -254,9 +309,12 @@ module _ (folder x : List ℕ) where
     second_addr = inr (no_os (codes "second-addr") f.os_version.number (λ t. refl) (λ t. refl), refl);
     tags_addr = inr (no_os (codes "tags-addr") f.os_version.number (λ t. refl) (λ t. refl), refl);
     dtb_addr = inr (no_os (codes "dtb-addr") f.os_version.number (λ t. refl) (λ t. refl), refl);
-    os = says_os (image_words folder x (OfBoot (V4 f signature))) f.os_version.number (k.os f.os_version.number refl) refl refl;
+    os = says_os (image_words folder x (OfBoot (V4 f signature))) f.os_version.number
+        (k.os f.os_version.number refl) refl refl;
     name = inr (no_os (codes "name") f.os_version.number (λ t. refl) (λ t. refl), refl);
-    cmdline = says_text (image_words folder x (OfBoot (V4 f signature))) (codes "cmdline") (text_over f.cmdline []) (text_of f.cmdline) refl (alone f.cmdline) (over_bytes f.cmdline [] (k.texts texts.Cmdline f.cmdline refl) none_are_bytes);
+    cmdline = says_text (image_words folder x (OfBoot (V4 f signature))) (codes "cmdline") (text_over f.cmdline [])
+        (text_of f.cmdline) refl (alone f.cmdline)
+        (over_bytes f.cmdline [] (k.texts texts.Cmdline f.cmdline refl) none_are_bytes);
   }
 
   boot_says : (h : BootHeader) → IsHeld (OfBoot h) → SaysBoot (image_words folder x (OfBoot h)) (boot_fields_of h)
@@ -266,31 +324,57 @@ module _ (folder x : List ℕ) where
   boot_says (V3 f) k = short_3 f k
   boot_says (V4 f signature) k = short_4 f signature k
 
-  vendor_3 : (f : VendorFront) → IsHeld (OfVendor (record { front = f; tail = None })) → SaysVendor (image_words folder x (OfVendor (record { front = f; tail = None }))) (vendor_fields_of (record { front = f; tail = None }))
+  vendor_3 : (f : VendorFront) → IsHeld (OfVendor (record { front = f; tail = None }))
+      → SaysVendor (image_words folder x (OfVendor (record { front = f; tail = None })))
+      (vendor_fields_of (record { front = f; tail = None }))
   vendor_3 f k = record {
-    version = says_number (image_words folder x (OfVendor (record { front = f; tail = None }))) (codes "version") 3 refl (lit< tt);
-    page = says_number (image_words folder x (OfVendor (record { front = f; tail = None }))) (codes "page") (page_bytes f.page_size) refl (page_small f.page_size);
-    kernel_addr = says_number (image_words folder x (OfVendor (record { front = f; tail = None }))) (codes "kernel-addr") f.kernel_addr refl (k.addresses addresses.Kernel f.kernel_addr refl);
-    ramdisk_addr = says_number (image_words folder x (OfVendor (record { front = f; tail = None }))) (codes "ramdisk-addr") f.ramdisk_addr refl (k.addresses addresses.Ramdisk f.ramdisk_addr refl);
-    tags_addr = says_number (image_words folder x (OfVendor (record { front = f; tail = None }))) (codes "tags-addr") f.tags_addr refl (k.addresses addresses.Tags f.tags_addr refl);
-    dtb_addr = says_number (image_words folder x (OfVendor (record { front = f; tail = None }))) (codes "dtb-addr") f.dtb_addr refl (k.addresses addresses.Dtb f.dtb_addr refl);
-    name = says_text (image_words folder x (OfVendor (record { front = f; tail = None }))) (codes "name") (text_over f.name []) (text_of f.name) refl (alone f.name) (over_bytes f.name [] (k.texts texts.Name f.name refl) none_are_bytes);
-    cmdline = says_text (image_words folder x (OfVendor (record { front = f; tail = None }))) (codes "cmdline") (text_over f.cmdline []) (text_of f.cmdline) refl (alone f.cmdline) (over_bytes f.cmdline [] (k.texts texts.Cmdline f.cmdline refl) none_are_bytes);
+    version = says_number (image_words folder x (OfVendor (record { front = f; tail = None })))
+        (codes "version") 3 refl (lit< tt);
+    page = says_number (image_words folder x (OfVendor (record { front = f; tail = None }))) (codes "page")
+        (page_bytes f.page_size) refl (page_small f.page_size);
+    kernel_addr = says_number (image_words folder x (OfVendor (record { front = f; tail = None })))
+        (codes "kernel-addr") f.kernel_addr refl (k.addresses addresses.Kernel f.kernel_addr refl);
+    ramdisk_addr = says_number (image_words folder x (OfVendor (record { front = f; tail = None })))
+        (codes "ramdisk-addr") f.ramdisk_addr refl (k.addresses addresses.Ramdisk f.ramdisk_addr refl);
+    tags_addr = says_number (image_words folder x (OfVendor (record { front = f; tail = None })))
+        (codes "tags-addr") f.tags_addr refl (k.addresses addresses.Tags f.tags_addr refl);
+    dtb_addr = says_number (image_words folder x (OfVendor (record { front = f; tail = None })))
+        (codes "dtb-addr") f.dtb_addr refl (k.addresses addresses.Dtb f.dtb_addr refl);
+    name = says_text (image_words folder x (OfVendor (record { front = f; tail = None }))) (codes "name")
+        (text_over f.name []) (text_of f.name) refl (alone f.name)
+        (over_bytes f.name [] (k.texts texts.Name f.name refl) none_are_bytes);
+    cmdline = says_text (image_words folder x (OfVendor (record { front = f; tail = None }))) (codes "cmdline")
+        (text_over f.cmdline []) (text_of f.cmdline) refl (alone f.cmdline)
+        (over_bytes f.cmdline [] (k.texts texts.Cmdline f.cmdline refl) none_are_bytes);
   }
 
-  vendor_4 : (f : VendorFront) (t : Tail) → IsHeld (OfVendor (record { front = f; tail = Some t })) → SaysVendor (image_words folder x (OfVendor (record { front = f; tail = Some t }))) (vendor_fields_of (record { front = f; tail = Some t }))
+  vendor_4 : (f : VendorFront) (t : Tail) → IsHeld (OfVendor (record { front = f; tail = Some t }))
+      → SaysVendor (image_words folder x (OfVendor (record { front = f; tail = Some t })))
+      (vendor_fields_of (record { front = f; tail = Some t }))
   vendor_4 f t k = record {
-    version = says_number (image_words folder x (OfVendor (record { front = f; tail = Some t }))) (codes "version") 4 refl (lit< tt);
-    page = says_number (image_words folder x (OfVendor (record { front = f; tail = Some t }))) (codes "page") (page_bytes f.page_size) refl (page_small f.page_size);
-    kernel_addr = says_number (image_words folder x (OfVendor (record { front = f; tail = Some t }))) (codes "kernel-addr") f.kernel_addr refl (k.addresses addresses.Kernel f.kernel_addr refl);
-    ramdisk_addr = says_number (image_words folder x (OfVendor (record { front = f; tail = Some t }))) (codes "ramdisk-addr") f.ramdisk_addr refl (k.addresses addresses.Ramdisk f.ramdisk_addr refl);
-    tags_addr = says_number (image_words folder x (OfVendor (record { front = f; tail = Some t }))) (codes "tags-addr") f.tags_addr refl (k.addresses addresses.Tags f.tags_addr refl);
-    dtb_addr = says_number (image_words folder x (OfVendor (record { front = f; tail = Some t }))) (codes "dtb-addr") f.dtb_addr refl (k.addresses addresses.Dtb f.dtb_addr refl);
-    name = says_text (image_words folder x (OfVendor (record { front = f; tail = Some t }))) (codes "name") (text_over f.name []) (text_of f.name) refl (alone f.name) (over_bytes f.name [] (k.texts texts.Name f.name refl) none_are_bytes);
-    cmdline = says_text (image_words folder x (OfVendor (record { front = f; tail = Some t }))) (codes "cmdline") (text_over f.cmdline []) (text_of f.cmdline) refl (alone f.cmdline) (over_bytes f.cmdline [] (k.texts texts.Cmdline f.cmdline refl) none_are_bytes);
+    version = says_number (image_words folder x (OfVendor (record { front = f; tail = Some t })))
+        (codes "version") 4 refl (lit< tt);
+    page = says_number (image_words folder x (OfVendor (record { front = f; tail = Some t }))) (codes "page")
+        (page_bytes f.page_size) refl (page_small f.page_size);
+    kernel_addr = says_number (image_words folder x (OfVendor (record { front = f; tail = Some t })))
+        (codes "kernel-addr") f.kernel_addr refl (k.addresses addresses.Kernel f.kernel_addr refl);
+    ramdisk_addr = says_number (image_words folder x (OfVendor (record { front = f; tail = Some t })))
+        (codes "ramdisk-addr") f.ramdisk_addr refl (k.addresses addresses.Ramdisk f.ramdisk_addr refl);
+    tags_addr = says_number (image_words folder x (OfVendor (record { front = f; tail = Some t })))
+        (codes "tags-addr") f.tags_addr refl (k.addresses addresses.Tags f.tags_addr refl);
+    dtb_addr = says_number (image_words folder x (OfVendor (record { front = f; tail = Some t })))
+        (codes "dtb-addr") f.dtb_addr refl (k.addresses addresses.Dtb f.dtb_addr refl);
+    name = says_text (image_words folder x (OfVendor (record { front = f; tail = Some t }))) (codes "name")
+        (text_over f.name []) (text_of f.name) refl (alone f.name)
+        (over_bytes f.name [] (k.texts texts.Name f.name refl) none_are_bytes);
+    cmdline = says_text (image_words folder x (OfVendor (record { front = f; tail = Some t }))) (codes "cmdline")
+        (text_over f.cmdline []) (text_of f.cmdline) refl (alone f.cmdline)
+        (over_bytes f.cmdline [] (k.texts texts.Cmdline f.cmdline refl) none_are_bytes);
   }
 
-  vendor_says : (f : VendorFront) (o : Option Tail) → IsHeld (OfVendor (record { front = f; tail = o })) → SaysVendor (image_words folder x (OfVendor (record { front = f; tail = o }))) (vendor_fields_of (record { front = f; tail = o }))
+  vendor_says : (f : VendorFront) (o : Option Tail) → IsHeld (OfVendor (record { front = f; tail = o }))
+      → SaysVendor (image_words folder x (OfVendor (record { front = f; tail = o })))
+      (vendor_fields_of (record { front = f; tail = o }))
   vendor_says f None k = vendor_3 f k
   vendor_says f (Some t) k = vendor_4 f t k
 
@@ -300,7 +384,8 @@ module _ (folder x : List ℕ) where
 
 -- ---- what a header holds
 
-pub each_address : (P : Address → Type 0) → P addresses.Kernel → P addresses.Ramdisk → P addresses.Second → P addresses.Tags → P addresses.Dtb → (a : Address) → P a
+pub each_address : (P : Address → Type 0) → P addresses.Kernel → P addresses.Ramdisk → P addresses.Second
+    → P addresses.Tags → P addresses.Dtb → (a : Address) → P a
 each_address P kernel ramdisk second tags dtb addresses.Kernel = kernel
 each_address P kernel ramdisk second tags dtb addresses.Ramdisk = ramdisk
 each_address P kernel ramdisk second tags dtb addresses.Second = second

@@ -11,7 +11,8 @@ use Rattle.abt_sections.specs.Header.{Header, OfBoot, OfVendor, entry_of}
 use Rattle.law_boot.specs.Said.{without_front, first_of, value_of}
 use Rattle.cmd_common_texts.specs.Info as info
 use Rattle.cmd_common_texts.specs.Words.{escaped_in_name, fragment_option, name_bytes}
-use Rattle.cmd_common_texts.specs.Words.{board_option, board_word, board_words, entry_words, fragment_words, image_words}
+use Rattle.cmd_common_texts.specs.Words.{board_option, board_word, board_words, entry_words, fragment_words}
+use Rattle.cmd_common_texts.specs.Words.{image_words}
 use Rattle.cmd_common_texts.specs.Words.{is_month, option_front, os_option, os_text}
 
 pub record SaysNoSum (words : List (List ℕ)) : Type 0 where
@@ -93,7 +94,8 @@ none_both : (name : List ℕ) (a b : List (List ℕ)) → value_of name a ≡ No
     → value_of name (a ++ b) ≡ None
 none_both name a b e f = value_both name a b ∙ first_none (value_of name a) (value_of name b) e f
 
-module _ (name : List ℕ) (no_fragment : (t : List ℕ) → without_front (option_front name) (codes "--fragment=" ++ t) ≡ None)
+module _ (name : List ℕ) (no_fragment : (t : List ℕ)
+    → without_front (option_front name) (codes "--fragment=" ++ t) ≡ None)
     (no_board : (t : List ℕ) → without_front (option_front name) (codes "--board-id=" ++ t) ≡ None) where
   one_board : (left_out : Bool) (i k n : ℕ) → value_of name (cond left_out [] (board_option i k n ∷ [])) ≡ None
   one_board true i k n = refl

@@ -2,7 +2,8 @@
 use Rattle.std.proofs.Common.{◌≡◌, ◌≢◌, ℕ, ◌+◌, List, [], ◌∷◌, ◌++◌, Option, Some, None, sym, ◌∙◌, ap, subst}
 use Rattle.std.specs.Prelude.{Contains, unwrap_or, true, if◌then◌else◌}
 use Rattle.std.proofs.lemmas.List.Elements.{Contains-append_left, Contains-push}
-use Rattle.sys_disk.specs.World.{World, OpenFiles, Spares, OpensFile, Creates, OnlyAt, untouched, in_output, Ends, SparesRest, KeepsFile, ended}
+use Rattle.sys_disk.specs.World.{World, OpenFiles, Spares, OpensFile, Creates, OnlyAt, untouched, in_output, Ends}
+use Rattle.sys_disk.specs.World.{SparesRest, KeepsFile, ended}
 
 pub spares_trans : (f : ℕ) (a b c : World) → Spares f a b → Spares f b c → Spares f a c
 spares_trans f a b c s t = record {
@@ -15,7 +16,8 @@ pub fewer : (read read' : List ℕ) (f : ℕ) (path : List ℕ) (old new : World
     → OnlyAt read' path old new → OnlyAt read path old new
 fewer read read' f path old new e (untouched same) = untouched same
 fewer read read' f path old new e (in_output file at free spares) =
-    in_output file at (λ c. free (subst (λ r. Contains r file) (sym e) (Contains-append_left read (f ∷ []) file c))) spares
+    in_output file at (λ c. free (subst (λ r. Contains r file) (sym e) (Contains-append_left read (f ∷ []) file c)))
+    spares
 
 -- a file that is read is none that was written
 pub apart : (read read' : List ℕ) (f file : ℕ) → read' ≡ read ++ (f ∷ []) → ¬ Contains read' file → f ≢ file
@@ -33,7 +35,8 @@ pub only_written : (path : List ℕ) (h h' : OpenFiles) (a b c : World) → Crea
     → OnlyAt h.read path a c
 only_written path h h' a b c made rest =
     let after : Spares made.file b c = subst (λ k. SparesRest k.output b c) made.begins rest in
-    in_output made.file (after.paths path made.file made.there) made.free (spares_trans made.file a b c made.spares after)
+    in_output made.file (after.paths path made.file made.there) made.free
+    (spares_trans made.file a b c made.spares after)
 
 -- behind an input that was opened, the output alone was touched
 pub only_behind : (path input bytes : List ℕ) (h h' : OpenFiles) (a b c : World) → OpensFile a input bytes h h' → b ≡ a
@@ -50,7 +53,8 @@ kept_behind path input bytes h h' a b c opened same only =
     (subst (λ w. OnlyAt h'.read path w c) same only)
 
 -- an input and an output were opened, and the output brought to its end: it was synced if outputs are
-pub synced_behind : (path input bytes : List ℕ) (h h' h'' new : OpenFiles) (w a b : World) → OpensFile w input bytes h h'
+pub synced_behind : (path input bytes : List ℕ) (h h' h'' new : OpenFiles) (w a b : World)
+    → OpensFile w input bytes h h'
     → Creates path h' h'' a b → (n : ℕ) → new ≡ ended true n h'' → new.syncs ≡ h.syncs + (if h.is_synced then 1 else 0)
 synced_behind path input bytes h h' h'' new w a b opened made n done =
     ap (λ k. k.syncs) done ∙ ap (λ k. k.syncs + (if k.is_synced then 1 else 0)) made.begins

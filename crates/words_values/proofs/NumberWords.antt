@@ -1,5 +1,6 @@
 -- Words that write a number, taken apart.
-use Rattle.std.proofs.Common.{rules, ◌≡◌, ℕ, ◌<◌, ◌*◌, ◌^◌, List, [], ◌∷◌, ◌++◌, inl, inr, Option, Some, None, MatchOption, Bor, refl, sym, ap, subst, ◌∙◌, arith, length, length-append}
+use Rattle.std.proofs.Common.{rules, ◌≡◌, ℕ, ◌<◌, ◌*◌, ◌^◌, List, [], ◌∷◌, ◌++◌, inl, inr, Option, Some, None}
+use Rattle.std.proofs.Common.{MatchOption, Bor, refl, sym, ap, subst, ◌∙◌, arith, length, length-append}
 use Rattle.std.specs.Char.{digit_value}
 use Rattle.std.specs.Str.Parse.{AllDigits}
 use Rattle.words_values.specs.NumberWord.{IsDigits, IsScale, IsDecimal, IsNumber}
@@ -30,9 +31,12 @@ scaled_at : (count scale k : ℕ) → scale ≡ k → count * scale < 2 ^ 64 →
 scaled_at count scale k e l = subst (λ (j : ℕ). count * j < 2 ^ 64) e l
 
 pub small_count : (count letter scale : ℕ) → IsScale letter scale → count * scale < 2 ^ 64 → count < 2 ^ 64
-small_count count letter scale (inl h) l = let q : count * 1024 < 2 ^ 64 = scaled_at count scale 1024 h.1 l in omega arith
-small_count count letter scale (inr (inl h)) l = let q : count * 1048576 < 2 ^ 64 = scaled_at count scale 1048576 h.1 l in omega arith
-small_count count letter scale (inr (inr h)) l = let q : count * 1073741824 < 2 ^ 64 = scaled_at count scale 1073741824 h.1 l in omega arith
+small_count count letter scale (inl h) l = let q : count * 1024 < 2 ^ 64 = scaled_at count scale 1024 h.1 l in
+    omega arith
+small_count count letter scale (inr (inl h)) l = let q : count * 1048576 < 2 ^ 64 =
+    scaled_at count scale 1048576 h.1 l in omega arith
+small_count count letter scale (inr (inr h)) l = let q : count * 1073741824 < 2 ^ 64 =
+    scaled_at count scale 1073741824 h.1 l in omega arith
 
 -- ---- digits with a letter behind them
 
@@ -40,7 +44,8 @@ last_digit : (digits : List ℕ) (letter : ℕ) → AllDigits 10 (digits ++ (let
 last_digit [] letter h = h.0
 last_digit (c ∷ cs) letter h = last_digit cs letter h.1
 
-scaled_is_no_numeral : (word digits : List ℕ) (letter scale n : ℕ) → word ≡ digits ++ (letter ∷ []) → IsScale letter scale → IsDigits 10 word n → ⊥
+scaled_is_no_numeral : (word digits : List ℕ) (letter scale n : ℕ) → word ≡ digits ++ (letter ∷ [])
+    → IsScale letter scale → IsDigits 10 word n → ⊥
 scaled_is_no_numeral word digits letter scale n e s d =
     no_digit letter scale s (last_digit digits letter (subst (AllDigits 10) e d.digits.1))
 
@@ -60,7 +65,8 @@ pub record Counted (digits : List ℕ) (scale n : ℕ) : Type 0 where
   pub is_count : IsDigits 10 digits count
   pub value : count * scale ≡ n
 
-pub counted : (word digits : List ℕ) (letter scale n : ℕ) → word ≡ digits ++ (letter ∷ []) → IsScale letter scale → IsDecimal word n → Counted digits scale n
+pub counted : (word digits : List ℕ) (letter scale n : ℕ) → word ≡ digits ++ (letter ∷ []) → IsScale letter scale
+    → IsDecimal word n → Counted digits scale n
 counted word digits letter scale n e s (inl d) = absurd (scaled_is_no_numeral word digits letter scale n e s d)
 counted word digits letter scale n e s (inr p) =
     let c = same_cut p.digits digits p.letter letter (sym p.parts ∙ e) in
@@ -73,7 +79,8 @@ counted word digits letter scale n e s (inr p) =
 
 -- ---- `0x`
 
-hex_cut : (ds digits : List ℕ) (letter scale : ℕ) → ds ++ (letter ∷ []) ≡ 48 ∷ (120 ∷ digits) → AllDigits 10 ds → IsScale letter scale → ⊥
+hex_cut : (ds digits : List ℕ) (letter scale : ℕ) → ds ++ (letter ∷ []) ≡ 48 ∷ (120 ∷ digits) → AllDigits 10 ds
+    → IsScale letter scale → ⊥
 hex_cut [] digits letter scale e d s = omega (arith, ap length e)
 hex_cut (a ∷ []) digits letter scale e d (inl h) = let q : letter ≡ 120 = cc in omega arith
 hex_cut (a ∷ []) digits letter scale e d (inr (inl h)) = let q : letter ≡ 120 = cc in omega arith
@@ -88,14 +95,17 @@ hex_is_no_decimal word digits n e (inl d) =
     let h : AllDigits 10 (48 ∷ (120 ∷ digits)) = subst (AllDigits 10) e d.digits.1 in
     let r : digit_value 120 < 10 = h.1.0 in
     omega arith
-hex_is_no_decimal word digits n e (inr p) = hex_cut p.digits digits p.letter p.scale (sym p.parts ∙ e) p.is_count.digits.1 p.is_scale
+hex_is_no_decimal word digits n e (inr p) =
+    hex_cut p.digits digits p.letter p.scale (sym p.parts ∙ e) p.is_count.digits.1 p.is_scale
 
-pub hex_digits : (word a b : List ℕ) (n : ℕ) → word ≡ 48 ∷ (120 ∷ a) → word ≡ 48 ∷ (120 ∷ b) → IsDigits 16 a n → IsDigits 16 b n
+pub hex_digits : (word a b : List ℕ) (n : ℕ) → word ≡ 48 ∷ (120 ∷ a) → word ≡ 48 ∷ (120 ∷ b) → IsDigits 16 a n
+    → IsDigits 16 b n
 hex_digits word a b n e f d = let q : a ≡ b = cc in subst (λ (x : List ℕ). IsDigits 16 x n) q d
 
 -- ---- what is read
 
-pub accepted_some : (r : Option ℕ) (word digits : List ℕ) (letter scale n : ℕ) → word ≡ digits ++ (letter ∷ []) → IsScale letter scale → IsDecimal word n → n < 2 ^ 64
+pub accepted_some : (r : Option ℕ) (word digits : List ℕ) (letter scale n : ℕ) → word ≡ digits ++ (letter ∷ [])
+    → IsScale letter scale → IsDecimal word n → n < 2 ^ 64
     → ((m : ℕ) → IsDigits 10 digits m → m < 2 ^ 64 → r ≡ Some m) → (m : ℕ) × (r ≡ Some m) × (m * scale ≡ n)
 accepted_some r word digits letter scale n e s d l accepts =
     let c = counted word digits letter scale n e s d in
@@ -108,7 +118,8 @@ pub same_some : (a b : ℕ) → Some a ≡ Some b → a ≡ b
 same_some a b e = cc
 
 -- where a letter is not found at the front
-pub none_behind : (bs : List ℕ) (c : ℕ) (r : Option (Bor (List ℕ))) → MatchOption r ((rest : List ℕ) → bs ≡ c ∷ rest → ⊥) (λ x. bs ≡ c ∷ x.now) → r ≡ None
+pub none_behind : (bs : List ℕ) (c : ℕ) (r : Option (Bor (List ℕ))) → MatchOption r ((rest : List ℕ) → bs ≡ c ∷ rest
+    → ⊥) (λ x. bs ≡ c ∷ x.now) → r ≡ None
     → (rest : List ℕ) → bs ≡ c ∷ rest → ⊥
 none_behind bs c None h e = h
 none_behind bs c (Some x) h e = absurd (search (rules, e))

@@ -13,7 +13,8 @@ use Rattle.abt_flash.specs.Delivering.{Room, begun, blocks_behind, blocks_in_fir
 use Rattle.abt_flash.proofs.Left.{Behind, behind}
 use Rattle.abt_flash.proofs.Mended.{leaves_same}
 use Rattle.abt_flash.proofs.Onward.{up_on}
-use Rattle.abt_flash.proofs.Records.{begins_same, opening_begins, opening_counts, opening_early, opening_refuses, plan_early, plan_refuses, rest_begins, rest_early, rest_more, stop_mends}
+use Rattle.abt_flash.proofs.Records.{begins_same, opening_begins, opening_counts, opening_early, opening_refuses}
+use Rattle.abt_flash.proofs.Records.{plan_early, plan_refuses, rest_begins, rest_early, rest_more, stop_mends}
 use Rattle.abt_flash.proofs.Refusing.{rest_refuses}
 use Rattle.abt_flash.proofs.Staying.{blocks_grow, from_first}
 use Rattle.abt_flash.proofs.Summing.{on_any, on_ok, on_unsynced, least_of, behind_written}
@@ -53,7 +54,14 @@ returns-then-is_too_small-clause-delivered g c =
       granted = tt;
       refused = (o.granted, rw (count, size) refl, rw c.length.ensures.size at c.if-is_too_small.ensures);
       image = delivers_none _ tt (λ models. tt) (reads_none _ _ _)
-          (record { begun = 0; counted = refl; calls = omega arith; turns = omega arith; steps = omega arith; greatest = omega arith });
+          (record {
+            begun = 0;
+            counted = refl;
+            calls = omega arith;
+            turns = omega arith;
+            steps = omega arith;
+            greatest = omega arith;
+          });
       long = tt;
     }
 
@@ -67,17 +75,22 @@ returns-in-Err-plan_pieces-clause-delivered g c =
     let all = g.R.BlockRuns.list c.args.runs (g.S.Source.content c.args.source.now) in
     let count : c.blocks-2.result ≡ g.R.BlockRuns.count c.args.runs = rw o.runs at c.blocks-2.ensures in
     let size : c.block_size.result ≡ b = rw o.runs at c.block_size.ensures in
-    let room : Room c.args.limit b (g.R.BlockRuns.count c.args.runs) (g.P.Source.size c.args.partition.now) = record { each = o.granted; all = rw (count, size, c.length.ensures.size) at c.if-is_too_small.ensures } in
-    let same : length (segments c.in-Ok.cutter.limit (g.R.BlockRuns.size c.in-Ok.cutter.runs) (g.R.BlockRuns.list c.in-Ok.cutter.runs (g.S.Source.content c.args.source.now))) ≡ length (segments c.args.limit b all) = rw (o.runs, o.limit) refl in
+    let room : Room c.args.limit b (g.R.BlockRuns.count c.args.runs) (g.P.Source.size c.args.partition.now) =
+    record { each = o.granted; all = rw (count, size, c.length.ensures.size) at c.if-is_too_small.ensures } in
+    let same : length (segments c.in-Ok.cutter.limit (g.R.BlockRuns.size c.in-Ok.cutter.runs)
+    (g.R.BlockRuns.list c.in-Ok.cutter.runs (g.S.Source.content c.args.source.now))) ≡ length
+    (segments c.args.limit b all) = rw (o.runs, o.limit) refl in
     let calls = p.costs.calls in
     let turns = rw o.runs at p.costs.turns in
     record {
       granted = tt;
       refused = plan_refuses c.in-Err-plan_pieces.fault _ _ _ _ _ _ _ _ _ room p.refused;
       image = delivers_none c.in-Err-plan_pieces.fault (plan_early _ _ _ _ _ p.refused)
-          (λ models. rw (length-pieces c.args.limit b all) (rw (o.runs, o.limit) at (p.counted models))) (reads_err _ p.source) (record {
+          (λ models. rw (length-pieces c.args.limit b all) (rw (o.runs, o.limit) at (p.counted models)))
+          (reads_err _ p.source) (record {
             begun = p.costs.begun;
-            counted = begins_same _ _ _ _ _ (Err c.in-Err-plan_pieces.fault) (λ t. same ∙ sym (length-pieces c.args.limit b all)) p.costs.counted;
+            counted = begins_same _ _ _ _ _ (Err c.in-Err-plan_pieces.fault) (λ t. same
+                ∙ sym (length-pieces c.args.limit b all)) p.costs.counted;
             calls = omega (arith, calls, p.costs.read);
             turns = omega (arith, turns, p.costs.read);
             steps = omega (arith, p.costs.steps);
@@ -97,53 +110,84 @@ returns-clause-delivered g c =
     let all = g.R.BlockRuns.list c.args.runs (g.S.Source.content c.args.source.now) in
     let count : c.blocks-2.result ≡ g.R.BlockRuns.count c.args.runs = rw o.runs at c.blocks-2.ensures in
     let size : c.block_size.result ≡ b = rw o.runs at c.block_size.ensures in
-    let room : Room c.args.limit b (g.R.BlockRuns.count c.args.runs) (g.P.Source.size c.args.partition.now) = record { each = o.granted; all = rw (count, size, c.length.ensures.size) at c.if-is_too_small.ensures } in
+    let room : Room c.args.limit b (g.R.BlockRuns.count c.args.runs) (g.P.Source.size c.args.partition.now) =
+    record { each = o.granted; all = rw (count, size, c.length.ensures.size) at c.if-is_too_small.ensures } in
     record {
       granted = on_any c.deliver_rest.result room;
-      refused = rest_refuses c.deliver_rest.result _ _ _ _ _ _ _ _ _ _ (record { read = p.source.faults; write = le_refl _; spool = le_refl _; put = le_refl _ }) room (rw p.planned.1 at r.fails.stops);
+      refused = rest_refuses c.deliver_rest.result _ _ _ _ _ _ _ _ _ _
+          (record { read = p.source.faults; write = le_refl _; spool = le_refl _; put = le_refl _ }) room
+          (rw p.planned.1 at r.fails.stops);
       image = record {
         delivers = record {
           early = rest_early _ c.deliver_rest.result _ _ _ _ _ r.fails.stops;
           some = r.some;
-          counted = λ models. rw (length-pieces c.args.limit b all) (rw (p.runs, o.runs, p.source.content models, p.limit, o.limit, p.planned.1) at (r.counted models));
-          least = λ models. least_of c.args.limit b all c.args.before c.deliver_rest.result (rw (p.runs, o.runs, p.source.content models, p.limit, o.limit, p.planned.1) at (r.counted models));
+          counted = λ models. rw (length-pieces c.args.limit b all)
+              (rw (p.runs, o.runs, p.source.content models, p.limit, o.limit, p.planned.1) at (r.counted models));
+          least = λ models. least_of c.args.limit b all c.args.before c.deliver_rest.result
+              (rw (p.runs, o.runs, p.source.content models, p.limit, o.limit, p.planned.1) at (r.counted models));
           clean =
               let before = p.source.clean in
-              on_ok c.deliver_rest.result (λ e. record { read = e.read ∙ before; write = e.write; spool = e.spool; put = e.put }) r.fails.clean;
+              on_ok c.deliver_rest.result (λ e. record {
+                read = e.read ∙ before;
+                write = e.write;
+                spool = e.spool;
+                put = e.put;
+              }) r.fails.clean;
         };
         spool = record {
           room = r.spool.room;
           fits = rw (p.limit, o.limit) at r.spool.fits;
-          written = λ models. rw (p.runs, o.runs, p.source.content models, p.limit, o.limit, p.planned.1) at (r.spool.written models);
-          cuts = λ models. rw (p.runs, o.runs, p.source.content models, p.limit, o.limit, p.planned.1) at (r.spool.cuts models);
-          begins = λ forward models. rw (p.runs, o.runs, p.source.content models, p.limit, o.limit, p.planned.1) at (r.spool.begins forward models);
-          no_part = λ late models. rw (p.runs, o.runs, p.source.content models, p.limit, o.limit, p.planned.1) at (r.spool.no_part late models);
+          written = λ models. rw (p.runs, o.runs, p.source.content models, p.limit, o.limit, p.planned.1) at
+              (r.spool.written models);
+          cuts = λ models. rw (p.runs, o.runs, p.source.content models, p.limit, o.limit, p.planned.1) at
+              (r.spool.cuts models);
+          begins = λ forward models. rw (p.runs, o.runs, p.source.content models, p.limit, o.limit, p.planned.1) at
+              (r.spool.begins forward models);
+          no_part = λ late models. rw (p.runs, o.runs, p.source.content models, p.limit, o.limit, p.planned.1) at
+              (r.spool.no_part late models);
           ends = λ late. rw (p.runs, o.runs) at (r.spool.ends late);
           back = λ models spool. r.spool.back models spool;
         };
         partition =
-            let here : IsTrue g.S.Source.models → Behind c.args.limit b all c.args.before c.plan_pieces.new.cutter.start.block Between = λ models.
+            let here : IsTrue g.S.Source.models
+            → Behind c.args.limit b all c.args.before c.plan_pieces.new.cutter.start.block Between = λ models.
             let long = g.met.R.BlockRuns.long c.args.runs _ (c.requires.opened models) in
-            let within : c.plan_pieces.new.cutter.start.block ≤ g.R.BlockRuns.count c.args.runs = rw (p.runs, o.runs) at (g.met.R.BlockRuns.bounded c.plan_pieces.new.cutter.runs _ c.plan_pieces.new.cutter.sound.within) in
+            let within : c.plan_pieces.new.cutter.start.block ≤ g.R.BlockRuns.count c.args.runs =
+            rw (p.runs, o.runs) at
+            (g.met.R.BlockRuns.bounded c.plan_pieces.new.cutter.runs _ c.plan_pieces.new.cutter.sound.within) in
             let made = rw (o.runs, p.limit, o.limit, p.planned.0, p.planned.1) at (p.told models).cuts in
-            behind c.args.limit b all c.args.before c.plan_pieces.new.cutter.start.block Between made (inl refl) (omega (arith, long, within)) in
+            behind c.args.limit b all c.args.before c.plan_pieces.new.cutter.start.block Between made (inl refl)
+            (omega (arith, long, within)) in
             record {
               size = r.partition.size;
               unread = r.partition.unread;
               laid = λ models spool partition.
-                  let laid = rw (p.runs, o.runs, p.source.content models) at (r.partition.laid models spool partition) in
-                  on_ok c.deliver_rest.result (λ e. e ∙ ap (λ (n : ℕ). over (g.P.Source.content c.args.partition.now) (cells b (blocks_behind n all))) (sym (here models).blocks)) laid;
+                  let laid = rw (p.runs, o.runs, p.source.content models) at
+                  (r.partition.laid models spool partition) in
+                  on_ok c.deliver_rest.result (λ e. e
+                  ∙ ap (λ (n : ℕ). over (g.P.Source.content c.args.partition.now) (cells b (blocks_behind n all)))
+                  (sym (here models).blocks)) laid;
               laid_up_to = λ models spool partition.
-                  let laid = rw (p.runs, o.runs, p.source.content models, p.limit, o.limit) at (r.partition.laid_up_to models spool partition) in
-                  on_unsynced c.deliver_rest.result _ _ (λ j e. e ∙ ap (λ (n : ℕ). over (g.P.Source.content c.args.partition.now) (cells b (blocks_up_to n (blocks_in_first c.args.limit b all j) all))) (sym (here models).blocks)) laid;
+                  let laid = rw (p.runs, o.runs, p.source.content models, p.limit, o.limit) at
+                  (r.partition.laid_up_to models spool partition) in
+                  on_unsynced c.deliver_rest.result _ _ (λ j e. e
+                  ∙ ap (λ (n : ℕ). over (g.P.Source.content c.args.partition.now)
+                  (cells b (blocks_up_to n (blocks_in_first c.args.limit b all j) all)))
+                  (sym (here models).blocks)) laid;
               once = λ models spool.
                   let wrote = rw (p.runs, o.runs, p.source.content models) at (r.partition.blocks models spool) in
-                  let same : written_in (drop c.plan_pieces.new.cutter.start.block all) ≡ written_in (blocks_behind (blocks_in_first c.args.limit b all c.args.before) all) = sym (behind_written c.plan_pieces.new.cutter.start.block all) ∙ ap (λ (n : ℕ). written_in (blocks_behind n all)) (sym (here models).blocks) in
-                  on_ok c.deliver_rest.result (λ e. e ∙ ap (λ (k : ℕ). g.P.Partition.taken c.args.partition.now + b * k) same) wrote;
+                  let same : written_in (drop c.plan_pieces.new.cutter.start.block all) ≡ written_in
+                  (blocks_behind (blocks_in_first c.args.limit b all c.args.before) all) =
+                  sym (behind_written c.plan_pieces.new.cutter.start.block all)
+                  ∙ ap (λ (n : ℕ). written_in (blocks_behind n all)) (sym (here models).blocks) in
+                  on_ok c.deliver_rest.result (λ e. e
+                  ∙ ap (λ (k : ℕ). g.P.Partition.taken c.args.partition.now + b * k) same) wrote;
               synced = rw p.planned.1 at r.partition.synced;
               unsynced = r.partition.unsynced;
               settled = r.partition.settled;
-              lasts = λ partition. on_ok c.deliver_rest.result (λ none q may. leaves_same (moment_of (g.P.Partition.past c.deliver_rest.new.partition) (g.P.Source.content c.deliver_rest.new.partition)) q none may) (r.partition.settled partition);
+              lasts = λ partition. on_ok c.deliver_rest.result
+                  (λ none q may. leaves_same (moment_of (g.P.Partition.past c.deliver_rest.new.partition)
+                  (g.P.Source.content c.deliver_rest.new.partition)) q none may) (r.partition.settled partition);
             };
         mends = λ models spool partition.
             let good = g.met.R.BlockRuns.are_blocks c.args.runs _ (c.requires.opened models) in
@@ -153,17 +197,27 @@ returns-clause-delivered g c =
             let some : 0 < b = omega (arith, sized.0) in
             let size : IsBlockSize b = (some, sized.1, omega (arith, granted, small)) in
             let long = g.met.R.BlockRuns.long c.args.runs _ (c.requires.opened models) in
-            let within : c.plan_pieces.new.cutter.start.block ≤ g.R.BlockRuns.count c.args.runs = rw (p.runs, o.runs) at (g.met.R.BlockRuns.bounded c.plan_pieces.new.cutter.runs _ c.plan_pieces.new.cutter.sound.within) in
+            let within : c.plan_pieces.new.cutter.start.block ≤ g.R.BlockRuns.count c.args.runs =
+            rw (p.runs, o.runs) at
+            (g.met.R.BlockRuns.bounded c.plan_pieces.new.cutter.runs _ c.plan_pieces.new.cutter.sound.within) in
             let made = rw (o.runs, p.limit, o.limit, p.planned.0, p.planned.1) at (p.told models).cuts in
-            let here = behind c.args.limit b all c.args.before c.plan_pieces.new.cutter.start.block Between made (inl refl) (omega (arith, long, within)) in
-            let stays = rw (p.runs, o.runs, p.source.content models, p.limit, o.limit, p.planned.1) at (r.stays models spool partition) in
+            let here = behind c.args.limit b all c.args.before c.plan_pieces.new.cutter.start.block Between made
+            (inl refl) (omega (arith, long, within)) in
+            let stays = rw (p.runs, o.runs, p.source.content models, p.limit, o.limit, p.planned.1) at
+            (r.stays models spool partition) in
             let laid = rw (p.runs, o.runs, p.source.content models) at (r.partition.laid models spool partition) in
             record {
               stays = stays;
-              stopped = stop_mends _ _ _ _ c.deliver_rest.result _ _ _ _ _ _ _ _ (rw p.planned.1 at r.fails.stops) (rw p.planned.1 at r.partition.synced) stays;
-              mends = on_ok c.deliver_rest.result (λ e q done le m. e ∙ mended b all q (g.P.Source.content c.args.partition.now) (blocks_in_first c.args.limit b all done) c.plan_pieces.new.cutter.start.block size good m (rw (← here.blocks) (blocks_grow c.args.limit b all c.args.before done le))) laid;
+              stopped = stop_mends _ _ _ _ c.deliver_rest.result _ _ _ _ _ _ _ _ (rw p.planned.1 at r.fails.stops)
+                  (rw p.planned.1 at r.partition.synced) stays;
+              mends = on_ok c.deliver_rest.result (λ e q done le m. e
+                  ∙ mended b all q (g.P.Source.content c.args.partition.now)
+                  (blocks_in_first c.args.limit b all done) c.plan_pieces.new.cutter.start.block size good m
+                  (rw (← here.blocks) (blocks_grow c.args.limit b all c.args.before done le))) laid;
             };
-        mendable = λ models spool partition first none. from_first _ _ _ _ _ first none (rw (p.runs, o.runs, p.source.content models, p.limit, o.limit, p.planned.1) at (r.stays models spool partition));
+        mendable = λ models spool partition first none. from_first _ _ _ _ _ first none
+            (rw (p.runs, o.runs, p.source.content models, p.limit, o.limit, p.planned.1) at
+            (r.stays models spool partition));
         source = reads_then p.source r.source;
         costs =
             let stops = rw p.planned.1 at r.fails.stops in
@@ -194,14 +248,19 @@ returns-clause-reads g c models =
     let b = g.R.BlockRuns.size runs in
     let all = g.R.BlockRuns.list runs (g.S.Source.content c.args.source.now) in
     let long = g.met.R.BlockRuns.long runs _ (c.requires.opened models) in
-    let inside : g.R.BlockRuns.within runs c.plan_pieces.new.cutter.start = rw (p.runs, o.runs) at c.plan_pieces.new.cutter.sound.within in
+    let inside : g.R.BlockRuns.within runs c.plan_pieces.new.cutter.start =
+    rw (p.runs, o.runs) at c.plan_pieces.new.cutter.sound.within in
     let within = g.met.R.BlockRuns.bounded runs _ inside in
     let made = rw (o.runs, p.limit, o.limit, p.planned.0, p.planned.1) at (p.told models).cuts in
-    let here = behind c.args.limit b all c.args.before c.plan_pieces.new.cutter.start.block Between made (inl refl) (omega (arith, long, within)) in
+    let here = behind c.args.limit b all c.args.before c.plan_pieces.new.cutter.start.block Between made (inl refl)
+    (omega (arith, long, within)) in
     let charged = rw o.runs at p.charged in
     let spent = rw (p.runs, o.runs) at (r.spent models) in
-    read_for c.deliver_rest.result (g.R.BlockRuns.within runs) (g.R.BlockRuns.charge runs) (g.W.Way.before runs) (g.R.BlockRuns.one runs) (g.W.Way.each runs) (g.W.Way.last runs) (g.W.Way.all runs) _ c.args.before (g.S.Source.given c.args.source.now) (g.S.Source.given c.deliver_rest.new.source)
-    c.plan_pieces.new.cutter.start (g.S.Source.given c.plan_pieces.new.source) (sym here.blocks) inside (omega (arith, charged)) spent
+    read_for c.deliver_rest.result (g.R.BlockRuns.within runs) (g.R.BlockRuns.charge runs) (g.W.Way.before runs)
+    (g.R.BlockRuns.one runs) (g.W.Way.each runs) (g.W.Way.last runs) (g.W.Way.all runs) _ c.args.before
+    (g.S.Source.given c.args.source.now) (g.S.Source.given c.deliver_rest.new.source)
+    c.plan_pieces.new.cutter.start (g.S.Source.given c.plan_pieces.new.source) (sym here.blocks) inside
+    (omega (arith, charged)) spent
 
 pub returns-clause-few : goal.returns-clause-few
 returns-clause-few g c =
@@ -233,7 +292,8 @@ deliver_rest-requires-clause-ready g c =
     }
 
 pub deliver_rest-requires-clause-capacity : goal.deliver_rest-requires-clause-capacity
-deliver_rest-requires-clause-capacity g c = rw (c.in-Ok-plan_pieces.ensures.limit, c.in-Ok.ensures.limit) c.requires.capacity
+deliver_rest-requires-clause-capacity g c =
+    rw (c.in-Ok-plan_pieces.ensures.limit, c.in-Ok.ensures.limit) c.requires.capacity
 
 pub deliver_rest-requires-clause-room : goal.deliver_rest-requires-clause-room
 deliver_rest-requires-clause-room g c =
@@ -252,5 +312,6 @@ returns-clause-grown g c =
 
 pub overflow_mul-need : goal.overflow_mul-need
 overflow_mul-need g c =
-    let less = mul-lt c.blocks-2.result c.block_size.result 4294967296 4294967296 c.blocks-2.type_inv c.block_size.type_inv in
+    let less = mul-lt c.blocks-2.result c.block_size.result 4294967296 4294967296 c.blocks-2.type_inv
+    c.block_size.type_inv in
     omega (arith, less)

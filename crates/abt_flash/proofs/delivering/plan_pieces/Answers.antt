@@ -8,7 +8,8 @@ use Rattle.abt_flash.specs.Causes.{planning_fault}
 use Rattle.abt_flash.specs.Delivering.{CountsTo}
 use Rattle.abt_flash.specs.Going.{PlanRefused, IsBehindPiece}
 use Rattle.abt_flash.proofs.Left.{none_left, one_left}
-use Rattle.abt_flash.proofs.Onward.{charged_more, few_more, now_done, passed_stands, still_between, unbroken_more, words_more, words_most, words_one}
+use Rattle.abt_flash.proofs.Onward.{charged_more, few_more, now_done, passed_stands, still_between, unbroken_more}
+use Rattle.abt_flash.proofs.Onward.{words_more, words_most, words_one}
 use Rattle.abt_flash.proofs.Records.{plan_begins}
 use Rattle.abt_flash.proofs.delivering.plan_pieces.Goals as goal
 
@@ -24,7 +25,8 @@ pieces-preserved g c =
     let s = c.pieces.cutter.start.block in
     let next = c.skip_piece.new.self.start.block in
     let st = c.skip_piece.new.self.stage in
-    let is : c.pieces.cutter.stage ≡ Between = still_between _ _ _ _ i.unbroken (sym c.more.ensures ∙ c.if-not-more.false) in
+    let is : c.pieces.cutter.stage ≡ Between =
+    still_between _ _ _ _ i.unbroken (sym c.more.ensures ∙ c.if-not-more.false) in
     let passing = rw c.in-Ok-Some.field-0-is at o.passed in
     let p = passing.piece in
     let made : c.skip_piece.new.self.made ≡ c.pieces.cutter.made + 1 = p.one_more in
@@ -47,7 +49,10 @@ pieces-preserved g c =
       given = omega (arith, i.given, e.costs.given);
       charged =
           let more = rw i.runs at passing.charges.charged in
-          charged_more (given c.args.source.now) (given c.pieces.source) (given c.skip_piece.new.source) (charge c.args.cutter.now.start) (charge c.pieces.cutter.start) (charge c.skip_piece.new.self.start) c.pieces.cutter.made c.skip_piece.new.self.made one made more i.charged;
+          charged_more (given c.args.source.now) (given c.pieces.source) (given c.skip_piece.new.source)
+          (charge c.args.cutter.now.start) (charge c.pieces.cutter.start)
+          (charge c.skip_piece.new.self.start) c.pieces.cutter.made c.skip_piece.new.self.made one made more
+          i.charged;
       calls = omega (arith, e.costs.calls, e.costs.given, i.calls, made);
       turns =
           let more = rw (i.runs, p.ends) at passing.words in
@@ -79,24 +84,47 @@ returns-then-are_planned-clause-costs g c =
     let i = c.pieces.invariant in
     let all : c.args.before ≤ c.pieces.cutter.made = rw c.if-are_planned.true at c.are_planned.ensures in
     let same : c.pieces.cutter.made ≡ c.args.before = omega (arith, all, i.planned) in
-    let words = words_most (g.R.BlockRuns.one c.args.cutter.now.runs) (g.R.BlockRuns.count c.args.cutter.now.runs) c.pieces.cutter.start.block c.pieces.cutter.stage i.unbroken.stands in
-    record { begun = c.args.before; counted = refl; calls = omega (arith, i.calls, same); turns = omega (arith, i.turns, words, same, c.tick.ensures.turns); read = i.given; steps = omega (arith, i.steps, c.tick.ensures.steps); greatest = omega (arith, i.greatest, c.tick.ensures.greatest) }
+    let words = words_most (g.R.BlockRuns.one c.args.cutter.now.runs)
+    (g.R.BlockRuns.count c.args.cutter.now.runs) c.pieces.cutter.start.block c.pieces.cutter.stage
+    i.unbroken.stands in
+    record {
+      begun = c.args.before;
+      counted = refl;
+      calls = omega (arith, i.calls, same);
+      turns = omega (arith, i.turns, words, same, c.tick.ensures.turns);
+      read = i.given;
+      steps =
+          omega (arith, i.steps, c.tick.ensures.steps);
+      greatest = omega (arith, i.greatest, c.tick.ensures.greatest);
+    }
 
 pub returns-then-not-more-clause-costs : goal.returns-then-not-more-clause-costs
 returns-then-not-more-clause-costs g c =
     let i = c.pieces.invariant in
-    let words = words_most (g.R.BlockRuns.one c.args.cutter.now.runs) (g.R.BlockRuns.count c.args.cutter.now.runs) c.pieces.cutter.start.block c.pieces.cutter.stage i.unbroken.stands in
+    let words = words_most (g.R.BlockRuns.one c.args.cutter.now.runs)
+    (g.R.BlockRuns.count c.args.cutter.now.runs) c.pieces.cutter.start.block c.pieces.cutter.stage
+    i.unbroken.stands in
     let calls = i.calls in
     let turns = i.turns in
-    record { begun = c.pieces.cutter.made; counted = refl; calls = omega (arith, calls); turns = omega (arith, turns, words); read = i.given; steps = omega (arith, i.steps, c.tick.ensures.steps); greatest = omega (arith, i.greatest, c.tick.ensures.greatest) }
+    record {
+      begun = c.pieces.cutter.made;
+      counted = refl;
+      calls = omega (arith, calls);
+      turns = omega (arith, turns, words);
+      read = i.given;
+      steps = omega (arith, i.steps, c.tick.ensures.steps);
+      greatest = omega (arith, i.greatest, c.tick.ensures.greatest);
+    }
 
 pub returns-in-Err-clause-costs : goal.returns-in-Err-clause-costs
 returns-in-Err-clause-costs g c =
     let i = c.pieces.invariant in
     let b = g.R.BlockRuns.size c.args.cutter.now.runs in
     let all = g.R.BlockRuns.list c.args.cutter.now.runs (g.S.Source.content c.args.source.now) in
-    let is : c.pieces.cutter.stage ≡ Between = still_between _ _ _ _ i.unbroken (sym c.more.ensures ∙ c.if-not-more.false) in
-    let words = words_one (g.R.BlockRuns.one c.args.cutter.now.runs) (g.R.BlockRuns.count c.args.cutter.now.runs) c.pieces.cutter.start.block c.pieces.cutter.stage is in
+    let is : c.pieces.cutter.stage ≡ Between =
+    still_between _ _ _ _ i.unbroken (sym c.more.ensures ∙ c.if-not-more.false) in
+    let words = words_one (g.R.BlockRuns.one c.args.cutter.now.runs)
+    (g.R.BlockRuns.count c.args.cutter.now.runs) c.pieces.cutter.start.block c.pieces.cutter.stage is in
     let calls = i.calls in
     let turns = i.turns in
     let more_calls = c.skip_piece.ensures.costs.calls in
@@ -105,7 +133,9 @@ returns-in-Err-clause-costs g c =
     let tick = c.tick.ensures.turns in
     record {
       begun = c.pieces.cutter.made;
-      counted = rw c.not_planned.ensures (plan_begins c.in-Err.fault _ _ _ _ i.planned (λ models. let z = one_left c.args.cutter.now.limit b all c.pieces.cutter.made c.pieces.cutter.start.block (rw (i.limit, is) at (i.told models).cuts) in omega (arith, z)));
+      counted = rw c.not_planned.ensures (plan_begins c.in-Err.fault _ _ _ _ i.planned
+          (λ models. let z = one_left c.args.cutter.now.limit b all c.pieces.cutter.made c.pieces.cutter.start.block
+          (rw (i.limit, is) at (i.told models).cuts) in omega (arith, z)));
       calls = omega (arith, calls, more_calls, given, i.given);
       turns = omega (arith, turns, words, more_turns, given, tick, i.given);
       read = omega (arith, i.given, given);
@@ -115,7 +145,8 @@ returns-in-Err-clause-costs g c =
 
 -- ---- why planning is refused
 
-plan_refused : (e : PieceFault) (before : ℕ) (models : Bool) (r r' : ℕ) → CutCause e models r r' 0 0 → PlanRefused (planning_fault e) before models r r'
+plan_refused : (e : PieceFault) (before : ℕ) (models : Bool) (r r' : ℕ) → CutCause e models r r' 0 0
+    → PlanRefused (planning_fault e) before models r r'
 plan_refused (cuts.Read d) before models r r' h = h
 plan_refused (cuts.Write d) before models r r' h = absurd (omega (arith, h))
 plan_refused cuts.SourceChanged before models r r' h = h
@@ -134,9 +165,11 @@ plan_counts (cuts.LimitTooSmall n) before k = tt
 pub returns-in-Err-clause-refused : goal.returns-in-Err-clause-refused
 returns-in-Err-clause-refused g c =
     let i = c.pieces.invariant in
-    let is : c.pieces.cutter.stage ≡ Between = still_between _ _ _ _ i.unbroken (sym c.more.ensures ∙ c.if-not-more.false) in
+    let is : c.pieces.cutter.stage ≡ Between =
+    still_between _ _ _ _ i.unbroken (sym c.more.ensures ∙ c.if-not-more.false) in
     let faults = i.faults in
-    let cause : CutCause c.in-Err.fault g.S.Source.models (g.S.Source.read_faults c.pieces.source) (g.S.Source.read_faults c.skip_piece.new.source) 0 0 = elim c.in-Err.ensures.cause [
+    let cause : CutCause c.in-Err.fault g.S.Source.models (g.S.Source.read_faults c.pieces.source)
+    (g.S.Source.read_faults c.skip_piece.new.source) 0 0 = elim c.in-Err.ensures.cause [
       | inl failed ↦ absurd (let z = sym is ∙ failed in cc)
       | inr h ↦ h
     ] in
@@ -156,7 +189,8 @@ returns-then-not-more-clause-counted g c models =
     let b = g.R.BlockRuns.size c.args.cutter.now.runs in
     let all = g.R.BlockRuns.list c.args.cutter.now.runs (g.S.Source.content c.args.source.now) in
     let is : c.pieces.cutter.stage ≡ Done = now_done _ _ _ _ i.unbroken (sym c.more.ensures ∙ c.if-not-more.true) in
-    none_left c.args.cutter.now.limit b all c.pieces.cutter.made c.pieces.cutter.start.block (rw (i.limit, is) at (i.told models).cuts)
+    none_left c.args.cutter.now.limit b all c.pieces.cutter.made c.pieces.cutter.start.block
+    (rw (i.limit, is) at (i.told models).cuts)
 
 pub returns-then-are_planned-clause-inside : goal.returns-then-are_planned-clause-inside
 returns-then-are_planned-clause-inside g c =
@@ -179,7 +213,15 @@ pub returns-in-Err-clause-source : goal.returns-in-Err-clause-source
 returns-in-Err-clause-source g c =
     let i = c.pieces.invariant in
     let s = c.skip_piece.ensures in
-    record { content = λ models. s.left.reads.content models ∙ i.kept models; size = λ models. s.left.reads.size models ∙ i.size models; frame = s.left.reads.frame ∙ i.frame; faults = omega (arith, i.faults, s.left.reads.faults); clean = tt }
+    record {
+      content = λ models. s.left.reads.content models ∙ i.kept models;
+      size = λ models.
+          s.left.reads.size models ∙ i.size models;
+      frame = s.left.reads.frame ∙ i.frame;
+      faults =
+          omega (arith, i.faults, s.left.reads.faults);
+      clean = tt;
+    }
 
 -- ---- what planning a piece asks for
 

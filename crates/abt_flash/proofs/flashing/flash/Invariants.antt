@@ -20,9 +20,12 @@ invariant-steps g l =
       present : IsTrue g.I.Input.models → got l.input - got l.fn.input ≤ length (remaining l.fn.input);
       rest : IsTrue g.I.Input.models → remaining l.input ≡ drop (got l.input - got l.fn.input) (remaining l.fn.input);
       goes : Goes l.machine.stage l.machine.walk.phase;
-      told : IsTrue g.I.Input.models → Come g.P.Source.models l.machine.walk (got l.input - got l.fn.input) (remaining l.fn.input) (g.P.Source.size l.fn.partition) (past l.fn.partition) (past l.partition) (content l.fn.partition) (content l.partition) (took l.fn.partition) (took l.partition) l.machine.laid;
+      told : IsTrue g.I.Input.models → Come g.P.Source.models l.machine.walk (got l.input - got l.fn.input)
+          (remaining l.fn.input) (g.P.Source.size l.fn.partition) (past l.fn.partition) (past l.partition)
+          (content l.fn.partition) (content l.partition) (took l.fn.partition) (took l.partition) l.machine.laid;
       fresh : IsFresh l.machine.walk → l.partition ≡ l.fn.partition;
-      measured : l.machine.walk.phase ≡ phases.Body → 0 < l.machine.walk.index → need_of l.machine.walk ≤ g.P.Source.size l.fn.partition;
+      measured : l.machine.walk.phase ≡ phases.Body → 0 < l.machine.walk.index
+          → need_of l.machine.walk ≤ g.P.Source.size l.fn.partition;
       synced : (past l.partition).synced ≡ (past l.fn.partition).synced;
       unread : LeavesUnread g.P.Source l.fn.partition l.partition;
       taken : took l.fn.partition ≤ took l.partition;
@@ -30,8 +33,12 @@ invariant-steps g l =
       read_faults : g.I.Input.read_faults l.input ≡ g.I.Input.read_faults l.fn.input;
       put_faults : g.P.Partition.put_faults l.partition ≡ g.P.Partition.put_faults l.fn.partition;
       syncs : g.P.Partition.syncs l.partition ≡ g.P.Partition.syncs l.fn.partition;
-      calls : g.I.Input.reads l.input + g.P.Partition.puts l.partition + g.P.Partition.syncs l.partition + 2 * idle l.machine.walk + 8 * got l.fn.input + 8 * took l.fn.partition ≤ g.I.Input.reads l.fn.input + g.P.Partition.puts l.fn.partition + g.P.Partition.syncs l.fn.partition + 8 * got l.input + 8 * took l.partition;
-      turns : l.m.turns.number + 3 * idle l.machine.walk + 8 * got l.fn.input + 8 * took l.fn.partition ≤ l.fn.m.turns.number + 8 * got l.input + 8 * took l.partition;
+      calls : g.I.Input.reads l.input + g.P.Partition.puts l.partition + g.P.Partition.syncs l.partition + 2
+          * idle l.machine.walk + 8 * got l.fn.input + 8 * took l.fn.partition ≤ g.I.Input.reads l.fn.input
+          + g.P.Partition.puts l.fn.partition + g.P.Partition.syncs l.fn.partition + 8 * got l.input + 8
+          * took l.partition;
+      turns : l.m.turns.number + 3 * idle l.machine.walk + 8 * got l.fn.input + 8 * took l.fn.partition
+          ≤ l.fn.m.turns.number + 8 * got l.input + 8 * took l.partition;
       steps : got l.input + 65580 * l.fn.m.steps.number ≤ got l.fn.input + 65580 * l.m.steps.number;
       greatest : l.m.greatest.number ≤ max l.fn.m.greatest.number 65580;
     }

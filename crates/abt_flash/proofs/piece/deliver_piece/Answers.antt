@@ -1,4 +1,5 @@
-use Rattle.std.proofs.Common.{◌≡◌, ℕ, ◌+◌, ◌≤◌, ◌<◌, ◌^◌, ◌++◌, ◌∷◌, List, length, refl, sym, ap, subst, ◌∙◌, arith, length-append}
+use Rattle.std.proofs.Common.{◌≡◌, ℕ, ◌+◌, ◌≤◌, ◌<◌, ◌^◌, ◌++◌, ◌∷◌, List, length, refl, sym, ap, subst, ◌∙◌, arith}
+use Rattle.std.proofs.Common.{length-append}
 use Rattle.std.specs.Prelude.{IsTrue}
 use Rattle.abt_io.specs.Frame.{ReadFrame, WriteFrame, last_cut}
 use Rattle.abt_sparse.specs.Block.{IsBlockSize, cells, over}
@@ -11,19 +12,25 @@ use Rattle.abt_pieces.proofs.Cutting.{piece_is}
 use Rattle.abt_flash.specs.Going.{blocks_at}
 use Rattle.abt_pieces.specs.Fault.{CutCause}
 use Rattle.abt_pieces.specs.Image.{Appended, IsPlainImage}
-use Rattle.abt_flash.proofs.PieceFlash.{Reads, cut_stops, image_reads, piece_reads, given_reads, all_flashed, only_devices, flash_stops, laid_stops, unsynced_stops, laid_cut, unsynced_cut, on_flashed, behind_clear, all_read, touched_reads}
+use Rattle.abt_flash.proofs.PieceFlash.{Reads, cut_stops, image_reads, piece_reads, given_reads, all_flashed}
+use Rattle.abt_flash.proofs.PieceFlash.{only_devices, flash_stops, laid_stops, unsynced_stops, laid_cut, unsynced_cut}
+use Rattle.abt_flash.proofs.PieceFlash.{on_flashed, behind_clear, all_read, touched_reads}
 use Rattle.abt_flash.proofs.Spooled.{fits_one}
 use Rattle.abt_flash.proofs.Ways.{ends_late, ends_none, ends_one, no_part_late, no_part_none, no_part_one}
 use Rattle.abt_flash.proofs.Still.{begins_same, fits_same, goes_behind, touches_none}
 use Rattle.abt_flash.proofs.piece.deliver_piece.Goals as goal
-use Rattle.abt_flash.proofs.piece.deliver_piece.Goals.{After-flash, After-write_piece, In-Err-write_piece, In-Ok-write_piece}
+use Rattle.abt_flash.proofs.piece.deliver_piece.Goals.{After-flash, After-write_piece, In-Err-write_piece}
+use Rattle.abt_flash.proofs.piece.deliver_piece.Goals.{In-Ok-write_piece}
 use Rattle.abt_flash.proofs.piece.deliver_piece.Given.{Over}
 use Rattle.abt_io.proofs.Lent.{reads_none, reads_then, reads_err, reads_ok}
 
 -- ---- the piece that was written
 
 -- its segment
-segment : (g : Over) (c : In-Ok-write_piece g) → IsTrue g.S.Source.models → FirstPiece (g.R.BlockRuns.size c.args.cutter.now.runs) (g.R.BlockRuns.list c.args.cutter.now.runs (g.S.Source.content c.args.source.now)) c.args.cutter.now.limit c.args.cutter.now.start.block c.write_piece.new.cutter.start.block
+segment : (g : Over) (c : In-Ok-write_piece g) → IsTrue g.S.Source.models
+    → FirstPiece (g.R.BlockRuns.size c.args.cutter.now.runs) (g.R.BlockRuns.list c.args.cutter.now.runs
+    (g.S.Source.content c.args.source.now)) c.args.cutter.now.limit c.args.cutter.now.start.block
+    c.write_piece.new.cutter.start.block
 segment g c models =
     let o = c.in-Ok-write_piece.ensures in
     let p = o.made.piece in
@@ -31,7 +38,11 @@ segment g c models =
     rw (p.begins, p.ends) at h.greatest
 
 -- its bytes
-bytes : (g : Over) (c : In-Ok-write_piece g) → IsTrue g.S.Source.models → g.L.Output.written c.write_piece.new.spool ≡ g.L.Output.written c.args.spool.now ++ piece (g.R.BlockRuns.size c.args.cutter.now.runs) (frame (g.R.BlockRuns.list c.args.cutter.now.runs (g.S.Source.content c.args.source.now)) c.args.cutter.now.start.block c.write_piece.new.cutter.start.block)
+bytes : (g : Over) (c : In-Ok-write_piece g) → IsTrue g.S.Source.models
+    → g.L.Output.written c.write_piece.new.spool ≡ g.L.Output.written c.args.spool.now
+    ++ piece (g.R.BlockRuns.size c.args.cutter.now.runs)
+    (frame (g.R.BlockRuns.list c.args.cutter.now.runs (g.S.Source.content c.args.source.now))
+    c.args.cutter.now.start.block c.write_piece.new.cutter.start.block)
 bytes g c models =
     let b = g.R.BlockRuns.size c.args.cutter.now.runs in
     let l = g.R.BlockRuns.list c.args.cutter.now.runs (g.S.Source.content c.args.source.now) in
@@ -39,12 +50,20 @@ bytes g c models =
     let p = o.made.piece in
     let h = o.laid models in
     h.written
-    ∙ ap (λ (x : List ℕ). x ++ piece b (frame l c.in-Ok-write_piece.field-0.first c.in-Ok-write_piece.field-0.past)) c.clear.ensures.written
-    ∙ ap (λ (s : ℕ). g.L.Output.written c.args.spool.now ++ piece b (frame l s c.in-Ok-write_piece.field-0.past)) p.begins
+    ∙ ap (λ (x : List ℕ). x ++ piece b (frame l c.in-Ok-write_piece.field-0.first c.in-Ok-write_piece.field-0.past))
+    c.clear.ensures.written
+    ∙ ap (λ (s : ℕ). g.L.Output.written c.args.spool.now
+    ++ piece b (frame l s c.in-Ok-write_piece.field-0.past)) p.begins
     ∙ ap (λ (e : ℕ). g.L.Output.written c.args.spool.now ++ piece b (frame l c.args.cutter.now.start.block e)) p.ends
 
 -- what it reads as
-reads : (g : Over) (c : In-Ok-write_piece g) → IsTrue g.S.Source.models → Reads (g.R.BlockRuns.size c.args.cutter.now.runs) (g.R.BlockRuns.count c.args.cutter.now.runs) (frame (g.R.BlockRuns.list c.args.cutter.now.runs (g.S.Source.content c.args.source.now)) c.args.cutter.now.start.block c.write_piece.new.cutter.start.block) (piece (g.R.BlockRuns.size c.args.cutter.now.runs) (frame (g.R.BlockRuns.list c.args.cutter.now.runs (g.S.Source.content c.args.source.now)) c.args.cutter.now.start.block c.write_piece.new.cutter.start.block))
+reads : (g : Over) (c : In-Ok-write_piece g) → IsTrue g.S.Source.models
+    → Reads (g.R.BlockRuns.size c.args.cutter.now.runs) (g.R.BlockRuns.count c.args.cutter.now.runs)
+    (frame (g.R.BlockRuns.list c.args.cutter.now.runs (g.S.Source.content c.args.source.now))
+    c.args.cutter.now.start.block c.write_piece.new.cutter.start.block)
+    (piece (g.R.BlockRuns.size c.args.cutter.now.runs)
+    (frame (g.R.BlockRuns.list c.args.cutter.now.runs (g.S.Source.content c.args.source.now))
+    c.args.cutter.now.start.block c.write_piece.new.cutter.start.block))
 reads g c models =
     let b = g.R.BlockRuns.size c.args.cutter.now.runs in
     let l = g.R.BlockRuns.list c.args.cutter.now.runs (g.S.Source.content c.args.source.now) in
@@ -53,50 +72,79 @@ reads g c models =
     let good = g.met.R.BlockRuns.are_blocks c.args.cutter.now.runs _ (c.requires.ready.opened models) in
     let granted : 64 + b ≤ c.args.cutter.now.limit = c.args.cutter.now.sound.granted in
     let small : c.args.cutter.now.limit < 2 ^ 32 = omega arith in
-    let few : length l < 2 ^ 32 = let z : g.R.BlockRuns.count c.args.cutter.now.runs < 2 ^ 32 = omega arith in omega (arith, long, z) in
+    let few : length l < 2 ^ 32 = let z : g.R.BlockRuns.count c.args.cutter.now.runs < 2 ^ 32 = omega arith in
+    omega (arith, long, z) in
     let some : 0 < b = omega (arith, sized.0) in
     let size : IsBlockSize b = (some, sized.1, omega (arith, granted, small)) in
-    subst (λ (n : ℕ). Reads b n (frame l c.args.cutter.now.start.block c.write_piece.new.cutter.start.block) (piece b (frame l c.args.cutter.now.start.block c.write_piece.new.cutter.start.block))) long
-    (piece_reads c.args.cutter.now.limit b l c.args.cutter.now.start.block c.write_piece.new.cutter.start.block size good few small (segment g c models))
+    subst (λ (n : ℕ). Reads b n (frame l c.args.cutter.now.start.block c.write_piece.new.cutter.start.block)
+    (piece b (frame l c.args.cutter.now.start.block c.write_piece.new.cutter.start.block))) long
+    (piece_reads c.args.cutter.now.limit b l c.args.cutter.now.start.block c.write_piece.new.cutter.start.block size
+    good few small (segment g c models))
 
 -- what the spool gives
-comes : (g : Over) (c : In-Ok-write_piece g) → IsTrue g.S.Source.models → IsTrue g.L.Input.models → g.L.Input.remaining c.write_piece.new.spool ≡ piece (g.R.BlockRuns.size c.args.cutter.now.runs) (frame (g.R.BlockRuns.list c.args.cutter.now.runs (g.S.Source.content c.args.source.now)) c.args.cutter.now.start.block c.write_piece.new.cutter.start.block)
+comes : (g : Over) (c : In-Ok-write_piece g) → IsTrue g.S.Source.models → IsTrue g.L.Input.models
+    → g.L.Input.remaining c.write_piece.new.spool ≡ piece (g.R.BlockRuns.size c.args.cutter.now.runs)
+    (frame (g.R.BlockRuns.list c.args.cutter.now.runs (g.S.Source.content c.args.source.now))
+    c.args.cutter.now.start.block c.write_piece.new.cutter.start.block)
 comes g c models spool =
-    let same = sym (g.met.L.Spool.writing c.write_piece.new.spool) ∙ c.write_piece.ensures.writes.frame ∙ g.met.L.Spool.writing c.clear.new.spool in
-    let gone : g.L.Spool.gone c.write_piece.new.spool ≡ length (g.L.Output.written c.args.spool.now) = ap (λ (f : WriteFrame). f.gone) same ∙ c.in-Ok.ensures.gone in
+    let same = sym (g.met.L.Spool.writing c.write_piece.new.spool) ∙ c.write_piece.ensures.writes.frame
+    ∙ g.met.L.Spool.writing c.clear.new.spool in
+    let gone : g.L.Spool.gone c.write_piece.new.spool ≡ length (g.L.Output.written c.args.spool.now) =
+    ap (λ (f : WriteFrame). f.gone) same ∙ c.in-Ok.ensures.gone in
     g.met.L.Spool.held c.write_piece.new.spool spool ∙ behind_clear _ _ _ _ (bytes g c models) gone
 
 -- what it touches
-touches : (g : Over) (c : In-Ok-write_piece g) → IsTrue g.S.Source.models → IsTrue g.L.Input.models → given (outcome (g.L.Input.remaining c.write_piece.new.spool)) ≡ cells (g.R.BlockRuns.size c.args.cutter.now.runs) (blocks_at c.args.cutter.now.limit (g.R.BlockRuns.size c.args.cutter.now.runs) (g.R.BlockRuns.list c.args.cutter.now.runs (g.S.Source.content c.args.source.now)) c.args.cutter.now.start.block)
-touches g c models spool = touched_reads _ _ _ _ _ _ _ _ (comes g c models spool) (reads g c models) (segment g c models)
+touches : (g : Over) (c : In-Ok-write_piece g) → IsTrue g.S.Source.models → IsTrue g.L.Input.models
+    → given (outcome (g.L.Input.remaining c.write_piece.new.spool)) ≡ cells
+    (g.R.BlockRuns.size c.args.cutter.now.runs)
+    (blocks_at c.args.cutter.now.limit (g.R.BlockRuns.size c.args.cutter.now.runs)
+    (g.R.BlockRuns.list c.args.cutter.now.runs (g.S.Source.content c.args.source.now)) c.args.cutter.now.start.block)
+touches g c models spool = touched_reads _ _ _ _ _ _ _ _ (comes g c models spool) (reads g c models)
+    (segment g c models)
 
 -- ---- the spool after a flash
 
-after_written : (g : Over) (c : After-flash g) → g.L.Output.written c.flash.new.input ≡ g.L.Output.written c.write_piece.new.spool
-after_written g c = ap (λ (f : ReadFrame). f.written) (sym (g.met.L.Spool.reading c.flash.new.input) ∙ c.flash.ensures.frame ∙ g.met.L.Spool.reading c.write_piece.new.spool)
+after_written : (g : Over) (c : After-flash g)
+    → g.L.Output.written c.flash.new.input ≡ g.L.Output.written c.write_piece.new.spool
+after_written g c = ap (λ (f : ReadFrame). f.written) (sym (g.met.L.Spool.reading c.flash.new.input)
+    ∙ c.flash.ensures.frame ∙ g.met.L.Spool.reading c.write_piece.new.spool)
 
-after_cuts : (g : Over) (c : After-flash g) → g.L.Spool.cuts c.flash.new.input ≡ length (g.L.Output.written c.args.spool.now) ∷ g.L.Spool.cuts c.args.spool.now
+after_cuts : (g : Over) (c : After-flash g)
+    → g.L.Spool.cuts c.flash.new.input ≡ length (g.L.Output.written c.args.spool.now) ∷ g.L.Spool.cuts c.args.spool.now
 after_cuts g c =
-    ap (λ (f : ReadFrame). f.cuts) (sym (g.met.L.Spool.reading c.flash.new.input) ∙ c.flash.ensures.frame ∙ g.met.L.Spool.reading c.write_piece.new.spool)
-    ∙ ap (λ (f : WriteFrame). f.cuts) (sym (g.met.L.Spool.writing c.write_piece.new.spool) ∙ c.write_piece.ensures.writes.frame ∙ g.met.L.Spool.writing c.clear.new.spool)
+    ap (λ (f : ReadFrame). f.cuts) (sym (g.met.L.Spool.reading c.flash.new.input) ∙ c.flash.ensures.frame
+    ∙ g.met.L.Spool.reading c.write_piece.new.spool)
+    ∙ ap (λ (f : WriteFrame). f.cuts) (sym (g.met.L.Spool.writing c.write_piece.new.spool)
+    ∙ c.write_piece.ensures.writes.frame ∙ g.met.L.Spool.writing c.clear.new.spool)
     ∙ c.in-Ok.ensures.cut
 
 -- the spool's clears, once it was cleared and written to
-wrote_cuts : (g : Over) (c : After-write_piece g) → g.L.Spool.cuts c.write_piece.new.spool ≡ length (g.L.Output.written c.args.spool.now) ∷ g.L.Spool.cuts c.args.spool.now
-wrote_cuts g c = ap (λ (f : WriteFrame). f.cuts) (sym (g.met.L.Spool.writing c.write_piece.new.spool) ∙ c.write_piece.ensures.writes.frame ∙ g.met.L.Spool.writing c.clear.new.spool) ∙ c.in-Ok.ensures.cut
+wrote_cuts : (g : Over) (c : After-write_piece g)
+    → g.L.Spool.cuts c.write_piece.new.spool ≡ length (g.L.Output.written c.args.spool.now)
+    ∷ g.L.Spool.cuts c.args.spool.now
+wrote_cuts g c = ap (λ (f : WriteFrame). f.cuts) (sym (g.met.L.Spool.writing c.write_piece.new.spool)
+    ∙ c.write_piece.ensures.writes.frame ∙ g.met.L.Spool.writing c.clear.new.spool) ∙ c.in-Ok.ensures.cut
 
 -- ---- the same of every source
 
-image : (g : Over) (c : In-Ok-write_piece g) → Appended (IsPlainImage (g.R.BlockRuns.size c.args.cutter.now.runs) (g.R.BlockRuns.count c.args.cutter.now.runs)) (g.L.Output.written c.clear.new.spool) (g.L.Output.written c.write_piece.new.spool)
+image : (g : Over) (c : In-Ok-write_piece g)
+    → Appended (IsPlainImage (g.R.BlockRuns.size c.args.cutter.now.runs) (g.R.BlockRuns.count c.args.cutter.now.runs))
+    (g.L.Output.written c.clear.new.spool) (g.L.Output.written c.write_piece.new.spool)
 image g c = c.in-Ok-write_piece.ensures.made.image
 
-gives : (g : Over) (c : In-Ok-write_piece g) → IsTrue g.L.Input.models → g.L.Input.remaining c.write_piece.new.spool ≡ (image g c).wrote
+gives : (g : Over) (c : In-Ok-write_piece g) → IsTrue g.L.Input.models
+    → g.L.Input.remaining c.write_piece.new.spool ≡ (image g c).wrote
 gives g c spool =
-    let same = sym (g.met.L.Spool.writing c.write_piece.new.spool) ∙ c.write_piece.ensures.writes.frame ∙ g.met.L.Spool.writing c.clear.new.spool in
-    let gone : g.L.Spool.gone c.write_piece.new.spool ≡ length (g.L.Output.written c.clear.new.spool) = ap (λ (f : WriteFrame). f.gone) same ∙ c.in-Ok.ensures.gone ∙ ap length (sym c.clear.ensures.written) in
+    let same = sym (g.met.L.Spool.writing c.write_piece.new.spool) ∙ c.write_piece.ensures.writes.frame
+    ∙ g.met.L.Spool.writing c.clear.new.spool in
+    let gone : g.L.Spool.gone c.write_piece.new.spool ≡ length (g.L.Output.written c.clear.new.spool) =
+    ap (λ (f : WriteFrame). f.gone) same ∙ c.in-Ok.ensures.gone ∙ ap length (sym c.clear.ensures.written) in
     g.met.L.Spool.held c.write_piece.new.spool spool ∙ behind_clear _ _ _ _ (image g c).behind gone
 
-cut_cause : (g : Over) (c : In-Err-write_piece g) → CutCause c.in-Err-write_piece.fault g.S.Source.models (g.S.Source.read_faults c.args.source.now) (g.S.Source.read_faults c.write_piece.new.source) (g.L.Output.write_faults c.clear.new.spool) (g.L.Output.write_faults c.write_piece.new.spool)
+cut_cause : (g : Over) (c : In-Err-write_piece g)
+    → CutCause c.in-Err-write_piece.fault g.S.Source.models (g.S.Source.read_faults c.args.source.now)
+    (g.S.Source.read_faults c.write_piece.new.source) (g.L.Output.write_faults c.clear.new.spool)
+    (g.L.Output.write_faults c.write_piece.new.spool)
 cut_cause g c = c.in-Err-write_piece.ensures.cause
 
 -- ---- where the spool was not cleared
@@ -137,12 +185,15 @@ returns-in-Err-clause-fails g c = record {
 pub returns-in-Err-write_piece-clause-spool : goal.returns-in-Err-write_piece-clause-spool
 returns-in-Err-write_piece-clause-spool g c = record {
   capacity =
-      let writing = sym (g.met.L.Spool.writing c.write_piece.new.spool) ∙ c.write_piece.ensures.writes.frame ∙ g.met.L.Spool.writing c.clear.new.spool in
+      let writing = sym (g.met.L.Spool.writing c.write_piece.new.spool) ∙ c.write_piece.ensures.writes.frame
+      ∙ g.met.L.Spool.writing c.clear.new.spool in
       ap (λ (f : WriteFrame). f.capacity) writing ∙ c.clear.ensures.size;
   fits =
-      let cuts = ap (λ (f : WriteFrame). f.cuts) (sym (g.met.L.Spool.writing c.write_piece.new.spool) ∙ c.write_piece.ensures.writes.frame ∙ g.met.L.Spool.writing c.clear.new.spool) ∙ c.in-Ok.ensures.cut in
+      let cuts = ap (λ (f : WriteFrame). f.cuts) (sym (g.met.L.Spool.writing c.write_piece.new.spool)
+      ∙ c.write_piece.ensures.writes.frame ∙ g.met.L.Spool.writing c.clear.new.spool) ∙ c.in-Ok.ensures.cut in
       let same = ap length c.clear.ensures.written in
-      fits_one _ _ _ _ _ cuts (omega (arith, same, c.write_piece.ensures.writes.least)) (omega (arith, same, c.write_piece.ensures.within));
+      fits_one _ _ _ _ _ cuts (omega (arith, same, c.write_piece.ensures.writes.least))
+      (omega (arith, same, c.write_piece.ensures.within));
   cut = tt;
   written = λ models. tt;
   begins = λ forward models. rw c.clear.ensures.written at (c.write_piece.ensures.begins forward models);
@@ -172,48 +223,61 @@ returns-in-Err-write_piece-clause-partition g c = record {
 }
 
 pub returns-in-Err-write_piece-clause-greatest_end : goal.returns-in-Err-write_piece-clause-greatest_end
-returns-in-Err-write_piece-clause-greatest_end g c models = rw (c.not_written.ensures) (laid_cut c.in-Err-write_piece.fault _)
+returns-in-Err-write_piece-clause-greatest_end g c models =
+    rw (c.not_written.ensures) (laid_cut c.in-Err-write_piece.fault _)
 
 -- ---- where it was flashed
 
 pub returns-in-Ok-flash-clause-spool : goal.returns-in-Ok-flash-clause-spool
 returns-in-Ok-flash-clause-spool g c = record {
   capacity =
-      let writing = sym (g.met.L.Spool.writing c.write_piece.new.spool) ∙ c.write_piece.ensures.writes.frame ∙ g.met.L.Spool.writing c.clear.new.spool in
-      let reading = sym (g.met.L.Spool.reading c.flash.new.input) ∙ c.flash.ensures.frame ∙ g.met.L.Spool.reading c.write_piece.new.spool in
+      let writing = sym (g.met.L.Spool.writing c.write_piece.new.spool) ∙ c.write_piece.ensures.writes.frame
+      ∙ g.met.L.Spool.writing c.clear.new.spool in
+      let reading = sym (g.met.L.Spool.reading c.flash.new.input) ∙ c.flash.ensures.frame
+      ∙ g.met.L.Spool.reading c.write_piece.new.spool in
       ap (λ (f : ReadFrame). f.capacity) reading ∙ ap (λ (f : WriteFrame). f.capacity) writing ∙ c.clear.ensures.size;
   fits =
       let k = (goal.at.returns-in-Ok-flash-clause-spool g c).After-flash in
       let same = ap length c.clear.ensures.written in
       let long = ap length (after_written g k) in
-      fits_one _ _ _ _ _ (after_cuts g k) (omega (arith, same, long, c.write_piece.ensures.writes.least)) (omega (arith, same, long, c.write_piece.ensures.within));
+      fits_one _ _ _ _ _ (after_cuts g k) (omega (arith, same, long, c.write_piece.ensures.writes.least))
+      (omega (arith, same, long, c.write_piece.ensures.within));
   cut = after_cuts g ((goal.at.returns-in-Ok-flash-clause-spool g c).After-flash);
   written = λ models.
       let k = (goal.at.returns-in-Ok-flash-clause-spool g c).After-flash in
       let s = (goal.at.returns-in-Ok-flash-clause-spool g c).In-Ok-write_piece in
-      after_written g k ∙ bytes g s models ∙ ap (λ (x : List ℕ). g.L.Output.written c.args.spool.now ++ x) (piece_is _ _ _ _ _ (segment g s models));
+      after_written g k ∙ bytes g s models ∙ ap (λ (x : List ℕ). g.L.Output.written c.args.spool.now
+      ++ x) (piece_is _ _ _ _ _ (segment g s models));
   begins = λ forward models.
       let k = (goal.at.returns-in-Ok-flash-clause-spool g c).After-flash in
       rw (← after_written g k) at (rw c.clear.ensures.written at (c.write_piece.ensures.begins forward models));
   no_part = λ late models.
       let k = (goal.at.returns-in-Ok-flash-clause-spool g c).After-flash in
       let s = (goal.at.returns-in-Ok-flash-clause-spool g c).In-Ok-write_piece in
-      no_part_one _ _ (g.L.Spool.cuts c.flash.new.input) _ (after_written g k ∙ bytes g s models ∙ ap (λ (x : List ℕ). g.L.Output.written c.args.spool.now ++ x) (piece_is _ _ _ _ _ (segment g s models)));
+      no_part_one _ _ (g.L.Spool.cuts c.flash.new.input) _ (after_written g k ∙ bytes g s models
+      ∙ ap (λ (x : List ℕ). g.L.Output.written c.args.spool.now ++ x) (piece_is _ _ _ _ _ (segment g s models)));
   ends = λ late.
       let k = (goal.at.returns-in-Ok-flash-clause-spool g c).After-flash in
       let s = (goal.at.returns-in-Ok-flash-clause-spool g c).In-Ok-write_piece in
-      let h : Appended (IsPlainImage (g.R.BlockRuns.size c.args.cutter.now.runs) (g.R.BlockRuns.count c.args.cutter.now.runs)) (g.L.Output.written c.args.spool.now) (g.L.Output.written c.flash.new.input) = rw (after_written g k) (rw c.clear.ensures.written at (image g s)) in
+      let h : Appended (IsPlainImage (g.R.BlockRuns.size c.args.cutter.now.runs)
+      (g.R.BlockRuns.count c.args.cutter.now.runs)) (g.L.Output.written c.args.spool.now)
+      (g.L.Output.written c.flash.new.input) = rw (after_written g k) (rw c.clear.ensures.written at (image g s)) in
       ends_one _ _ _ _ _ _ _ (after_cuts g k) h;
   back = λ models spool.
       let k = (goal.at.returns-in-Ok-flash-clause-spool g c).After-flash in
       let s = (goal.at.returns-in-Ok-flash-clause-spool g c).In-Ok-write_piece in
-      let none = (all_flashed _ _ _ _ _ _ _ _ _ (reads g s models) (rw (comes g s models spool) at (c.in-Ok-flash.ensures.flashes spool))).none in
+      let none = (all_flashed _ _ _ _ _ _ _ _ _ (reads g s models)
+      (rw (comes g s models spool) at (c.in-Ok-flash.ensures.flashes spool))).none in
       let read = all_read _ _ _ (c.flash.ensures.read.present spool) (c.flash.ensures.read.rest spool) none in
       let long = ap length (comes g s models spool) in
       let wrote = ap length (bytes g s models) in
-      let sum = length-append (g.L.Output.written c.args.spool.now) (piece (g.R.BlockRuns.size c.args.cutter.now.runs) (frame (g.R.BlockRuns.list c.args.cutter.now.runs (g.S.Source.content c.args.source.now)) c.args.cutter.now.start.block c.write_piece.new.cutter.start.block)) in
+      let sum = length-append (g.L.Output.written c.args.spool.now) (piece (g.R.BlockRuns.size c.args.cutter.now.runs)
+      (frame (g.R.BlockRuns.list c.args.cutter.now.runs (g.S.Source.content c.args.source.now))
+      c.args.cutter.now.start.block c.write_piece.new.cutter.start.block)) in
       let same = ap length (after_written g k) in
-      let gives : g.L.Input.given c.write_piece.new.spool ≡ g.L.Input.given c.clear.new.spool = ap (λ (f : WriteFrame). f.given) (sym (g.met.L.Spool.writing c.write_piece.new.spool) ∙ c.write_piece.ensures.writes.frame ∙ g.met.L.Spool.writing c.clear.new.spool) in
+      let gives : g.L.Input.given c.write_piece.new.spool ≡ g.L.Input.given c.clear.new.spool =
+      ap (λ (f : WriteFrame). f.given) (sym (g.met.L.Spool.writing c.write_piece.new.spool)
+      ∙ c.write_piece.ensures.writes.frame ∙ g.met.L.Spool.writing c.clear.new.spool) in
       omega (arith, read, long, wrote, sum, same, gives, c.clear.ensures.given, c.flash.ensures.grows.given);
 }
 
@@ -226,13 +290,16 @@ returns-in-Ok-flash-clause-partition g c = record {
       c.in-Ok-flash.ensures.holds spool partition
       ∙ ap (λ (x : List ℕ). over (g.P.Source.content c.args.partition.now) (given (outcome x))) (comes g s models spool)
       ∙ ap (over (g.P.Source.content c.args.partition.now)) (given_reads _ _ _ _ (reads g s models));
-  touches = λ models spool partition. rw (touches g ((goal.at.returns-in-Ok-flash-clause-partition g c).In-Ok-write_piece) models spool) at (c.flash.ensures.touches spool partition);
+  touches = λ models spool partition.
+      rw (touches g ((goal.at.returns-in-Ok-flash-clause-partition g c).In-Ok-write_piece) models spool) at
+      (c.flash.ensures.touches spool partition);
   settled = c.in-Ok-flash.ensures.syncs.settled;
   synced = c.in-Ok-flash.ensures.syncs.synced;
   unsynced = c.in-Ok-flash.ensures.syncs.refused;
   blocks = λ models spool.
       let s = (goal.at.returns-in-Ok-flash-clause-partition g c).In-Ok-write_piece in
-      (all_flashed _ _ _ _ _ _ _ _ _ (reads g s models) (rw (comes g s models spool) at (c.in-Ok-flash.ensures.flashes spool))).taken;
+      (all_flashed _ _ _ _ _ _ _ _ _ (reads g s models)
+      (rw (comes g s models spool) at (c.in-Ok-flash.ensures.flashes spool))).taken;
 }
 
 -- ---- where flashing it failed
@@ -240,14 +307,17 @@ returns-in-Ok-flash-clause-partition g c = record {
 pub returns-in-Err-flash-clause-spool : goal.returns-in-Err-flash-clause-spool
 returns-in-Err-flash-clause-spool g c = record {
   capacity =
-      let writing = sym (g.met.L.Spool.writing c.write_piece.new.spool) ∙ c.write_piece.ensures.writes.frame ∙ g.met.L.Spool.writing c.clear.new.spool in
-      let reading = sym (g.met.L.Spool.reading c.flash.new.input) ∙ c.flash.ensures.frame ∙ g.met.L.Spool.reading c.write_piece.new.spool in
+      let writing = sym (g.met.L.Spool.writing c.write_piece.new.spool) ∙ c.write_piece.ensures.writes.frame
+      ∙ g.met.L.Spool.writing c.clear.new.spool in
+      let reading = sym (g.met.L.Spool.reading c.flash.new.input) ∙ c.flash.ensures.frame
+      ∙ g.met.L.Spool.reading c.write_piece.new.spool in
       ap (λ (f : ReadFrame). f.capacity) reading ∙ ap (λ (f : WriteFrame). f.capacity) writing ∙ c.clear.ensures.size;
   fits =
       let k = (goal.at.returns-in-Err-flash-clause-spool g c).After-flash in
       let same = ap length c.clear.ensures.written in
       let long = ap length (after_written g k) in
-      fits_one _ _ _ _ _ (after_cuts g k) (omega (arith, same, long, c.write_piece.ensures.writes.least)) (omega (arith, same, long, c.write_piece.ensures.within));
+      fits_one _ _ _ _ _ (after_cuts g k) (omega (arith, same, long, c.write_piece.ensures.writes.least))
+      (omega (arith, same, long, c.write_piece.ensures.within));
   cut = rw c.not_flashed.ensures tt;
   written = λ models. rw c.not_flashed.ensures tt;
   begins = λ forward models.
@@ -256,11 +326,14 @@ returns-in-Err-flash-clause-spool g c = record {
   no_part = λ late models.
       let k = (goal.at.returns-in-Err-flash-clause-spool g c).After-flash in
       let s = (goal.at.returns-in-Err-flash-clause-spool g c).In-Ok-write_piece in
-      no_part_one _ _ (g.L.Spool.cuts c.flash.new.input) _ (after_written g k ∙ bytes g s models ∙ ap (λ (x : List ℕ). g.L.Output.written c.args.spool.now ++ x) (piece_is _ _ _ _ _ (segment g s models)));
+      no_part_one _ _ (g.L.Spool.cuts c.flash.new.input) _ (after_written g k ∙ bytes g s models
+      ∙ ap (λ (x : List ℕ). g.L.Output.written c.args.spool.now ++ x) (piece_is _ _ _ _ _ (segment g s models)));
   ends = λ late.
       let k = (goal.at.returns-in-Err-flash-clause-spool g c).After-flash in
       let s = (goal.at.returns-in-Err-flash-clause-spool g c).In-Ok-write_piece in
-      let h : Appended (IsPlainImage (g.R.BlockRuns.size c.args.cutter.now.runs) (g.R.BlockRuns.count c.args.cutter.now.runs)) (g.L.Output.written c.args.spool.now) (g.L.Output.written c.flash.new.input) = rw (after_written g k) (rw c.clear.ensures.written at (image g s)) in
+      let h : Appended (IsPlainImage (g.R.BlockRuns.size c.args.cutter.now.runs)
+      (g.R.BlockRuns.count c.args.cutter.now.runs)) (g.L.Output.written c.args.spool.now)
+      (g.L.Output.written c.flash.new.input) = rw (after_written g k) (rw c.clear.ensures.written at (image g s)) in
       ends_one _ _ _ _ _ _ _ (after_cuts g k) h;
   back = λ models spool. rw c.not_flashed.ensures tt;
 }
@@ -271,8 +344,12 @@ returns-in-Err-flash-clause-partition g c = record {
   unread = (c.flash.ensures.unread.reads, c.flash.ensures.unread.given);
   laid = λ models spool partition.
       let s = (goal.at.returns-in-Err-flash-clause-partition g c).In-Ok-write_piece in
-      rw (c.not_flashed.ensures) (laid_stops c.in-Err-flash.fault _ _ _ _ (c.in-Err-flash.ensures.holds spool partition) (ap (λ (x : List ℕ). given (outcome x)) (comes g s models spool) ∙ given_reads _ _ _ _ (reads g s models)));
-  touches = λ models spool partition. rw (touches g ((goal.at.returns-in-Err-flash-clause-partition g c).In-Ok-write_piece) models spool) at (c.flash.ensures.touches spool partition);
+      rw (c.not_flashed.ensures)
+      (laid_stops c.in-Err-flash.fault _ _ _ _ (c.in-Err-flash.ensures.holds spool partition)
+      (ap (λ (x : List ℕ). given (outcome x)) (comes g s models spool) ∙ given_reads _ _ _ _ (reads g s models)));
+  touches = λ models spool partition.
+      rw (touches g ((goal.at.returns-in-Err-flash-clause-partition g c).In-Ok-write_piece) models spool) at
+      (c.flash.ensures.touches spool partition);
   settled = λ models. rw c.not_flashed.ensures tt;
   synced = rw c.not_flashed.ensures c.in-Err-flash.ensures.syncs.synced;
   unsynced =
@@ -283,7 +360,9 @@ returns-in-Err-flash-clause-partition g c = record {
 }
 
 pub returns-in-Err-flash-clause-greatest_end : goal.returns-in-Err-flash-clause-greatest_end
-returns-in-Err-flash-clause-greatest_end g c models = rw (c.not_flashed.ensures) (on_flashed _ _ (segment g ((goal.at.returns-in-Err-flash-clause-greatest_end g c).In-Ok-write_piece) models))
+returns-in-Err-flash-clause-greatest_end g c models =
+    rw (c.not_flashed.ensures)
+    (on_flashed _ _ (segment g ((goal.at.returns-in-Err-flash-clause-greatest_end g c).In-Ok-write_piece) models))
 
 pub returns-in-Err-flash-clause-fails : goal.returns-in-Err-flash-clause-fails
 returns-in-Err-flash-clause-fails g c = record {
@@ -291,23 +370,38 @@ returns-in-Err-flash-clause-fails g c = record {
       record {
         read = c.write_piece.ensures.source.faults;
         write =
-            let writing = sym (g.met.L.Spool.writing c.write_piece.new.spool) ∙ c.write_piece.ensures.writes.frame ∙ g.met.L.Spool.writing c.clear.new.spool in
-            let reading = sym (g.met.L.Spool.reading c.flash.new.input) ∙ c.flash.ensures.frame ∙ g.met.L.Spool.reading c.write_piece.new.spool in
+            let writing = sym (g.met.L.Spool.writing c.write_piece.new.spool) ∙ c.write_piece.ensures.writes.frame
+            ∙ g.met.L.Spool.writing c.clear.new.spool in
+            let reading = sym (g.met.L.Spool.reading c.flash.new.input) ∙ c.flash.ensures.frame
+            ∙ g.met.L.Spool.reading c.write_piece.new.spool in
             let cleared = ap (λ (f : WriteFrame). f.clear_faults) writing in
             let wrote = ap (λ (f : ReadFrame). f.write_faults) reading in
             let clears = ap (λ (f : ReadFrame). f.clear_faults) reading in
-            omega (arith, cleared, wrote, clears, c.write_piece.ensures.writes.faults, c.clear.ensures.write_faults, c.clear.ensures.clear_faults);
+            omega (
+              arith,
+              cleared,
+              wrote,
+              clears,
+              c.write_piece.ensures.writes.faults,
+              c.clear.ensures.write_faults,
+              c.clear.ensures.clear_faults,
+            );
         spool =
-            let writing = sym (g.met.L.Spool.writing c.write_piece.new.spool) ∙ c.write_piece.ensures.writes.frame ∙ g.met.L.Spool.writing c.clear.new.spool in
+            let writing = sym (g.met.L.Spool.writing c.write_piece.new.spool) ∙ c.write_piece.ensures.writes.frame
+            ∙ g.met.L.Spool.writing c.clear.new.spool in
             let failed = ap (λ (f : WriteFrame). f.read_faults) writing in
             omega (arith, failed, c.clear.ensures.read_faults, c.flash.ensures.grows.read_faults);
         put = c.flash.ensures.grows.put_faults;
       };
   cause =
       let s = (goal.at.returns-in-Err-flash-clause-fails g c).In-Ok-write_piece in
-      let same : g.L.Input.read_faults c.write_piece.new.spool ≡ g.L.Input.read_faults c.clear.new.spool = ap (λ (f : WriteFrame). f.read_faults) (sym (g.met.L.Spool.writing c.write_piece.new.spool) ∙ c.write_piece.ensures.writes.frame ∙ g.met.L.Spool.writing c.clear.new.spool) in
-      rw (c.not_flashed.ensures) (flash_stops _ _ _ _ _ _ (omega (arith, same, c.clear.ensures.read_faults)) c.in-Err-flash.ensures.cause
-      (λ spool. only_devices _ _ _ _ _ _ _ _ _ (image_reads _ _ _ (image g s).is) c.requires.room (rw (gives g s spool) at (c.in-Err-flash.ensures.flashes spool))));
+      let same : g.L.Input.read_faults c.write_piece.new.spool ≡ g.L.Input.read_faults c.clear.new.spool =
+      ap (λ (f : WriteFrame). f.read_faults) (sym (g.met.L.Spool.writing c.write_piece.new.spool)
+      ∙ c.write_piece.ensures.writes.frame ∙ g.met.L.Spool.writing c.clear.new.spool) in
+      rw (c.not_flashed.ensures)
+      (flash_stops _ _ _ _ _ _ (omega (arith, same, c.clear.ensures.read_faults)) c.in-Err-flash.ensures.cause
+      (λ spool. only_devices _ _ _ _ _ _ _ _ _ (image_reads _ _ _ (image g s).is) c.requires.room
+      (rw (gives g s spool) at (c.in-Err-flash.ensures.flashes spool))));
   clean = rw c.not_flashed.ensures tt;
 }
 
@@ -319,14 +413,25 @@ returns-in-Ok-flash-clause-fails g c = record {
       record {
         read = c.write_piece.ensures.source.faults;
         write =
-            let writing = sym (g.met.L.Spool.writing c.write_piece.new.spool) ∙ c.write_piece.ensures.writes.frame ∙ g.met.L.Spool.writing c.clear.new.spool in
-            let reading = sym (g.met.L.Spool.reading c.flash.new.input) ∙ c.flash.ensures.frame ∙ g.met.L.Spool.reading c.write_piece.new.spool in
+            let writing = sym (g.met.L.Spool.writing c.write_piece.new.spool) ∙ c.write_piece.ensures.writes.frame
+            ∙ g.met.L.Spool.writing c.clear.new.spool in
+            let reading = sym (g.met.L.Spool.reading c.flash.new.input) ∙ c.flash.ensures.frame
+            ∙ g.met.L.Spool.reading c.write_piece.new.spool in
             let cleared = ap (λ (f : WriteFrame). f.clear_faults) writing in
             let wrote = ap (λ (f : ReadFrame). f.write_faults) reading in
             let clears = ap (λ (f : ReadFrame). f.clear_faults) reading in
-            omega (arith, cleared, wrote, clears, c.write_piece.ensures.writes.faults, c.clear.ensures.write_faults, c.clear.ensures.clear_faults);
+            omega (
+              arith,
+              cleared,
+              wrote,
+              clears,
+              c.write_piece.ensures.writes.faults,
+              c.clear.ensures.write_faults,
+              c.clear.ensures.clear_faults,
+            );
         spool =
-            let writing = sym (g.met.L.Spool.writing c.write_piece.new.spool) ∙ c.write_piece.ensures.writes.frame ∙ g.met.L.Spool.writing c.clear.new.spool in
+            let writing = sym (g.met.L.Spool.writing c.write_piece.new.spool) ∙ c.write_piece.ensures.writes.frame
+            ∙ g.met.L.Spool.writing c.clear.new.spool in
             let failed = ap (λ (f : WriteFrame). f.read_faults) writing in
             omega (arith, failed, c.clear.ensures.read_faults, c.flash.ensures.grows.read_faults);
         put = c.flash.ensures.grows.put_faults;
@@ -335,10 +440,13 @@ returns-in-Ok-flash-clause-fails g c = record {
   clean =
       let o = c.in-Ok-write_piece.ensures in
       let f = c.in-Ok-flash.ensures.cause in
-      let writing = sym (g.met.L.Spool.writing c.write_piece.new.spool) ∙ c.write_piece.ensures.writes.frame ∙ g.met.L.Spool.writing c.clear.new.spool in
-      let reading = sym (g.met.L.Spool.reading c.flash.new.input) ∙ c.flash.ensures.frame ∙ g.met.L.Spool.reading c.write_piece.new.spool in
+      let writing = sym (g.met.L.Spool.writing c.write_piece.new.spool) ∙ c.write_piece.ensures.writes.frame
+      ∙ g.met.L.Spool.writing c.clear.new.spool in
+      let reading = sym (g.met.L.Spool.reading c.flash.new.input) ∙ c.flash.ensures.frame
+      ∙ g.met.L.Spool.reading c.write_piece.new.spool in
       let wrote = ap (λ (q : ReadFrame). q.write_faults) reading ∙ o.writes.clean ∙ c.clear.ensures.write_faults in
-      let cleared = ap (λ (q : ReadFrame). q.clear_faults) reading ∙ ap (λ (q : WriteFrame). q.clear_faults) writing ∙ c.in-Ok.ensures.clean in
+      let cleared = ap (λ (q : ReadFrame). q.clear_faults) reading ∙ ap (λ (q : WriteFrame). q.clear_faults) writing
+      ∙ c.in-Ok.ensures.clean in
       record {
         read = o.source.clean;
         write = omega (arith, wrote, cleared);
@@ -353,26 +461,38 @@ returns-in-Err-write_piece-clause-fails g c = record {
       record {
         read = c.write_piece.ensures.source.faults;
         write =
-            let writing = sym (g.met.L.Spool.writing c.write_piece.new.spool) ∙ c.write_piece.ensures.writes.frame ∙ g.met.L.Spool.writing c.clear.new.spool in
+            let writing = sym (g.met.L.Spool.writing c.write_piece.new.spool) ∙ c.write_piece.ensures.writes.frame
+            ∙ g.met.L.Spool.writing c.clear.new.spool in
             let cleared = ap (λ (f : WriteFrame). f.clear_faults) writing in
-            omega (arith, cleared, c.write_piece.ensures.writes.faults, c.clear.ensures.write_faults, c.clear.ensures.clear_faults);
+            omega (
+              arith,
+              cleared,
+              c.write_piece.ensures.writes.faults,
+              c.clear.ensures.write_faults,
+              c.clear.ensures.clear_faults,
+            );
         spool =
-            let writing = sym (g.met.L.Spool.writing c.write_piece.new.spool) ∙ c.write_piece.ensures.writes.frame ∙ g.met.L.Spool.writing c.clear.new.spool in
+            let writing = sym (g.met.L.Spool.writing c.write_piece.new.spool) ∙ c.write_piece.ensures.writes.frame
+            ∙ g.met.L.Spool.writing c.clear.new.spool in
             let failed = ap (λ (f : WriteFrame). f.read_faults) writing in
             omega (arith, failed, c.clear.ensures.read_faults);
         put = omega arith;
       };
   cause =
-      let writing = sym (g.met.L.Spool.writing c.write_piece.new.spool) ∙ c.write_piece.ensures.writes.frame ∙ g.met.L.Spool.writing c.clear.new.spool in
+      let writing = sym (g.met.L.Spool.writing c.write_piece.new.spool) ∙ c.write_piece.ensures.writes.frame
+      ∙ g.met.L.Spool.writing c.clear.new.spool in
       let cleared = ap (λ (q : WriteFrame). q.clear_faults) writing in
       let cuts = ap (λ (q : WriteFrame). q.cuts) writing ∙ c.in-Ok.ensures.cut in
       let room = ap (λ (q : WriteFrame). q.capacity) writing ∙ c.clear.ensures.size in
       let long = ap length c.clear.ensures.written in
-      rw (c.not_written.ensures) (cut_stops c.in-Err-write_piece.fault _ _ _ _ _ _ (cut_cause g ((goal.at.returns-in-Err-write_piece-clause-fails g c).In-Err-write_piece)) (λ more. omega (arith, more, cleared, c.clear.ensures.write_faults, c.clear.ensures.clear_faults))
+      rw (c.not_written.ensures) (cut_stops c.in-Err-write_piece.fault _ _ _ _ _ _
+      (cut_cause g ((goal.at.returns-in-Err-write_piece-clause-fails g c).In-Err-write_piece))
+      (λ more. omega (arith, more, cleared, c.clear.ensures.write_faults, c.clear.ensures.clear_faults))
       (λ is.
       let h = c.in-Err-write_piece.ensures.full (rw is refl) in
       let filled = g.met.L.Spool.filled c.write_piece.new.spool h.0 in
-      let last : last_cut (g.L.Spool.cuts c.write_piece.new.spool) ≡ length (g.L.Output.written c.args.spool.now) = ap last_cut cuts in
+      let last : last_cut (g.L.Spool.cuts c.write_piece.new.spool) ≡ length (g.L.Output.written c.args.spool.now) =
+      ap last_cut cuts in
       omega (arith, filled, last, h.1, room, long, c.requires.capacity)));
   clean = tt;
 }
@@ -382,23 +502,47 @@ returns-in-Err-write_piece-clause-fails g c = record {
 pub returns-in-Err-write_piece-clause-work : goal.returns-in-Err-write_piece-clause-work
 returns-in-Err-write_piece-clause-work g c = record {
   calls =
-      let writing = sym (g.met.L.Spool.writing c.write_piece.new.spool) ∙ c.write_piece.ensures.writes.frame ∙ g.met.L.Spool.writing c.clear.new.spool in
+      let writing = sym (g.met.L.Spool.writing c.write_piece.new.spool) ∙ c.write_piece.ensures.writes.frame
+      ∙ g.met.L.Spool.writing c.clear.new.spool in
       let gives = ap (λ (f : WriteFrame). f.given) writing in
       let reads = ap (λ (f : WriteFrame). f.reads) writing in
       let clears = ap (λ (f : WriteFrame). f.clears) writing in
       let long = ap length c.clear.ensures.written in
-      omega (arith, gives, reads, clears, long, c.write_piece.ensures.costs.calls, c.write_piece.ensures.costs.given, c.write_piece.ensures.writes.least, c.clear.ensures.given, c.clear.ensures.reads, c.clear.ensures.writes, c.clear.ensures.calls);
+      omega (
+        arith,
+        gives,
+        reads,
+        clears,
+        long,
+        c.write_piece.ensures.costs.calls,
+        c.write_piece.ensures.costs.given,
+        c.write_piece.ensures.writes.least,
+        c.clear.ensures.given,
+        c.clear.ensures.reads,
+        c.clear.ensures.writes,
+        c.clear.ensures.calls,
+      );
   turns =
-      let writing = sym (g.met.L.Spool.writing c.write_piece.new.spool) ∙ c.write_piece.ensures.writes.frame ∙ g.met.L.Spool.writing c.clear.new.spool in
+      let writing = sym (g.met.L.Spool.writing c.write_piece.new.spool) ∙ c.write_piece.ensures.writes.frame
+      ∙ g.met.L.Spool.writing c.clear.new.spool in
       let gives = ap (λ (f : WriteFrame). f.given) writing in
       let long = ap length c.clear.ensures.written in
-      omega (arith, gives, long, c.write_piece.ensures.costs.turns, c.write_piece.ensures.costs.given, c.write_piece.ensures.writes.least, c.clear.ensures.given);
+      omega (
+        arith,
+        gives,
+        long,
+        c.write_piece.ensures.costs.turns,
+        c.write_piece.ensures.costs.given,
+        c.write_piece.ensures.writes.least,
+        c.clear.ensures.given,
+      );
   words_most = tt;
   work =
       record {
         given = c.write_piece.ensures.costs.given;
         spool_given =
-            let writing = sym (g.met.L.Spool.writing c.write_piece.new.spool) ∙ c.write_piece.ensures.writes.frame ∙ g.met.L.Spool.writing c.clear.new.spool in
+            let writing = sym (g.met.L.Spool.writing c.write_piece.new.spool) ∙ c.write_piece.ensures.writes.frame
+            ∙ g.met.L.Spool.writing c.clear.new.spool in
             let gives = ap (λ (f : WriteFrame). f.given) writing in
             omega (arith, gives, c.clear.ensures.given);
         grown =
@@ -406,9 +550,16 @@ returns-in-Err-write_piece-clause-work g c = record {
             omega (arith, long, c.write_piece.ensures.writes.least);
         taken = omega arith;
         steps =
-            let writing = sym (g.met.L.Spool.writing c.write_piece.new.spool) ∙ c.write_piece.ensures.writes.frame ∙ g.met.L.Spool.writing c.clear.new.spool in
+            let writing = sym (g.met.L.Spool.writing c.write_piece.new.spool) ∙ c.write_piece.ensures.writes.frame
+            ∙ g.met.L.Spool.writing c.clear.new.spool in
             let gives = ap (λ (f : WriteFrame). f.given) writing in
-            omega (arith, gives, c.write_piece.ensures.costs.steps, c.write_piece.ensures.costs.given, c.clear.ensures.given);
+            omega (
+              arith,
+              gives,
+              c.write_piece.ensures.costs.steps,
+              c.write_piece.ensures.costs.given,
+              c.clear.ensures.given,
+            );
         greatest = omega (arith, c.write_piece.ensures.costs.greatest);
       };
 }
@@ -416,8 +567,10 @@ returns-in-Err-write_piece-clause-work g c = record {
 pub returns-in-Ok-flash-clause-work : goal.returns-in-Ok-flash-clause-work
 returns-in-Ok-flash-clause-work g c = record {
   calls =
-      let writing = sym (g.met.L.Spool.writing c.write_piece.new.spool) ∙ c.write_piece.ensures.writes.frame ∙ g.met.L.Spool.writing c.clear.new.spool in
-      let reading = sym (g.met.L.Spool.reading c.flash.new.input) ∙ c.flash.ensures.frame ∙ g.met.L.Spool.reading c.write_piece.new.spool in
+      let writing = sym (g.met.L.Spool.writing c.write_piece.new.spool) ∙ c.write_piece.ensures.writes.frame
+      ∙ g.met.L.Spool.writing c.clear.new.spool in
+      let reading = sym (g.met.L.Spool.reading c.flash.new.input) ∙ c.flash.ensures.frame
+      ∙ g.met.L.Spool.reading c.write_piece.new.spool in
       let gives = ap (λ (f : WriteFrame). f.given) writing in
       let reads = ap (λ (f : WriteFrame). f.reads) writing in
       let clears = ap (λ (f : WriteFrame). f.clears) writing in
@@ -425,42 +578,101 @@ returns-in-Ok-flash-clause-work g c = record {
       let cleared = ap (λ (f : ReadFrame). f.clears) reading in
       let same = ap (λ (f : ReadFrame). length f.written) reading in
       let long = ap length c.clear.ensures.written in
-      omega (arith, gives, reads, clears, wrote, cleared, same, long, c.write_piece.ensures.costs.calls, c.write_piece.ensures.costs.given, c.write_piece.ensures.writes.least, c.clear.ensures.given, c.clear.ensures.reads, c.clear.ensures.writes, c.clear.ensures.calls, c.flash.ensures.costs.calls, c.flash.ensures.grows.given, c.flash.ensures.grows.taken);
+      omega (
+        arith,
+        gives,
+        reads,
+        clears,
+        wrote,
+        cleared,
+        same,
+        long,
+        c.write_piece.ensures.costs.calls,
+        c.write_piece.ensures.costs.given,
+        c.write_piece.ensures.writes.least,
+        c.clear.ensures.given,
+        c.clear.ensures.reads,
+        c.clear.ensures.writes,
+        c.clear.ensures.calls,
+        c.flash.ensures.costs.calls,
+        c.flash.ensures.grows.given,
+        c.flash.ensures.grows.taken,
+      );
   turns =
-      let writing = sym (g.met.L.Spool.writing c.write_piece.new.spool) ∙ c.write_piece.ensures.writes.frame ∙ g.met.L.Spool.writing c.clear.new.spool in
-      let reading = sym (g.met.L.Spool.reading c.flash.new.input) ∙ c.flash.ensures.frame ∙ g.met.L.Spool.reading c.write_piece.new.spool in
+      let writing = sym (g.met.L.Spool.writing c.write_piece.new.spool) ∙ c.write_piece.ensures.writes.frame
+      ∙ g.met.L.Spool.writing c.clear.new.spool in
+      let reading = sym (g.met.L.Spool.reading c.flash.new.input) ∙ c.flash.ensures.frame
+      ∙ g.met.L.Spool.reading c.write_piece.new.spool in
       let gives = ap (λ (f : WriteFrame). f.given) writing in
       let same = ap (λ (f : ReadFrame). length f.written) reading in
       let long = ap length c.clear.ensures.written in
-      omega (arith, gives, same, long, c.write_piece.ensures.costs.turns, c.write_piece.ensures.costs.given, c.write_piece.ensures.writes.least, c.clear.ensures.given, c.flash.ensures.costs.turns, c.flash.ensures.grows.given, c.flash.ensures.grows.taken);
+      omega (
+        arith,
+        gives,
+        same,
+        long,
+        c.write_piece.ensures.costs.turns,
+        c.write_piece.ensures.costs.given,
+        c.write_piece.ensures.writes.least,
+        c.clear.ensures.given,
+        c.flash.ensures.costs.turns,
+        c.flash.ensures.grows.given,
+        c.flash.ensures.grows.taken,
+      );
   words_most =
-      let writing = sym (g.met.L.Spool.writing c.write_piece.new.spool) ∙ c.write_piece.ensures.writes.frame ∙ g.met.L.Spool.writing c.clear.new.spool in
-      let reading = sym (g.met.L.Spool.reading c.flash.new.input) ∙ c.flash.ensures.frame ∙ g.met.L.Spool.reading c.write_piece.new.spool in
+      let writing = sym (g.met.L.Spool.writing c.write_piece.new.spool) ∙ c.write_piece.ensures.writes.frame
+      ∙ g.met.L.Spool.writing c.clear.new.spool in
+      let reading = sym (g.met.L.Spool.reading c.flash.new.input) ∙ c.flash.ensures.frame
+      ∙ g.met.L.Spool.reading c.write_piece.new.spool in
       let gives = ap (λ (f : WriteFrame). f.given) writing in
       let same = ap (λ (f : ReadFrame). length f.written) reading in
       let long = ap length c.clear.ensures.written in
       let words = c.in-Ok-write_piece.ensures.made.words in
       let ends = c.in-Ok-write_piece.ensures.made.piece.ends in
       let few = rw ends at words in
-      omega (arith, gives, same, long, few, c.write_piece.ensures.costs.given, c.write_piece.ensures.writes.least, c.clear.ensures.given, c.flash.ensures.costs.turns, c.flash.ensures.grows.given, c.flash.ensures.grows.taken);
+      omega (
+        arith,
+        gives,
+        same,
+        long,
+        few,
+        c.write_piece.ensures.costs.given,
+        c.write_piece.ensures.writes.least,
+        c.clear.ensures.given,
+        c.flash.ensures.costs.turns,
+        c.flash.ensures.grows.given,
+        c.flash.ensures.grows.taken,
+      );
   work =
       record {
         given = c.write_piece.ensures.costs.given;
         spool_given =
-            let writing = sym (g.met.L.Spool.writing c.write_piece.new.spool) ∙ c.write_piece.ensures.writes.frame ∙ g.met.L.Spool.writing c.clear.new.spool in
+            let writing = sym (g.met.L.Spool.writing c.write_piece.new.spool) ∙ c.write_piece.ensures.writes.frame
+            ∙ g.met.L.Spool.writing c.clear.new.spool in
             let gives = ap (λ (f : WriteFrame). f.given) writing in
             omega (arith, gives, c.clear.ensures.given, c.flash.ensures.grows.given);
         grown =
-            let writing = sym (g.met.L.Spool.writing c.write_piece.new.spool) ∙ c.write_piece.ensures.writes.frame ∙ g.met.L.Spool.writing c.clear.new.spool in
-            let reading = sym (g.met.L.Spool.reading c.flash.new.input) ∙ c.flash.ensures.frame ∙ g.met.L.Spool.reading c.write_piece.new.spool in
+            let writing = sym (g.met.L.Spool.writing c.write_piece.new.spool) ∙ c.write_piece.ensures.writes.frame
+            ∙ g.met.L.Spool.writing c.clear.new.spool in
+            let reading = sym (g.met.L.Spool.reading c.flash.new.input) ∙ c.flash.ensures.frame
+            ∙ g.met.L.Spool.reading c.write_piece.new.spool in
             let same = ap (λ (f : ReadFrame). length f.written) reading in
             let long = ap length c.clear.ensures.written in
             omega (arith, same, long, c.write_piece.ensures.writes.least);
         taken = c.flash.ensures.grows.taken;
         steps =
-            let writing = sym (g.met.L.Spool.writing c.write_piece.new.spool) ∙ c.write_piece.ensures.writes.frame ∙ g.met.L.Spool.writing c.clear.new.spool in
+            let writing = sym (g.met.L.Spool.writing c.write_piece.new.spool) ∙ c.write_piece.ensures.writes.frame
+            ∙ g.met.L.Spool.writing c.clear.new.spool in
             let gives = ap (λ (f : WriteFrame). f.given) writing in
-            omega (arith, gives, c.write_piece.ensures.costs.steps, c.write_piece.ensures.costs.given, c.clear.ensures.given, c.flash.ensures.costs.steps, c.flash.ensures.grows.given);
+            omega (
+              arith,
+              gives,
+              c.write_piece.ensures.costs.steps,
+              c.write_piece.ensures.costs.given,
+              c.clear.ensures.given,
+              c.flash.ensures.costs.steps,
+              c.flash.ensures.grows.given,
+            );
         greatest = omega (arith, c.write_piece.ensures.costs.greatest, c.flash.ensures.costs.greatest);
       };
 }
@@ -468,8 +680,10 @@ returns-in-Ok-flash-clause-work g c = record {
 pub returns-in-Err-flash-clause-work : goal.returns-in-Err-flash-clause-work
 returns-in-Err-flash-clause-work g c = record {
   calls =
-      let writing = sym (g.met.L.Spool.writing c.write_piece.new.spool) ∙ c.write_piece.ensures.writes.frame ∙ g.met.L.Spool.writing c.clear.new.spool in
-      let reading = sym (g.met.L.Spool.reading c.flash.new.input) ∙ c.flash.ensures.frame ∙ g.met.L.Spool.reading c.write_piece.new.spool in
+      let writing = sym (g.met.L.Spool.writing c.write_piece.new.spool) ∙ c.write_piece.ensures.writes.frame
+      ∙ g.met.L.Spool.writing c.clear.new.spool in
+      let reading = sym (g.met.L.Spool.reading c.flash.new.input) ∙ c.flash.ensures.frame
+      ∙ g.met.L.Spool.reading c.write_piece.new.spool in
       let gives = ap (λ (f : WriteFrame). f.given) writing in
       let reads = ap (λ (f : WriteFrame). f.reads) writing in
       let clears = ap (λ (f : WriteFrame). f.clears) writing in
@@ -477,33 +691,78 @@ returns-in-Err-flash-clause-work g c = record {
       let cleared = ap (λ (f : ReadFrame). f.clears) reading in
       let same = ap (λ (f : ReadFrame). length f.written) reading in
       let long = ap length c.clear.ensures.written in
-      omega (arith, gives, reads, clears, wrote, cleared, same, long, c.write_piece.ensures.costs.calls, c.write_piece.ensures.costs.given, c.write_piece.ensures.writes.least, c.clear.ensures.given, c.clear.ensures.reads, c.clear.ensures.writes, c.clear.ensures.calls, c.flash.ensures.costs.calls, c.flash.ensures.grows.given, c.flash.ensures.grows.taken);
+      omega (
+        arith,
+        gives,
+        reads,
+        clears,
+        wrote,
+        cleared,
+        same,
+        long,
+        c.write_piece.ensures.costs.calls,
+        c.write_piece.ensures.costs.given,
+        c.write_piece.ensures.writes.least,
+        c.clear.ensures.given,
+        c.clear.ensures.reads,
+        c.clear.ensures.writes,
+        c.clear.ensures.calls,
+        c.flash.ensures.costs.calls,
+        c.flash.ensures.grows.given,
+        c.flash.ensures.grows.taken,
+      );
   turns =
-      let writing = sym (g.met.L.Spool.writing c.write_piece.new.spool) ∙ c.write_piece.ensures.writes.frame ∙ g.met.L.Spool.writing c.clear.new.spool in
-      let reading = sym (g.met.L.Spool.reading c.flash.new.input) ∙ c.flash.ensures.frame ∙ g.met.L.Spool.reading c.write_piece.new.spool in
+      let writing = sym (g.met.L.Spool.writing c.write_piece.new.spool) ∙ c.write_piece.ensures.writes.frame
+      ∙ g.met.L.Spool.writing c.clear.new.spool in
+      let reading = sym (g.met.L.Spool.reading c.flash.new.input) ∙ c.flash.ensures.frame
+      ∙ g.met.L.Spool.reading c.write_piece.new.spool in
       let gives = ap (λ (f : WriteFrame). f.given) writing in
       let same = ap (λ (f : ReadFrame). length f.written) reading in
       let long = ap length c.clear.ensures.written in
-      omega (arith, gives, same, long, c.write_piece.ensures.costs.turns, c.write_piece.ensures.costs.given, c.write_piece.ensures.writes.least, c.clear.ensures.given, c.flash.ensures.costs.turns, c.flash.ensures.grows.given, c.flash.ensures.grows.taken);
+      omega (
+        arith,
+        gives,
+        same,
+        long,
+        c.write_piece.ensures.costs.turns,
+        c.write_piece.ensures.costs.given,
+        c.write_piece.ensures.writes.least,
+        c.clear.ensures.given,
+        c.flash.ensures.costs.turns,
+        c.flash.ensures.grows.given,
+        c.flash.ensures.grows.taken,
+      );
   words_most = rw c.not_flashed.ensures tt;
   work =
       record {
         given = c.write_piece.ensures.costs.given;
         spool_given =
-            let writing = sym (g.met.L.Spool.writing c.write_piece.new.spool) ∙ c.write_piece.ensures.writes.frame ∙ g.met.L.Spool.writing c.clear.new.spool in
+            let writing = sym (g.met.L.Spool.writing c.write_piece.new.spool) ∙ c.write_piece.ensures.writes.frame
+            ∙ g.met.L.Spool.writing c.clear.new.spool in
             let gives = ap (λ (f : WriteFrame). f.given) writing in
             omega (arith, gives, c.clear.ensures.given, c.flash.ensures.grows.given);
         grown =
-            let writing = sym (g.met.L.Spool.writing c.write_piece.new.spool) ∙ c.write_piece.ensures.writes.frame ∙ g.met.L.Spool.writing c.clear.new.spool in
-            let reading = sym (g.met.L.Spool.reading c.flash.new.input) ∙ c.flash.ensures.frame ∙ g.met.L.Spool.reading c.write_piece.new.spool in
+            let writing = sym (g.met.L.Spool.writing c.write_piece.new.spool) ∙ c.write_piece.ensures.writes.frame
+            ∙ g.met.L.Spool.writing c.clear.new.spool in
+            let reading = sym (g.met.L.Spool.reading c.flash.new.input) ∙ c.flash.ensures.frame
+            ∙ g.met.L.Spool.reading c.write_piece.new.spool in
             let same = ap (λ (f : ReadFrame). length f.written) reading in
             let long = ap length c.clear.ensures.written in
             omega (arith, same, long, c.write_piece.ensures.writes.least);
         taken = c.flash.ensures.grows.taken;
         steps =
-            let writing = sym (g.met.L.Spool.writing c.write_piece.new.spool) ∙ c.write_piece.ensures.writes.frame ∙ g.met.L.Spool.writing c.clear.new.spool in
+            let writing = sym (g.met.L.Spool.writing c.write_piece.new.spool) ∙ c.write_piece.ensures.writes.frame
+            ∙ g.met.L.Spool.writing c.clear.new.spool in
             let gives = ap (λ (f : WriteFrame). f.given) writing in
-            omega (arith, gives, c.write_piece.ensures.costs.steps, c.write_piece.ensures.costs.given, c.clear.ensures.given, c.flash.ensures.costs.steps, c.flash.ensures.grows.given);
+            omega (
+              arith,
+              gives,
+              c.write_piece.ensures.costs.steps,
+              c.write_piece.ensures.costs.given,
+              c.clear.ensures.given,
+              c.flash.ensures.costs.steps,
+              c.flash.ensures.grows.given,
+            );
         greatest = omega (arith, c.write_piece.ensures.costs.greatest, c.flash.ensures.costs.greatest);
       };
 }
@@ -532,7 +791,8 @@ returns-in-Err-clause-spool g c = record {
   cut = tt;
   written = λ models. tt;
   begins = λ forward models. begins_same _ _ _ c.clear.ensures.written;
-  no_part = λ late models. no_part_none (g.L.Output.written c.args.spool.now) (g.L.Output.written c.clear.new.spool) (g.L.Spool.cuts c.clear.new.spool) _ c.clear.ensures.written;
+  no_part = λ late models. no_part_none (g.L.Output.written c.args.spool.now) (g.L.Output.written c.clear.new.spool)
+      (g.L.Spool.cuts c.clear.new.spool) _ c.clear.ensures.written;
   ends = λ late. ends_none _ _ _ _ _ c.clear.ensures.written c.in-Err.ensures.kept;
   back = λ models spool. tt;
 }
@@ -565,7 +825,8 @@ pub returns-in-Err-write_piece-clause-told : goal.returns-in-Err-write_piece-cla
 returns-in-Err-write_piece-clause-told g c = c.write_piece.ensures.told
 
 pub returns-in-Err-write_piece-clause-same : goal.returns-in-Err-write_piece-clause-same
-returns-in-Err-write_piece-clause-same g c = (c.write_piece.ensures.cutter.same_image, c.write_piece.ensures.cutter.same_limit)
+returns-in-Err-write_piece-clause-same g c =
+    (c.write_piece.ensures.cutter.same_image, c.write_piece.ensures.cutter.same_limit)
 
 -- ---- the rest where it was flashed, and where that was refused
 
@@ -579,7 +840,8 @@ pub returns-in-Ok-flash-clause-same : goal.returns-in-Ok-flash-clause-same
 returns-in-Ok-flash-clause-same g c = (c.write_piece.ensures.cutter.same_image, c.write_piece.ensures.cutter.same_limit)
 
 pub returns-in-Err-flash-clause-same : goal.returns-in-Err-flash-clause-same
-returns-in-Err-flash-clause-same g c = (c.write_piece.ensures.cutter.same_image, c.write_piece.ensures.cutter.same_limit)
+returns-in-Err-flash-clause-same g c =
+    (c.write_piece.ensures.cutter.same_image, c.write_piece.ensures.cutter.same_limit)
 
 pub returns-in-Ok-flash-clause-behind : goal.returns-in-Ok-flash-clause-behind
 returns-in-Ok-flash-clause-behind g c =
@@ -587,7 +849,8 @@ returns-in-Ok-flash-clause-behind g c =
     goes_behind _ _ _ _ _ _ _ _ p.one_more p.begins p.ends p.passed
 
 pub returns-in-Ok-flash-clause-greatest_end : goal.returns-in-Ok-flash-clause-greatest_end
-returns-in-Ok-flash-clause-greatest_end g c models = segment g ((goal.at.returns-in-Ok-flash-clause-greatest_end g c).In-Ok-write_piece) models
+returns-in-Ok-flash-clause-greatest_end g c models =
+    segment g ((goal.at.returns-in-Ok-flash-clause-greatest_end g c).In-Ok-write_piece) models
 
 -- ---- what is only said of a piece that was delivered, where it was not flashed
 

@@ -13,22 +13,29 @@ use Rattle.abt_flash.proofs.raw.raw_behind.Goals as goal
 use Rattle.abt_flash.proofs.raw.raw_behind.Goals.{In-Ok}
 use Rattle.abt_flash.proofs.raw.raw_behind.Given.{Over}
 
-counts : (g : Over) (c : In-Ok g) → IsTrue g.S.Source.models → length (classify c.args.b (g.S.Source.content c.args.source.now)) ≡ c.in-Ok.runs.blocks
+counts : (g : Over) (c : In-Ok g) → IsTrue g.S.Source.models
+    → length (classify c.args.b (g.S.Source.content c.args.source.now)) ≡ c.in-Ok.runs.blocks
 counts g c models =
     let s = c.in-Ok.runs in
-    rw (c.in-Ok.ensures.size.0) at (raw_long s.length s.blocks s.size (g.S.Source.content c.args.source.now) s.some s.covers s.last (c.in-Ok.ensures.opened models))
+    rw (c.in-Ok.ensures.size.0) at
+    (raw_long s.length s.blocks s.size (g.S.Source.content c.args.source.now) s.some s.covers s.last
+    (c.in-Ok.ensures.opened models))
 
 -- the opened image is the source's in blocks of this size
-same : (g : Over) (c : In-Ok g) → raw_image c.in-Ok.runs.size (g.S.Source.content c.args.source.now) ≡ raw_image c.args.b (g.S.Source.content c.args.source.now)
+same : (g : Over) (c : In-Ok g)
+    → raw_image c.in-Ok.runs.size (g.S.Source.content c.args.source.now) ≡ raw_image c.args.b
+    (g.S.Source.content c.args.source.now)
 same g c = ap (λ n. raw_image n (g.S.Source.content c.args.source.now)) c.in-Ok.ensures.size.0
 
 -- it is opened as the blocks that its length fills
-opens : (g : Over) (c : In-Ok g) → OpensRaw c.args.b c.in-Ok.runs.blocks (g.S.Source.content c.args.source.now) (g.S.Source.size c.args.source.now) g.S.Source.models
+opens : (g : Over) (c : In-Ok g) → OpensRaw c.args.b c.in-Ok.runs.blocks (g.S.Source.content c.args.source.now)
+    (g.S.Source.size c.args.source.now) g.S.Source.models
 opens g c =
     let r = c.in-Ok.runs in
     let size : r.size ≡ c.args.b = c.in-Ok.ensures.size.0 in
     let long : r.length ≡ g.S.Source.size c.args.source.now = c.in-Ok.ensures.size.1 in
-    rw (← long) (rw (← size) (opens_runs r.length r.blocks r.size _ _ r.some r.window r.words r.covers r.last r.fits (λ models. rw size (counts g c models))))
+    rw (← long) (rw (← size) (opens_runs r.length r.blocks r.size _ _ r.some r.window r.words r.covers r.last r.fits
+    (λ models. rw size (counts g c models))))
 
 pub returns-in-Ok-clause-delivered : goal.returns-in-Ok-clause-delivered
 returns-in-Ok-clause-delivered g c =
@@ -65,11 +72,13 @@ returns-in-Err-clause-delivered g c = record {
 -- ---- what is read
 
 pub returns-in-Ok-clause-few : goal.returns-in-Ok-clause-few
-returns-in-Ok-clause-few g c models = rw (counts g ((goal.at.returns-in-Ok-clause-few g c).In-Ok) models) c.deliver_behind.ensures.few
+returns-in-Ok-clause-few g c models =
+    rw (counts g ((goal.at.returns-in-Ok-clause-few g c).In-Ok) models) c.deliver_behind.ensures.few
 
 pub returns-in-Ok-clause-reads : goal.returns-in-Ok-clause-reads
 returns-in-Ok-clause-reads g c models =
     let runs = c.in-Ok.runs in
     let x = g.S.Source.content c.args.source.now in
     let start = ap (λ (n : ℕ). blocks_in_first c.args.limit n (classify n x) c.args.before) c.in-Ok.ensures.size.0 in
-    read_raw c.deliver_behind.result runs g.W.Way.before g.W.Way.each g.W.Way.last g.W.Way.all _ _ _ _ c.args.before _ _ c.in-Ok.ensures.size.0 (c.in-Ok.ensures.opened models) start (c.deliver_behind.ensures.reads models)
+    read_raw c.deliver_behind.result runs g.W.Way.before g.W.Way.each g.W.Way.last g.W.Way.all _ _ _ _ c.args.before _
+    _ c.in-Ok.ensures.size.0 (c.in-Ok.ensures.opened models) start (c.deliver_behind.ensures.reads models)

@@ -1,4 +1,5 @@
-use Rattle.std.proofs.Common.{◌≡◌, ◌+◌, ◌-◌, ◌*◌, ℕ, List, Result, Ok, Err, length, take, arith, ap, refl, sym, ◌∙◌, replicate}
+use Rattle.std.proofs.Common.{◌≡◌, ◌+◌, ◌-◌, ◌*◌, ℕ, List, Result, Ok, Err, length, take, arith, ap, refl, sym, ◌∙◌}
+use Rattle.std.proofs.Common.{replicate}
 use Rattle.std.specs.Prelude.{OnOk, is_ok, if◌then◌else◌}
 use Rattle.std.specs.List.{concat}
 use Rattle.abt_sparse.specs.Block.{over}
@@ -24,20 +25,25 @@ returns-in-Bytes-clause-laid g c models =
     let none : n - 0 ≡ n = omega arith in
     let part : c.part.result.now ≡ take n w = c.part.ensures.value ∙ ap (λ (k : ℕ). take k w) none in
     let long : length c.part.result.now ≡ n = c.part.ensures.long ∙ none in
-    rw c.in-Bytes.is (on_put n c.write_all_at.result _ _ (λ e. e ∙ put_over c.args.at p c.part.result.now (omega (arith, sized, fits, long)) ∙ ap (λ (x : List ℕ). over p (from_place c.args.at (somes x))) part) (c.write_all_at.ensures.written models))
+    rw c.in-Bytes.is (on_put n c.write_all_at.result _ _ (λ e. e
+    ∙ put_over c.args.at p c.part.result.now (omega (arith, sized, fits, long))
+    ∙ ap (λ (x : List ℕ). over p (from_place c.args.at (somes x))) part) (c.write_all_at.ensures.written models))
 
 pub returns-in-Bytes-clause-touches : goal.returns-in-Bytes-clause-touches
 returns-in-Bytes-clause-touches g c models = record {
   kept = search rules;
   moments =
-      let long : length c.part.result.now ≡ c.in-Bytes.n = c.part.ensures.long ∙ (let z : c.in-Bytes.n - 0 ≡ c.in-Bytes.n = omega arith in z) in
+      let long : length c.part.result.now ≡ c.in-Bytes.n = c.part.ensures.long
+      ∙ (let z : c.in-Bytes.n - 0 ≡ c.in-Bytes.n = omega arith in z) in
       rw c.in-Bytes.is (during_put c.args.at _ _ _ _ _ _ long (c.write_all_at.ensures.moments models));
 }
 
 pub returns-in-Bytes-clause-all : goal.returns-in-Bytes-clause-all
 returns-in-Bytes-clause-all g c =
-    let long : length c.part.result.now ≡ c.in-Bytes.n = c.part.ensures.long ∙ (let z : c.in-Bytes.n - 0 ≡ c.in-Bytes.n = omega arith in z) in
-    rw c.in-Bytes.is (on_put c.in-Bytes.n c.write_all_at.result _ _ (λ e. omega (arith, e, long)) c.write_all_at.ensures.all)
+    let long : length c.part.result.now ≡ c.in-Bytes.n = c.part.ensures.long
+    ∙ (let z : c.in-Bytes.n - 0 ≡ c.in-Bytes.n = omega arith in z) in
+    rw c.in-Bytes.is (on_put c.in-Bytes.n c.write_all_at.result _ _
+    (λ e. omega (arith, e, long)) c.write_all_at.ensures.all)
 
 pub returns-in-Words-clause-laid : goal.returns-in-Words-clause-laid
 returns-in-Words-clause-laid g c models =
@@ -48,7 +54,9 @@ returns-in-Words-clause-laid g c models =
     let fits = rw c.in-Words.is at c.requires.fits in
     let four : length word ≡ 4 = omega arith in
     let long : length (concat (replicate n word)) ≡ 4 * n = length_words n word four in
-    rw c.in-Words.is (on_words word n c.lay_words.result _ _ (λ e. e ∙ put_over c.args.at p (concat (replicate n word)) (omega (arith, sized, fits, long))) (c.lay_words.ensures.written models))
+    rw c.in-Words.is (on_words word n c.lay_words.result _ _ (λ e. e
+    ∙ put_over c.args.at p (concat (replicate n word)) (omega (arith, sized, fits, long)))
+    (c.lay_words.ensures.written models))
 
 pub returns-in-Words-clause-touches : goal.returns-in-Words-clause-touches
 returns-in-Words-clause-touches g c models = record {
@@ -57,24 +65,28 @@ returns-in-Words-clause-touches g c models = record {
 }
 
 pub returns-in-Words-clause-all : goal.returns-in-Words-clause-all
-returns-in-Words-clause-all g c = rw c.in-Words.is (on_words c.in-Words.word c.in-Words.n c.lay_words.result _ _ (λ e. e) c.lay_words.ensures.all)
+returns-in-Words-clause-all g c =
+    rw c.in-Words.is (on_words c.in-Words.word c.in-Words.n c.lay_words.result _ _ (λ e. e) c.lay_words.ensures.all)
 
 pub returns-in-Sync-clause-laid : goal.returns-in-Sync-clause-laid
 returns-in-Sync-clause-laid g c models =
     let p = g.P.Source.content c.args.partition.now in
-    rw c.in-Sync.is (on_sync c.sync.result _ (same_content _ _ (c.sync.ensures.settled.kept models) ∙ sym (nothing_over p c.args.at)))
+    rw c.in-Sync.is (on_sync c.sync.result _ (same_content _ _ (c.sync.ensures.settled.kept models)
+    ∙ sym (nothing_over p c.args.at)))
 
 pub returns-in-Sync-clause-touches : goal.returns-in-Sync-clause-touches
 returns-in-Sync-clause-touches g c models = record {
   kept = search rules;
-  moments = rw c.in-Sync.is (during_sync _ _ _ _ _ (c.sync.ensures.settled.kept models) (c.sync.ensures.settled.moments models));
+  moments = rw c.in-Sync.is (during_sync _ _ _ _ _ (c.sync.ensures.settled.kept models)
+      (c.sync.ensures.settled.moments models));
 }
 
 pub returns-in-Sync-clause-all : goal.returns-in-Sync-clause-all
 returns-in-Sync-clause-all g c = rw c.in-Sync.is (on_sync c.sync.result _ (omega (arith, c.sync.ensures.synced.taken)))
 
 pub returns-in-Nothing-clause-laid : goal.returns-in-Nothing-clause-laid
-returns-in-Nothing-clause-laid g c models = rw c.in-Nothing.is (sym (nothing_over (g.P.Source.content c.args.partition.now) c.args.at))
+returns-in-Nothing-clause-laid g c models =
+    rw c.in-Nothing.is (sym (nothing_over (g.P.Source.content c.args.partition.now) c.args.at))
 
 -- ---- what is carried out is not idle
 

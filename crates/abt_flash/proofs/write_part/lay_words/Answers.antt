@@ -15,21 +15,27 @@ writes-preserved g c =
     let most = c.min-most.result in
     let test : c.writes.done < c.args.n = c.writes-test.true in
     let least : some ≡ min (c.args.n - c.writes.done) most = c.min-some.ensures in
-    let part : c.part.result.now ≡ concat (replicate some c.args.word) = c.part.ensures.value ∙ some_of_window c.lay_word.new.w.bytes c.args.word most some i.word (omega arith) c.lay_word.ensures.laid in
+    let part : c.part.result.now ≡ concat (replicate some c.args.word) = c.part.ensures.value
+    ∙ some_of_window c.lay_word.new.w.bytes c.args.word most some i.word (omega arith) c.lay_word.ensures.laid in
     let long : length c.part.result.now ≡ 4 * some - 0 = c.part.ensures.long in
     let place = c.place_behind.ensures in
     let behind = c.count_behind-done.ensures in
     let kept = λ (models : IsTrue g.P.Source.models). rw place at (e.kept models) in
     let moments = λ (models : IsTrue g.P.Source.models). rw place at (e.moments models) in
     let written = λ (models : IsTrue g.P.Source.models). rw place at (e.written models) in
-    let all : g.P.Partition.taken c.write_all_at.new.partition ≡ g.P.Partition.taken c.writes.partition + length c.part.result.now = e.all in
-    let more = λ (models : IsTrue g.P.Source.models). unsynced_then (in_range c.args.at (4 * c.args.n)) _ _ _ _ _ _ _ (λ k. within_part c.args.at (4 * c.writes.done) _ (4 * c.args.n) k (omega arith)) (i.kept models) i.synced (kept models) (i.moments models) (moments models) in
+    let all : g.P.Partition.taken c.write_all_at.new.partition ≡ g.P.Partition.taken c.writes.partition
+    + length c.part.result.now = e.all in
+    let more = λ (models : IsTrue g.P.Source.models). unsynced_then (in_range c.args.at (4 * c.args.n)) _ _ _ _ _ _ _
+    (λ k. within_part c.args.at (4 * c.writes.done) _ (4 * c.args.n) k (omega arith)) (i.kept models) i.synced
+    (kept models) (i.moments models) (moments models) in
     record {
       within = omega arith;
       word = i.word;
       size = e.size ∙ i.size;
       taken = omega arith;
-      written = λ models. rw behind (words_more _ _ _ c.part.result.now c.args.word c.args.at c.writes.done some i.word (omega (arith, g.met.P.Source.sized c.args.partition.now models)) (i.written models) part (written models));
+      written = λ models. rw behind
+          (words_more _ _ _ c.part.result.now c.args.word c.args.at c.writes.done some i.word
+          (omega (arith, g.met.P.Source.sized c.args.partition.now models)) (i.written models) part (written models));
       kept = λ models. (more models).0;
       moments = λ models. (more models).1;
       synced = e.synced ∙ i.synced;
@@ -55,4 +61,5 @@ returns-in-Err-clause-moments g c models =
     let long : length c.part.result.now ≡ 4 * some - 0 = c.part.ensures.long in
     let kept = rw c.place_behind.ensures at (e.kept models) in
     let moments = rw c.place_behind.ensures at (e.moments models) in
-    (unsynced_then (in_range c.args.at (4 * c.args.n)) _ _ _ _ _ _ _ (λ k. within_part c.args.at (4 * c.writes.done) _ (4 * c.args.n) k (omega arith)) (i.kept models) i.synced kept (i.moments models) moments).1
+    (unsynced_then (in_range c.args.at (4 * c.args.n)) _ _ _ _ _ _ _ (λ k. within_part c.args.at (4 * c.writes.done) _
+    (4 * c.args.n) k (omega arith)) (i.kept models) i.synced kept (i.moments models) moments).1

@@ -13,9 +13,13 @@ invariant-writes g l =
       word : length l.fn.word ≡ 4;
       size : g.P.Source.size l.partition ≡ g.P.Source.size l.fn.partition;
       taken : g.P.Partition.taken l.partition ≡ g.P.Partition.taken l.fn.partition + 4 * l.done;
-      written : IsTrue g.P.Source.models → content l.partition ≡ put_at (content l.fn.partition) l.at (concat (replicate l.done l.fn.word));
-      kept : IsTrue g.P.Source.models → Keeps (in_range l.at (4 * l.n)) (moment_of (past l.fn.partition) (content l.fn.partition)) (moment_of (past l.partition) (content l.partition));
-      moments : IsTrue g.P.Source.models → EachSince (past l.fn.partition).moments (past l.partition).moments (KeepsUnsynced (in_range l.at (4 * l.n)) (moment_of (past l.fn.partition) (content l.fn.partition)));
+      written : IsTrue g.P.Source.models
+          → content l.partition ≡ put_at (content l.fn.partition) l.at (concat (replicate l.done l.fn.word));
+      kept : IsTrue g.P.Source.models
+          → Keeps (in_range l.at (4 * l.n)) (moment_of (past l.fn.partition) (content l.fn.partition))
+          (moment_of (past l.partition) (content l.partition));
+      moments : IsTrue g.P.Source.models → EachSince (past l.fn.partition).moments (past l.partition).moments
+          (KeepsUnsynced (in_range l.at (4 * l.n)) (moment_of (past l.fn.partition) (content l.fn.partition)));
       synced : (past l.partition).synced ≡ (past l.fn.partition).synced;
       reads : g.P.Source.reads l.partition ≡ g.P.Source.reads l.fn.partition;
       given : g.P.Source.given l.partition ≡ g.P.Source.given l.fn.partition;

@@ -23,8 +23,12 @@ returns-clause-bytes c =
     let n1024 : length f.extra_cmdline ≡ 1024 = omega arith in
     let a1 = put_more [] old old c.put.new.out h 0 48 refl n refl c.put.ensures in
     let a2 = put_more h old c.put.new.out c.put-2.new.out f.name 48 16 n n16 a1 c.put-2.ensures in
-    let a3 = put_more (h ++ f.name) old c.put-2.new.out c.put-3.new.out f.cmdline 64 512 (simp length-append (omega arith)) n512 a2 c.put-3.ensures in
-    let a4 = put_more ((h ++ f.name) ++ f.cmdline) old c.put-3.new.out c.put-4.new.out f.id 576 32 (simp length-append (omega arith)) n32 a3 c.put-4.ensures in
-    let a5 = put_more (((h ++ f.name) ++ f.cmdline) ++ f.id) old c.put-4.new.out c.put-5.new.out f.extra_cmdline 608 1024 (simp length-append (omega arith)) n1024 a4 c.put-5.ensures in
+    let a3 = put_more (h ++ f.name) old c.put-2.new.out c.put-3.new.out f.cmdline 64 512
+    (simp length-append (omega arith)) n512 a2 c.put-3.ensures in
+    let a4 = put_more ((h ++ f.name) ++ f.cmdline) old c.put-3.new.out c.put-4.new.out f.id 576 32
+    (simp length-append (omega arith)) n32 a3 c.put-4.ensures in
+    let a5 = put_more (((h ++ f.name) ++ f.cmdline) ++ f.id) old c.put-4.new.out c.put-5.new.out f.extra_cmdline 608
+    1024 (simp length-append (omega arith)) n1024 a4 c.put-5.ensures in
     a5 ∙ regroup_5 h f.name f.cmdline f.id f.extra_cmdline (drop 1632 old)
-    ∙ ap (λ (t : List ℕ). (t ++ (f.name ++ (f.cmdline ++ (f.id ++ (f.extra_cmdline ++ []))))) ++ drop 1632 old) c.front_head.ensures
+    ∙ ap (λ (t : List ℕ). (t ++ (f.name ++ (f.cmdline ++ (f.id ++ (f.extra_cmdline ++ [])))))
+    ++ drop 1632 old) c.front_head.ensures

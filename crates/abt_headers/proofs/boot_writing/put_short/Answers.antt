@@ -21,7 +21,9 @@ returns-clause-bytes c =
     let v = little_bytes 4 c.args.version in
     let a1 = put_more [] old old c.put.new.out h 0 24 refl n refl c.put.ensures in
     let a2 = put_more h old c.put.new.out c.put-2.new.out f.reserved 24 16 n n16 a1 c.put-2.ensures in
-    let a3 = put_more (h ++ f.reserved) old c.put-2.new.out c.put-3.new.out v 40 4 (simp length-append (omega arith)) refl a2 (rw c.to_le_bytes.ensures at c.put-3.ensures) in
-    let a4 = put_more ((h ++ f.reserved) ++ v) old c.put-3.new.out c.put-4.new.out f.cmdline 44 1536 (simp length-append (omega arith)) n1536 a3 c.put-4.ensures in
+    let a3 = put_more (h ++ f.reserved) old c.put-2.new.out c.put-3.new.out v 40 4
+    (simp length-append (omega arith)) refl a2 (rw c.to_le_bytes.ensures at c.put-3.ensures) in
+    let a4 = put_more ((h ++ f.reserved) ++ v) old c.put-3.new.out c.put-4.new.out f.cmdline 44 1536
+    (simp length-append (omega arith)) n1536 a3 c.put-4.ensures in
     a4 ∙ regroup_4 h f.reserved v f.cmdline (drop 1580 old)
     ∙ ap (λ (t : List ℕ). (t ++ (f.reserved ++ (v ++ (f.cmdline ++ [])))) ++ drop 1580 old) c.short_head.ensures

@@ -8,10 +8,12 @@ returns-clause-value c = c.div_ceil.ensures ∙ ceil_pages c.args.size c.args.pa
 
 pub returns-clause-enough : goal.returns-clause-enough
 returns-clause-enough c =
-    let q : c.div_ceil.result ≡ of_page.pages c.args.size c.args.page = c.div_ceil.ensures ∙ ceil_pages c.args.size c.args.page c.requires in
+    let q : c.div_ceil.result ≡ of_page.pages c.args.size c.args.page = c.div_ceil.ensures
+    ∙ ceil_pages c.args.size c.args.page c.requires in
     rw q (enough_pages c.args.size c.args.page c.requires)
 
 pub returns-clause-least : goal.returns-clause-least
 returns-clause-least c =
-    let q : c.div_ceil.result ≡ of_page.pages c.args.size c.args.page = c.div_ceil.ensures ∙ ceil_pages c.args.size c.args.page c.requires in
+    let q : c.div_ceil.result ≡ of_page.pages c.args.size c.args.page = c.div_ceil.ensures
+    ∙ ceil_pages c.args.size c.args.page c.requires in
     rw q (least_pages c.args.size c.args.page c.requires)

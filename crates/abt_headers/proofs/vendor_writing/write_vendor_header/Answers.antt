@@ -14,5 +14,6 @@ returns-in-V4-clause-bytes c =
     let f = c.put_front-in-V4.ensures in
     let fs = vendor_field_list 4 c.in-V4.front in
     let ts = tail_fields (tail_view c.in-V4.tail) in
-    let a = put_more (joined_fields fs) c.args.out.now c.put_front-in-V4.new.out c.put.new.out (joined_fields ts) 2112 16 f.long refl f.bytes (rw c.tail_bytes.ensures at c.put.ensures) in
+    let a = put_more (joined_fields fs) c.args.out.now c.put_front-in-V4.new.out c.put.new.out
+    (joined_fields ts) 2112 16 f.long refl f.bytes (rw c.tail_bytes.ensures at c.put.ensures) in
     rw c.in-V4.is (a ∙ ap (λ (t : List ℕ). t ++ drop 2128 c.args.out.now) (sym (joined-append fs ts)))

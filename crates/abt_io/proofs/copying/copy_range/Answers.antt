@@ -13,7 +13,8 @@ returns-in_err-got-clause-front g c models =
     let w2 = written c.copy_step.new.output in
     let d = length w2 - length w1 in
     let long : length w2 - length w0 ≡ at + d = omega arith in
-    as_front_of w0 w2 _ (at + d) c.args.n (copied_more w0 w1 w2 _ _ c.args.from at d (i.content models) (i.written models) (e.front models)) long (omega arith)
+    as_front_of w0 w2 _ (at + d) c.args.n (copied_more w0 w1 w2 _ _ c.args.from at d (i.content models)
+    (i.written models) (e.front models)) long (omega arith)
 
 pub loop-at-preserved : goal.loop-at-preserved
 loop-at-preserved g c =
@@ -32,7 +33,8 @@ loop-at-preserved g c =
       present = λ models. omega (arith, e.present models, i.present models, ap length (i.content models));
       content = λ models. e.reads.content models ∙ i.content models;
       size = λ models. e.reads.size models ∙ i.size models;
-      written = λ models. copied_more _ w1 w2 _ _ c.args.from at got (i.content models) (i.written models) (rw more at (e.front models));
+      written = λ models. copied_more _ w1 w2 _ _ c.args.from at got (i.content models) (i.written models)
+          (rw more at (e.front models));
       grown = grown_more _ w1 w2 i.grown e.grown (omega arith);
       frame = e.reads.frame ∙ i.frame;
       write_frame = e.writes.frame ∙ i.write_frame;

@@ -15,7 +15,8 @@ invariant-loop-at g l =
       content : IsTrue g.S.Source.models → told l.source ≡ told l.fn.source;
       size : IsTrue g.S.Source.models → g.S.Source.size l.source ≡ g.S.Source.size l.fn.source;
       grown : take (length (written l.fn.output)) (written l.output) ≡ written l.fn.output;
-      written : IsTrue g.S.Source.models → written l.output ≡ written l.fn.output ++ take l.at (drop l.from (told l.fn.source));
+      written : IsTrue g.S.Source.models → written l.output ≡ written l.fn.output
+          ++ take l.at (drop l.from (told l.fn.source));
       frame : g.S.Source.read_frame l.source ≡ g.S.Source.read_frame l.fn.source;
       write_frame : g.O.Output.write_frame l.output ≡ g.O.Output.write_frame l.fn.output;
       read_faults : g.S.Source.read_faults l.source ≡ g.S.Source.read_faults l.fn.source;

@@ -13,8 +13,14 @@ loop-at-preserved g c =
     record {
       within = omega arith;
       given = omega arith;
-      present = λ models. omega (arith, e.present models, ap length (i.rest models), length-drop at (g.I.Input.remaining c.args.input.now));
-      bytes = λ models. filled c.loop-at.out c.read.new.out _ _ at c.in-Ok.n i.within e.within (i.bytes models) (i.rest models) (c.in-Ok.ensures.bytes models);
+      present = λ models. omega (
+        arith,
+        e.present models,
+        ap length (i.rest models),
+        length-drop at (g.I.Input.remaining c.args.input.now),
+      );
+      bytes = λ models. filled c.loop-at.out c.read.new.out _ _ at c.in-Ok.n i.within e.within (i.bytes models)
+          (i.rest models) (c.in-Ok.ensures.bytes models);
       rest = λ models. rest_more _ _ _ at _ _ (i.rest models) (e.rest models) (omega arith);
       none = λ z. absurd (omega arith);
       frame = e.frame ∙ i.frame;

@@ -16,7 +16,10 @@ loop-done-preserved g c =
       within = omega arith;
       given = omega arith;
       present = λ models. omega (arith, e.present models, i.present models, ap length (i.content models));
-      bytes = λ models. filled c.loop-done.out c.read_at.new.out (drop c.args.at told) _ done c.in-Ok.got i.within e.within (i.bytes models) (ap (λ (l : List ℕ). drop (c.args.at + done) l) (i.content models) ∙ sym (drop-drop done c.args.at told)) (e.bytes models);
+      bytes = λ models. filled c.loop-done.out c.read_at.new.out
+          (drop c.args.at told) _ done c.in-Ok.got i.within e.within (i.bytes models)
+          (ap (λ (l : List ℕ). drop (c.args.at + done) l) (i.content models) ∙ sym (drop-drop done c.args.at told))
+          (e.bytes models);
       content = λ models. e.content models ∙ i.content models;
       size = λ models. e.size models ∙ i.size models;
       none = λ z. absurd (omega arith);

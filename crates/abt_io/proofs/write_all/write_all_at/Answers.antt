@@ -10,7 +10,9 @@ returns-in_err-done-clause-moments g c models =
     let left = length_rest c.loop-done.done c.args.bytes.now in
     let e = c.write_at.ensures.laid in
     let i = c.loop-done.invariant in
-    (unsynced_more (in_range c.args.at (length c.args.bytes.now)) _ _ _ _ _ _ _ (λ k. within_part c.args.at c.loop-done.done _ (length c.args.bytes.now) k (omega arith)) (i.kept models) (e.kept models) (i.moments models) (e.moments models) (e.synced ∙ i.synced)).1
+    (unsynced_more (in_range c.args.at (length c.args.bytes.now)) _ _ _ _ _ _ _
+    (λ k. within_part c.args.at c.loop-done.done _ (length c.args.bytes.now) k (omega arith)) (i.kept models)
+    (e.kept models) (i.moments models) (e.moments models) (e.synced ∙ i.synced)).1
 
 pub loop-done-preserved : goal.loop-done-preserved
 loop-done-preserved g c =
@@ -18,11 +20,15 @@ loop-done-preserved g c =
     let p = c.in_ok-done.ensures.put in
     let i = c.loop-done.invariant in
     let left = length_rest c.loop-done.done c.args.bytes.now in
-    let more = λ (models : IsTrue g.P.Source.models). unsynced_more (in_range c.args.at (length c.args.bytes.now)) _ _ _ _ _ _ _ (λ k. within_part c.args.at c.loop-done.done _ (length c.args.bytes.now) k (omega arith)) (i.kept models) (e.kept models) (i.moments models) (e.moments models) (e.synced ∙ i.synced) in
+    let more = λ (models : IsTrue g.P.Source.models).
+    unsynced_more (in_range c.args.at (length c.args.bytes.now)) _ _ _ _ _ _ _
+    (λ k. within_part c.args.at c.loop-done.done _ (length c.args.bytes.now) k (omega arith)) (i.kept models)
+    (e.kept models) (i.moments models) (e.moments models) (e.synced ∙ i.synced) in
     record {
       within = omega arith;
       size = p.size ∙ i.size;
-      written = λ models. put_on _ _ _ _ c.args.at c.loop-done.done c.in_ok-done.field-0 i.within (omega (arith, g.met.P.Source.sized c.args.partition.now models)) (i.written models) (e.written models);
+      written = λ models. put_on _ _ _ _ c.args.at c.loop-done.done c.in_ok-done.field-0 i.within
+          (omega (arith, g.met.P.Source.sized c.args.partition.now models)) (i.written models) (e.written models);
       kept = λ models. (more models).0;
       moments = λ models. (more models).1;
       synced = e.synced ∙ i.synced;

@@ -10,9 +10,13 @@ invariant-loop-done g l =
     record {
       within : l.done ≤ length l.bytes;
       size : g.P.Source.size l.partition ≡ g.P.Source.size l.fn.partition;
-      written : IsTrue g.P.Source.models → content l.partition ≡ put_at (content l.fn.partition) l.at (take l.done l.bytes);
-      kept : IsTrue g.P.Source.models → Keeps (in_range l.at (length l.bytes)) (moment_of (past l.fn.partition) (content l.fn.partition)) (moment_of (past l.partition) (content l.partition));
-      moments : IsTrue g.P.Source.models → EachSince (past l.fn.partition).moments (past l.partition).moments (KeepsUnsynced (in_range l.at (length l.bytes)) (moment_of (past l.fn.partition) (content l.fn.partition)));
+      written : IsTrue g.P.Source.models
+          → content l.partition ≡ put_at (content l.fn.partition) l.at (take l.done l.bytes);
+      kept : IsTrue g.P.Source.models
+          → Keeps (in_range l.at (length l.bytes)) (moment_of (past l.fn.partition) (content l.fn.partition))
+          (moment_of (past l.partition) (content l.partition));
+      moments : IsTrue g.P.Source.models → EachSince (past l.fn.partition).moments (past l.partition).moments
+          (KeepsUnsynced (in_range l.at (length l.bytes)) (moment_of (past l.fn.partition) (content l.fn.partition)));
       synced : (past l.partition).synced ≡ (past l.fn.partition).synced;
       calls : g.P.Partition.puts l.partition ≤ g.P.Partition.puts l.fn.partition + l.done;
       syncs : g.P.Partition.syncs l.partition ≡ g.P.Partition.syncs l.fn.partition;

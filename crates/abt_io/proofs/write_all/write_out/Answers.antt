@@ -9,8 +9,14 @@ loop-at-preserved g c =
     let bytes = c.args.bytes.now in
     let rest = take (length bytes - c.loop-at.at) (drop c.loop-at.at bytes) in
     let left = length_rest c.loop-at.at bytes in
-    let longer : length (g.O.Output.written c.write.new.self) ≡ length (g.O.Output.written c.loop-at.output) + c.in-Ok.n =
-    omega (arith, ap length e.written, length-append (g.O.Output.written c.loop-at.output) (take c.in-Ok.n rest), length-take-le c.in-Ok.n rest e.within) in
+    let longer : length (g.O.Output.written c.write.new.self) ≡ length (g.O.Output.written c.loop-at.output)
+    + c.in-Ok.n =
+    omega (
+      arith,
+      ap length e.written,
+      length-append (g.O.Output.written c.loop-at.output) (take c.in-Ok.n rest),
+      length-take-le c.in-Ok.n rest e.within,
+    ) in
     record {
       within = omega arith;
       long = omega arith;

@@ -87,7 +87,8 @@ returns-in-Ok g c =
         clean = o.lays.clean.0;
       };
       told = λ models. rw (p.limit, p.made, p.start) (told_more _ _ (λ (d : Cursor). RawPlace r.blocks r.size d) _
-          r.blocks _ _ _ start u _ _ more (c.requires.ready.told models) sound (long models) (o.made.whole.told models).1
+          r.blocks _ _ _ start u _ _ more (c.requires.ready.told models) sound (long models)
+          (o.made.whole.told models).1
           o.made.next behind.done behind.between);
       within = let long = q.long uncut in omega (arith, long);
       over = record {

@@ -19,7 +19,8 @@ returns-then-no_zero c =
     let e = long_text x y in
     let t = sym c.text_field.ensures ∙ c.if-text_field.false in
     let z = sym c.no_zero.ensures ∙ c.if-no_zero.true in
-    c.text_field-then-no_zero.ensures ∙ sym (e ∙ ap (λ (b : Bool). cond b (all_zero y) (no_zero x && text_field y)) t ∙ ap (λ (b : Bool). b && text_field y) z)
+    c.text_field-then-no_zero.ensures ∙ sym (e ∙ ap (λ (b : Bool). cond b (all_zero y) (no_zero x && text_field y)) t
+    ∙ ap (λ (b : Bool). b && text_field y) z)
 
 pub returns-else-no_zero : goal.returns-else-no_zero
 returns-else-no_zero c =
@@ -28,4 +29,5 @@ returns-else-no_zero c =
     let e = long_text x y in
     let t = sym c.text_field.ensures ∙ c.if-text_field.false in
     let z = sym c.no_zero.ensures ∙ c.if-no_zero.false in
-    c.if-no_zero.false ∙ sym (e ∙ ap (λ (b : Bool). cond b (all_zero y) (no_zero x && text_field y)) t ∙ ap (λ (b : Bool). b && text_field y) z)
+    c.if-no_zero.false ∙ sym (e ∙ ap (λ (b : Bool). cond b (all_zero y) (no_zero x && text_field y)) t
+    ∙ ap (λ (b : Bool). b && text_field y) z)

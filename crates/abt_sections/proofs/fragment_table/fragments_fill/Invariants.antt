@@ -16,5 +16,6 @@ invariant-loop-i g l =
       stand : IsTrue s.models → EntriesStand l.w.bytes (s.content l.fn.source) l.table.at l.held.first l.held.end;
       low : l.next ≤ 4294967295 * l.i;
       next : IsTrue s.models → l.next ≡ sizes_before (s.content l.fn.source) h l.i;
-      placed : IsTrue s.models → (j : ℕ) → j < l.i → (entry_of (s.content l.fn.source) h j).ramdisk_offset ≡ sizes_before (s.content l.fn.source) h j;
+      placed : IsTrue s.models → (j : ℕ) → j < l.i
+          → (entry_of (s.content l.fn.source) h j).ramdisk_offset ≡ sizes_before (s.content l.fn.source) h j;
     }

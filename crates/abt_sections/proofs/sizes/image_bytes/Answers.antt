@@ -8,6 +8,11 @@ loop-i-preserved c =
     let page = c.args.page in
     let p : ℕ → ℕ = λ n. pages n page * page in
     record {
-      value = omega (arith, sum_by_more p c.args.sizes.now c.loop-i.i 0 (omega arith), c.loop-i.invariant.value, ap (λ (q : ℕ). q * page) c.pages-in-loop-i.ensures.value);
+      value = omega (
+        arith,
+        sum_by_more p c.args.sizes.now c.loop-i.i 0 (omega arith),
+        c.loop-i.invariant.value,
+        ap (λ (q : ℕ). q * page) c.pages-in-loop-i.ensures.value,
+      );
       low = omega (arith, c.loop-i.invariant.low, c.pages-in-loop-i.ensures.least);
     }

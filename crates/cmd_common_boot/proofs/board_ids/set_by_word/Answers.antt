@@ -16,4 +16,6 @@ pub returns-in-Some-clause-refused : goal.returns-in-Some-clause-refused
 returns-in-Some-clause-refused c = λ fails b shape fits there.
     let other = c.in-Some.ensures.accepts b shape fits in
     let same : c.in-Some.board ≡ b = cc in
-    false≢true (sym fails ∙ c.set_board_id.ensures.named.1 (subst (λ (x : BoardWord). x.fragment < length c.args.specs.now) (sym same) there))
+    false≢true (sym fails
+    ∙ c.set_board_id.ensures.named.1 (subst (λ (x : BoardWord). x.fragment < length c.args.specs.now)
+    (sym same) there))

@@ -9,5 +9,6 @@ returns-then-end-front-clause-value c =
 
 pub returns-clause-value : goal.returns-clause-value
 returns-clause-value c =
-    counted_behind c.args.front.now c.args.back.now c.front_text-end.result.now c.front_text.result.now _ c.front_text-end.ensures c.front_text.ensures
+    counted_behind c.args.front.now c.args.back.now c.front_text-end.result.now c.front_text.result.now _
+    c.front_text-end.ensures c.front_text.ensures
     (omega (arith, c.if-end-front.false)) c.count_set-2.ensures.value

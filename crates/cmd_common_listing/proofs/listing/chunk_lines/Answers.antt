@@ -32,10 +32,14 @@ loop-listed-preserved g c =
       going = λ first. subst IsGoing (sym stands) tt;
       faults = λ first. let i = c.loop-listed.invariant in
           (c.in-Ok.ensures.blame (i.going first)).clean.0 ∙ i.faults first;
-      prints = (c.loop-listed.invariant.prints.0 ++ chunk_line info, c.loop-listed.invariant.prints.1 ▸ c.put_chunk.ensures);
+      prints = (
+        c.loop-listed.invariant.prints.0 ++ chunk_line info,
+        c.loop-listed.invariant.prints.1 ▸ c.put_chunk.ensures,
+      );
       lines = λ models.
           let (done, long, so_far, printed) = c.loop-listed.invariant.lines models in
-          let lists = subst (λ (r : Option ChunkInfo). Lists_next (Ok r) s t x y) c.in-Some.is (c.in-Ok.ensures.lists models) in
+          let lists = subst (λ (r : Option ChunkInfo). Lists_next (Ok r) s t x y) c.in-Some.is
+          (c.in-Ok.ensures.lists models) in
           let next = one_chunk_more _ _ _ _ _ _ _ _ done info so_far lists printed c.put_chunk.ensures in
           (done ++ info ∷ [], length-append done (info ∷ []) ∙ ap (λ (n : ℕ). n + 1) long, next.0, next.1);
     }
@@ -43,7 +47,8 @@ loop-listed-preserved g c =
 pub returns-in-Err-clause-begun : goal.returns-in-Err-clause-begun
 returns-in-Err-clause-begun g c = λ models.
     let (done, long, so_far, printed) = c.loop-listed.invariant.lines models in
-    chunks_begun _ _ _ _ _ done (upcoming c.loop-listed.chunks.walk (g.I.Input.remaining c.loop-listed.input)).shown (ap (λ (l : Listing). l.shown) so_far) printed
+    chunks_begun _ _ _ _ _ done (upcoming c.loop-listed.chunks.walk (g.I.Input.remaining c.loop-listed.input)).shown
+    (ap (λ (l : Listing). l.shown) so_far) printed
 
 pub returns-in-Err-is_whole-clause-begun : goal.returns-in-Err-is_whole-clause-begun
 returns-in-Err-is_whole-clause-begun g c = λ models.
@@ -52,9 +57,11 @@ returns-in-Err-is_whole-clause-begun g c = λ models.
     let s = c.loop-listed.chunks.walk in
     let t = c.next.new.self.walk in
     let (done, long, so_far, printed) = c.loop-listed.invariant.lines models in
-    let lists = subst (λ (r : Option ChunkInfo). Lists_next (Ok r) s t (left c.loop-listed.input) (left c.next.new.input)) c.in-Some.is (c.in-Ok.ensures.lists models) in
+    let lists = subst (λ (r : Option ChunkInfo). Lists_next (Ok r) s t (left c.loop-listed.input)
+    (left c.next.new.input)) c.in-Some.is (c.in-Ok.ensures.lists models) in
     let next = one_chunk_more _ _ _ _ _ _ _ _ done info so_far lists printed c.put_chunk.ensures in
-    chunks_begun _ _ _ _ _ (done ++ info ∷ []) (upcoming t (left c.next.new.input)).shown (ap (λ (l : Listing). l.shown) next.0) next.1
+    chunks_begun _ _ _ _ _ (done ++ info ∷ []) (upcoming t (left c.next.new.input)).shown
+    (ap (λ (l : Listing). l.shown) next.0) next.1
 
 pub returns-in-Err-clause-refused : goal.returns-in-Err-clause-refused
 returns-in-Err-clause-refused g c = λ models.

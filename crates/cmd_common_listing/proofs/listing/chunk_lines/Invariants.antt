@@ -12,11 +12,13 @@ invariant-loop-listed g l =
     let P = Prints g.O.Output.written g.O.Output.write_faults l.initial.text l.text in
     record {
       going : IsGoing l.initial.chunks.walk.phase → IsGoing l.chunks.walk.phase;
-      faults : IsGoing l.initial.chunks.walk.phase → g.I.Input.read_faults l.input ≡ g.I.Input.read_faults l.initial.input;
+      faults : IsGoing l.initial.chunks.walk.phase
+          → g.I.Input.read_faults l.input ≡ g.I.Input.read_faults l.initial.input;
       prints : (done : List ℕ) × P done;
       lines : IsTrue g.I.Input.models
           → (done : List ChunkInfo)
           × (length done ≡ l._listed)
-          × (upcoming l.initial.chunks.walk (left l.initial.input) ≡ shown_before done (upcoming l.chunks.walk (left l.input)))
+          × (upcoming l.initial.chunks.walk (left l.initial.input) ≡ shown_before done
+          (upcoming l.chunks.walk (left l.input)))
           × P (flat_map chunk_line done);
     }

@@ -12,5 +12,7 @@ pub loop-i-preserved : goal.loop-i-preserved
 loop-i-preserved g c =
     let places = places_of (view_of c.args.image.now.header) in
     let i = c.loop-i.i in
-    as_text (ap (λ p. flat_map (section_line c.args.notation) (take i places) ++ section_line c.args.notation p) c.section.ensures.value ∙ one_more (section_line c.args.notation) places i c.section.result (search (rules, arith)))
+    as_text (ap (λ p. flat_map (section_line c.args.notation) (take i places)
+    ++ section_line c.args.notation p) c.section.ensures.value
+    ∙ one_more (section_line c.args.notation) places i c.section.result (search (rules, arith)))
     (c.loop-i.invariant ▸ c.put_section.ensures)

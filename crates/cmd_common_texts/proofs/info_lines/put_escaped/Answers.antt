@@ -9,4 +9,5 @@ loop-byte-init g c = printed_none _ _ _
 
 pub loop-byte-preserved : goal.loop-byte-preserved
 loop-byte-preserved g c =
-    as_text (one_more escaped c.args.bytes.now c.loop-byte.byte-index 0 (search (rules, arith))) (c.loop-byte.invariant ▸ c.put_byte.ensures)
+    as_text (one_more escaped c.args.bytes.now c.loop-byte.byte-index 0 (search (rules, arith)))
+    (c.loop-byte.invariant ▸ c.put_byte.ensures)

@@ -15,7 +15,8 @@ loop-first-preserved c =
     record {
       room = omega arith;
       long = length-set l.room (l.first - 1) c.digit_of.result ∙ l.invariant.long;
-      left = before_digit l.room l.first l.rest c.digit_of.result c.loop-first-test.true l.invariant.room l.invariant.long c.digit_of.ensures c.if-rest-eq0.false ∙ l.invariant.left;
+      left = before_digit l.room l.first l.rest c.digit_of.result c.loop-first-test.true l.invariant.room
+          l.invariant.long c.digit_of.ensures c.if-rest-eq0.false ∙ l.invariant.left;
     }
 
 pub returns-then-rest-eq0 : goal.returns-then-rest-eq0
@@ -23,5 +24,6 @@ returns-then-rest-eq0 c =
     let l = c.loop-first in
     record {
       within = omega arith;
-      digits = last_digit l.room l.first l.rest c.digit_of.result c.loop-first-test.true l.invariant.room l.invariant.long c.digit_of.ensures c.if-rest-eq0.true ∙ l.invariant.left;
+      digits = last_digit l.room l.first l.rest c.digit_of.result c.loop-first-test.true l.invariant.room
+          l.invariant.long c.digit_of.ensures c.if-rest-eq0.true ∙ l.invariant.left;
     }

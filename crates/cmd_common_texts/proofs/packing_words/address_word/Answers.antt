@@ -5,4 +5,6 @@ use Rattle.cmd_common_texts.specs.Words.{number_word, words_if, words_text}
 use Rattle.cmd_common_texts.proofs.packing_words.address_word.Goals as goal
 
 pub returns-in-None : goal.returns-in-None
-returns-in-None g c = as_text (ap (λ a. words_text (words_if (number_word (address_option c.args.which)) a)) (sym c.in-None.is ∙ c.address_of.ensures.value)) (printed_none _ _ _)
+returns-in-None g c =
+    as_text (ap (λ a. words_text (words_if (number_word (address_option c.args.which)) a)) (sym c.in-None.is
+    ∙ c.address_of.ensures.value)) (printed_none _ _ _)

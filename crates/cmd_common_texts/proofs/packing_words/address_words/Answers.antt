@@ -15,4 +15,5 @@ returns g c =
     let w5 = address_word h addresses.Dtb in
     more_words w1 (w2 ++ (w3 ++ (w4 ++ w5))) c.address_word.ensures
     (more_words w2 (w3 ++ (w4 ++ w5)) c.address_word-2.ensures
-    (more_words w3 (w4 ++ w5) c.address_word-3.ensures (more_words w4 w5 c.address_word-4.ensures c.address_word-5.ensures)))
+    (more_words w3 (w4 ++ w5) c.address_word-3.ensures
+    (more_words w4 w5 c.address_word-4.ensures c.address_word-5.ensures)))

@@ -11,11 +11,15 @@ loop-place-preserved g c =
     let ns = c.args.board_id.now in
     let k = c.loop-place.place in
     let there : k < length ns = search (rules, arith) in
-    let one : PrintsWords o g.O.Output.write_faults c.loop-place.text c.board_word.new.text (board_word i (0 + k) (get_or ns k 0)) = search (rules, arith) in
-    let both = both_words o g.O.Output.write_faults c.args.text.now c.loop-place.text c.board_word.new.text (board_words i 0 (take k ns)) (board_word i (0 + k) (get_or ns k 0)) c.loop-place.invariant one in
+    let one : PrintsWords o g.O.Output.write_faults c.loop-place.text c.board_word.new.text
+    (board_word i (0 + k) (get_or ns k 0)) = search (rules, arith) in
+    let both = both_words o g.O.Output.write_faults c.args.text.now c.loop-place.text c.board_word.new.text
+    (board_words i 0 (take k ns)) (board_word i (0 + k) (get_or ns k 0)) c.loop-place.invariant one in
     let next : suc k ≡ k + 1 = omega arith in
-    let all = subst (PrintsWords o g.O.Output.write_faults c.args.text.now c.board_word.new.text) (one_board i 0 ns k there) both in
-    subst (λ (n : ℕ). PrintsWords o g.O.Output.write_faults c.args.text.now c.board_word.new.text (board_words i 0 (take n ns))) next all
+    let all = subst (PrintsWords o g.O.Output.write_faults c.args.text.now c.board_word.new.text)
+    (one_board i 0 ns k there) both in
+    subst (λ (n : ℕ). PrintsWords o g.O.Output.write_faults c.args.text.now c.board_word.new.text
+    (board_words i 0 (take n ns))) next all
 
 pub loop-place-init : goal.loop-place-init
 loop-place-init g c = printed_none _ _ _

@@ -12,5 +12,6 @@ invariant-loop-i g l =
       prints : (done : List ℕ) × Prints g.O.Output.written g.O.Output.write_faults l.initial.text l.text done;
       lines : IsTrue g.S.Source.models
           → (content l.source ≡ content l.initial.source)
-          × Prints g.O.Output.written g.O.Output.write_faults l.initial.text l.text (words_text (fragment_words l.fn.folder (content l.initial.source) (view_of l.fn.image.header) l.i));
+          × Prints g.O.Output.written g.O.Output.write_faults l.initial.text l.text
+          (words_text (fragment_words l.fn.folder (content l.initial.source) (view_of l.fn.image.header) l.i));
     }

@@ -1,6 +1,7 @@
 use Rattle.std.proofs.Common.{[], ◌∷◌, ◌++◌, flat_map}
 use Rattle.abt_sections.specs.Header.{places_of, view_of}
-use Rattle.cmd_common_texts.specs.Words.{address_words, cmdline_word, has_table, kind_words, name_words, os_words, section_words}
+use Rattle.cmd_common_texts.specs.Words.{address_words, cmdline_word, has_table, kind_words, name_words, os_words}
+use Rattle.cmd_common_texts.specs.Words.{section_words}
 use Rattle.cmd_common_texts.proofs.WordLists.{more_words}
 use Rattle.cmd_common_texts.proofs.packing_words.header_words.Goals as goal
 

@@ -17,7 +17,8 @@ returns-in-Boot g c =
     (more_words (escaped ∷ []) (version ∷ page ∷ []) c.put_flag_word.ensures
     (more_words (version ∷ []) (page ∷ [])
     (as_text (ap (λ n. words_text (number_word (codes "version") n ∷ [])) c.version.ensures) c.put_number_word.ensures)
-    (as_text (ap (λ n. words_text (number_word (codes "page") n ∷ [])) c.page_size.ensures.value) c.put_number_word-in-Boot.ensures)))
+    (as_text (ap (λ n. words_text (number_word (codes "page") n ∷ [])) c.page_size.ensures.value)
+    c.put_number_word-in-Boot.ensures)))
 
 pub returns-in-Vendor : goal.returns-in-Vendor
 returns-in-Vendor g c =

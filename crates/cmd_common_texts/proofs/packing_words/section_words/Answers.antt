@@ -17,6 +17,9 @@ loop-i-preserved g c =
     let folder = c.args.folder.now in
     let i = c.loop-i.i in
     let words = section_words folder (has_table h) in
-    let more = ap (λ p. flat_map words (take i places) ++ words p) c.section.ensures.value ∙ one_more words places i c.section.result (search (rules, arith)) in
+    let more = ap (λ p. flat_map words (take i places) ++ words p) c.section.ensures.value
+    ∙ one_more words places i c.section.result (search (rules, arith)) in
     as_text (sym (flat_map-append line (flat_map words (take i places)) (words c.section.result)) ∙ ap words_text more)
-    (c.loop-i.invariant ▸ as_text (ap (λ t. words_text (section_words folder t c.section.result)) c.has_table-table.ensures) c.section_word.ensures)
+    (c.loop-i.invariant ▸ as_text
+    (ap (λ t. words_text (section_words folder t c.section.result)) c.has_table-table.ensures)
+    c.section_word.ensures)

@@ -7,4 +7,5 @@ use Rattle.cmd_common_texts.proofs.packing_words.section_words.Given as goal
 abbrev pub invariant-loop-i : goal.invariant-loop-i
 invariant-loop-i g l =
     let h = view_of l.fn.image.header in
-    Prints g.O.Output.written g.O.Output.write_faults l.initial.text l.text (words_text (flat_map (section_words l.fn.folder (has_table h)) (take l.i (places_of h))))
+    Prints g.O.Output.written g.O.Output.write_faults l.initial.text l.text
+    (words_text (flat_map (section_words l.fn.folder (has_table h)) (take l.i (places_of h))))

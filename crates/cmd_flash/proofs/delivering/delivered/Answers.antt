@@ -9,7 +9,8 @@ returns-in-Some-clause-delivers g c = λ s l p none.
     let all = answered_raw c.in-Some.size c.args.limit (c.args.from - 1) _ _ c.resume_raw_at.result _ _ _ _ _ _ _ _ _ s
     l p
     (g.met.P.Source.sized c.args.onto.now p) (g.met.S.Source.sized c.args.source.now.device s)
-    (λ same. ap g.P.Source.content same.1) e.allowed e.refused e.image.delivers.early (e.image.delivers.counted s) e.image.partition
+    (λ same. ap g.P.Source.content same.1) e.allowed e.refused e.image.delivers.early
+    (e.image.delivers.counted s) e.image.partition
     (e.image.mends s l p) in
     rw c.in-Some.is (delivers_for _ _ (Some c.in-Some.size) c.resume_raw_at.result c.args.limit (c.args.from - 1) _ _ _
     (sums_same _ _ _ _ _ _ _ _ _ _) (delivers (Some c.in-Some.size) c.args.limit (c.args.from - 1)

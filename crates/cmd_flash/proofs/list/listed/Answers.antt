@@ -3,7 +3,8 @@ use Rattle.cmd_flash.proofs.list.listed.Goals as goal
 
 pub returns-clause-listed : goal.returns-clause-listed
 returns-clause-listed g c = λ t.
-    listed_whole c.report_list.result _ _ _ (g.met.I.Input.are_bytes c.args.from.now t) (c.report_list.ensures.printed t)
+    listed_whole c.report_list.result _ _ _ (g.met.I.Input.are_bytes c.args.from.now t)
+    (c.report_list.ensures.printed t)
 
 pub returns-clause-refused : goal.returns-clause-refused
 returns-clause-refused g c = λ t.

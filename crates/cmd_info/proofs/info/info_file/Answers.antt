@@ -12,7 +12,8 @@ returns-in-Err-clause-refused g c = λ t. refuses_host _ _ _ _ _ c.into.ensures 
 -- it was told
 pub returns-in-Ok-tell_image-clause-done : goal.returns-in-Ok-tell_image-clause-done
 returns-in-Ok-tell_image-clause-done g c = λ t.
-    tells_file _ _ _ _ _ _ _ _ _ (c.in-Ok.ensures.opened t) (c.in-Ok-tell_image.ensures.done (g.met.D.Disk.source_told t))
+    tells_file _ _ _ _ _ _ _ _ _ (c.in-Ok.ensures.opened t)
+    (c.in-Ok-tell_image.ensures.done (g.met.D.Disk.source_told t))
 
 pub returns-in-Ok-tell_image-clause-leaves : goal.returns-in-Ok-tell_image-clause-leaves
 returns-in-Ok-tell_image-clause-leaves g c = record {

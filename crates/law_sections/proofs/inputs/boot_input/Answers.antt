@@ -13,5 +13,6 @@ returns g c = λ models none.
     record {
       numbers = c.boot_numbers.ensures;
       count = length-map ps s.content ∙ c.requires;
-      accepted = ap (λ (l : List ℕ). pack_boot_refusal fields l) (sym (sizes_are s.size s.content ps (λ p. g.met.S.Source.sized p models))) ∙ none;
+      accepted = ap (λ (l : List ℕ). pack_boot_refusal fields l)
+          (sym (sizes_are s.size s.content ps (λ p. g.met.S.Source.sized p models))) ∙ none;
     }

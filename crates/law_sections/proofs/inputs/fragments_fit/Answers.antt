@@ -8,7 +8,8 @@ pub loop-fragment-preserved : goal.loop-fragment-preserved
 loop-fragment-preserved c =
     let fs = c.args.fragments.now in
     let i = c.loop-fragment.fragment-index in
-    All-same FragmentFits _ _ (take_more fs i _ c.loop-fragment-test.true) (All-push FragmentFits (take i fs) _ c.loop-fragment.invariant c.fragment_fits.ensures)
+    All-same FragmentFits _ _ (take_more fs i _ c.loop-fragment-test.true)
+    (All-push FragmentFits (take i fs) _ c.loop-fragment.invariant c.fragment_fits.ensures)
 
 pub returns : goal.returns
 returns c =

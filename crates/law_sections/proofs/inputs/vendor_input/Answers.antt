@@ -23,8 +23,11 @@ returns g c = λ models none.
       four = λ e. c.requires.four e ∙ sym (length-map rs s.content);
       accepted =
           sym (
-          ap (λ (k : ℕ). pack_vendor_refusal fields (vendor_sizes_for k (s.size c.args.dtb.now) n (s.size c.args.bootconfig.now))) ramdisk
-          ∙ ap (λ (k : ℕ). pack_vendor_refusal fields (vendor_sizes_for (length (concat (map s.content rs))) k n (s.size c.args.bootconfig.now))) dtb
-          ∙ ap (λ (k : ℕ). pack_vendor_refusal fields (vendor_sizes_for (length (concat (map s.content rs))) (length (s.content c.args.dtb.now)) n k)) config
+          ap (λ (k : ℕ). pack_vendor_refusal fields (vendor_sizes_for k (s.size c.args.dtb.now) n
+          (s.size c.args.bootconfig.now))) ramdisk
+          ∙ ap (λ (k : ℕ). pack_vendor_refusal fields (vendor_sizes_for (length (concat (map s.content rs))) k n
+          (s.size c.args.bootconfig.now))) dtb
+          ∙ ap (λ (k : ℕ). pack_vendor_refusal fields (vendor_sizes_for (length (concat (map s.content rs)))
+          (length (s.content c.args.dtb.now)) n k)) config
           ) ∙ none;
     }

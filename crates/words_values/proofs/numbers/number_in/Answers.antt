@@ -22,5 +22,6 @@ returns-in_ok-number_word-in-Number-clause-accepts c = λ n r.
 
 pub returns-in-LongNumber-clause-accepts : goal.returns-in-LongNumber-clause-accepts
 returns-in-LongNumber-clause-accepts c = λ n r.
-    let q : IsRead LongNumber c.args.word.now n = subst (λ (v : Value). IsRead v c.args.word.now n) c.in-LongNumber.is r in
+    let q : IsRead LongNumber c.args.word.now n =
+    subst (λ (v : Value). IsRead v c.args.word.now n) c.in-LongNumber.is r in
     c.number_word-in-LongNumber.ensures.accepts n q.0 q.1

@@ -5,5 +5,6 @@ use Rattle.words_values.proofs.word_files.expanded.Given as goal
 
 abbrev pub invariant-loop-word : goal.invariant-loop-word
 invariant-loop-word g l =
-    map (λ word. word.now) l.all.items ++ expansion (drop l.word-index (map g.S.AsStr.text l.words)) (map string_bytes l.left)
+    map (λ word. word.now) l.all.items ++ expansion (drop l.word-index (map g.S.AsStr.text l.words))
+    (map string_bytes l.left)
     ≡ expansion (map g.S.AsStr.text l.words) (map string_bytes l.texts)

@@ -8,7 +8,9 @@ use Rattle.words_values.proofs.word_files.push_lines.Goals as goal
 pub returns : goal.returns
 returns c =
     let seen = YieldsList-end
-    (YieldsList-at c.into_iter-line-iterator.ensures.into_iter_gives (YieldsList-from_lines c.args.text.now c.lines-line-items.ensures.rest))
+    (YieldsList-at c.into_iter-line-iterator.ensures.into_iter_gives
+    (YieldsList-from_lines c.args.text.now c.lines-line-items.ensures.rest))
     c.loop-line.yielded _ c.loop-line.yielded_by _ _ c.in-None.is c.next.ensures.steps in
     c.loop-line.invariant
-    ∙ ap (λ (ls : List (List ℕ)). map (λ it. it.now) c.args.words.now.items ++ filter (λ line. not (length line == 0)) ls) seen.0
+    ∙ ap (λ (ls : List (List ℕ)). map (λ it. it.now) c.args.words.now.items
+    ++ filter (λ line. not (length line == 0)) ls) seen.0

@@ -20,7 +20,8 @@ pub returns-in-Done-clause-stepped : goal.returns-in-Done-clause-stepped
 returns-in-Done-clause-stepped g c = record {
   read = search rules;
   unread = search rules;
-  told = λ models. nothing_laid _ _ _ _ _ _ _ _ _ _ (nothing_read _ _) refl (λ goes. absurd (rw c.in-Done.is at goes)) tt;
+  told = λ models. nothing_laid _ _ _ _ _ _ _ _ _ _ (nothing_read _ _) refl
+      (λ goes. absurd (rw c.in-Done.is at goes)) tt;
   heads = λ models goes. absurd (rw c.in-Done.is at goes);
   syncs =
       record {

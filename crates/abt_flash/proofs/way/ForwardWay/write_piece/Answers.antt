@@ -4,7 +4,8 @@ use Rattle.abt_flash.proofs.way.ForwardWay.write_piece.Goals as goal
 use Rattle.abt_io.proofs.Lent.{reads_err, reads_ok, writes_ok, writes_err}
 
 pub returns-in-Err-clause-begins : goal.returns-in-Err-clause-begins
-returns-in-Err-clause-begins g c forward models = rw c.requires.between at (begins_front _ _ _ _ (c.next_piece.ensures.front models))
+returns-in-Err-clause-begins g c forward models =
+    rw c.requires.between at (begins_front _ _ _ _ (c.next_piece.ensures.front models))
 
 pub returns-in-Ok-Some-clause-made : goal.returns-in-Ok-Some-clause-made
 returns-in-Ok-Some-clause-made g c =

@@ -32,7 +32,9 @@ returns-in-Ok-Some-clause-made g c = record {
   words =
       let e = c.next_piece_at.ensures in
       let going = (rw c.in-Ok-Some.field-0-is at c.in-Ok-Some.ensures.made).going_turns in
-      late_words _ _ c.args.cutter.now.runs.size c.args.cutter.now.runs.blocks c.in-Ok-Some.piece.past (omega (arith, e.work.turns, e.costs.given, e.grows.grown)) (λ lt. let h = going lt in omega (arith, h, e.costs.given, e.grows.grown));
+      late_words _ _ c.args.cutter.now.runs.size c.args.cutter.now.runs.blocks c.in-Ok-Some.piece.past
+      (omega (arith, e.work.turns, e.costs.given, e.grows.grown)) (λ lt. let h = going lt in
+      omega (arith, h, e.costs.given, e.grows.grown));
   takes =
       let o = c.in-Ok-Some.ensures in
       let made = rw c.in-Ok-Some.field-0-is at o.made in
@@ -40,7 +42,10 @@ returns-in-Ok-Some-clause-made g c = record {
       let long = made.long in
       let within = c.args.cutter.now.sound.within.within in
       let takes = made.takes in
-      late_takes _ _ c.in-Ok-Some.piece.bytes c.in-Ok-Some.piece.first c.in-Ok-Some.piece.past _ _ (c.args.cutter.now.runs.size + 16) (passes_on c.args.cutter.now.runs.blocks c.in-Ok-Some.piece.first c.in-Ok-Some.piece.past p.passed.moves (rw p.begins within)) p.begins p.ends long takes;
+      late_takes _ _ c.in-Ok-Some.piece.bytes c.in-Ok-Some.piece.first c.in-Ok-Some.piece.past _ _
+      (c.args.cutter.now.runs.size + 16)
+      (passes_on c.args.cutter.now.runs.blocks c.in-Ok-Some.piece.first c.in-Ok-Some.piece.past p.passed.moves
+      (rw p.begins within)) p.begins p.ends long takes;
 }
 
 pub returns-in-Err-clause-source : goal.returns-in-Err-clause-source

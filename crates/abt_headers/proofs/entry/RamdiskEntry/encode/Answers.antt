@@ -9,4 +9,5 @@ pub returns-clause-again : goal.returns-clause-again
 unfolding entry_record
 returns-clause-again c =
     let e = c.args.self.now in
-    entry_again e c.entry_bytes.result c.entry_fits.ensures (c.entry_bytes.ensures ∙ sym (append-nil (joined_fields (entry_fields e))) ∙ joined_rest (entry_fields e) [])
+    entry_again e c.entry_bytes.result c.entry_fits.ensures (c.entry_bytes.ensures
+    ∙ sym (append-nil (joined_fields (entry_fields e))) ∙ joined_rest (entry_fields e) [])

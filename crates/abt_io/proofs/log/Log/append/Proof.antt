@@ -1,5 +1,9 @@
 -- An empty body. The borrow is opened and closed at another ghost value.
-use Rattle.abt_io.proofs.Steps.{[], ◌∷◌, refl, proved, id⊢, ftrue, flft, named, vunit, ‵, ◌⊛◌, ◌$◌, ◌∵◌, !, qed, done, move, keep, use1, split, join, fsplit3, feq_i, suffices, frame, group, enter, of_opd, unit_lit, returns, alloc_all, pass_all, free_all, look_at, sets, u8, yes, MutRef, mut_vals, mut_Tells, ShrSlice, shr_slice_vals, shr_slice_Tells, plain, opens, closes, Stays, walk_of, says, stay_none_slice, Goes-none_slice, stay_ref, Goes-ref, ends_at}
+use Rattle.abt_io.proofs.Steps.{[], ◌∷◌, refl, proved, id⊢, ftrue, flft, named, vunit, ‵, ◌⊛◌, ◌$◌, ◌∵◌, !, qed, done}
+use Rattle.abt_io.proofs.Steps.{move, keep, use1, split, join, fsplit3, feq_i, suffices, frame, group, enter, of_opd}
+use Rattle.abt_io.proofs.Steps.{unit_lit, returns, alloc_all, pass_all, free_all, look_at, sets, u8, yes, MutRef}
+use Rattle.abt_io.proofs.Steps.{mut_vals, mut_Tells, ShrSlice, shr_slice_vals, shr_slice_Tells, plain, opens, closes}
+use Rattle.abt_io.proofs.Steps.{Stays, walk_of, says, stay_none_slice, Goes-none_slice, stay_ref, Goes-ref, ends_at}
 use Rattle.abt_io.specs.contracts.log.Log.append as f
 use Rattle.abt_io.proofs.log.Log.append.Statement.{statement}
 use Rattle.abt_io.proofs.log.Log.append.Code as code
@@ -13,16 +17,22 @@ stayed = (stay_ref (0 ∷ []) tt (plain (λ _. R)), (stay_none_slice (1 ∷ []) 
 pub append_spec : {M : Type 1} → statement M
 append_spec 𝓤 𝓛 𝓜 𝓡 wired =
     let c = f.clauses 𝓛 𝓜.mem 𝓡.returns in let W = walk_of 𝓛 f.ended stayed c in
-    proved 𝓛 f.ended stayed c 𝓜 𝓡 (Goes-ref 𝓛 2 0 tt (plain (λ _. R)), (Goes-none_slice 𝓛 2 (1 ∷ []) tt (plain (λ _. u8)) yes, tt))
+    proved 𝓛 f.ended stayed c 𝓜 𝓡 (
+      Goes-ref 𝓛 2 0 tt (plain (λ _. R)),
+      (Goes-none_slice 𝓛 2 (1 ∷ []) tt (plain (λ _. u8)) yes, tt),
+    )
     f.Key.name code.function (code.unfolded 𝓤 𝓛.H 𝓜 𝓡 wired)
-    (λ κs. (mut_vals, (shr_slice_vals, tt))) (λ κs. (mut_Tells (named 0) κs.0 R, (shr_slice_Tells (named 1) κs.1.0 u8, tt))) (λ κs qs bounds a _ are.
+    (λ κs. (mut_vals, (shr_slice_vals, tt)))
+    (λ κs. (mut_Tells (named 0) κs.0 R, (shr_slice_Tells (named 1) κs.1.0 u8, tt))) (λ κs qs bounds a _ are.
     let b = a.0.ref_ptr.0 in let o = a.0.ref_ptr.1 in let h = a.0.now in let s = a.1.0 in let vs = mut_vals a.0 in
     let h' : Log = record { state = and_bytes h.state s.now } in
     let y : W.Ghost = ((κs, qs, bounds, a, (vs, (shr_slice_vals s, tt))), tt) in
-    qed 𝓛 (((‵ (flft κs.0 qs.0) ⊛ (‵ (flft κs.1.0 qs.1.0) ⊛ ‵ ftrue)) ⊛ ‵ ((MutRef (named 0) κs.0 R).own_val a.0 vs) ⊛ (‵ ((ShrSlice (named 1) κs.1.0 u8).own_val s (shr_slice_vals s)) ⊛ ‵ ftrue)) ∷ ‵ ftrue ∷ []) ∵
+    qed 𝓛 (((‵ (flft κs.0 qs.0) ⊛ (‵ (flft κs.1.0 qs.1.0) ⊛ ‵ ftrue)) ⊛ ‵ ((MutRef (named 0) κs.0 R).own_val a.0 vs) ⊛
+    (‵ ((ShrSlice (named 1) κs.1.0 u8).own_val s (shr_slice_vals s)) ⊛ ‵ ftrue)) ∷ ‵ ftrue ∷ []) ∵
     split ! $ split ! $ move ! (2 ∷ []) $ split ! $ keep ! (0 ∷ 1 ∷ 2 ∷ 3 ∷ []) $
     -- [self; the slice and nothing; the token of self; the token of the slice]
-    enter ! _ _ _ _ _ $ alloc_all ! (λ l. pass_all ! refl ((tt, tt), ((tt, (tt, (record { fits = are.1.0.0.1.0 }, tt))), tt)) $
+    enter ! _ _ _ _ _ $ alloc_all !
+    (λ l. pass_all ! refl ((tt, tt), ((tt, (tt, (record { fits = are.1.0.0.1.0 }, tt))), tt)) $
     fsplit3 ! $ move ! (1 ∷ 2 ∷ 4 ∷ []) $ opens ! tt R b o (λ us.
     sets ! (of_opd ! (unit_lit !)) refl (tt, tt) $
     move ! (1 ∷ []) $ use1 𝓛 (‵ (R.own_val h' us)) (id⊢ 𝓤 _) $ move ! (1 ∷ 0 ∷ []) $ closes ! tt R h' us b o $

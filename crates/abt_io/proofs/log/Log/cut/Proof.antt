@@ -1,5 +1,9 @@
 -- An empty body. The borrow is opened and closed at another ghost value.
-use Rattle.abt_io.proofs.Steps.{[], ◌∷◌, refl, proved, id⊢, ftrue, flft, named, vunit, ‵, ◌⊛◌, ◌$◌, ◌∵◌, !, qed, done, move, keep, use1, split, join, fsplit3, feq_i, suffices, frame, group, enter, of_opd, unit_lit, returns, alloc_all, pass_all, free_all, look_at, sets, MutRef, mut_vals, mut_Tells, plain, nothing, opens, closes, Stays, walk_of, says, stay_ref, Goes-ref, ends_at}
+use Rattle.abt_io.proofs.Steps.{[], ◌∷◌, refl, proved, id⊢, ftrue, flft, named, vunit, ‵, ◌⊛◌, ◌$◌, ◌∵◌, !, qed, done}
+use Rattle.abt_io.proofs.Steps.{move, keep, use1, split, join, fsplit3, feq_i, suffices, frame, group, enter, of_opd}
+use Rattle.abt_io.proofs.Steps.{unit_lit, returns, alloc_all, pass_all, free_all, look_at, sets, MutRef, mut_vals}
+use Rattle.abt_io.proofs.Steps.{mut_Tells, plain, nothing, opens, closes, Stays, walk_of, says, stay_ref, Goes-ref}
+use Rattle.abt_io.proofs.Steps.{ends_at}
 use Rattle.abt_io.specs.contracts.log.Log.cut as f
 use Rattle.abt_io.proofs.log.Log.cut.Statement.{statement}
 use Rattle.abt_io.proofs.log.Log.cut.Code as code
@@ -27,5 +31,6 @@ cut_spec 𝓤 𝓛 𝓜 𝓡 wired =
     move ! (1 ∷ []) $ use1 𝓛 (‵ (R.own_val h' us)) (id⊢ 𝓤 _) $ move ! (1 ∷ 0 ∷ []) $ closes ! tt R h' us b o $
     returns ! (look_at ! 0 refl) $ free_all ! refl $ move ! (3 ∷ []) $
     suffices ! _ (ends_at 𝓛 f.ended stayed c y vunit tt (h', tt) (tt, tt)) $ says ! refl $
-    group ! 3 $ nothing ! $ move ! (1 ∷ 0 ∷ []) $ join ! $ nothing ! $ move ! (2 ∷ 0 ∷ []) $ join ! $ frame ! $ frame ! $
+    group ! 3 $ nothing ! $ move ! (1 ∷ 0 ∷ []) $ join ! $ nothing ! $ move ! (2 ∷ 0
+    ∷ []) $ join ! $ frame ! $ frame ! $
     feq_i ! _ (vunit ∷ []) _ refl $ done !)))

@@ -1,5 +1,7 @@
 -- It makes a value of no bytes, at the ghost value that a fresh one has.
-use Rattle.abt_io.proofs.Steps.{[], ◌∷◌, ◌⊛◌, split, refl, proved, vstruct, vnil, raw, ‵, ◌$◌, ◌∵◌, !, qed, done, keep, suffices, enter, no_more, returns, agg, alloc_all, pass_all, free_all, look_at, sets, owns, pure_i, alive, Stays, walk_of, says, ends_at, ftrue}
+use Rattle.abt_io.proofs.Steps.{[], ◌∷◌, ◌⊛◌, split, refl, proved, vstruct, vnil, raw, ‵, ◌$◌, ◌∵◌, !, qed, done, keep}
+use Rattle.abt_io.proofs.Steps.{suffices, enter, no_more, returns, agg, alloc_all, pass_all, free_all, look_at, sets}
+use Rattle.abt_io.proofs.Steps.{owns, pure_i, alive, Stays, walk_of, says, ends_at, ftrue}
 use Rattle.abt_io.specs.contracts.log.Log.new as f
 use Rattle.abt_io.proofs.log.Log.new.Statement.{statement}
 use Rattle.abt_io.proofs.log.Log.new.Code as code
@@ -21,5 +23,6 @@ new_spec 𝓤 𝓛 𝓜 𝓡 wired =
     sets ! (agg ! (no_more !)) refl (tt, tt) $
     returns ! (look_at ! 0 refl) $ free_all ! refl $
     suffices ! _ (ends_at 𝓛 f.ended stayed c y (vstruct vnil) (record { state = nothing_logged }) tt tt) $
-    says ! refl $ pure_i ! (R.own_val (record { state = nothing_logged }) (vstruct vnil ∷ [])) ((λ vss. (tt, tt)), tt) ((tt, (refl, tt)), tt) $
+    says ! refl $ pure_i ! (R.own_val (record { state = nothing_logged }) (vstruct vnil ∷ [])) ((λ vss. (tt, tt)), tt)
+    ((tt, (refl, tt)), tt) $
     keep ! (1 ∷ 2 ∷ 0 ∷ []) $ done !))

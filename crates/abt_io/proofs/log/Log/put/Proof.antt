@@ -1,5 +1,10 @@
 -- An empty body. The borrow is opened and closed at another ghost value.
-use Rattle.abt_io.proofs.Steps.{w64, u64, uint_vals, uint_Tells, stay_dropped, Goes-dropped, [], ◌∷◌, refl, proved, id⊢, ftrue, flft, named, vunit, ‵, ◌⊛◌, ◌$◌, ◌∵◌, !, qed, done, move, keep, use1, split, join, fsplit3, feq_i, suffices, frame, group, enter, of_opd, unit_lit, returns, alloc_all, pass_all, free_all, look_at, sets, u8, yes, MutRef, mut_vals, mut_Tells, ShrSlice, shr_slice_vals, shr_slice_Tells, plain, nothing, opens, closes, Stays, walk_of, says, stay_none_slice, Goes-none_slice, stay_ref, Goes-ref, ends_at}
+use Rattle.abt_io.proofs.Steps.{w64, u64, uint_vals, uint_Tells, stay_dropped, Goes-dropped, [], ◌∷◌, refl, proved, id⊢}
+use Rattle.abt_io.proofs.Steps.{ftrue, flft, named, vunit, ‵, ◌⊛◌, ◌$◌, ◌∵◌, !, qed, done, move, keep, use1, split}
+use Rattle.abt_io.proofs.Steps.{join, fsplit3, feq_i, suffices, frame, group, enter, of_opd, unit_lit, returns}
+use Rattle.abt_io.proofs.Steps.{alloc_all, pass_all, free_all, look_at, sets, u8, yes, MutRef, mut_vals, mut_Tells}
+use Rattle.abt_io.proofs.Steps.{ShrSlice, shr_slice_vals, shr_slice_Tells, plain, nothing, opens, closes, Stays}
+use Rattle.abt_io.proofs.Steps.{walk_of, says, stay_none_slice, Goes-none_slice, stay_ref, Goes-ref, ends_at}
 use Rattle.abt_io.specs.contracts.log.Log.put as f
 use Rattle.abt_io.proofs.log.Log.put.Statement.{statement}
 use Rattle.abt_io.proofs.log.Log.put.Code as code
@@ -8,28 +13,49 @@ use Rattle.abt_io.specs.declared.log.Log.{Log}
 use Rattle.abt_io.specs.Over.{and_put}
 
 abbrev stayed : Stays f.ended.signature.params f.ended.kept
-stayed = (stay_ref (0 ∷ []) tt (plain (λ _. R)), (stay_none_slice (1 ∷ []) tt (plain (λ _. u8)) yes, (stay_dropped _ yes, tt)))
+stayed = (
+  stay_ref (0 ∷ []) tt (plain (λ _. R)),
+  (
+    stay_none_slice (1 ∷ []) tt (plain (λ _. u8)) yes,
+    (stay_dropped _ yes, tt),
+  ),
+)
 
 pub put_spec : {M : Type 1} → statement M
 put_spec 𝓤 𝓛 𝓜 𝓡 wired =
     let c = f.clauses 𝓛 𝓜.mem 𝓡.returns in let W = walk_of 𝓛 f.ended stayed c in
     let goes = Goes-dropped 𝓛 2 (plain (λ _. u64)) yes (λ κs x w. refl) in
-    proved 𝓛 f.ended stayed c 𝓜 𝓡 (Goes-ref 𝓛 2 0 tt (plain (λ _. R)), (Goes-none_slice 𝓛 2 (1 ∷ []) tt (plain (λ _. u8)) yes, (goes, tt)))
+    proved 𝓛 f.ended stayed c 𝓜 𝓡 (
+      Goes-ref 𝓛 2 0 tt (plain (λ _. R)),
+      (Goes-none_slice 𝓛 2 (1 ∷ []) tt (plain (λ _. u8)) yes, (goes, tt)),
+    )
     f.Key.name code.function (code.unfolded 𝓤 𝓛.H 𝓜 𝓡 wired)
-    (λ κs. (mut_vals, (shr_slice_vals, (uint_vals w64, tt)))) (λ κs. (mut_Tells (named 0) κs.0 R, (shr_slice_Tells (named 1) κs.1.0 u8, (uint_Tells w64, tt)))) (λ κs qs bounds a _ are.
+    (λ κs. (mut_vals, (shr_slice_vals, (uint_vals w64, tt))))
+    (λ κs. (mut_Tells (named 0) κs.0 R, (shr_slice_Tells (named 1) κs.1.0 u8, (uint_Tells w64, tt))))
+    (λ κs qs bounds a _ are.
     let b = a.0.ref_ptr.0 in let o = a.0.ref_ptr.1 in let h = a.0.now in let s = a.1.0 in let vs = mut_vals a.0 in
     let at = a.1.1.0 in
     let h' : Log = record { state = and_put h.state at s.now } in
     let y : W.Ghost = ((κs, qs, bounds, a, (vs, (shr_slice_vals s, (uint_vals w64 at, tt)))), tt) in
-    qed 𝓛 (((‵ (flft κs.0 qs.0) ⊛ (‵ (flft κs.1.0 qs.1.0) ⊛ ‵ ftrue)) ⊛ ‵ ((MutRef (named 0) κs.0 R).own_val a.0 vs) ⊛ (‵ ((ShrSlice (named 1) κs.1.0 u8).own_val s (shr_slice_vals s)) ⊛ (‵ (u64.own_val at (uint_vals w64 at)) ⊛ ‵ ftrue))) ∷ ‵ ftrue ∷ []) ∵
+    qed 𝓛 (((‵ (flft κs.0 qs.0) ⊛ (‵ (flft κs.1.0 qs.1.0) ⊛ ‵ ftrue)) ⊛ ‵ ((MutRef (named 0) κs.0 R).own_val a.0 vs) ⊛
+    (‵ ((ShrSlice (named 1) κs.1.0 u8).own_val s (shr_slice_vals s)) ⊛
+    (‵ (u64.own_val at (uint_vals w64 at)) ⊛ ‵ ftrue))) ∷ ‵ ftrue ∷ []) ∵
     split ! $ split ! $ move ! (2 ∷ []) $ split ! $ move ! (1 ∷ []) $ split ! $ keep ! (2 ∷ 0 ∷ 3 ∷ 4 ∷ []) $
     -- [self; the slice; the token of self; the token of the slice]
-    enter ! _ _ _ _ _ $ alloc_all ! (λ l. pass_all ! refl ((tt, tt), ((tt, (tt, (record { fits = are.1.0.0.1.0 }, tt))), ((tt, record { fits = are.1.1.0.1 }), tt))) $
+    enter ! _ _ _ _ _ $ alloc_all !
+    (λ l. pass_all ! refl (
+      (tt, tt),
+      (
+        (tt, (tt, (record { fits = are.1.0.0.1.0 }, tt))),
+        ((tt, record { fits = are.1.1.0.1 }), tt),
+      ),
+    ) $
     fsplit3 ! $ move ! (1 ∷ 2 ∷ 4 ∷ []) $ opens ! tt R b o (λ us.
     sets ! (of_opd ! (unit_lit !)) refl (tt, tt) $
     move ! (1 ∷ []) $ use1 𝓛 (‵ (R.own_val h' us)) (id⊢ 𝓤 _) $ move ! (1 ∷ 0 ∷ []) $ closes ! tt R h' us b o $
     returns ! (look_at ! 0 refl) $ free_all ! refl $ move ! (3 ∷ []) $
     -- [self in three parts; the token of self; the slice; the token of the slice]
     suffices ! _ (ends_at 𝓛 f.ended stayed c y vunit tt (h', (tt, (tt, tt))) (tt, (tt, (tt, tt)))) $ says ! refl $
-    group ! 3 $ nothing ! $ nothing ! $ join ! $ move ! (3 ∷ 0 ∷ []) $ join ! $ move ! (1 ∷ 0 ∷ []) $ join ! $ move ! (1 ∷ 2 ∷ []) $ join ! $ frame ! $ frame ! $
+    group ! 3 $ nothing ! $ nothing ! $ join ! $ move ! (3 ∷ 0 ∷ []) $ join ! $ move ! (1 ∷ 0 ∷ []) $ join ! $ move !
+    (1 ∷ 2 ∷ []) $ join ! $ frame ! $ frame ! $
     feq_i ! _ (vunit ∷ []) _ refl $ done !)))

@@ -11,7 +11,8 @@ use Rattle.abt_placed.proofs.placer.Placer.finish.Goals as goal
 
 pub lay_header-requires-clause-zeros : goal.lay_header-requires-clause-zeros
 lay_header-requires-clause-zeros g c =
-    zeros_kept c.args.self.now.front (g.O.Output.written c.args.output.now) (g.O.Output.written c.close.new.output) c.close.ensures.kept c.requires.zeros
+    zeros_kept c.args.self.now.front (g.O.Output.written c.args.output.now)
+    (g.O.Output.written c.close.new.output) c.close.ensures.kept c.requires.zeros
 
 -- the last chunk is not made whole
 pub returns-in-Err : goal.returns-in-Err
@@ -51,7 +52,11 @@ returns-in-Err-lay_header g c =
     let e = c.in-Err-lay_header.ensures in
     record {
       ok = tt;
-      same = (ap (λ (p : Placer). p.most) c.and_closed.ensures ∙ n.most, ap (λ (p : Placer). p.front) c.and_closed.ensures ∙ n.front);
+      same = (
+        ap (λ (p : Placer). p.most) c.and_closed.ensures
+            ∙ n.most,
+        ap (λ (p : Placer). p.front) c.and_closed.ensures ∙ n.front,
+      );
       before = l.before ∙ stays.front;
       laid = tt;
       unfinished = e.unfinished;
@@ -78,10 +83,15 @@ returns-in-Ok-lay_header g c =
     let e = c.in-Ok-lay_header.ensures in
     record {
       ok = c.and_closed.ensures;
-      same = (ap (λ (p : Placer). p.most) c.and_closed.ensures ∙ n.most, ap (λ (p : Placer). p.front) c.and_closed.ensures ∙ n.front);
+      same = (
+        ap (λ (p : Placer). p.most) c.and_closed.ensures
+            ∙ n.most,
+        ap (λ (p : Placer). p.front) c.and_closed.ensures ∙ n.front,
+      );
       before = l.before ∙ stays.front;
       laid = e.ok ∙ ap (λ (l : List ℕ). put_at l s.front (header_record (plain_header b t.blocks t.chunks))) all.written
-          ∙ ap (λ (p : Placer). put_at (closing s b w) s.front (header_record (plain_header b p.blocks p.chunks))) c.and_closed.ensures;
+          ∙ ap (λ (p : Placer). put_at (closing s b w) s.front (header_record (plain_header b p.blocks p.chunks)))
+          c.and_closed.ensures;
       unfinished = tt;
       writes = onward all.writes e.over.writes;
       within = omega (arith, within, l.long);

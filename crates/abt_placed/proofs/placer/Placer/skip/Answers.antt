@@ -26,4 +26,6 @@ returns-clause-goes g c =
 
 pub returns-clause-laid : goal.returns-clause-laid
 returns-clause-laid g c blocks placed =
-    skipped_placed c.args.size c.args.blocks blocks (g.O.Output.written c.args.output.now) (g.O.Output.written c.begin_chunk.new.output) c.args.self.now c.and_blocks.result (omega (arith, c.if-blocks-eq0.false)) c.requires.can.sound c.and_blocks.ensures c.in-Ok.ensures.written placed
+    skipped_placed c.args.size c.args.blocks blocks (g.O.Output.written c.args.output.now)
+    (g.O.Output.written c.begin_chunk.new.output) c.args.self.now c.and_blocks.result
+    (omega (arith, c.if-blocks-eq0.false)) c.requires.can.sound c.and_blocks.ensures c.in-Ok.ensures.written placed

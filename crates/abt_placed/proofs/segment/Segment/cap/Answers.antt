@@ -7,4 +7,5 @@ pub returns-then-room-clause-cap : goal.returns-then-room-clause-cap
 returns-then-room-clause-cap c =
     let s = c.args.self.now in
     let le = room_most s.placer c.room-most.result (omega (arith, c.room-most.ensures.is)) in
-    cap_wide s.placer.kind c.room-most.result s.placer.most (s.limit - s.weight) c.args.size (omega (arith, c.requires.some)) c.requires.small (omega (arith, c.if-room.true)) le
+    cap_wide s.placer.kind c.room-most.result s.placer.most (s.limit - s.weight) c.args.size
+    (omega (arith, c.requires.some)) c.requires.small (omega (arith, c.if-room.true)) le

@@ -19,7 +19,8 @@ invariant-parts g l =
       so_far : IsTrue g.S.Source.models → SoFar (runs.list self (content l.fn.source)) l.fn.from.block l.run;
       here_place : IsTrue g.S.Source.models → runs.place self (content l.fn.source) l.run.here;
       next_place : IsTrue g.S.Source.models → runs.place self (content l.fn.source) l.run.next;
-      stands : IsTrue g.S.Source.models → l.run.kind ≡ kinds.Raw → 0 < runs.together self (content l.fn.source) l.run.here;
+      stands : IsTrue g.S.Source.models → l.run.kind ≡ kinds.Raw
+          → 0 < runs.together self (content l.fn.source) l.run.here;
       here_within : runs.within self l.run.here;
       next_within : runs.within self l.run.next;
       reached : l.run.kind ≡ kinds.Raw → runs.size self ≤ runs.reach self l.run.here;
@@ -29,8 +30,11 @@ invariant-parts g l =
       ended : is_end l.run.kind ≡ true → l.run.blocks ≡ 0;
       nowhere : l.run.blocks ≡ 0 → l.run.here ≡ l.run.next;
       few : l.run.kind ≡ kinds.Raw → l.run.blocks ≤ l.cap;
-      charged : g.S.Source.given l.source + runs.charge self l.fn.from ≤ g.S.Source.given l.fn.source + runs.charge self l.run.next + entry l.fn.from;
-      going : 0 < room_in l.run.kind l.run.blocks l.cap → g.S.Source.given l.source + runs.charge self l.fn.from + entry l.run.next ≤ g.S.Source.given l.fn.source + runs.charge self l.run.next + entry l.fn.from;
+      charged : g.S.Source.given l.source + runs.charge self l.fn.from ≤ g.S.Source.given l.fn.source
+          + runs.charge self l.run.next + entry l.fn.from;
+      going : 0 < room_in l.run.kind l.run.blocks l.cap
+          → g.S.Source.given l.source + runs.charge self l.fn.from + entry l.run.next ≤ g.S.Source.given l.fn.source
+          + runs.charge self l.run.next + entry l.fn.from;
       costs : CostSoFar (runs.one self) (g.S.Source.reads l.fn.source) (g.S.Source.given l.fn.source)
           (g.S.Source.reads l.source) (g.S.Source.given l.source) l.fn.m l.m;
     }

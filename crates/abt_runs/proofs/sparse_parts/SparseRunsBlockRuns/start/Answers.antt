@@ -7,4 +7,5 @@ use Rattle.abt_runs.proofs.sparse_parts.SparseRunsBlockRuns.start.Goals as goal
 pub returns-clause-place : goal.returns-clause-place
 returns-clause-place c x o =
     let s = c.args.self.now in
-    subst (λ (n : ℕ). SparsePlace (view s.header) x (record { block = 0; at = n; chunk = 0; used = 0; ask = 1 })) (sym c.from.ensures) (sparse_start (view s.header) s.length s.image x o)
+    subst (λ (n : ℕ). SparsePlace (view s.header) x (record { block = 0; at = n; chunk = 0; used = 0; ask = 1 }))
+    (sym c.from.ensures) (sparse_start (view s.header) s.length s.image x o)

@@ -7,7 +7,8 @@ use Rattle.abt_sparse.proofs.chunk_header.ChunkHeader.decode.Goals as goal
 pub returns-in-Some-clause-back : goal.returns-in-Some-clause-back
 returns-in-Some-clause-back c =
     let known = ap kind_at (sym c.u16_at-code.ensures) ∙ sym c.from_code.ensures ∙ c.in-Some.is in
-    rw (c.u32_at.ensures, c.u32_at-in-Some.ensures) (back_known c.args.bytes.now (Some c.in-Some.kind) c.told-bytes c.fits-bytes known)
+    rw (c.u32_at.ensures, c.u32_at-in-Some.ensures)
+    (back_known c.args.bytes.now (Some c.in-Some.kind) c.told-bytes c.fits-bytes known)
 
 pub returns-in-None-clause-cause : goal.returns-in-None-clause-cause
 returns-in-None-clause-cause c =

@@ -4,43 +4,69 @@ use Rattle.cmd_common_fields.proofs.OsWords.{same_word, some_is, none_is}
 use Rattle.cmd_common_fields.proofs.board_word.BoardWord.new.Goals as goal
 
 pub returns-in_err-fragment-clause-accepts : goal.returns-in_err-fragment-clause-accepts
-returns-in_err-fragment-clause-accepts c = λ b p v. absurd (cut_fragment c.args.word.now b p None c.in_err-fragment.ensures.cases)
+returns-in_err-fragment-clause-accepts c =
+    λ b p v. absurd (cut_fragment c.args.word.now b p None c.in_err-fragment.ensures.cases)
 
 pub returns-in_err-place-clause-accepts : goal.returns-in_err-place-clause-accepts
 returns-in_err-place-clause-accepts c = λ b p v.
-    let f = cut_fragment c.args.word.now b p (Some (c.in_ok-fragment.fragment, c.in_ok-fragment.rest)) c.in_ok-fragment.ensures.cases in
+    let f = cut_fragment c.args.word.now b p (Some (c.in_ok-fragment.fragment, c.in_ok-fragment.rest))
+    c.in_ok-fragment.ensures.cases in
     absurd (cut_place c.args.word.now b p c.in_ok-fragment.rest.now None f.1 c.in_err-place.ensures.cases)
 
 pub returns-in_err-number-clause-accepts : goal.returns-in_err-number-clause-accepts
 returns-in_err-number-clause-accepts c = λ b p v.
-    let f = cut_fragment c.args.word.now b p (Some (c.in_ok-fragment.fragment, c.in_ok-fragment.rest)) c.in_ok-fragment.ensures.cases in
-    absurd (none_is b.fragment (c.in_err-number.ensures.accepts b.fragment (same_word c.in_ok-fragment.fragment.now p.fragment b.fragment f.0 p.is_fragment) v.fragment))
+    let f = cut_fragment c.args.word.now b p (Some (c.in_ok-fragment.fragment, c.in_ok-fragment.rest))
+    c.in_ok-fragment.ensures.cases in
+    absurd (none_is b.fragment (c.in_err-number.ensures.accepts b.fragment
+    (same_word c.in_ok-fragment.fragment.now p.fragment b.fragment f.0 p.is_fragment) v.fragment))
 
 pub returns-in_err-number-2-clause-accepts : goal.returns-in_err-number-2-clause-accepts
 returns-in_err-number-2-clause-accepts c = λ b p v.
-    let f = cut_fragment c.args.word.now b p (Some (c.in_ok-fragment.fragment, c.in_ok-fragment.rest)) c.in_ok-fragment.ensures.cases in
-    let q = cut_place c.args.word.now b p c.in_ok-fragment.rest.now (Some (c.in_ok-place.place, c.in_ok-place.value)) f.1 c.in_ok-place.ensures.cases in
-    absurd (none_is b.place (c.in_err-number-2.ensures.accepts b.place (same_word c.in_ok-place.place.now p.place b.place q.0 p.is_place) (omega (arith, v.place))))
+    let f = cut_fragment c.args.word.now b p (Some (c.in_ok-fragment.fragment, c.in_ok-fragment.rest))
+    c.in_ok-fragment.ensures.cases in
+    let q = cut_place c.args.word.now b p c.in_ok-fragment.rest.now
+    (Some (c.in_ok-place.place, c.in_ok-place.value)) f.1 c.in_ok-place.ensures.cases in
+    absurd (none_is b.place (c.in_err-number-2.ensures.accepts b.place
+    (same_word c.in_ok-place.place.now p.place b.place q.0 p.is_place) (omega (arith, v.place))))
 
 pub returns-in_err-number-3-clause-accepts : goal.returns-in_err-number-3-clause-accepts
 returns-in_err-number-3-clause-accepts c = λ b p v.
-    let f = cut_fragment c.args.word.now b p (Some (c.in_ok-fragment.fragment, c.in_ok-fragment.rest)) c.in_ok-fragment.ensures.cases in
-    let q = cut_place c.args.word.now b p c.in_ok-fragment.rest.now (Some (c.in_ok-place.place, c.in_ok-place.value)) f.1 c.in_ok-place.ensures.cases in
-    absurd (none_is b.number (c.in_err-number-3.ensures.accepts b.number (same_word c.in_ok-place.value.now p.number b.number q.1 p.is_number) v.number))
+    let f = cut_fragment c.args.word.now b p (Some (c.in_ok-fragment.fragment, c.in_ok-fragment.rest))
+    c.in_ok-fragment.ensures.cases in
+    let q = cut_place c.args.word.now b p c.in_ok-fragment.rest.now
+    (Some (c.in_ok-place.place, c.in_ok-place.value)) f.1 c.in_ok-place.ensures.cases in
+    absurd (none_is b.number (c.in_err-number-3.ensures.accepts b.number
+    (same_word c.in_ok-place.value.now p.number b.number q.1 p.is_number) v.number))
 
 pub returns-then-board-lt16-clause-accepts : goal.returns-then-board-lt16-clause-accepts
 returns-then-board-lt16-clause-accepts c = λ b p v.
-    let f = cut_fragment c.args.word.now b p (Some (c.in_ok-fragment.fragment, c.in_ok-fragment.rest)) c.in_ok-fragment.ensures.cases in
-    let q = cut_place c.args.word.now b p c.in_ok-fragment.rest.now (Some (c.in_ok-place.place, c.in_ok-place.value)) f.1 c.in_ok-place.ensures.cases in
-    let is_fragment : c.in_ok-number.field-0 ≡ b.fragment = some_is _ _ b.fragment c.in_ok-number.was (c.number.ensures.accepts b.fragment (same_word c.in_ok-fragment.fragment.now p.fragment b.fragment f.0 p.is_fragment) v.fragment) in
-    let is_place : c.in_ok-number-2.field-0 ≡ b.place = some_is _ _ b.place c.in_ok-number-2.was (c.number-2.ensures.accepts b.place (same_word c.in_ok-place.place.now p.place b.place q.0 p.is_place) (omega (arith, v.place))) in
-    let is_number : c.in_ok-number-3.field-0 ≡ b.number = some_is _ _ b.number c.in_ok-number-3.was (c.number-3.ensures.accepts b.number (same_word c.in_ok-place.value.now p.number b.number q.1 p.is_number) v.number) in
+    let f = cut_fragment c.args.word.now b p (Some (c.in_ok-fragment.fragment, c.in_ok-fragment.rest))
+    c.in_ok-fragment.ensures.cases in
+    let q = cut_place c.args.word.now b p c.in_ok-fragment.rest.now
+    (Some (c.in_ok-place.place, c.in_ok-place.value)) f.1 c.in_ok-place.ensures.cases in
+    let is_fragment : c.in_ok-number.field-0 ≡ b.fragment =
+    some_is _ _ b.fragment c.in_ok-number.was
+    (c.number.ensures.accepts b.fragment
+    (same_word c.in_ok-fragment.fragment.now p.fragment b.fragment f.0 p.is_fragment) v.fragment) in
+    let is_place : c.in_ok-number-2.field-0 ≡ b.place =
+    some_is _ _ b.place c.in_ok-number-2.was
+    (c.number-2.ensures.accepts b.place (same_word c.in_ok-place.place.now p.place b.place q.0 p.is_place)
+    (omega (arith, v.place))) in
+    let is_number : c.in_ok-number-3.field-0 ≡ b.number =
+    some_is _ _ b.number c.in_ok-number-3.was
+    (c.number-3.ensures.accepts b.number (same_word c.in_ok-place.value.now p.number b.number q.1 p.is_number)
+    v.number) in
     search (rules, is_fragment, is_place, is_number)
 
 pub returns-else-board-lt16-clause-accepts : goal.returns-else-board-lt16-clause-accepts
 returns-else-board-lt16-clause-accepts c = λ b p v.
-    let f = cut_fragment c.args.word.now b p (Some (c.in_ok-fragment.fragment, c.in_ok-fragment.rest)) c.in_ok-fragment.ensures.cases in
-    let q = cut_place c.args.word.now b p c.in_ok-fragment.rest.now (Some (c.in_ok-place.place, c.in_ok-place.value)) f.1 c.in_ok-place.ensures.cases in
-    let is_place : c.in_ok-number-2.field-0 ≡ b.place = some_is _ _ b.place c.in_ok-number-2.was (c.number-2.ensures.accepts b.place (same_word c.in_ok-place.place.now p.place b.place q.0 p.is_place) (omega (arith, v.place))) in
+    let f = cut_fragment c.args.word.now b p (Some (c.in_ok-fragment.fragment, c.in_ok-fragment.rest))
+    c.in_ok-fragment.ensures.cases in
+    let q = cut_place c.args.word.now b p c.in_ok-fragment.rest.now
+    (Some (c.in_ok-place.place, c.in_ok-place.value)) f.1 c.in_ok-place.ensures.cases in
+    let is_place : c.in_ok-number-2.field-0 ≡ b.place =
+    some_is _ _ b.place c.in_ok-number-2.was
+    (c.number-2.ensures.accepts b.place (same_word c.in_ok-place.place.now p.place b.place q.0 p.is_place)
+    (omega (arith, v.place))) in
     let low : b.place < 16 = v.place in
     absurd (search (rules, arith, is_place, low))

@@ -14,7 +14,9 @@ loop-at-preserved g c =
     record {
       within = omega arith;
       prints = printed_as o faults _ _ _ _ (written_on [] (take at bytes) _ bytes at n refl refl)
-          (both_printed o faults c.args.self.now c.loop-at.self c.put_some-at.new.self (take at bytes) (take n (take (length bytes - at) (drop at bytes))) c.loop-at.invariant.prints c.put_some-at.ensures.prints);
+          (both_printed o faults c.args.self.now c.loop-at.self c.put_some-at.new.self (take at bytes)
+          (take n (take (length bytes - at) (drop at bytes))) c.loop-at.invariant.prints
+          c.put_some-at.ensures.prints);
     }
 
 pub loop-at-init : goal.loop-at-init
