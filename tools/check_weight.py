@@ -5,8 +5,7 @@
 
 Counted are the functions of each crate, those whose contracts have more than 15 and more than 20 clauses, the clauses that
 repeat an earlier one to the letter, and the names that two files of specs/ define. A count above the figure here fails; one
-below it fails too, until the figure is taken down to it. No line of specs/ and proofs/ is longer than 120 columns, but in
-the files that tools/long_lines.txt lists with their checksums: who changes such a file wraps its lines, and takes it off.
+below it fails too, until the figure is taken down to it. No line of specs/ and proofs/ is longer than 120 columns.
 The lines of src/, specs/ and proofs/ are counted by family of crates, and their sum is printed: a family has at most as many
 hundreds as LINES says, and a figure that is too high by more than one hundred is taken down. The last line is 'N passed, M
 failed'.
@@ -14,7 +13,6 @@ failed'.
 import argparse
 import collections
 import glob
-import hashlib
 import os
 import re
 import sys
@@ -42,8 +40,8 @@ NAMES_DEFINED_TWICE = {
     "text_of": "the same: `cmd_common_texts` hands on that of `cmd_common_fields`",
     "with_part": "a window with bytes in it; a placer with blocks taken",
 }
-# The longest line of specs/ and proofs/, and the files from before that have longer ones: each with its checksum.
-COLUMNS, LONG_LISTED, LONG_FILES = 120, os.path.join("tools", "long_lines.txt"), 321
+# The longest line of specs/ and proofs/.
+COLUMNS = 120
 
 # The crates of each family, and how many hundreds of lines of src/, specs/ and proofs/ they have at most.
 FAMILIES = {
@@ -66,16 +64,16 @@ FAMILIES = {
         "test_spool test_disk speed",
 }
 LINES = {
-    "devices": 99,
-    "definitions and reading": 163,
-    "writing": 172,
-    "flashing and verifying": 119,
-    "boot images": 219,
+    "devices": 101,
+    "definitions and reading": 174,
+    "writing": 182,
+    "flashing and verifying": 135,
+    "boot images": 227,
     "system": 85,
     "words": 101,
-    "commands over sparse images": 139,
+    "commands over sparse images": 140,
     "commands over boot images": 139,
-    "laws": 59,
+    "laws": 62,
     "memory": 28,
     "for programs in C": 25,
     "tests and benchmark": 105,
@@ -129,18 +127,12 @@ def lines_of(family):
 
 
 def with_long_lines(crates):
-    """The files of definitions and of proofs that have a longer line, each with the checksum of all its lines."""
+    """The files of definitions and of proofs that have a longer line."""
     for crate in crates:
         for folder in ("specs", "proofs"):
             for path, lines in lines_below(crate, folder, "antt"):
                 if any(len(line) > COLUMNS for line in lines):
-                    yield path, hashlib.sha1("\n".join(lines).encode()).hexdigest()[:12]
-
-
-def listed_long():
-    """The files that may have them, each with the checksum that it had when it was listed."""
-    with open(os.path.join(HERE, LONG_LISTED), encoding="utf-8") as text:
-        return {path: checksum for checksum, path in (line.split() for line in text if not line.startswith("#"))}
+                    yield path
 
 
 def defined_twice(crates):
@@ -184,13 +176,8 @@ def main():
         hundreds = LINES.get(family, 0)
         that(hundreds - 2 < many / 100 <= hundreds, f"{family}: {many} lines; at most {hundreds} hundreds")
     print(f"{sum(lines.values())} lines of src/, specs/ and proofs/")
-    long, listed = dict(with_long_lines(crates)), listed_long()
-    for path in sorted(long.keys() | listed.keys()):
-        if long.get(path) == listed.get(path):
-            continue
-        why = "it changed since it was listed" if path in long and path in listed else "it is not listed"
-        that(False, f"{path} has {f'lines of more than {COLUMNS} columns, and {why}' if path in long else 'none'}: {LONG_LISTED}")
-    that(len(long) == LONG_FILES, f"{len(long)} files have lines of more than {COLUMNS} columns; {LONG_FILES}")
+    long = list(with_long_lines(crates))
+    that(not long, f"no line of specs/ and proofs/ has more than {COLUMNS} columns{': ' + ', '.join(long) if long else ''}")
     twice = defined_twice(crates)
     for name in sorted({name for name, _ in twice} ^ set(NAMES_DEFINED_TWICE)):
         that(False, f"{name} is {'not ' * (name in NAMES_DEFINED_TWICE)}defined in two files of specs/")
