@@ -5,9 +5,9 @@ use Rattle.std.specs.Prelude.{OnOk, OnErr, IfErr}
 use Rattle.std.proofs.lemmas.List.Sums.{sum_by-set}
 use Rattle.abt_sections.specs.declared.fault.SectionFault.{SectionFault}
 use Rattle.abt_sections.specs.declared.fault.SectionFault.TheVariants.{Read, Write, SourceChanged}
-use Rattle.abt_io.specs.declared.copying.CopyFault.TheVariants as copies
 use Rattle.abt_sections.specs.Cause.{MoveCause, ReadCause, OpenCause, PackCause, total}
 use Rattle.abt_sections.specs.Open.{EntryRefusedAs}
+use Rattle.abt_sections.specs.Header.{Header as OfHeader}
 
 pub move_on : (e : SectionFault) (r0 r r' r1 w0 w w' w1 : ℕ) (C D : Type 0) → r0 ≤ r → r' ≤ r1 → w0 ≤ w → w' ≤ w1
     → (C → D) → MoveCause e r r' w w' C → MoveCause e r0 r1 w0 w1 D
