@@ -517,7 +517,8 @@ def check_lemmas(checks, under):
             # (what an import names is used, or the prover says so)
             words = re.findall(r"[^\s(){}\[\],;.λ]+", line)
             own = words[1:2] if words[:1] == ["pub"] else words[:1]
-            named.update(words[len(own):] if re.match(r"\s{0,2}\S", line) else words)
+            # (a line that ends with a comma is an item of a tuple, and begins no clause)
+            named.update(words[len(own):] if re.match(r"\s{0,2}\S", line) and not line.endswith(",") else words)
     unnamed = []
     for path, lines in texts.items():
         if f"{os.sep}proofs{os.sep}" not in path or os.path.basename(path) in ("Answers.antt", "Invariants.antt", "Proof.antt"):
