@@ -38,12 +38,13 @@ use Rattle.abt_flash_faults.specs.declared.fault.FlashFault.TheVariants as fails
 use Rattle.abt_flash.specs.declared.stage.Flashed.{Flashed}
 use Rattle.abt_flash.specs.declared.stage.FlashStage.{FlashStage}
 use Rattle.abt_flash.specs.declared.stage.FlashStage.TheVariants as stages
-use Rattle.abt_flash.specs.Laying.{During, writes}
+use Rattle.abt_flash.specs.Laying.{BreaksOff, During, IsFrontLaid, writes}
 use Rattle.abt_flash.specs.Stepping.{Goes, Heads, IsFresh, IsFresh_in, Laid, Leaves, Measures, OnShort, UnlessFlashing}
 use Rattle.abt_flash.specs.Stepping.{UnlessFlashingDevice, need_of, passed, passed_in}
 use Rattle.abt_flash.specs.Flashing.{Flashes, Holds, RefusedFlash, WholeFlash}
 use Rattle.abt_flash.proofs.Cells.{over_more, unwritten_behind, unwritten_front, written_by-append, written_cells}
 use Rattle.abt_flash.proofs.Cells.{written_le_blocks}
+use Rattle.abt_flash.proofs.Fronts.{breaks_behind, front_more}
 use Rattle.abt_flash.proofs.Heads.{head_spelled, passed_head, spelled_head}
 use Rattle.abt_flash.proofs.Moments.{during_then, during_within, unsynced_during, unsynced_within}
 use Rattle.abt_chunks.specs.Places.{from_place, said_by}
@@ -113,6 +114,7 @@ pub record Ends (models : Bool) (r : Result MachineProgress FlashFault) (s' : Wa
   pub counted : UnlessFlashing r (taken' ≡ taken0 + said_by all)
   pub noted : OnOk r (laid' ≡ min (said_by all) (2 ^ 64 - 1))
   pub content : IsTrue models → UnlessFlashing r (p' ≡ over p0 all)
+  pub broken : IsTrue models → BreaksOff r 0 all p0 p'
   pub kept : IsTrue models → Keeps (writes all) (moment_of past0 p0) (moment_of past' p')
   pub moments : IsTrue models
       → EachSince past0.moments past'.moments (During (writes all) (moment_of past0 p0) (moment_of past' p'))
@@ -177,6 +179,9 @@ module _ (models : Bool) (stage : FlashStage) (s s' : Walk) (x x' rest : List �
   all_content t = unless_map r _ _ (λ q. over_more p0 p p' i.cells e.cells (place_of s) (i.content t) i.placed q)
       (e.content t)
 
+  pub all_broken : IsTrue models → BreaksOff r 0 All p0 p'
+  all_broken t = breaks_behind r (place_of s) p0 p p' i.cells e.cells (i.content t) i.placed (e.broken t)
+
   pub all_counted : UnlessFlashing r (taken' ≡ taken0 + said_by All)
   all_counted = unless_map r _ _ (λ q. omega (arith, q, i.counted, written_by-append i.cells e.cells)) e.counted
 
@@ -204,6 +209,7 @@ module _ (models : Bool) (stage : FlashStage) (s s' : Walk) (x x' rest : List �
         counted = all_counted;
         noted = all_noted laid' note;
         content = all_content;
+        broken = all_broken;
         kept = all_kept;
         moments = all_moments;
       }
@@ -500,6 +506,15 @@ module _ (models : Bool) (s s' : Walk) (x x' read rest : List ℕ) (k size : ℕ
       )
   fault_flashes f e leaves heads measures none = tt
 
+  -- what is written is the front of all that x gives
+  front_all : (r : Result MachineProgress FlashFault) (torn : ℕ)
+      → (e : Ends models r s' x read rest past0 past' p0 p' taken0 taken' laid')
+      → IsFrontLaid torn 0 e.all p0 p' → IsFrontLaid torn 0 (given (outcome x)) p0 p'
+  front_all r torn e h =
+      let are = given_all models r s' x read rest past0 past' p0 p' taken0 taken' laid' e in
+      subst (λ (cs : List (Option ℕ)). IsFrontLaid torn 0 cs p0 p') (sym are)
+      (front_more torn 0 e.all (e.more rest) p0 p' h)
+
   pub fault_holds : (f : FlashFault) → Ends models (Err f) s' x read rest past0 past' p0 p' taken0 taken' laid'
       → Leaves (Err f) s'.phase → Measures (Err f) s size → OnShort {X = MachineProgress} (Err f) (p' ≡ p)
       → IsTrue models → Holds (Err f) p0 p' x
@@ -516,6 +531,8 @@ module _ (models : Bool) (s s' : Walk) (x x' read rest : List ℕ) (k size : ℕ
       let are : given (outcome x) ≡ e.all = sym (seen_given (outcome x)) ∙ ap (λ (a : Ahead). a.cells) q
       ∙ append-nil e.all in
       e.content t ∙ ap (over p0) (sym are)
+  fault_holds (fails.Read d) e leaves measures same t = front_all (Err (fails.Read d)) 0 e (e.broken t)
+  fault_holds (fails.Write d) e leaves measures same t = front_all (Err (fails.Write d)) 65536 e (e.broken t)
   fault_holds f e leaves measures same t = tt
 
 pub going_phase : (st : FlashStage) (p : Phase) → Goes st p → IsGoing p

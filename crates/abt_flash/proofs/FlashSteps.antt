@@ -32,11 +32,12 @@ use Rattle.abt_io.specs.Count.{full_in}
 use Rattle.abt_chunks.specs.Cause.{CleanPart, full_in_part}
 use Rattle.abt_flash_faults.specs.Fault.{FlashCause, OnUnsynced, PutCause, FlashingRises, UnlessUnwritten}
 use Rattle.abt_flash_faults.specs.Fault.{fault_of_sparse}
-use Rattle.abt_flash.specs.Laying.{During, put_by, writes}
+use Rattle.abt_flash.specs.Laying.{BreaksOff, During, IsFrontLaid, put_by, writes}
 use Rattle.abt_chunks.specs.Expanding.{IsGoing}
 use Rattle.abt_flash.specs.Stepping.{Goes, Heads, Laid, Leaves, Measures, UnlessFlashing, UnlessFlashingDevice, need_of}
 use Rattle.abt_flash.specs.Stepping.{passed, passed_in}
 use Rattle.abt_flash.proofs.Cells.{empty_range, nothing_over, unwritten_range, written_nones, written_somes}
+use Rattle.abt_flash.proofs.Fronts.{breaks_none, front_none}
 use Rattle.abt_flash.proofs.Moments.{during_none, during_within}
 use Rattle.abt_chunks.specs.Expanding.{OnMoreExpanding, answer_by, cells_by}
 use Rattle.abt_chunks.specs.Places.{from_place, said_by}
@@ -119,6 +120,9 @@ module _ (models : Bool) (stage : FlashStage) (s s' : Walk) (c rest win : List �
   Moments_put q = IsTrue models
       → EachSince past.moments past'.moments (During (in_range (place_of s) (put_by q)) First Last)
 
+  abbrev Torn_put : Part → Type 0
+  Torn_put q = IsTrue models → IsFrontLaid 65536 (place_of s) (cells_by q win) p p'
+
   abbrev Content_put : Part → Type 0
   Content_put q = IsTrue models → p' ≡ over p (from_place (place_of s) (cells_by q win))
 
@@ -135,6 +139,7 @@ module _ (models : Bool) (stage : FlashStage) (s s' : Walk) (c rest win : List �
     moved = placed;
     counted = put ∙ ap (λ (n : ℕ). taken + n) (sym (cells_written q win r m moved long within));
     content = content;
+    broken = λ t. tt;
     kept = λ t. keeps_within _ _ First Last (λ i. outside q win r m (place_of s) i moved long within) (kept t);
     moments = λ t. during_within _ _ First Last past.moments past'.moments
         (λ i. outside q win r m (place_of s) i moved long within) (moments t);
@@ -153,6 +158,7 @@ module _ (models : Bool) (stage : FlashStage) (s s' : Walk) (c rest win : List �
     moved = tt;
     counted = tt;
     content = λ t. tt;
+    broken = λ t. front_none 0 (place_of s) [] p p' (content t ∙ nothing_over p (place_of s));
     kept = λ t. keeps_within _ _ First Last (λ i e. empty_range (place_of s) i) (kept t);
     moments = λ t. during_within _ _ First Last past.moments past'.moments (λ i e. empty_range (place_of s) i)
         (moments t);
@@ -166,6 +172,7 @@ module _ (models : Bool) (stage : FlashStage) (s s' : Walk) (c rest win : List �
     moved = tt;
     counted = tt;
     content = λ t. tt;
+    broken = λ t. front_none 65536 (place_of s) [] p p' (content t ∙ nothing_over p (place_of s));
     kept = λ t. keeps_within _ _ First Last (λ i e. empty_range (place_of s) i) (kept t);
     moments = λ t. during_within _ _ First Last past.moments past'.moments (λ i e. empty_range (place_of s) i)
         (moments t);
@@ -179,6 +186,7 @@ module _ (models : Bool) (stage : FlashStage) (s s' : Walk) (c rest win : List �
     moved = tt;
     counted = put;
     content = content;
+    broken = λ t. tt;
     kept = λ t. keeps_within _ _ First Last (λ i e. empty_range (place_of s) i) (kept t);
     moments = λ t. during_within _ _ First Last past.moments past'.moments (λ i e. empty_range (place_of s) i)
         (moments t);
@@ -221,8 +229,9 @@ module _ (models : Bool) (stage : FlashStage) (s s' : Walk) (c rest win : List �
   unwritten_front : (q : Part) (d : DeviceFault) (cs : List (Option ℕ)) (more : List ℕ → List (Option ℕ))
       → ((t : List ℕ) → (ahead s (c ++ t)).cells ≡ cs ++ more t)
       → ((i : ℕ) → writes (from_place (place_of s) cs) i ≡ false → in_range (place_of s) (put_by q) i ≡ false)
-      → Keeps_put q → Moments_put q → Laid models stage (Err (fails.Write d)) s s' c rest past past' p p' taken taken'
-  unwritten_front q d cs more front out kept moments = record {
+      → (IsTrue models → IsFrontLaid 65536 (place_of s) cs p p') → Keeps_put q → Moments_put q
+      → Laid models stage (Err (fails.Write d)) s s' c rest past past' p p' taken taken'
+  unwritten_front q d cs more front out torn kept moments = record {
     cells = cs;
     more = more;
     front = front;
@@ -230,6 +239,7 @@ module _ (models : Bool) (stage : FlashStage) (s s' : Walk) (c rest win : List �
     moved = tt;
     counted = tt;
     content = λ t. tt;
+    broken = torn;
     kept = λ t. keeps_within _ _ First Last out (kept t);
     moments = λ t. during_within _ _ First Last past.moments past'.moments out (moments t);
     held = λ goes. tt;
@@ -237,21 +247,23 @@ module _ (models : Bool) (stage : FlashStage) (s s' : Walk) (c rest win : List �
 
   unwritten_part : (q : Part) (d : DeviceFault) → Moved q r → Within q m m → is_fault q ≡ false
       → PartLeaves q s'.phase → ((t : List ℕ) → (is_fault q ≡ true → t ≡ rest) → SaysUnlessDevice q s s' c t)
-      → Keeps_put q → Moments_put q → Laid models stage (Err (fails.Write d)) s s' c rest past past' p p' taken taken'
-  unwritten_part q d moved within sound leaves says kept moments =
+      → Torn_put q → Keeps_put q → Moments_put q
+      → Laid models stage (Err (fails.Write d)) s s' c rest past past' p p' taken taken'
+  unwritten_part q d moved within sound leaves says torn kept moments =
       unwritten_front q d (cells_by q win) (λ t. (ahead s' t).cells)
       (λ t. ap (λ (x : Ahead). x.cells) (as_cells q s s' c t win r in_window moved sound leaves
       (says t (λ e. absurd (let b : true ≡ false = sym e ∙ sound in cc)))))
-      (λ i. outside q win r m (place_of s) i moved long within) kept moments
+      (λ i. outside q win r m (place_of s) i moved long within) torn kept moments
 
   unwritten_laid : (q : Part) (d : DeviceFault) → Moved q r → Within q m m → PartLeaves q s'.phase
       → ((t : List ℕ) → (is_fault q ≡ true → t ≡ rest) → SaysUnlessDevice q s s' c t)
-      → Keeps_put q → Moments_put q → Laid models stage (Err (fails.Write d)) s s' c rest past past' p p' taken taken'
-  unwritten_laid (parts.Fault g) d moved within leaves says kept moments =
+      → Torn_put q → Keeps_put q → Moments_put q
+      → Laid models stage (Err (fails.Write d)) s s' c rest past past' p p' taken taken'
+  unwritten_laid (parts.Fault g) d moved within leaves says torn kept moments =
       unwritten_front (parts.Fault g) d [] (λ t. (ahead s (c ++ t)).cells) (λ t. refl)
-      (λ i e. empty_range (place_of s) i) kept moments
-  unwritten_laid q d moved within leaves says kept moments =
-      unwritten_part q d moved within refl leaves says kept moments
+      (λ i e. empty_range (place_of s) i) torn kept moments
+  unwritten_laid q d moved within leaves says torn kept moments =
+      unwritten_part q d moved within refl leaves says torn kept moments
 
   -- where it was not synced, all is written
   unsynced_laid : (d : DeviceFault) → Moved parts.End r → s'.phase ≡ phases.Done
@@ -268,6 +280,7 @@ module _ (models : Bool) (stage : FlashStage) (s s' : Walk) (c rest win : List �
     moved = tt;
     counted = put;
     content = content;
+    broken = λ t. tt;
     kept = λ t. keeps_within _ _ First Last (λ i e. empty_range (place_of s) i) (kept t);
     moments = λ t. during_within _ _ First Last past.moments past'.moments (λ i e. empty_range (place_of s) i)
         (moments t);
@@ -279,14 +292,16 @@ module _ (models : Bool) (stage : FlashStage) (s s' : Walk) (c rest win : List �
       → PutCause {X = Unit {0}} (Err f) n n' → OnUnsynced {X = Unit {0}} (Err f) (q ≡ parts.End)
       → UnlessUnwritten {X = Unit {0}} (Err f) (taken' ≡ taken + put_by q)
       → (IsTrue models → UnlessUnwritten {X = Unit {0}} (Err f)
-      (p' ≡ over p (from_place (place_of s) (cells_by q win)))) → Keeps_put q → Moments_put q
+      (p' ≡ over p (from_place (place_of s) (cells_by q win))))
+      → (IsTrue models → BreaksOff {X = Unit {0}} (Err f) (place_of s) (cells_by q win) p p') → Keeps_put q
+      → Moments_put q
       → Laid models stage (Err f) s s' c rest past past' p p' taken taken'
-  refused_laid q (fails.Write d) n n' moved within leaves says cause is put content kept moments =
-      unwritten_laid q d moved within leaves says kept moments
-  refused_laid q (fails.Sync d) n n' moved within leaves says cause is put content kept moments =
+  refused_laid q (fails.Write d) n n' moved within leaves says cause is put content torn kept moments =
+      unwritten_laid q d moved within leaves says torn kept moments
+  refused_laid q (fails.Sync d) n n' moved within leaves says cause is put content torn kept moments =
       unsynced_laid d (rw is at moved) (rw is at leaves) (rw is at says) (rw is at put) (rw is at content)
       (rw is at kept) (rw is at moments)
-  refused_laid q f n n' moved within leaves says cause is put content kept moments = absurd cause
+  refused_laid q f n n' moved within leaves says cause is put content torn kept moments = absurd cause
 
 -- where the partition refuses, the phase that this leaves the walk in, and what is known of the header
 pub refused_leaves : (q : Part) (f : FlashFault) (ph : Phase) (n n' : ℕ) → PutCause {X = Unit {0}} (Err f) n n'
@@ -380,6 +395,7 @@ nothing_laid models stage r s s' c rest past p taken none same held moved = reco
   moved = moved;
   counted = unless_all r _ (omega arith);
   content = λ t. unless_all r _ (sym (nothing_over p (place_of s)));
+  broken = λ t. breaks_none r (place_of s) [] p p refl;
   kept = λ t. keeps_same _ (moment_of past p);
   moments = λ t. during_none _ _ _ past.moments;
   held = held;

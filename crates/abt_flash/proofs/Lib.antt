@@ -1,5 +1,6 @@
 pub mod Cells
 pub mod Moments
+pub mod Fronts
 pub mod FlashSteps
 pub mod Answering
 pub mod Tasks

@@ -12,7 +12,8 @@ use Rattle.abt_chunks.specs.Parts.{is_fault}
 use Rattle.abt_flash.specs.declared.write_part.PartTask.{PartTask}
 use Rattle.abt_flash.specs.declared.write_part.PartTask.TheVariants as tasks
 use Rattle.abt_flash_faults.specs.Fault.{OnUnsynced, PutCause, UnlessUnwritten, refused_syncs}
-use Rattle.abt_flash.specs.Laying.{CanDo, IsIdle, IsStill, Settles, SettlesIn, UnlessUndone, answered, bytes_by, put_by}
+use Rattle.abt_flash.specs.Laying.{BreaksOff, CanDo, IsFrontLaid, IsIdle, IsStill, Settles, SettlesIn, UnlessUndone}
+use Rattle.abt_flash.specs.Laying.{answered, bytes_by, put_by}
 use Rattle.abt_flash.specs.Laying.{put_in, refused_in, syncs_by, syncs_in, task_of}
 use Rattle.abt_flash.proofs.Cells.{gap_over, nothing_over}
 use Rattle.abt_chunks.specs.Expanding.{cells_by}
@@ -147,3 +148,16 @@ on_words word n (Err d) P Q go h = tt
 pub on_sync : (r : Result (Unit {0}) DeviceFault) (Q : Type 0) → Q → UnlessUndone tasks.Sync r Q
 on_sync (Ok u) Q h = h
 on_sync (Err d) Q h = h
+
+-- what comes before a write that failed
+pub front_answered : (q : Part) (r : Result (Unit {0}) DeviceFault) (window p p' : List ℕ) (at : ℕ)
+    → (IsIdle (task_of q) → IsTrue (is_ok r))
+    → OnErr r (IsFrontLaid 65536 at (somes (bytes_by (task_of q) window)) p p')
+    → BreaksOff (answered (task_of q) r) at (cells_by q window) p p'
+front_answered q (Ok u) window p p' at sound h = tt
+front_answered (parts.Raw n) (Err d) window p p' at sound h = h
+front_answered (parts.Words word n) (Err d) window p p' at sound h = h
+front_answered (parts.Skip n) (Err d) window p p' at sound h = absurd (let b : false ≡ true = sound tt in cc)
+front_answered parts.Nothing (Err d) window p p' at sound h = h
+front_answered parts.End (Err d) window p p' at sound h = tt
+front_answered (parts.Fault f) (Err d) window p p' at sound h = h

@@ -6,13 +6,14 @@ use Rattle.abt_io.specs.declared.meter.Meter.{Meter}
 use Rattle.abt_sparse.specs.declared.fault.SparseFault.{SparseFault}
 use Rattle.abt_sparse.specs.Chunk.{Header, Chunk, classed}
 use Rattle.abt_sparse.specs.Fails.{Fails, Spells, SpellsHeader}
-use Rattle.abt_sparse.specs.Pieces.{flashed}
+use Rattle.abt_sparse.specs.Pieces.{flashed, given}
+use Rattle.abt_sparse.specs.Reading.{outcome}
 use Rattle.abt_pieces.specs.Contents.{written_in}
 use Rattle.abt_flash.specs.Devices.{Flow}
 use Rattle.abt_flash_faults.specs.Fault.{refused_syncs}
-use Rattle.abt_flash.specs.Laying.{Touches, writes}
+use Rattle.abt_flash.specs.Laying.{IsFrontLaid, Touches, writes}
 use Rattle.abt_flash_faults.specs.declared.fault.FlashFault.{FlashFault}
-use Rattle.abt_flash_faults.specs.declared.fault.FlashFault.TheVariants.{Sparse, Sync, PartitionTooSmall}
+use Rattle.abt_flash_faults.specs.declared.fault.FlashFault.TheVariants.{Sparse, Read, Write, Sync, PartitionTooSmall}
 use Rattle.abt_flash.specs.declared.stage.Flashed.{Flashed}
 
 -- An image that fits a partition of this size is at the beginning of x, and rest after it. The result counts its raw
@@ -51,12 +52,15 @@ Flashes (Err f) size taken taken' x rest = Unit {0}
 
 -- What a partition that held p holds after it: what x gives is written over it, an image or what comes before a fault.
 -- One that is too small is as it was, and one that was not synced holds all of the image, of which a crash may leave
--- less.
+-- less. Where reading or writing failed, a front of it is written. Behind that up to a window may be anything, which a
+-- failed write left.
 abbrev pub Holds : Result Flashed FlashFault → List ℕ → List ℕ → List ℕ → Type 0
 Holds (Ok e) p p' x = p' ≡ flashed p x
 Holds (Err (Sparse f)) p p' x = p' ≡ flashed p x
 Holds (Err (PartitionTooSmall need)) p p' x = p' ≡ p
 Holds (Err (Sync d)) p p' x = p' ≡ flashed p x
+Holds (Err (Read d)) p p' x = IsFrontLaid 0 0 (given (outcome x)) p p'
+Holds (Err (Write d)) p p' x = IsFrontLaid 65536 0 (given (outcome x)) p p'
 Holds (Err f) p p' x = Unit {0}
 
 -- In every intermediate state from the first to the last no byte was touched but those that the cells write.

@@ -1,15 +1,18 @@
 -- What a part of an image writes to a partition, and what a call may touch of it.
-use Rattle.std.specs.Prelude.{◌≡◌, ℕ, ◌+◌, ◌*◌, ◌≤◌, ◌<◌, Bool, List, [], take, replicate, Option}
-use Rattle.std.specs.Prelude.{None, is_some, slice_index_or, ◌⊎◌, Result, Ok, Err, OnOk, OnErr, IfErr}
+use Rattle.std.specs.Prelude.{◌≡◌, ℕ, ◌+◌, ◌*◌, ◌≤◌, ◌<◌, Bool, List, [], length, take, replicate, Option}
+use Rattle.std.specs.Prelude.{None, is_some, slice_get, slice_index_or, ◌⊎◌, Result, Ok, Err, OnOk, OnErr, IfErr, false}
 use Rattle.std.specs.List.{concat}
-use Rattle.abt_io.specs.Moment.{EachSince, Keeps, Moment, Past, moment_of}
+use Rattle.abt_io.specs.Moment.{EachSince, Keeps, Moment, Past, in_range, moment_of}
 use Rattle.abt_io.specs.declared.device.DeviceFault.TheVariants.{Failed}
 use Rattle.abt_io.specs.declared.device.Partition as partitions
 use Rattle.abt_io.specs.declared.meter.Meter.{Meter}
 use Rattle.abt_io.specs.Lent.{NoStep}
+use Rattle.abt_sparse.specs.Block.{over}
+use Rattle.abt_chunks.specs.Places.{from_place}
 use Rattle.abt_chunks.specs.declared.walk.Part.{Part}
 use Rattle.abt_chunks.specs.declared.walk.Part.TheVariants as parts
 use Rattle.abt_io.specs.declared.device.DeviceFault.{DeviceFault}
+use Rattle.abt_flash_faults.specs.Fault.{UnlessUnwritten}
 use Rattle.abt_flash_faults.specs.declared.fault.FlashFault.{FlashFault}
 use Rattle.abt_flash_faults.specs.declared.fault.FlashFault.TheVariants as flashes
 use Rattle.abt_flash.specs.declared.write_part.PartTask.{PartTask}
@@ -124,6 +127,30 @@ pub record During (touched : ℕ → Bool) (m e n : Moment) : Type 0 where
 pub record Touches (touched : ℕ → Bool) (past past' : Past) (p p' : List ℕ) : Type 0 where
   pub kept : Keeps touched (moment_of past p) (moment_of past' p')
   pub moments : EachSince past.moments past'.moments (During touched (moment_of past p) (moment_of past' p'))
+
+-- ---- what is written where a device has failed
+
+-- The first `laid` of these cells are written over p, from a place on. Up to `torn` bytes behind them may be anything,
+-- and p' equals p everywhere else.
+pub record IsFrontLaid (torn at : ℕ) (cells : List (Option ℕ)) (p p' : List ℕ) : Type 0 where
+  pub laid : ℕ
+  pub within : laid ≤ length cells
+  pub long : length p' ≡ length p
+  pub kept : (i : ℕ) → in_range (laid + at) torn i ≡ false
+      → slice_get p' i ≡ slice_get (over p (from_place at (take laid cells))) i
+
+-- Where a device failed, a front of these cells is written. If that was a write, up to a window of bytes behind the
+-- front may be anything.
+abbrev pub BreaksOff : {X : Type 0} → Result X FlashFault → ℕ → List (Option ℕ) → List ℕ → List ℕ → Type 0
+BreaksOff (Err (flashes.Read d)) at cells p p' = IsFrontLaid 0 at cells p p'
+BreaksOff (Err (flashes.Write d)) at cells p p' = IsFrontLaid 65536 at cells p p'
+BreaksOff r at cells p p' = Unit {0}
+
+-- all of these cells are written over p from a place on, and where a device failed, a front of them
+pub record LaysCells {X : Type 0} (r : Result X FlashFault) (at : ℕ) (cells : List (Option ℕ)) (p p' : List ℕ) : Type 0
+  where
+    pub all : UnlessUnwritten r (p' ≡ over p (from_place at cells))
+    pub front : BreaksOff r at cells p p'
 
 -- ---- what writing a part costs
 

@@ -24,7 +24,7 @@ use Rattle.abt_io.specs.Lent.{OneStep}
 use Rattle.abt_flash.specs.declared.flasher.Flasher.{Flasher}
 use Rattle.abt_flash.specs.Devices.{Flow, FlowGrows, LeavesUnread, flow}
 use Rattle.abt_flash_faults.specs.Fault.{FlashingRises, refused_syncs}
-use Rattle.abt_flash.specs.Laying.{During, writes}
+use Rattle.abt_flash.specs.Laying.{BreaksOff, During, writes}
 use Rattle.abt_flash_faults.specs.declared.fault.FlashFault.{FlashFault}
 use Rattle.abt_flash_faults.specs.declared.fault.FlashFault.TheVariants.{Sparse, Read, Write, Sync, PartitionTooSmall}
 use Rattle.abt_flash.specs.declared.stage.FlashStage.{FlashStage}
@@ -120,6 +120,8 @@ pub record Laid (models : Bool) (stage : FlashStage) (r : Result MachineProgress
   -- each byte of them is written, and written once
   pub counted : UnlessFlashing r (taken' ≡ taken + said_by cells)
   pub content : IsTrue models → UnlessFlashing r (p' ≡ over p (from_place (place_of s) cells))
+  -- where a device failed, a front of them is
+  pub broken : IsTrue models → BreaksOff r (place_of s) cells p p'
   -- nothing else is touched
   pub kept : IsTrue models → Keeps (writes (from_place (place_of s) cells)) (moment_of past p) (moment_of past' p')
   pub moments : IsTrue models → EachSince past.moments past'.moments

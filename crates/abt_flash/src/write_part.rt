@@ -4,7 +4,7 @@ ghost use Rattle.std.specs.Prelude.{◌≡◌, ◌<◌, ◌≤◌, ◌+◌, ◌*
 ghost use Rattle.std.specs.List.{concat};
 ghost use Rattle.abt_io.specs.Moment.{EachSince, Keeps, KeepsUnsynced, in_range, moment_of, put_at};
 ghost use Rattle.abt_sparse.specs.Block.{over};
-ghost use Rattle.abt_chunks.specs.Ahead.{somes};
+ghost use Rattle.abt_chunks.specs.Ahead.{fills, somes};
 ghost use Rattle.abt_chunks.specs.Expanding.{IsWritable};
 ghost use Rattle.abt_chunks.specs.Parts.{is_fault};
 ghost use Rattle.abt_flash_faults.specs.Fault.{OnUnsynced, PutCause, UnlessUnwritten, refused_syncs};
@@ -13,7 +13,7 @@ ghost use Rattle.abt_flash.specs.Laying.{answered, bytes_by, put_by, put_in, ref
 ghost use Rattle.abt_flash.specs.Laying.{syncs_by};
 ghost use Rattle.abt_flash.specs.Laying.{syncs_in, task_of};
 ghost use Rattle.abt_flash.specs.Devices.{LeavesUnread};
-ghost use Rattle.abt_flash.specs.Laying.{Touches, PutCosts, PutFails};
+ghost use Rattle.abt_flash.specs.Laying.{IsFrontLaid, LaysCells, Touches, PutCosts, PutFails};
 ghost use Rattle.abt_chunks.specs.Expanding.{cells_by};
 ghost use Rattle.abt_chunks.specs.Places.{from_place};
 
@@ -97,6 +97,9 @@ fn lay_words<P: Partition>(
     ensures unread { LeavesUnread P.Source partition.old partition.new }
     ensures written { IsTrue P.models →
         OnOk result (P.content partition.new ≡ put_at (P.content partition.old) at (concat (replicate n word))) }
+    // Where a write fails, a front of the words is there.
+    ensures broken { IsTrue P.models →
+        OnErr result (IsFrontLaid 65536 at (fills n word) (P.content partition.old) (P.content partition.new)) }
     ensures kept { IsTrue P.models →
         Keeps (in_range at (4 * n)) (moment_of (P.past partition.old) (P.content partition.old))
         (moment_of (P.past partition.new) (P.content partition.new)) }
@@ -139,6 +142,9 @@ fn carry_out<P: Partition>(
     ensures unread { LeavesUnread P.Source partition.old partition.new }
     ensures laid { IsTrue P.models → UnlessUndone task result
         (P.content partition.new ≡ over (P.content partition.old) (from_place at (somes (bytes_by task w.old.bytes)))) }
+    // Where a write fails, a front of them is there.
+    ensures broken { IsTrue P.models → OnErr result (IsFrontLaid 65536 at (somes (bytes_by task w.old.bytes))
+        (P.content partition.old) (P.content partition.new)) }
     // No byte outside the range that is written is touched in any intermediate state.
     ensures touches { IsTrue P.models → Touches (in_range at (put_in task)) (P.past partition.old)
         (P.past partition.new) (P.content partition.old) (P.content partition.new) }
@@ -175,9 +181,9 @@ pub(crate) fn lay_part<P: Partition>(
     requires fits { at + put_by part ≤ P.size partition.old }
     requires below { at + put_by part < 2 ^ 64 }
     ensures unread { LeavesUnread P.Source partition.old partition.new }
-    ensures laid { IsTrue P.models →
-        UnlessUnwritten result (P.content partition.new
-        ≡ over (P.content partition.old) (from_place at (cells_by part w.old.bytes))) }
+    // All is written, and where a write fails, a front of it.
+    ensures laid { IsTrue P.models → LaysCells result at (cells_by part w.old.bytes) (P.content partition.old)
+        (P.content partition.new) }
     // No byte outside the range that is written is touched in any intermediate state.
     ensures touches { IsTrue P.models → Touches (in_range at (put_by part)) (P.past partition.old)
         (P.past partition.new) (P.content partition.old) (P.content partition.new) }

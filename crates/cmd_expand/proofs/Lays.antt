@@ -1,5 +1,5 @@
 -- What writing images one after another leaves, and why it stops.
-use Rattle.std.proofs.Common.{arith, ◌≡◌, ℕ, suc, ◌+◌, ◌*◌, List, [], ◌∷◌, length, drop, Bool}
+use Rattle.std.proofs.Common.{arith, ◌≡◌, ℕ, suc, ◌+◌, ◌*◌, List, [], ◌∷◌, ◌++◌, length, drop, Bool, append_assoc}
 use Rattle.std.proofs.Common.{true, false, Option, refl, sym, ◌∙◌, ap, subst}
 use Rattle.std.specs.Prelude.{Result, Ok, Err, IfErr, OnOk, is_ok, if◌then◌else◌}
 use Rattle.std.proofs.lemmas.Bool.{false≢true}
@@ -18,7 +18,7 @@ use Rattle.sys_disk.specs.World.{OpenFiles, failing}
 use Rattle.cmd_common_sparse.specs.declared.fault.SparseCommandFault.{SparseCommandFault}
 use Rattle.cmd_common_sparse.specs.declared.fault.SparseCommandFault.TheVariants as faults
 use Rattle.cmd_expand.specs.Overlaying.{IsImageOf}
-use Rattle.cmd_expand.specs.Steps.{FailsAlone, IsNotFlashed, IsNotLaid}
+use Rattle.cmd_expand.specs.Steps.{AreLaidBefore, BreaksAmong, BreaksAt, FailsAlone, IsNotFlashed, IsNotLaid}
 
 -- ---- one image
 
@@ -116,6 +116,32 @@ pub laid_next : (p p' x w : List ℕ) (xs xs' : List (List ℕ)) → xs ≡ x �
 laid_next p p' x w xs xs' is all now =
     ap (λ z. flashed_in_turn z xs') now ∙ sym (ap (flashed_in_turn p) is) ∙ all
 
+turn_more : (p x : List ℕ) (xs : List (List ℕ)) → flashed_in_turn p (xs ++ (x ∷ [])) ≡ flashed (flashed_in_turn p xs) x
+turn_more p x [] = refl
+turn_more p x (y ∷ xs) = turn_more (flashed p y) x xs
+
+pub laid_none : (xs : List (List ℕ)) (p : List ℕ) → AreLaidBefore xs xs p p
+laid_none xs p = record { before = []; among = refl; laid = refl }
+
+pub laid_more : (all xs xs' : List (List ℕ)) (p q q' x : List ℕ) → xs ≡ x ∷ xs' → AreLaidBefore xs all p q
+    → q' ≡ flashed q x → AreLaidBefore xs' all p q'
+laid_more all xs xs' p q q' x is before now = record {
+  before = before.before ++ (x ∷ []);
+  among = before.among ∙ ap (λ l. before.before ++ l) is ∙ sym (append_assoc before.before (x ∷ []) xs');
+  laid = now ∙ ap (λ l. flashed l x) before.laid ∙ sym (turn_more p x before.before);
+}
+
+-- one is refused
+pub breaks_among : (f : SparseCommandFault) (all xs xs' : List (List ℕ)) (p q p' x : List ℕ) → xs ≡ x ∷ xs'
+    → AreLaidBefore xs all p q → BreaksAt f x q p' → BreaksAmong f all p p'
+breaks_among f all xs xs' p q p' x is before broken = record {
+  before = before.before;
+  next = x;
+  behind = xs';
+  among = before.among ∙ ap (λ l. before.before ++ l) is;
+  holds = subst (λ l. BreaksAt f x l p') before.laid broken;
+}
+
 -- ---- what a result means
 
 pub at_front : (n : ℕ) (x : List ℕ) → n ≡ 0 → drop n x ≡ x
@@ -124,6 +150,13 @@ at_front n x none = ap (λ k. drop k x) none
 pub done_holds : (a : Result Flashed FlashFault) (e : Flashed) (p p' x : List ℕ) → a ≡ Ok e → Holds a p p' x
     → p' ≡ flashed p x
 done_holds a e p p' x is holds = subst (λ r. Holds r p p' x) is holds
+
+-- it was refused for this
+pub breaks_at : (a : Result Flashed FlashFault) (f : FlashFault) (told : SparseCommandFault) (p p' x y : List ℕ)
+    → a ≡ Err f → told ≡ faults.Flash f → x ≡ y → Holds a p p' x → BreaksAt told y p p'
+breaks_at a f told p p' x y is named same holds =
+    subst (λ q. BreaksAt q y p p') (sym named) (subst (λ z. Holds (Err f) p p' z) same (subst (λ r. Holds r p p' x) is
+    holds))
 
 pub done_so : (a : Result Flashed FlashFault) (e : Flashed) (P : Type 0) → a ≡ Ok e → OnOk a P → P
 done_so a e P is so = subst (λ r. OnOk r P) is so

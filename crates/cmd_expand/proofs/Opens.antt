@@ -20,6 +20,7 @@ use Rattle.abt_runs.specs.Part.{RunCaused}
 use Rattle.abt_runs.specs.Sparse.{SparseOpened, sparse_list}
 use Rattle.abt_runs.specs.Verdict.{CausedAt, Refuses}
 use Rattle.sys_disk.specs.World.{World, OpenFiles, OpensFile, HasFailed, failing, reading}
+use Rattle.sys_refusals.specs.declared.refusal.HostFault.{HostFault}
 use Rattle.cmd_common_sparse.specs.declared.fault.SparseCommandFault.{SparseCommandFault}
 use Rattle.cmd_common_sparse.specs.declared.fault.SparseCommandFault.TheVariants as faults
 use Rattle.cmd_expand.specs.declared.open_images.Shape.{Shape}
@@ -163,6 +164,15 @@ pub next_other : (told : SparseCommandFault) (shape : Option Shape) (pieces : Li
 next_other told shape pieces own number path x a h h' k is opened image differs =
     subst (λ f. IsNotNext f shape pieces number path a h k) (sym is)
     (refl, other_shape shape own path x a h h' opened image differs)
+
+-- it was opened, and then memory was refused
+pub next_lacking : (told : SparseCommandFault) (m : HostFault) (shape : Option Shape) (pieces : List (Option CutPiece))
+    (number : ℕ) (path x : List ℕ) (a : World) (h h' k : OpenFiles) → told ≡ faults.Host m → OpensFile a path x h h'
+    → k ≡ failing 1 h' → IsNotNext told shape pieces number path a h k
+next_lacking told m shape pieces number path x a h h' k is opened now =
+    let up : k.failed ≡ h'.failed + 1 = ap (λ q. q.failed) now in
+    let stays : h'.failed ≡ h.failed = ap (λ q. q.failed) opened.taken in
+    subst (λ f. IsNotNext f shape pieces number path a h k) (sym is) (omega (arith, up, stays))
 
 pub next_cut : (told : SparseCommandFault) (shape : Option Shape) (pieces : List (Option CutPiece))
     (own : Option CutPiece) (number : ℕ) (path : List ℕ) (a : World) (h k : OpenFiles) → told ≡ faults.OtherCut number
@@ -316,11 +326,8 @@ not_all (faults.OtherBlocks n) shape pieces a inputs before behind xs path numbe
 not_all (faults.OtherCut n) shape pieces a inputs before behind xs path number h h1 h2 all is told among counted why =
     other_cut shape pieces a inputs before behind xs path n h h1 all is told among (why.0 ∙ counted) why.1
 not_all (faults.Host f) shape pieces a inputs before behind xs path number h h1 h2 all is told among
-    counted (inl failed) =
-    inl (still a before xs h h1 h2 all failed)
-not_all (faults.Host f) shape pieces a inputs before behind xs path number h h1 h2 all is told among
-    counted (inr memory) =
-    inr memory
+    counted why =
+    still a before xs h h1 h2 all why
 not_all (faults.Sparse f) shape pieces a inputs before behind xs path number h h1 h2 all is told among
     counted why = absurd why
 not_all (faults.Piece f) shape pieces a inputs before behind xs path number h h1 h2 all is told among

@@ -1,7 +1,7 @@
 -- What opening, writing and closing leave together.
 use Rattle.std.proofs.Common.{inl, inr, arith, ◌⊎◌, ◌≡◌, ℕ, suc, ◌+◌, ◌*◌, ◌<◌, List, [], ◌∷◌, ◌++◌, length}
-use Rattle.std.proofs.Common.{replicate, Option, Some, None, refl, sym, ◌∙◌, ap, subst}
-use Rattle.std.specs.Prelude.{Contains, if◌then◌else◌, nat_lt, Result, OnOk}
+use Rattle.std.proofs.Common.{replicate, map, Option, Some, None, refl, sym, ◌∙◌, ap, subst}
+use Rattle.std.specs.Prelude.{Contains, if◌then◌else◌, nat_lt, Result, Err, OnOk}
 use Rattle.std.specs.List.{AllByRecursion}
 use Rattle.std.proofs.lemmas.Bool.{lt-ltb}
 use Rattle.std.proofs.lemmas.List.{length-map, length-replicate}
@@ -9,6 +9,7 @@ use Rattle.abt_io.specs.Moment.{Past, no_past}
 use Rattle.abt_sparse.specs.Pieces.{flashed_in_turn}
 use Rattle.abt_chunks.specs.declared.progress.Expanded.{Expanded}
 use Rattle.abt_runs.specs.declared.part.RunFault.TheVariants as of_runs
+use Rattle.abt_flash.specs.Flashing.{Holds}
 use Rattle.abt_flash_faults.specs.declared.fault.FlashFault.TheVariants as flashes
 use Rattle.sys_disk.specs.InPlace.{IsAsLong, MakesZeros, closed_part, is_settled, is_settled_in}
 use Rattle.sys_disk.specs.World.{World, OpenFiles, Spares, Ends, OnlyAt, in_output, KeepsFile, HasFailed, HasNotFailed}
@@ -20,9 +21,10 @@ use Rattle.cmd_common_sparse.specs.declared.lines.Line.TheVariants as lines
 use Rattle.cmd_common_sparse.specs.Lines.{line_text}
 use Rattle.cmd_expand.specs.declared.open_images.Shape.{Shape}
 use Rattle.cmd_expand.specs.Expanding.{FromHost}
-use Rattle.cmd_expand.specs.Overlaying.{AreInTurn, IsImageOf, LeavesOverlaid, OverlaysFiles, RefusesOverlay}
-use Rattle.cmd_expand.specs.Overlaying.{once_if_any}
-use Rattle.cmd_expand.specs.Steps.{AreOpened, FailsAlone, IsNotAllOpened, IsNotLaid, IsShapeOf, whole_of_shape}
+use Rattle.cmd_expand.specs.Overlaying.{AreImages, AreInTurn, IsImageOf, LeavesOverlaid, OverlaysFiles}
+use Rattle.cmd_expand.specs.Overlaying.{OverlaysInPart, RefusesOverlay, once_if_any}
+use Rattle.cmd_expand.specs.Steps.{AreOpened, BreaksAmong, FailsAlone, IsNotAllOpened, IsNotLaid, IsShapeOf}
+use Rattle.cmd_expand.specs.Steps.{whole_of_shape}
 use Rattle.cmd_expand.proofs.Lists.{as_many, each_read, fewer_read, keeps_read, not_among}
 
 -- ---- counts of what has failed
@@ -215,34 +217,78 @@ from_opening untold (faults.Run of_runs.SourceChanged) inputs output a c h k why
 from_opening untold (faults.Run (of_runs.BadBlock n)) inputs output a c h k why = absurd why
 from_opening untold (faults.OtherBlocks n) inputs output a c h k why = why
 from_opening untold (faults.OtherCut n) inputs output a c h k why = why
-from_opening untold (faults.Host f) inputs output a c h k (inl failed) = inl failed
-from_opening untold (faults.Host f) inputs output a c h k (inr memory) = inr (inl memory)
+from_opening untold (faults.Host f) inputs output a c h k why = inl why
 from_opening untold (faults.Sparse f) inputs output a c h k why = absurd why
 from_opening untold (faults.Piece f) inputs output a c h k why = absurd why
 from_opening untold (faults.Flash f) inputs output a c h k why = absurd why
 from_opening untold (faults.Verify f) inputs output a c h k why = absurd why
 
+-- so much is written where it fails for this
+abbrev pub BreaksOver : SparseCommandFault → List (List ℕ) → List ℕ → World → World → Type 0
+BreaksOver (faults.Flash f) inputs output a c = OverlaysInPart f inputs output a c
+BreaksOver f inputs output a c = Unit {0}
+
+breaks_in : (f : SparseCommandFault) (number size : ℕ) (inputs xs : List (List ℕ)) (output z : List ℕ) (onto : ℕ)
+    (a c : World) (ins : AreImages number size inputs a) → c.at output ≡ Some onto → xs ≡ map a.holds ins.files
+    → z ≡ replicate (number * size) 0 → BreaksAmong f xs z (c.holds onto) → BreaksOver f inputs output a c
+breaks_in (faults.Flash f) number size inputs xs output z onto a c ins here bytes zeros broken = record {
+  blocks = number;
+  size = size;
+  ins = ins;
+  onto = onto;
+  here = here;
+  before = broken.before;
+  next = broken.next;
+  behind = broken.behind;
+  among = sym bytes ∙ broken.among;
+  holds = subst (λ l. Holds (Err f) (flashed_in_turn l broken.before) (c.holds onto) broken.next) zeros broken.holds;
+}
+breaks_in (faults.Run f) number size inputs xs output z onto a c ins here bytes zeros broken = tt
+breaks_in (faults.Sparse f) number size inputs xs output z onto a c ins here bytes zeros broken = tt
+breaks_in (faults.Piece f) number size inputs xs output z onto a c ins here bytes zeros broken = tt
+breaks_in (faults.Verify f) number size inputs xs output z onto a c ins here bytes zeros broken = tt
+breaks_in (faults.OtherBlocks m) number size inputs xs output z onto a c ins here bytes zeros broken = tt
+breaks_in (faults.OtherCut m) number size inputs xs output z onto a c ins here bytes zeros broken = tt
+breaks_in (faults.Host f) number size inputs xs output z onto a c ins here bytes zeros broken = tt
+
+pub breaks_over : (f : SparseCommandFault) (shape : Option Shape) (e : Expanded) (a a1 b b' c : World)
+    (inputs xs : List (List ℕ)) (output y z : List ℕ) (h h1 h2 h3 : OpenFiles) → e ≡ whole_of_shape shape
+    → AreOpened a inputs xs h h1 → IsShapeOf shape xs → MakesZeros e.bytes output h1 h2 a1 b → a1 ≡ a
+    → z ≡ replicate e.bytes 0 → BreaksAmong f xs z y → b' ≡ b → FailsAlone h2 h3 → Ends h3.part y b' c
+    → c.at ≡ b'.at → BreaksOver f inputs output a c
+breaks_over f shape e a a1 b b' c inputs xs output y z h h1 h2 h3 whole all is made same zeros broken same' alone
+    ends paths =
+    let s = sized shape e a inputs xs h h1 whole all is in
+    let end = spared a a1 b b' c e.bytes output y h1 h2 h3 made same same' alone ends in
+    breaks_in f s.number s.size inputs xs output z made.file a c record {
+      files = all.files;
+      there = all.there;
+      images = subst (λ l. AllByRecursion (IsImageOf s.number s.size) l) all.bytes s.all;
+    } (ap (λ g. g output) paths ∙ ap (λ w. w.at output) same' ∙ made.there) all.bytes
+    (zeros ∙ ap (λ n. replicate n 0) s.long) (subst (λ l. BreaksAmong f xs z l) (sym end.0) broken)
+
 pub from_laying : (untold : List ℕ → Type 0) (f : SparseCommandFault) (inputs : List (List ℕ)) (output : List ℕ)
     (a c : World) (h k : OpenFiles)
-    (n n' : ℕ) → (n < n' → HasFailed h k) → IsNotLaid f n n' → RefusesOverlay f inputs output a c h k untold
-from_laying untold (faults.Flash (flashes.Read d)) inputs output a c h k n n' up why = up why
-from_laying untold (faults.Flash (flashes.Write d)) inputs output a c h k n n' up why = up why
-from_laying untold (faults.Flash (flashes.Sync d)) inputs output a c h k n n' up why = up why
-from_laying untold (faults.Flash (flashes.Sparse f)) inputs output a c h k n n' up why = absurd why
-from_laying untold (faults.Flash (flashes.PartitionTooSmall m)) inputs output a c h k n n' up why = absurd why
-from_laying untold (faults.Flash flashes.TooLarge) inputs output a c h k n n' up why = absurd why
-from_laying untold (faults.Flash flashes.SourceChanged) inputs output a c h k n n' up why = absurd why
-from_laying untold (faults.Flash (flashes.BadBlock m)) inputs output a c h k n n' up why = absurd why
-from_laying untold (faults.Flash (flashes.LimitTooSmall m)) inputs output a c h k n n' up why = absurd why
-from_laying untold (faults.Flash (flashes.Stopped j m)) inputs output a c h k n n' up why = absurd why
-from_laying untold (faults.Flash (flashes.NoSuchPiece m)) inputs output a c h k n n' up why = absurd why
-from_laying untold (faults.Run f) inputs output a c h k n n' up why = absurd why
-from_laying untold (faults.Sparse f) inputs output a c h k n n' up why = absurd why
-from_laying untold (faults.Piece f) inputs output a c h k n n' up why = absurd why
-from_laying untold (faults.Verify f) inputs output a c h k n n' up why = absurd why
-from_laying untold (faults.OtherBlocks m) inputs output a c h k n n' up why = absurd why
-from_laying untold (faults.OtherCut m) inputs output a c h k n n' up why = absurd why
-from_laying untold (faults.Host f) inputs output a c h k n n' up why = absurd why
+    (n n' : ℕ) → (n < n' → HasFailed h k) → BreaksOver f inputs output a c → IsNotLaid f n n'
+    → RefusesOverlay f inputs output a c h k untold
+from_laying untold (faults.Flash (flashes.Read d)) inputs output a c h k n n' up part why = (up why, part)
+from_laying untold (faults.Flash (flashes.Write d)) inputs output a c h k n n' up part why = (up why, part)
+from_laying untold (faults.Flash (flashes.Sync d)) inputs output a c h k n n' up part why = (up why, part)
+from_laying untold (faults.Flash (flashes.Sparse f)) inputs output a c h k n n' up part why = absurd why
+from_laying untold (faults.Flash (flashes.PartitionTooSmall m)) inputs output a c h k n n' up part why = absurd why
+from_laying untold (faults.Flash flashes.TooLarge) inputs output a c h k n n' up part why = absurd why
+from_laying untold (faults.Flash flashes.SourceChanged) inputs output a c h k n n' up part why = absurd why
+from_laying untold (faults.Flash (flashes.BadBlock m)) inputs output a c h k n n' up part why = absurd why
+from_laying untold (faults.Flash (flashes.LimitTooSmall m)) inputs output a c h k n n' up part why = absurd why
+from_laying untold (faults.Flash (flashes.Stopped j m)) inputs output a c h k n n' up part why = absurd why
+from_laying untold (faults.Flash (flashes.NoSuchPiece m)) inputs output a c h k n n' up part why = absurd why
+from_laying untold (faults.Run f) inputs output a c h k n n' up part why = absurd why
+from_laying untold (faults.Sparse f) inputs output a c h k n n' up part why = absurd why
+from_laying untold (faults.Piece f) inputs output a c h k n n' up part why = absurd why
+from_laying untold (faults.Verify f) inputs output a c h k n n' up part why = absurd why
+from_laying untold (faults.OtherBlocks m) inputs output a c h k n n' up part why = absurd why
+from_laying untold (faults.OtherCut m) inputs output a c h k n n' up part why = absurd why
+from_laying untold (faults.Host f) inputs output a c h k n n' up part why = absurd why
 
 -- a fault of files, after which something has failed, or all is done
 pub from_files : (untold : List ℕ → Type 0) (f : SparseCommandFault) (inputs : List (List ℕ)) (output : List ℕ)
@@ -252,4 +298,4 @@ pub from_files : (untold : List ℕ → Type 0) (f : SparseCommandFault) (inputs
 from_files untold f inputs output a c h k host (inl failed) =
     subst (λ g. RefusesOverlay g inputs output a c h k untold) (sym host.1) (inl failed)
 from_files untold f inputs output a c h k host (inr done) =
-    subst (λ g. RefusesOverlay g inputs output a c h k untold) (sym host.1) (inr (inr done))
+    subst (λ g. RefusesOverlay g inputs output a c h k untold) (sym host.1) (inr done)

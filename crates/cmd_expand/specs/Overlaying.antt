@@ -1,6 +1,6 @@
 -- What the command `expand` of several images leaves of files, and what it prints.
 use Rattle.std.specs.Prelude.{◌≡◌, ◌⊎◌, ℕ, ◌+◌, ◌*◌, ◌<◌, List, [], ◌∷◌, ◌++◌, length, map, min, replicate}
-use Rattle.std.specs.Prelude.{Contains, Some, None, Result, OnOk, ◌≤◌, ◌^◌, ⊤, decimal, get_or}
+use Rattle.std.specs.Prelude.{Contains, Some, None, Result, Err, OnOk, ◌≤◌, ◌^◌, ⊤, decimal, get_or}
 use Rattle.std.specs.List.{AllByRecursion}
 use Rattle.abt_sparse.specs.declared.fault.SparseFault.{SparseFault}
 use Rattle.abt_sparse.specs.Block.{Block, Skip}
@@ -8,9 +8,10 @@ use Rattle.abt_sparse.specs.Chunk.{Header, Chunk, classed}
 use Rattle.abt_sparse.specs.Fails.{Spells}
 use Rattle.abt_sparse.specs.Pieces.{flashed_in_turn}
 use Rattle.abt_runs.specs.declared.part.RunFault.TheVariants as of_runs
+use Rattle.abt_flash.specs.Flashing.{Holds}
+use Rattle.abt_flash_faults.specs.declared.fault.FlashFault.{FlashFault}
 use Rattle.abt_flash_faults.specs.declared.fault.FlashFault.TheVariants as flashes
 use Rattle.sys_disk.specs.World.{World, OpenFiles, IsReading, KeepsFile, OnlyAt, Spares, HasFailed, HasNotFailed}
-use Rattle.sys_refusals.specs.declared.refusal.HostFault.TheVariants.{Memory}
 use Rattle.cmd_common_sparse.specs.declared.fault.SparseCommandFault.{SparseCommandFault}
 use Rattle.cmd_common_sparse.specs.declared.fault.SparseCommandFault.TheVariants as faults
 use Rattle.cmd_common_sparse.specs.declared.lines.Line.TheVariants as lines
@@ -119,6 +120,21 @@ pub record LeavesOverlaid {X F : Type 0} (r : Result X F) (paths : List (List �
   pub closed : held'.part ≡ None
   pub clean : OnOk r (HasNotFailed held held')
 
+-- The files at the INs' paths held images of the same blocks. OUT's file holds zeros over which some of them were
+-- flashed in turn, and then what flashing the next one leaves that stops with this fault.
+pub record OverlaysInPart (fault : FlashFault) (inputs : List (List ℕ)) (output : List ℕ) (old new : World) : Type 0
+  where
+    pub blocks : ℕ
+    pub size : ℕ
+    pub ins : AreImages blocks size inputs old
+    pub onto : ℕ
+    pub here : new.at output ≡ Some onto
+    pub before : List (List ℕ)
+    pub next : List ℕ
+    pub behind : List (List ℕ)
+    pub among : map old.holds ins.files ≡ before ++ (next ∷ behind)
+    pub holds : Holds (Err fault) (flashed_in_turn (replicate (blocks * size) 0) before) (new.holds onto) next
+
 -- 1 where there is one at least
 abbrev pub once_if_any : {X : Type 0} → List X → ℕ
 once_if_any [] = 0
@@ -169,17 +185,21 @@ pub record HasOtherCut (inputs : List (List ℕ)) (world : World) (image : ℕ) 
   pub before : Contains stands.before other
   pub turned : AreOutOfTurn world path other ⊎ AreOutOfTurn world other path
 
--- why the command fails: for what the INs' files hold; since a device or the system failed, or had no memory for the
--- list of INs; or everything was done, but its line could not be printed
+-- Why the command fails: for what the INs' files hold; since a device or a call of the disk failed, or memory was
+-- refused; or everything was done, but its line could not be printed. Where a device failed while an image was flashed,
+-- OUT holds the images before it and a front of that one.
 abbrev pub RefusesOverlay : SparseCommandFault → List (List ℕ) → List ℕ → World → World → OpenFiles → OpenFiles
     → (List ℕ → Type 0) → Type 0
 RefusesOverlay (faults.Run (of_runs.Sparse f)) inputs output old new held held' untold = HasFirstFault inputs old f
 RefusesOverlay (faults.Run (of_runs.Read d)) inputs output old new held held' untold = HasFailed held held'
 RefusesOverlay (faults.OtherBlocks image) inputs output old new held held' untold = HasOtherBlocks inputs old image
 RefusesOverlay (faults.OtherCut image) inputs output old new held held' untold = HasOtherCut inputs old image
-RefusesOverlay (faults.Flash (flashes.Read d)) inputs output old new held held' untold = HasFailed held held'
-RefusesOverlay (faults.Flash (flashes.Write d)) inputs output old new held held' untold = HasFailed held held'
-RefusesOverlay (faults.Flash (flashes.Sync d)) inputs output old new held held' untold = HasFailed held held'
+RefusesOverlay (faults.Flash (flashes.Read d)) inputs output old new held held' untold =
+    HasFailed held held' × OverlaysInPart (flashes.Read d) inputs output old new
+RefusesOverlay (faults.Flash (flashes.Write d)) inputs output old new held held' untold =
+    HasFailed held held' × OverlaysInPart (flashes.Write d) inputs output old new
+RefusesOverlay (faults.Flash (flashes.Sync d)) inputs output old new held held' untold =
+    HasFailed held held' × OverlaysInPart (flashes.Sync d) inputs output old new
 RefusesOverlay (faults.Host f) inputs output old new held held' untold =
-    HasFailed held held' ⊎ ((f ≡ Memory) ⊎ OverlaysFiles inputs output old new untold)
+    HasFailed held held' ⊎ OverlaysFiles inputs output old new untold
 RefusesOverlay f inputs output old new held held' untold = ⊥

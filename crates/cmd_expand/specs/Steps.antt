@@ -1,11 +1,12 @@
 -- What each step of the command `expand` of several images leaves.
-use Rattle.std.specs.Prelude.{◌≡◌, ◌⊎◌, ℕ, ◌*◌, ◌<◌, ◌≤◌, List, [], ◌∷◌, ◌++◌, length, map, Option, Some, None}
+use Rattle.std.specs.Prelude.{◌≡◌, ℕ, ◌*◌, ◌<◌, ◌≤◌, List, [], ◌∷◌, ◌++◌, length, map, Option, Some, None}
 use Rattle.std.specs.List.{AllByRecursion}
-use Rattle.std.specs.Prelude.{Bool, true, IsTrue, ◌==◌, ◌&&◌}
+use Rattle.std.specs.Prelude.{Bool, true, IsTrue, ◌==◌, ◌&&◌, Err}
 use Rattle.abt_sparse.specs.Fails.{Fails}
+use Rattle.abt_sparse.specs.Pieces.{flashed_in_turn}
 use Rattle.abt_chunks.specs.declared.progress.Expanded.{Expanded}
-use Rattle.sys_refusals.specs.declared.refusal.HostFault.TheVariants.{Memory}
 use Rattle.abt_runs.specs.declared.part.RunFault.TheVariants as of_runs
+use Rattle.abt_flash.specs.Flashing.{Holds}
 use Rattle.abt_flash_faults.specs.declared.fault.FlashFault.{FlashFault}
 use Rattle.abt_flash_faults.specs.declared.fault.FlashFault.TheVariants as flashes
 use Rattle.sys_disk.specs.World.{World, OpenFiles, OpensFile, HasFailed}
@@ -81,7 +82,7 @@ IsNotNext (faults.Run (of_runs.Read d)) shape pieces number path world held held
 IsNotNext (faults.OtherBlocks n) shape pieces number path world held held' =
     (n ≡ number) × IsOtherShape shape path world
 IsNotNext (faults.OtherCut n) shape pieces number path world held held' = (n ≡ number) × IsOtherCut pieces path world
-IsNotNext (faults.Host f) shape pieces number path world held held' = HasFailed held held' ⊎ (f ≡ Memory)
+IsNotNext (faults.Host f) shape pieces number path world held held' = HasFailed held held'
 IsNotNext f shape pieces number path world held held' = ⊥
 
 -- why they are not all opened
@@ -90,7 +91,7 @@ IsNotAllOpened (faults.Run (of_runs.Sparse f)) inputs world held held' = HasFirs
 IsNotAllOpened (faults.Run (of_runs.Read d)) inputs world held held' = HasFailed held held'
 IsNotAllOpened (faults.OtherBlocks n) inputs world held held' = HasOtherBlocks inputs world n
 IsNotAllOpened (faults.OtherCut n) inputs world held held' = HasOtherCut inputs world n
-IsNotAllOpened (faults.Host f) inputs world held held' = HasFailed held held' ⊎ (f ≡ Memory)
+IsNotAllOpened (faults.Host f) inputs world held held' = HasFailed held held'
 IsNotAllOpened f inputs world held held' = ⊥
 
 -- no file has changed, and none more is written in place
@@ -110,6 +111,25 @@ IsNotFlashed f n n' = ⊥
 abbrev pub IsNotLaid : SparseCommandFault → ℕ → ℕ → Type 0
 IsNotLaid (faults.Flash f) n n' = IsNotFlashed f n n'
 IsNotLaid f n n' = ⊥
+
+-- what flashing x over p leaves, where it was refused for this
+abbrev pub BreaksAt : SparseCommandFault → List ℕ → List ℕ → List ℕ → Type 0
+BreaksAt (faults.Flash f) x p p' = Holds (Err f) p p' x
+BreaksAt f x p p' = Unit {0}
+
+-- of these images some are flashed in turn over p, and then the next one, which was refused for this
+pub record BreaksAmong (f : SparseCommandFault) (images : List (List ℕ)) (p p' : List ℕ) : Type 0 where
+  pub before : List (List ℕ)
+  pub next : List ℕ
+  pub behind : List (List ℕ)
+  pub among : images ≡ before ++ (next ∷ behind)
+  pub holds : BreaksAt f next (flashed_in_turn p before) p'
+
+-- the first of these images are flashed in turn over p, and those are left
+pub record AreLaidBefore (left images : List (List ℕ)) (p p' : List ℕ) : Type 0 where
+  pub before : List (List ℕ)
+  pub among : images ≡ before ++ left
+  pub laid : p' ≡ flashed_in_turn p before
 
 -- the count of failures may be greater, and nothing else has changed
 pub record FailsAlone (held held' : OpenFiles) : Type 0 where

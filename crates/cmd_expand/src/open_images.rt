@@ -18,7 +18,7 @@ use abt_sparse::SparseFault;
 use cmd_common_sparse::{SparseCommandFault, SparseRefusal, image_place};
 use std::alloc::Global;
 use std::collections::VecDeque;
-use sys_disk::{Disk, Lasting};
+use sys_disk::{Disk, Lasting, push_back};
 use sys_refusals::{FileArg, HostFault, Sides};
 use sys_report::Progress;
 
@@ -139,13 +139,17 @@ fn open_next<'a, D: Disk>(
         return Err(sides.refuse(SparseCommandFault::OtherCut { image: all.count }));
     }
     all.shape = Some(own);
-    match all.kept.push_back(OpenedImage {
+    let opened = OpenedImage {
         source,
         place,
         piece,
-    }) {
+    };
+    match push_back(&mut all.kept, opened) {
         Ok(()) => Ok(()),
-        Err(_) => Err(SparseRefusal::of(SparseCommandFault::Host(HostFault::Memory))),
+        Err(refused) => {
+            disk.no_memory(refused);
+            Err(SparseRefusal::of(SparseCommandFault::Host(HostFault::Memory)))
+        }
     }
 }
 

@@ -1,12 +1,13 @@
 //! Writes opened images over one another: each is flashed in turn to a file of zeros.
 
-ghost use Rattle.std.specs.Prelude.{◌≡◌, ◌+◌, ◌*◌, ℕ, [], None, Ok, IsTrue, IfOk, IfErr, OnOk, length, map, IfSome, IsErr};
+ghost use Rattle.std.specs.Prelude.{◌≡◌, ◌+◌, ◌*◌, ℕ, [], None, Ok, IsTrue, IfOk, IfErr, OnOk, length, map, IfSome};
+ghost use Rattle.std.specs.Prelude.{IsErr};
 ghost use Rattle.std.specs.List.{AllByRecursion};
 ghost use Rattle.abt_flash_faults.specs.Fault.{FlashingRises};
 ghost use Rattle.abt_flash.specs.Flashing.{Holds};
 ghost use Rattle.abt_sparse.specs.Pieces.{flashed, flashed_in_turn};
 ghost use Rattle.cmd_expand.specs.Overlaying.{IsImageOf};
-ghost use Rattle.cmd_expand.specs.Steps.{IsNotFlashed, IsNotLaid, LaysAlone};
+ghost use Rattle.cmd_expand.specs.Steps.{BreaksAmong, BreaksAt, IsNotFlashed, IsNotLaid, LaysAlone};
 
 use crate::open_images::OpenedImage;
 use abt_flash::{Flashed, flash};
@@ -31,6 +32,10 @@ pub(crate) fn lay_all<'a, D: Disk>(
 ) -> Result<(), SparseRefusal<'a>>
     ensures laid { IsTrue D.models → OnOk result (D.InPlace.content onto.new
         ≡ flashed_in_turn (D.InPlace.content onto.old) (map (λ one. D.At.content one.source) kept.entry.items)) }
+    // where one is refused, those before it are flashed, and of it what that leaves
+    ensures broken { IsTrue D.models → IfErr result (λ refusal. BreaksAmong refusal.fault
+        (map (λ one. D.At.content one.source) kept.entry.items) (D.InPlace.content onto.old)
+        (D.InPlace.content onto.new)) }
     // it was synced once for each image, and after the last byte
     ensures synced { OnOk result ((D.InPlace.past onto.new).synced
         ≡ (D.InPlace.past onto.old).synced + length kept.entry.items) }
@@ -76,6 +81,8 @@ fn lay_one<'a, D: Disk>(
 ) -> Result<(), SparseRefusal<'a>>
     ensures laid { IsTrue D.models → OnOk result (D.InPlace.content onto.new
         ≡ flashed (D.InPlace.content onto.old) (D.At.content one.entry.source)) }
+    ensures broken { IsTrue D.models → IfErr result (λ refusal. BreaksAt refusal.fault
+        (D.At.content one.entry.source) (D.InPlace.content onto.old) (D.InPlace.content onto.new)) }
     ensures synced { OnOk result ((D.InPlace.past onto.new).synced ≡ (D.InPlace.past onto.old).synced + 1) }
     ensures settled { IsTrue D.models → OnOk result ((D.InPlace.past onto.new).pending ≡ []) }
     ensures alone { LaysAlone D.models (D.InPlace.size onto.old) (D.InPlace.size onto.new) (D.held disk.old)

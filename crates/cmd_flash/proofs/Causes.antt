@@ -2,10 +2,12 @@
 use Rattle.std.proofs.Common.{◌≡◌, ◌<◌, ◌≤◌, ◌+◌, ◌*◌, ℕ, List, Bool, true, length, Option, refl, subst, arith}
 use Rattle.std.specs.Prelude.{Err, IsTrue}
 use Rattle.abt_chunks.specs.Expanding.{UnlessExpandingDevice}
-use Rattle.abt_sparse.specs.Pieces.{flashed}
+use Rattle.abt_sparse.specs.Pieces.{flashed, given}
+use Rattle.abt_sparse.specs.Reading.{outcome}
 use Rattle.abt_flash.specs.declared.stage.Flashed.{Flashed}
 use Rattle.abt_flash_faults.specs.Fault.{FlashCause}
 use Rattle.abt_flash.specs.Flashing.{Flashes, Holds, WholeFlash}
+use Rattle.abt_flash.specs.Laying.{writes}
 use Rattle.abt_flash_faults.specs.declared.fault.FlashFault.{FlashFault}
 use Rattle.abt_flash_faults.specs.declared.fault.FlashFault.TheVariants as flashes
 use Rattle.abt_sparse.specs.declared.fault.SparseFault.{SparseFault}
@@ -19,7 +21,8 @@ use Rattle.abt_verify.specs.declared.stage.Verified.{Verified}
 use Rattle.abt_verify.specs.declared.fault.VerifyFault.TheVariants as verifies
 use Rattle.std.proofs.lemmas.Bool.{true≢false}
 use Rattle.cmd_common_listing.specs.Listed.{ReadTold, WriteTold}
-use Rattle.cmd_flash.specs.Flashing.{IsFlashedInPart, IsFlashedWhole, IsUnflashed}
+use Rattle.cmd_flash.specs.Files.{HoldsBut}
+use Rattle.cmd_flash.specs.Flashing.{IsFlashedWhole, IsUnflashed}
 use Rattle.cmd_flash.specs.Listing.{IsUnlisted}
 use Rattle.cmd_flash.specs.Verifying.{IsNotThere, IsNotThereRaw}
 
@@ -39,8 +42,8 @@ whole e size taken taken' x rest p p' long found holds = (
 )
 
 pub unflashed : (f : FlashFault) (size taken taken' r r' t t' : ℕ) (x rest p p' : List ℕ) → size ≡ length p
-    → Flashes (Err f) size taken taken' x rest → Holds (Err f) p p' x → IsFlashedInPart x p p' → FlashCause f r r' t t'
-    → IsUnflashed (r + t < r' + t') f x p p'
+    → Flashes (Err f) size taken taken' x rest → Holds (Err f) p p' x → HoldsBut (writes (given (outcome x))) p p'
+    → FlashCause f r r' t t' → IsUnflashed (r + t < r' + t') f x p p'
 unflashed (flashes.Sparse f) size taken taken' r r' t t' x rest p p' long found holds kept cause =
     record { given = found.given; fails = found.fails; holds = holds }
 unflashed (flashes.PartitionTooSmall need) size taken taken' r r' t t' x rest p p' long found holds kept
@@ -53,9 +56,13 @@ unflashed (flashes.PartitionTooSmall need) size taken taken' r r' t t' x rest p 
       kept = holds;
     }
 unflashed (flashes.Read d) size taken taken' r r' t t' x rest p p' long found holds kept cause =
-    let more = cause.0 in let same = cause.2 in (omega (arith, more, same), kept)
+    let more = cause.0 in
+    let same = cause.2 in
+    (omega (arith, more, same), record { others = kept; front = holds })
 unflashed (flashes.Write d) size taken taken' r r' t t' x rest p p' long found holds kept cause =
-    let more = cause.0 in let same = cause.2 in (omega (arith, more, same), kept)
+    let more = cause.0 in
+    let same = cause.2 in
+    (omega (arith, more, same), record { others = kept; front = holds })
 unflashed (flashes.Sync d) size taken taken' r r' t t' x rest p p' long found holds kept cause =
     let more = cause.0 in
     let same = cause.2 in

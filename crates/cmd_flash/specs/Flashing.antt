@@ -9,7 +9,7 @@ use Rattle.abt_sparse.specs.Fails.{Fails, Spells, SpellsHeader}
 use Rattle.abt_sparse.specs.Pieces.{flashed, given}
 use Rattle.abt_sparse.specs.Reading.{outcome}
 use Rattle.abt_pieces.specs.Contents.{written_in}
-use Rattle.abt_flash.specs.Laying.{writes}
+use Rattle.abt_flash.specs.Laying.{IsFrontLaid, writes}
 use Rattle.abt_flash_faults.specs.declared.fault.FlashFault.{FlashFault}
 use Rattle.abt_flash_faults.specs.declared.fault.FlashFault.TheVariants as flashes
 use Rattle.sys_disk.specs.World.{World, OpenFiles, HasFailed}
@@ -46,21 +46,24 @@ pub record HasNoRoom (need : ℕ) (x p p' : List ℕ) : Type 0 where
   pub short : length p < need
   pub kept : p' ≡ p
 
--- p' equals p wherever x writes nothing; x is an image, or what comes before its fault
-abbrev pub IsFlashedInPart : List ℕ → List ℕ → List ℕ → Type 0
-IsFlashedInPart x p p' = HoldsBut (writes (given (outcome x))) p p'
+-- p' equals p wherever x writes nothing; x is an image, or what comes before its fault. A front of what x writes is
+-- there, and p' equals p behind it, save for up to this many bytes.
+pub record IsFlashedInPart (torn : ℕ) (x p p' : List ℕ) : Type 0 where
+  pub others : HoldsBut (writes (given (outcome x))) p p'
+  pub front : IsFrontLaid torn 0 (given (outcome x)) p p'
 
 -- it is flashed, as this many blocks
 abbrev pub IsFlashedWhole : List ℕ → List ℕ → List ℕ → Type 0
 IsFlashedWhole x p p' = (blocks : ℕ) × IsFlashed blocks x p p'
 
 -- Why it is not flashed: the first fault of x, no room, or the fault of a device where one has failed. After a failed
--- sync everything is written.
+-- sync everything is written, and after a failed read or write a front of it; a write may have left up to a window of
+-- anything behind that.
 abbrev pub IsUnflashed : Type 0 → FlashFault → List ℕ → List ℕ → List ℕ → Type 0
 IsUnflashed failed (flashes.Sparse f) x p p' = IsFlashedUpTo f x p p'
 IsUnflashed failed (flashes.PartitionTooSmall need) x p p' = HasNoRoom need x p p'
-IsUnflashed failed (flashes.Read d) x p p' = failed × IsFlashedInPart x p p'
-IsUnflashed failed (flashes.Write d) x p p' = failed × IsFlashedInPart x p p'
+IsUnflashed failed (flashes.Read d) x p p' = failed × IsFlashedInPart 0 x p p'
+IsUnflashed failed (flashes.Write d) x p p' = failed × IsFlashedInPart 65536 x p p'
 IsUnflashed failed (flashes.Sync d) x p p' = failed × IsFlashedWhole x p p'
 IsUnflashed failed f x p p' = ⊥
 

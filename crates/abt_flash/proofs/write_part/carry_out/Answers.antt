@@ -1,6 +1,6 @@
 use Rattle.std.proofs.Common.{◌≡◌, ◌+◌, ◌-◌, ◌*◌, ℕ, List, Result, Ok, Err, length, take, arith, ap, refl, sym, ◌∙◌}
-use Rattle.std.proofs.Common.{replicate}
-use Rattle.std.specs.Prelude.{OnOk, is_ok, if◌then◌else◌}
+use Rattle.std.proofs.Common.{replicate, ◌≤◌}
+use Rattle.std.specs.Prelude.{OnErr, OnOk, is_ok, if◌then◌else◌}
 use Rattle.std.specs.List.{concat}
 use Rattle.abt_sparse.specs.Block.{over}
 use Rattle.abt_io.proofs.Words.{length_words}
@@ -9,6 +9,7 @@ use Rattle.abt_io.specs.declared.device.DeviceFault.{DeviceFault}
 use Rattle.abt_flash.specs.Laying.{refused_in, syncs_in}
 use Rattle.abt_flash.specs.declared.write_part.PartTask.TheVariants as tasks
 use Rattle.abt_flash.proofs.Cells.{nothing_over, put_over}
+use Rattle.abt_flash.proofs.Fronts.{front_none, front_torn}
 use Rattle.abt_flash.proofs.Moments.{during_put, during_sync, same_content}
 use Rattle.abt_flash.proofs.Tasks.{on_put, on_sync, on_words}
 use Rattle.abt_flash.proofs.write_part.carry_out.Goals as goal
@@ -28,6 +29,24 @@ returns-in-Bytes-clause-laid g c models =
     rw c.in-Bytes.is (on_put n c.write_all_at.result _ _ (λ e. e
     ∙ put_over c.args.at p c.part.result.now (omega (arith, sized, fits, long))
     ∙ ap (λ (x : List ℕ). over p (from_place c.args.at (somes x))) part) (c.write_all_at.ensures.written models))
+
+err_any : (r : Result (Unit {0}) DeviceFault) (P : Type 0) → P → OnErr r P
+err_any (Ok u) P h = tt
+err_any (Err e) P h = h
+
+pub returns-in-Bytes-clause-broken : goal.returns-in-Bytes-clause-broken
+returns-in-Bytes-clause-broken g c models =
+    let can : c.in-Bytes.n ≤ 65536 = rw c.in-Bytes.is at c.requires.can in
+    let few : length c.part.result.now ≤ 65536 = omega (arith, c.part.ensures.long, can) in
+    err_any c.write_all_at.result _ (front_torn 65536 c.args.at _ _ (g.P.Partition.past c.args.partition.now)
+    (g.P.Partition.past c.write_all_at.new.partition) _ _ few (c.write_all_at.ensures.kept models))
+
+pub returns-in-Words-clause-broken : goal.returns-in-Words-clause-broken
+returns-in-Words-clause-broken g c models = rw c.in-Words.is (c.lay_words.ensures.broken models)
+
+pub returns-in-Sync-clause-broken : goal.returns-in-Sync-clause-broken
+returns-in-Sync-clause-broken g c models = err_any c.sync.result _ (front_none 65536 c.args.at _ _ _
+    (same_content _ _ (c.sync.ensures.settled.kept models)))
 
 pub returns-in-Bytes-clause-touches : goal.returns-in-Bytes-clause-touches
 returns-in-Bytes-clause-touches g c models = record {

@@ -1,5 +1,6 @@
 use Rattle.std.proofs.Common.{◌∙◌, arith}
-use Rattle.abt_flash.proofs.Tasks.{can_do, cause_answered, ends_answered, idle_still, laid_same, ok_answered, put_same}
+use Rattle.abt_flash.proofs.Tasks.{can_do, cause_answered, ends_answered, front_answered, idle_still, laid_same}
+use Rattle.abt_flash.proofs.Tasks.{ok_answered, put_same}
 use Rattle.abt_flash.proofs.Tasks.{refused_answered, settles_part, sound_answered, syncs_answered, unless_answered}
 use Rattle.abt_flash.proofs.write_part.lay_part.Goals as goal
 use Rattle.std.proofs.Common.{rules}
@@ -14,10 +15,16 @@ pub carry_out-done-requires-clause-below : goal.carry_out-done-requires-clause-b
 carry_out-done-requires-clause-below g c = rw (c.task_for-task.ensures, put_same c.args.part) c.requires.below
 
 pub returns-clause-laid : goal.returns-clause-laid
-returns-clause-laid g c models = rw (c.answer_to.ensures, c.task_for-task.ensures)
-    (unless_answered _ c.carry_out-done.result _ _ (λ e. e
-    ∙ laid_same c.args.part c.args.w.now.bytes (g.P.Source.content c.args.partition.now) c.args.at)
-    (rw c.task_for-task.ensures at (c.carry_out-done.ensures.laid models)))
+returns-clause-laid g c models = record {
+  all = rw (c.answer_to.ensures, c.task_for-task.ensures)
+      (unless_answered _ c.carry_out-done.result _ _ (λ e. e
+      ∙ laid_same c.args.part c.args.w.now.bytes (g.P.Source.content c.args.partition.now) c.args.at)
+      (rw c.task_for-task.ensures at (c.carry_out-done.ensures.laid models)));
+  front = rw (c.answer_to.ensures, c.task_for-task.ensures)
+      (front_answered c.args.part c.carry_out-done.result c.args.w.now.bytes _ _ c.args.at
+      (rw c.task_for-task.ensures at c.carry_out-done.ensures.sound)
+      (rw c.task_for-task.ensures at (c.carry_out-done.ensures.broken models)));
+}
 
 pub returns-clause-touches : goal.returns-clause-touches
 returns-clause-touches g c models = record {

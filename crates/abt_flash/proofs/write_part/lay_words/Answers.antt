@@ -1,9 +1,10 @@
-use Rattle.std.proofs.Common.{arith, ◌≡◌, ◌<◌, ◌+◌, ◌-◌, ◌*◌, length, replicate, min, ◌∙◌}
+use Rattle.std.proofs.Common.{arith, ◌≡◌, ◌<◌, ◌≤◌, ◌+◌, ◌-◌, ◌*◌, length, replicate, min, ◌∙◌}
 use Rattle.std.specs.Prelude.{IsTrue}
 use Rattle.std.specs.List.{concat}
 use Rattle.abt_io.specs.Moment.{in_range}
 use Rattle.abt_io.proofs.Moments.{within_part}
 use Rattle.abt_chunks.proofs.Repeated.{some_of_window}
+use Rattle.abt_flash.proofs.Fronts.{front_of_words}
 use Rattle.abt_flash.proofs.Moments.{unsynced_then, words_more}
 use Rattle.abt_flash.proofs.write_part.lay_words.Goals as goal
 
@@ -63,3 +64,18 @@ returns-in-Err-clause-moments g c models =
     let moments = rw c.place_behind.ensures at (e.moments models) in
     (unsynced_then (in_range c.args.at (4 * c.args.n)) _ _ _ _ _ _ _ (λ k. within_part c.args.at (4 * c.writes.done) _
     (4 * c.args.n) k (omega arith)) (i.kept models) i.synced kept (i.moments models) moments).1
+
+pub returns-in-Err-clause-broken : goal.returns-in-Err-clause-broken
+returns-in-Err-clause-broken g c models =
+    let i = c.writes.invariant in
+    let e = c.in-Err.ensures in
+    let some = c.min-some.result in
+    let least : some ≡ min (c.args.n - c.writes.done) c.min-most.result = c.min-some.ensures in
+    let most : c.min-most.result ≡ min c.args.n 16384 = c.min-most.ensures in
+    let long : length c.part.result.now ≡ 4 * some - 0 = c.part.ensures.long in
+    let few : length c.part.result.now ≤ 65536 = omega (arith, long, least, most) in
+    let room : c.args.at + 4 * c.args.n ≤ length (g.P.Source.content c.args.partition.now) =
+    omega (arith, c.requires.fits, g.met.P.Source.sized c.args.partition.now models) in
+    front_of_words (g.P.Partition.past c.writes.partition) (g.P.Partition.past c.write_all_at.new.partition) _ _ _
+    c.args.word c.args.at c.args.n c.writes.done _ i.word i.within few room (i.written models)
+    (rw c.place_behind.ensures at (e.kept models))

@@ -2,8 +2,8 @@ use Rattle.std.proofs.Common.{rules, inl, inr, ◌∙◌, refl, sym, ap}
 use Rattle.std.proofs.lemmas.List.{length-map}
 use Rattle.sys_report.proofs.Beside.{beside}
 use Rattle.cmd_expand.proofs.Files.{handed_on}
-use Rattle.cmd_expand.proofs.Overlays.{as_long, clean_closing, failed_closing, failed_in_all, failed_laying}
-use Rattle.cmd_expand.proofs.Overlays.{failed_zeros, from_files, from_laying}
+use Rattle.cmd_expand.proofs.Overlays.{as_long, breaks_over, clean_closing, failed_closing, failed_in_all}
+use Rattle.cmd_expand.proofs.Overlays.{failed_laying, failed_zeros, from_files, from_laying}
 use Rattle.cmd_expand.proofs.Overlays.{from_opening, lands, leaves_overlaid, overlays, sized, synced}
 use Rattle.cmd_expand.proofs.Overlays.{zeros_long}
 use Rattle.cmd_expand.proofs.Lists.{keeps_all_same}
@@ -67,6 +67,10 @@ returns-in-Err-answer-clause-refused g c = λ t.
     opened (c.in_ok-zeros.ensures.made t) (c.close-end.ensures.closed t) in
     from_laying _ c.in-Err-answer.refusal.fault _ _ _ _ h h4 _ _
     (failed_laying h h2 h3 h4 _ failures _ counts (c.in_ok-zeros.ensures.clean t))
+    (breaks_over c.in-Err-answer.refusal.fault _ _ _ _ _ _ _ _ _ _ _ _ _ _ _ _ c.whole_of-blocks.ensures opened
+    (c.in-Ok.ensures.shape t) (c.in_ok-zeros.ensures.made t) (c.open_all.ensures.alone t).world
+    (c.in_ok-zeros.ensures.zeros t) (c.in-Err-answer.ensures.broken t) (c.lay_all-answer.ensures.alone.world t)
+    (c.lay_all-answer.ensures.alone.held t) (c.close-end.ensures.ended t) (c.close-end.ensures.paths t))
     (c.in-Err-answer.ensures.refused t s.number s.size long s.all (c.in-Ok.ensures.clean t))
 
 pub returns-in-Err-end-clause-leaves : goal.returns-in-Err-end-clause-leaves

@@ -2,7 +2,8 @@ use Rattle.std.proofs.Common.{◌≡◌, length, map, sym, ◌∙◌, ap, subst,
 use Rattle.std.specs.List.{AllByRecursion}
 use Rattle.abt_sparse.specs.Pieces.{flashed_in_turn}
 use Rattle.cmd_expand.specs.Overlaying.{IsImageOf}
-use Rattle.cmd_expand.proofs.Lays.{fails_none, fails_then, laid_as, laid_next, nothing_left}
+use Rattle.cmd_expand.proofs.Lays.{breaks_among, fails_none, fails_then, laid_as, laid_more, laid_next, laid_none}
+use Rattle.cmd_expand.proofs.Lays.{nothing_left}
 use Rattle.cmd_expand.proofs.overlay_loop.lay_all.Goals as goal
 
 pub images-init : goal.images-init
@@ -10,6 +11,7 @@ images-init g c = record {
   size = refl;
   synced = refl;
   laid = λ t. refl;
+  before = λ t. laid_none _ _;
   settled = λ t e. e;
   world = λ t. refl;
   held = λ t. fails_none _ _ refl;
@@ -26,6 +28,8 @@ images-preserved g c =
       size = c.lay_one.ensures.alone.size ∙ i.size;
       synced = omega (arith, c.in-Ok.ensures.synced, long, i.synced);
       laid = λ t. laid_next _ _ _ _ _ _ (ap (map (λ one. g.D.At.Source.content one.source)) items) (i.laid t)
+          (c.in-Ok.ensures.laid t);
+      before = λ t. laid_more _ _ _ _ _ _ _ (ap (map (λ one. g.D.At.Source.content one.source)) items) (i.before t)
           (c.in-Ok.ensures.laid t);
       settled = λ t e. c.in-Ok.ensures.settled t;
       world = λ t. c.lay_one.ensures.alone.world t ∙ i.world t;
@@ -52,6 +56,12 @@ returns-in-Err-clause-refused g c = λ t n b sized images clean.
     (i.images t n b images)).0 in
     laid_as c.in-Err.refusal.fault _ _ _ (omega (arith, all_now.1, s.0))
     (c.in-Err.ensures.refused t n b (i.size ∙ sized) image)
+
+pub returns-in-Err-clause-broken : goal.returns-in-Err-clause-broken
+returns-in-Err-clause-broken g c = λ t.
+    breaks_among c.in-Err.refusal.fault _ _ _ _ _ _ _
+    (ap (map (λ one. g.D.At.Source.content one.source)) c.in-Some.ensures.items)
+    (c.images.invariant.before t) (c.in-Err.ensures.broken t)
 
 pub returns-in-Err-clause-alone : goal.returns-in-Err-clause-alone
 returns-in-Err-clause-alone g c = record {

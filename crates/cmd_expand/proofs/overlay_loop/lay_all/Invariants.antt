@@ -3,7 +3,7 @@ use Rattle.std.specs.Prelude.{IsTrue}
 use Rattle.std.specs.List.{AllByRecursion}
 use Rattle.abt_sparse.specs.Pieces.{flashed_in_turn}
 use Rattle.cmd_expand.specs.Overlaying.{IsImageOf}
-use Rattle.cmd_expand.specs.Steps.{FailsAlone}
+use Rattle.cmd_expand.specs.Steps.{AreLaidBefore, FailsAlone}
 use Rattle.cmd_expand.proofs.overlay_loop.lay_all.Given as goal
 
 abbrev pub decreases-images : goal.decreases-images
@@ -18,6 +18,9 @@ invariant-images g l = record {
       (map (λ one. g.D.At.Source.content one.source) l.kept.items)
       ≡ flashed_in_turn (g.D.InPlace.Source.content l.initial.onto)
       (map (λ one. g.D.At.Source.content one.source) l.initial.kept.items);
+  before : IsTrue g.D.Disk.models → AreLaidBefore (map (λ one. g.D.At.Source.content one.source) l.kept.items)
+      (map (λ one. g.D.At.Source.content one.source) l.initial.kept.items)
+      (g.D.InPlace.Source.content l.initial.onto) (g.D.InPlace.Source.content l.onto);
   settled : IsTrue g.D.Disk.models → (g.D.InPlace.Partition.past l.initial.onto).pending ≡ []
       → (g.D.InPlace.Partition.past l.onto).pending ≡ [];
   world : IsTrue g.D.Disk.models → g.D.Disk.world l.disk ≡ g.D.Disk.world l.initial.disk;

@@ -3,7 +3,7 @@ use Rattle.std.specs.Prelude.{IfErr}
 use Rattle.abt_sparse.specs.Pieces.{flashed}
 use Rattle.cmd_expand.specs.Overlaying.{IsImageOf}
 use Rattle.cmd_expand.specs.Steps.{IsNotFlashed}
-use Rattle.cmd_expand.proofs.Lays.{blamed_behind, done_even, done_holds, done_so, even_behind, let_go_fails}
+use Rattle.cmd_expand.proofs.Lays.{blamed_behind, breaks_at, done_even, done_holds, done_so, even_behind, let_go_fails}
 use Rattle.cmd_expand.proofs.overlay_loop.lay_one.Goals as goal
 
 pub returns-in-Ok-clause-laid : goal.returns-in-Ok-clause-laid
@@ -37,6 +37,15 @@ returns-in-Ok-clause-clean g c = λ t.
     (g.D.At.Source.read_faults c.args.one.source) _ (g.D.InPlace.Partition.put_faults c.args.onto.now)
     (g.D.InPlace.Partition.put_faults c.flash_one-answer.new.onto) (c.let_go_source.ensures.held t)
     (even.0 ∙ ap g.D.At.Source.read_faults c.new.ensures.source ∙ c.forget.ensures.faults) even.1
+
+pub returns-in-Err-clause-broken : goal.returns-in-Err-clause-broken
+returns-in-Err-clause-broken g c = λ t.
+    let told = g.met.D.Disk.source_told t in
+    let content : g.D.At.Source.content c.new.result.source ≡ g.D.At.Source.content c.args.one.source
+    = ap g.D.At.Source.content c.new.ensures.source ∙ c.forget.ensures.content told in
+    breaks_at c.flash_one-answer.result c.in-Err.fault c.refuse.result.fault _ _ _ _
+    (sym (c.in-Err.ensures.whole (c.shorter.ensures told))) c.refuse.ensures content
+    (c.flash_one-answer.ensures.holds told (g.met.D.Disk.part_told t))
 
 pub returns-in-Err-clause-alone : goal.returns-in-Err-clause-alone
 returns-in-Err-clause-alone g c = record {

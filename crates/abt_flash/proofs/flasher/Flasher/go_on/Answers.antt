@@ -89,7 +89,7 @@ returns-in-Ok g c = record {
         c.max-all.result (p.gives.window models) long
         c.part_within-taken.result.part p.step.turn.moved p.gives.words.within p.step.turn.leaves
         (p.gives.told models).says p.step.turn.place e.all
-        (λ t. rw c.place-at.ensures at (e.laid t)) (λ t. rw c.place-at.ensures at (e.touches t).kept)
+        (λ t. rw c.place-at.ensures at ((e.laid t).all)) (λ t. rw c.place-at.ensures at (e.touches t).kept)
         (λ t. rw c.place-at.ensures at (e.touches t).moments));
     heads = λ models goes.
         let p = c.part_within-taken.ensures in
@@ -217,8 +217,9 @@ returns-in-Err g c = record {
         (g.P.Partition.taken c.args.partition.now) (g.P.Partition.taken c.lay_part-done.new.partition) r
         c.max-all.result (p.gives.window models) long
         c.part_within-taken.result.part c.in-Err.fault _ _ p.step.turn.moved p.gives.words.within p.step.turn.leaves
-        (p.gives.told models).says e.cause e.ends e.all (λ t. rw c.place-at.ensures at (e.laid t))
-        (λ t. rw c.place-at.ensures at (e.touches t).kept) (λ t. rw c.place-at.ensures at (e.touches t).moments));
+        (p.gives.told models).says e.cause e.ends e.all (λ t. rw c.place-at.ensures at ((e.laid t).all))
+        (λ t. rw c.place-at.ensures at ((e.laid t).front)) (λ t. rw c.place-at.ensures at (e.touches t).kept)
+        (λ t. rw c.place-at.ensures at (e.touches t).moments));
     heads = λ models goes.
         let p = c.part_within-taken.ensures in
         let e = c.in-Err.ensures in
