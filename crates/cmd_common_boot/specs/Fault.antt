@@ -1,6 +1,7 @@
 -- Which faults concern the arguments, and the number of each fault.
-use Rattle.std.specs.Prelude.{ℕ, Bool, true, false, Option, Some, None}
+use Rattle.std.specs.Prelude.{◌≡◌, ℕ, Bool, true, false, Option, Some, None}
 use Rattle.sys_refusals.specs.Host.{is_not_text}
+use Rattle.sys_refusals.specs.declared.refusal.HostFault.TheVariants as hosts
 use Rattle.abt_sections.specs.Fault as section
 use Rattle.abt_headers.specs.declared.fault.HeaderFault.TheVariants as headers
 use Rattle.abt_sections.specs.declared.fault.SectionFault.TheVariants as sections
@@ -45,3 +46,8 @@ IsOutsideBoot (faults.BadFragment word) = ⊥
 IsOutsideBoot (faults.BadNumber word) = ⊥
 IsOutsideBoot (faults.BadBoardId word) = ⊥
 IsOutsideBoot faults.CheckFailed = ⊥
+
+-- memory was refused: so the fault states, and the refusal was counted
+pub record LacksMemory (fault : BootCommandFault) (Counted : Type 0) : Type 0 where
+  pub told : fault ≡ faults.Host hosts.Memory
+  pub counted : Counted

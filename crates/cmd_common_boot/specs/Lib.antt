@@ -3,6 +3,7 @@ pub mod Carried
 pub mod Fault
 pub mod Given
 pub mod ImageFaults
+pub mod NotJudged
 pub mod Parts
 pub mod Ranges
 pub mod RangesLaws

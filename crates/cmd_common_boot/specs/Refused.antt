@@ -3,7 +3,6 @@ use Rattle.std.specs.Prelude.{◌≡◌, ◌≤◌, ℕ, List, [], ◌∷◌, Op
 use Rattle.std.specs.Prelude.{Result, IfErr, OnOk}
 use Rattle.abt_io.specs.declared.device.Output as outputs
 use Rattle.abt_io.specs.declared.device.Source as sources
-use Rattle.sys_refusals.specs.declared.refusal.HostFault.TheVariants as hosts
 use Rattle.abt_sections.specs.BootCanon.{boot_image_with}
 use Rattle.abt_sections.specs.Cause.{PackCause}
 use Rattle.abt_sections.specs.Fields.{VendorFields, cmd_common_fields}
@@ -17,8 +16,6 @@ use Rattle.cmd_common_fields.specs.Kind.{version_of}
 use Rattle.cmd_common_fields.specs.declared.image_kind.ImageKind.{ImageKind}
 use Rattle.cmd_common_fields.specs.declared.image_kind.ImageKind.TheVariants.{Boot, Vendor}
 use Rattle.cmd_common_boot.specs.Parts.{row_count}
-use Rattle.cmd_common_boot.specs.declared.fault.BootCommandFault.{BootCommandFault}
-use Rattle.cmd_common_boot.specs.declared.fault.BootCommandFault.TheVariants as commands
 
 -- the fields that a vendor boot image has
 abbrev pub vendor_fields_asked : BootSpec → VendorFields
@@ -90,13 +87,3 @@ IsOfMoving (faults.SectionTooLarge s) = ⊥
 abbrev pub IsRefusalOrMove : Option SectionFault → SectionFault → Type 0
 IsRefusalOrMove None f = IsOfMoving f
 IsRefusalOrMove (Some g) f = f ≡ g
-
--- why a check fails before packing: the fault of packing, or no memory
-abbrev pub IsJudged : Option SectionFault → BootCommandFault → Type 0
-IsJudged o (commands.Host f) = f ≡ hosts.Memory
-IsJudged o (commands.Section f) = o ≡ Some f
-IsJudged o (commands.OptionNotCarried name) = ⊥
-IsJudged o (commands.BadFragment word) = ⊥
-IsJudged o (commands.BadNumber word) = ⊥
-IsJudged o (commands.BadBoardId word) = ⊥
-IsJudged o commands.CheckFailed = ⊥

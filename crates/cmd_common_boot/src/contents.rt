@@ -16,7 +16,8 @@ use abt_sections::{
     pack_vendor,
 };
 use cmd_common_fields::ImageKind;
-use std::alloc::{AllocError, Global};
+use std::alloc::Global;
+use sys_disk::{NoMemory, push};
 
 /// The fault of packing parts of these sizes, if there is one. It calls the packer itself, with no bytes to read and
 /// no room to write to.
@@ -29,7 +30,7 @@ pub fn judge<P: Source>(
     sources: &[P],
     w: &mut Window,
     m: &mut Meter,
-) -> Result<Option<SectionFault>, AllocError>
+) -> Result<Option<SectionFault>, NoMemory>
     requires fits { FitsKind kind fields.now (length parts.now) (length specs.now) (length sources.now) }
     ensures { IfOk result (λ refusal. refusal ≡ refusal_of kind fields.now (map P.size parts.now)
         (map P.size sources.now)) }
@@ -45,12 +46,12 @@ pub fn judge<P: Source>(
 }
 
 // The sizes of these parts.
-fn measures<P: Source>(alloc: Global, parts: &[P]) -> Result<Vec<Measure>, AllocError>
+fn measures<P: Source>(alloc: Global, parts: &[P]) -> Result<Vec<Measure>, NoMemory>
     ensures { IfOk result (λ sizes. map (λ s. s.size) sizes.items ≡ map P.size parts.now) }
 {
     let mut sizes = Vec::new(alloc);
     for part in parts {
-        sizes.push(Measure::new(part.length()))?;
+        push(&mut sizes, Measure::new(part.length()))?;
     }
     Ok(sizes)
 }

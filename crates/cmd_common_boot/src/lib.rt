@@ -14,6 +14,7 @@
 //! | `part_rows.rt` | the parts from which an image is packed, each with its option and its section |
 //! | `part_source.rt`, `measure.rt` | the source of a part: a file, or a range of one; a source that has only a size |
 //! | `contents.rt` | packing the parts of an image of either kind, and the faults of packing |
+//! | `not_judged.rt` | why it is not judged whether an image can be packed: a fault, or memory was refused |
 //! | `part_names.rt` | the files that `unpack` writes |
 #![tactic(auto)]
 
@@ -22,6 +23,7 @@ mod contents;
 mod fault;
 mod loads;
 mod measure;
+mod not_judged;
 mod pack_command;
 mod pack_fields;
 mod pack_texts;
@@ -33,6 +35,7 @@ pub use board_ids::set_board_ids;
 pub use contents::{judge, pack_image};
 pub use fault::{BootCommandFault, BootOutcome};
 pub use loads::{counts_ramdisk, counts_second};
+pub use not_judged::NotJudged;
 pub use pack_command::{PackCommand, judge_words};
 pub use pack_fields::with_given;
 pub use pack_texts::{FragmentText, OptionText, PackTexts};

@@ -10,19 +10,16 @@
 //! | `set_bytes.rt` | counting and finding bytes that are not zero |
 //! | `section_places.rt` | the positions of sections, and the end of the image |
 //! | `left_out.rt` | what packing an image again leaves out |
-//! | `fragment_gaps.rt` | the bytes of a vendor ramdisk that are in no fragment |
 //! | `reasons.rt` | why an answer of a check is no |
 //! | `reason_lines.rt` | the line that says why |
 #![tactic(auto)]
 
-mod fragment_gaps;
 mod left_out;
 mod reason_lines;
 mod reasons;
 mod section_places;
 mod set_bytes;
 
-pub use fragment_gaps::in_no_fragment;
 pub use left_out::{Anew, LeftOut, count_left_out};
 pub use reason_lines::Finding;
 pub use reasons::{CheckAnswer, Findings, Reason, Unended, find_reasons};

@@ -17,7 +17,7 @@ use Rattle.cmd_common_sparse.specs.declared.fault.SparseCommandFault.TheVariants
 use Rattle.cmd_cut.specs.Sparsing.{IsOutsideSparse}
 use Rattle.cmd_cut.specs.Cutting.{AreApart, CutsFile, CutsImage, CutsSoFar, FirstStand, IsImageOfBlocks}
 use Rattle.cmd_cut.specs.Cutting.{IsFirstPiecePath, IsPiecePath, LeavesCut, LeavesPieces, OnlyFails, OnlyLeaves}
-use Rattle.cmd_cut.specs.Cutting.{RefusesCut, StopsCut, StopsImage, failed, no_cut, no_memory, no_room, opened}
+use Rattle.cmd_cut.specs.Cutting.{RefusesCut, StopsCut, StopsImage, failed, no_cut, no_room, not_begun, opened}
 use Rattle.cmd_cut.specs.Cutting.{ShowsCut, ShowsPieces, path_in_turn, stopped, unopened, unread, untold}
 use Rattle.sys_disk.specs.Among.{GoesAmong, IsMade}
 use Rattle.cmd_cut.proofs.CutCommands.{cuts_none}
@@ -52,18 +52,19 @@ cuts_past names ps n m r h h' h'' a b c later same cuts = record {
   synced = ap (λ k. k.syncs) later ∙ cuts.synced;
 }
 
--- a call of the disk failed, or there was no memory, before the first piece
-pub stops_host : (Unprinted : Type 0) (fault : SparseCommandFault) (k : HostFault) (names : Naming) (ps : List
-    (List ℕ)) (h h' : OpenFiles)
-    (a b : World) → h.output ≡ None → OnlyFails h h' → b ≡ a → fault ≡ faults.Host k
-    → (k ≡ hosts.Memory) ⊎ HasFailed h h'
+-- a call of the disk failed, before the first piece
+pub stops_host : (Unprinted : Type 0) (fault : SparseCommandFault) (k : HostFault) (names : Naming)
+    (ps : List (List ℕ)) (h h' : OpenFiles) (a b : World) → h.output ≡ None → OnlyFails h h' → b ≡ a
+    → fault ≡ faults.Host k → HasFailed h h'
     → StopsCut fault (HasFailed h h') Unprinted (λ n m. CutsSoFar names ps n m h h' a b)
-stops_host Unprinted fault k names ps h h' a b closed fails same told (inl memory) =
-    no_memory (told ∙ ap faults.Host memory)
+stops_host Unprinted fault k names ps h h' a b closed fails same told why =
+    not_begun (subst IsOutsideSparse (sym told) tt) why
     (cuts_past names ps 0 0 fails.failures h h h' a a b fails.same same (cuts_none names ps 0 h a closed))
-stops_host Unprinted fault k names ps h h' a b closed fails same told (inr why) =
-    failed (subst IsOutsideSparse (sym told) tt) why 0
-    (cuts_past names ps 0 1 fails.failures h h h' a a b fails.same same (cuts_none names ps 1 h a closed))
+
+-- a cause that holds of less holds of more
+wider : (P A B Q : Type 0) → (A → B) → P ⊎ (Q × A) → P ⊎ (Q × B)
+wider P A B Q more (inl p) = inl p
+wider P A B Q more (inr why) = inr (why.0, more why.1)
 
 -- ---- the files of a run
 
@@ -123,9 +124,12 @@ stops_file Unprinted fault names path bytes ps h h' h'' a b c none o same (faile
     failed outside (omega (arith, more, ap (λ k. k.failed) o.taken)) n
     (first_stand names path bytes ps n (n + 1) h h' h'' a b c none o same cuts)
 stops_file Unprinted fault names path bytes ps h h' h'' a b c none o same (untold f told why n some cuts) =
-    untold f told why n some (first_stand names path bytes ps n n h h' h'' a b c none o same cuts)
-stops_file Unprinted fault names path bytes ps h h' h'' a b c none o same (no_memory told cuts) =
-    no_memory told (first_stand names path bytes ps 0 0 h h' h'' a b c none o same cuts)
+    untold f told (wider Unprinted (HasFailed h' h'') (HasFailed h h'') (f ≡ hosts.Memory)
+    (λ more. omega (arith, more, ap (λ k. k.failed) o.taken)) why) n some
+    (first_stand names path bytes ps n n h h' h'' a b c none o same cuts)
+stops_file Unprinted fault names path bytes ps h h' h'' a b c none o same (not_begun outside more cuts) =
+    not_begun outside (omega (arith, more, ap (λ k. k.failed) o.taken))
+    (first_stand names path bytes ps 0 0 h h' h'' a b c none o same cuts)
 
 image_file : (Unprinted : Type 0) (raw : Option ℕ) (limit : ℕ) (x : List ℕ) (fault : SparseCommandFault)
     (names : Naming)
@@ -230,9 +234,18 @@ stops_between Unprinted fault names ps r r' h h1 h2 h3 a a1 b c held world none
     (cuts_between names ps n (n + 1) r' h h1 h2 h3 a a1 b c held world cuts later same)
 stops_between Unprinted fault names ps r r' h h1 h2 h3 a a1 b c held world none
     (untold f told why n some cuts) later same =
-    untold f told why n some (cuts_between names ps n n r' h h1 h2 h3 a a1 b c held world cuts later same)
-stops_between Unprinted fault names ps r r' h h1 h2 h3 a a1 b c held world none (no_memory told cuts) later same =
-    no_memory told (cuts_between names ps 0 0 r' h h1 h2 h3 a a1 b c held world cuts later same)
+    untold f told (wider Unprinted (h1.failed + r < h2.failed + r') (HasFailed h h3) (f ≡ hosts.Memory)
+    (λ more. omega (arith, none, more, ap (λ k. k.failed) held, ap (λ k. k.failed) later)) why) n some
+    (cuts_between names ps n n r' h h1 h2 h3 a a1 b c held world cuts later same)
+stops_between Unprinted fault names ps r r' h h1 h2 h3 a a1 b c held world none
+    (not_begun outside more cuts) later same =
+    not_begun outside (omega (arith, none, more, ap (λ k. k.failed) held, ap (λ k. k.failed) later))
+    (cuts_between names ps 0 0 r' h h1 h2 h3 a a1 b c held world cuts later same)
+
+-- more calls failed after others
+pub failing_more : (n k : ℕ) (h h' h'' : OpenFiles) → h' ≡ failing n h → h'' ≡ failing k h' → h'' ≡ failing (n + k) h
+failing_more n k h h' h'' first later =
+    later ∙ ap (λ (g : OpenFiles). failing k g) first ∙ ap (λ (m : ℕ). record h { failed = m }) (omega arith)
 
 -- ---- from the result of the call
 

@@ -240,14 +240,14 @@ pub record AddsNone (held held' : OpenFiles) (old new : World) : Type 0 where
 
 -- Why not all pieces are cut, or not all printed. `Cut n m` states that the first n of them are stored, and that only
 -- the files of the first m were changed. The causes:
+-- - A call of the disk has failed, before the first piece.
 -- - A device has failed, or a call of the disk, in the piece after those that are stored.
--- - A line could not be printed, or there was no memory to look for an older piece.
--- - There was no memory to look for a file, before the first piece.
+-- - A line could not be printed, or memory was refused to the look for an older piece.
 pub data StopsCut (fault : SparseCommandFault) (Failed Unprinted : Type 0) (Cut : ℕ → ℕ → Type 0) : Type 0 where
+  not_begun : IsOutsideSparse fault → Failed → Cut 0 0 → StopsCut fault Failed Unprinted Cut
   failed : IsOutsideSparse fault → Failed → (n : ℕ) → Cut n (n + 1) → StopsCut fault Failed Unprinted Cut
-  untold : (f : HostFault) → fault ≡ faults.Host f → Unprinted ⊎ (f ≡ hosts.Memory) → (n : ℕ) → 0 < n → Cut n n
-      → StopsCut fault Failed Unprinted Cut
-  no_memory : fault ≡ faults.Host hosts.Memory → Cut 0 0 → StopsCut fault Failed Unprinted Cut
+  untold : (f : HostFault) → fault ≡ faults.Host f → Unprinted ⊎ ((f ≡ hosts.Memory) × Failed) → (n : ℕ) → 0 < n
+      → Cut n n → StopsCut fault Failed Unprinted Cut
 
 -- the first fault that x has as an image: of a sparse one, or for its blocks
 abbrev pub HasNoCut : Option ℕ → RunFault → List ℕ → Type 0

@@ -81,14 +81,17 @@ pub(crate) fn cut_pieces<'a, D: Disk, B: BlockRuns + LaysPieces + Drop>(
 // tool, which counts from 0, notes none.
 #[inline(never)]
 fn tell_all<'a, D: Disk>(
-    disk: &D,
+    disk: &mut D,
     report: &mut Report,
     files: PieceFiles<'a>,
 ) -> Result<(), HostRefusal<'a>>
     ensures shown { IsTrue D.models → OnOk result (ShowsCount (naming_of files.entry.names) files.entry.count
-        (D.world disk.now) report.old report.new) }
-    ensures refused { IfErr result (λ refusal. CannotPrint report.old report.new
-        ⊎ (refusal.fault ≡ HostFault.Memory)) }
+        (D.world disk.old) report.old report.new) }
+    ensures held { IsTrue D.models → OnOk result (D.held disk.new ≡ D.held disk.old) }
+    ensures refused { IsTrue D.models → IfErr result (λ refusal. CannotPrint report.old report.new
+        ⊎ ((refusal.fault ≡ HostFault.Memory) × HasFailed (D.held disk.old) (D.held disk.new))) }
+    ensures keeps { IsTrue D.models → ChangesNoFile (D.held disk.old) (D.held disk.new) (D.world disk.old)
+        (D.world disk.new) }
 {
     match report.line(Line::Pieces(files.count)) {
         Ok(()) => {}
@@ -216,8 +219,7 @@ fn refuse_image_as_piece<'a, D: Disk>(
     ensures named { IsTrue D.models → OnOk result (IsPieceName names.entry.prefix.now image.now
         → IsFree image.now (D.held disk.old) (D.world disk.old)) }
     ensures held { IsTrue D.models → OnOk result (D.held disk.new ≡ D.held disk.old) }
-    ensures refused { IsTrue D.models → IfErr result (λ refusal. (refusal.fault ≡ HostFault.Memory)
-        ⊎ HasFailed (D.held disk.old) (D.held disk.new)) }
+    ensures refused { IsTrue D.models → OnErr result (HasFailed (D.held disk.old) (D.held disk.new)) }
     ensures keeps { IsTrue D.models → ChangesNoFile (D.held disk.old) (D.held disk.new) (D.world disk.old)
         (D.world disk.new) }
 {
@@ -236,10 +238,12 @@ fn refuse_image_as_piece<'a, D: Disk>(
     let mut files = PieceFiles::new(names);
     for index in 0..u32::MAX {
         let place = files.next();
-        match disk.is_there(place) {
-            Ok(true) => {}
-            Ok(false) => return Ok(()),
+        let is_there = match disk.is_there(place) {
+            Ok(is_there) => is_there,
             Err(refusal) => return Err(refusal),
+        };
+        if !is_there {
+            return Ok(());
         }
         match disk.refuse_taken(place) {
             Ok(()) => {}

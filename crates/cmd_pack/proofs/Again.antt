@@ -1,5 +1,5 @@
 -- An image that is packed again: all that it is written from, and what is left of files.
-use Rattle.std.proofs.Common.{◌≡◌, ◌+◌, ◌⊎◌, inl, inr, ℕ, List, [], ◌∷◌, ◌++◌, Option}
+use Rattle.std.proofs.Common.{◌≡◌, ◌<◌, ◌≤◌, ◌+◌, ◌⊎◌, inl, inr, ℕ, List, [], ◌∷◌, ◌++◌, Option}
 use Rattle.std.proofs.Common.{Bor, length, map, refl, sym, ap, ◌∙◌, subst, arith}
 use Rattle.std.specs.Prelude.{Bool, Contains, IfErr, IsTrue, OnOk, Result, Ok, Err, if◌then◌else◌}
 use Rattle.std.proofs.lemmas.List.Elements.{Contains-append_left}
@@ -15,10 +15,14 @@ use Rattle.cmd_common_fields.specs.Kind.{kind_of}
 use Rattle.cmd_common_fields.specs.declared.image_kind.ImageKind.{ImageKind}
 use Rattle.cmd_common_boot.specs.Boards.{AreSet}
 use Rattle.cmd_common_boot.specs.Given.{AreGiven}
+use Rattle.cmd_common_boot.specs.ImageFaults.{SomeFailed}
+use Rattle.cmd_common_boot.specs.NotJudged.{fault_of, refusals_of}
 use Rattle.cmd_common_boot.specs.Parts.{part_sections}
 use Rattle.cmd_common_boot.specs.Wrong.{IsUntaken, IsWrong}
 use Rattle.cmd_common_boot.specs.declared.fault.BootCommandFault.{BootCommandFault}
 use Rattle.cmd_common_boot.specs.declared.fault.BootCommandFault.TheVariants as faults
+use Rattle.cmd_common_boot.specs.declared.not_judged.NotJudged.{NotJudged}
+use Rattle.cmd_common_boot.specs.declared.not_judged.NotJudged.TheVariants as not_judged
 use Rattle.cmd_common_boot.specs.declared.pack_command.PackCommand.{PackCommand}
 use Rattle.cmd_common_boot.specs.declared.pack_texts.FragmentText.{FragmentText}
 use Rattle.cmd_common_boot.specs.declared.pack_texts.OptionText.{OptionText}
@@ -120,8 +124,8 @@ pub filling_stops : (command : PackCommand) (w : World) (x : List ℕ) (h : Head
 filling_stops command w x h A k k' f fault wider (failed more) same = again.unopened (outside_host fault f same) more
 filling_stops command w x h A k k' f fault wider (no_text path is bad told) same =
     again.not_text path (wider path is) bad (same ∙ ap (λ q. faults.Host q) told)
-filling_stops command w x h A k k' f fault wider (no_memory told) same =
-    again.no_space (same ∙ ap (λ q. faults.Host q) told)
+filling_stops command w x h A k k' f fault wider (no_memory told more) same =
+    again.no_space (record { told = same ∙ ap (λ q. faults.Host q) told; counted = more })
 
 pub parts_stop : (command : PackCommand) (w : World) (x : List ℕ) (h : Header) (kind : ImageKind) (k k' k'' : OpenFiles)
     (f : HostFault) (fault : BootCommandFault) → kind ≡ kind_of h
@@ -295,7 +299,8 @@ module _ (command : PackCommand) (x : List ℕ) (h : Header) (w w' : World) (k k
         asked = r.asked;
         refused = sym r.refuses ∙ why;
       }) (kept ∙ r.same)
-  writing_stops w'' k'' path shows fault named (writing.no_memory same held kept) = again.no_memory same (kept ∙ r.same)
+  writing_stops w'' k'' path shows fault named (writing.no_memory lacks kept) =
+      again.no_memory (record { told = lacks.told; counted = failed_again k'' lacks.counted }) (kept ∙ r.same)
   writing_stops w'' k'' path shows fault named (writing.failed outside more) =
       again.failed outside (failed_again k'' more)
   writing_stops w'' k'' path shows fault named (writing.untold f same done) =
@@ -336,17 +341,24 @@ untaken_wrong own kind options fragments (faults.Host fault) u = absurd u
 untaken_wrong own kind options fragments (faults.BadBoardId word) u = absurd u
 untaken_wrong own kind options fragments faults.CheckFailed u = absurd u
 
-pub judging_refuses : (command : PackCommand) (x : List ℕ) (h : Header) (w w' : World) (P P' Q : Type 0)
-    (kind : ImageKind) (f fault : BootCommandFault) → w' ≡ w → kind ≡ kind_of h → fault ≡ f
-    → StopsJudging command kind P f → (P → P') → RefusesAgain command x h w w' P' Q fault
-judging_refuses command x h w w' P P' Q kind f fault same is told (judging.untaken u) more =
-    words_refuse command x h w w' P' Q kind (own_fields h) f fault same is refl told
+pub judging_refuses : (command : PackCommand) (x : List ℕ) (h : Header) (w w' : World) (k k' : OpenFiles)
+    (r r' : ℕ) (Q : Type 0) (kind : ImageKind) (why : NotJudged) (fault : BootCommandFault) → w' ≡ w
+    → kind ≡ kind_of h → fault ≡ fault_of why → k' ≡ failing (refusals_of why) k → r ≤ r'
+    → StopsJudging command kind (r < r') why → RefusesAgain command x h w w' (SomeFailed k r k' r') Q fault
+judging_refuses command x h w w' k k' r r' Q kind why fault same is told held grown (judging.untaken f why_is u) =
+    words_refuse command x h w w' (SomeFailed k r k' r') Q kind (own_fields h) f fault same is refl
+    (told ∙ ap fault_of why_is)
     (untaken_wrong (own_fields h) kind command.texts.options.items command.texts.fragments.items f u)
-judging_refuses command x h w w' P P' Q kind f fault same is told
-    (judging.not_read (judging.unread outside read)) more =
-    again.failed (subst IsOutsideBoot (sym told) outside) (more read)
-judging_refuses command x h w w' P P' Q kind f fault same is told (judging.not_read (judging.no_room memory)) more =
-    again.no_memory (told ∙ memory) same
+judging_refuses command x h w w' k k' r r' Q kind (not_judged.Fault f) fault same is told held grown
+    (judging.not_read unread) =
+    again.failed (subst IsOutsideBoot (sym told) unread.0)
+    (record { rises = omega (arith, unread.1, ap (λ q. q.failed) held) })
+judging_refuses command x h w w' k k' r r' Q kind (not_judged.Memory m) fault same is told held grown
+    (judging.not_read unread) =
+    again.no_memory (record {
+      told = told;
+      counted = record { rises = omega (arith, grown, ap (λ q. q.failed) held) };
+    }) same
 
 pub again_more : (command : PackCommand) (x : List ℕ) (h : Header) (w w' : World) (P P' Q Q' : Type 0)
     (fault : BootCommandFault) → RefusesAgain command x h w w' P Q fault → (P → P') → (Q → Q')
@@ -356,7 +368,8 @@ again_more command x h w w' P P' Q Q' fault (again.wrong_board bad same) p q = a
 again_more command x h w w' P P' Q Q' fault (again.not_packed f told why same) p q = again.not_packed f told why same
 again_more command x h w w' P P' Q Q' fault (again.no_text path is bad told same) p q =
     again.no_text path is bad told same
-again_more command x h w w' P P' Q Q' fault (again.no_memory told same) p q = again.no_memory told same
+again_more command x h w w' P P' Q Q' fault (again.no_memory lacks same) p q =
+    again.no_memory (record { told = lacks.told; counted = p lacks.counted }) same
 again_more command x h w w' P P' Q Q' fault (again.failed outside more) p q = again.failed outside (p more)
 again_more command x h w w' P P' Q Q' fault (again.untold f told done) p q = again.untold f told (q done)
 

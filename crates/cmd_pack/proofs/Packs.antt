@@ -64,8 +64,8 @@ filling_stops A B words count h h' k f (opening.failed more) told wider =
     refusing.unopened (subst IsOutsideBoot (sym told) tt) more
 filling_stops A B words count h h' k f (opening.no_text path is bad why) told wider =
     refusing.no_text path (wider path is) bad (told ∙ ap faults.Host why)
-filling_stops A B words count h h' k f (opening.no_memory why) told wider =
-    refusing.no_memory (told ∙ ap faults.Host why)
+filling_stops A B words count h h' k f (opening.no_memory why more) told wider =
+    refusing.no_memory (record { told = told ∙ ap faults.Host why; counted = more })
 
 pub board_stops : (A : List ℕ → Type 0) (words words' : List (List ℕ)) (m n : ℕ) (h h' : OpenFiles)
     (f : BootCommandFault)
@@ -267,8 +267,13 @@ refuses_writing content command w w' v h h' h'' given c Laid Done f same opens a
       refused = ap (λ k. refusal_from k (packing_of content c)) (sym kind) ∙ is;
     }) (here ∙ same)
 refuses_writing content command w w' v h h' h'' given c Laid Done f same opens are_given kind asked done
-    (writing.no_memory told held here) =
-    refusing.too_little told (here ∙ same)
+    (writing.no_memory lacks here) =
+    refusing.too_little (record {
+      told = lacks.told;
+      counted = (let e : h'.failed ≡ h.failed
+          = failed_still (IsGivenPath command.texts (asked_kind command)) w h h' opens in
+          omega (arith, e, lacks.counted));
+    }) (here ∙ same)
 refuses_writing content command w w' v h h' h'' given c Laid Done f same opens are_given kind asked done
     (writing.failed outside more) =
     refusing.failed outside

@@ -32,9 +32,6 @@ nothing_more h h' r r' clean same = record { stays = omega (arith, clean, same) 
 pub calls_failed : (h h' : OpenFiles) (r r' : ℕ) → r' ≡ r → HasFailed h h' → SomeFailed h r h' r'
 calls_failed h h' r r' same more = record { rises = omega (arith, more, same) }
 
-pub reads_failed : (h : OpenFiles) (r r' : ℕ) → r < r' → SomeFailed h r h r'
-reads_failed h r r' more = record { rises = omega (arith, more) }
-
 -- ---- what IN begins with
 
 pub begins : (input x : List ℕ) (w : World) (h h' : OpenFiles) (image : Image) → OpensFile w input x h h'

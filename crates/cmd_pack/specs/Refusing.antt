@@ -14,7 +14,7 @@ use Rattle.cmd_common_boot.specs.declared.pack_command.PackCommand.{PackCommand}
 use Rattle.cmd_pack_outputs.specs.Contents.{Packing, refusal_from}
 use Rattle.cmd_pack.specs.Packing.{AreAskedFor, board_id_words, asked_kind}
 use Rattle.cmd_pack_inputs.specs.Parts.{IsGivenPath}
-use Rattle.cmd_common_boot.specs.Fault.{IsOutsideBoot}
+use Rattle.cmd_common_boot.specs.Fault.{IsOutsideBoot, LacksMemory}
 use Rattle.cmd_pack_inputs.specs.BadBoards.{IsBadBoard}
 
 -- why an image is not filled: one of its files was not opened, or a board id is wrong
@@ -23,7 +23,7 @@ pub data StopsFilling (named : List ℕ → Type 0) (words : List (List ℕ)) (c
   unopened : IsOutsideBoot fault → HasFailed held held' → StopsFilling named words count held held' fault
   no_text : (path : List ℕ) → named path → ¬ IsUtf8 path → fault ≡ faults.Host hosts.CannotOpen
       → StopsFilling named words count held held' fault
-  no_memory : fault ≡ faults.Host hosts.Memory → StopsFilling named words count held held' fault
+  no_memory : LacksMemory fault (HasFailed held held') → StopsFilling named words count held held' fault
   wrong_board : IsBadBoard words count fault → StopsFilling named words count held held' fault
 
 -- packing what the arguments describe fails, because of these fields and of the sizes of the parts
@@ -49,8 +49,8 @@ pub data RefusesPack (command : PackCommand) (old new : World) (held held' : Ope
   -- a path is no UTF-8, before OUT is opened
   no_path : (path : List ℕ) → IsGivenPath command.texts (asked_kind command) path → ¬ IsUtf8 path
       → fault ≡ faults.Host hosts.CannotOpen → new ≡ old → RefusesPack command old new held held' Done fault
-  -- there is no memory, before OUT is opened
-  too_little : fault ≡ faults.Host hosts.Memory → new ≡ old → RefusesPack command old new held held' Done fault
+  -- memory was refused, before OUT is opened
+  too_little : LacksMemory fault (HasFailed held held') → new ≡ old → RefusesPack command old new held held' Done fault
   -- a call of the disk failed, or a device
   failed : IsOutsideBoot fault → HasFailed held held' → RefusesPack command old new held held' Done fault
   -- all is done, and the line could not be printed

@@ -20,7 +20,7 @@ use Rattle.cmd_pack.specs.Packing.{board_id_words}
 use Rattle.cmd_pack_inputs.specs.Parts.{IsGivenPath}
 use Rattle.cmd_pack_inputs.specs.BadBoards.{IsBadBoard}
 use Rattle.cmd_pack.specs.Repacking.{AreAskedAgain, AreFieldsAgain, AreFragmentsAgain, BeginsWith}
-use Rattle.cmd_common_boot.specs.Fault.{IsOutsideBoot}
+use Rattle.cmd_common_boot.specs.Fault.{IsOutsideBoot, LacksMemory}
 
 -- the arguments are wrong for an image with this header
 abbrev pub IsWrongAgain : PackCommand → Header → BootCommandFault → Type 0
@@ -58,8 +58,8 @@ pub data RefusesAgain (command : PackCommand) (x : List ℕ) (h : Header) (old n
   -- a path is no UTF-8, before OUT is opened
   no_text : (path : List ℕ) → IsGivenPath command.texts (kind_of h) path → ¬ IsUtf8 path
       → fault ≡ faults.Host hosts.CannotOpen → new ≡ old → RefusesAgain command x h old new Failed Done fault
-  -- there is no memory, before OUT is opened
-  no_memory : fault ≡ faults.Host hosts.Memory → new ≡ old → RefusesAgain command x h old new Failed Done fault
+  -- memory was refused, before OUT is opened
+  no_memory : LacksMemory fault Failed → new ≡ old → RefusesAgain command x h old new Failed Done fault
   -- a call of the disk failed, or a device
   failed : IsOutsideBoot fault → Failed → RefusesAgain command x h old new Failed Done fault
   -- all is done, and the line could not be printed
@@ -78,12 +78,12 @@ pub data RefusesRepack (input : List ℕ) (command : PackCommand) (old new : Wor
 
 -- ---- on the way
 
--- why the data from which an image is packed again is incomplete: a call failed, a path is no UTF-8, there is no
--- memory, or a board id is wrong
+-- why the data from which an image is packed again is incomplete: a call failed, a path is no UTF-8, memory was
+-- refused, or a board id is wrong
 pub data StopsFillingAgain (command : PackCommand) (world : World) (x : List ℕ) (h : Header) (Failed : Type 0)
     (fault : BootCommandFault) : Type 0 where
   unopened : IsOutsideBoot fault → Failed → StopsFillingAgain command world x h Failed fault
   not_text : (path : List ℕ) → IsGivenPath command.texts (kind_of h) path → ¬ IsUtf8 path
       → fault ≡ faults.Host hosts.CannotOpen → StopsFillingAgain command world x h Failed fault
-  no_space : fault ≡ faults.Host hosts.Memory → StopsFillingAgain command world x h Failed fault
+  no_space : LacksMemory fault Failed → StopsFillingAgain command world x h Failed fault
   bad_board : IsBadBoardAgain command world x h fault → StopsFillingAgain command world x h Failed fault

@@ -117,7 +117,10 @@ fn pack_again<'t, 'a, D: Disk>(
     let kind = ImageKind::of_header(&own.image.header);
     let kept = match judged(&own.image, &mut own.source, kind, command, w, m) {
         Ok(kept) => kept,
-        Err(fault) => return Err(of_own(own.place, fault)),
+        Err(why) => {
+            let fault = why.counted(disk);
+            return Err(of_own(own.place, fault));
+        }
     };
     match write_again(disk, report, own, kind, &kept, command, w, m) {
         Ok(()) => Ok(kept.left),

@@ -7,6 +7,7 @@ use Rattle.std.specs.Prelude.{Bool, Contains, IsTrue, unwrap_or}
 use Rattle.sys_disk.specs.DiskCalls.{FailsOnly}
 use Rattle.sys_disk.specs.World.{World, OpenFiles, OpensFile, failing}
 use Rattle.sys_refusals.specs.declared.refusal.HostFault.{HostFault}
+use Rattle.sys_refusals.specs.declared.refusal.HostFault.TheVariants as hosts
 use Rattle.cmd_pack_inputs.specs.Opening.{OnlyOpens, OpensMore, StopsOpening, failed, no_memory, no_text, reading_all}
 
 same_reading : (h : OpenFiles) → h ≡ reading_all [] h
@@ -70,11 +71,17 @@ failed_still A w h h' a = ap (λ k. k.failed) a.taken
 pub stops_once : (A : List ℕ → Type 0) (h h' : OpenFiles) (f : HostFault) → h' ≡ failing 1 h → StopsOpening A h h' f
 stops_once A h h' f now = failed (let e : h'.failed ≡ h.failed + 1 = ap (λ k. k.failed) now in omega (arith, e))
 
+-- memory was refused
+pub stops_memory : (A : List ℕ → Type 0) (h h' : OpenFiles) (f : HostFault) → f ≡ hosts.Memory → h' ≡ failing 1 h
+    → StopsOpening A h h' f
+stops_memory A h h' f told now =
+    no_memory told (let e : h'.failed ≡ h.failed + 1 = ap (λ k. k.failed) now in omega (arith, e))
+
 pub stops_more : (A B : List ℕ → Type 0) (h h' : OpenFiles) (f : HostFault) → StopsOpening A h h' f
     → ((p : List ℕ) → A p → B p) → StopsOpening B h h' f
 stops_more A B h h' f (failed more) wider = failed more
 stops_more A B h h' f (no_text path is bad told) wider = no_text path (wider path is) bad told
-stops_more A B h h' f (no_memory told) wider = no_memory told
+stops_more A B h h' f (no_memory told more) wider = no_memory told more
 
 -- after others that were
 pub stops_then : (A B C : List ℕ → Type 0) (w : World) (h h' h'' : OpenFiles) (f : HostFault) → OpensMore A w h h'
@@ -82,4 +89,11 @@ pub stops_then : (A B C : List ℕ → Type 0) (w : World) (h h' h'' : OpenFiles
 stops_then A B C w h h' h'' f a (failed more) wider =
     failed (let e : h'.failed ≡ h.failed = failed_still A w h h' a in omega (arith, e, more))
 stops_then A B C w h h' h'' f a (no_text path is bad told) wider = no_text path (wider path is) bad told
-stops_then A B C w h h' h'' f a (no_memory told) wider = no_memory told
+stops_then A B C w h h' h'' f a (no_memory told more) wider =
+    no_memory told (let e : h'.failed ≡ h.failed = failed_still A w h h' a in omega (arith, e, more))
+
+-- files were opened, and then memory was refused
+pub stops_lacking : (A : List ℕ → Type 0) (w : World) (h h' h'' : OpenFiles) (f : HostFault) → OpensMore A w h h'
+    → f ≡ hosts.Memory → h'' ≡ failing 1 h' → StopsOpening A h h'' f
+stops_lacking A w h h' h'' f opens told now =
+    stops_then A A A w h h' h'' f opens (stops_memory A h' h'' f told now) (λ p is. is)

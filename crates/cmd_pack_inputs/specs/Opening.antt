@@ -23,12 +23,12 @@ pub record OnlyOpens (held held' : OpenFiles) (old new : World) : Type 0 where
   pub world : new ≡ old
   pub output : held'.output ≡ held.output
 
--- why one of the files at these paths was not opened: a call of the disk failed; or a path is no UTF-8; or there was no
--- memory
+-- why one of the files at these paths was not opened: a call of the disk failed; or a path is no UTF-8; or memory was
+-- refused
 pub data StopsOpening (named : List ℕ → Type 0) (old new : OpenFiles) (fault : HostFault) : Type 0 where
   failed : HasFailed old new → StopsOpening named old new fault
   no_text : (path : List ℕ) → named path → ¬ IsUtf8 path → fault ≡ hosts.CannotOpen → StopsOpening named old new fault
-  no_memory : fault ≡ hosts.Memory → StopsOpening named old new fault
+  no_memory : fault ≡ hosts.Memory → HasFailed old new → StopsOpening named old new fault
 
 -- ---- what a call that opens them does, whatever the result, where the disk models its files
 

@@ -11,7 +11,8 @@ ghost use Rattle.cmd_pack_inputs.specs.Own.{or_zero, own_fields};
 use abt_headers::OsVersion;
 use abt_sections::{BootSpec, ImageHeader};
 use cmd_common_fields::{Address, TextField, address_of, front_text, os_version_of, text_field_of};
-use std::alloc::{AllocError, Global};
+use std::alloc::Global;
+use sys_disk::{NoMemory, append};
 
 /// The fields that a header has, with the command line that it has; the others are empty.
 pub fn own_fields<'t>(header: &'t ImageHeader, cmdline: &'t [u8]) -> BootSpec<'t>
@@ -55,13 +56,14 @@ fn short_address(header: &ImageHeader, which: Address) -> u32
 }
 
 /// The command line of a header, which may go on in a second field.
-pub(crate) fn own_cmdline(alloc: Global, header: &ImageHeader) -> Result<Vec<u8>, AllocError>
+pub(crate) fn own_cmdline(alloc: Global, header: &ImageHeader) -> Result<Vec<u8>, NoMemory>
     ensures { IfOk result (λ text. text.items ≡ text_of (cmdline_of (view_of header.now))) }
 {
     let front = text_field_of(header, TextField::Cmdline).unwrap_or(&[]);
     let back = text_field_of(header, TextField::Extra).unwrap_or(&[]);
-    let mut text = Vec::from_slice(alloc, front)?;
-    text.extend_from_slice(back)?;
+    let mut text = Vec::new(alloc);
+    append(&mut text, front)?;
+    append(&mut text, back)?;
     let end = front_text(text.as_slice()).len();
     text.truncate(end);
     Ok(text)

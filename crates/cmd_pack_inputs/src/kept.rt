@@ -13,15 +13,16 @@ ghost use Rattle.cmd_pack_inputs.specs.Own.{entries_to};
 ghost use Rattle.cmd_pack_inputs.specs.Judging.{IsUnread, ReadsOpened, StopsJudging};
 
 use crate::fields::own_cmdline;
+use crate::fragment_gaps::in_no_fragment;
 use crate::given_parts::anew_of;
 use abt_headers::{RamdiskEntry, Section};
 use abt_io::{Meter, Source, Window};
 use abt_sections::{Image, fragment, fragments};
-use cmd_common_boot::{BootCommandFault, PackCommand, PackTexts};
+use cmd_common_boot::{BootCommandFault, NotJudged, PackCommand, PackTexts};
 use cmd_common_fields::ImageKind;
-use cmd_common_findings::{LeftOut, count_left_out, in_no_fragment, place_of};
-use std::alloc::{AllocError, Global};
-use sys_refusals::HostFault;
+use cmd_common_findings::{LeftOut, count_left_out, place_of};
+use std::alloc::Global;
+use sys_disk::{NoMemory, push};
 
 /// The own data of an image that is packed again, beside its sections.
 #[derive(Drop)]
@@ -40,7 +41,7 @@ pub fn judged<'a, S: Source>(
     command: &PackCommand<'a>,
     w: &mut Window,
     m: &mut Meter,
-) -> Result<OwnData, BootCommandFault<'a>>
+) -> Result<OwnData, NotJudged<'a>>
     requires { kind ≡ kind_of (view_of image.now.header) }
     ensures reads { OnlyReads result S.Source source.old source.new }
     ensures taken { OnOk result (All (IsTaken kind) command.now.texts.fragments.items) }
@@ -54,16 +55,16 @@ pub fn judged<'a, S: Source>(
     let alloc = command.alloc;
     match command.texts.check(kind) {
         Ok(()) => {}
-        Err(fault) => return Err(fault),
+        Err(fault) => return Err(NotJudged::Fault(fault)),
     }
     let keeps = keeps_fragments(kind, &command.texts);
     let entries = match entries_kept(alloc, image, source, keeps, w, m) {
         Ok(entries) => entries,
-        Err(fault) => return Err(fault),
+        Err(why) => return Err(why),
     };
     let left = match left_out(image, source, command, keeps, entries.as_slice(), w, m) {
         Ok(left) => left,
-        Err(fault) => return Err(fault),
+        Err(why) => return Err(why),
     };
     match own_cmdline(alloc, &image.header) {
         Ok(cmdline) => Ok(OwnData {
@@ -71,7 +72,7 @@ pub fn judged<'a, S: Source>(
             cmdline,
             left,
         }),
-        Err(_) => Err(BootCommandFault::Host(HostFault::Memory)),
+        Err(refused) => Err(NotJudged::Memory(refused)),
     }
 }
 
@@ -90,7 +91,7 @@ fn entries_kept<S: Source>(
     keeps: bool,
     w: &mut Window,
     m: &mut Meter,
-) -> Result<Vec<RamdiskEntry>, BootCommandFault<'static>>
+) -> Result<Vec<RamdiskEntry>, NotJudged<'static>>
     ensures entries { IsTrue S.models → IfOk result (λ entries. entries.items ≡ entries_to (S.content source.old)
         (view_of image.now.header) (if keeps then fragment_count (view_of image.now.header) else 0)) }
     ensures reads { ReadsOpened result S.Source source.old source.new image.now }
@@ -109,7 +110,7 @@ fn entries_of<S: Source>(
     source: &mut S,
     w: &mut Window,
     m: &mut Meter,
-) -> Result<Vec<RamdiskEntry>, BootCommandFault<'static>>
+) -> Result<Vec<RamdiskEntry>, NotJudged<'static>>
     ensures entries { IsTrue S.models → IfOk result (λ entries. entries.items ≡ entries_to (S.content source.old)
         (view_of image.now.header) (fragment_count (view_of image.now.header))) }
     ensures reads { ReadsOpened result S.Source source.old source.new image.now }
@@ -119,11 +120,11 @@ fn entries_of<S: Source>(
         m.tick();
         let entry = match fragment(image, i, source, w, m) {
             Ok(entry) => entry,
-            Err(fault) => return Err(BootCommandFault::Section(fault)),
+            Err(fault) => return Err(NotJudged::Fault(BootCommandFault::Section(fault))),
         };
-        match entries.push(entry) {
+        match push(&mut entries, entry) {
             Ok(()) => {}
-            Err(_) => return Err(BootCommandFault::Host(HostFault::Memory)),
+            Err(refused) => return Err(NotJudged::Memory(refused)),
         }
     }
     Ok(entries)
@@ -138,19 +139,19 @@ fn left_out<S: Source>(
     entries: &[RamdiskEntry],
     w: &mut Window,
     m: &mut Meter,
-) -> Result<LeftOut, BootCommandFault<'static>>
+) -> Result<LeftOut, NotJudged<'static>>
     ensures reads { OnlyReads result S.Source source.old source.new }
     ensures refused { IsTrue S.models → IfErr result
         (IsUnread (S.read_faults source.old < S.read_faults source.new)) }
 {
     let gaps = match gaps_kept(command.alloc, image, keeps, entries) {
         Ok(gaps) => gaps,
-        Err(_) => return Err(BootCommandFault::Host(HostFault::Memory)),
+        Err(refused) => return Err(NotJudged::Memory(refused)),
     };
     let anew = anew_of(&command.texts, command.keeps_trailing);
     match count_left_out(image, anew, gaps, source, w, m) {
         Ok(left) => Ok(left),
-        Err(fault) => Err(BootCommandFault::Section(fault)),
+        Err(fault) => Err(NotJudged::Fault(BootCommandFault::Section(fault))),
     }
 }
 
@@ -160,7 +161,7 @@ fn gaps_kept(
     image: &Image,
     keeps: bool,
     entries: &[RamdiskEntry],
-) -> Result<u64, AllocError> {
+) -> Result<u64, NoMemory> {
     if !keeps {
         return Ok(0);
     }

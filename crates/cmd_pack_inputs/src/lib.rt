@@ -11,10 +11,12 @@
 //! | `own.rt` | an image that is packed again, and the ranges that are read beside it |
 //! | `fields.rt`, `own_ramdisks.rt` | the own fields and the own fragments of that image |
 //! | `kept.rt`, `given_parts.rt` | what `repack` keeps beside its sections, what it leaves out, and what it replaces |
+//! | `fragment_gaps.rt` | the bytes of a vendor ramdisk that are in no fragment |
 //! | `input_files.rt` | the files that the arguments name |
 #![tactic(auto)]
 
 mod fields;
+mod fragment_gaps;
 mod given_parts;
 mod input_files;
 mod kept;

@@ -98,7 +98,10 @@ fn with_entry<'a, D: Disk>(
     };
     match ramdisks.with(spec_of(entry), source) {
         Ok(more) => Ok(more),
-        Err(refusal) => Err(refusal),
+        Err(refused) => {
+            disk.no_memory(refused);
+            Err(HostRefusal::memory())
+        }
     }
 }
 

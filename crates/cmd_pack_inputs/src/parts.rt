@@ -15,7 +15,7 @@ use abt_io::Source;
 use cmd_common_boot::{PackTexts, PartRow, PartSource, rows_of};
 use cmd_common_fields::ImageKind;
 use std::alloc::Global;
-use sys_disk::Disk;
+use sys_disk::{Disk, push};
 use sys_refusals::{HostFault, HostRefusal};
 
 /// Opens the parts of an image of this kind: each is the given file, or else the image's own part, or empty.
@@ -43,9 +43,12 @@ pub fn open_parts<'t, D: Disk>(
             Ok(part) => part,
             Err(refusal) => return Err(refusal),
         };
-        match parts.push(part) {
+        match push(&mut parts, part) {
             Ok(()) => {}
-            Err(_) => return Err(HostRefusal::memory()),
+            Err(refused) => {
+                disk.no_memory(refused);
+                return Err(HostRefusal::memory());
+            }
         }
     }
     Ok(parts)

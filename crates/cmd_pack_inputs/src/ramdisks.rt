@@ -13,8 +13,8 @@ use abt_io::Source;
 use abt_sections::FragmentSpec;
 use cmd_common_boot::{BootCommandFault, FragmentText, PackTexts, PartSource, set_board_ids};
 use std::alloc::Global;
-use sys_disk::{Disk, Lasting};
-use sys_refusals::{HostFault, HostRefusal, Refusal};
+use sys_disk::{Disk, Lasting, NoMemory, push};
+use sys_refusals::{HostRefusal, Refusal};
 
 /// The fragments of a vendor ramdisk, each with its source.
 #[derive(Drop)]
@@ -41,22 +41,21 @@ impl<'a, S: Source + Lasting + Drop> Ramdisks<'a, S> {
         self,
         spec: FragmentSpec,
         source: PartSource<'a, S>,
-    ) -> Result<Ramdisks<'a, S>, HostRefusal<'a>>
+    ) -> Result<Ramdisks<'a, S>, NoMemory>
         ensures specs { IfOk result (λ more. more.specs.items ≡ self.entry.specs.items ++ (spec ∷ [])) }
         ensures sources { IfOk result (λ more. more.sources.items ≡ self.entry.sources.items ++ (source.entry ∷ [])) }
-        ensures refused { IfErr result (λ refusal. refusal.fault ≡ HostFault.Memory) }
     {
         let Ramdisks {
             mut specs,
             mut sources,
         } = self;
-        match specs.push(spec) {
+        match push(&mut specs, spec) {
             Ok(()) => {}
-            Err(_) => return Err(HostRefusal::memory()),
+            Err(refused) => return Err(refused),
         }
-        match sources.push(source) {
+        match push(&mut sources, source) {
             Ok(()) => Ok(Ramdisks { specs, sources }),
-            Err(_) => Err(HostRefusal::memory()),
+            Err(refused) => Err(refused),
         }
     }
 
@@ -126,7 +125,13 @@ fn with_file<'a, D: Disk>(
     };
     let path = fragment.path.as_slice();
     match open_file(disk, "FRAGMENT", &*fragment.word, path) {
-        Ok(source) => ramdisks.with(spec, source),
+        Ok(source) => match ramdisks.with(spec, source) {
+            Ok(more) => Ok(more),
+            Err(refused) => {
+                disk.no_memory(refused);
+                Err(HostRefusal::memory())
+            }
+        },
         Err(refusal) => Err(refusal),
     }
 }

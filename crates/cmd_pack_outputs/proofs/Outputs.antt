@@ -1,5 +1,5 @@
 -- The file that an image is written to.
-use Rattle.std.proofs.Common.{inl, inr, ◌⊎◌, ◌≡◌, ℕ, List, [], ◌∷◌, ◌++◌, Option, Some}
+use Rattle.std.proofs.Common.{inl, inr, arith, ◌⊎◌, ◌≡◌, ℕ, List, [], ◌∷◌, ◌++◌, Option, Some}
 use Rattle.std.proofs.Common.{Bool, true, sym, ◌∙◌, ap, subst, length}
 use Rattle.std.proofs.lemmas.Bool.{false≢true}
 use Rattle.std.specs.Prelude.{unwrap_or, IsOk, IfOk, IfErr, OnOk, OnErr, MatchResult, Result, Ok, Err}
@@ -10,9 +10,12 @@ use Rattle.sys_disk.specs.declared.image_to.ImageTo.{ImageTo}
 use Rattle.sys_disk.specs.declared.image_to.ImageTo.TheVariants.{File, Stream}
 use Rattle.sys_disk.specs.World.{ClosesOutput, Creates, Ends, OpenFiles, Spares, SparesRest, World, failing}
 use Rattle.abt_sections.specs.declared.fault.SectionFault.{SectionFault}
-use Rattle.cmd_common_boot.specs.Refused.{IsJudged, IsOfMoving}
+use Rattle.cmd_common_boot.specs.NotJudged.{IsOfPacking, OfFault, fault_of, refusals_of}
+use Rattle.cmd_common_boot.specs.Refused.{IsOfMoving}
 use Rattle.cmd_common_boot.specs.declared.fault.BootCommandFault.{BootCommandFault}
 use Rattle.cmd_common_boot.specs.declared.fault.BootCommandFault.TheVariants as faults
+use Rattle.cmd_common_boot.specs.declared.not_judged.NotJudged.{NotJudged}
+use Rattle.cmd_common_boot.specs.declared.not_judged.NotJudged.TheVariants as not_judged
 use Rattle.sys_refusals.specs.declared.refusal.HostFault.{HostFault}
 use Rattle.cmd_pack_outputs.specs.Contents.{faults_in}
 use Rattle.cmd_pack_outputs.specs.declared.contents.ImageContents.{ImageContents}
@@ -27,7 +30,7 @@ use Rattle.sys_disk.proofs.Worlds.{only_written}
 use Rattle.sys_report.specs.Shows.{ShowsBeside}
 use Rattle.sys_report.specs.declared.report.Report.{Report}
 use Rattle.cmd_pack_outputs.proofs.Closes.{clean_created, closed_created, synced_created}
-use Rattle.cmd_common_boot.proofs.Calls.{on_ok}
+use Rattle.cmd_common_boot.proofs.Calls.{on_ok, same_failing}
 use Rattle.cmd_pack_outputs.proofs.Magics.{empty_none}
 
 one : (o : Option ℕ) (f g : ℕ) → o ≡ Some f → o ≡ Some g → f ≡ g
@@ -113,16 +116,19 @@ beside_as b b' a c line same beside = subst (λ is. ShowsBeside is a c line) sam
 
 -- ---- why it fails
 
-pub judged_stops : (o : Option SectionFault) (h h' : OpenFiles) (a b : World) (Done : Type 0) (f g : BootCommandFault)
-    → IsJudged o f → g ≡ f → h' ≡ h → b ≡ a → StopsWriting o h h' a b Done g
-judged_stops o h h' a b Done (faults.Host f) g judged told held same =
-    no_memory (told ∙ ap faults.Host judged) held same
-judged_stops o h h' a b Done (faults.Section f) g judged told held same = refused f told judged held same
-judged_stops o h h' a b Done (faults.OptionNotCarried n) g judged told held same = absurd judged
-judged_stops o h h' a b Done (faults.BadFragment w) g judged told held same = absurd judged
-judged_stops o h h' a b Done (faults.BadNumber w) g judged told held same = absurd judged
-judged_stops o h h' a b Done (faults.BadBoardId w) g judged told held same = absurd judged
-judged_stops o h h' a b Done faults.CheckFailed g judged told held same = absurd judged
+pub judged_stops : (o : Option SectionFault) (h h' : OpenFiles) (a b : World) (Done : Type 0) (why : NotJudged)
+    (g : BootCommandFault) → OfFault (IsOfPacking o) why → g ≡ fault_of why → h' ≡ failing (refusals_of why) h → b ≡ a
+    → StopsWriting o h h' a b Done g
+judged_stops o h h' a b Done (not_judged.Memory m) g judged told held same =
+    no_memory (record { told = told; counted = omega (arith, ap (λ k. k.failed) held) }) same
+judged_stops o h h' a b Done (not_judged.Fault (faults.Section f)) g judged told held same =
+    refused f told judged (held ∙ same_failing h) same
+judged_stops o h h' a b Done (not_judged.Fault (faults.Host f)) g judged told held same = absurd judged
+judged_stops o h h' a b Done (not_judged.Fault (faults.OptionNotCarried n)) g judged told held same = absurd judged
+judged_stops o h h' a b Done (not_judged.Fault (faults.BadFragment w)) g judged told held same = absurd judged
+judged_stops o h h' a b Done (not_judged.Fault (faults.BadNumber w)) g judged told held same = absurd judged
+judged_stops o h h' a b Done (not_judged.Fault (faults.BadBoardId w)) g judged told held same = absurd judged
+judged_stops o h h' a b Done (not_judged.Fault faults.CheckFailed) g judged told held same = absurd judged
 
 pub host_outside : (f : BootCommandFault) (k : HostFault) → f ≡ faults.Host k → IsOutsideBoot f
 host_outside f k told = subst IsOutsideBoot (sym told) tt

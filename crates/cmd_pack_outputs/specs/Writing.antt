@@ -5,7 +5,6 @@ use Rattle.abt_sections.specs.declared.fault.SectionFault.{SectionFault}
 use Rattle.sys_disk.specs.World.{ClosesOutput, Ends, HasFailed, HasNotFailed, OpenFiles, OnlyAt, Spares, SparesRest}
 use Rattle.sys_disk.specs.World.{World}
 use Rattle.sys_refusals.specs.declared.refusal.HostFault.{HostFault}
-use Rattle.sys_refusals.specs.declared.refusal.HostFault.TheVariants as hosts
 use Rattle.cmd_common_boot.specs.Parts.{IsBoot}
 use Rattle.cmd_common_boot.specs.Refused.{IsOfMoving}
 use Rattle.cmd_common_boot.specs.declared.fault.BootCommandFault.{BootCommandFault}
@@ -16,7 +15,7 @@ use Rattle.cmd_pack_outputs.specs.Contents.{faults_in, refusal_in}
 use Rattle.cmd_pack_outputs.specs.declared.contents.ImageContents.{ImageContents}
 use Rattle.cmd_pack_outputs.specs.Lines.{image_line, counted_in_u64}
 use Rattle.cmd_pack_outputs.specs.Magic.{HoldsNone}
-use Rattle.cmd_common_boot.specs.Fault.{IsOutsideBoot}
+use Rattle.cmd_common_boot.specs.Fault.{IsOutsideBoot, LacksMemory}
 
 -- packing these sources has no fault, and `nothing` has no bytes
 pub record IsAccepted {P : Type 0} (size : P → ℕ) (c : ImageContents P) : Type 0 where
@@ -102,13 +101,13 @@ pub record LeavesOut {X F : Type 0} (r : Result X F) (output : List ℕ) (is_ove
   pub clean : OnOk r (HasNotFailed held held')
   pub synced : OnOk r (held'.syncs ≡ held.syncs + (if held.is_synced then 1 else 0))
 
--- why an image is not written: packing has a fault, or there was no memory to find out, both before anything is
+-- why an image is not written: packing has a fault, or memory was refused to find out, both before anything is
 -- changed; or a call of the disk or a device failed; or everything was done, and the line could not be printed
 pub data StopsWriting (refusal : Option SectionFault) (held held' : OpenFiles) (old new : World) (Done : Type 0)
     (fault : BootCommandFault) : Type 0 where
   refused : (f : SectionFault) → fault ≡ faults.Section f → refusal ≡ Some f → held' ≡ held → new ≡ old
       → StopsWriting refusal held held' old new Done fault
-  no_memory : fault ≡ faults.Host hosts.Memory → held' ≡ held → new ≡ old
+  no_memory : LacksMemory fault (HasFailed held held') → new ≡ old
       → StopsWriting refusal held held' old new Done fault
   failed : IsOutsideBoot fault → HasFailed held held' → StopsWriting refusal held held' old new Done fault
   untold : (f : HostFault) → fault ≡ faults.Host f → Done → StopsWriting refusal held held' old new Done fault

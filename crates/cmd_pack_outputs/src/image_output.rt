@@ -5,7 +5,7 @@ ghost use Rattle.sys_disk.specs.DiskCalls.{LetsImageGo};
 ghost use Rattle.sys_disk.specs.Images.{OfImage, is_file};
 ghost use Rattle.sys_report.specs.Shows.{CannotPrint, ShowsBeside, Unprinted};
 ghost use Rattle.sys_refusals.specs.Paths.{path_out};
-ghost use Rattle.cmd_common_boot.specs.Refused.{IsJudged};
+ghost use Rattle.cmd_common_boot.specs.NotJudged.{IsOfPacking, OfFault};
 ghost use Rattle.cmd_pack_outputs.specs.Contents.{faults_in, packed_image, packing_of, refusal_from, refusal_in};
 ghost use Rattle.cmd_pack_outputs.specs.Lines.{image_line};
 ghost use Rattle.cmd_pack_outputs.specs.Writing.{IsOfLaying, IsReady, LaysImage, LeavesOut};
@@ -18,7 +18,7 @@ use crate::lines::ImageLine;
 use crate::packing::{pack_contents, refusal_of};
 use crate::write_over::{LayFault, lay_image};
 use abt_io::{Meter, Source, Window};
-use cmd_common_boot::{BootCommandFault, BootOutcome, PartSource};
+use cmd_common_boot::{BootCommandFault, BootOutcome, NotJudged, PartSource};
 use std::alloc::Global;
 use sys_disk::{Disk, ImageTo, Lasting, Reasons, ended};
 use sys_refusals::{FileArg, HostFault, HostRefusal, Refusal, Sides};
@@ -59,7 +59,10 @@ pub fn write_image<'f, 't, 'a, D: Disk>(
 {
     match judged(alloc, &contents, w, m) {
         Ok(()) => {}
-        Err(fault) => return Err(sides_of(&contents).refuse(fault)),
+        Err(why) => {
+            let fault = why.counted(disk);
+            return Err(sides_of(&contents).refuse(fault));
+        }
     }
     report.progress.expect(bytes_of(&contents), 1);
     let image = match disk.image(output, false) {
@@ -92,15 +95,15 @@ fn judged<'t, 'a, S: Source + Lasting + Drop>(
     contents: &ImageContents<'_, PartSource<'t, S>>,
     w: &mut Window,
     m: &mut Meter,
-) -> Result<(), BootCommandFault<'a>>
+) -> Result<(), NotJudged<'a>>
     ensures accepted { OnOk result (refusal_in ⟦<PartSource<'t, S> as Source>⟧.size contents.now ≡ None) }
-    ensures refused { IsTrue S.models → IfErr result (IsJudged (refusal_from contents.now.kind
-        (packing_of ⟦<PartSource<'t, S> as Source>⟧.content contents.now))) }
+    ensures refused { IsTrue S.models → IfErr result (OfFault (IsOfPacking (refusal_from contents.now.kind
+        (packing_of ⟦<PartSource<'t, S> as Source>⟧.content contents.now)))) }
 {
     match refusal_of(alloc, contents, w, m) {
         Ok(None) => Ok(()),
-        Ok(Some(fault)) => Err(BootCommandFault::Section(fault)),
-        Err(_) => Err(BootCommandFault::Host(HostFault::Memory)),
+        Ok(Some(fault)) => Err(NotJudged::Fault(BootCommandFault::Section(fault))),
+        Err(refused) => Err(NotJudged::Memory(refused)),
     }
 }
 

@@ -13,7 +13,8 @@ use abt_io::{CopyFault, Meter, Output, Overwrite, Source, Window, copy_range};
 use abt_sections::{SectionFault, pack_boot_once};
 use cmd_common_boot::{judge, pack_image};
 use cmd_common_fields::ImageKind;
-use std::alloc::{AllocError, Global};
+use std::alloc::Global;
+use sys_disk::NoMemory;
 
 /// Whether it is a boot image with nothing after it: its parts are read once, where the file is overwritten.
 pub(crate) fn is_read_once<P: Source + Drop>(contents: &ImageContents<'_, P>) -> bool
@@ -32,7 +33,7 @@ pub(crate) fn refusal_of<P: Source + Drop>(
     contents: &ImageContents<'_, P>,
     w: &mut Window,
     m: &mut Meter,
-) -> Result<Option<SectionFault>, AllocError>
+) -> Result<Option<SectionFault>, NoMemory>
     ensures by_sizes { IfOk result (λ refusal. refusal ≡ refusal_in P.size contents.now) }
     ensures by_bytes { IsTrue P.models → IfOk result (λ refusal. refusal
         ≡ refusal_from contents.now.kind (packing_of P.content contents.now)) }
@@ -43,7 +44,7 @@ pub(crate) fn refusal_of<P: Source + Drop>(
     let sources = contents.sources.as_slice();
     match judge(alloc, contents.kind, fields, parts, specs, sources, w, m) {
         Ok(refusal) => Ok(refusal),
-        Err(error) => Err(error),
+        Err(refused) => Err(refused),
     }
 }
 

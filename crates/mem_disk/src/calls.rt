@@ -9,7 +9,7 @@ use crate::{
     MemoryDisk, MemoryImage, MemoryInput, MemoryOutput, MemoryPartition, MemorySource, MemorySpool,
 };
 use std::alloc::AllocError;
-use sys_disk::{Disk, ImageTo};
+use sys_disk::{Disk, ImageTo, NoMemory};
 use sys_refusals::{FileArg, HostFault, HostRefusal};
 
 impl Disk for MemoryDisk {
@@ -166,15 +166,28 @@ impl Disk for MemoryDisk {
         Ok(false)
     }
 
-    fn is_there<'a>(&self, place: FileArg<'a>) -> Result<bool, HostRefusal<'a>> {
+    fn is_there<'a>(&mut self, place: FileArg<'a>) -> Result<bool, HostRefusal<'a>> {
         match place.path(self.alloc) {
             Ok(path) => Ok(self.file_at(path.as_str()).is_some()),
-            Err(_) => Err(HostRefusal::memory()),
+            Err(_) => {
+                self.failed.add();
+                Err(HostRefusal::memory())
+            }
         }
     }
 
-    fn left_over(&self, place: FileArg<'_>, behind: u32) -> Result<Option<u32>, AllocError> {
-        self.next_left(place, behind)
+    fn left_over(&mut self, place: FileArg<'_>, behind: u32) -> Result<Option<u32>, AllocError> {
+        match self.next_left(place, behind) {
+            Ok(left) => Ok(left),
+            Err(error) => {
+                self.failed.add();
+                Err(error)
+            }
+        }
+    }
+
+    fn no_memory(&mut self, _refused: NoMemory) {
+        self.failed.add();
     }
 
     fn refuse_taken<'a>(&mut self, place: FileArg<'a>) -> Result<(), HostRefusal<'a>> {

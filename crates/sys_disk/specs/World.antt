@@ -9,7 +9,7 @@ pub record World : Type 0 where
 
 -- What was opened: the files that are read; those that were created or opened to be written, the newest first; the open
 -- output, the file that is written in place, and the one that pieces go through; whether outputs are synced at their
--- end, and how often one was; how often a call failed, or a device failed that was given back.
+-- end, and how often one was; how often a call failed, or a device failed that was given back, or memory was refused.
 pub record OpenFiles : Type 0 where
   pub read : List ℕ
   pub begun : List ℕ
@@ -30,15 +30,15 @@ abbrev pub unless : Bool → ℕ
 unless true = 0
 unless false = 1
 
--- a call failed, or a device failed, this many times more
+-- a call failed, or a device failed, or memory was refused, this many times more
 abbrev pub failing : ℕ → OpenFiles → OpenFiles
 failing n h = record h { failed = h.failed + n }
 
--- in this run a call failed, or a device failed
+-- in this run a call failed, or a device failed, or memory was refused
 abbrev pub HasFailed : OpenFiles → OpenFiles → Type 0
 HasFailed old new = old.failed < new.failed
 
--- no call failed, and no device did
+-- no call failed, no device did, and no memory was refused
 abbrev pub HasNotFailed : OpenFiles → OpenFiles → Type 0
 HasNotFailed old new = new.failed ≡ old.failed
 

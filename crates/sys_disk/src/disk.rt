@@ -12,7 +12,7 @@ ghost use Rattle.sys_disk.specs.Spools.{closed_spool, behind_clear};
 ghost use Rattle.sys_disk.specs.World.{World, OpenFiles, OpensFile, Creates, OnlyAt, Ends, SparesRest, ended};
 ghost use Rattle.sys_disk.specs.World.{KeepsBegun, failing, unless};
 
-use crate::{ImageTo, Lasting, Late};
+use crate::{ImageTo, Lasting, Late, NoMemory};
 use abt_io::{Input, Output, Overwrite, Partition, Source, Spool};
 use std::alloc::AllocError;
 use sys_refusals::{FileArg, HostFault, HostRefusal};
@@ -33,7 +33,7 @@ pub trait Measured {
 ///
 /// A clause under `IsTrue models` is about the content of files, and binds only a disk that models it. What was opened
 /// is given back: an output by `finish` or `give_up`, an input by `let_go` or `let_go_source`. So a disk counts the
-/// failures: each of its calls that failed, and each fault of a device.
+/// failures: each of its calls that failed, each fault of a device, and each refusal of memory.
 pub trait Disk {
     /// What is read forward.
     type From: Input + Reasons + Measured + Drop;
@@ -192,15 +192,23 @@ pub trait Disk {
         ensures rest { IsTrue models → SparesRest (held self.old).spool (world self.old) (world self.new) };
 
     /// Whether a file exists.
-    fn is_there<'a>(&self, place: FileArg<'a>) -> Result<bool, HostRefusal<'a>>
-        ensures there { IsTrue models → IfOk result (λ is. is ≡ is_some ((world self.now).at (path_of place.entry))) }
-        ensures memory { IfErr result (λ refusal. refusal.fault ≡ HostFault.Memory) };
+    fn is_there<'a>(&mut self, place: FileArg<'a>) -> Result<bool, HostRefusal<'a>>
+        ensures there { IsTrue models → IfOk result (λ is. is ≡ is_some ((world self.old).at (path_of place.entry))) }
+        ensures memory { IfErr result (λ refusal. refusal.fault ≡ HostFault.Memory) }
+        ensures fails { FailsOnly models (unless (is_ok result)) (held self.old) (held self.new) (world self.old)
+            (world self.new) };
 
     /// The least number above this one at which a file exists, with that number after the name of this place. A system
     /// that does not list a folder may answer as if only the next number existed.
-    fn left_over(&self, place: FileArg<'_>, behind: u32) -> Result<Option<u32>, AllocError>
-        ensures { IsTrue models → IfOk result (IsNextLeft (λ n. (world self.now).at (path_with place.entry n))
-            behind) };
+    fn left_over(&mut self, place: FileArg<'_>, behind: u32) -> Result<Option<u32>, AllocError>
+        ensures left { IsTrue models → IfOk result (IsNextLeft (λ n. (world self.old).at (path_with place.entry n))
+            behind) }
+        ensures fails { FailsOnly models (unless (is_ok result)) (held self.old) (held self.new) (world self.old)
+            (world self.new) };
+
+    /// Counts a refusal of memory, as the failure of a call.
+    fn no_memory(&mut self, refused: NoMemory)
+        ensures { FailsOnly models 1 (held self.old) (held self.new) (world self.old) (world self.new) };
 
     /// Fails if a path that is going to be written leads to a file that is read, or that was begun.
     fn refuse_taken<'a>(&mut self, place: FileArg<'a>) -> Result<(), HostRefusal<'a>>

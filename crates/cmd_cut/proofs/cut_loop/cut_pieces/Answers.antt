@@ -1,15 +1,22 @@
-use Rattle.std.proofs.Common.{rules, subst, arith, inl, inr, ◌⊎◌, ◌<◌, ◌≤◌, ℕ}
+use Rattle.std.proofs.Common.{subst, arith, inl, inr, ◌≡◌, ◌⊎◌, ◌<◌, ◌≤◌, ◌+◌, ◌∙◌, ℕ, ap, sym}
+use Rattle.sys_disk.specs.World.{OpenFiles, failing}
 use Rattle.cmd_common_sparse.specs.PieceNames.{naming_of}
 use Rattle.cmd_cut.specs.Cutting.{IsPiecePath, ShowsCount, untold}
-use Rattle.cmd_cut.proofs.Wholes.{cuts_between, left_between, left_failed, stops_between, stops_host}
+use Rattle.cmd_cut.proofs.Wholes.{cuts_between, failing_more, left_between, left_failed, stops_between, stops_host}
 use Rattle.cmd_cut.specs.Leaving.{looked, unlooked}
 use Rattle.cmd_cut.proofs.Leavings.{no_part_between, no_part_same}
 use Rattle.cmd_cut.proofs.cut_loop.cut_pieces.Goals as goal
 
--- a count that rose after others has risen since they began
-later : (a b c : ℕ) (Q : Type 0) → a ≤ b → (b < c) ⊎ Q → (a < c) ⊎ Q
-later a b c Q first (inl more) = inl (omega (arith, first, more))
-later a b c Q first (inr other) = inr other
+-- counts that rose after others have risen since they began
+later : (a b c p q r : ℕ) (M : Type 0) → a ≤ b → p ≡ q → (b < c) ⊎ (M × (q < r)) → (a < c) ⊎ (M × (p < r))
+later a b c p q r M first same (inl more) = inl (omega (arith, first, more))
+later a b c p q r M first same (inr why) = inr (why.0, omega (arith, same, why.1))
+
+-- nothing has failed, once what was read is closed
+unfailed : (h h1 h2 h3 : OpenFiles) (r r' : ℕ) → h1 ≡ h → h2.failed + r' ≡ h1.failed + r → r ≡ 0 → h3 ≡ failing r' h2
+    → h3.failed ≡ h.failed
+unfailed h h1 h2 h3 r r' held clean none closed =
+    omega (arith, clean, none, ap (λ k. k.failed) held, ap (λ k. k.failed) closed)
 
 pub returns-in-Err-clause-refused : goal.returns-in-Err-clause-refused
 returns-in-Err-clause-refused g c = λ t.
@@ -36,15 +43,20 @@ pub returns-in-Ok-tell_all-clause-leaves : goal.returns-in-Ok-tell_all-clause-le
 returns-in-Ok-tell_all-clause-leaves g c = λ t. record {
   left = left_between (IsPiecePath c.args.names.prefix.now) _ _ _ _ _ _ _ _ _ (c.in-Ok.ensures.held t)
       (c.refuse_image_as_piece.ensures.keeps t).world (c.write_pieces-source.ensures.left t)
-      (c.let_go_source.ensures.held t) (c.let_go_source.ensures.world t);
-  clean = search rules;
+      (c.in-Ok-tell_all.ensures.held t ∙ c.let_go_source.ensures.held t)
+      ((c.tell_all.ensures.keeps t).world ∙ c.let_go_source.ensures.world t);
+  clean = ap (λ k. k.failed) (c.in-Ok-tell_all.ensures.held t)
+      ∙ unfailed _ _ _ _ _ _ (c.in-Ok.ensures.held t)
+      (rw c.in-Ok-answer.is at (c.write_pieces-source.ensures.clean t)) (c.requires.fresh t).clean
+      (c.let_go_source.ensures.held t);
 }
 
 pub returns-in-Err-tell_all-clause-leaves : goal.returns-in-Err-tell_all-clause-leaves
 returns-in-Err-tell_all-clause-leaves g c = λ t. record {
   left = left_between (IsPiecePath c.args.names.prefix.now) _ _ _ _ _ _ _ _ _ (c.in-Ok.ensures.held t)
       (c.refuse_image_as_piece.ensures.keeps t).world (c.write_pieces-source.ensures.left t)
-      (c.let_go_source.ensures.held t) (c.let_go_source.ensures.world t);
+      (failing_more _ _ _ _ _ (c.let_go_source.ensures.held t) (c.tell_all.ensures.keeps t).fails.same)
+      ((c.tell_all.ensures.keeps t).world ∙ c.let_go_source.ensures.world t);
   clean = tt;
 }
 
@@ -63,26 +75,32 @@ returns-in-Ok-tell_all-clause-done g c = λ t. record {
   cuts = (cuts_between (naming_of c.args.names) _ c.in-Ok-answer.files.count c.in-Ok-answer.files.count _ _ _ _ _ _ _
       _ _ (c.in-Ok.ensures.held t) (c.refuse_image_as_piece.ensures.keeps t).world
       (rw c.in-Ok-answer.is at (c.write_pieces-source.ensures.done t))
-      (c.let_go_source.ensures.held t) (c.let_go_source.ensures.world t));
+      (c.in-Ok-tell_all.ensures.held t ∙ c.let_go_source.ensures.held t)
+      ((c.tell_all.ensures.keeps t).world ∙ c.let_go_source.ensures.world t));
   shown = record {
     count = c.in-Ok-answer.files.count;
     all = rw c.in-Ok-answer.is at (c.write_pieces-source.ensures.all t);
     between = c.write_pieces-source.new.report;
     pieces_told = rw c.in-Ok-answer.is at (c.write_pieces-source.ensures.told t);
-    count_told = subst (λ k. ShowsCount (naming_of k) c.in-Ok-answer.files.count
+    count_told = subst (λ w. ShowsCount (naming_of c.args.names) c.in-Ok-answer.files.count w
+        c.write_pieces-source.new.report c.tell_all.new.report) (sym (c.tell_all.ensures.keeps t).world)
+        (subst (λ k. ShowsCount (naming_of k) c.in-Ok-answer.files.count
         (g.D.Disk.world c.let_go_source.new.self) c.write_pieces-source.new.report c.tell_all.new.report)
-        (rw c.in-Ok-answer.is at c.write_pieces-source.ensures.named) (c.in-Ok-tell_all.ensures.shown t);
+        (rw c.in-Ok-answer.is at c.write_pieces-source.ensures.named) (c.in-Ok-tell_all.ensures.shown t));
   };
 }
 
 pub returns-in-Err-tell_all-clause-refused : goal.returns-in-Err-tell_all-clause-refused
 returns-in-Err-tell_all-clause-refused g c = λ t.
     untold c.in-Err-tell_all.refusal.fault c.into-in-Err-tell_all.ensures
-    (later _ _ _ _ c.write_pieces-source.ensures.rises c.in-Err-tell_all.ensures.refused) c.in-Ok-answer.files.count
+    (later _ _ _ _ _ _ _ c.write_pieces-source.ensures.rises (sym (unfailed _ _ _ _ _ _ (c.in-Ok.ensures.held t)
+    (rw c.in-Ok-answer.is at (c.write_pieces-source.ensures.clean t)) (c.requires.fresh t).clean
+    (c.let_go_source.ensures.held t))) (c.in-Err-tell_all.ensures.refused t)) c.in-Ok-answer.files.count
     (rw c.in-Ok-answer.is at c.write_pieces-source.ensures.some) (cuts_between (naming_of c.args.names) _
     c.in-Ok-answer.files.count c.in-Ok-answer.files.count _ _ _ _ _ _ _ _ _ (c.in-Ok.ensures.held t)
     (c.refuse_image_as_piece.ensures.keeps t).world (rw c.in-Ok-answer.is at (c.write_pieces-source.ensures.done t))
-    (c.let_go_source.ensures.held t) (c.let_go_source.ensures.world t))
+    (failing_more _ _ _ _ _ (c.let_go_source.ensures.held t) (c.tell_all.ensures.keeps t).fails.same)
+    ((c.tell_all.ensures.keeps t).world ∙ c.let_go_source.ensures.world t))
 
 -- no part of a piece is left, and the names were looked at
 
@@ -102,12 +120,12 @@ pub returns-in-Ok-tell_all-clause-spares : goal.returns-in-Ok-tell_all-clause-sp
 returns-in-Ok-tell_all-clause-spares g c = λ t. (
   looked (c.in-Ok.ensures.free t) (c.in-Ok.ensures.named t),
   no_part_between g.D.Disk.is_over _ _ _ _ _ _ (c.refuse_image_as_piece.ensures.keeps t).world
-      (c.let_go_source.ensures.world t) (c.write_pieces-source.ensures.whole t),
+      ((c.tell_all.ensures.keeps t).world ∙ c.let_go_source.ensures.world t) (c.write_pieces-source.ensures.whole t),
 )
 
 pub returns-in-Err-tell_all-clause-spares : goal.returns-in-Err-tell_all-clause-spares
 returns-in-Err-tell_all-clause-spares g c = λ t. (
   looked (c.in-Ok.ensures.free t) (c.in-Ok.ensures.named t),
   no_part_between g.D.Disk.is_over _ _ _ _ _ _ (c.refuse_image_as_piece.ensures.keeps t).world
-      (c.let_go_source.ensures.world t) (c.write_pieces-source.ensures.whole t),
+      ((c.tell_all.ensures.keeps t).world ∙ c.let_go_source.ensures.world t) (c.write_pieces-source.ensures.whole t),
 )

@@ -1,4 +1,5 @@
-use Rattle.std.proofs.Common.{◌≡◌, ◌+◌, sym, ◌∙◌, subst, arith}
+use Rattle.std.proofs.Common.{◌≡◌, ◌+◌, sym, ap, ◌∙◌, subst, arith}
+use Rattle.sys_disk.specs.World.{OpenFiles, failing}
 use Rattle.sys_refusals.specs.Paths.{path_of}
 use Rattle.cmd_common_sparse.specs.PieceNames.{naming_of}
 use Rattle.cmd_cut.specs.Cutting.{path_in_turn}
@@ -20,13 +21,29 @@ loop-index-preserved g c =
       counted = omega (arith, one, i.counted);
       told = λ t.
           let k = i.told t in
+          let looked = c.in-Ok-is_there.ensures.fails in
+          let kept = looked.held t ∙ none_failed _ ∙ k.held in
+          let still = looked.world t ∙ k.world in
           record {
-            held = c.in-Ok-refuse_taken.ensures.held t ∙ none_failed _ ∙ k.held;
-            world = c.in-Ok-refuse_taken.ensures.world t ∙ k.world;
+            held = c.in-Ok-refuse_taken.ensures.held t ∙ none_failed _ ∙ kept;
+            world = c.in-Ok-refuse_taken.ensures.world t ∙ still;
             free = subst (λ n. AreFreeInTurn (naming_of c.args.names) n (g.D.Disk.held c.args.disk.now)
                 (g.D.Disk.world c.args.disk.now)) (sym one) (free_more (naming_of c.args.names)
                 c.loop-index.files.count (path_of c.next-place.result) (g.D.Disk.held c.args.disk.now)
                 (g.D.Disk.world c.args.disk.now) path k.free
-                (rw (k.held, k.world) at (c.in-Ok-refuse_taken.ensures.free t)));
+                (rw (kept, still) at (c.in-Ok-refuse_taken.ensures.free t)));
           };
+    }
+
+pub returns-in-Err-refuse_taken-clause-keeps : goal.returns-in-Err-refuse_taken-clause-keeps
+returns-in-Err-refuse_taken-clause-keeps g c = λ t.
+    let k = c.loop-index.invariant.told t in
+    let looked = c.in-Ok-is_there.ensures.fails in
+    let taken = c.in-Err-refuse_taken.ensures in
+    record {
+      fails = record {
+        failures = 1;
+        same = taken.held t ∙ ap (λ (h : OpenFiles). failing 1 h) (looked.held t ∙ none_failed _ ∙ k.held);
+      };
+      world = taken.world t ∙ looked.world t ∙ k.world;
     }

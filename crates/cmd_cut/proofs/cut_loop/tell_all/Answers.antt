@@ -13,7 +13,7 @@ returns-in-Ok-Some-clause-shown g c = λ t. record {
   told = c.line.new.self;
   line = c.in-Ok.ensures.shown;
   noted = c.note_left_over.ensures;
-  alone = λ none. absurd (found_left _ _ c.in-Ok-Some.number _ c.in-Ok-Some.field-0-is (c.in-Ok-Some.ensures t)
+  alone = λ none. absurd (found_left _ _ c.in-Ok-Some.number _ c.in-Ok-Some.field-0-is (c.in-Ok-Some.ensures.left t)
       (λ n more small. ap (λ p. (g.D.Disk.world c.args.disk.now).at p) (c.front-front.ensures n)
       ∙ none n (subst (λ k. k < n) c.number.ensures more) small));
 }

@@ -1,27 +1,32 @@
-use Rattle.std.proofs.Common.{◌∙◌, ap, refl, subst, sym}
+use Rattle.std.proofs.Common.{◌∙◌, ap, subst, sym}
 use Rattle.sys_refusals.specs.Paths.{output_path}
 use Rattle.sys_report.specs.Shows.{ShowsBeside, Unprinted}
 use Rattle.abt_sections.specs.Header.{fragment_count, view_of}
 use Rattle.abt_sections.specs.Open.{IsOpened}
 use Rattle.cmd_pack_inputs.specs.Own.{entries_to}
 use Rattle.cmd_pack.proofs.Again.{content_done, content_left, content_refused, judging_refuses, stays_kept}
-use Rattle.cmd_pack.proofs.Repacks.{calls_failed, nothing_more, reads_failed}
+use Rattle.cmd_pack.proofs.Repacks.{calls_failed, nothing_more}
 use Rattle.cmd_pack.proofs.Left.{left_refused, left_told}
 use Rattle.cmd_pack_outputs.proofs.Closes.{left_unopened}
 use Rattle.cmd_pack.proofs.repack.pack_again.Goals as goal
 
 -- the words are wrong, or the image could not be read
 pub returns-in-Err-clause-given : goal.returns-in-Err-clause-given
-returns-in-Err-clause-given g c = λ t. stays_kept c.args.command.now _ _ _ refl
+returns-in-Err-clause-given g c = λ t.
+    stays_kept c.args.command.now _ _ _ (c.counted-fault.ensures.fails.world t)
 
 pub returns-in-Err-clause-left : goal.returns-in-Err-clause-left
-returns-in-Err-clause-left g c = λ t. left_unopened _ _ _ _ _ _ _ _ (c.requires.first t).output refl
+returns-in-Err-clause-left g c = λ t.
+    left_unopened _ _ _ _ _ _ _ _
+    (ap (λ k. k.output) (c.counted-fault.ensures.fails.held t) ∙ (c.requires.first t).output)
+    (c.counted-fault.ensures.fails.world t)
 
 pub returns-in-Err-clause-refused : goal.returns-in-Err-clause-refused
 returns-in-Err-clause-refused g c = λ t.
-    judging_refuses c.args.command.now _ _ _ _ _ _ _ _ _ _ refl c.of_header-kind.ensures c.of_own.ensures
+    judging_refuses c.args.command.now _ _ _ _ _ _ _ _ _ _ c.in-Err.why _ (c.counted-fault.ensures.fails.world t)
+    c.of_header-kind.ensures (c.of_own.ensures ∙ c.counted-fault.ensures.told) (c.counted-fault.ensures.fails.held t)
+    c.in-Err.ensures.reads.faults
     (c.in-Err.ensures.refused (g.met.D.Disk.source_told t) (c.requires.opened (g.met.D.Disk.source_told t)))
-    (λ more. reads_failed _ _ _ more)
 
 -- it is packed
 pub returns-in-Ok-write_again-clause-done : goal.returns-in-Ok-write_again-clause-done

@@ -1,8 +1,7 @@
 use Rattle.std.proofs.Common.{◌∙◌, ◌≡◌, ap, arith, ◌+◌, take, drop, ◌++◌, ◌∷◌, []}
-use Rattle.cmd_pack_inputs.specs.Opening.{no_memory}
 use Rattle.cmd_pack_inputs.specs.Own.{no_path}
 use Rattle.cmd_common_boot.specs.Sources.{content_of, faults_of}
-use Rattle.cmd_pack_inputs.proofs.Openings.{only_failing, stops_once}
+use Rattle.cmd_pack_inputs.proofs.Openings.{only_failing, only_then, opens_none, stops_lacking, stops_once}
 use Rattle.cmd_common_boot.proofs.Calls.{same_failing}
 use Rattle.cmd_pack_inputs.proofs.Owns.{push_bytes, push_unread}
 use Rattle.cmd_pack_inputs.proofs.own_ramdisks.with_entry.Goals as goal
@@ -23,8 +22,10 @@ returns-in-Err-with-clause-opens g c =
     record {
       unread = λ t. tt;
       held = λ t. tt;
-      refused = λ t. no_memory c.in-Err-with.ensures.refused;
-      keeps = only_failing fails;
+      refused = λ t. stops_lacking no_path (g.D.Disk.world c.args.disk.now) _ _ _ c.memory.result.fault
+          (opens_none no_path (g.D.Disk.world c.args.disk.now) _ _ (fails.held t ∙ same_failing _) (λ p is. is))
+          c.memory.ensures (c.no_memory.ensures.held t);
+      keeps = λ t. only_then (only_failing fails t) (only_failing c.no_memory.ensures t);
     }
 
 pub returns-in-Ok-with-clause-specs : goal.returns-in-Ok-with-clause-specs

@@ -1,12 +1,11 @@
 use Rattle.std.proofs.Common.{◌∙◌, ap, length, refl}
 use Rattle.std.specs.Prelude.{[]}
-use Rattle.cmd_pack_inputs.specs.Opening.{no_memory}
 use Rattle.cmd_pack_inputs.specs.Own.{IsOwnPart}
 use Rattle.cmd_pack_inputs.specs.Parts.{IsPartInput}
 use Rattle.cmd_common_boot.specs.Sources.{content_of, faults_of}
 use Rattle.cmd_pack_inputs.proofs.Gathered.{no_paths, none_at_all, none_read, one_longer, parts_all, parts_none}
 use Rattle.cmd_pack_inputs.proofs.Gathered.{parts_so_far, paths_all, paths_so_far, row_stops}
-use Rattle.cmd_pack_inputs.proofs.Openings.{only_more, only_then, opens_none}
+use Rattle.cmd_pack_inputs.proofs.Openings.{only_failing, only_more, only_then, opens_none, stops_lacking}
 use Rattle.cmd_pack_inputs.proofs.parts.open_parts.Goals as goal
 
 pub loop-row-init : goal.loop-row-init
@@ -23,16 +22,16 @@ loop-row-init g c = (
 
 pub loop-row-preserved : goal.loop-row-preserved
 loop-row-preserved g c = (
-  one_longer c.loop-row.parts.items c.push.new.self.items c.in-Ok.part _ c.in-Ok-push.ensures.items
+  one_longer c.loop-row.parts.items c.push.new.list.items c.in-Ok.part _ c.in-Ok-push.ensures.items
       c.loop-row.invariant.0,
   λ t.
       let i = c.loop-row.invariant.1 t in (
         parts_so_far (content_of g.D.At.Source.content) (g.D.Disk.world c.args.disk.now)
             (g.D.Disk.world c.loop-row.disk)
             c.args.texts.now.options.items (IsOwnPart g.D.At.Source.content c.args.own) c.rows_of-rows.result.now
-            c.loop-row.row-index _ c.loop-row.parts.items c.push.new.self.items c.in-Ok.part c.loop-row-test.true
+            c.loop-row.row-index _ c.loop-row.parts.items c.push.new.list.items c.in-Ok.part c.loop-row-test.true
             c.rows_of-rows.ensures.options c.in-Ok-push.ensures.items i.3 i.0 (c.in-Ok.ensures.part t),
-        none_read (faults_of g.D.At.Source.read_faults) c.loop-row.parts.items c.push.new.self.items c.in-Ok.part
+        none_read (faults_of g.D.At.Source.read_faults) c.loop-row.parts.items c.push.new.list.items c.in-Ok.part
             c.in-Ok-push.ensures.items i.1 (c.in-Ok.ensures.opens.unread t),
         paths_so_far (g.D.Disk.world c.args.disk.now) (g.D.Disk.world c.loop-row.disk) c.args.texts.now.options.items
             c.rows_of-rows.result.now c.loop-row.row-index _ _ _ _ c.loop-row-test.true c.rows_of-rows.ensures.options
@@ -57,8 +56,15 @@ pub returns-in-Err-push-clause-opens : goal.returns-in-Err-push-clause-opens
 returns-in-Err-push-clause-opens g c = record {
   unread = λ t. tt;
   opened = λ t. tt;
-  refused = λ t. no_memory c.memory.ensures;
-  keeps = λ t. let i = c.loop-row.invariant.1 t in only_then (only_more i.2 i.3) (c.in-Ok.ensures.opens.keeps t);
+  refused = λ t.
+      row_stops (g.D.Disk.world c.args.disk.now) c.args.texts.now.options.items c.rows_of-rows.result.now
+      c.loop-row.row-index _ _ _ _ _ c.memory.result.fault c.loop-row-test.true c.rows_of-rows.ensures.options
+      c.rows_of-rows.ensures.sections (c.loop-row.invariant.1 t).2
+      (stops_lacking _ _ _ _ _ c.memory.result.fault (c.in-Ok.ensures.opens.opened t) c.memory.ensures
+      (c.no_memory.ensures.held t));
+  keeps = λ t.
+      let i = c.loop-row.invariant.1 t in
+      only_then (only_then (only_more i.2 i.3) (c.in-Ok.ensures.opens.keeps t)) (only_failing c.no_memory.ensures t);
 }
 
 pub returns-clause-parts : goal.returns-clause-parts

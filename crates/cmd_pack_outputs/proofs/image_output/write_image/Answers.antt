@@ -1,4 +1,4 @@
-use Rattle.std.proofs.Common.{refl, ap, ◌∙◌}
+use Rattle.std.proofs.Common.{ap, ◌∙◌}
 use Rattle.sys_disk.proofs.Worlds.{only_written}
 use Rattle.cmd_common_boot.specs.Sources.{faults_of}
 use Rattle.cmd_pack_outputs.specs.Writing.{failed, untold}
@@ -11,11 +11,15 @@ use Rattle.cmd_pack_outputs.proofs.image_output.write_image.Goals as goal
 -- packing fails
 
 pub returns-in-Err-clause-left : goal.returns-in-Err-clause-left
-returns-in-Err-clause-left g c = λ t. left_unopened _ _ _ _ _ _ _ _ (c.requires.one t) refl
+returns-in-Err-clause-left g c = λ t.
+    left_unopened _ _ _ _ _ _ _ _ (ap (λ k. k.output) (c.counted-fault.ensures.fails.held t) ∙ c.requires.one t)
+    (c.counted-fault.ensures.fails.world t)
 
 pub returns-in-Err-clause-refused : goal.returns-in-Err-clause-refused
 returns-in-Err-clause-refused g c = λ t.
-    judged_stops _ _ _ _ _ _ _ _ (c.in-Err.ensures.refused (g.met.D.Disk.source_told t)) c.refuse.ensures refl refl
+    judged_stops _ _ _ _ _ _ c.in-Err.why _ (c.in-Err.ensures.refused (g.met.D.Disk.source_told t))
+    (c.refuse.ensures ∙ c.counted-fault.ensures.told) (c.counted-fault.ensures.fails.held t)
+    (c.counted-fault.ensures.fails.world t)
 
 -- what the writing asks for
 

@@ -1,22 +1,18 @@
 //! The bytes of a vendor ramdisk that are in no fragment.
 
 use abt_headers::RamdiskEntry;
-use std::alloc::{AllocError, Global};
+use std::alloc::Global;
+use sys_disk::{NoMemory, push};
 
 /// How many of this many bytes of a vendor ramdisk are in none of these fragments.
-pub fn in_no_fragment(
+pub(crate) fn in_no_fragment(
     alloc: Global,
     fragments: &[RamdiskEntry],
     size: u32,
-) -> Result<u64, AllocError> {
+) -> Result<u64, NoMemory> {
     let mut ranges = Vec::new(alloc);
     for entry in fragments {
-        if ranges
-            .push((entry.ramdisk_offset, entry.ramdisk_size))
-            .is_err()
-        {
-            return Err(AllocError);
-        }
+        push(&mut ranges, (entry.ramdisk_offset, entry.ramdisk_size))?;
     }
     ranges.sort_unstable();
     Ok(in_no_range(ranges.as_slice(), size as u64))
