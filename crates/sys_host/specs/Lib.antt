@@ -1,6 +1,7 @@
 pub mod Access
 pub mod Answering
 pub mod Begins
+pub mod Ends
 pub mod Forward
 pub mod Left
 pub mod Opens

@@ -9,11 +9,13 @@
 //! | `taken.rt`, `streams.rt` | the files that no output may be; where reports go |
 //! | `open_file.rt` | opening one file: how, and what kind of file it has to be |
 //! | `reading.rt`, `open_outputs.rt` | all inputs, and then all outputs |
+//! | `ending.rt` | the end of an output: it is finished, and closed |
 //! | `input_file.rt`, `origin.rt` | an input that is read forward: a file that can skip bytes, or standard input |
 //! | `answering.rt` | the exit status, and the message on standard error |
 #![tactic(auto)]
 
 mod answering;
+mod ending;
 mod input_file;
 mod open_file;
 mod open_outputs;

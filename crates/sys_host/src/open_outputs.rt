@@ -1,7 +1,7 @@
 //! The outputs of a command, which are opened once all its inputs are open.
 
 ghost use Rattle.std.specs.Prelude.{◌≡◌, ◌↔◌, ◌⊎◌, ◌≤◌, [], true, IsTrue, OnOk, OnErr, IfOk, IfErr, length, replicate};
-ghost use Rattle.std.specs.Prelude.{codes, is_some};
+ghost use Rattle.std.specs.Prelude.{codes, is_some, ◌&&◌};
 ghost use Rattle.sys_finish.specs.Given.{given_by_writer};
 ghost use Rattle.abt_io.specs.Frame.{nothing_logged};
 ghost use Rattle.sys_file.specs.System.{KeepsFiles};
@@ -222,21 +222,19 @@ impl<S: System + Drop> Writing<S> {
         self.is_data_on_output
     }
 
-    /// Closes what was written in place, by a call that synced it at its end. If outputs are synced and it was created,
-    /// its folder is synced, so that its name is stored there.
-    pub fn close<'a>(
-        &mut self,
-        part: FilePartition<S::File>,
-        place: FileArg<'a>,
-    ) -> Result<(), HostRefusal<'a>> {
-        mem::drop(part);
+    // The last step for what was written in place, and was closed: if outputs are synced and it was created, its folder is
+    // synced, so that its name is stored there.
+    pub(crate) fn end_part<'a>(&mut self, place: FileArg<'a>) -> Result<(), HostRefusal<'a>>
+        ensures { IsTrue S.File.models → KeepsFiles S.at S.holds self.old.reading.system self.new.reading.system }
+    {
         let is_new = mem::replace(&mut self.is_part_new, false);
         self.sync_folder_if(is_new, place)
     }
 
-    /// The last step for an output that was closed: if outputs are synced and it was created, its folder is synced, so
-    /// that its name is stored there.
-    pub fn end_output<'a>(&mut self, place: FileArg<'a>) -> Result<(), HostRefusal<'a>> {
+    // The same for an output that was closed.
+    pub(crate) fn end_output<'a>(&mut self, place: FileArg<'a>) -> Result<(), HostRefusal<'a>>
+        ensures { IsTrue S.File.models → KeepsFiles S.at S.holds self.old.reading.system self.new.reading.system }
+    {
         let is_new = mem::replace(&mut self.is_output_new, false);
         self.sync_folder_if(is_new, place)
     }
@@ -245,7 +243,9 @@ impl<S: System + Drop> Writing<S> {
         &mut self,
         is_new: bool,
         place: FileArg<'a>,
-    ) -> Result<(), HostRefusal<'a>> {
+    ) -> Result<(), HostRefusal<'a>>
+        ensures { IsTrue S.File.models → KeepsFiles S.at S.holds self.old.reading.system self.new.reading.system }
+    {
         if !is_new || !self.reading.is_synced {
             return Ok(());
         }
@@ -362,6 +362,7 @@ impl<S: System + Drop> Writing<S> {
         requires { sink.log.state ≡ nothing_logged }
         ensures empty { IfOk result (λ output. given_by_writer output.to.writer ≡ []) }
         ensures data { IfOk result (λ output. output.is_data_on_output ≡ self.now.is_data_on_output) }
+        ensures synced { IfOk result (λ output. output.is_synced ≡ (self.now.reading.is_synced && holds_data)) }
     {
         let is_synced = self.reading.is_synced && holds_data;
         OutputFile::new(self.alloc, place, sink, is_synced, self.is_data_on_output)

@@ -7,7 +7,7 @@ use crate::source::HostSource;
 use abt_io::Overwrite;
 use std::alloc::AllocError;
 use sys_devices::{FilePartition, GatheringSpool};
-use sys_disk::{Disk, ImageTo};
+use sys_disk::{Disk, ImageTo, NoMemory};
 use sys_file::{System, SystemFile};
 use sys_finish::{ImageFile, OutputFile};
 use sys_host::{InputFile, Reading, Writing, not_opened};
@@ -245,13 +245,15 @@ impl<S: System + Drop> Disk for Host<S> {
         }
     }
 
-    fn is_there<'a>(&self, place: FileArg<'a>) -> Result<bool, HostRefusal<'a>> {
+    fn is_there<'a>(&mut self, place: FileArg<'a>) -> Result<bool, HostRefusal<'a>> {
         self.writing.is_there(place)
     }
 
-    fn left_over(&self, place: FileArg<'_>, behind: u32) -> Result<Option<u32>, AllocError> {
+    fn left_over(&mut self, place: FileArg<'_>, behind: u32) -> Result<Option<u32>, AllocError> {
         self.writing.left_over(place, behind)
     }
+
+    fn no_memory(&mut self, _refused: NoMemory) {}
 
     fn refuse_taken<'a>(&mut self, place: FileArg<'a>) -> Result<(), HostRefusal<'a>> {
         self.writing.refuse_taken(place)
@@ -274,9 +276,7 @@ impl<S: System + Drop> Disk for Host<S> {
             onto.give_up();
             return Err(refusal.begun(place));
         }
-        let is_data_on_output = onto.finish(place)?.is_data_on_output();
-        self.writing.end_output(place)?;
-        Ok(is_data_on_output)
+        self.writing.finish(onto, place)
     }
 
     fn give_up(&mut self, onto: OutputFile<S::File>) {
@@ -300,9 +300,7 @@ impl<S: System + Drop> Disk for Host<S> {
             blank_front(image);
             return Err(refusal.begun(place));
         }
-        let is_data_on_output = image.finish(place)?.is_data_on_output();
-        self.writing.end_output(place)?;
-        Ok(is_data_on_output)
+        self.writing.finish_image(image, place)
     }
 
     fn give_up_image(&mut self, image: ImageFile<S::File>) {
