@@ -1,3 +1,6 @@
+pub mod Called
+pub mod Looks
 pub mod Orders
+pub mod Plain
 pub mod Refusals
 pub mod Statuses

@@ -1,22 +1,23 @@
--- How an order begins.
-use Rattle.std.proofs.Common.{◌≡◌, Bool, ℕ, List, subst}
+-- How an order begins, and how orders end in turn.
+use Rattle.std.proofs.Common.{◌≡◌, Bool, ℕ, List, Option, subst}
 use Rattle.sys_disk.specs.World.{OpenFiles, World}
 use Rattle.sys_report.specs.declared.report.Report.{Report}
-use Rattle.words_orders.specs.declared.order.SparseTask.{SparseTask}
-use Rattle.cmd_boot_dispatch.specs.declared.command.BootCommandKind.{BootCommandKind}
-use Rattle.cmd_sparse_dispatch.specs.Commands.{DoesTask, State, state}
-use Rattle.abootimg.specs.BootDone.{BootDone}
+use Rattle.words_orders.specs.declared.order.Order.{Order}
+use Rattle.words_orders.specs.declared.order.Task.{Task}
+use Rattle.cmd_sparse_dispatch.specs.Commands.{State, state}
+use Rattle.abootimg.specs.InTurn.{TurnsEnd}
+use Rattle.abootimg.specs.OrderEnds.{TaskEnds}
 
--- a task is done from the state in which its order has begun
-pub does_from : (on : List ℕ → Bool) (task : SparseTask) (w w' : World) (h h' : OpenFiles) (r : Report) (z : State)
-    → w' ≡ w
-    → h' ≡ h → DoesTask on task (state w' h' r) z → DoesTask on task (state w h r) z
-does_from on task w w' h h' r z world held does =
-    subst (λ (k : OpenFiles). DoesTask on task (state w k r) z) held
-    (subst (λ (x : World). DoesTask on task (state x h' r) z) world does)
+-- a task ends from the state in which its order has begun
+pub ends_from : (on : List ℕ → Bool) (task : Task) (w w' z : World) (h h' k : OpenFiles) (r r' : Report) (status : ℕ)
+    → w' ≡ w → h' ≡ h → TaskEnds on task w' h' r z k r' status → TaskEnds on task w h r z k r' status
+ends_from on task w w' z h h' k r r' status world held ends =
+    subst (λ (l : OpenFiles). TaskEnds on task w l r z k r' status) held
+    (subst (λ (x : World). TaskEnds on task x h' r z k r' status) world ends)
 
-pub boot_from : (on : List ℕ → Bool) (kind : BootCommandKind) (w w' z : World) (h h' k : OpenFiles) (r r' : Report)
-    → w' ≡ w → h' ≡ h → BootDone on kind w' h' r z k r' → BootDone on kind w h r z k r'
-boot_from on kind w w' z h h' k r r' world held done =
-    subst (λ (l : OpenFiles). BootDone on kind w l r z k r') held
-    (subst (λ (x : World). BootDone on kind x h' r z k r') world done)
+-- orders in turn from the world in which they begin
+pub turns_from : (on : List ℕ → Bool) (first second : Option Order) (w w' : World) (h : OpenFiles) (r : Report)
+    (z : State) (status : ℕ) → w' ≡ w → TurnsEnd on first second (state w' h r) z status
+    → TurnsEnd on first second (state w h r) z status
+turns_from on first second w w' h r z status world turns =
+    subst (λ (x : World). TurnsEnd on first second (state x h r) z status) world turns

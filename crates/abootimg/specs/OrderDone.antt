@@ -2,7 +2,6 @@
 use Rattle.std.specs.Prelude.{◌≡◌, ◌++◌, ℕ, List, None, Bool, true, if◌then◌else◌}
 use Rattle.sys_disk.specs.World.{World, OpenFiles, IsReading}
 use Rattle.sys_report.specs.declared.report.Report.{Report}
-use Rattle.words_orders.specs.declared.order.Order.{Order}
 use Rattle.words_orders.specs.declared.order.Task.{Task}
 use Rattle.words_orders.specs.declared.order.Task.TheVariants as tasks
 use Rattle.cmd_boot_dispatch.specs.Commands.{IsKindOf}
@@ -28,8 +27,3 @@ TaskDone on_output (tasks.Boot task) world held report world' held' report' =
     (kind : BootCommandKind) × (IsKindOf task kind × BootDone on_output kind world held report world' held' report')
 TaskDone on_output (tasks.Completions shell) world held report world' held' report' =
     (text : List ℕ) × (report'.out.log.state.bytes ≡ report.out.log.state.bytes ++ text)
-
--- what an order asks for is done: its task, with outputs synced if it says so
-abbrev pub OrderDone : (List ℕ → Bool) → Order → World → OpenFiles → Report → World → OpenFiles → Report → Type 0
-OrderDone on_output order world held report world' held' report' =
-    TaskDone on_output order.task world (synced_if order.is_synced held) report world' held' report'

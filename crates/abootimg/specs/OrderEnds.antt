@@ -12,7 +12,7 @@ use Rattle.cmd_common_boot.specs.declared.fault.BootCommandFault.TheVariants as 
 use Rattle.cmd_boot_dispatch.specs.Commands.{IsKindOf, RefusesKind, SparesKind}
 use Rattle.cmd_boot_dispatch.specs.declared.command.BootCommandKind.{BootCommandKind}
 use Rattle.cmd_sparse_dispatch.specs.Commands.{RefusesTask, SparesFiles, state}
-use Rattle.abootimg.specs.OrderDone.{OrderDone, synced_if}
+use Rattle.abootimg.specs.OrderDone.{TaskDone, synced_if}
 
 -- ---- why a task is not done
 
@@ -72,21 +72,20 @@ TaskSpares (tasks.Boot task) world held report world' held' report' =
     ((kind : BootCommandKind) × (IsKindOf task kind × SparesKind kind world held world' held')) ⊎ (world' ≡ world)
 TaskSpares (tasks.Completions shell) world held report world' held' report' = world' ≡ world
 
--- ---- of an order, whose outputs are synced if it says so
+-- ---- how a task ends, and an order
 
-abbrev pub OrderRefused : Order → World → OpenFiles → Report → World → OpenFiles → ℕ → Type 0
-OrderRefused order world held report world' held' status =
-    TaskRefused order.task world (synced_if order.is_synced held) report world' held' status
-
-abbrev pub OrderSpares : Order → World → OpenFiles → Report → World → OpenFiles → Report → Type 0
-OrderSpares order world held report world' held' report' =
-    TaskSpares order.task world (synced_if order.is_synced held) report world' held' report'
-
--- Status 0: it is done, and nothing has failed. Else it is refused. After status 2 every file is as before.
-pub record OrderEnds (on_output : List ℕ → Bool) (order : Order) (world : World) (held : OpenFiles) (report : Report)
+pub record TaskEnds (on_output : List ℕ → Bool) (task : Task) (world : World) (held : OpenFiles) (report : Report)
     (world' : World) (held' : OpenFiles) (report' : Report) (status : ℕ) : Type 0 where
-  pub done : status ≡ 0 → OrderDone on_output order world held report world' held' report'
+  -- status 0: it is done, and nothing has failed
+  pub done : status ≡ 0 → TaskDone on_output task world held report world' held' report'
   pub clean : status ≡ 0 → HasNotFailed held held'
-  pub refused : status ≢ 0 → OrderRefused order world held report world' held' status
-  pub spares : OrderSpares order world held report world' held' report'
+  -- else it is refused
+  pub refused : status ≢ 0 → TaskRefused task world held report world' held' status
+  -- whatever the status, only its outputs may have changed; after status 2 every file is as before
+  pub spares : TaskSpares task world held report world' held' report'
   pub wrong : status ≡ 2 → world' ≡ world
+
+-- as its task does, with outputs synced if it says so
+abbrev pub OrderEnds : (List ℕ → Bool) → Order → World → OpenFiles → Report → World → OpenFiles → Report → ℕ → Type 0
+OrderEnds on_output order world held report world' held' report' status =
+    TaskEnds on_output order.task world (synced_if order.is_synced held) report world' held' report' status

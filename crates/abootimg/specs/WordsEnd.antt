@@ -1,5 +1,5 @@
 -- How a run ends that these words of the command line ask for.
-use Rattle.std.specs.Prelude.{◌≡◌, ◌≢◌, ◌⊎◌, ℕ, List, Bool, Result, Ok, Err, IfOk, if◌then◌else◌}
+use Rattle.std.specs.Prelude.{◌≡◌, ◌≢◌, ◌⊎◌, ℕ, List, Bool, Result, Ok, Err, IfOk, IsTrue, if◌then◌else◌}
 use Rattle.sys_disk.specs.World.{World, OpenFiles, HasFailed}
 use Rattle.sys_refusals.specs.Host.{is_not_text}
 use Rattle.sys_refusals.specs.declared.refusal.HostFault.{HostFault}
@@ -20,12 +20,13 @@ pub record AreExpanded (words all : List (List ℕ)) (world : World) (held held'
   pub reads : ReadsWordFiles words texts world held held'
   pub are : all ≡ expansion words texts
 
--- An order was found and carried out, after progress may have been shown. Or none was found: then no file was opened
--- or changed, and a mistake does not end with status 0.
+-- An order was found and carried out, after progress may have been shown, unless the order says not to. Or none was
+-- found: then no file was opened or changed, and a mistake does not end with status 0.
 abbrev pub FoundEnds : (List ℕ → Bool) → Result Order WordsFault → World → OpenFiles → Report → World → OpenFiles
     → Report → ℕ → Type 0
 FoundEnds on_output (Ok order) world held report world' held' report' status = (begun : Report)
-    × (PrintsNothing report begun × OrderEnds on_output order world held begun world' held' report' status)
+    × (PrintsNothing report begun × ((IsTrue order.is_quiet → begun ≡ report)
+    × OrderEnds on_output order world held begun world' held' report' status))
 FoundEnds on_output (Err fault) world held report world' held' report' status =
     (world' ≡ world) × ((held' ≡ held) × (IsMistake fault → status ≢ 0))
 

@@ -1,44 +1,76 @@
 //! The settings that an order has for all outputs, before its command begins.
 
-ghost use Rattle.std.specs.Prelude.{◌≡◌, IsTrue, true};
+ghost use Rattle.std.specs.Prelude.{◌≡◌, ℕ, List, Bool, IsTrue, false, true};
 ghost use Rattle.abootimg.specs.OrderDone.{synced_if};
+ghost use Rattle.abootimg.specs.InTurn.{next_held};
 
+use crate::tool::is_regular_file;
 use sys_disk::Disk;
 use sys_host_disk::Host;
 use sys_std::OsSystem;
 
 /// A disk with two settings: whether outputs are synced at their end, and which devices may be written.
 pub trait Beginning: Disk {
+    /// Whether block devices that are in use may be written.
+    ghost allows_mounted: { Self → Bool };
+
+    /// Which paths lead to regular files.
+    ghost is_file: { List ℕ → Bool };
+
+    /// Whether a path leads to a regular file.
+    fn leads_to_file(&self, rt: HostRuntime, path: &str) -> bool
+        ensures { IsTrue Self.models → result ≡ is_file path.now };
+
     /// Each output that is a file or a block device is going to be synced at its end.
     fn sync_outputs(&mut self)
         ensures held { IsTrue Self.models → Self.held self.new ≡ synced_if true (Self.held self.old) }
         ensures world { IsTrue Self.models → Self.world self.new ≡ Self.world self.old };
 
-    /// Block devices that are in use may be written: mounted, or swap.
-    fn allow_mounted(&mut self)
+    /// Block devices that are in use may be written, mounted or as swap, or may not.
+    fn allow_mounted(&mut self, is_allowed: bool)
         ensures held { IsTrue Self.models → Self.held self.new ≡ Self.held self.old }
+        ensures world { IsTrue Self.models → Self.world self.new ≡ Self.world self.old }
+        ensures allowed { IsTrue Self.models → allows_mounted self.new ≡ is_allowed };
+
+    /// The next order of the same words begins: it writes no file that was read or written, and its outputs are not
+    /// synced.
+    fn begin_next(&mut self)
+        ensures held { IsTrue Self.models → Self.held self.new ≡ next_held (Self.held self.old) }
         ensures world { IsTrue Self.models → Self.world self.new ≡ Self.world self.old };
 }
 
 impl Beginning for Host<OsSystem> {
+    ghost allows_mounted = { λ _. false };
+
+    ghost is_file = { λ _. false };
+
+    fn leads_to_file(&self, rt: HostRuntime, path: &str) -> bool {
+        is_regular_file(rt, path)
+    }
+
     fn sync_outputs(&mut self) {
         self.sync_all();
     }
 
-    fn allow_mounted(&mut self) {
-        self.allow_all();
+    // None may be written before.
+    fn allow_mounted(&mut self, is_allowed: bool) {
+        if is_allowed {
+            self.allow_all();
+        }
     }
+
+    // All files of the run stay taken. Only the words of tools give several orders, and these sync nothing.
+    fn begin_next(&mut self) {}
 }
 
 /// Sets them.
 pub(crate) fn begin<D: Beginning>(disk: &mut D, is_synced: bool, is_mounted_allowed: bool)
     ensures held { IsTrue D.models → D.held disk.new ≡ synced_if is_synced (D.held disk.old) }
     ensures world { IsTrue D.models → D.world disk.new ≡ D.world disk.old }
+    ensures mounted { IsTrue D.models → D.allows_mounted disk.new ≡ is_mounted_allowed }
 {
     if is_synced {
         disk.sync_outputs();
     }
-    if is_mounted_allowed {
-        disk.allow_mounted();
-    }
+    disk.allow_mounted(is_mounted_allowed);
 }

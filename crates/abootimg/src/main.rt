@@ -6,6 +6,8 @@
 //! | `running.rt` | doing what the words ask for, and the exit status |
 //! | `beginning.rt` | the settings of all outputs, before a command begins |
 //! | `tool.rt` | the same under the name of one of AOSP's tools |
+//! | `turns.rt` | the orders of a tool, one after the other |
+//! | `storage.rt` | where the files of a run are |
 //! | `image_id.rt` | printing the id of a boot image |
 //! | `unpack_image.rt` | unpacking an image as unpack_bootimg does |
 //! | `sparse_task.rt`, `boot_task.rt` | doing a task, over any disk |
@@ -18,7 +20,9 @@ mod image_id;
 mod outcome;
 mod running;
 mod sparse_task;
+mod storage;
 mod tool;
+mod turns;
 mod unpack_image;
 
 use abt_io::{Meter, Window};

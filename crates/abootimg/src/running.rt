@@ -1,11 +1,10 @@
 //! Doing what the words ask for, and the exit status.
 
 ghost use Rattle.std.specs.Prelude.{◌≡◌, ◌≢◌, ◌≤◌, ◌||◌, IfOk, IsTrue, map, string_bytes};
-ghost use Rattle.sys_disk.specs.World.{HasNotFailed};
 ghost use Rattle.sys_host.specs.Answering.{PrintsNothing};
 ghost use Rattle.words_orders.specs.Asked.{IsOrderOf};
-ghost use Rattle.abootimg.specs.OrderDone.{IsReadyForOrder, OrderDone};
-ghost use Rattle.abootimg.specs.OrderEnds.{OrderRefused, OrderSpares};
+ghost use Rattle.abootimg.specs.OrderDone.{IsReadyForOrder};
+ghost use Rattle.abootimg.specs.OrderEnds.{OrderEnds, TaskEnds};
 ghost use Rattle.abootimg.specs.WordsEnd.{FoundEnds, WordsEnd};
 
 use crate::beginning::{Beginning, begin};
@@ -175,7 +174,7 @@ pub fn demonstrate(rt: HostRuntime, report: &mut Report, w: &mut Window, m: &mut
 
 /// Carries out an order, and returns the exit status.
 #[inline(never)]
-#[tactic(auto, using(crate::proofs::Orders::does_from, crate::proofs::Orders::boot_from))]
+#[tactic(auto, using(crate::proofs::Orders::ends_from))]
 pub(crate) fn carry_out<D: Beginning>(
     rt: HostRuntime,
     order: Order<'_>,
@@ -186,22 +185,33 @@ pub(crate) fn carry_out<D: Beginning>(
     m: &mut Meter,
 ) -> u8
     requires ready { IsTrue D.models → IsReadyForOrder (D.held disk.old) }
+    // faults are told with a second line if the order says so
+    requires told { IsTrue order.is_verbose → IsTrue how.is_verbose }
     ensures status { result ≤ 2 }
-    // the status is 0 only if all is done that the order says, and its outputs are synced if it says so
-    ensures done { IsTrue D.models → result ≡ 0 → OrderDone D.on_output order.entry (D.world disk.old)
-        (D.held disk.old) report.old (D.world disk.new) (D.held disk.new) report.new }
-    // and if nothing failed
-    ensures clean { IsTrue D.models → result ≡ 0 → HasNotFailed (D.held disk.old) (D.held disk.new) }
-    // else the order's command refuses it, as it says
-    ensures refused { IsTrue D.models → result ≢ 0 → OrderRefused order.entry (D.world disk.old) (D.held disk.old)
-        report.old (D.world disk.new) (D.held disk.new) result }
-    // whatever the status, what is read holds what it held, and nothing has changed but what is to be written
-    ensures spares { IsTrue D.models → OrderSpares order.entry (D.world disk.old) (D.held disk.old) report.old
-        (D.world disk.new) (D.held disk.new) report.new }
-    // it is 2 only if every file is as before
-    ensures wrong { IsTrue D.models → result ≡ 2 → D.world disk.new ≡ D.world disk.old }
+    ensures ends { IsTrue D.models → OrderEnds D.on_output order.entry (D.world disk.old) (D.held disk.old) report.old
+        (D.world disk.new) (D.held disk.new) report.new result }
 {
     begin(disk, order.is_synced, order.is_mounted_allowed);
+    do_task(rt, order, disk, how, report, w, m)
+}
+
+// Does the task of an order, on a disk that has its settings.
+fn do_task<D: Beginning>(
+    rt: HostRuntime,
+    order: Order<'_>,
+    disk: &mut D,
+    how: Telling,
+    report: &mut Report,
+    w: &mut Window,
+    m: &mut Meter,
+) -> u8
+    requires ready { IsTrue D.models → IsReadyForOrder (D.held disk.old) }
+    // block devices that are in use may be written exactly if the order says so
+    requires mounted { IsTrue D.models → D.allows_mounted disk.old ≡ order.is_mounted_allowed }
+    ensures status { result ≤ 2 }
+    ensures ends { IsTrue D.models → TaskEnds D.on_output order.entry.task (D.world disk.old) (D.held disk.old)
+        report.old (D.world disk.new) (D.held disk.new) report.new result }
+{
     match order.task {
         Task::Sparse(task) => do_sparse(disk, task, how, rt, report, w, m),
         Task::Boot(task) => {

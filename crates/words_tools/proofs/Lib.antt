@@ -3,3 +3,4 @@ pub mod Calling
 pub mod Grouping
 pub mod Parting
 pub mod Standing
+pub mod Verbose

@@ -14,6 +14,7 @@ use Rattle.words_tools.specs.declared.orders.Orders.{Orders}
 use Rattle.words_tools.specs.declared.tools.Tool.{Tool}
 use Rattle.words_tools.specs.declared.tools.Tool.TheVariants as tools
 use Rattle.words_orders.specs.Asked.{AreAnswersOf, Asks, number_named, word_named}
+use Rattle.words_tools.specs.Fragments.{AreParted}
 use Rattle.words_tools.specs.Mkbootimg.{AreImagesOf, PacksImage, id_asked}
 use Rattle.words_tools.specs.UnpackBootimg.{AsksUnpack, unpack_rows}
 use Rattle.words_tools.specs.declared.unpack_bootimg.UnpackImage.{UnpackImage}
@@ -49,6 +50,12 @@ CallsNone path = (tool : Tool) → IsLastPart (tool_name tool) path → ⊥
 pub record IsCalled (words : List (List ℕ)) (tool : Tool) (own : List (List ℕ)) : Type 0 where
   pub name : IsLastPart (tool_name tool) (get_or own 0 [])
   pub behind : (own ≡ words) ⊎ (IsBehindAs words own × CallsNone (get_or words 0 []))
+
+-- the status under its name where the words are wrong
+abbrev pub wrong_words_status : Tool → ℕ
+wrong_words_status tools.Mkbootimg = 2
+wrong_words_status tools.UnpackBootimg = 2
+wrong_words_status tool = 1
 
 -- ---- the tables
 
@@ -119,6 +126,8 @@ AsksTask tool all task = ⊥
 -- an order of a tool, without what its words can't ask for
 pub record IsToolOrder (tool : Tool) (order : Order) : Type 0 where
   pub command : order.command.now ≡ tool_name tool
+  pub verbose : order.is_verbose ≡ false
+  pub quiet : order.is_quiet ≡ true
   pub synced : order.is_synced ≡ false
   pub mounted : order.is_mounted_allowed ≡ false
 
@@ -184,3 +193,15 @@ pub record AreOrdersOf (tool : Tool) (words : List (List ℕ)) (said : List Answ
   pub all : List Answer
   pub answers : AreAnswersOf (tool_rows tool) own all
   pub asks : AsksOrders tool all said orders
+
+-- the words without those of ramdisk fragments, and what these say; only mkbootimg has such words
+abbrev pub ArePartedFor : Tool → List (List ℕ) → List (List ℕ) → List Answer → Type 0
+ArePartedFor tools.Mkbootimg words others said = AreParted words said others
+ArePartedFor tool words others said = (others ≡ words) × (said ≡ [])
+
+-- the words of a call give these orders, with those of ramdisk fragments separated from the others
+pub record AreToolOrders (tool : Tool) (words : List (List ℕ)) (orders : Orders) : Type 0 where
+  pub others : List (List ℕ)
+  pub said : List Answer
+  pub parted : ArePartedFor tool words others said
+  pub give : AreOrdersOf tool others said orders

@@ -1,7 +1,7 @@
 //! The tools of AOSP by whose names the program may be called.
 
-ghost use Rattle.std.specs.Prelude.{◌≡◌, ◌≢◌, ◌≤◌, ◌↔◌, ◌++◌, ◌∷◌, ℕ, List, [], IsTrue, IfSome, None, get_or, map};
-ghost use Rattle.words_tools.specs.Tools.{CallsNone, IsBehindAs, IsCalled, IsFolder, IsLastPart, tool_name};
+ghost use Rattle.std.specs.Prelude.{◌≡◌, ◌≢◌, ◌↔◌, ◌++◌, ◌∷◌, ℕ, List, [], IsTrue, IfSome, None, get_or, map};
+ghost use Rattle.words_tools.specs.Tools.{CallsNone, IsBehindAs, IsCalled, IsFolder, IsLastPart, tool_name, wrong_words_status};
 
 use std::convert::AsStr;
 
@@ -35,8 +35,7 @@ impl Tool {
 
     /// The exit status where the words are wrong.
     pub fn wrong_words(self) -> u8
-        ensures some { result ≢ 0 }
-        ensures most { result ≤ 2 }
+        ensures { result ≡ wrong_words_status self }
     {
         match self {
             Tool::Mkbootimg | Tool::UnpackBootimg => 2,
