@@ -83,6 +83,7 @@ WITHOUT_A_TICK = {
     "crates/abt_runs/src/words.rt": 2,  # the words of one block, for which `tick_words` ticks
     "crates/cmd_expand/src/open_images.rt": 1,  # numbers of pieces are compared: nothing is read
     "crates/cmd_cut/src/cut_loop.rt": 1,  # the names of pieces are looked at, before anything is read
+    "crates/cmd_pack_inputs/src/fragment_gaps.rt": 2,  # ranges of entries that were read: nothing is read
     "crates/cmd_pack_inputs/src/own_ramdisks.rt": 1,  # files are opened: so are those of the two below
     "crates/cmd_pack_inputs/src/parts.rt": 1,
     "crates/cmd_pack_inputs/src/ramdisks.rt": 1,

@@ -22,11 +22,11 @@ from repository import HERE, crate_lines
 
 # The most functions of a crate, and those that have more; docs/DECISIONS.md says why these are not taken apart.
 FUNCTIONS = 100
-MORE_FUNCTIONS = {"abt_sections": 107, "words_orders": 106, "cmd_unpack_aosp_texts": 106, "words_tools": 101}
+MORE_FUNCTIONS = {"abt_sections": 107, "mem_disk": 101, "words_orders": 106, "cmd_unpack_aosp_texts": 106, "words_tools": 101}
 # How many functions have contracts of more clauses than this.
 LONG_CONTRACTS = {15: 3, 20: 1}
 # How many clauses are, to the letter, one that stands before, in any function of any crate.
-REPEATED_CLAUSES = 632
+REPEATED_CLAUSES = 650
 # The names that two files define, each with what it says in the one and in the other.
 NAMES_DEFINED_TWICE = {
     "Begins": "of a spool's and of a file's bytes, of which they are a front; of a text, which has grown by one",
@@ -67,12 +67,12 @@ LINES = {
     "devices": 101,
     "definitions and reading": 174,
     "writing": 182,
-    "flashing and verifying": 135,
+    "flashing and verifying": 138,
     "boot images": 227,
-    "system": 85,
-    "words": 101,
-    "commands over sparse images": 140,
-    "commands over boot images": 139,
+    "system": 87,
+    "words": 108,
+    "commands over sparse images": 142,
+    "commands over boot images": 140,
     "laws": 62,
     "memory": 28,
     "for programs in C": 25,
