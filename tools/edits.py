@@ -28,6 +28,8 @@ from repository import HERE, copy_of, crate_at, crate_lines, with_below
 
 FOLDERS = ("must-fail", "more-edits")
 MOST = 12
+# Crates with more: edits for new claims came in, and no older one left the gate for them.
+MORE = {"abt_flash": 13, "sys_host": 14}
 TRIED = re.compile(r"must-fail (\w+)/([\w.-]+)\.edit: (.*)")
 FAULTS = ("NOT REFUSED", "BAD EDIT", "NOT TRIED")
 WEAK = ("only because a proof file", "only by a limit")
@@ -91,7 +93,8 @@ def check(names, rt, show):
         words = [os.path.basename(it) for it in paths]
         chosen = sum(os.path.basename(os.path.dirname(it)) == FOLDERS[0] for it in paths)
         if paths:
-            that(chosen <= MOST, f"{crate}: {chosen} edits in the gate, at most {MOST}")
+            most = MORE.get(crate, MOST)
+            that(chosen <= most, f"{crate}: {chosen} edits in the gate, at most {most}")
             that(len(set(words)) == len(words), f"{crate}: each edit has a name of its own")
         for path in paths:
             label = os.path.relpath(path, os.path.join(HERE, "crates"))
