@@ -17,8 +17,13 @@ kit=$(dirname "$("$rt" doc)")
 mkdir -p "$(dirname "$out")"
 temporary=$out.new
 trap 'rm -f "$temporary"' EXIT
-if "${CC:-cc}" -static -Wl,--gc-sections -Wl,-z,noexecstack -s -o "$temporary" "$object" \
-    "$kit/c/libos_c.a" "$kit/c/liblibc_c.a" 2> "$out.log" && "$temporary" > "$out.log" 2>&1; then
+# Links with the options given, and runs what came of it.
+link_static() {
+    "${CC:-cc}" -static "$@" -Wl,--gc-sections -Wl,-z,noexecstack -s -o "$temporary" "$object" \
+        "$kit/c/libos_c.a" "$kit/c/liblibc_c.a" 2> "$out.log" && "$temporary" > "$out.log" 2>&1
+}
+# The linker of the toolchain keeps one copy of functions that have the same code, which is 27 KB less.
+if link_static -B"$kit/toolchain/bin" -fuse-ld=lld -Wl,--icf=safe || link_static; then
     rm -f "$out.log"
 else
     rm -f "$out.log"

@@ -185,6 +185,7 @@ impl BootHeader {
     }
 
     /// How many bytes a page has: 4,096 from version 3 on.
+    #[inline(never)]
     pub fn page_size(&self) -> u32
         ensures { IsPage result (boot_page self.now) }
     {

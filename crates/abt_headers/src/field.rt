@@ -6,6 +6,7 @@ ghost use Rattle.abt_headers.specs.Field.{number_at, part_at};
 use byteorder::{ByteOrder, LittleEndian};
 
 /// The number in the four bytes at `place`.
+#[inline(never)]
 pub(crate) fn u32_at(bytes: &[u8], place: usize) -> u32
     requires { place + 4 ≤ length bytes.now }
     ensures { result ≡ number_at place 4 bytes.now }
@@ -30,6 +31,7 @@ pub(crate) fn bytes_at<const N: usize>(bytes: &[u8], place: usize) -> [u8; N]
 }
 
 /// Writes a field at `place`, and leaves all bytes around it.
+#[inline(never)]
 pub(crate) fn put(out: &mut [u8], place: usize, field: &[u8])
     requires { place + length field.now ≤ length out.old }
     ensures { out.new ≡ take place out.old ++ (field.now ++ drop (place + length field.now) out.old) }

@@ -120,6 +120,7 @@ impl VendorHeader {
     }
 
     /// How many bytes a page has.
+    #[inline(never)]
     pub fn page_size(&self) -> u32
         ensures { IsPage result (vendor_page (vendor_view self.now)) }
     {

@@ -18,6 +18,7 @@ use abt_io::Meter;
 
 /// The page of the image, or what the fields are refused for.
 #[tactic(auto, unfolding(crate::specs::Refusal::boot_refusal))]
+#[inline(never)]
 pub(crate) fn check_boot_spec(spec: &BootSpec, m: &mut Meter) -> Result<PageSize, SectionFault>
     ensures refused { RefusedBy result (boot_refusal (cmd_common_fields spec.now))
         (λ p. p ≡ canon.boot_page_for (cmd_common_fields spec.now)) }

@@ -199,6 +199,7 @@ fn offset_holds(header: &ImageHeader) -> bool
 // ---- texts
 
 /// A field is zero from its first zero byte on, and its last byte is zero.
+#[inline(never)]
 fn text_field(field: &[u8], m: &mut Meter) -> bool
     ensures { result ≡ check_spec.text_field field.now }
 {

@@ -32,6 +32,7 @@ pub(crate) struct Table {
 }
 
 /// The table of an image; one without entries where the version has none.
+#[inline(never)]
 pub(crate) fn table_of(header: &ImageHeader) -> Table
     ensures at { result.at ≡ header_spec.table_at (header_spec.view_of header.now) }
     ensures count { result.count ≡ header_spec.fragment_count (header_spec.view_of header.now) }
@@ -235,6 +236,7 @@ pub(crate) fn check_entries<S: Source>(
 }
 
 /// How many ramdisk fragments the table has: none but in a vendor boot image of version 4.
+#[inline(never)]
 pub fn fragments(image: &Image) -> u32
     ensures { result ≡ header_spec.fragment_count (header_spec.view_of image.now.header) }
 {

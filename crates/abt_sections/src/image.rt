@@ -17,6 +17,7 @@ pub enum ImageHeader {
 
 impl ImageHeader {
     /// How many bytes the record has.
+    #[inline(never)]
     pub fn size(&self) -> usize
         ensures value { result ≡ size_of (view_of self.now) }
         ensures high { result ≤ 2128 }
@@ -61,6 +62,7 @@ pub struct Image {
 }
 
 /// The source is as long as it was when the image was opened.
+#[inline(never)]
 pub(crate) fn is_as_long<S: Source>(image: &Image, source: &S) -> bool
     ensures { MatchBool result (S.size source.now ≡ image.now.length) (S.size source.now ≡ image.now.length → ⊥) }
 {

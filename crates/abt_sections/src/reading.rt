@@ -10,6 +10,7 @@ use abt_io::{Meter, Source, Window, read_full_at};
 
 /// Begins a step: reads the `ask` bytes from a place on. The caller ends the step once it has used them. Where they
 /// don't come, the step is ended here.
+#[inline(never)]
 pub(crate) fn read_front<S: Source>(
     source: &mut S,
     at: u64,

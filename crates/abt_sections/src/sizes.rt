@@ -83,6 +83,7 @@ fn fitting(section: Section, n: u64) -> Result<u32, SectionFault>
 
 /// How large each section of a vendor boot image is, or the first that is too large.
 #[tactic(auto, unfolding(crate::specs::Refusal::size_refusal))]
+#[inline(never)]
 pub(crate) fn vendor_sizes<S: Source>(
     count: usize,
     ramdisks: &[S],
@@ -109,6 +110,7 @@ pub(crate) fn vendor_sizes<S: Source>(
 }
 
 /// How many bytes an image has, of its record's size and those of its first `count` sections.
+#[inline(never)]
 pub(crate) fn image_bytes(
     page: u32,
     header: usize,

@@ -14,6 +14,7 @@ use abt_io::Meter;
 
 /// The page of the image, or what the fields are refused for.
 #[tactic(auto, unfolding(crate::specs::Refusal::vendor_refusal))]
+#[inline(never)]
 pub(crate) fn check_vendor_spec(spec: &VendorSpec, m: &mut Meter) -> Result<PageSize, SectionFault>
     ensures refused { RefusedBy result (vendor_refusal (vendor_fields spec.now))
         (λ p. p ≡ canon.vendor_page_for (vendor_fields spec.now)) }
@@ -75,6 +76,7 @@ fn tail_for(sizes: &[u32; 4], count: u32) -> VendorTail
 }
 
 /// The header of an image whose sections have these sizes, with so many fragments.
+#[inline(never)]
 pub(crate) fn vendor_header_for(
     spec: &VendorSpec,
     page: PageSize,

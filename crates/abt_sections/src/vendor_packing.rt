@@ -23,6 +23,7 @@ use abt_headers::{RamdiskEntry, VendorHeader};
 use abt_io::{Meter, Output, Source, Window, write_out};
 
 /// Writes a vendor header's record, and zeros up to a page boundary.
+#[inline(never)]
 fn write_vendor_header<O: Output>(
     header: &VendorHeader,
     output: &mut O,
@@ -77,6 +78,7 @@ fn entry_for(fragment: &FragmentSpec, size: u32, offset: u32) -> RamdiskEntry
 }
 
 /// Writes the table: an entry for each fragment, which lie end to end.
+#[inline(never)]
 fn write_table<S: Source, O: Output>(
     fragments: &[FragmentSpec],
     ramdisks: &[S],
@@ -104,6 +106,7 @@ fn write_table<S: Source, O: Output>(
 }
 
 /// Writes the vendor ramdisk, which is the ramdisks end to end, and zeros up to a page boundary.
+#[inline(never)]
 fn write_vendor_ramdisk<S: Source, O: Output>(
     ramdisks: &mut [S],
     size: u32,
@@ -127,6 +130,7 @@ fn write_vendor_ramdisk<S: Source, O: Output>(
 }
 
 /// Writes the table and the bootconfig, each with zeros up to a page boundary.
+#[inline(never)]
 fn write_table_and_bootconfig<S: Source, O: Output>(
     fragments: &[FragmentSpec],
     ramdisks: &[S],
@@ -167,6 +171,7 @@ fn write_table_and_bootconfig<S: Source, O: Output>(
 }
 
 /// Writes the record, the vendor ramdisk and the dtb, each with zeros up to a page boundary.
+#[inline(never)]
 fn write_first_sections<S: Source, O: Output>(
     header: &VendorHeader,
     ramdisks: &mut [S],

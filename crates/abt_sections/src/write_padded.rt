@@ -27,6 +27,7 @@ pub(crate) fn of_copy(fault: CopyFault) -> SectionFault
 }
 
 /// How many bytes of the last page `n` bytes leave free.
+#[inline(never)]
 pub(crate) fn padding(n: u64, page: u32) -> u64
     requires { MayPad n page }
     ensures value { result ≡ layout.padding n page }
@@ -56,6 +57,7 @@ pub(crate) fn write_padding<O: Output>(
 }
 
 /// Writes a record, and zeros up to a page boundary.
+#[inline(never)]
 pub(crate) fn write_record<O: Output>(
     bytes: &[u8],
     page: u32,
@@ -105,6 +107,7 @@ pub(crate) fn write_bytes<S: Source, O: Output>(
 }
 
 /// Writes a part that must have this size, and zeros up to a page boundary.
+#[inline(never)]
 pub(crate) fn write_part<S: Source, O: Output>(
     part: &mut S,
     size: u32,

@@ -171,6 +171,7 @@ pub fn pack_image<P: Source, O: Output>(
 
 // Packs the parts of a vendor boot image, beside its ramdisk fragments. Version 3 has the ramdisk and the dtb,
 // version 4 has the dtb and the bootconfig.
+#[inline(never)]
 fn pack_vendor_parts<P: Source, O: Output>(
     fields: &BootSpec<'_>,
     parts: &mut [P],

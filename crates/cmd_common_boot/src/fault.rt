@@ -151,6 +151,7 @@ impl Told for BootCommandFault<'_> {
 }
 
 // Adds what is wrong, and the argument that it concerns, as a terminal can show it.
+#[inline(never)]
 fn put_about<O: Output>(wrong: &str, word: &str, text: &mut Text<'_, O>)
     ensures { (told : List ℕ) × Prints O.written O.write_faults text.old text.new told }
 {

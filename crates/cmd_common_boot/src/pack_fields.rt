@@ -108,6 +108,7 @@ fn of_word(word: &str) -> Result<OsVersion, BootCommandFault<'static>>
 }
 
 /// The fields of a vendor boot image.
+#[inline(never)]
 pub fn vendor_fields<'t>(fields: &BootSpec<'t>) -> VendorSpec<'t>
     ensures { vendor.vendor_fields result ≡ vendor_fields_asked fields.now }
 {

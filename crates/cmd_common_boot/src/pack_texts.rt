@@ -68,6 +68,7 @@ pub struct PackTexts<'a> {
 
 impl<'a> PackTexts<'a> {
     /// The option of this name, where it was given.
+    #[inline(never)]
     pub fn find(&self, name: &str) -> Option<&OptionText<'a>>
         ensures { MatchOption result (found self.now.options.items name.now ≡ None)
             (λ option. found self.now.options.items name.now ≡ Some option.now) }
@@ -81,6 +82,7 @@ impl<'a> PackTexts<'a> {
     }
 
     /// Whether this option was given.
+    #[inline(never)]
     pub fn has(&self, name: &str) -> bool
         ensures { result ≡ is_some (found self.now.options.items name.now) }
     {
@@ -91,6 +93,7 @@ impl<'a> PackTexts<'a> {
     }
 
     /// The number that this option was given.
+    #[inline(never)]
     pub fn number(&self, name: &str) -> Option<u64>
         ensures { result ≡ number_in self.now.options.items name.now }
     {

@@ -58,6 +58,7 @@ impl TextField {
 }
 
 /// An address, where the header has it.
+#[inline(never)]
 pub fn address_of(header: &ImageHeader, which: Address) -> Option<u64>
     ensures value { result ≡ spec.address_of (view_of header.now) which }
     ensures low { most_address which ≡ 0xffffffff → IfSome result (λ address. address < 2 ^ 32) }
@@ -103,6 +104,7 @@ fn vendor_address(front: &VendorFront, which: Address) -> Option<u64>
 }
 
 /// The OS version and patch level, which every boot image has.
+#[inline(never)]
 pub fn os_version_of(header: &ImageHeader) -> Option<OsVersion>
     ensures { MatchOption result (spec.os_number_of (view_of header.now) ≡ None)
         (λ os. spec.os_number_of (view_of header.now) ≡ Some os.number) }
@@ -118,6 +120,7 @@ pub fn os_version_of(header: &ImageHeader) -> Option<OsVersion>
 }
 
 /// The bytes of a text field, where the header has it.
+#[inline(never)]
 pub fn text_field_of(header: &ImageHeader, which: TextField) -> Option<&[u8]>
     ensures short { IfSome result (λ field. length field.now ≤ 2048) }
     ensures value { MatchOption result (spec.field_of (view_of header.now) which ≡ None)
@@ -184,6 +187,7 @@ pub fn id_of(header: &ImageHeader) -> Option<[u8; 32]>
 }
 
 /// The bytes of a field up to the first zero byte.
+#[inline(never)]
 pub fn front_text(field: &[u8]) -> &[u8]
     ensures { result.now ≡ spec.text_of field.now }
 {

@@ -44,6 +44,7 @@ fn parts_of(word: &str) -> Option<OsParts>
 }
 
 // The number that these digits encode. `parse` alone would accept a sign before them.
+#[inline(never)]
 pub(crate) fn number(digits: &str) -> Option<u32>
     ensures value { IfSome result (λ n. IsNumberWord digits.now n) }
     ensures accepts { (n : ℕ) → IsNumberWord digits.now n → n < 2 ^ 32 → result ≡ Some n }

@@ -268,6 +268,7 @@ fn short_front(header: &ImageHeader) -> Option<&ShortFront> {
 }
 
 // A text ends at its first zero byte, and zeros follow.
+#[inline(never)]
 fn is_text(field: &[u8]) -> bool {
     let end = front_text(field).len();
     end < field.len() && zeros_in_front(&field[end..]) == field.len() - end

@@ -9,6 +9,7 @@ use abt_headers::{Section, SectionPlace, pages};
 use abt_sections::{Image, section, sections};
 
 /// The position of the section of this kind, if there is one.
+#[inline(never)]
 pub fn place_of(image: &Image, kind: Section) -> Option<SectionPlace>
     ensures value { result ≡ first_place_of (view_of image.now.header) kind }
     ensures low { IfSome result (λ place. place.at + place.size < 2 ^ 63) }

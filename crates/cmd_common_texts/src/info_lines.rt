@@ -195,6 +195,7 @@ fn mark_behind_version(notation: Notation) -> &'static str
 }
 
 /// Adds the two digits of a number below 100.
+#[inline(never)]
 pub fn put_two_digits<O: Output>(number: u32, text: &mut Text<'_, O>)
     ensures { Prints O.written O.write_faults text.old text.new (info.two_digits number) }
 {
@@ -264,6 +265,7 @@ fn put_quoted<O: Output>(field: &[u8], text: &mut Text<'_, O>)
 }
 
 /// Adds the bytes of a text, each as it is or escaped.
+#[inline(never)]
 pub fn put_escaped<O: Output>(bytes: &[u8], text: &mut Text<'_, O>)
     ensures { Prints O.written O.write_faults text.old text.new (flat_map info.escaped bytes.now) }
 {
@@ -273,6 +275,7 @@ pub fn put_escaped<O: Output>(bytes: &[u8], text: &mut Text<'_, O>)
 }
 
 /// Adds a byte of a text, as it is or as `\x` and two digits.
+#[inline(never)]
 pub fn put_byte<O: Output>(byte: u8, text: &mut Text<'_, O>)
     ensures { Prints O.written O.write_faults text.old text.new (info.escaped byte) }
 {

@@ -158,6 +158,7 @@ fn address_words<O: Output>(header: &ImageHeader, text: &mut Text<'_, O>)
     address_word(header, Address::Dtb, text);
 }
 
+#[inline(never)]
 fn address_word<O: Output>(header: &ImageHeader, which: Address, text: &mut Text<'_, O>)
     ensures { Prints
         O.written O.write_faults text.old text.new (words.words_text (words.address_word (view_of header.now) which)) }

@@ -17,6 +17,7 @@ use sys_refusals::HostFault;
 use sys_report::Carried;
 
 /// Writes the next piece from its first byte on. Fails where its source is now shorter than what was read of it.
+#[inline(never)]
 pub(crate) fn write_next<B: BlockRuns + Drop, S: Lasting, O: Output>(
     cutter: &mut Cutter<B>,
     source: &mut Carried<'_, S>,

@@ -22,7 +22,7 @@ use cmd_common_boot::{BootCommandFault, NotJudged, PackCommand, PackTexts};
 use cmd_common_fields::ImageKind;
 use cmd_common_findings::{LeftOut, count_left_out, place_of};
 use std::alloc::Global;
-use sys_disk::{NoMemory, push};
+use sys_disk::push;
 
 /// The own data of an image that is packed again, beside its sections.
 #[derive(Drop)]
@@ -144,10 +144,7 @@ fn left_out<S: Source>(
     ensures refused { IsTrue S.models → IfErr result
         (IsUnread (S.read_faults source.old < S.read_faults source.new)) }
 {
-    let gaps = match gaps_kept(command.alloc, image, keeps, entries) {
-        Ok(gaps) => gaps,
-        Err(refused) => return Err(NotJudged::Memory(refused)),
-    };
+    let gaps = gaps_kept(image, keeps, entries);
     let anew = anew_of(&command.texts, command.keeps_trailing);
     match count_left_out(image, anew, gaps, source, w, m) {
         Ok(left) => Ok(left),
@@ -156,17 +153,12 @@ fn left_out<S: Source>(
 }
 
 // How many bytes of the vendor ramdisk lie in no fragment, where its fragments are kept.
-fn gaps_kept(
-    alloc: Global,
-    image: &Image,
-    keeps: bool,
-    entries: &[RamdiskEntry],
-) -> Result<u64, NoMemory> {
+fn gaps_kept(image: &Image, keeps: bool, entries: &[RamdiskEntry]) -> u64 {
     if !keeps {
-        return Ok(0);
+        return 0;
     }
     match place_of(image, Section::VendorRamdisk) {
-        Some(place) => in_no_fragment(alloc, entries, place.size),
-        None => Ok(0),
+        Some(place) => in_no_fragment(entries, place.size),
+        None => 0,
     }
 }

@@ -84,6 +84,7 @@ static FRAGMENTS: [&str; 100] = [
 ];
 
 /// The file of a ramdisk fragment, which the first hundred have.
+#[inline(never)]
 pub fn fragment_file(index: u32) -> Option<&'static str>
     ensures { IfSome result (λ name. name.now ≡ name_of_fragment index) }
 {

@@ -63,6 +63,7 @@ pub(crate) fn put_first_word<O: Output>(name: &str, ending: Ending, text: &mut T
 }
 
 // Adds an argument that is not quoted.
+#[inline(never)]
 fn put_name<O: Output>(name: &str, ending: Ending, text: &mut Text<'_, O>)
     ensures { Prints O.written O.write_faults text.old text.new (spec.plain_word ending name.now) }
 {
@@ -72,6 +73,7 @@ fn put_name<O: Output>(name: &str, ending: Ending, text: &mut Text<'_, O>)
 }
 
 /// Adds a number as an argument, in decimal.
+#[inline(never)]
 pub(crate) fn put_number_value<O: Output>(number: u64, ending: Ending, text: &mut Text<'_, O>)
     ensures { Prints O.written O.write_faults text.old text.new (spec.number_value ending number) }
 {

@@ -10,6 +10,7 @@ use sys_refusals::{FileArg, HostFault, Refusal, Sides, Told};
 
 /// Returns the result of a call that wrote an output, and whether the output is where standard output goes. If the call
 /// failed, what the output took is sent, and the fault of the call is returned.
+#[inline(never)]
 pub fn ended<'a, D: Disk, T: Drop, F: Told + From<HostFault> + Drop>(
     disk: &mut D,
     answer: Result<T, F>,

@@ -12,6 +12,7 @@ pub struct NoMemory {
 }
 
 /// Adds an item at the end of a list.
+#[inline(never)]
 pub fn push<T: Drop>(list: &mut Vec<T>, item: T) -> Result<(), NoMemory>
     ensures items { list.new.items ≡ (if is_ok result then list.old.items ++ (item ∷ []) else list.old.items) }
     ensures full { OnErr result (vec_capacity list.old ≤ vec_len list.old) }

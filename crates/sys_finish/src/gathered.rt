@@ -124,6 +124,7 @@ impl<F: SystemFile + Drop> Output for Gathered<F> {
 
     ghost full_faults = { λ _. 0 };
 
+    #[inline(never)]
     fn write(&mut self, bytes: &[u8]) -> Result<usize, DeviceFault> {
         self.calls.add(1);
         match self.writer.write(bytes) {

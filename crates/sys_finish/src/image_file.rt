@@ -58,6 +58,7 @@ impl<F: SystemFile + Drop> Output for ImageFile<F> {
 
     ghost full_faults = { λ _. 0 };
 
+    #[inline(never)]
     fn write(&mut self, bytes: &[u8]) -> Result<usize, DeviceFault> {
         let used = self.used;
         if bytes.len() as u64 > u64::MAX - used {

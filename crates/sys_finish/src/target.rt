@@ -113,6 +113,7 @@ impl<F: SystemFile + Drop> Target<F> {
 }
 
 // The end of a file that holds what was given.
+#[inline(never)]
 fn end_file<F: SystemFile + Drop>(file: F, given: Log, is_synced: bool) -> io::Result<Ended<F>>
     requires { IsTrue F.models → F.stands file ≡ given.state.bytes }
     ensures { IfOk result (EndsWith F.models F.stands F.past is_synced given.state.bytes) }

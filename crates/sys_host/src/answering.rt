@@ -33,6 +33,7 @@ pub struct Telling {
 
 /// The exit status of an outcome. The user is told of a fault in one line, and if it was asked for in a second one,
 /// which names the file and gives the reason. Nothing is printed if it would be written into a file that is read.
+#[inline(never)]
 pub fn answer<F: Told + Drop>(
     outcome: Result<(), Refusal<'_, F>>,
     how: Telling,

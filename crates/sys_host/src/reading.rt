@@ -54,6 +54,7 @@ pub struct Reading<S: System + Drop> {
 
 impl<S: System + Drop> Reading<S> {
     /// Nothing is open.
+    #[inline(never)]
     pub fn new(system: S) -> Reading<S>
         ensures none { result.taken.files.items ≡ [] }
         ensures out { IsTrue S.File.models → IsIdentityOf S.number S.known S.stdout result.streams.out }
@@ -94,6 +95,7 @@ impl<S: System + Drop> Reading<S> {
     }
 
     /// Fails if a file that was opened to be read has changed since, as far as the system reports it.
+    #[inline(never)]
     pub fn unchanged<'a>(&self) -> Result<(), HostRefusal<'a>>
         ensures { IfErr result (λ refusal. refusal.fault ≡ HostFault.Changed) }
     {

@@ -85,6 +85,7 @@ impl<F: SystemFile + Drop> Source for HostSource<F> {
 
     ghost are_bytes = { λ _ t. absurd (false≢true t) };
 
+    #[inline(never)]
     fn length(&self) -> u64 {
         match self {
             HostSource::Plain(source) => source.length(),

@@ -141,6 +141,7 @@ pub fn found_of<S: System>(system: &S, descriptor: i32) -> io::Result<Found>
 }
 
 /// What is at this path, after following links.
+#[inline(never)]
 pub fn found_at<S: System>(system: &S, path: &str) -> io::Result<Found>
     ensures { IsTrue S.File.models → FindsAt S.number S.known (S.at system.now path.now) result }
 {

@@ -50,6 +50,7 @@ impl<'a> FileArg<'a> {
     }
 
     /// Whether it is `-`, which means standard input or standard output.
+    #[inline(never)]
     pub fn is_standard(&self) -> bool
         ensures { result ≡ is_standard self.now }
     {
@@ -94,6 +95,7 @@ impl<'a> FileArg<'a> {
 
 /// The path, as a terminal can show it.
 impl fmt::Display for FileArg<'_> {
+    #[inline(never)]
     fn fmt<W: fmt::Write>(&self, f: &mut fmt::Formatter<W>) -> fmt::Result {
         if let Some(folder) = self.folder {
             let folder = ShownPath(folder);

@@ -243,6 +243,7 @@ impl<'a> Sides<'a> {
     }
 
     /// The error for this fault. The fault says which of these files it is about.
+    #[inline(never)]
     pub fn refuse<F: Told>(self, fault: F) -> Refusal<'a, F>
         ensures { result.fault ≡ fault }
     {

@@ -68,10 +68,12 @@ impl<D: Source> Source for Carried<'_, D> {
 
     ghost are_bytes = { λ c t. D.are_bytes c.device t };
 
+    #[inline(never)]
     fn length(&self) -> u64 {
         self.device.length()
     }
 
+    #[inline(never)]
     fn read_at(&mut self, at: u64, out: &mut [u8]) -> Result<usize, DeviceFault> {
         match self.device.read_at(at, out) {
             Ok(n) => {

@@ -69,6 +69,7 @@ impl Progress {
     }
 
     /// This many bytes more are to be moved, this many times.
+    #[inline(never)]
     pub fn expect(&mut self, bytes: u64, times: u64)
         ensures { Expects (Some (min (unwrap_or self.old.total 0 + min (bytes * times) (2 ^ 64 - 1)) (2 ^ 64 - 1)))
             self.old self.new }
@@ -134,6 +135,7 @@ impl Progress {
     }
 
     /// Erases the line, if it is shown.
+    #[inline(never)]
     pub fn erase(&mut self)
         ensures { Expects self.old.total self.old self.new }
     {

@@ -42,6 +42,7 @@ impl Report {
     }
 
     /// Prints a line to standard output, or to standard error if data goes where standard output goes.
+    #[inline(never)]
     pub fn line_beside<'a, D: fmt::Display + Drop>(
         &mut self,
         is_data_on_output: bool,
@@ -59,6 +60,7 @@ impl Report {
     }
 
     /// Prints a line.
+    #[inline(never)]
     pub fn line<'a, D: fmt::Display + Drop>(&mut self, line: D) -> Result<(), HostRefusal<'a>>
         ensures shown { OnOk result (IfSome (with_newline (D.output line)) (ShowsHere self.old self.new)) }
         ensures refused { OnErr result (CannotPrint self.old self.new) }
@@ -74,6 +76,7 @@ impl Report {
         }
     }
 
+    #[inline(never)]
     fn print<D: fmt::Display + Drop>(&mut self, line: D) -> Result<(), DeviceFault>
         ensures shown { OnOk result (IfSome (with_newline (D.output line)) (ShowsHere self.old self.new)) }
         ensures refused { OnErr result (CannotPrint self.old self.new) }
@@ -92,6 +95,7 @@ impl Report {
     }
 
     /// Prints a line to standard error. No contract depends on it.
+    #[inline(never)]
     pub fn note<D: fmt::Display + Drop>(&mut self, line: D)
         ensures { IsNoted self.old self.new }
     {
@@ -111,6 +115,7 @@ impl Report {
 }
 
 // A line with its end.
+#[inline(never)]
 fn text_of<D: fmt::Display + Drop>(line: D) -> Option<ArrayString<LINE>>
     ensures { IfSome result (λ text. IfSome (with_newline (D.output line)) (λ told. text.bytes ≡ told)) }
 {

@@ -47,6 +47,7 @@ impl SystemFile for OsFile {
 
     ghost are_bytes = { λ _ t. absurd (false≢true t) };
 
+    #[inline(never)]
     fn length(&self) -> io::Result<u64> {
         self.file()?.length()
     }
@@ -81,6 +82,7 @@ impl SystemFile for OsFile {
         self.file_mut()?.go_to(at)
     }
 
+    #[inline(never)]
     fn set_len(&mut self, n: u64) -> io::Result<()> {
         SystemFile::set_len(self.file_mut()?, n)
     }

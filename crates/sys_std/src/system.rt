@@ -54,6 +54,7 @@ impl System for OsSystem {
         Ok(stat_of(&file.file()?.metadata()?))
     }
 
+    #[inline(never)]
     fn open(&mut self, path: &str, how: Opening) -> io::Result<OsFile> {
         let mut options = OpenOptions::new();
         match how {

@@ -48,6 +48,7 @@ impl TextBuffer {
     }
 
     /// Takes as many of these bytes as have room, and returns how many.
+    #[inline(never)]
     pub fn put(&mut self, bytes: &[u8]) -> usize
         ensures count { result ≡ min (length bytes.now) (8192 - self.old.used) }
         ensures text { text_in self.new.bytes self.new.used ≡ text_in self.old.bytes self.old.used ++ take

@@ -52,6 +52,7 @@ impl<'a, O: Output> Text<'a, O> {
     }
 
     /// Adds these bytes.
+    #[inline(never)]
     pub fn put(&mut self, bytes: &[u8])
         ensures { Prints O.written O.write_faults self.old self.new bytes.now }
     {
@@ -69,6 +70,7 @@ impl<'a, O: Output> Text<'a, O> {
     }
 
     /// Adds a number, in decimal.
+    #[inline(never)]
     pub fn number(&mut self, n: u64)
         ensures { Prints O.written O.write_faults self.old self.new (decimal n) }
     {
@@ -77,6 +79,7 @@ impl<'a, O: Output> Text<'a, O> {
     }
 
     /// Ends a line, and sends the buffer if it holds enough.
+    #[inline(never)]
     pub fn end_line(&mut self)
         ensures { Prints O.written O.write_faults self.old self.new (10 ∷ []) }
     {
@@ -99,6 +102,7 @@ impl<'a, O: Output> Text<'a, O> {
     }
 
     /// Sends the buffer, and empties it, even if it can't be written.
+    #[inline(never)]
     pub fn finish(&mut self) -> Result<(), DeviceFault>
         ensures prints { Prints O.written O.write_faults self.old self.new [] }
         ensures emptied { text_in self.new.held.bytes self.new.held.used ≡ [] }
@@ -110,6 +114,7 @@ impl<'a, O: Output> Text<'a, O> {
     }
 
     // Takes some of these bytes. If they have no room, it first sends the buffer.
+    #[inline(never)]
     fn put_some(&mut self, bytes: &[u8]) -> usize
         ensures within { result ≤ length bytes.now }
         ensures progress { 0 < length bytes.now → 0 < result }
@@ -123,6 +128,7 @@ impl<'a, O: Output> Text<'a, O> {
     }
 
     // Sends the buffer, and empties it. After a failed write there is no other write.
+    #[inline(never)]
     fn send(&mut self)
         ensures prints { Prints O.written O.write_faults self.old self.new [] }
         ensures used { self.new.held.used ≡ 0 }
@@ -143,6 +149,7 @@ impl<'a, O: Output> Text<'a, O> {
     }
 
     /// Adds a value as a line.
+    #[inline(never)]
     pub fn line<D: fmt::Display + Drop>(&mut self, line: D) -> Result<(), DeviceFault>
         ensures { OnOk
             result (IfSome (with_newline (D.output line)) (Prints O.written O.write_faults self.old self.new)) }
@@ -154,6 +161,7 @@ impl<'a, O: Output> Text<'a, O> {
     }
 
     /// Adds a value whose text has at most 8,192 bytes. The text is collected first, so that no write depends on it.
+    #[inline(never)]
     pub fn short<D: fmt::Display + Drop>(&mut self, shown: D)
         ensures { (told : List ℕ) × Prints O.written O.write_faults self.old self.new told }
     {
@@ -163,6 +171,7 @@ impl<'a, O: Output> Text<'a, O> {
     }
 
     // Sends the buffer if it holds enough.
+    #[inline(never)]
     fn end_shown_line(&mut self) -> Result<(), DeviceFault>
         ensures { Prints O.written O.write_faults self.old self.new [] }
     {
@@ -197,6 +206,7 @@ impl<O: Output> fmt::Write for Text<'_, O> {
 }
 
 /// Prints a line at once.
+#[inline(never)]
 pub fn print_line<O: Output, D: fmt::Display + Drop>(
     output: &mut O,
     line: D,

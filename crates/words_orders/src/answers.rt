@@ -120,6 +120,7 @@ impl<'a> Answers<'a> {
     }
 
     /// The first answer of this name.
+    #[inline(never)]
     pub fn find(&self, name: &str) -> Option<Answer<'a>>
         ensures { result ≡ answer_named name.now self.now.all.items }
     {
@@ -132,6 +133,7 @@ impl<'a> Answers<'a> {
     }
 
     /// The first word of this name.
+    #[inline(never)]
     pub fn word(&self, name: &str) -> Option<&'a str>
         ensures { option_map (λ word. word.now) result ≡ option_map (λ a. a.word.now) (answer_named name.now
             self.now.all.items) }
@@ -140,6 +142,7 @@ impl<'a> Answers<'a> {
     }
 
     /// The same for a word that a parse always finds.
+    #[inline(never)]
     pub fn given_word(&self, name: &str) -> &'a str
         ensures { result.now ≡ word_named name.now self.now.all.items }
     {
@@ -147,6 +150,7 @@ impl<'a> Answers<'a> {
     }
 
     /// The number of this name.
+    #[inline(never)]
     pub fn number(&self, name: &str) -> Option<u32>
         ensures { result ≡ number_named name.now self.now.all.items }
     {
@@ -157,6 +161,7 @@ impl<'a> Answers<'a> {
     }
 
     /// The same for a number that a parse always finds.
+    #[inline(never)]
     pub fn given_number(&self, name: &str) -> u32
         ensures { result ≡ unwrap_or (number_named name.now self.now.all.items) 0 }
     {
@@ -233,6 +238,7 @@ impl<'a> Answers<'a> {
         }
     }
 
+    #[inline(never)]
     fn is_answered(&self, name: &str) -> bool
         ensures { result ≡ is_some (answer_named name.now self.now.all.items) }
     {
@@ -240,6 +246,7 @@ impl<'a> Answers<'a> {
     }
 
     /// Whether this flag was given.
+    #[inline(never)]
     pub fn flag(&self, name: &str) -> bool
         ensures { result ≡ flag_named name.now self.now.all.items }
     {

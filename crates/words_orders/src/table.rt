@@ -163,6 +163,7 @@ pub(crate) fn front_rows(alloc: Global) -> Result<Vec<&'static Row>, AllocError>
 }
 
 /// A reference to each of these rows.
+#[inline(never)]
 pub(crate) fn listed(alloc: Global, more: &'static [Row]) -> Result<Vec<&'static Row>, AllocError>
     ensures { IfOk result (λ rows. map (λ row. shape_of row.now) rows.items ≡ map shape_of more.entry.now) }
 {

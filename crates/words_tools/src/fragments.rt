@@ -157,6 +157,7 @@ fn kind_of<'a>(word: &'a str) -> WordKind<'a>
 }
 
 /// The parts before and after a text.
+#[inline(never)]
 pub(crate) fn cut<'a>(text: &'a str, by: &str) -> Option<(&'a str, &'a str)>
     ensures { IfSome result (λ parts. text.now ≡ parts.0.now ++ (by.now ++ parts.1.now)) }
 {

@@ -94,6 +94,7 @@ pub(crate) fn type_number(word: &str) -> Option<u64>
 }
 
 /// Whether an answer is the file that ends a group.
+#[inline(never)]
 pub(crate) fn is_file_word(said: &Answer<'_>) -> bool
     ensures { result ≡ is_file_word said.now }
 {

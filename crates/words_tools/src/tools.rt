@@ -89,6 +89,7 @@ fn is_last_part(name: &str, path: &str) -> bool
 }
 
 // What is before the end of a path.
+#[inline(never)]
 fn front_of<'a>(path: &'a str, end: &str) -> Option<&'a str>
     ensures some { IfSome result (λ front. path.entry.now ≡ front.now ++ end.now) }
     ensures none { result ≡ None → (front : List ℕ) → path.entry.now ≢ front ++ end.now }

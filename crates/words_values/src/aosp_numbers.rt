@@ -89,6 +89,7 @@ fn behind_underscore(bytes: &[u8]) -> &[u8]
 }
 
 // The number that these digits encode.
+#[inline(never)]
 fn number_of(bytes: &[u8], radix: u64) -> Option<u64>
     ensures { result ≡ python_digits radix bytes.now }
 {

@@ -57,6 +57,7 @@ fn scaled(word: &str) -> Option<(&str, u64)>
 }
 
 // The number that these digits encode. `from_str_radix` alone would take a sign before them.
+#[inline(never)]
 fn digits_word(digits: &str, radix: u32) -> Option<u64>
     requires least { 2 ≤ radix }
     requires most { radix ≤ 16 }
@@ -71,6 +72,7 @@ fn digits_word(digits: &str, radix: u32) -> Option<u64>
 
 /// The number that a word encodes for a value of this kind; 0 for a value that is no number. `None` if the word encodes
 /// none, or one that does not fit in the value's width. The parser checks that a count is large enough.
+#[inline(never)]
 pub fn number_in(value: Value, word: &str) -> Option<u64>
     ensures value { IfSome result (λ n. IsRead value word.now n) }
     ensures accepts { (n : ℕ) → IsRead value word.now n → result ≡ Some n }
