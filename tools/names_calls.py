@@ -245,7 +245,7 @@ def call_of_mkbootimg(maker, has_fourth=True):
     if chance_of(maker, 3) and "kernel" in words:
         words[words.index("kernel")], stdin = "-", "kernel"
         peculiar.add("standard input")
-    values = [it.rpartition("=")[2] for it in words]
+    values = [it[2:] if re.match("-o[^=]", it) else it.rpartition("=")[2] for it in words]
     if names & set(values) & set(FILES) and len([it for it in values if it in names]) > 1:
         peculiar.add("an output that is an input")
     if "-h" in words:
