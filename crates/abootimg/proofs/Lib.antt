@@ -4,3 +4,4 @@ pub mod Orders
 pub mod Plain
 pub mod Refusals
 pub mod Statuses
+pub mod Unpacks

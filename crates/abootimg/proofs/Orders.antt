@@ -1,12 +1,18 @@
 -- How an order begins, and how orders end in turn.
-use Rattle.std.proofs.Common.{◌≡◌, Bool, ℕ, List, Option, subst}
+use Rattle.std.proofs.Common.{◌≡◌, ◌∙◌, Bool, ℕ, List, Option, ap, subst}
 use Rattle.sys_disk.specs.World.{OpenFiles, World}
 use Rattle.sys_report.specs.declared.report.Report.{Report}
 use Rattle.words_orders.specs.declared.order.Order.{Order}
 use Rattle.words_orders.specs.declared.order.Task.{Task}
 use Rattle.cmd_sparse_dispatch.specs.Commands.{State, state}
 use Rattle.abootimg.specs.InTurn.{TurnsEnd}
+use Rattle.abootimg.specs.OrderDone.{mounted_if, synced_if}
 use Rattle.abootimg.specs.OrderEnds.{TaskEnds}
+
+-- both settings of an order
+pub settings_then : (is_synced is_allowed : Bool) (h h' h'' : OpenFiles) → h' ≡ synced_if is_synced h
+    → h'' ≡ mounted_if is_allowed h' → h'' ≡ mounted_if is_allowed (synced_if is_synced h)
+settings_then is_synced is_allowed h h' h'' one two = two ∙ ap (mounted_if is_allowed) one
 
 -- a task ends from the state in which its order has begun
 pub ends_from : (on : List ℕ → Bool) (task : Task) (w w' z : World) (h h' k : OpenFiles) (r r' : Report) (status : ℕ)

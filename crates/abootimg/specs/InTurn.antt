@@ -14,6 +14,7 @@ next_held held = record held {
   part = None;
   spool = None;
   is_synced = false;
+  allows_mounted = false;
 }
 
 -- an order, if there is one, does not ask for the second line of messages

@@ -3,5 +3,7 @@ pub mod InTurn
 pub mod LooksAhead
 pub mod OrderDone
 pub mod OrderEnds
+pub mod Stored
 pub mod ToolEnds
+pub mod UnpackEnds
 pub mod WordsEnd

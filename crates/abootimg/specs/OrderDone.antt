@@ -19,6 +19,10 @@ pub record IsReadyForOrder (held : OpenFiles) : Type 0 where
 abbrev pub synced_if : Bool → OpenFiles → OpenFiles
 synced_if is_synced held = if is_synced then record held { is_synced = true } else held
 
+-- devices that are in use may be written, or may not
+abbrev pub mounted_if : Bool → OpenFiles → OpenFiles
+mounted_if is_allowed held = record held { allows_mounted = is_allowed }
+
 -- what a task asks for is done, as its command says it
 abbrev pub TaskDone : (List ℕ → Bool) → Task → World → OpenFiles → Report → World → OpenFiles → Report → Type 0
 TaskDone on_output (tasks.Sparse task) world held report world' held' report' =

@@ -12,7 +12,7 @@ use Rattle.cmd_common_boot.specs.declared.fault.BootCommandFault.TheVariants as 
 use Rattle.cmd_boot_dispatch.specs.Commands.{IsKindOf, RefusesKind, SparesKind}
 use Rattle.cmd_boot_dispatch.specs.declared.command.BootCommandKind.{BootCommandKind}
 use Rattle.cmd_sparse_dispatch.specs.Commands.{RefusesTask, SparesFiles, state}
-use Rattle.abootimg.specs.OrderDone.{TaskDone, synced_if}
+use Rattle.abootimg.specs.OrderDone.{TaskDone, mounted_if, synced_if}
 
 -- ---- why a task is not done
 
@@ -85,7 +85,8 @@ pub record TaskEnds (on_output : List ℕ → Bool) (task : Task) (world : World
   pub spares : TaskSpares task world held report world' held' report'
   pub wrong : status ≡ 2 → world' ≡ world
 
--- as its task does, with outputs synced if it says so
+-- as its task does, with outputs synced if it says so, and with devices in use written only if it says so
 abbrev pub OrderEnds : (List ℕ → Bool) → Order → World → OpenFiles → Report → World → OpenFiles → Report → ℕ → Type 0
 OrderEnds on_output order world held report world' held' report' status =
-    TaskEnds on_output order.task world (synced_if order.is_synced held) report world' held' report' status
+    TaskEnds on_output order.task world (mounted_if order.is_mounted_allowed (synced_if order.is_synced held)) report
+    world' held' report' status

@@ -1,7 +1,7 @@
 -- How a run ends that is called by the name of one of AOSP's tools.
 use Rattle.std.specs.Prelude.{◌≡◌, ◌≢◌, ◌⊎◌, ◌==◌, ℕ, List, Bool, Option, Some, None, Result, Ok, Err, IfOk}
 use Rattle.std.specs.Prelude.{if◌then◌else◌}
-use Rattle.sys_disk.specs.World.{World, OpenFiles, HasFailed}
+use Rattle.sys_disk.specs.World.{OpenFiles, HasFailed}
 use Rattle.sys_report.specs.declared.report.Report.{Report}
 use Rattle.words_orders.specs.declared.answers.Answer.{Answer}
 use Rattle.words_orders.specs.declared.fault.WordsFault.{WordsFault}
@@ -14,6 +14,8 @@ use Rattle.cmd_sparse_dispatch.specs.Commands.{State, state}
 use Rattle.abootimg.specs.OrderDone.{IsReadyForOrder}
 use Rattle.abootimg.specs.LooksAhead.{LooksAhead, files_given}
 use Rattle.abootimg.specs.InTurn.{TurnsEnd, IsPlainOrder}
+use Rattle.abootimg.specs.Stored.{Stored, stored}
+use Rattle.abootimg.specs.UnpackEnds.{UnpackEnds}
 
 -- ---- the orders, on a disk
 
@@ -46,21 +48,21 @@ OrdersEnd on_output is_file orders a z status =
 
 -- ---- from the words
 
--- An image that is unpacked changes nothing on this disk, since its own are opened for that. Orders are carried out on
--- one on which nothing was open.
-abbrev pub GivenEnd : (List ℕ → Bool) → (List ℕ → Bool) → Option UnpackImage → Orders → World → Report → World → ℕ
-    → Type 0
-GivenEnd on_output is_file (Some image) orders world report world' status = world' ≡ world
-GivenEnd on_output is_file None orders world report world' status = (held : OpenFiles) × IsReadyForOrder held
-    × ((z : State) × (world' ≡ z.world) × OrdersEnd on_output is_file orders (state world held report) z status)
+-- An image is unpacked, or orders are carried out on a disk on which nothing was open.
+abbrev pub GivenEnd : (List ℕ → Bool) → (List ℕ → Bool) → Option UnpackImage → Orders → Stored → Report → Stored
+    → Report → ℕ → Type 0
+GivenEnd on_output is_file (Some image) orders a report z report' status = UnpackEnds image a report z report' status
+GivenEnd on_output is_file None orders a report z report' status =
+    (held : OpenFiles) × IsReadyForOrder held × (held.failed ≡ a.failed)
+    × ((y : State) × (z ≡ stored y.world y.held) × (report' ≡ y.report)
+    × OrdersEnd on_output is_file orders (state a.world held report) y status)
 
 -- Words that give no orders change no file, and a mistake does not end with status 0.
-abbrev pub OrdersFoundEnd : (List ℕ → Bool) → (List ℕ → Bool) → Result Orders WordsFault → World → Report → World → ℕ
-    → Type 0
-OrdersFoundEnd on_output is_file (Ok orders) world report world' status =
-    GivenEnd on_output is_file orders.unpack orders world report world' status
-OrdersFoundEnd on_output is_file (Err fault) world report world' status =
-    (world' ≡ world) × (IsMistake fault → status ≢ 0)
+abbrev pub OrdersFoundEnd : (List ℕ → Bool) → (List ℕ → Bool) → Result Orders WordsFault → Stored → Report → Stored
+    → Report → ℕ → Type 0
+OrdersFoundEnd on_output is_file (Ok orders) a report z report' status =
+    GivenEnd on_output is_file orders.unpack orders a report z report' status
+OrdersFoundEnd on_output is_file (Err fault) a report z report' status = (z ≡ a) × (IsMistake fault → status ≢ 0)
 
 -- the status under a tool's name: that of wrong words is the tool's own
 abbrev pub status_as : Tool → ℕ → ℕ
@@ -68,21 +70,21 @@ status_as tool status = if status == 2 then wrong_words_status tool else status
 
 -- what was found in words without those of ramdisk fragments: orders that they give with what those say
 pub record PartedEnds (on_output is_file : List ℕ → Bool) (tool : Tool) (others : List (List ℕ)) (said : List Answer)
-    (world : World) (report : Report) (world' : World) (status : ℕ) : Type 0 where
+    (a : Stored) (report : Report) (z : Stored) (report' : Report) (status : ℕ) : Type 0 where
   pub found : Result Orders WordsFault
   pub asked : IfOk found (AreOrdersOf tool others said)
-  pub ends : OrdersFoundEnd on_output is_file found world report world' status
+  pub ends : OrdersFoundEnd on_output is_file found a report z report' status
 
 -- what was found in all words of a call
-pub record CalledEnds (on_output is_file : List ℕ → Bool) (tool : Tool) (words : List (List ℕ)) (world : World)
-    (report : Report) (world' : World) (status : ℕ) : Type 0 where
+pub record CalledEnds (on_output is_file : List ℕ → Bool) (tool : Tool) (words : List (List ℕ)) (a : Stored)
+    (report : Report) (z : Stored) (report' : Report) (status : ℕ) : Type 0 where
   pub found : Result Orders WordsFault
   pub asked : IfOk found (AreToolOrders tool words)
-  pub ends : OrdersFoundEnd on_output is_file found world report world' status
+  pub ends : OrdersFoundEnd on_output is_file found a report z report' status
 
 -- the same, with the tool's status of wrong words
-pub record ToolEnds (on_output is_file : List ℕ → Bool) (tool : Tool) (words : List (List ℕ)) (world : World)
-    (report : Report) (world' : World) (status : ℕ) : Type 0 where
+pub record ToolEnds (on_output is_file : List ℕ → Bool) (tool : Tool) (words : List (List ℕ)) (a : Stored)
+    (report : Report) (z : Stored) (report' : Report) (status : ℕ) : Type 0 where
   pub own_status : ℕ
-  pub ends : CalledEnds on_output is_file tool words world report world' own_status
+  pub ends : CalledEnds on_output is_file tool words a report z report' own_status
   pub status_is : status ≡ status_as tool own_status

@@ -1,7 +1,7 @@
 //! The settings that an order has for all outputs, before its command begins.
 
 ghost use Rattle.std.specs.Prelude.{◌≡◌, ℕ, List, Bool, IsTrue, false, true};
-ghost use Rattle.abootimg.specs.OrderDone.{synced_if};
+ghost use Rattle.abootimg.specs.OrderDone.{mounted_if, synced_if};
 ghost use Rattle.abootimg.specs.InTurn.{next_held};
 
 use crate::tool::is_regular_file;
@@ -11,9 +11,6 @@ use sys_std::OsSystem;
 
 /// A disk with two settings: whether outputs are synced at their end, and which devices may be written.
 pub trait Beginning: Disk {
-    /// Whether block devices that are in use may be written.
-    ghost allows_mounted: { Self → Bool };
-
     /// Which paths lead to regular files.
     ghost is_file: { List ℕ → Bool };
 
@@ -28,20 +25,17 @@ pub trait Beginning: Disk {
 
     /// Block devices that are in use may be written, mounted or as swap, or may not.
     fn allow_mounted(&mut self, is_allowed: bool)
-        ensures held { IsTrue Self.models → Self.held self.new ≡ Self.held self.old }
-        ensures world { IsTrue Self.models → Self.world self.new ≡ Self.world self.old }
-        ensures allowed { IsTrue Self.models → allows_mounted self.new ≡ is_allowed };
+        ensures held { IsTrue Self.models → Self.held self.new ≡ mounted_if is_allowed (Self.held self.old) }
+        ensures world { IsTrue Self.models → Self.world self.new ≡ Self.world self.old };
 
-    /// The next order of the same words begins: it writes no file that was read or written, and its outputs are not
-    /// synced.
+    /// The next order of the same words begins: it writes no file that was read or written, its outputs are not synced,
+    /// and it writes no device that is in use.
     fn begin_next(&mut self)
         ensures held { IsTrue Self.models → Self.held self.new ≡ next_held (Self.held self.old) }
         ensures world { IsTrue Self.models → Self.world self.new ≡ Self.world self.old };
 }
 
 impl Beginning for Host<OsSystem> {
-    ghost allows_mounted = { λ _. false };
-
     ghost is_file = { λ _. false };
 
     fn leads_to_file(&self, rt: HostRuntime, path: &str) -> bool {
@@ -64,13 +58,23 @@ impl Beginning for Host<OsSystem> {
 }
 
 /// Sets them.
+#[tactic(auto, using(crate::proofs::Orders::settings_then))]
 pub(crate) fn begin<D: Beginning>(disk: &mut D, is_synced: bool, is_mounted_allowed: bool)
+    ensures held { IsTrue D.models → D.held disk.new ≡ mounted_if is_mounted_allowed (synced_if is_synced
+        (D.held disk.old)) }
+    ensures world { IsTrue D.models → D.world disk.new ≡ D.world disk.old }
+    ensures mounted { IsTrue D.models → (D.held disk.new).allows_mounted ≡ is_mounted_allowed }
+{
+    sync_if(disk, is_synced);
+    disk.allow_mounted(is_mounted_allowed);
+}
+
+// Outputs are synced at their end, if that is asked for.
+fn sync_if<D: Beginning>(disk: &mut D, is_synced: bool)
     ensures held { IsTrue D.models → D.held disk.new ≡ synced_if is_synced (D.held disk.old) }
     ensures world { IsTrue D.models → D.world disk.new ≡ D.world disk.old }
-    ensures mounted { IsTrue D.models → D.allows_mounted disk.new ≡ is_mounted_allowed }
 {
     if is_synced {
         disk.sync_outputs();
     }
-    disk.allow_mounted(is_mounted_allowed);
 }

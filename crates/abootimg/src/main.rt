@@ -10,6 +10,7 @@
 //! | `storage.rt` | where the files of a run are |
 //! | `image_id.rt` | printing the id of a boot image |
 //! | `unpack_image.rt` | unpacking an image as unpack_bootimg does |
+//! | `unpack_links.rt`, `unpack_steps.rt` | its links, and what its steps share |
 //! | `sparse_task.rt`, `boot_task.rt` | doing a task, over any disk |
 //! | `outcome.rt` | the exit status and message of a command's result |
 #![tactic(auto)]
@@ -24,6 +25,8 @@ mod storage;
 mod tool;
 mod turns;
 mod unpack_image;
+mod unpack_links;
+mod unpack_steps;
 
 use abt_io::{Meter, Window};
 use running::{demonstrate, run};

@@ -207,7 +207,7 @@ fn do_task<D: Beginning>(
 ) -> u8
     requires ready { IsTrue D.models → IsReadyForOrder (D.held disk.old) }
     // block devices that are in use may be written exactly if the order says so
-    requires mounted { IsTrue D.models → D.allows_mounted disk.old ≡ order.is_mounted_allowed }
+    requires mounted { IsTrue D.models → (D.held disk.old).allows_mounted ≡ order.is_mounted_allowed }
     ensures status { result ≤ 2 }
     ensures ends { IsTrue D.models → TaskEnds D.on_output order.entry.task (D.world disk.old) (D.held disk.old)
         report.old (D.world disk.new) (D.held disk.new) report.new result }

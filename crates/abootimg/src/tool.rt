@@ -72,7 +72,7 @@ fn do_tool<S: Storage>(
 ) -> u8
     // the orders are carried out that the words give, if they are found
     ensures { IsTrue S.Disk.models → ToolEnds S.Disk.on_output S.Disk.is_file tool (map string_bytes words.now)
-        (S.world storage.old) report.old (S.world storage.new) result }
+        (S.its storage.old) report.old (S.its storage.new) report.new result }
 {
     let status = do_called(rt, tool, words, how, storage, report, w, m);
     status_for(tool, status)
@@ -91,7 +91,7 @@ fn do_called<S: Storage>(
     m: &mut Meter,
 ) -> u8
     ensures { IsTrue S.Disk.models → CalledEnds S.Disk.on_output S.Disk.is_file tool (map string_bytes words.now)
-        (S.world storage.old) report.old (S.world storage.new) result }
+        (S.its storage.old) report.old (S.its storage.new) report.new result }
 {
     match parted_for(rt.alloc(), tool, words) {
         Ok(parted) => {
@@ -139,7 +139,7 @@ fn do_parted<'a, S: Storage>(
     m: &mut Meter,
 ) -> u8
     ensures { IsTrue S.Disk.models → PartedEnds S.Disk.on_output S.Disk.is_file tool (map (λ word. word.now) words.now) said.now
-        (S.world storage.old) report.old (S.world storage.new) result }
+        (S.its storage.old) report.old (S.its storage.new) report.new result }
 {
     match texts_of(rt.alloc(), tool, words, said) {
         Ok(texts) => {
@@ -178,15 +178,15 @@ fn do_found_orders<S: Storage>(
     m: &mut Meter,
 ) -> u8
     requires plain { IfOk found ArePlain }
-    ensures { IsTrue S.Disk.models → OrdersFoundEnd S.Disk.on_output S.Disk.is_file found.entry (S.world storage.old) report.old
-        (S.world storage.new) result }
+    ensures { IsTrue S.Disk.models → OrdersFoundEnd S.Disk.on_output S.Disk.is_file found.entry (S.its storage.old) report.old
+        (S.its storage.new) report.new result }
 {
     let orders = match found {
         Ok(orders) => orders,
         Err(fault) => return wrong_words(rt, Some(tool), words, &fault, how, report),
     };
     if let Some(image) = orders.unpack {
-        return unpack_image(rt, image, how, report, w, m);
+        return unpack_image(rt, image, how, storage, report, w, m);
     }
     let mut disk = storage.disk();
     let status = do_orders(rt, orders, &mut disk, how, report, w, m);

@@ -5,7 +5,7 @@ use Rattle.std.specs.Prelude.{Option}
 use Rattle.std.proofs.lemmas.Bool.{false≢true}
 use Rattle.abt_pieces.specs.Turn.{HasAt}
 use Rattle.sys_disk.specs.World.{World, OpenFiles, Creates, OnlyAt, Ends, Spares, SparesRest, KeepsBegun, ended}
-use Rattle.sys_disk.specs.World.{unended}
+use Rattle.sys_disk.specs.World.{EndsOutput}
 use Rattle.sys_disk.specs.World.{failing}
 use Rattle.cmd_cut.specs.Cutting.{AddsNone, AddsPiece, ClosesBeside, HoldsPiece}
 use Rattle.sys_disk.specs.Among.{GoesAmong, IsMade, KeepsMade}
@@ -13,33 +13,26 @@ use Rattle.sys_disk.proofs.Amongs.{made_written, goes_written, keeps_refused, ke
 
 -- ---- an output that is closed, beside what is read
 
-pub beside_done : (r r' w0 w : ℕ) (h h' : OpenFiles) → w0 ≡ 0 → h' ≡ ended true (0 + w) h → r' + w ≡ r + w0
-    → ClosesBeside true r r' h h'
-beside_done r r' w0 w h h' none end clean = record {
-  failures = 0 + w;
-  closed = end;
-  clean = λ t. omega (arith, none, clean);
-  cause = λ f. absurd (false≢true (sym f));
-}
-
-pub beside_undone : (r r' w0 w : ℕ) (h h' : OpenFiles) → w0 ≡ 0 → h' ≡ ended false (1 + w) h → r' + w ≡ r + w0
-    → ClosesBeside false r r' h h'
-beside_undone r r' w0 w h h' none end clean = record {
-  failures = 1 + w;
-  closed = end;
-  clean = λ t. absurd (false≢true t);
-  cause = λ f. omega (arith, none, clean);
-}
-
-pub beside_answer : {X Y F G : Type 0} (answer : Result X F) (result : Result Y G) (r r' w0 w : ℕ) (h h' : OpenFiles)
-    → w0 ≡ 0 → h' ≡ ended (is_ok result) (unended (is_ok answer) (is_ok result) + w) h
+pub beside_answer : {X Y F G : Type 0} {bytes : List ℕ} {a b : World} (answer : Result X F) (result : Result Y G)
+    (r r' w0 w : ℕ) (h h' : OpenFiles)
+    → w0 ≡ 0 → EndsOutput (is_ok answer) (is_ok result) bytes w h h' a b
     → OnOk answer (r' + w ≡ r + w0) → OnErr answer (r + w0 < r' + w) → OnOk result (IsOk answer)
     → ClosesBeside (is_ok result) r r' h h'
-beside_answer (Ok x) (Ok y) r r' w0 w h h' none end clean cause done = beside_done r r' w0 w h h' none end clean
-beside_answer (Ok x) (Err e) r r' w0 w h h' none end clean cause done = beside_undone r r' w0 w h h' none end clean
+beside_answer (Ok x) (Ok y) r r' w0 w h h' none end clean cause done = record {
+  failures = end.more + w;
+  closed = end.closed;
+  clean = λ t. omega (arith, end.clean refl, none, clean);
+  cause = λ f. absurd (false≢true (sym f));
+}
+beside_answer (Ok x) (Err e) r r' w0 w h h' none end clean cause done = record {
+  failures = end.more + w;
+  closed = end.closed;
+  clean = λ t. absurd (false≢true t);
+  cause = λ f. omega (arith, end.cause refl refl, none, clean);
+}
 beside_answer (Err f) (Err e) r r' w0 w h h' none end clean cause done = record {
-  failures = 0 + w;
-  closed = end;
+  failures = end.more + w;
+  closed = end.closed;
   clean = λ t. absurd (false≢true t);
   cause = λ g. omega (arith, none, cause);
 }

@@ -1,9 +1,9 @@
 -- What opening, creating and ending leave together.
 use Rattle.std.proofs.Common.{inl, inr, arith, ◌≡◌, ◌<◌, ℕ, ◌+◌, Bool, true, false, List, [], ◌∷◌, ◌++◌}
 use Rattle.std.proofs.Common.{refl, sym, ◌∙◌, ap, subst, None}
-use Rattle.std.specs.Prelude.{Result, Ok, Err, IsOk, IfErr, OnOk, IsErrAnd, is_ok, if◌then◌else◌}
+use Rattle.std.specs.Prelude.{Result, Ok, Err, IsOk, IfErr, OnOk, IsErrAnd, is_ok, take, if◌then◌else◌}
 use Rattle.std.proofs.lemmas.Bool.{false≢true}
-use Rattle.abt_sparse.specs.Block.{expansion}
+use Rattle.abt_sparse.specs.Block.{expansion, laid}
 use Rattle.abt_sparse.specs.Chunk.{classed}
 use Rattle.abt_sparse.specs.Fails.{Fails, Spells}
 use Rattle.abt_chunks.specs.declared.progress.Expanded.{Expanded}
@@ -11,17 +11,18 @@ use Rattle.abt_sparse.specs.declared.fault.SparseFault.{SparseFault}
 use Rattle.abt_sparse.specs.declared.fault.SparseFault.TheVariants as of_sparse
 use Rattle.abt_chunks.specs.Cause.{Clean}
 use Rattle.abt_chunks.specs.Expanding.{ExpandingRises, UnlessExpandingDevice}
-use Rattle.abt_chunks.specs.Whole.{Expansion, Refusal}
+use Rattle.abt_chunks.specs.Whole.{Begun, Expansion, Refusal}
 use Rattle.sys_disk.specs.World.{World, OpenFiles, Spares, OpensFile, Creates, Ends, SparesRest, HasFailed}
 use Rattle.sys_disk.specs.World.{HasNotFailed}
-use Rattle.sys_disk.specs.World.{OnlyAt, failing, ended, unended}
-use Rattle.sys_disk.proofs.Worlds.{apart, kept_behind, only_behind, spares_trans}
+use Rattle.sys_disk.specs.Among.{FileHolds}
+use Rattle.sys_disk.specs.World.{OnlyAt, SparesInUse, failing, ended}
+use Rattle.sys_disk.proofs.Worlds.{apart, kept_behind, only_behind, spared_behind, spared_if_may, spares_trans}
 use Rattle.cmd_common_sparse.specs.declared.lines.Line.TheVariants as lines
 use Rattle.cmd_common_sparse.specs.Lines.{line_text}
 use Rattle.cmd_common_sparse.specs.declared.fault.SparseCommandFault.{SparseCommandFault}
 use Rattle.cmd_common_sparse.specs.declared.fault.SparseCommandFault.TheVariants as faults
 use Rattle.cmd_expand.specs.Expanding.{Blames, ExpandsFile, ExpandingSays, LeavesExpanded, RefusesFile, HasFault}
-use Rattle.cmd_expand.specs.Expanding.{FromHost, OfDevice}
+use Rattle.cmd_expand.specs.Expanding.{BlamesDevice, FromHost, LeavesFront, OfDevice}
 
 -- ---- what was read is closed before the output is completed
 
@@ -68,12 +69,18 @@ expands input path bytes x y rest h h' h'' a a' b c e shows opened same made end
           (subst (λ n. shows (line_text (lines.Expanded n e.bytes) ++ (10 ∷ []))) whole.blocks shown);
     }
 
+-- a path at which an output was created may be written
+pub spared_created : (path : List ℕ) (h h' : OpenFiles) (a b u v : World) → Creates path h h' a b
+    → SparesInUse path h u v
+spared_created path h h' a b u v made = spared_if_may path h u v made.allowed
+
 -- whatever the outcome
 pub leaves_expanded : {X F : Type 0} (r : Result X F) (input path bytes : List ℕ) (h h1 k : OpenFiles) (a a1 c : World)
-    → OpensFile a input bytes h h1 → a1 ≡ a → OnlyAt h1.read path a1 c → k.output ≡ None
+    → OpensFile a input bytes h h1 → a1 ≡ a → OnlyAt h1.read path a1 c → SparesInUse path h1 a1 c → k.output ≡ None
     → OnOk r (HasNotFailed h k) → LeavesExpanded r input path h k a c
-leaves_expanded r input path bytes h h1 k a a1 c opened same only closed clean = record {
+leaves_expanded r input path bytes h h1 k a a1 c opened same only guarded closed clean = record {
   others = only_behind _ _ _ _ _ _ _ _ opened same only;
+  in_use = spared_behind path input bytes h h1 a a1 c opened same guarded;
   input = kept_behind _ _ _ _ _ _ _ _ opened same only;
   closed = closed;
   clean = clean;
@@ -99,29 +106,79 @@ of_image (of_sparse.Read d) risen failed P Q up go rose is = up rose
 of_image (of_sparse.Write d) risen failed P Q up go rose is = up rose
 of_image f risen failed P Q up go rose is = go is
 
-own : (untold : List ℕ → Type 0) (input path x old new : List ℕ) (h h1 k : OpenFiles) (a c : World)
-    (f : SparseCommandFault)
-    (r0 r w w' : ℕ)
-    → OpensFile a input x h h1 → r0 ≡ 0 → w ≡ 0 → k.failed ≡ h.failed + (r + w')
-    → ExpandingSays (Err f) x old new → Blames (Err f) r0 r w w' → RefusesFile f input path a c h k untold
-own untold input path x old new h h1 k a c (faults.Sparse f) r0 r w w' opened first none count says blames =
-    of_image f (r0 + w < r + w') (HasFailed h k) (Refusal f old new x) (HasFault input a f)
-    (λ rose. omega (arith, first, none, count, rose))
-    (λ refusal. record {
-      file = opened.file;
+-- a device's count rose, and no other's
+rose_of : (f : SparseFault) (r r' w w' : ℕ) → BlamesDevice f r r' w w' → OfDevice f (r + w < r' + w') (Unit {0})
+rose_of (of_sparse.Read d) r r' w w' blames = omega (arith, blames.0, blames.1)
+rose_of (of_sparse.Write d) r r' w w' blames = omega (arith, blames.0, blames.1)
+rose_of f r r' w w' blames = tt
+
+-- an output that was created, and holds these bytes
+pub holds_left : (path bytes : List ℕ) (h h' : OpenFiles) (a b c : World) → Creates path h h' a b
+    → Ends h'.output bytes b c → FileHolds c path bytes
+holds_left path bytes h h' a b c made ends =
+    let after : (c.holds made.file ≡ bytes) × Spares made.file b c
+    = subst (λ k. Ends k.output bytes b c) made.begins ends in
+    record { file = made.file; there = after.1.paths path made.file made.there; holds = after.0 }
+
+-- what a fault of IN leaves of an output that was empty
+front_of : (f : SparseFault) (input path x old new : List ℕ) (h h1 k : OpenFiles) (a c : World)
+    (r0 r w w' more read : ℕ) → OpensFile a input x h h1 → r0 ≡ 0 → w ≡ 0 → k.failed ≡ h.failed + (r + (more + w'))
+    → UnlessExpandingDevice f (Refusal f old new x) → BlamesDevice f r0 r w w' → old ≡ [] → Begun old new (take read x)
+    → (more + w' ≡ 0 → FileHolds c path new) → LeavesFront f input path a c h k
+front_of (of_sparse.Read d) input path x old new h h1 k a c r0 r w w' more read opened first none count is blames empty
+    begun left = λ one. record {
+      from = opened.file;
       there = opened.there;
-      given = refusal.given;
-      fails = subst (λ z. Fails z f refusal.given) opened.held refusal.fails;
-    }) blames says
-own untold input path x old new h h1 k a c (faults.Run f) r0 r w w' opened first none count says blames = absurd says
-own untold input path x old new h h1 k a c (faults.Piece f) r0 r w w' opened first none count says blames = absurd says
-own untold input path x old new h h1 k a c (faults.Flash f) r0 r w w' opened first none count says blames = absurd says
-own untold input path x old new h h1 k a c (faults.Verify f) r0 r w w' opened first none count says blames = absurd says
-own untold input path x old new h h1 k a c (faults.OtherBlocks f) r0 r w w' opened first none count says blames = absurd
-    says
-own untold input path x old new h h1 k a c (faults.OtherCut f) r0 r w w' opened first none count says blames = absurd
-    says
-own untold input path x old new h h1 k a c (faults.Host f) r0 r w w' opened first none count says blames = absurd says
+      read = read;
+      front = new;
+      begun = subst (λ z. Begun z new (take read (a.holds opened.file))) empty
+          (subst (λ z. Begun old new (take read z)) opened.held begun);
+      holds = left (omega (arith, one, count, blames.0, first));
+    }
+front_of (of_sparse.Write d) input path x old new h h1 k a c r0 r w w' more read opened first none count is blames
+    empty begun left = tt
+front_of f input path x old new h h1 k a c r0 r w w' more read opened first none count is blames empty begun left =
+    λ clean. record {
+      from = opened.file;
+      there = opened.there;
+      given = is.given;
+      fails = subst (λ z. Fails z f is.given) opened.held is.fails;
+      holds = subst (λ z. FileHolds c path z) (is.written ∙ ap (λ z. z ++ laid is.given) empty)
+          (left (omega (arith, clean, count)));
+    }
+
+own : (untold : List ℕ → Type 0) (input path x old new : List ℕ) (h h1 k : OpenFiles) (a c : World)
+    (f : SparseCommandFault) (r0 r w w' more read : ℕ)
+    → OpensFile a input x h h1 → r0 ≡ 0 → w ≡ 0 → k.failed ≡ h.failed + (r + (more + w'))
+    → ExpandingSays (Err f) x old new → Blames (Err f) r0 r w w' → old ≡ [] → Begun old new (take read x)
+    → (more + w' ≡ 0 → FileHolds c path new) → RefusesFile f input path a c h k untold
+own untold input path x old new h h1 k a c (faults.Sparse f) r0 r w w' more read opened first none count says blames
+    empty begun left = (
+      of_image f (r0 + w < r + w') (HasFailed h k) (Refusal f old new x) (HasFault input a f)
+          (λ rose. omega (arith, first, none, count, rose))
+          (λ refusal. record {
+            file = opened.file;
+            there = opened.there;
+            given = refusal.given;
+            fails = subst (λ z. Fails z f refusal.given) opened.held refusal.fails;
+          }) (rose_of f r0 r w w' blames) says,
+      front_of f input path x old new h h1 k a c r0 r w w' more read opened first none count says blames empty begun
+          left,
+    )
+own untold input path x old new h h1 k a c (faults.Run f) r0 r w w' more read opened first none count says blames
+    empty begun left = absurd says
+own untold input path x old new h h1 k a c (faults.Piece f) r0 r w w' more read opened first none count says blames
+    empty begun left = absurd says
+own untold input path x old new h h1 k a c (faults.Flash f) r0 r w w' more read opened first none count says blames
+    empty begun left = absurd says
+own untold input path x old new h h1 k a c (faults.Verify f) r0 r w w' more read opened first none count says blames
+    empty begun left = absurd says
+own untold input path x old new h h1 k a c (faults.OtherBlocks f) r0 r w w' more read opened first none count says
+    blames empty begun left = absurd says
+own untold input path x old new h h1 k a c (faults.OtherCut f) r0 r w w' more read opened first none count says blames
+    empty begun left = absurd says
+own untold input path x old new h h1 k a c (faults.Host f) r0 r w w' more read opened first none count says blames
+    empty begun left = absurd says
 
 -- a fault of files, after which something has failed
 pub of_failed : (untold : List ℕ → Type 0) (input path : List ℕ) (a c : World) (h k : OpenFiles)
@@ -141,23 +198,27 @@ of_unprinted untold input path a c h k r made done =
 -- the call failed, or the end of the output did
 pub refuses : (untold : List ℕ → Type 0) (input path x old new : List ℕ) (h h1 k : OpenFiles) (a c : World)
     (answer : Result Expanded SparseCommandFault) (told : SparseCommandFault)
-    (r0 r w w' : ℕ) → OpensFile a input x h h1 → r0 ≡ 0 → w ≡ 0
-    → k.failed ≡ h.failed + (r + (unended (is_ok answer) false + w')) → ExpandingSays answer x old new
+    (r0 r w w' more read : ℕ) → OpensFile a input x h h1 → r0 ≡ 0 → w ≡ 0
+    → k.failed ≡ h.failed + (r + (more + w')) → (IsOk answer → 0 < more) → ExpandingSays answer x old new
     → Blames answer r0 r w w' → (IsOk answer → FromHost told) → IfErr answer (λ f. told ≡ f)
+    → old ≡ [] → Begun old new (take read x) → (more + w' ≡ 0 → FileHolds c path new)
     → RefusesFile told input path a c h k untold
-refuses untold input path x old new h h1 k a c (Ok e) told r0 r w w' opened first none count says blames files is =
-    of_failed untold input path a c h k told (files refl) (omega (arith, count))
-refuses untold input path x old new h h1 k a c (Err f) told r0 r w w' opened first none count says blames files is =
-    let so : k.failed ≡ h.failed + (r + w') = omega (arith, count) in
+refuses untold input path x old new h h1 k a c (Ok e) told r0 r w w' more read opened first none count late says blames
+    files is empty begun left =
+    of_failed untold input path a c h k told (files refl) (omega (arith, count, late refl))
+refuses untold input path x old new h h1 k a c (Err f) told r0 r w w' more read opened first none count late says blames
+    files is empty begun left =
     subst (λ q. RefusesFile q input path a c h k untold) (sym is)
-    (own untold input path x old new h h1 k a c f r0 r w w' opened first none so says blames)
+    (own untold input path x old new h h1 k a c f r0 r w w' more read opened first none count says blames empty begun
+    left)
 
 -- it was done, and then nothing has failed
-pub clean_behind : (answer : Result Expanded SparseCommandFault) (e : Expanded) (h k : OpenFiles) (r0 r w w' : ℕ)
-    → answer ≡ Ok e → Blames answer r0 r w w' → r0 ≡ 0 → w ≡ 0
-    → k.failed ≡ h.failed + (r + (unended (is_ok answer) true + w')) → HasNotFailed h k
-clean_behind (Ok x) e h k r0 r w w' is blames first none count = omega (arith, blames.0, blames.1, first, none, count)
-clean_behind (Err f) e h k r0 r w w' is blames first none count = absurd (false≢true (ap is_ok is))
+pub clean_behind : (answer : Result Expanded SparseCommandFault) (e : Expanded) (h k : OpenFiles) (r0 r w w' more : ℕ)
+    → answer ≡ Ok e → Blames answer r0 r w w' → r0 ≡ 0 → w ≡ 0 → more ≡ 0
+    → k.failed ≡ h.failed + (r + (more + w')) → HasNotFailed h k
+clean_behind (Ok x) e h k r0 r w w' more is blames first none clean count =
+    omega (arith, blames.0, blames.1, first, none, clean, count)
+clean_behind (Err f) e h k r0 r w w' more is blames first none clean count = absurd (false≢true (ap is_ok is))
 
 -- a call failed
 pub failed_first : (h k : OpenFiles) → k ≡ failing 1 h → HasFailed h k
@@ -181,7 +242,7 @@ handed_on (Err r) P Q go is = go r is
 
 -- the engine blames a device whose count rose
 pub of_rising : (f : SparseFault) (r0 r r' w w' : ℕ) → r ≡ r0 → ExpandingRises {X = Expanded} (Err f) r r' w w'
-    → Clean {X = Expanded} (Err f) r r' w w' → OfDevice f (r0 + w < r' + w') (Unit {0})
-of_rising (of_sparse.Read d) r0 r r' w w' same rise clean = omega (arith, same, rise, clean)
-of_rising (of_sparse.Write d) r0 r r' w w' same rise clean = omega (arith, same, rise, clean)
+    → Clean {X = Expanded} (Err f) r r' w w' → BlamesDevice f r0 r' w w'
+of_rising (of_sparse.Read d) r0 r r' w w' same rise clean = (omega (arith, same, rise), clean)
+of_rising (of_sparse.Write d) r0 r r' w w' same rise clean = (clean ∙ same, rise)
 of_rising f r0 r r' w w' same rise clean = tt

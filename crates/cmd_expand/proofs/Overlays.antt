@@ -13,8 +13,8 @@ use Rattle.abt_flash.specs.Flashing.{Holds}
 use Rattle.abt_flash_faults.specs.declared.fault.FlashFault.TheVariants as flashes
 use Rattle.sys_disk.specs.InPlace.{IsAsLong, MakesZeros, closed_part, is_settled, is_settled_in}
 use Rattle.sys_disk.specs.World.{World, OpenFiles, Spares, Ends, OnlyAt, in_output, KeepsFile, HasFailed, HasNotFailed}
-use Rattle.sys_disk.specs.World.{failing}
-use Rattle.sys_disk.proofs.Worlds.{spares_trans}
+use Rattle.sys_disk.specs.World.{SparesInUse, failing}
+use Rattle.sys_disk.proofs.Worlds.{spared_if_may, spares_trans}
 use Rattle.cmd_common_sparse.specs.declared.fault.SparseCommandFault.{SparseCommandFault}
 use Rattle.cmd_common_sparse.specs.declared.fault.SparseCommandFault.TheVariants as faults
 use Rattle.cmd_common_sparse.specs.declared.lines.Line.TheVariants as lines
@@ -164,11 +164,17 @@ ins_kept a a1 c inputs xs output h h1 all same only =
     (subst (λ k. AllByRecursion (λ f. Contains k.read f) all.files) (sym all.taken) (each_read h.read all.files))
     (subst (λ w. OnlyAt h1.read output w c) same only)
 
+-- a path at which a file of zeros was made may be written
+pub spared_made : (n : ℕ) (path : List ℕ) (h h' : OpenFiles) (a b u v : World) → MakesZeros n path h h' a b
+    → SparesInUse path h u v
+spared_made n path h h' a b u v made = spared_if_may path h u v made.allowed
+
 pub leaves_overlaid : {X F : Type 0} (r : Result X F) (a a1 c : World) (inputs xs : List (List ℕ)) (output : List ℕ)
-    (h h1 k : OpenFiles) → AreOpened a inputs xs h h1 → a1 ≡ a → OnlyAt h1.read output a1 c → k.part ≡ None
-    → OnOk r (HasNotFailed h k) → LeavesOverlaid r inputs output h k a c
-leaves_overlaid r a a1 c inputs xs output h h1 k all same only closed clean = record {
+    (h h1 k : OpenFiles) → AreOpened a inputs xs h h1 → a1 ≡ a → OnlyAt h1.read output a1 c
+    → SparesInUse output h1 a1 c → k.part ≡ None → OnOk r (HasNotFailed h k) → LeavesOverlaid r inputs output h k a c
+leaves_overlaid r a a1 c inputs xs output h h1 k all same only guarded closed clean = record {
   others = others_read a a1 c inputs xs output h h1 all same only;
+  in_use = λ used refused. subst (λ k. SparesInUse output k a1 c) all.taken guarded used refused ∙ same;
   inputs = ins_kept a a1 c inputs xs output h h1 all same only;
   closed = closed;
   clean = clean;

@@ -1,15 +1,16 @@
 -- What the command `expand` leaves of files, and what it prints.
 use Rattle.std.specs.Prelude.{◌≡◌, ◌≢◌, ◌⊎◌, ℕ, ◌+◌, ◌*◌, ◌<◌, List, [], ◌∷◌, ◌++◌, Option, Some, None, Result, Ok, Err}
-use Rattle.std.specs.Prelude.{OnOk}
+use Rattle.std.specs.Prelude.{OnOk, take}
 use Rattle.abt_sparse.specs.declared.fault.SparseFault.{SparseFault}
 use Rattle.abt_sparse.specs.declared.fault.SparseFault.TheVariants as of_sparse
-use Rattle.abt_sparse.specs.Block.{expansion}
+use Rattle.abt_sparse.specs.Block.{expansion, laid}
 use Rattle.abt_sparse.specs.Chunk.{Header, Chunk, classed}
 use Rattle.abt_sparse.specs.Fails.{Fails, Spells}
 use Rattle.abt_chunks.specs.declared.progress.Expanded.{Expanded}
 use Rattle.abt_chunks.specs.Expanding.{UnlessExpandingDevice}
-use Rattle.abt_chunks.specs.Whole.{Expansion, Refusal}
-use Rattle.sys_disk.specs.World.{World, OpenFiles, KeepsFile, OnlyAt, Spares, HasFailed, HasNotFailed}
+use Rattle.abt_chunks.specs.Whole.{Begun, Expansion, Refusal}
+use Rattle.sys_disk.specs.Among.{FileHolds}
+use Rattle.sys_disk.specs.World.{World, OpenFiles, KeepsFile, OnlyAt, Spares, SparesInUse, HasFailed, HasNotFailed}
 use Rattle.sys_refusals.specs.declared.refusal.HostFault.{HostFault}
 use Rattle.cmd_common_sparse.specs.declared.fault.SparseCommandFault.{SparseCommandFault}
 use Rattle.cmd_common_sparse.specs.declared.fault.SparseCommandFault.TheVariants as faults
@@ -46,9 +47,14 @@ OfDevice (of_sparse.Write d) failed P = failed
 OfDevice f failed P = P
 
 -- how often devices failed: the input's faults went from r to r', the output's from w to w'
+abbrev pub BlamesDevice : SparseFault → ℕ → ℕ → ℕ → ℕ → Type 0
+BlamesDevice (of_sparse.Read d) r r' w w' = (r < r') × (w' ≡ w)
+BlamesDevice (of_sparse.Write d) r r' w w' = (r' ≡ r) × (w < w')
+BlamesDevice f r r' w w' = Unit {0}
+
 abbrev pub Blames : Result Expanded SparseCommandFault → ℕ → ℕ → ℕ → ℕ → Type 0
 Blames (Ok e) r r' w w' = (r' ≡ r) × (w' ≡ w)
-Blames (Err (faults.Sparse f)) r r' w w' = OfDevice f (r + w < r' + w') (Unit {0})
+Blames (Err (faults.Sparse f)) r r' w w' = BlamesDevice f r r' w w'
 Blames (Err f) r r' w w' = Unit {0}
 
 -- The file at one path held an image. The file at the other path holds its expansion and nothing else. No other file
@@ -67,21 +73,47 @@ pub record ExpandsFile (input output : List ℕ) (old new : World) (shows : List
   pub spares : Spares onto old new
   pub shown : shows (line_text (lines.Expanded header.total_blks (header.total_blks * header.blk_sz)) ++ (10 ∷ []))
 
--- What is left of files, whatever the outcome. Only OUT may hold anything else, IN holds what it held, and no output
--- is open. The result is Ok only where nothing has failed.
+-- What is left of files, whatever the outcome. Only OUT may hold anything else, and not where it is in use and that is
+-- not allowed. IN holds what it held, and no output is open. The result is Ok only where nothing has failed.
 pub record LeavesExpanded {X F : Type 0} (r : Result X F) (from onto : List ℕ) (held held' : OpenFiles)
     (old new : World)
     : Type 0 where
   pub others : OnlyAt held.read onto old new
+  pub in_use : SparesInUse onto held old new
   pub input : KeepsFile from old new
   pub closed : held'.output ≡ None
   pub clean : OnOk r (HasNotFailed held held')
+
+-- the file at one path has this fault, and the file at the other path holds exactly what comes before the fault
+pub record HoldsUpTo (input output : List ℕ) (f : SparseFault) (old new : World) : Type 0 where
+  pub from : ℕ
+  pub there : old.at input ≡ Some from
+  pub given : List (Option ℕ)
+  pub fails : Fails (old.holds from) f given
+  pub holds : FileHolds new output (laid given)
+
+-- the file at the other path holds a beginning of what the first bytes give of the file at the one
+pub record HoldsBegun (input output : List ℕ) (old new : World) : Type 0 where
+  pub from : ℕ
+  pub there : old.at input ≡ Some from
+  pub read : ℕ
+  pub front : List ℕ
+  pub begun : Begun [] front (take read (old.holds from))
+  pub holds : FileHolds new output front
+
+-- What OUT's file holds after a fault of IN, where no other call has failed: what comes before the fault; or, where IN
+-- could not be read, a beginning of what was read.
+abbrev pub LeavesFront : SparseFault → List ℕ → List ℕ → World → World → OpenFiles → OpenFiles → Type 0
+LeavesFront (of_sparse.Read d) input output old new held held' =
+    held'.failed ≡ held.failed + 1 → HoldsBegun input output old new
+LeavesFront (of_sparse.Write d) input output old new held held' = Unit {0}
+LeavesFront f input output old new held held' = HasNotFailed held held' → HoldsUpTo input output f old new
 
 -- why it fails: for a fault of the contents of IN; because a device or the system failed; or only its line failed
 abbrev pub RefusesFile : SparseCommandFault → List ℕ → List ℕ → World → World → OpenFiles → OpenFiles
     → (List ℕ → Type 0) → Type 0
 RefusesFile (faults.Sparse f) input output old new held held' untold =
-    OfDevice f (HasFailed held held') (HasFault input old f)
+    OfDevice f (HasFailed held held') (HasFault input old f) × LeavesFront f input output old new held held'
 RefusesFile (faults.Host f) input output old new held held' untold =
     HasFailed held held' ⊎ ExpandsFile input output old new untold
 RefusesFile f input output old new held held' untold = ⊥

@@ -11,7 +11,8 @@ use Rattle.abt_runs.specs.declared.part.RunFault.TheVariants as of_runs
 use Rattle.abt_flash.specs.Flashing.{Holds}
 use Rattle.abt_flash_faults.specs.declared.fault.FlashFault.{FlashFault}
 use Rattle.abt_flash_faults.specs.declared.fault.FlashFault.TheVariants as flashes
-use Rattle.sys_disk.specs.World.{World, OpenFiles, IsReading, KeepsFile, OnlyAt, Spares, HasFailed, HasNotFailed}
+use Rattle.sys_disk.specs.World.{World, OpenFiles, IsReading, KeepsFile, OnlyAt, Spares, SparesInUse, HasFailed}
+use Rattle.sys_disk.specs.World.{HasNotFailed}
 use Rattle.cmd_common_sparse.specs.declared.fault.SparseCommandFault.{SparseCommandFault}
 use Rattle.cmd_common_sparse.specs.declared.fault.SparseCommandFault.TheVariants as faults
 use Rattle.cmd_common_sparse.specs.declared.lines.Line.TheVariants as lines
@@ -110,12 +111,14 @@ pub record MayOverlay (held : OpenFiles) : Type 0 where
   pub first : IsReading held
   pub one : held.part ≡ None
 
--- What is left of files, whatever the outcome. Only OUT may hold anything else, each IN holds what it held, and no
--- file is open that is written in place. The result is Ok only where nothing has failed.
+-- What is left of files, whatever the outcome. Only OUT may hold anything else, and not where it is in use and that is
+-- not allowed. Each IN holds what it held, and no file is open that is written in place. The result is Ok only where
+-- nothing has failed.
 pub record LeavesOverlaid {X F : Type 0} (r : Result X F) (paths : List (List ℕ)) (onto : List ℕ)
     (held held' : OpenFiles)
     (old new : World) : Type 0 where
   pub others : OnlyAt held.read onto old new
+  pub in_use : SparesInUse onto held old new
   pub inputs : AllByRecursion (λ path. KeepsFile path old new) paths
   pub closed : held'.part ≡ None
   pub clean : OnOk r (HasNotFailed held held')

@@ -1,6 +1,7 @@
 //! The command `expand` of one image.
 
-ghost use Rattle.std.specs.Prelude.{◌≡◌, ◌+◌, ◌++◌, [], ◌∷◌, IsTrue, IfErr, OnOk, OnErr, if◌then◌else◌};
+ghost use Rattle.std.specs.Prelude.{◌≡◌, ◌+◌, ◌++◌, ℕ, [], ◌∷◌, IsTrue, IfErr, OnOk, OnErr, take, if◌then◌else◌};
+ghost use Rattle.abt_chunks.specs.Whole.{Begun};
 ghost use Rattle.sys_refusals.specs.Paths.{path_in, path_out};
 ghost use Rattle.sys_disk.specs.World.{IsReading};
 ghost use Rattle.sys_report.specs.Shows.{CannotPrint, ShowsBeside, Unprinted};
@@ -36,7 +37,7 @@ pub fn expand_one<'a, D: Disk>(
     // result is Ok only where nothing failed
     ensures leaves { IsTrue D.models → LeavesExpanded result (path_in input.entry) (path_out output.entry)
         (D.held disk.old) (D.held disk.new) (D.world disk.old) (D.world disk.new) }
-    // it fails for a fault of IN, or where a device or the system failed
+    // it fails for a fault of IN, and OUT holds what comes before that; or where a device or the system failed
     ensures refused { IsTrue D.models → IfErr result (λ refusal. RefusesFile refusal.fault (path_in input.entry)
         (path_out output.entry) (D.world disk.old) (D.world disk.new) (D.held disk.old) (D.held disk.new)
         (Unprinted report.old report.new)) }
@@ -85,6 +86,8 @@ fn expanded<I: Input, O: Output>(
 ) -> Result<Expanded, SparseCommandFault>
     ensures says { IsTrue I.models → ExpandingSays result (I.remaining from.old.device) (O.written onto.old)
         (O.written onto.new) }
+    ensures begun { IsTrue I.models → (read : ℕ) × Begun (O.written onto.old) (O.written onto.new)
+        (take read (I.remaining from.old.device)) }
     ensures blames { Blames result (I.read_faults from.old.device) (I.read_faults from.new.device)
         (O.write_faults onto.old) (O.write_faults onto.new) }
 {

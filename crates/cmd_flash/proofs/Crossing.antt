@@ -7,9 +7,9 @@ use Rattle.abt_io.specs.Moment.{Past}
 use Rattle.sys_disk.specs.InPlace.{ClosesPart, OpensPart, IsAsLong, in_place, is_settled}
 use Rattle.sys_disk.specs.Spools.{OpensSpool, closed_spool, through}
 use Rattle.sys_disk.specs.World.{World, OpenFiles, Spares, OpensFile, OnlyAt, untouched, in_output, Ends, SparesRest}
-use Rattle.sys_disk.specs.World.{KeepsFile, failing, reading}
+use Rattle.sys_disk.specs.World.{KeepsFile, MayWrite, SparesInUse, failing, reading}
 use Rattle.sys_disk.proofs.Closings.{apart_from}
-use Rattle.sys_disk.proofs.Worlds.{apart, spares_trans}
+use Rattle.sys_disk.proofs.Worlds.{apart, may_behind, spared_behind, spared_if_may, spares_trans}
 use Rattle.cmd_flash.specs.InPieces.{Across, SparesBoth}
 use Rattle.cmd_flash.specs.Through.{ClosesSpool}
 
@@ -18,13 +18,14 @@ pub record Crossed (input path spool x p p' : List ℕ) (old new : World) (h h3 
     (past : Past)
     : Type 1 where
   pub across : (P : List ℕ → List ℕ → List ℕ → Type 0) → P x p p' → Across input path spool old new P
-  pub others : SparesBoth path spool old new
+  pub others : SparesBoth path spool h old new
   pub kept : KeepsFile input old new
   pub began : h3.failed ≡ h.failed
   pub grew : h3.failed ≤ h4.failed
   pub failed : h'.failed ≡ h4.failed + faults
   pub synced : is_settled past ≡ true → h'.syncs ≡ h.syncs + 1
   pub closed : h'.part ≡ None
+  pub keeps : h'.keeps ≡ h3.keeps
 
 -- which files were read when the third was opened
 read_then : (h h' h'' : OpenFiles) (f g : ℕ) → h' ≡ reading f h → h'' ≡ in_place g h' → h''.read ≡ h.read ++ (f ∷ [])
@@ -37,16 +38,22 @@ apart_third h' h'' f s o fresh same =
     (subst (λ (z : ℕ). Contains (z ∷ h'.begun) s) (sym same)
     (Contains-append_left (s ∷ []) h'.begun s (Contains-push [] s))))
 
-part_then : (h' h'' h3 h4 h5 : OpenFiles) (f s m n : ℕ) → h'' ≡ in_place f h' → h3 ≡ through s h'' → h4
+part_then : (b : Bool) (h' h'' h3 h4 h5 : OpenFiles) (f s m n : ℕ) → h'' ≡ in_place f h' → h3 ≡ through b s h'' → h4
     ≡ closed_spool m h3
     → h5 ≡ failing n h4 → h5.part ≡ Some f
-part_then h' h'' h3 h4 h5 f s m n o t c l =
+part_then b h' h'' h3 h4 h5 f s m n o t c l =
     ap (λ (q : OpenFiles). q.part) l ∙ ap (λ (q : OpenFiles). q.part) c ∙ ap (λ (q : OpenFiles). q.part) t
     ∙ ap (λ (q : OpenFiles). q.part) o
 
+-- what may be written after both were opened
+may_across : (spool input path x p : List ℕ) (a a' : World) (h h' h'' : OpenFiles) → OpensFile a input x h h'
+    → OpensPart a' path p h' h'' → MayWrite spool h'' → MayWrite spool h
+may_across spool input path x p a a' h h' h'' r o may =
+    may_behind spool input x h h' a r (subst (λ (q : OpenFiles). MayWrite spool q) o.taken may)
+
 -- only the third has changed when the partition is closed
-spared : (spool : List ℕ) (a a' a'' a3 a4 a5 : World) (h'' h3 : OpenFiles) → a' ≡ a → a'' ≡ a'
-    → (s : OpensSpool spool h'' h3 a'' a3)
+spared : {k : Bool} (spool : List ℕ) (a a' a'' a3 a4 a5 : World) (h'' h3 : OpenFiles) → a' ≡ a → a'' ≡ a'
+    → (s : OpensSpool k spool h'' h3 a'' a3)
     → SparesRest h3.spool a3 a4 → a5 ≡ a4 → Spares s.file a a5
 spared spool a a' a'' a3 a4 a5 h'' h3 same same' s rest last =
     let closed : Spares s.file a3 a4 = subst (λ (q : OpenFiles). SparesRest q.spool a3 a4) s.begins rest in
@@ -54,16 +61,16 @@ spared spool a a' a'' a3 a4 a5 h'' h3 same same' s rest last =
     (subst (λ (w : World). Spares s.file a'' w) (sym last) (spares_trans s.file a'' a3 a4 s.spares closed))
 
 -- the partition is returned with its length unchanged
-pub as_long_across : (input path spool x p p' : List ℕ) (a a' a'' a3 a4 a5 : World) (h h' h'' h3 h4 h5 : OpenFiles)
-    (n : ℕ)
-    → OpensFile a input x h h' → a' ≡ a → OpensPart a' path p h' h'' → a'' ≡ a' → OpensSpool spool h'' h3 a'' a3
+pub as_long_across : {k : Bool} (input path spool x p p' : List ℕ) (a a' a'' a3 a4 a5 : World)
+    (h h' h'' h3 h4 h5 : OpenFiles) (n : ℕ)
+    → OpensFile a input x h h' → a' ≡ a → OpensPart a' path p h' h'' → a'' ≡ a' → OpensSpool k spool h'' h3 a'' a3
     → ClosesSpool h3 h4 → SparesRest h3.spool a3 a4 → h5 ≡ failing n h4 → a5 ≡ a4 → length p' ≡ length p
     → IsAsLong h5.part p' a5
 as_long_across input path spool x p p' a a' a'' a3 a4 a5 h h' h'' h3 h4 h5 n r same o same' s cs rest l last long =
     let opened : OpensPart a path p h' h'' = subst (λ (w : World). OpensPart w path p h' h'') same o in
     let one = spared spool a a' a'' a3 a4 a5 h'' h3 same same' s rest last in
     subst (λ (q : Option ℕ). IsAsLong q p' a5)
-    (sym (part_then h' h'' h3 h4 h5 opened.file s.file cs.failures n opened.taken s.begins cs.closed l))
+    (sym (part_then _ h' h'' h3 h4 h5 opened.file s.file cs.failures n opened.taken s.begins cs.closed l))
     (long ∙ ap length opened.held ∙ ap length (sym (one.files opened.file
     (apart_third h' h'' opened.file s.file opened.taken s.fresh))))
 
@@ -78,10 +85,10 @@ grown : (h3 h4 : OpenFiles) → ClosesSpool h3 h4 → h3.failed ≤ h4.failed
 grown h3 h4 c = let one : h4.failed ≡ h3.failed + c.failures = ap (λ (q : OpenFiles). q.failed) c.closed in omega
     (arith, one)
 
-pub crossed : (input path spool x p p' : List ℕ) (a a' a'' a3 a4 a5 c : World) (h h' h'' h3 h4 h5 h6 : OpenFiles)
-    (n k : ℕ)
+pub crossed : {b : Bool} (input path spool x p p' : List ℕ) (a a' a'' a3 a4 a5 c : World)
+    (h h' h'' h3 h4 h5 h6 : OpenFiles) (n k : ℕ)
     (past : Past) (w d : Bool) → OpensFile a input x h h' → a' ≡ a → OpensPart a' path p h' h'' → a'' ≡ a'
-    → OpensSpool spool h'' h3 a'' a3 → ClosesSpool h3 h4 → SparesRest h3.spool a3 a4 → h5 ≡ failing n h4 → a5 ≡ a4
+    → OpensSpool b spool h'' h3 a'' a3 → ClosesSpool h3 h4 → SparesRest h3.spool a3 a4 → h5 ≡ failing n h4 → a5 ≡ a4
     → Ends h5.part p' a5 c → c.at ≡ a5.at → (q : ClosesPart w d past k h5 h6)
     → Crossed input path spool x p p' a c h h3 h4 h6 (n + k + q.more) past
 crossed input path spool x p p' a a' a'' a3 a4 a5 c h h' h'' h3 h4 h5 h6 n k past w d r same o same' s cs rest l last
@@ -90,7 +97,7 @@ crossed input path spool x p p' a a' a'' a3 a4 a5 c h h' h'' h3 h4 h5 h6 n k pas
     let opened : OpensPart a path p h' h'' = subst (λ (w : World). OpensPart w path p h' h'') same o in
     let one : Spares s.file a a5 = spared spool a a' a'' a3 a4 a5 h'' h3 same same' s rest last in
     let part : h5.part ≡ Some opened.file =
-    part_then h' h'' h3 h4 h5 opened.file s.file cs.failures n opened.taken s.begins cs.closed l in
+    part_then _ h' h'' h3 h4 h5 opened.file s.file cs.failures n opened.taken s.begins cs.closed l in
     let after : (c.holds opened.file ≡ p') × Spares opened.file a5 c = subst (λ (q : Option ℕ). Ends q p' a5 c) part
     ends in
     let two : r.file ≢ opened.file = apart_from input path x p a h h' h'' r opened in
@@ -117,6 +124,9 @@ crossed input path spool x p p' a a' a'' a3 a4 a5 c h h' h'' h3 h4 h5 h6 n k pas
         paths = λ q f there. ap (λ (g : List ℕ → Option ℕ). g q) paths ∙ one.paths q f there;
         files = λ f none none'. after.1.files f (λ e. none (subst (λ g. a.at path ≡ Some g) (sym e) opened.there))
             ∙ one.files f (λ e. none' (subst (λ g. c.at spool ≡ Some g) (sym e) at));
+        in_use = spared_if_may path h a c (may_behind path input x h h' a r opened.allowed);
+        spool_in_use = spared_if_may spool h a c
+            (may_across spool input path x p a a h h' h'' r opened s.allowed);
       };
       kept = λ f there.
           let is : r.file ≡ f = ap (λ q. unwrap_or q 0) (sym r.there ∙ there) in
@@ -131,21 +141,34 @@ crossed input path spool x p p' a a' a'' a3 a4 a5 c h h' h'' h3 h4 h5 h6 n k pas
           ∙ ap (λ (q : OpenFiles). q.syncs + 1) s.begins ∙ ap (λ (q : OpenFiles). q.syncs + 1) opened.taken
           ∙ ap (λ (q : OpenFiles). q.syncs + 1) r.taken;
       closed = ap (λ (q : OpenFiles). q.part) closed.closed;
+      keeps = ap (λ (q : OpenFiles). q.keeps) closed.closed ∙ ap (λ (q : OpenFiles). q.keeps) l
+          ∙ ap (λ (q : OpenFiles). q.keeps) cs.closed;
     }
 
 -- ---- a third file that could not be opened
 
-pub only_both : (read path spool : List ℕ) (a b c : World) → b ≡ a → OnlyAt read spool b c → SparesBoth path spool a c
-only_both read path spool a b c same (untouched still) = record {
-  paths = λ q f there. ap (λ (w : World). w.at q) (still ∙ same) ∙ there;
-  files = λ f none none'. ap (λ (w : World). w.holds f) (still ∙ same);
+only_paths : (read spool : List ℕ) (a b c : World) → b ≡ a → OnlyAt read spool b c → (q : List ℕ) (f : ℕ)
+    → a.at q ≡ Some f → c.at q ≡ Some f
+only_paths read spool a b c same (untouched still) q f there = ap (λ (w : World). w.at q) (still ∙ same) ∙ there
+only_paths read spool a b c same (in_output file at free spares) q f there =
+    spares.paths q f (subst (λ (w : World). w.at q ≡ Some f) (sym same) there)
+
+only_files : (read spool : List ℕ) (a b c : World) → b ≡ a → OnlyAt read spool b c → (f : ℕ)
+    → ¬ (c.at spool ≡ Some f) → c.holds f ≡ a.holds f
+only_files read spool a b c same (untouched still) f other = ap (λ (w : World). w.holds f) (still ∙ same)
+only_files read spool a b c same (in_output file at free spares) f other =
+    spares.files f (λ e. other (subst (λ g. c.at spool ≡ Some g) (sym e) at)) ∙ ap (λ (w : World). w.holds f) same
+
+pub only_both : (read input path spool x p : List ℕ) (a a' b c : World) (h h' h'' : OpenFiles)
+    → OpensFile a input x h h' → a' ≡ a → OpensPart a' path p h' h'' → b ≡ a' → OnlyAt read spool b c
+    → SparesInUse spool h'' b c → SparesBoth path spool h a c
+only_both read input path spool x p a a' b c h h' h'' r same o same' only guarded = record {
+  paths = only_paths read spool a b c (same' ∙ same) only;
+  files = λ f none none'. only_files read spool a b c (same' ∙ same) only f none';
+  in_use = spared_if_may path h a c (may_behind path input x h h' a r o.allowed);
+  spool_in_use = spared_behind spool input x h h' a a' c r same (λ used refused.
+      subst (λ (q : OpenFiles). SparesInUse spool q b c) o.taken guarded used refused ∙ same');
 }
-only_both read path spool a b c same (in_output file at free spares) =
-    let one : Spares file a c = subst (λ (w : World). Spares file w c) same spares in
-    record {
-      paths = one.paths;
-      files = λ f none none'. one.files f (λ e. none' (subst (λ g. c.at spool ≡ Some g) (sym e) at));
-    }
 
 beside : (input path : List ℕ) (read read' : List ℕ) (f : ℕ) (old new : World) → old.at input ≡ Some f
     → read' ≡ read ++ (f ∷ []) → OnlyAt read' path old new → KeepsFile input old new

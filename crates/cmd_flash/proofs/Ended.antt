@@ -1,7 +1,7 @@
 -- What a delivery that was counted says of the command.
 use Rattle.std.proofs.Common.{◌≡◌, ◌<◌, ◌+◌, ℕ, List, [], ◌∷◌, ◌++◌, ◌≤◌, Option, refl, sym, ◌∙◌, ap, subst, arith}
 use Rattle.std.proofs.Common.{inl, inr}
-use Rattle.std.specs.Prelude.{None, Result, Ok, Err, IfOk, IfErr, IsOk, OnOk, true}
+use Rattle.std.specs.Prelude.{None, Result, Ok, Err, IfOk, IfErr, IsOk, OnOk, is_some, true}
 use Rattle.std.proofs.lemmas.Bool.{lt-ltb}
 use Rattle.abt_io.specs.Moment.{Past, no_past}
 use Rattle.sys_disk.specs.InPlace.{is_settled, is_settled_in}
@@ -175,14 +175,16 @@ pub done_across : (r : Result Delivered FlashFault) (n : ℕ) (G : Type 0) (raw 
     (shows : List ℕ → Type 0) → Crossed input path spool x p p' a c h h3 h4 h' faults past' → count_delivered r ≡ Ok n
     → past ≡ no_past → IfOk r (λ d. 0 < d.pieces) → IfOk r (λ d. past'.synced ≡ past.synced + d.pieces)
     → OnOk r (past'.pending ≡ []) → before' ≡ before → DeliversPieces G raw r limit before' x p p'
-    → shows (line_text (lines.Pieces n) ++ (10 ∷ [])) → FlashesPieces raw limit before input path spool a c h h' shows
+    → h3.keeps ≡ is_some raw → shows (line_text (lines.Pieces n) ++ (10 ∷ []))
+    → FlashesPieces raw limit before input path spool a c h h' shows
 done_across r n G raw limit before before' input path spool x p p' a c h h3 h4 h' faults past past' shows all is fresh
-    some synced settled same delivers shown =
+    some synced settled same delivers keeps shown =
     record {
       pieces = n;
       delivered = all.across (IsDelivered raw limit before n) (pieces_done r n G raw limit before x p p' is
           (subst (λ (k : ℕ). DeliversPieces G raw r limit k x p p') same delivers));
       synced = all.synced (settled_pieces r n past past' is fresh some synced settled);
+      kept = all.keeps ∙ keeps;
       shown = shown;
     }
 

@@ -7,7 +7,8 @@ use Rattle.sys_disk.specs.InPlace.{ClosesPart, OpensPart, IsAsLong, SparesOthers
 use Rattle.sys_disk.specs.World.{World, OpenFiles, HasFailed, HasNotFailed, Spares, OpensFile, Ends, KeepsFile, failing}
 use Rattle.sys_disk.specs.World.{reading}
 use Rattle.sys_disk.proofs.Closings.{ends_in, apart_from, others_spared, keeps_read}
-use Rattle.cmd_flash.specs.Files.{Between, OfBoth, OfFile}
+use Rattle.sys_disk.proofs.Worlds.{may_behind, spared_if_may}
+use Rattle.cmd_flash.specs.Files.{Between, OfBoth, OfFile, SparesAround}
 
 -- a partition is returned with its length unchanged
 pub as_long : (path p p' : List ℕ) (a b c : World) (h h' h'' : OpenFiles) (n : ℕ) → OpensPart a path p h h' → b ≡ a
@@ -82,7 +83,7 @@ input_kept input path x p p' a a' b c h0 h h' r same o same' ends =
 pub record Ran (input path x p p' : List ℕ) (old new : World) (h h' : OpenFiles) (faults : ℕ) (past : Past) : Type 1
   where
     pub with_files : (P : List ℕ → List ℕ → List ℕ → Type 0) → P x p p' → Between input path old new P
-    pub others : SparesOthers path old new
+    pub others : SparesAround path h old new
     pub kept : KeepsFile input old new
     pub failed : h'.failed ≡ h.failed + faults
     pub synced : is_settled past ≡ true → h'.syncs ≡ h.syncs + 1
@@ -115,7 +116,10 @@ ran input path x p p' a a' a'' b c h0 h h' h3 h4 n k past w d r same o same' l s
     let ended : Ends h'.part p' b c = subst (λ (q : Option ℕ). Ends q p' b c) (ap (λ (q : OpenFiles). q.part) l) ends in
     record {
       with_files = λ P so. between input path x p p' a a' b c h0 h h' P r same o (same'' ∙ same') ended so;
-      others = others_written path p p' a a' b c h h' same o (same'' ∙ same') ended paths;
+      others = record {
+        others = others_written path p p' a a' b c h h' same o (same'' ∙ same') ended paths;
+        in_use = spared_if_may path h0 a c (may_behind path input x h0 h a r o.allowed);
+      };
       kept = input_kept input path x p p' a a' b c h0 h h' r same o (same'' ∙ same') ended;
       failed = failed_more h0 h h' h3 h4 r.file o.file n k past w d r.taken o.taken l closed;
       synced = λ settled. synced_more h0 h h' h3 h4 r.file o.file n k past w d r.taken o.taken l closed settled;

@@ -1,12 +1,18 @@
 -- What holds of the files that a command was given.
 use Rattle.std.specs.Prelude.{◌≡◌, ◌≢◌, ◌⊎◌, ℕ, Bool, false, List, [], length, slice_get, Some, None, Result, OnOk}
-use Rattle.sys_disk.specs.World.{World, OpenFiles, KeepsFile, Spares, HasFailed, HasNotFailed}
+use Rattle.sys_disk.specs.World.{World, OpenFiles, KeepsFile, Spares, SparesInUse, HasFailed, HasNotFailed}
+use Rattle.sys_disk.specs.InPlace.{SparesOthers}
 
 -- no file was opened for writing, no file is written in place, and no file is open for pieces
 pub record MayFlashPieces (held : OpenFiles) : Type 0 where
   pub first : held.begun ≡ []
   pub one : held.part ≡ None
   pub through : held.spool ≡ None
+
+-- the file at this path alone may hold anything else, and not where it is in use and that is not allowed
+pub record SparesAround (partition : List ℕ) (held : OpenFiles) (old new : World) : Type 0 where
+  pub others : SparesOthers partition old new
+  pub in_use : SparesInUse partition held old new
 
 -- What a command that writes leaves of files, whatever the outcome. `Spared` states it of all files but those that it
 -- writes, and IN holds what it held. The result is Ok only where nothing has failed, and PARTITION is closed.

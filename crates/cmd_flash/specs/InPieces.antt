@@ -1,6 +1,6 @@
 -- What the command `flash` in pieces leaves of files, and what it prints.
 use Rattle.std.specs.Prelude.{◌≡◌, ◌≢◌, ℕ, ◌+◌, ◌-◌, ◌≤◌, ◌<◌, ◌⊎◌, List, [], ◌∷◌, ◌++◌, length, Option, Some, None}
-use Rattle.std.specs.Prelude.{Bool, true, IsTrue, Result, Ok, Err, OnOk, IfOk}
+use Rattle.std.specs.Prelude.{Bool, true, IsTrue, Result, Ok, Err, OnOk, IfOk, is_some}
 use Rattle.abt_io.specs.declared.device.Source as sources
 use Rattle.abt_io.specs.declared.device.Partition as partitions
 use Rattle.abt_sparse.specs.Block.{cells, over}
@@ -12,7 +12,7 @@ use Rattle.abt_flash.specs.Delivering.{ImageBlocks, blocks_behind, blocks_in_fir
 use Rattle.abt_flash.specs.Devices.{Counts}
 use Rattle.abt_flash.specs.Raw.{IsAllowed, RawRefused, raw_image}
 use Rattle.abt_flash.specs.Sparse.{Fits, SparseRefused, sparse_image}
-use Rattle.sys_disk.specs.World.{World, OpenFiles, HasFailed}
+use Rattle.sys_disk.specs.World.{World, OpenFiles, SparesInUse, HasFailed}
 use Rattle.cmd_common_sparse.specs.Blocks.{RefusedCut}
 use Rattle.cmd_common_sparse.specs.declared.fault.SparseCommandFault.{SparseCommandFault}
 use Rattle.cmd_common_sparse.specs.declared.fault.SparseCommandFault.TheVariants as faults
@@ -114,19 +114,23 @@ pub record Across (input partition spool : List ℕ) (old new : World) (P : List
   pub so : P (old.holds from) (old.holds onto) (new.holds onto)
 
 -- every path leads where it led, and each file holds what it held but maybe those at two paths, of which the second may
--- be new
-pub record SparesBoth (partition spool : List ℕ) (old new : World) : Type 0 where
+-- be new; but none has changed where one of these is in use and that is not allowed
+pub record SparesBoth (partition spool : List ℕ) (held : OpenFiles) (old new : World) : Type 0 where
   pub paths : (path : List ℕ) (file : ℕ) → old.at path ≡ Some file → new.at path ≡ Some file
   pub files : (file : ℕ) → ¬ (old.at partition ≡ Some file) → ¬ (new.at spool ≡ Some file)
       → new.holds file ≡ old.holds file
+  pub in_use : SparesInUse partition held old new
+  pub spool_in_use : SparesInUse spool held old new
 
--- An image that fits was delivered after its first pieces, and PARTITION was synced after its last byte. The line
--- that was printed has the number of the pieces that were written.
+-- An image that fits was delivered after its first pieces, and PARTITION was synced after its last byte. SPOOL kept its
+-- pages where the image was raw, and not where it was sparse. The line that was printed has the number of the pieces
+-- that were written.
 pub record FlashesPieces (raw : Option ℕ) (limit before : ℕ) (input partition spool : List ℕ) (old new : World)
     (held held' : OpenFiles) (shows : List ℕ → Type 0) : Type 0 where
   pub pieces : ℕ
   pub delivered : Across input partition spool old new (IsDelivered raw limit before pieces)
   pub synced : held'.syncs ≡ held.syncs + 1
+  pub kept : held'.keeps ≡ is_some raw
   pub shown : shows (line_text (lines.Pieces pieces) ++ (10 ∷ []))
 
 -- all was done, and PARTITION closed, but its line is untold

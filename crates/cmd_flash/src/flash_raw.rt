@@ -2,10 +2,9 @@
 
 ghost use Rattle.std.specs.Prelude.{IsTrue, OnOk, IfErr};
 ghost use Rattle.sys_refusals.specs.Paths.{path_of};
-ghost use Rattle.sys_disk.specs.InPlace.{SparesOthers};
 ghost use Rattle.sys_report.specs.Shows.{ShowsBeside, Unprinted};
 ghost use Rattle.sys_disk.specs.DiskCalls.{HasNoPart};
-ghost use Rattle.cmd_flash.specs.Files.{LeavesOthers};
+ghost use Rattle.cmd_flash.specs.Files.{LeavesOthers, SparesAround};
 ghost use Rattle.cmd_flash.specs.FlashingRaw.{FlashesRawFile, RefusesFlashRaw};
 
 use crate::blocks::flash_blocks;
@@ -32,11 +31,11 @@ pub fn flash_raw_file<'a, D: Disk>(
     ensures done { IsTrue D.models → OnOk result (FlashesRawFile size (path_of input.entry) (path_of partition.entry)
         (D.world disk.old) (D.world disk.new) (D.held disk.old).syncs (D.held disk.new).syncs
         (ShowsBeside (D.on_output (path_of partition.entry)) report.old report.new)) }
-    // whatever the outcome, only PARTITION may hold anything else, IN holds what it held; after an Ok nothing has
-    // failed
-    ensures leaves { IsTrue D.models → LeavesOthers result (SparesOthers (path_of partition.entry) (D.world disk.old)
-        (D.world disk.new)) (path_of input.entry) (D.held disk.old) (D.held disk.new) (D.world disk.old)
-        (D.world disk.new) }
+    // whatever the outcome, only PARTITION may hold anything else, where it is not in use or that is allowed, and IN
+    // holds what it held; after an Ok nothing has failed
+    ensures leaves { IsTrue D.models → LeavesOthers result (SparesAround (path_of partition.entry) (D.held disk.old)
+        (D.world disk.old) (D.world disk.new)) (path_of input.entry) (D.held disk.old) (D.held disk.new)
+        (D.world disk.old) (D.world disk.new) }
     // it fails for its blocks, for lack of room, or where a file, a device or the report failed
     ensures refused { IsTrue D.models → IfErr result (λ refusal. RefusesFlashRaw refusal.fault size
         (path_of input.entry)

@@ -34,15 +34,16 @@ pub fn flash_pieces_file<'a, D: Disk>(
     m: &mut Meter,
 ) -> Result<(), SparseRefusal<'a>>
     requires ready { IsTrue D.models → MayFlashPieces (D.held disk.old) }
-    // PARTITION holds what it held, overwritten by the blocks of the pieces, and is synced; the line has their number
+    // PARTITION holds what it held, overwritten by the blocks of the pieces, and is synced; SPOOL kept its pages where
+    // the image is raw; the line has the number of the pieces
     ensures done { IsTrue D.models → OnOk result (FlashesPieces raw limit (max 1 from - 1) (path_of input.entry)
         (path_of partition.entry) (path_of spool.entry) (D.world disk.old) (D.world disk.new) (D.held disk.old)
         (D.held disk.new) (ShowsBeside (D.on_output (path_of partition.entry)) report.old report.new)) }
-    // whatever the outcome, only PARTITION and SPOOL may hold anything else, and IN holds what it held; after an Ok
-    // nothing has failed
+    // whatever the outcome, only PARTITION and SPOOL may hold anything else, where they are not in use or that is
+    // allowed, and IN holds what it held; after an Ok nothing has failed
     ensures leaves { IsTrue D.models → LeavesOthers result (SparesBoth (path_of partition.entry) (path_of spool.entry)
-        (D.world disk.old) (D.world disk.new)) (path_of input.entry) (D.held disk.old) (D.held disk.new)
-        (D.world disk.old) (D.world disk.new) }
+        (D.held disk.old) (D.world disk.old) (D.world disk.new)) (path_of input.entry) (D.held disk.old)
+        (D.held disk.new) (D.world disk.old) (D.world disk.new) }
     // it fails for what IN is, for its limits, or where a file, a device or the report failed
     ensures refused { IsTrue D.models → IfErr result (λ refusal. RefusesPieces refusal.fault raw limit (max 1 from - 1)
         (path_of input.entry) (path_of partition.entry) (path_of spool.entry) (D.world disk.old) (D.world disk.new)

@@ -6,7 +6,7 @@ use Rattle.std.proofs.lemmas.Bool.{false≢true}
 use Rattle.std.proofs.lemmas.List.Sums.{sum_by-append}
 use Rattle.abt_sections.specs.Cause.{total}
 use Rattle.sys_disk.specs.World.{ClosesOutput, Creates, HasFailed, HasNotFailed, OpenFiles, World, ended, failing}
-use Rattle.sys_disk.specs.World.{unended}
+use Rattle.sys_disk.specs.World.{EndsOutput}
 use Rattle.sys_disk.specs.World.{untouched}
 use Rattle.cmd_pack_outputs.specs.Writing.{LeavesOut}
 
@@ -38,16 +38,8 @@ failing_all a b c d h0 h1 h2 h3 h4 one two three four =
 -- with this many failures before
 pub ended_behind : (d : Bool) (r n : ℕ) (h : OpenFiles) → ended d n (failing r h) ≡ ended d (r + n) h
 ended_behind d r n h =
-    ap (λ (k : ℕ). record {
-      read = h.read;
-      begun = h.begun;
-      output = None;
-      part = h.part;
-      spool = h.spool;
-      is_synced = h.is_synced;
-      syncs = h.syncs + (if d && h.is_synced then 1 else 0);
-      failed = k;
-    }) (let z : h.failed + r + n ≡ h.failed + (r + n) = omega arith in z)
+    ap (λ (k : ℕ). record h { output = None; syncs = h.syncs + (if d && h.is_synced then 1 else 0); failed = k })
+    (let z : h.failed + r + n ≡ h.failed + (r + n) = omega arith in z)
 
 pub closes_done : (r n : ℕ) (h h' h'' : OpenFiles) → h' ≡ failing r h → h'' ≡ ended true n h' → r + n ≡ 0
     → ClosesOutput true h h''
@@ -91,17 +83,17 @@ answered answer (Ok y) is = ap is_ok is
 answered answer (Err e) is = tt
 
 -- the end returns the result of the call
-pub closes_answer : {X Y F G : Type 0} (answer : Result X F) (result : Result Y G) (r0 w0 r n : ℕ)
-    (h h' h'' : OpenFiles)
-    → r0 ≡ 0 → w0 ≡ 0 → h' ≡ failing r h → h'' ≡ ended (is_ok result) (unended (is_ok answer) (is_ok result) + n) h'
+pub closes_answer : {X Y F G : Type 0} {bytes : List ℕ} {a b : World} (answer : Result X F) (result : Result Y G)
+    (r0 w0 r n : ℕ) (h h' h'' : OpenFiles)
+    → r0 ≡ 0 → w0 ≡ 0 → h' ≡ failing r h → EndsOutput (is_ok answer) (is_ok result) bytes n h' h'' a b
     → OnOk answer (r + n ≡ r0 + w0) → OnErr answer (r0 + w0 < r + n) → OnOk result (IsOk answer)
     → ClosesOutput (is_ok result) h h''
 closes_answer (Ok x) (Ok y) r0 w0 r n h h' h'' zero_r zero_w before end clean cause done =
-    closes_done r (0 + n) h h' h'' before end (omega (arith, clean, zero_r, zero_w))
+    closes_done r (end.more + n) h h' h'' before end.closed (omega (arith, end.clean refl, clean, zero_r, zero_w))
 closes_answer (Ok x) (Err e) r0 w0 r n h h' h'' zero_r zero_w before end clean cause done =
-    closes_undone r (1 + n) h h' h'' before end (omega arith)
+    closes_undone r (end.more + n) h h' h'' before end.closed (omega (arith, end.cause refl refl))
 closes_answer (Err f) (Err e) r0 w0 r n h h' h'' zero_r zero_w before end clean cause done =
-    closes_undone r (0 + n) h h' h'' before end (omega (arith, cause))
+    closes_undone r (end.more + n) h h' h'' before end.closed (omega (arith, cause))
 closes_answer (Err f) (Ok y) r0 w0 r n h h' h'' zero_r zero_w before end clean cause done = absurd (false≢true done)
 
 -- ---- from the creation of the output on

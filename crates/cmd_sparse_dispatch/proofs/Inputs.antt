@@ -3,7 +3,7 @@ use Rattle.std.proofs.Common.{◌≡◌, ◌≢◌, ℕ, Bool, List, [], ◌∷�
 use Rattle.std.specs.Prelude.{IsTrue, Result, Ok, Err, IfErr, OnOk}
 use Rattle.std.specs.List.{AllByRecursion}
 use Rattle.sys_refusals.specs.Paths.{output_path}
-use Rattle.sys_disk.specs.World.{World, OnlyAt, KeepsFile}
+use Rattle.sys_disk.specs.World.{World, OnlyAt, KeepsFile, SparesInUse}
 use Rattle.sys_report.specs.Shows.{ShowsBeside, Unprinted}
 use Rattle.cmd_cut.specs.Sparsing.{HoldsNoPartOfSparse}
 use Rattle.cmd_common_sparse.specs.ImagePath.{image_path}
@@ -51,11 +51,15 @@ several_done on_output r inputs output place a z not at done synced =
 pub several_spared : (inputs : List (Bor (List ℕ))) (output place : List ℕ) (a z : State) → length inputs ≢ 1
     → place ≡ output → OnlyAt a.held.read place a.world z.world
     → AllByRecursion (λ path. KeepsFile path a.world z.world) (map (λ word. image_path word.now) inputs)
-    → SparesExpanded (map (λ word. word.now) inputs) output a z
-several_spared inputs output place a z not at only kept = several
-    (λ paths. OnlyAt a.held.read output a.world z.world × AllByRecursion (λ path. KeepsFile path a.world z.world) paths)
-    (λ words. SparesExpanded words output a z) inputs not (λ is. is) (λ x y rest is. is)
-    (subst (λ p. OnlyAt a.held.read p a.world z.world) at only, kept)
+    → SparesInUse place a.held a.world z.world → SparesExpanded (map (λ word. word.now) inputs) output a z
+several_spared inputs output place a z not at only kept guarded = several
+    (λ paths. OnlyAt a.held.read output a.world z.world × AllByRecursion (λ path. KeepsFile path a.world z.world) paths
+    × SparesInUse output a.held a.world z.world)
+    (λ words. SparesExpanded words output a z) inputs not (λ is. is) (λ x y rest is. is) (
+      subst (λ p. OnlyAt a.held.read p a.world z.world) at only,
+      kept,
+      subst (λ p. SparesInUse p a.held a.world z.world) at guarded,
+    )
 
 pub several_refused : {X : Type 0} {E : Type 0} (r : Result X E) (fault_of : E → SparseCommandFault)
     (inputs : List (Bor (List ℕ))) (output place : List ℕ) (a z : State) → length inputs ≢ 1 → place ≡ output
@@ -72,13 +76,15 @@ several_refused (Err e) fault_of inputs output place a z not at why = several
 pub one_spared : (inputs : List (Bor (List ℕ))) (other : Bor (List ℕ)) (output from place : List ℕ) (a z : State)
     → length inputs ≡ 1 → from ≡ image_path (get_or inputs 0 other).now → place ≡ output_path output
     → OnlyAt a.held.read place a.world z.world → KeepsFile from a.world z.world
-    → SparesExpanded (map (λ word. word.now) inputs) output a z
-one_spared [] other output from place a z one read at only kept = absurd (omega (arith, one))
-one_spared (word ∷ []) other output from place a z one read at only kept = (
+    → SparesInUse place a.held a.world z.world → SparesExpanded (map (λ word. word.now) inputs) output a z
+one_spared [] other output from place a z one read at only kept guarded = absurd (omega (arith, one))
+one_spared (word ∷ []) other output from place a z one read at only kept guarded = (
   subst (λ p. OnlyAt a.held.read p a.world z.world) at only,
   subst (λ p. KeepsFile p a.world z.world) read kept,
+  subst (λ p. SparesInUse p a.held a.world z.world) at guarded,
 )
-one_spared (word ∷ (more ∷ rest)) other output from place a z one read at only kept = absurd (omega (arith, one))
+one_spared (word ∷ (more ∷ rest)) other output from place a z one read at only kept guarded =
+    absurd (omega (arith, one))
 
 -- what is spared at a path
 pub spared_at : (read path : List ℕ) (place : List ℕ) (a z : World) → place ≡ path → OnlyAt read place a z

@@ -8,8 +8,7 @@ use Rattle.words_orders.specs.declared.order.SparseTask.TheVariants as tasks
 use Rattle.words_orders.specs.declared.order.Pieces.{Pieces}
 use Rattle.sys_report.specs.declared.report.Report.{Report}
 use Rattle.sys_report.specs.Shows.{CannotPrint, ShowsBeside, ShowsHere, Unprinted}
-use Rattle.sys_disk.specs.World.{World, OpenFiles, OnlyAt, KeepsFile, HasNotFailed}
-use Rattle.sys_disk.specs.InPlace.{SparesOthers}
+use Rattle.sys_disk.specs.World.{World, OpenFiles, OnlyAt, KeepsFile, SparesInUse, HasNotFailed}
 use Rattle.cmd_common_sparse.specs.ImagePath.{image_path}
 use Rattle.cmd_common_sparse.specs.PieceNames.{Naming, naming}
 use Rattle.cmd_common_sparse.specs.declared.fault.SparseCommandFault.{SparseCommandFault}
@@ -18,7 +17,7 @@ use Rattle.cmd_expand.specs.Overlaying.{OverlaysFiles, RefusesOverlay}
 use Rattle.cmd_cut.specs.Sparsing.{HoldsNoPartOfSparse, RefusesRaw, SparsifiesFile}
 use Rattle.cmd_cut.specs.Cutting.{CutsFile, IsPiecePath, RefusesCut, ShowsCut}
 use Rattle.sys_disk.specs.Among.{OnlyAmong}
-use Rattle.cmd_flash.specs.Files.{OfFile}
+use Rattle.cmd_flash.specs.Files.{OfFile, SparesAround}
 use Rattle.cmd_flash.specs.Flashing.{FlashesFile, RefusesFlash}
 use Rattle.cmd_flash.specs.FlashingRaw.{FlashesRawFile, RefusesFlashRaw}
 use Rattle.cmd_flash.specs.InPieces.{FlashesPieces, RefusesPieces, SparesBoth}
@@ -115,12 +114,13 @@ pub record LeavesSpared {X F : Type 0} (r : Result X F) (Spared : State → Stat
 abbrev pub SparesWorld : State → State → Type 0
 SparesWorld a z = z.world ≡ a.world
 
--- OUT alone may hold anything else, and each IN holds what it held
+-- OUT alone may hold anything else, and not where it is in use and that is not allowed; each IN holds what it held
 abbrev pub SparesExpanded : List (List ℕ) → List ℕ → State → State → Type 0
 SparesExpanded (input ∷ []) output a z = OnlyAt a.held.read (output_path output) a.world z.world
-    × KeepsFile (image_path input) a.world z.world
+    × KeepsFile (image_path input) a.world z.world × SparesInUse (output_path output) a.held a.world z.world
 SparesExpanded inputs output a z = OnlyAt a.held.read output a.world z.world
     × AllByRecursion (λ path. KeepsFile path a.world z.world) (map image_path inputs)
+    × SparesInUse output a.held a.world z.world
 
 abbrev pub SparesSparsified : List ℕ → List ℕ → State → State → Type 0
 SparesSparsified input output a z =
@@ -131,12 +131,13 @@ abbrev pub SparesCut : List ℕ → List ℕ → State → State → Type 0
 SparesCut input prefix a z =
     OnlyAmong (IsPiecePath prefix) a.held.read z.held.begun a.world z.world × KeepsFile input a.world z.world
 
--- PARTITION alone may hold anything else, and SPOOL, where pieces go through it; IN holds what it held
+-- PARTITION alone may hold anything else, and SPOOL, where pieces go through it, and neither where it is in use and
+-- that is not allowed; IN holds what it held
 abbrev pub SparesFlashed : List ℕ → List ℕ → Option Pieces → State → State → Type 0
 SparesFlashed input partition None a z =
-    SparesOthers partition a.world z.world × KeepsFile (image_path input) a.world z.world
+    SparesAround partition a.held a.world z.world × KeepsFile (image_path input) a.world z.world
 SparesFlashed input partition (Some p) a z =
-    SparesBoth partition p.spool.now a.world z.world × KeepsFile (image_path input) a.world z.world
+    SparesBoth partition p.spool.now a.held a.world z.world × KeepsFile (image_path input) a.world z.world
 
 -- each file that a task reads holds what it held, and only the files that it is to write may have changed
 abbrev pub SparesFiles : SparseTask → State → State → Type 0

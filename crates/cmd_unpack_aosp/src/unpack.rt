@@ -45,6 +45,8 @@ pub fn unpack_as_aosp<'t, 'a, D: Disk>(
     // it fails for a fault of IN, or since a call failed, or for a fragment without a name
     ensures refused { IsTrue D.models → IfErr result (λ refusal. RefusesUnpack (path_of input.entry) (D.world disk.old)
         (HasFailed (D.held disk.old) (D.held disk.new)) refusal.fault) }
+    // nothing is printed: only the progress may be another
+    ensures quiet { report.new ≡ record report.old { progress = report.new.progress } }
 {
     let mut device = match disk.source(input) {
         Ok(device) => device,

@@ -2,11 +2,10 @@
 
 ghost use Rattle.std.specs.Prelude.{OnOk, IfErr};
 ghost use Rattle.sys_refusals.specs.Paths.{path_in, path_of};
-ghost use Rattle.sys_disk.specs.InPlace.{SparesOthers};
 ghost use Rattle.mem_disk.specs.Memory.{held_of, world_of};
 ghost use Rattle.sys_report.specs.Shows.{ShowsHere, Unprinted};
 ghost use Rattle.sys_disk.specs.DiskCalls.{HasNoPart};
-ghost use Rattle.cmd_flash.specs.Files.{LeavesOthers};
+ghost use Rattle.cmd_flash.specs.Files.{LeavesOthers, SparesAround};
 ghost use Rattle.cmd_flash.specs.Flashing.{FlashesFile, RefusesFlash};
 
 use abt_io::{Meter, Window};
@@ -28,9 +27,9 @@ pub fn flash_in_memory<'a>(
     requires { HasNoPart (held_of disk.old) }
     ensures done { OnOk result (FlashesFile (path_in input.entry) (path_of partition.entry) (world_of disk.old)
         (world_of disk.new) (held_of disk.old).syncs (held_of disk.new).syncs (ShowsHere report.old report.new)) }
-    ensures leaves { LeavesOthers result (SparesOthers (path_of partition.entry) (world_of disk.old)
-        (world_of disk.new)) (path_in input.entry) (held_of disk.old) (held_of disk.new) (world_of disk.old)
-        (world_of disk.new) }
+    ensures leaves { LeavesOthers result (SparesAround (path_of partition.entry) (held_of disk.old)
+        (world_of disk.old) (world_of disk.new)) (path_in input.entry) (held_of disk.old) (held_of disk.new)
+        (world_of disk.old) (world_of disk.new) }
     ensures refused { IfErr result (λ refusal. RefusesFlash refusal.fault (path_in input.entry)
         (path_of partition.entry) (world_of disk.old) (world_of disk.new) (held_of disk.old) (held_of disk.new)
         (Unprinted report.old report.new)) }

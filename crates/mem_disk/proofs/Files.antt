@@ -2,6 +2,7 @@
 use Rattle.std.proofs.Common.{arith, zero, suc, drop, ◌+◌, ◌≡◌, ◌≢◌, ℕ, ◌<◌, ◌≤◌, List, [], ◌∷◌, ◌++◌, Option, Some}
 use Rattle.std.proofs.Common.{None, Err, refl, sym, ◌∙◌, ap, subst}
 use Rattle.std.specs.Prelude.{Contains, get_or, set, length, cond, bytes_eq, string_bytes, Bool, true, false}
+use Rattle.std.specs.Prelude.{◌&&◌, if◌then◌else◌}
 use Rattle.std.proofs.lemmas.List.{map-set, map-append, get_or-set_same, get_or-set_other, drop_all}
 use Rattle.std.proofs.lemmas.List.{length-map}
 use Rattle.std.proofs.Math.Seq.{drop-cons}
@@ -10,10 +11,11 @@ use Rattle.std.proofs.lemmas.Bool.{cond-true, cond-false}
 use Rattle.std.proofs.lemmas.Slice.Eq.{bytes_eq-Decides}
 use Rattle.mem_disk.specs.Memory.{contents, leads, world_of_files, world_of, held_of, Untouched, RefusesAt}
 use Rattle.mem_disk.specs.Memory.{CountsFailed}
-use Rattle.sys_disk.specs.DiskCalls.{CreatesOutput}
+use Rattle.sys_disk.specs.DiskCalls.{CreatesOutput, LetsGo}
 use Rattle.sys_disk.specs.Images.{HoldsSame}
-use Rattle.sys_disk.specs.World.{World, Spares, Ends, SparesRest, OnlyAt, untouched, in_output, KeepsBegun}
-use Rattle.sys_disk.specs.World.{OpenFiles, failing}
+use Rattle.sys_disk.specs.World.{World, MayWrite, Spares, SparesInUse, Ends, SparesRest, OnlyAt, untouched, in_output}
+use Rattle.sys_disk.specs.World.{OpenFiles, KeepsBegun, ended, failing}
+use Rattle.sys_disk.proofs.Worlds.{spared_if_may}
 use Rattle.mem_disk.specs.declared.disk.MemoryDisk.{MemoryDisk}
 use Rattle.mem_disk.specs.declared.disk.MemoryFile.{MemoryFile}
 use Rattle.mem_disk.specs.declared.disk.MemoryPath.{MemoryPath}
@@ -163,6 +165,7 @@ only_then read path a b c e only = subst (λ w. OnlyAt read path a w) (sym e) on
 -- nothing was done
 pub refuses_untouched : (path : List ℕ) (a b : MemoryDisk) → Untouched a b → RefusesAt path a b
 refuses_untouched path a b same = record {
+  guarded = λ used refused. same.world;
   kept = same.held;
   only = untouched same.world;
   same = λ f. ap (λ w. w.holds f) same.world;
@@ -171,8 +174,9 @@ refuses_untouched path a b same = record {
 -- it was made, and could not be begun
 pub refuses_created : (path : List ℕ) (file : ℕ) (a b c : MemoryDisk) → held_of b ≡ held_of a
     → HoldsSame (world_of a) (world_of b) → (world_of b).at path ≡ Some file → Spares file (world_of a) (world_of b)
-    → ¬ Contains a.read.items file → Untouched b c → RefusesAt path a c
-refuses_created path file a b c held holds there made free same = record {
+    → ¬ Contains a.read.items file → Untouched b c → MayWrite path (held_of a) → RefusesAt path a c
+refuses_created path file a b c held holds there made free same may = record {
+  guarded = spared_if_may path (held_of a) (world_of a) (world_of c) may;
   kept = same.held ∙ held;
   only = only_then a.read.items path (world_of a) (world_of b) (world_of c) same.world (in_output file there free made);
   same = λ f. ap (λ w. w.holds f) same.world ∙ holds f;
@@ -182,6 +186,9 @@ refuses_created path file a b c held holds there made free same = record {
 pub refuses_at : (path path' : List ℕ) (old old' new : MemoryDisk) → held_of old' ≡ held_of old
     → world_of old' ≡ world_of old → path ≡ path' → RefusesAt path old new → RefusesAt path' old' new
 refuses_at path path' old old' new held same e refused = record {
+  guarded = subst (λ p. SparesInUse p (held_of old') (world_of old') (world_of new)) e
+      (subst (λ w. SparesInUse path (held_of old') w (world_of new)) (sym same)
+      (subst (λ (h : OpenFiles). SparesInUse path h (world_of old) (world_of new)) (sym held) refused.guarded));
   kept = refused.kept ∙ sym held;
   only = subst (λ p. OnlyAt old'.read.items p (world_of old') (world_of new)) e
       (subst (λ w. OnlyAt old'.read.items path w (world_of new)) (sym same)
@@ -192,6 +199,11 @@ refuses_at path path' old old' new held same e refused = record {
 -- no file that was begun has changed then
 pub begun_then : (begun : List ℕ) (a b c : World) → c ≡ b → HoldsSame a b → KeepsBegun begun a c
 begun_then begun a b c e same = λ f _. ap (λ w. w.holds f) e ∙ same f
+
+-- no file has changed then, where the path may not be written
+pub guarded_then : (path : List ℕ) (a b : MemoryDisk) (c : World) → c ≡ world_of b → RefusesAt path a b
+    → SparesInUse path (held_of a) (world_of a) c
+guarded_then path a b c e at used refused = e ∙ at.guarded used refused
 
 -- and the refusal is counted
 pub creates_path : {A F : Type 0} (e : F) (path : List ℕ) (written : A → List ℕ) (faults : A → ℕ) (a b c : MemoryDisk)
@@ -204,4 +216,35 @@ creates_path e path written faults a b c refused counted = record {
   kept = λ _. counted.held ∙ ap (failing 1) refused.kept;
   only = λ _. only_then a.read.items path (world_of a) (world_of b) (world_of c) counted.world refused.only;
   begun = λ _. begun_then a.begun.items (world_of a) (world_of b) (world_of c) counted.world refused.same;
+  guarded = λ _. guarded_then path a b (world_of c) counted.world refused;
+}
+
+-- ---- an output that is given up
+
+-- with this many failures before, and this many after
+ended_behind : (n m : ℕ) (h : OpenFiles) → failing m (ended false 0 (failing n h)) ≡ ended false (m + n) h
+ended_behind n m h = ap (λ (k : ℕ). record h { output = None; syncs = h.syncs + 0; failed = k })
+    (let z : h.failed + n + 0 + m ≡ h.failed + (m + n) = omega arith in z)
+
+-- its file was there
+pub lets_go_put : (n : ℕ) (bytes : List ℕ) (h h' h'' : OpenFiles) (a b c : World) → h' ≡ failing n h → b ≡ a
+    → h'' ≡ ended false 0 h' → SparesRest h'.output b c → Ends h'.output bytes b c → LetsGo bytes n h h'' a c
+lets_go_put n bytes h h' h'' a b c counted same closed rest ends = record {
+  more = 0;
+  closed = closed ∙ ap (ended false 0) counted ∙ (let z : ended false 0 (failing n h) ≡ ended false (0 + n) h =
+      ap (λ (k : ℕ). record h { output = None; syncs = h.syncs + 0; failed = k })
+      (let y : h.failed + n + 0 ≡ h.failed + (0 + n) = omega arith in y) in z);
+  rest = subst (λ w. SparesRest h.output w c) same (subst (λ (k : OpenFiles). SparesRest k.output b c) counted rest);
+  left = λ none. subst (λ w. Ends h.output bytes w c) same
+      (subst (λ (k : OpenFiles). Ends k.output bytes b c) counted ends);
+}
+
+-- it was not
+pub lets_go_lost : (n : ℕ) (bytes : List ℕ) (h h' h'' h3 : OpenFiles) (a b c : World) → h' ≡ failing n h → b ≡ a
+    → h'' ≡ ended false 0 h' → h3 ≡ failing 1 h'' → SparesRest h'.output b c → LetsGo bytes n h h3 a c
+lets_go_lost n bytes h h' h'' h3 a b c counted same closed lost rest = record {
+  more = 1;
+  closed = lost ∙ ap (failing 1) (closed ∙ ap (ended false 0) counted) ∙ ended_behind n 1 h;
+  rest = subst (λ w. SparesRest h.output w c) same (subst (λ (k : OpenFiles). SparesRest k.output b c) counted rest);
+  left = λ none. absurd (omega (arith, none));
 }

@@ -1,8 +1,9 @@
 -- The files of a disk in memory.
 use Rattle.std.specs.Prelude.{◌≡◌, ℕ, ◌<◌, ◌≤◌, ◌-◌, List, [], ◌∷◌, Option, Some, None, Contains, cond}
-use Rattle.std.specs.Prelude.{bytes_eq, string_bytes, map, get_or, Result, IfOk, OnOk, OnErr, length, take, drop}
+use Rattle.std.specs.Prelude.{bytes_eq, string_bytes, map, get_or, Result, IfOk, OnOk, OnErr, length, take, drop, Bool}
+use Rattle.std.specs.Prelude.{codes}
 use Rattle.sys_disk.specs.Images.{HoldsSame}
-use Rattle.sys_disk.specs.World.{World, OpenFiles, Spares, OpensFile, Creates, OnlyAt, failing}
+use Rattle.sys_disk.specs.World.{World, OpenFiles, MayWrite, Spares, SparesInUse, OpensFile, Creates, OnlyAt, failing}
 use Rattle.mem_disk.specs.declared.disk.MemoryDisk.{MemoryDisk}
 use Rattle.mem_disk.specs.declared.disk.MemoryFile.{MemoryFile}
 use Rattle.mem_disk.specs.declared.disk.MemoryPath.{MemoryPath}
@@ -24,6 +25,10 @@ world_of_files paths files = record { at = leads paths; holds = λ f. get_or (co
 abbrev pub world_of : MemoryDisk → World
 world_of d = world_of_files d.paths.items d.files.items
 
+-- the one path that leads to a device in use
+abbrev pub is_in_use : List ℕ → Bool
+is_in_use path = bytes_eq path (codes "/dev/in-use")
+
 abbrev pub held_of : MemoryDisk → OpenFiles
 held_of d = record {
   read = d.read.items;
@@ -31,8 +36,11 @@ held_of d = record {
   output = d.output;
   part = d.part;
   spool = d.spool;
+  keeps = d.keeps;
   is_synced = d.is_synced;
   syncs = d.syncs.number;
+  in_use = is_in_use;
+  allows_mounted = d.allows_mounted;
   failed = d.failed.tally.number;
 }
 
@@ -40,9 +48,10 @@ held_of d = record {
 abbrev pub with_file_begun : ℕ → OpenFiles → OpenFiles
 with_file_begun file h = record h { begun = file ∷ h.begun }
 
--- the file at this path was created or emptied, and holds these bytes: none that is read or was begun, and all others
--- are as before
+-- the file at this path, which may be written, was created or emptied, and holds these bytes: none that is read or was
+-- begun, and all others are as before
 pub record Starts (file : ℕ) (path bytes : List ℕ) (held held' : OpenFiles) (old new : World) : Type 0 where
+  pub allowed : MayWrite path held
   pub begins : held' ≡ with_file_begun file held
   pub there : new.at path ≡ Some file
   pub free : ¬ Contains held.read file
@@ -84,8 +93,9 @@ pub record OpensMemory {A E : Type 0} (r : Result A E) (path : List ℕ) (its_by
   pub world : world_of new ≡ world_of old
 
 -- A file at this path could not be begun: nothing was opened, no file holds anything else, and nothing else has changed
--- except the file at this path.
+-- except the file at this path. Where that may not be written, nothing has.
 pub record RefusesAt (path : List ℕ) (old new : MemoryDisk) : Type 0 where
+  pub guarded : SparesInUse path (held_of old) (world_of old) (world_of new)
   pub kept : held_of new ≡ held_of old
   pub only : OnlyAt old.read.items path (world_of old) (world_of new)
   pub same : HoldsSame (world_of old) (world_of new)

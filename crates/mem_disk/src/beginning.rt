@@ -29,6 +29,9 @@ impl MemoryDisk {
             (held_of self.new) (world_of self.old) (world_of self.new)) }
         ensures refused { OnErr result (RefusesAt (string_bytes path) self.old self.new) }
     {
+        if !self.may_write(path.as_str()) {
+            return Err(HostFault::Mounted);
+        }
         match self.file_at(path.as_str()) {
             Some(file) => match self.fill(file, bytes) {
                 Ok(()) => Ok(file),

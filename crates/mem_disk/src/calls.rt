@@ -141,10 +141,10 @@ impl Disk for MemoryDisk {
         &mut self,
         place: FileArg<'a>,
         limit: u32,
-        _keeping: bool,
+        keeping: bool,
         _from: &MemorySource,
     ) -> Result<MemorySpool, HostRefusal<'a>> {
-        match self.spool_at(place, limit) {
+        match self.spool_at(place, limit, keeping) {
             Ok(through) => Ok(through),
             Err(refusal) => Err(self.refused(refusal)),
         }
@@ -230,7 +230,10 @@ impl Disk for MemoryDisk {
 
     fn give_up(&mut self, onto: MemoryOutput) {
         self.add_failures(&onto.failed);
-        self.put(onto.bytes);
+        if self.put(onto.bytes) {
+            return;
+        }
+        self.failed.add();
     }
 
     fn image<'a>(

@@ -1,7 +1,8 @@
 //! A disk in memory, which models its files.
 
-ghost use Rattle.std.specs.Prelude.{◌≡◌, [], None, false, IfOk, Contains, get_or};
-ghost use Rattle.mem_disk.specs.Memory.{contents, leads, CountsFailed};
+ghost use Rattle.std.specs.Prelude.{◌≡◌, [], None, false, IfOk, Contains, get_or, IsTrue};
+ghost use Rattle.sys_disk.specs.World.{MayWrite};
+ghost use Rattle.mem_disk.specs.Memory.{contents, leads, held_of, CountsFailed};
 
 use crate::{Failures, Faults};
 use abt_io::Tally;
@@ -33,8 +34,11 @@ pub struct MemoryDisk {
     pub(crate) output: Option<u64>,
     pub(crate) part: Option<u64>,
     pub(crate) spool: Option<u64>,
+    pub(crate) keeps: bool,
     pub(crate) is_synced: bool,
     pub(crate) syncs: Tally,
+    /// Whether the device at `/dev/in-use` may be written.
+    pub allows_mounted: bool,
     /// How often a call failed, or a device failed that was given back.
     pub failed: Failures,
 }
@@ -66,8 +70,10 @@ impl MemoryDisk {
             output: None,
             part: None,
             spool: None,
+            keeps: false,
             is_synced,
             syncs: Tally::new(),
+            allows_mounted: false,
             failed: Failures::none(),
         }
     }
@@ -95,6 +101,16 @@ impl MemoryDisk {
         ensures begun { result ≡ false → ¬ Contains self.now.begun.items file }
     {
         self.read.as_slice().contains(&file) || self.begun.as_slice().contains(&file)
+    }
+
+    // Whether this path leads to no device that is in use, or such devices may be written.
+    pub(crate) fn may_write(&self, path: &str) -> bool
+        ensures { IsTrue result → MayWrite path.now (held_of self.now) }
+    {
+        if path == "/dev/in-use" {
+            return self.allows_mounted;
+        }
+        true
     }
 
     // Counts a failed call.

@@ -29,6 +29,9 @@ impl MemoryDisk {
         let Ok(path) = place.path(self.alloc) else {
             return Err(HostRefusal::memory());
         };
+        if !self.may_write(path.as_str()) {
+            return Err(HostRefusal::at(HostFault::Mounted, place, None));
+        }
         let Some(file) = self.file_at(path.as_str()) else {
             return Err(HostRefusal::at(HostFault::CannotOpen, place, None));
         };

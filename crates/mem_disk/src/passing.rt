@@ -16,14 +16,15 @@ impl MemoryDisk {
         &mut self,
         place: FileArg<'a>,
         limit: u32,
+        keeping: bool,
     ) -> Result<MemorySpool, HostRefusal<'a>>
         ensures capacity { IfOk result (λ through. through.limit ≡ limit) }
         ensures empty { IfOk result (λ through. through.log.state ≡ nothing_logged) }
         ensures reads { IfOk result (λ through. through.read_failures.tally.number ≡ 0) }
         ensures writes { IfOk result (λ through. through.write_failures.tally.number ≡ 0) }
         ensures clears { IfOk result (λ through. through.clear_failures.tally.number ≡ 0) }
-        ensures opened { OnOk result (OpensSpool (path_of place.entry) (held_of self.old) (held_of self.new)
-            (world_of self.old) (world_of self.new)) }
+        ensures opened { OnOk result (OpensSpool keeping (path_of place.entry) (held_of self.old)
+            (held_of self.new) (world_of self.old) (world_of self.new)) }
         ensures refused { OnErr result (RefusesAt (path_of place.entry) self.old self.new) }
     {
         if self.faults.calls.is_over() {
@@ -36,6 +37,7 @@ impl MemoryDisk {
         match self.start(path, Vec::new(self.alloc)) {
             Ok(file) => {
                 self.spool = Some(file);
+                self.keeps = keeping;
                 let faults = self.faults;
                 Ok(MemorySpool::new(empty, limit, faults.reads, faults.writes))
             }

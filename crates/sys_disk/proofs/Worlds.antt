@@ -1,9 +1,10 @@
 -- What opening, creating and ending leave together, for who proves a command over any disk.
 use Rattle.std.proofs.Common.{◌≡◌, ◌≢◌, ℕ, ◌+◌, List, [], ◌∷◌, ◌++◌, Option, Some, None, sym, ◌∙◌, ap, subst}
 use Rattle.std.specs.Prelude.{Contains, unwrap_or, true, if◌then◌else◌}
+use Rattle.std.proofs.lemmas.Bool.{true≢false}
 use Rattle.std.proofs.lemmas.List.Elements.{Contains-append_left, Contains-push}
 use Rattle.sys_disk.specs.World.{World, OpenFiles, Spares, OpensFile, Creates, OnlyAt, untouched, in_output, Ends}
-use Rattle.sys_disk.specs.World.{SparesRest, KeepsFile, ended}
+use Rattle.sys_disk.specs.World.{MayWrite, SparesInUse, SparesRest, KeepsFile, ended}
 
 pub spares_trans : (f : ℕ) (a b c : World) → Spares f a b → Spares f b c → Spares f a c
 spares_trans f a b c s t = record {
@@ -59,3 +60,19 @@ pub synced_behind : (path input bytes : List ℕ) (h h' h'' new : OpenFiles) (w 
 synced_behind path input bytes h h' h'' new w a b opened made n done =
     ap (λ k. k.syncs) done ∙ ap (λ k. k.syncs + (if k.is_synced then 1 else 0)) made.begins
     ∙ ap (λ k. k.syncs + (if k.is_synced then 1 else 0)) opened.taken
+
+-- ---- a device that is in use
+
+-- a path that may be written is no such device
+pub spared_if_may : (path : List ℕ) (h : OpenFiles) (a c : World) → MayWrite path h → SparesInUse path h a c
+spared_if_may path h a c may used refused = absurd (true≢false (sym (may used) ∙ refused))
+
+-- behind an input that was opened
+pub may_behind : (path input bytes : List ℕ) (h h' : OpenFiles) (a : World) → OpensFile a input bytes h h'
+    → MayWrite path h' → MayWrite path h
+may_behind path input bytes h h' a opened may = subst (λ k. MayWrite path k) opened.taken may
+
+pub spared_behind : (path input bytes : List ℕ) (h h' : OpenFiles) (a b c : World) → OpensFile a input bytes h h'
+    → b ≡ a → SparesInUse path h' b c → SparesInUse path h a c
+spared_behind path input bytes h h' a b c opened same spared used refused =
+    subst (λ k. SparesInUse path k b c) opened.taken spared used refused ∙ same

@@ -8,7 +8,7 @@ use Rattle.sys_disk.specs.Images.{Leaves}
 use Rattle.sys_disk.specs.InPlace.{OpensPart, MakesZeros}
 use Rattle.sys_disk.specs.Spools.{OpensSpool}
 use Rattle.sys_disk.specs.World.{World, OpenFiles, OpensFile, Creates, OnlyAt, KeepsBegun, KeepsFile, IsFree, Ends}
-use Rattle.sys_disk.specs.World.{SparesRest, HasNotFailed, failing, unless}
+use Rattle.sys_disk.specs.World.{SparesInUse, SparesRest, HasNotFailed, failing, unless}
 use Rattle.sys_disk.specs.World as worlds
 
 -- a file is opened to be read, or the call fails; no file has changed
@@ -51,18 +51,23 @@ pub record MakesPart {A F : Type 0} (models : Bool) (r : Result A F) (n : ℕ) (
   pub kept : IsTrue models → OnErr r (h' ≡ failing 1 h)
   pub only : IsTrue models → OnErr r (OnlyAt h.read path before after)
   pub begun : IsTrue models → OnErr r (KeepsBegun h.begun before after)
+  pub guarded : IsTrue models → OnErr r (SparesInUse path h before after)
 
--- pieces of this many bytes go through the file at this path, or the call fails in the same way
-pub record OpensThrough {A F : Type 0} (models : Bool) (r : Result A F) (n : ℕ) (path : List ℕ) (its_size : A → ℕ)
-    (its_written its_cuts : A → List ℕ) (its_faults : A → ℕ) (h h' : OpenFiles) (before after : World) : Type 0 where
+-- pieces of this many bytes go through the file at this path, which keeps its pages or does not, or the call fails in
+-- the same way
+pub record OpensThrough {A F : Type 0} (models : Bool) (r : Result A F) (n : ℕ) (keeping : Bool) (path : List ℕ)
+    (its_size : A → ℕ) (its_written its_cuts : A → List ℕ) (its_faults : A → ℕ) (h h' : OpenFiles)
+    (before after : World)
+    : Type 0 where
   pub capacity : IfOk r (λ a. its_size a ≡ n)
   pub empty : IsTrue models → IfOk r (λ a. its_written a ≡ [])
   pub uncut : IsTrue models → IfOk r (λ a. its_cuts a ≡ [])
   pub clean : IsTrue models → IfOk r (λ a. its_faults a ≡ 0)
-  pub opened : IsTrue models → OnOk r (OpensSpool path h h' before after)
+  pub opened : IsTrue models → OnOk r (OpensSpool keeping path h h' before after)
   pub kept : IsTrue models → OnErr r (h' ≡ failing 1 h)
   pub only : IsTrue models → OnErr r (OnlyAt h.read path before after)
   pub begun : IsTrue models → OnErr r (KeepsBegun h.begun before after)
+  pub guarded : IsTrue models → OnErr r (SparesInUse path h before after)
 
 -- the file at this path is the open output, or the call fails in the same way
 pub record CreatesOutput {A F : Type 0} (models : Bool) (r : Result A F) (path : List ℕ) (its_written : A → List ℕ)
@@ -73,6 +78,7 @@ pub record CreatesOutput {A F : Type 0} (models : Bool) (r : Result A F) (path :
   pub kept : IsTrue models → OnErr r (h' ≡ failing 1 h)
   pub only : IsTrue models → OnErr r (OnlyAt h.read path before after)
   pub begun : IsTrue models → OnErr r (KeepsBegun h.begun before after)
+  pub guarded : IsTrue models → OnErr r (SparesInUse path h before after)
 
 -- the open output is finished, and holds these bytes, or the call fails; it returns whether that is where standard
 -- output goes
@@ -83,10 +89,13 @@ pub record FinishesOutput {F : Type 0} (models : Bool) (r : Result Bool F) (is_o
   pub rest : IsTrue models → SparesRest h.output before after
   pub stream : IsTrue models → IfOk r (λ is. is ≡ is_on_output)
 
--- the open output is closed
-pub record LetsGo (models : Bool) (failures : ℕ) (h h' : OpenFiles) (before after : World) : Type 0 where
-  pub closed : IsTrue models → h' ≡ worlds.ended false failures h
-  pub rest : IsTrue models → SparesRest h.output before after
+-- The open output is closed, and this many calls more have failed. If none has, and no write had, the file holds these
+-- bytes.
+pub record LetsGo (bytes : List ℕ) (failures : ℕ) (h h' : OpenFiles) (before after : World) : Type 0 where
+  pub more : ℕ
+  pub closed : h' ≡ worlds.ended false (more + failures) h
+  pub rest : SparesRest h.output before after
+  pub left : more + failures ≡ 0 → Ends h.output bytes before after
 
 -- and it holds these bytes, or has no magic at its beginning
 pub record LetsImageGo (models : Bool) (bytes : List ℕ) (failures : ℕ) (h h' : OpenFiles) (before after : World) :

@@ -2,14 +2,16 @@
 use Rattle.std.specs.Prelude.{◌≡◌, ℕ, ◌+◌, List, [], ◌∷◌, length, Option, Some, None, Bool, false, Contains, nat_lt}
 use Rattle.std.specs.Prelude.{◌<◌, IsTrue, if◌then◌else◌, replicate}
 use Rattle.abt_io.specs.Moment.{Past}
-use Rattle.sys_disk.specs.World.{World, OpenFiles, Spares, failing}
+use Rattle.sys_disk.specs.World.{World, OpenFiles, MayWrite, Spares, failing}
 
 -- this file more is written, in place
 abbrev pub in_place : ℕ → OpenFiles → OpenFiles
 in_place file h = record h { begun = file ∷ h.begun; part = Some file }
 
--- the file at this path is written in place from now on: none that is read or was begun, and these are its bytes
+-- the file at this path, which may be written, is written in place from now on: none that is read or was begun, and
+-- these are its bytes
 pub record OpensPart (world : World) (path bytes : List ℕ) (old new : OpenFiles) : Type 0 where
+  pub allowed : MayWrite path old
   pub file : ℕ
   pub there : world.at path ≡ Some file
   pub free : ¬ Contains old.read file
@@ -41,9 +43,10 @@ pub record ClosesPart (is_written is_done : Bool) (past : Past) (failures : ℕ)
   pub clean : IsTrue is_done → more ≡ 0
   pub cause : IsTrue is_written → is_done ≡ false → 0 < more
 
--- the file at this path was created or emptied, and is this many zeros, to be written in place: none that is read or
--- was begun, and all others are as before
+-- the file at this path, which may be written, was created or emptied, and is this many zeros, to be written in place:
+-- none that is read or was begun, and all others are as before
 pub record MakesZeros (n : ℕ) (path : List ℕ) (held held' : OpenFiles) (old new : World) : Type 0 where
+  pub allowed : MayWrite path held
   pub file : ℕ
   pub begins : held' ≡ in_place file held
   pub there : new.at path ≡ Some file

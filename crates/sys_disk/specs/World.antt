@@ -8,17 +8,29 @@ pub record World : Type 0 where
   pub holds : ℕ → List ℕ
 
 -- What was opened: the files that are read; those that were created or opened to be written, the newest first; the open
--- output, the file that is written in place, and the one that pieces go through; whether outputs are synced at their
--- end, and how often one was; how often a call failed, or a device failed that was given back, or memory was refused.
+-- output, the file that is written in place, and the one that pieces go through, and if it keeps its pages; if outputs
+-- are synced at their end, and how often one was; which paths lead to devices in use, mounted or as swap, and if these
+-- may be written; how often a call failed, or a device failed that was given back, or memory was refused.
 pub record OpenFiles : Type 0 where
   pub read : List ℕ
   pub begun : List ℕ
   pub output : Option ℕ
   pub part : Option ℕ
   pub spool : Option ℕ
+  pub keeps : Bool
   pub is_synced : Bool
   pub syncs : ℕ
+  pub in_use : List ℕ → Bool
+  pub allows_mounted : Bool
   pub failed : ℕ
+
+-- this path may be written: it leads to no device that is in use, or such devices may be written
+abbrev pub MayWrite : List ℕ → OpenFiles → Type 0
+MayWrite path held = IsTrue (held.in_use path) → IsTrue held.allows_mounted
+
+-- if this path leads to a device that is in use, and such devices may not be written, no file has changed
+abbrev pub SparesInUse : List ℕ → OpenFiles → World → World → Type 0
+SparesInUse path held old new = IsTrue (held.in_use path) → held.allows_mounted ≡ false → new ≡ old
 
 -- nothing was opened to be written yet
 pub record IsReading (h : OpenFiles) : Type 0 where
@@ -65,11 +77,6 @@ pub record ClosesOutput (is_done : Bool) (old new : OpenFiles) : Type 0 where
   pub clean : IsTrue is_done → failures ≡ 0
   pub cause : is_done ≡ false → 0 < failures
 
--- 1 where the end failed of what was done before
-abbrev pub unended : Bool → Bool → ℕ
-unended true is_done = unless is_done
-unended false is_done = 0
-
 -- every path leads where it led, and no file but this one holds anything else
 pub record Spares (file : ℕ) (old new : World) : Type 0 where
   pub paths : (p : List ℕ) (f : ℕ) → old.at p ≡ Some f → new.at p ≡ Some f
@@ -82,8 +89,9 @@ pub record OpensFile (world : World) (path bytes : List ℕ) (old new : OpenFile
   pub held : bytes ≡ world.holds file
   pub taken : new ≡ reading file old
 
--- the file at this path is begun: none that is read or was begun, and all others are as before
+-- the file at this path is begun, which may be written: none that is read or was begun, and all others are as before
 pub record Creates (path : List ℕ) (held held' : OpenFiles) (old new : World) : Type 0 where
+  pub allowed : MayWrite path held
   pub file : ℕ
   pub begins : held' ≡ creating file held
   pub there : new.at path ≡ Some file
@@ -106,6 +114,17 @@ IsFree path held world =
 abbrev pub Ends : Option ℕ → List ℕ → World → World → Type 0
 Ends None bytes old new = Unit {0}
 Ends (Some file) bytes old new = (new.holds file ≡ bytes) × Spares file old new
+
+-- The output that was open is closed, and this is the result of the call that wrote it. `more` calls have failed at its
+-- end: none where the result is Ok, and some where the call had done its work and the result is an error. If none has,
+-- and no write had, the file holds all that the output took.
+pub record EndsOutput (is_written is_done : Bool) (bytes : List ℕ) (failures : ℕ) (held held' : OpenFiles)
+    (old new : World) : Type 0 where
+  pub more : ℕ
+  pub closed : held' ≡ ended is_done (more + failures) held
+  pub clean : IsTrue is_done → more ≡ 0
+  pub cause : IsTrue is_written → is_done ≡ false → 0 < more
+  pub left : more + failures ≡ 0 → Ends held.output bytes old new
 
 -- all files but this one are as before
 abbrev pub SparesRest : Option ℕ → World → World → Type 0

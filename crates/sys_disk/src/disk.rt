@@ -10,7 +10,7 @@ ghost use Rattle.sys_disk.specs.InPlace.{IsAsLong, closed_part};
 ghost use Rattle.sys_disk.specs.LeftOver.{IsNextLeft, path_with};
 ghost use Rattle.sys_disk.specs.Spools.{closed_spool, behind_clear};
 ghost use Rattle.sys_disk.specs.World.{World, OpenFiles, OpensFile, Creates, OnlyAt, Ends, SparesRest, ended};
-ghost use Rattle.sys_disk.specs.World.{KeepsBegun, failing, unless};
+ghost use Rattle.sys_disk.specs.World.{KeepsBegun, SparesInUse, failing, unless};
 
 use crate::{ImageTo, Lasting, Late, NoMemory};
 use abt_io::{Input, Output, Overwrite, Partition, Source, Spool};
@@ -34,6 +34,9 @@ pub trait Measured {
 /// A clause under `IsTrue models` is about the content of files, and binds only a disk that models it. What was opened
 /// is given back: an output by `finish` or `give_up`, an input by `let_go` or `let_go_source`. So a disk counts the
 /// failures: each of its calls that failed, each fault of a device, and each refusal of memory.
+///
+/// What is opened to be written is no block device that is in use, unless the run may write these. Otherwise the call
+/// fails, and changes no file.
 pub trait Disk {
     /// What is read forward.
     type From: Input + Reasons + Measured + Drop;
@@ -161,7 +164,8 @@ pub trait Disk {
 
     /// Creates or empties the file that pieces of this many bytes go through, which is read again. All bytes in it come
     /// from a source: they are not given back if that has become shorter. Where the file is `keeping` its pages, it
-    /// begins with four zeros and may have anything after them, until the first byte is read.
+    /// begins with four zeros and may have anything after them, until the first byte is read. What was asked for is
+    /// recorded.
     fn spool<'a>(
         &mut self,
         place: FileArg<'a>,
@@ -170,7 +174,7 @@ pub trait Disk {
         from: &Self::At,
     ) -> Result<Self::Through, HostRefusal<'a>>
         requires one { IsTrue models → (held self.old).spool ≡ None }
-        ensures { OpensThrough models result limit (path_of place.entry) Self.Through.Spool.size
+        ensures { OpensThrough models result limit keeping (path_of place.entry) Self.Through.Spool.size
             Self.Through.Output.written Self.Through.Spool.cuts (λ through. Self.Through.Output.write_faults through
             + (Self.Through.Input.read_faults through + Self.Through.Spool.clear_faults through))
             (held self.old) (held self.new) (world self.old) (world self.new) };
@@ -248,7 +252,9 @@ pub trait Disk {
         ensures begun { IsTrue models → OnErr result (KeepsBegun (held self.old).begun (world self.old)
             (world self.new)) }
         ensures empties { IsTrue models → OnErr result (EmptiesAt (path_out place.entry) (world self.old)
-            (world self.new)) };
+            (world self.new)) }
+        ensures guarded { IsTrue models → OnErr result (SparesInUse (path_out place.entry) (held self.old)
+            (world self.old) (world self.new)) };
 
     /// Finishes the open output: all that it took is in its file, and synced if that is wanted. Returns whether it is
     /// where standard output goes.
@@ -256,10 +262,11 @@ pub trait Disk {
         ensures { FinishesOutput models result (on_output (path_out place.entry)) (Self.Onto.written onto)
             (Self.Onto.write_faults onto) (held self.old) (held self.new) (world self.old) (world self.new) };
 
-    /// Closes the open output after the work before has failed.
+    /// Closes the open output after the work before has failed. Its file holds what it took, unless a write failed, or
+    /// the close did.
     fn give_up(&mut self, onto: Self::Onto)
-        ensures { LetsGo models (Self.Onto.write_faults onto) (held self.old) (held self.new) (world self.old)
-            (world self.new) };
+        ensures { IsTrue models → LetsGo (Self.Onto.written onto) (Self.Onto.write_faults onto) (held self.old)
+            (held self.new) (world self.old) (world self.new) };
 
     /// Finishes the open image, as `finish` does. If that fails, its file holds all of it anyway, or has no magic at
     /// its beginning.

@@ -39,12 +39,14 @@ pub(crate) enum Command {
 /// What the files hold before a command: IN, and OUT or PARTITION.
 pub(crate) type Before = (&'static [u8], &'static [u8]);
 
-/// The paths. Three lead to the file of IN, one of which has the name of a piece.
-const PATHS: [Listed; 7] = [
+/// The paths. Three lead to the file of IN, one of which has the name of a piece. Two lead to the file of OUT, one of
+/// which is a device in use.
+const PATHS: [Listed; 8] = [
     ("in", 0),
     ("link", 0),
     ("link.1", 0),
     ("out", 1),
+    ("/dev/in-use", 1),
     ("more", 2),
     ("spool", 3),
     ("out.4", 4),

@@ -78,6 +78,33 @@ fn two_paths_to_one_file_are_refused(rt: HostRuntime) {
     assert!(rt; holds(&disk, "in.simg", &THREE_KINDS));
 }
 
+/// Expands an image to a device that is in use: whether that returns Ok, and the disk. None, where there is no memory
+/// for it.
+fn expanded_to_device(rt: HostRuntime, is_allowed: bool) -> Option<(bool, MemoryDisk)> {
+    let paths: [Listed; 2] = [("in.simg", 0), ("/dev/in-use", 1)];
+    let files: [&[u8]; 2] = [&THREE_KINDS, b"kept"];
+    let mut disk = disk(rt.alloc(), &paths, &files, true, Faults::none())?;
+    disk.allows_mounted = is_allowed;
+    let mut report = Report::new(rt);
+    let input = FileArg::new("IN", "in.simg");
+    let output = FileArg::new("OUT", "/dev/in-use");
+    let mut w = Window::new();
+    let mut m = Meter::new();
+    let answer = expand_one(&mut disk, &mut report, input, output, &mut w, &mut m);
+    Some((answer.is_ok(), disk))
+}
+
+#[test]
+fn a_device_in_use_is_written_where_that_is_allowed(rt: HostRuntime) {
+    let (is_done, disk) = expanded_to_device(rt, false).expect(&rt, "there is memory");
+    assert!(rt; !is_done);
+    assert!(rt; disk.failed.seen == 1);
+    assert!(rt; holds(&disk, "/dev/in-use", b"kept"));
+    let (is_done, disk) = expanded_to_device(rt, true).expect(&rt, "there is memory");
+    assert!(rt; is_done);
+    assert!(rt; holds(&disk, "/dev/in-use", RAW));
+}
+
 #[test]
 fn an_image_that_ends_too_soon_is_refused(rt: HostRuntime) {
     let (answer, disk) = expanded(rt, &PATHS, &THREE_KINDS[..50], "other", Faults::none()).expect(

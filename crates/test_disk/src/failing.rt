@@ -117,6 +117,29 @@ fn is_reading(command: Command) -> bool {
     }
 }
 
+/// Whether a command writes files under other names, those of pieces.
+fn is_cutting(command: Command) -> bool {
+    match command {
+        Command::Cut => true,
+        Command::CutRaw => true,
+        _ => false,
+    }
+}
+
+#[test]
+fn a_device_in_use_is_not_written(rt: HostRuntime) {
+    for (n, (command, before)) in ROWS.iter().enumerate() {
+        let (is_done, disk) = run(rt, *command, "/dev/in-use", *before, Faults::none()).expect(
+            &rt,
+            "has memory",
+        );
+        let is_refused = !is_reading(*command) && !is_cutting(*command);
+        assert!(rt; is_done != is_refused, "row {n}");
+        assert!(rt; (disk.failed.seen == 1) == is_refused, "row {n}");
+        assert!(rt; holds(&disk, "out", before.1), "row {n}");
+    }
+}
+
 #[test]
 fn a_file_that_is_read_is_not_written(rt: HostRuntime) {
     for (n, (command, before)) in ROWS.iter().enumerate() {

@@ -1,4 +1,3 @@
-use Rattle.cmd_common_boot.specs.Fault.{is_usage}
 use Rattle.abootimg.specs.OrderEnds.{status_of_boot}
 use Rattle.abootimg.proofs.Refusals.{boot_not_zero, boot_refused, boot_same, boot_statuses, zero_of}
 use Rattle.abootimg.proofs.Statuses.{both_told}

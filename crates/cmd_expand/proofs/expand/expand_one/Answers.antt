@@ -1,12 +1,10 @@
-use Rattle.std.proofs.Common.{rules, ◌+◌, true, false, Ok, subst}
-use Rattle.std.specs.Prelude.{is_ok}
-use Rattle.sys_disk.specs.World.{unended}
+use Rattle.std.proofs.Common.{rules, refl, ◌+◌, true, false, Ok, subst}
 use Rattle.sys_disk.proofs.Worlds.{only_written}
 use Rattle.sys_report.proofs.Beside.{beside}
 use Rattle.cmd_expand.specs.Expanding.{ExpandingSays}
 use Rattle.cmd_expand.proofs.Files.{clean_behind, ends_behind, expands, failed_behind, failed_first, failed_second}
-use Rattle.cmd_expand.proofs.Files.{handed_on, leaves_expanded, of_failed, of_unprinted, refuses, rest_behind}
-use Rattle.cmd_expand.proofs.Files.{synced_once}
+use Rattle.cmd_expand.proofs.Files.{handed_on, holds_left, leaves_expanded, of_failed, of_unprinted, refuses}
+use Rattle.cmd_expand.proofs.Files.{rest_behind, spared_created, synced_once}
 use Rattle.cmd_expand.proofs.expand.expand_one.Goals as goal
 
 pub returns-in_err-from-clause-refused : goal.returns-in_err-from-clause-refused
@@ -18,7 +16,7 @@ returns-in_err-from-clause-refused g c = λ t.
 pub returns-in_err-onto-clause-leaves : goal.returns-in_err-onto-clause-leaves
 returns-in_err-onto-clause-leaves g c = λ t.
     leaves_expanded _ _ _ _ _ _ _ _ _ _ (c.in_ok-from.ensures.opened t) (c.in_ok-from.ensures.world t)
-    (c.in_err-onto.ensures.only t)
+    (c.in_err-onto.ensures.only t) (c.in_err-onto.ensures.guarded t)
     (search rules) (search rules)
 
 pub returns-in_err-onto-clause-refused : goal.returns-in_err-onto-clause-refused
@@ -33,6 +31,7 @@ returns-in-Err-clause-leaves g c = λ t.
     leaves_expanded _ _ _ _ _ _ _ _ _ _ (c.in_ok-from.ensures.opened t) (c.in_ok-from.ensures.world t)
     (only_written _ _ _ _ _ _ (c.in_ok-onto.ensures.created t)
     (rest_behind _ _ _ _ _ _ (c.let_go.ensures.held t) (c.let_go.ensures.world t) (c.ended.ensures.rest t)))
+    (spared_created _ _ _ _ _ _ _ (c.in_ok-onto.ensures.created t))
     (search rules) tt
 
 pub returns-in-Err-printed-clause-leaves : goal.returns-in-Err-printed-clause-leaves
@@ -40,6 +39,7 @@ returns-in-Err-printed-clause-leaves g c = λ t.
     leaves_expanded _ _ _ _ _ _ _ _ _ _ (c.in_ok-from.ensures.opened t) (c.in_ok-from.ensures.world t)
     (only_written _ _ _ _ _ _ (c.in_ok-onto.ensures.created t)
     (rest_behind _ _ _ _ _ _ (c.let_go.ensures.held t) (c.let_go.ensures.world t) (c.ended.ensures.rest t)))
+    (spared_created _ _ _ _ _ _ _ (c.in_ok-onto.ensures.created t))
     (search rules) tt
 
 pub returns-in-Ok-printed-clause-leaves : goal.returns-in-Ok-printed-clause-leaves
@@ -47,28 +47,35 @@ returns-in-Ok-printed-clause-leaves g c = λ t.
     leaves_expanded _ _ _ _ _ _ _ _ _ _ (c.in_ok-from.ensures.opened t) (c.in_ok-from.ensures.world t)
     (only_written _ _ _ _ _ _ (c.in_ok-onto.ensures.created t)
     (rest_behind _ _ _ _ _ _ (c.let_go.ensures.held t) (c.let_go.ensures.world t) (c.ended.ensures.rest t)))
+    (spared_created _ _ _ _ _ _ _ (c.in_ok-onto.ensures.created t))
     (search rules) (clean_behind c.expanded-answer.result c.in-Ok.end.0 (g.D.Disk.held c.args.disk.now)
     (g.D.Disk.held c.ended.new.disk) _
     (g.D.From.Input.read_faults c.expanded-answer.new.from.device) _
-    (g.D.Onto.Output.write_faults c.expanded-answer.new.onto) c.in-Ok.ensures.done
+    (g.D.Onto.Output.write_faults c.expanded-answer.new.onto) (c.in-Ok.ensures.closed t).more c.in-Ok.ensures.done
     c.expanded-answer.ensures.blames (c.in_ok-from.ensures.clean t) (c.in_ok-onto.ensures.clean t)
+    ((c.in-Ok.ensures.closed t).clean refl)
     (failed_behind _ _ _ _ _ _ _ _ _ _ _ (g.D.From.Input.read_faults c.expanded-answer.new.from.device)
-    (unended (is_ok c.expanded-answer.result) true + (g.D.Onto.Output.write_faults c.expanded-answer.new.onto)) true
+    ((c.in-Ok.ensures.closed t).more + (g.D.Onto.Output.write_faults c.expanded-answer.new.onto)) true
     (c.in_ok-from.ensures.opened t) (c.in_ok-onto.ensures.created t) (c.let_go.ensures.held t)
-    (c.in-Ok.ensures.closed t)))
+    (c.in-Ok.ensures.closed t).closed))
 
 pub returns-in-Err-clause-refused : goal.returns-in-Err-clause-refused
 returns-in-Err-clause-refused g c = λ t.
     refuses _ _ _ _ _ _ (g.D.Disk.held c.args.disk.now) _ (g.D.Disk.held c.ended.new.disk) _ _ c.expanded-answer.result
     c.in-Err.refusal.fault _ (g.D.From.Input.read_faults c.expanded-answer.new.from.device) _
-    (g.D.Onto.Output.write_faults c.expanded-answer.new.onto) (c.in_ok-from.ensures.opened t)
+    (g.D.Onto.Output.write_faults c.expanded-answer.new.onto) (c.in-Err.ensures.closed t).more
+    (c.expanded-answer.ensures.begun (g.met.D.Disk.told t)).0 (c.in_ok-from.ensures.opened t)
     (c.in_ok-from.ensures.clean t) (c.in_ok-onto.ensures.clean t)
     (failed_behind _ _ _ _ _ _ _ _ _ _ _ (g.D.From.Input.read_faults c.expanded-answer.new.from.device)
-    (unended (is_ok c.expanded-answer.result) false + (g.D.Onto.Output.write_faults c.expanded-answer.new.onto)) false
+    ((c.in-Err.ensures.closed t).more + (g.D.Onto.Output.write_faults c.expanded-answer.new.onto)) false
     (c.in_ok-from.ensures.opened t) (c.in_ok-onto.ensures.created t) (c.let_go.ensures.held t)
-    (c.in-Err.ensures.closed t))
+    (c.in-Err.ensures.closed t).closed)
+    (λ ok. (c.in-Err.ensures.closed t).cause ok refl)
     (c.expanded-answer.ensures.says (g.met.D.Disk.told t)) c.expanded-answer.ensures.blames
-    c.in-Err.ensures.host c.in-Err.ensures.told
+    c.in-Err.ensures.host c.in-Err.ensures.told c.in_ok-onto.ensures.empty
+    (c.expanded-answer.ensures.begun (g.met.D.Disk.told t)).1
+    (λ none. holds_left _ _ _ _ _ _ _ (c.in_ok-onto.ensures.created t) (ends_behind _ _ _ _ _ _ _
+    (c.let_go.ensures.held t) (c.let_go.ensures.world t) ((c.in-Err.ensures.closed t).left none)))
 
 pub returns-in-Err-printed-clause-refused : goal.returns-in-Err-printed-clause-refused
 returns-in-Err-printed-clause-refused g c = λ t.
@@ -87,7 +94,7 @@ returns-in-Err-printed-clause-refused g c = λ t.
 pub returns-in-Ok-printed-clause-synced : goal.returns-in-Ok-printed-clause-synced
 returns-in-Ok-printed-clause-synced g c = λ t.
     synced_once _ _ _ _ _ _ _ _ _ _ _ _ _ (c.in_ok-from.ensures.opened t) (c.in_ok-onto.ensures.created t)
-    (c.let_go.ensures.held t) (c.in-Ok.ensures.closed t)
+    (c.let_go.ensures.held t) (c.in-Ok.ensures.closed t).closed
 
 pub returns-in-Ok-printed-clause-done : goal.returns-in-Ok-printed-clause-done
 returns-in-Ok-printed-clause-done g c = λ t.

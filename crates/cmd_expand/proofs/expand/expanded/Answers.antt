@@ -6,3 +6,9 @@ pub returns-in-Err-clause-blames : goal.returns-in-Err-clause-blames
 returns-in-Err-clause-blames g c =
     of_rising c.in-Err.fault _ _ _ _ _ refl c.in-Err.ensures.blame.cause
     c.in-Err.ensures.blame.clean
+
+pub returns-in-Ok-clause-begun : goal.returns-in-Ok-clause-begun
+returns-in-Ok-clause-begun g c = λ t. (_, c.expand.ensures.begun t)
+
+pub returns-in-Err-clause-begun : goal.returns-in-Err-clause-begun
+returns-in-Err-clause-begun g c = λ t. (_, c.expand.ensures.begun t)

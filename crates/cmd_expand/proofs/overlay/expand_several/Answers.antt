@@ -5,13 +5,14 @@ use Rattle.cmd_expand.proofs.Files.{handed_on}
 use Rattle.cmd_expand.proofs.Overlays.{as_long, breaks_over, clean_closing, failed_closing, failed_in_all}
 use Rattle.cmd_expand.proofs.Overlays.{failed_laying, failed_zeros, from_files, from_laying}
 use Rattle.cmd_expand.proofs.Overlays.{from_opening, lands, leaves_overlaid, overlays, sized, synced}
-use Rattle.cmd_expand.proofs.Overlays.{zeros_long}
+use Rattle.cmd_expand.proofs.Overlays.{spared_made, zeros_long}
 use Rattle.cmd_expand.proofs.Lists.{keeps_all_same}
 use Rattle.cmd_expand.proofs.overlay.expand_several.Goals as goal
 
 pub returns-in-Err-clause-leaves : goal.returns-in-Err-clause-leaves
 returns-in-Err-clause-leaves g c = λ t. record {
   others = search rules;
+  in_use = λ used refused. (c.open_all.ensures.alone t).world;
   inputs = keeps_all_same _ _ _ (c.open_all.ensures.alone t).world;
   closed = search rules;
   clean = tt;
@@ -23,7 +24,7 @@ returns-in-Err-clause-refused g c = λ t. from_opening _ c.in-Err.refusal.fault 
 pub returns-in_err-zeros-clause-leaves : goal.returns-in_err-zeros-clause-leaves
 returns-in_err-zeros-clause-leaves g c = λ t.
     leaves_overlaid _ _ _ _ _ _ _ _ _ _ (c.in-Ok.ensures.opened t) (c.open_all.ensures.alone t).world
-    (c.in_err-zeros.ensures.only t)
+    (c.in_err-zeros.ensures.only t) (c.in_err-zeros.ensures.guarded t)
     (search rules) (search rules)
 
 pub returns-in_err-zeros-clause-refused : goal.returns-in_err-zeros-clause-refused
@@ -48,7 +49,7 @@ returns-in-Err-answer-clause-leaves g c = λ t.
     leaves_overlaid _ _ _ _ _ _ _ _ _ _ (c.in-Ok.ensures.opened t) refl (lands _ _ _ _ _ _ _ _ _ _ _
     (c.in_ok-zeros.ensures.made t) (c.open_all.ensures.alone t).world
     (c.lay_all-answer.ensures.alone.world t) (c.lay_all-answer.ensures.alone.held t) (c.close-end.ensures.ended t)
-    (c.close-end.ensures.paths t))
+    (c.close-end.ensures.paths t)) (spared_made _ _ _ _ _ _ _ _ (c.in_ok-zeros.ensures.made t))
     (search rules) tt
 
 pub returns-in-Err-answer-clause-refused : goal.returns-in-Err-answer-clause-refused
@@ -78,7 +79,7 @@ returns-in-Err-end-clause-leaves g c = λ t.
     leaves_overlaid _ _ _ _ _ _ _ _ _ _ (c.in-Ok.ensures.opened t) refl (lands _ _ _ _ _ _ _ _ _ _ _
     (c.in_ok-zeros.ensures.made t) (c.open_all.ensures.alone t).world
     (c.lay_all-answer.ensures.alone.world t) (c.lay_all-answer.ensures.alone.held t) (c.close-end.ensures.ended t)
-    (c.close-end.ensures.paths t))
+    (c.close-end.ensures.paths t)) (spared_made _ _ _ _ _ _ _ _ (c.in_ok-zeros.ensures.made t))
     (search rules) tt
 
 pub returns-in-Err-end-clause-refused : goal.returns-in-Err-end-clause-refused
@@ -101,7 +102,7 @@ returns-in-Err-printed-clause-leaves g c = λ t.
     leaves_overlaid _ _ _ _ _ _ _ _ _ _ (c.in-Ok.ensures.opened t) refl (lands _ _ _ _ _ _ _ _ _ _ _
     (c.in_ok-zeros.ensures.made t) (c.open_all.ensures.alone t).world
     (c.lay_all-answer.ensures.alone.world t) (c.lay_all-answer.ensures.alone.held t) (c.close-end.ensures.ended t)
-    (c.close-end.ensures.paths t))
+    (c.close-end.ensures.paths t)) (spared_made _ _ _ _ _ _ _ _ (c.in_ok-zeros.ensures.made t))
     (search rules) tt
 
 pub returns-in-Err-printed-clause-refused : goal.returns-in-Err-printed-clause-refused
@@ -127,7 +128,7 @@ returns-in-Ok-printed-clause-leaves g c = λ t.
     leaves_overlaid _ _ _ _ _ _ _ _ _ _ (c.in-Ok.ensures.opened t) refl (lands _ _ _ _ _ _ _ _ _ _ _
     (c.in_ok-zeros.ensures.made t) (c.open_all.ensures.alone t).world
     (c.lay_all-answer.ensures.alone.world t) (c.lay_all-answer.ensures.alone.held t) (c.close-end.ensures.ended t)
-    (c.close-end.ensures.paths t))
+    (c.close-end.ensures.paths t)) (spared_made _ _ _ _ _ _ _ _ (c.in_ok-zeros.ensures.made t))
     (search rules) (clean_closing h h2 h3 h4 _ failures _ counts (c.in_ok-zeros.ensures.clean t)
     (c.in-Ok-answer.ensures.clean t (c.in-Ok.ensures.clean t)) refl)
 

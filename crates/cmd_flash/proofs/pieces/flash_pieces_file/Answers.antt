@@ -2,6 +2,7 @@ use Rattle.std.proofs.Common.{rules, ap, refl, sym, ◌∙◌, ◌≡◌, ◌-�
 use Rattle.sys_report.proofs.Beside.{beside}
 use Rattle.std.specs.Prelude.{max}
 use Rattle.abt_io.specs.Moment.{Past}
+use Rattle.sys_disk.specs.World.{OpenFiles}
 use Rattle.cmd_flash.proofs.Crossing.{as_long_across, crossed, only_both, only_kept, part_kept}
 use Rattle.cmd_flash.proofs.Ended.{clean_across, done_across, none_of, pieces_unopened, pieces_untold}
 use Rattle.cmd_flash.proofs.Ended.{refuses_across, refuses_uncuttable}
@@ -60,8 +61,9 @@ returns-clause-leaves g c = λ t.
 
 pub returns-in_err-through-clause-leaves : goal.returns-in_err-through-clause-leaves
 returns-in_err-through-clause-leaves g c = λ t. record {
-  others = only_both _ _ _ _ _ _ (c.in_ok-onto.ensures.world t ∙ c.in_ok-source.ensures.world t)
-      (c.in_err-through.ensures.only t);
+  others = only_both _ _ _ _ _ _ _ _ _ _ _ _ _ (c.in_ok-source.ensures.opened t) (c.in_ok-source.ensures.world t)
+      (c.in_ok-onto.ensures.opened t) (c.in_ok-onto.ensures.world t) (c.in_err-through.ensures.only t)
+      (c.in_err-through.ensures.guarded t);
   input = only_kept _ _ _ _ _ _ _ _ _ _ _ _ (c.in_ok-source.ensures.opened t) (c.in_ok-source.ensures.world t)
       (c.in_ok-onto.ensures.opened t) (c.in_ok-onto.ensures.world t) (c.in_err-through.ensures.only t);
   clean = search rules;
@@ -109,6 +111,7 @@ returns-clause-done g c = λ t.
     (sym c.counted.ensures ∙ c.in-Ok.ensures.done) (c.in_ok-onto.ensures.past t) d.syncs.some
     d.syncs.synced (d.syncs.settled (g.met.D.Disk.part_told t)) same
     (d.delivers t (ap (λ (q : Past). q.pending) (c.in_ok-onto.ensures.past t)))
+    (ap (λ (q : OpenFiles). q.keeps) (c.in_ok-through.ensures.opened t).begins ∙ c.is_some.ensures)
     (beside c.args.report.now c.line_beside.new.self _ _ _ (c.in-Ok.ensures.stream t) c.in_ok-line_beside.ensures.shown)
 
 pub returns-in_err-line_beside-clause-refused : goal.returns-in_err-line_beside-clause-refused
@@ -133,6 +136,7 @@ returns-in_err-line_beside-clause-refused g c = λ t.
     (sym c.counted.ensures ∙ c.in-Ok.ensures.done) (c.in_ok-onto.ensures.past t) d.syncs.some
     d.syncs.synced (d.syncs.settled (g.met.D.Disk.part_told t)) same
     (d.delivers t (ap (λ (q : Past). q.pending) (c.in_ok-onto.ensures.past t)))
+    (ap (λ (q : OpenFiles). q.keeps) (c.in_ok-through.ensures.opened t).begins ∙ c.is_some.ensures)
     c.in_err-line_beside.ensures.refused))
     c.from_residual-in_err-line_beside.ensures.1
 

@@ -10,7 +10,8 @@ returns-clause-leaves g c = λ t.
       spares = one_spared c.args.inputs.now _ c.args.output.now _ _
           (state (g.D.Disk.world c.args.disk.now) (g.D.Disk.held c.args.disk.now) c.args.report.now)
           (state (g.D.Disk.world c.expand_one.new.disk) (g.D.Disk.held c.expand_one.new.disk) c.expand_one.new.report)
-          (omega arith) c.place.ensures.read c.place-output.ensures.written leaves.others leaves.input;
+          (omega arith) c.place.ensures.read c.place-output.ensures.written leaves.others leaves.input
+          leaves.in_use;
       clean = leaves.clean;
     }
 
@@ -29,7 +30,8 @@ returns-then-inputs-ne1-clause-leaves g c = λ t.
           (state (g.D.Disk.world c.args.disk.now) (g.D.Disk.held c.args.disk.now) c.args.report.now)
           (state (g.D.Disk.world c.expand_several.new.disk) (g.D.Disk.held c.expand_several.new.disk)
           c.expand_several.new.report) (λ one. omega
-          (arith, one)) c.place-output.ensures.at leaves.others leaves.inputs;
+          (arith, one)) c.place-output.ensures.at leaves.others leaves.inputs
+          leaves.in_use;
       clean = leaves.clean;
     }
 
