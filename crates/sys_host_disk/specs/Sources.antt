@@ -1,5 +1,5 @@
 -- A source that is opened plainly, or read ahead, or is standard input.
-use Rattle.std.specs.Prelude.{ℕ}
+use Rattle.std.specs.Prelude.{ℕ, List}
 use Rattle.sys_devices.specs.declared.source.FileSource.{FileSource}
 use Rattle.sys_devices.specs.declared.ahead.AheadSource.{AheadSource}
 use Rattle.sys_identity.specs.declared.standard_input.StandardSource.{StandardSource}
@@ -12,3 +12,17 @@ abbrev pub number_of_source : {F : Type 0} {g : _} → (FileSource F g → ℕ) 
 number_of_source plain ahead standard (Plain source) = plain source
 number_of_source plain ahead standard (Ahead source) = ahead source
 number_of_source plain ahead standard (Standard source) = standard source
+
+-- the bytes of one of them
+abbrev pub bytes_of_source : {F : Type 0} {g : _} → (FileSource F g → List ℕ) → (AheadSource F g → List ℕ)
+    → (StandardSource F g → List ℕ) → HostSource F g → List ℕ
+bytes_of_source plain ahead standard (Plain source) = plain source
+bytes_of_source plain ahead standard (Ahead source) = ahead source
+bytes_of_source plain ahead standard (Standard source) = standard source
+
+-- what holds of each of them
+pub of_each_source : {F : Type 0} {g : _} (P : HostSource F g → Type 0) → ((s : FileSource F g) → P (Plain s))
+    → ((s : AheadSource F g) → P (Ahead s)) → ((s : StandardSource F g) → P (Standard s)) → (s : HostSource F g) → P s
+of_each_source P plain ahead standard (Plain source) = plain source
+of_each_source P plain ahead standard (Ahead source) = ahead source
+of_each_source P plain ahead standard (Standard source) = standard source

@@ -1,10 +1,18 @@
 //! The files of the system as a disk.
 
-ghost use Rattle.std.specs.Prelude.{[], None, false};
+ghost use Rattle.std.specs.Prelude.{◌≡◌, [], None, false, IsTrue, IfOk, IfErr, OnOk, codes, is_some, replicate};
 ghost use Rattle.std.proofs.lemmas.Bool.{false≢true};
+ghost use Rattle.sys_disk.specs.Images.{OfImage};
+ghost use Rattle.sys_file.specs.System.{ClosesFile, KeepsFiles};
+ghost use Rattle.sys_finish.specs.Given.{given_by_writer};
+ghost use Rattle.sys_host.specs.Ends.{ClosesWith};
+ghost use Rattle.sys_host.specs.Places.{IsFreeAt, KeepsPaths, ReadsPlace, WritesOver, WritesPlace};
+ghost use Rattle.sys_host_disk.specs.Files.{streams_of, system_of, taken_of};
+ghost use Rattle.sys_identity.specs.Identity.{IsIdentityOf};
+ghost use Rattle.sys_refusals.specs.Paths.{path_in, path_of, path_out};
 
 use crate::source::HostSource;
-use abt_io::Overwrite;
+use abt_io::{Input, Overwrite, Source};
 use std::alloc::AllocError;
 use sys_devices::{FilePartition, GatheringSpool};
 use sys_disk::{Disk, ImageTo, NoMemory};
@@ -58,7 +66,12 @@ impl<S: System + Drop> Host<S> {
     }
 
     // Reads standard input at any offset.
-    fn standard<'a>(&mut self, place: FileArg<'a>) -> Result<HostSource<S::File>, HostRefusal<'a>> {
+    fn standard<'a>(&mut self, place: FileArg<'a>) -> Result<HostSource<S::File>, HostRefusal<'a>>
+        ensures place { IsTrue S.File.models → IfOk result (λ it. ReadsPlace S.number S.known (codes "/dev/stdin")
+            (⟦<HostSource<S::File> as Source>⟧.content it) (S.at (system_of self.old)) (S.holds (system_of self.old))
+            (taken_of self.old) (taken_of self.new)) }
+        ensures keeps { IsTrue S.File.models → KeepsFiles S.at S.holds (system_of self.old) (system_of self.new) }
+    {
         match self.writing.reading.standard_source(place) {
             Ok(source) => Ok(HostSource::Standard(source)),
             Err(refusal) => Err(refusal),
@@ -89,8 +102,11 @@ impl<S: System + Drop> Disk for Host<S> {
       output = None;
       part = None;
       spool = None;
+      keeps = false;
       is_synced = false;
       syncs = 0;
+      in_use = λ _. false;
+      allows_mounted = false;
       failed = 0;
     } };
 
@@ -106,11 +122,21 @@ impl<S: System + Drop> Disk for Host<S> {
 
     ghost through_told = { λ t. absurd (false≢true t) };
 
-    fn input<'a>(&mut self, place: FileArg<'a>) -> Result<InputFile<S::File>, HostRefusal<'a>> {
+    fn input<'a>(&mut self, place: FileArg<'a>) -> Result<InputFile<S::File>, HostRefusal<'a>>
+        ensures place { IsTrue S.File.models → IfOk result (λ it. ReadsPlace S.number S.known (path_in place.entry)
+            (⟦<InputFile<S::File> as Input>⟧.remaining it) (S.at (system_of self.old)) (S.holds (system_of self.old))
+            (taken_of self.old) (taken_of self.new)) }
+        ensures keeps { IsTrue S.File.models → KeepsFiles S.at S.holds (system_of self.old) (system_of self.new) }
+    {
         self.writing.reading.input(place)
     }
 
-    fn source<'a>(&mut self, place: FileArg<'a>) -> Result<HostSource<S::File>, HostRefusal<'a>> {
+    fn source<'a>(&mut self, place: FileArg<'a>) -> Result<HostSource<S::File>, HostRefusal<'a>>
+        ensures place { IsTrue S.File.models → IfOk result (λ it. ReadsPlace S.number S.known (path_of place.entry)
+            (⟦<HostSource<S::File> as Source>⟧.content it) (S.at (system_of self.old)) (S.holds (system_of self.old))
+            (taken_of self.old) (taken_of self.new)) }
+        ensures keeps { IsTrue S.File.models → KeepsFiles S.at S.holds (system_of self.old) (system_of self.new) }
+    {
         if is_standard_input(&place) {
             return self.standard(place);
         }
@@ -120,7 +146,12 @@ impl<S: System + Drop> Disk for Host<S> {
         }
     }
 
-    fn ahead<'a>(&mut self, place: FileArg<'a>) -> Result<HostSource<S::File>, HostRefusal<'a>> {
+    fn ahead<'a>(&mut self, place: FileArg<'a>) -> Result<HostSource<S::File>, HostRefusal<'a>>
+        ensures place { IsTrue S.File.models → IfOk result (λ it. ReadsPlace S.number S.known (path_of place.entry)
+            (⟦<HostSource<S::File> as Source>⟧.content it) (S.at (system_of self.old)) (S.holds (system_of self.old))
+            (taken_of self.old) (taken_of self.new)) }
+        ensures keeps { IsTrue S.File.models → KeepsFiles S.at S.holds (system_of self.old) (system_of self.new) }
+    {
         if is_standard_input(&place) {
             return self.standard(place);
         }
@@ -135,7 +166,11 @@ impl<S: System + Drop> Disk for Host<S> {
         &mut self,
         at: &HostSource<S::File>,
         place: FileArg<'a>,
-    ) -> Result<HostSource<S::File>, HostRefusal<'a>> {
+    ) -> Result<HostSource<S::File>, HostRefusal<'a>>
+        ensures content { IsTrue S.File.models → IfOk result (λ again. ⟦<HostSource<S::File> as Source>⟧.content again
+            ≡ ⟦<HostSource<S::File> as Source>⟧.content at.now) }
+        ensures system { system_of self.new ≡ system_of self.old }
+    {
         let source = match at {
             HostSource::Plain(source) => source,
             HostSource::Ahead(source) => &source.file().source,
@@ -152,7 +187,9 @@ impl<S: System + Drop> Disk for Host<S> {
         }
     }
 
-    fn text<'a>(&mut self, place: FileArg<'a>) -> Result<String, HostRefusal<'a>> {
+    fn text<'a>(&mut self, place: FileArg<'a>) -> Result<String, HostRefusal<'a>>
+        ensures keeps { IsTrue S.File.models → KeepsFiles S.at S.holds (system_of self.old) (system_of self.new) }
+    {
         self.writing.reading.text(place)
     }
 
@@ -177,7 +214,12 @@ impl<S: System + Drop> Disk for Host<S> {
     fn partition<'a>(
         &mut self,
         place: FileArg<'a>,
-    ) -> Result<FilePartition<S::File>, HostRefusal<'a>> {
+    ) -> Result<FilePartition<S::File>, HostRefusal<'a>>
+        ensures place { IsTrue S.File.models → IfOk result (λ part. WritesOver S.number S.known (path_of place.entry)
+            (S.File.stands part.file) (S.at (system_of self.new)) (S.holds (system_of self.old)) (taken_of self.old)
+            (taken_of self.new)) }
+        ensures keeps { IsTrue S.File.models → KeepsFiles S.at S.holds (system_of self.old) (system_of self.new) }
+    {
         self.writing.partition(place)
     }
 
@@ -193,7 +235,11 @@ impl<S: System + Drop> Disk for Host<S> {
         &mut self,
         part: FilePartition<S::File>,
         place: FileArg<'a>,
-    ) -> Result<bool, HostRefusal<'a>> {
+    ) -> Result<bool, HostRefusal<'a>>
+        ensures { IsTrue S.File.models → ClosesFile (S.which part.file) (S.File.stands part.file)
+            (S.at (system_of self.old)) (S.at (system_of self.new)) (S.holds (system_of self.old))
+            (S.holds (system_of self.new)) }
+    {
         let looked = self.unchanged_at_end();
         self.writing.close(part, place)?;
         match looked {
@@ -206,7 +252,12 @@ impl<S: System + Drop> Disk for Host<S> {
         &mut self,
         place: FileArg<'a>,
         bytes: u64,
-    ) -> Result<FilePartition<S::File>, HostRefusal<'a>> {
+    ) -> Result<FilePartition<S::File>, HostRefusal<'a>>
+        ensures zeros { IsTrue S.File.models → IfOk result (λ part. S.File.stands part.file ≡ replicate bytes 0) }
+        ensures place { IsTrue S.File.models → OnOk result (WritesPlace S.number S.known (path_of place.entry)
+            (S.at (system_of self.new)) (taken_of self.old) (taken_of self.new)) }
+        ensures kept { IsTrue S.File.models → KeepsPaths S.at S.holds (system_of self.old) (system_of self.new) }
+    {
         self.writing.zeros(place, bytes)
     }
 
@@ -245,7 +296,11 @@ impl<S: System + Drop> Disk for Host<S> {
         }
     }
 
-    fn is_there<'a>(&mut self, place: FileArg<'a>) -> Result<bool, HostRefusal<'a>> {
+    fn is_there<'a>(&mut self, place: FileArg<'a>) -> Result<bool, HostRefusal<'a>>
+        ensures there { IsTrue S.File.models → IfOk result (λ is. is ≡ is_some (S.at (system_of self.old)
+            (path_of place.entry))) }
+        ensures memory { IfErr result (λ refusal. refusal.fault ≡ HostFault.Memory) }
+    {
         self.writing.is_there(place)
     }
 
@@ -255,15 +310,29 @@ impl<S: System + Drop> Disk for Host<S> {
 
     fn no_memory(&mut self, _refused: NoMemory) {}
 
-    fn refuse_taken<'a>(&mut self, place: FileArg<'a>) -> Result<(), HostRefusal<'a>> {
+    fn refuse_taken<'a>(&mut self, place: FileArg<'a>) -> Result<(), HostRefusal<'a>>
+        ensures { IsTrue S.File.models → OnOk result (IsFreeAt S.number S.known (path_of place.entry)
+            (S.at (system_of self.old)) (taken_of self.old)) }
+    {
         self.writing.refuse_taken(place)
     }
 
-    fn plain<'a>(&mut self, place: FileArg<'a>) -> Result<OutputFile<S::File>, HostRefusal<'a>> {
+    fn plain<'a>(&mut self, place: FileArg<'a>) -> Result<OutputFile<S::File>, HostRefusal<'a>>
+        ensures empty { IfOk result (λ output. given_by_writer output.to.writer ≡ []) }
+        ensures place { IsTrue S.File.models → OnOk result (WritesPlace S.number S.known (path_of place.entry)
+            (S.at (system_of self.new)) (taken_of self.old) (taken_of self.new)) }
+        ensures kept { IsTrue S.File.models → KeepsPaths S.at S.holds (system_of self.old) (system_of self.new) }
+    {
         self.writing.plain(place)
     }
 
-    fn raw<'a>(&mut self, place: FileArg<'a>) -> Result<OutputFile<S::File>, HostRefusal<'a>> {
+    fn raw<'a>(&mut self, place: FileArg<'a>) -> Result<OutputFile<S::File>, HostRefusal<'a>>
+        ensures empty { IfOk result (λ output. given_by_writer output.to.writer ≡ []) }
+        ensures place { IsTrue S.File.models → IsIdentityOf S.number S.known S.stdout (streams_of self.old).out
+            → OnOk result (WritesPlace S.number S.known (path_out place.entry)
+            (S.at (system_of self.new)) (taken_of self.old) (taken_of self.new)) }
+        ensures kept { IsTrue S.File.models → KeepsPaths S.at S.holds (system_of self.old) (system_of self.new) }
+    {
         self.writing.raw(place)
     }
 
@@ -271,7 +340,11 @@ impl<S: System + Drop> Disk for Host<S> {
         &mut self,
         onto: OutputFile<S::File>,
         place: FileArg<'a>,
-    ) -> Result<bool, HostRefusal<'a>> {
+    ) -> Result<bool, HostRefusal<'a>>
+        ensures { IsTrue S.File.models → OnOk result (ClosesWith S.which S.File.stands S.File.past onto.is_synced
+            (given_by_writer onto.to.writer) (S.at (system_of self.old)) (S.at (system_of self.new))
+            (S.holds (system_of self.old)) (S.holds (system_of self.new))) }
+    {
         if let Err(refusal) = self.writing.reading.unchanged() {
             onto.give_up();
             return Err(refusal.begun(place));
@@ -287,7 +360,14 @@ impl<S: System + Drop> Disk for Host<S> {
         &mut self,
         place: FileArg<'a>,
         is_gathered: bool,
-    ) -> Result<ImageTo<ImageFile<S::File>, OutputFile<S::File>>, HostRefusal<'a>> {
+    ) -> Result<ImageTo<ImageFile<S::File>, OutputFile<S::File>>, HostRefusal<'a>>
+        ensures empty { IfOk result (OfImage (λ image. given_by_writer image.output.to.writer ≡ [])
+            (λ output. given_by_writer output.to.writer ≡ [])) }
+        ensures place { IsTrue S.File.models → IsIdentityOf S.number S.known S.stdout (streams_of self.old).out
+            → OnOk result (WritesPlace S.number S.known (path_out place.entry)
+            (S.at (system_of self.new)) (taken_of self.old) (taken_of self.new)) }
+        ensures kept { IsTrue S.File.models → KeepsPaths S.at S.holds (system_of self.old) (system_of self.new) }
+    {
         self.writing.image(place, is_gathered)
     }
 
@@ -295,7 +375,11 @@ impl<S: System + Drop> Disk for Host<S> {
         &mut self,
         image: ImageFile<S::File>,
         place: FileArg<'a>,
-    ) -> Result<bool, HostRefusal<'a>> {
+    ) -> Result<bool, HostRefusal<'a>>
+        ensures { IsTrue S.File.models → OnOk result (ClosesWith S.which S.File.stands S.File.past image.output.is_synced
+            (given_by_writer image.output.to.writer) (S.at (system_of self.old)) (S.at (system_of self.new))
+            (S.holds (system_of self.old)) (S.holds (system_of self.new))) }
+    {
         if let Err(refusal) = self.writing.reading.unchanged() {
             blank_front(image);
             return Err(refusal.begun(place));

@@ -1,6 +1,6 @@
-//! The program's disk: the files of the system, opened by `sys_host` and read and written through buffers. It models
-//! nothing. So no contract states that it makes the calls which it has to make. Its code is short, and has to be
-//! reviewed by reading.
+//! The program's disk: the files of the system, opened by `sys_host` and read and written through buffers. Its sources
+//! model what their files model. The disk itself models nothing. So no contract states that it makes the calls which it
+//! has to make. Its code is short, and has to be reviewed by reading.
 //!
 //! | file | has |
 //! |---|---|

@@ -1,8 +1,11 @@
 //! An input that is read at any offset: a file or a block device.
 
-ghost use Rattle.std.specs.Prelude.{[], false};
-ghost use Rattle.std.proofs.lemmas.Bool.{false≢true};
-ghost use Rattle.sys_host_disk.specs.Sources.{number_of_source};
+ghost use Rattle.std.specs.Prelude.{◌≡◌, IsTrue, IfOk, length};
+ghost use Rattle.abt_io.specs.Bytes.{AreBytes};
+ghost use Rattle.abt_io.specs.BytesLaws.{bytes_of_drop};
+ghost use Rattle.sys_file.specs.File.{are_bytes_of};
+ghost use Rattle.sys_identity.specs.Behind.{long_behind};
+ghost use Rattle.sys_host_disk.specs.Sources.{bytes_of_source, number_of_source, of_each_source};
 
 use abt_io::{DeviceFault, Source};
 use std::alloc::{AllocError, Global};
@@ -25,7 +28,9 @@ pub enum HostSource<F: SystemFile + Drop> {
 
 impl<F: SystemFile + Drop> HostSource<F> {
     /// The same, with small reads served from earlier reads.
-    pub(crate) fn ahead(alloc: Global, source: FileSource<F>) -> Result<HostSource<F>, AllocError> {
+    pub(crate) fn ahead(alloc: Global, source: FileSource<F>) -> Result<HostSource<F>, AllocError>
+        ensures { IfOk result (λ s. ⟦<HostSource<F> as Source>⟧.content s ≡ ⟦<FileSource<F> as Source>⟧.content source) }
+    {
         match AheadSource::new(alloc, source) {
             Ok(source) => Ok(HostSource::Ahead(source)),
             Err(error) => Err(error),
@@ -64,9 +69,10 @@ impl<F: SystemFile + Drop> HostSource<F> {
 }
 
 impl<F: SystemFile + Drop> Source for HostSource<F> {
-    ghost models = { false };
+    ghost models = { F.models };
 
-    ghost content = { λ _. [] };
+    ghost content = { λ s. bytes_of_source ⟦<FileSource<F> as Source>⟧.content ⟦<AheadSource<F> as Source>⟧.content
+        ⟦<StandardSource<F> as Source>⟧.content s };
 
     ghost size = { λ s. number_of_source ⟦<FileSource<F> as Source>⟧.size ⟦<AheadSource<F> as Source>⟧.size
         ⟦<StandardSource<F> as Source>⟧.size s };
@@ -81,11 +87,18 @@ impl<F: SystemFile + Drop> Source for HostSource<F> {
         ⟦<AheadSource<F> as Source>⟧.read_faults
         ⟦<StandardSource<F> as Source>⟧.read_faults s };
 
-    ghost sized = { λ _ t. absurd (false≢true t) };
+    ghost sized = { λ s t. of_each_source (λ s. number_of_source ⟦<FileSource<F> as Source>⟧.size
+        ⟦<AheadSource<F> as Source>⟧.size ⟦<StandardSource<F> as Source>⟧.size s
+        ≡ length (bytes_of_source ⟦<FileSource<F> as Source>⟧.content ⟦<AheadSource<F> as Source>⟧.content
+        ⟦<StandardSource<F> as Source>⟧.content s)) (λ s. s.sized t)
+        (λ s. s.from.value.source.sized t) (λ s. long_behind s.base s.source.size _ (s.source.sized t)) s };
 
-    ghost are_bytes = { λ _ t. absurd (false≢true t) };
+    ghost are_bytes = { λ s t. of_each_source (λ s. AreBytes (bytes_of_source ⟦<FileSource<F> as Source>⟧.content
+        ⟦<AheadSource<F> as Source>⟧.content ⟦<StandardSource<F> as Source>⟧.content s))
+        (λ s. are_bytes_of F.stands F.are_bytes s.file t)
+        (λ s. are_bytes_of F.stands F.are_bytes s.from.value.source.file t)
+        (λ s. bytes_of_drop s.base _ (are_bytes_of F.stands F.are_bytes s.source.file t)) s };
 
-    #[inline(never)]
     fn length(&self) -> u64 {
         match self {
             HostSource::Plain(source) => source.length(),
@@ -124,7 +137,10 @@ impl<F: SystemFile + Drop> Lasting for HostSource<F> {
         match self {
             HostSource::Plain(_) => None,
             HostSource::Standard(_) => None,
-            HostSource::Ahead(source) => source.shorter(),
+            HostSource::Ahead(source) => match source.shorter() {
+                Some(now) if now < source.length() => Some(now),
+                _ => None,
+            },
         }
     }
 
@@ -133,17 +149,22 @@ impl<F: SystemFile + Drop> Lasting for HostSource<F> {
     }
 }
 
-fn end_of<F: SystemFile + Drop>(source: &HostSource<F>) -> u64 {
+// The present length, or the one that it had, if the system fails to return it.
+fn end_of<F: SystemFile + Drop>(source: &HostSource<F>) -> u64
+    ensures { IsTrue F.models → result ≡ ⟦<HostSource<F> as Source>⟧.size source.now }
+{
     match source {
-        HostSource::Plain(source) => end_of_source(source),
-        HostSource::Ahead(source) => end_of_source(&source.file().source),
+        HostSource::Plain(source) => end_of_file(source),
+        HostSource::Ahead(source) => end_of_file(&source.file().source),
         HostSource::Standard(source) => source.length_now(),
     }
 }
 
-fn end_of_source<F: SystemFile + Drop>(source: &FileSource<F>) -> u64 {
+fn end_of_file<F: SystemFile + Drop>(source: &FileSource<F>) -> u64
+    ensures { IsTrue F.models → result ≡ source.now.size }
+{
     match &source.file {
-        Some(file) => file.length().unwrap_or(0),
+        Some(file) => file.length().unwrap_or(source.size),
         None => 0,
     }
 }

@@ -1,10 +1,11 @@
 //! Standard input that is a file or a block device. It is read at any offset, counted from its position.
 
-ghost use Rattle.std.specs.Prelude.{◌≡◌, ◌-◌, drop, IsTrue, IfOk};
+ghost use Rattle.std.specs.Prelude.{◌≡◌, ◌-◌, codes, drop, IsTrue, IfOk};
 ghost use Rattle.abt_io.specs.BytesLaws.{bytes_of_drop};
 ghost use Rattle.sys_file.specs.File.{are_bytes_of, file_bytes};
 ghost use Rattle.sys_file.specs.System.{KeepsFiles};
 ghost use Rattle.sys_identity.specs.Behind.{long_behind};
+ghost use Rattle.sys_refusals.specs.Paths.{path_of};
 
 use crate::descriptors::{INPUT, open_again, place_of_input};
 use crate::identity::Found;
@@ -65,17 +66,24 @@ impl<F: SystemFile + Drop> StandardSource<F> {
         Ok(StandardSource { source, base })
     }
 
-    /// The present length.
-    pub fn length_now(&self) -> u64 {
+    /// The present length, or the one that it had, if the system fails to return it.
+    pub fn length_now(&self) -> u64
+        ensures { IsTrue F.models → result ≡ self.now.source.size - self.now.base }
+    {
         match &self.source.file {
-            Some(file) => file.length().unwrap_or(0).saturating_sub(self.base),
+            Some(file) => file
+                .length()
+                .unwrap_or(self.source.size)
+                .saturating_sub(self.base),
             None => 0,
         }
     }
 }
 
 /// Whether this is standard input, which is read at any offset.
-pub fn is_standard_input(place: &FileArg<'_>) -> bool {
+pub fn is_standard_input(place: &FileArg<'_>) -> bool
+    ensures { IsTrue result → path_of place.now ≡ codes "/dev/stdin" }
+{
     let is_path = match place.folder {
         Some(folder) => folder == "/dev" && place.name == "stdin",
         None => place.name == "/dev/stdin",
