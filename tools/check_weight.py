@@ -22,11 +22,11 @@ from repository import HERE, crate_lines
 
 # The most functions of a crate, and those that have more; docs/DECISIONS.md says why these are not taken apart.
 FUNCTIONS = 100
-MORE_FUNCTIONS = {"abt_sections": 107, "mem_disk": 101, "words_orders": 106, "cmd_unpack_aosp_texts": 106, "words_tools": 101}
+MORE_FUNCTIONS = {"abt_sections": 107, "mem_disk": 102, "words_orders": 106, "cmd_unpack_aosp_texts": 106, "words_tools": 101}
 # How many functions have contracts of more clauses than this.
 LONG_CONTRACTS = {15: 3, 20: 1}
 # How many clauses are, to the letter, one that stands before, in any function of any crate.
-REPEATED_CLAUSES = 650
+REPEATED_CLAUSES = 676
 # The names that two files define, each with what it says in the one and in the other.
 NAMES_DEFINED_TWICE = {
     "Begins": "of a spool's and of a file's bytes, of which they are a front; of a text, which has grown by one",
@@ -69,12 +69,12 @@ LINES = {
     "writing": 182,
     "flashing and verifying": 138,
     "boot images": 227,
-    "system": 87,
-    "words": 108,
-    "commands over sparse images": 142,
+    "system": 89,
+    "words": 117,
+    "commands over sparse images": 144,
     "commands over boot images": 140,
     "laws": 62,
-    "memory": 28,
+    "memory": 30,
     "for programs in C": 25,
     "tests and benchmark": 105,
 }
