@@ -1,7 +1,9 @@
--- Which faults concern the arguments, and the number of each fault.
-use Rattle.std.specs.Prelude.{◌≡◌, ℕ, Bool, true, false, Option, Some, None}
+-- Which faults concern the arguments, the number of each fault, and which of the files it concerns.
+use Rattle.std.specs.Prelude.{◌≡◌, ℕ, ◌==◌, ◌||◌, Bool, true, false, Option, Some, None, if◌then◌else◌}
 use Rattle.sys_refusals.specs.Host.{is_not_text}
 use Rattle.sys_refusals.specs.declared.refusal.HostFault.TheVariants as hosts
+use Rattle.sys_refusals.specs.declared.told.Side.{Side}
+use Rattle.sys_refusals.specs.declared.told.Side.TheVariants as sides
 use Rattle.abt_sections.specs.Fault as section
 use Rattle.abt_headers.specs.declared.fault.HeaderFault.TheVariants as headers
 use Rattle.abt_sections.specs.declared.fault.SectionFault.TheVariants as sections
@@ -28,6 +30,22 @@ boot_command_fault_number (faults.BadFragment word) = None
 boot_command_fault_number (faults.BadNumber word) = None
 boot_command_fault_number (faults.BadBoardId word) = None
 boot_command_fault_number faults.CheckFailed = None
+
+-- Of what is written: 12 is not written. Of the arguments: 26 no name, 27 no command line, 28 no OS version. All others
+-- are of what is read.
+abbrev pub side_of_number : ℕ → Side
+side_of_number n = if n == 12 then sides.Output else (if n == 26 || (n == 27 || n == 28) then sides.Words
+    else sides.Input)
+
+-- which of the files in use a fault is about
+abbrev pub side_of : BootCommandFault → Side
+side_of (faults.Section fault) = side_of_number (section.section_fault_number fault)
+side_of (faults.Host fault) = sides.Words
+side_of (faults.OptionNotCarried name) = sides.Words
+side_of (faults.BadFragment word) = sides.Words
+side_of (faults.BadNumber word) = sides.Words
+side_of (faults.BadBoardId word) = sides.Words
+side_of faults.CheckFailed = sides.Words
 
 -- there is no such header version
 abbrev pub of_version : ℕ → BootCommandFault

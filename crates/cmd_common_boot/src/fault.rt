@@ -2,7 +2,7 @@
 
 ghost use Rattle.std.specs.Prelude.{◌≡◌, ℕ, List, MatchResult, Ok, Err};
 ghost use Rattle.sys_text.specs.Printed.{Prints};
-ghost use Rattle.cmd_common_boot.specs.Fault.{is_usage, boot_command_fault_number};
+ghost use Rattle.cmd_common_boot.specs.Fault.{is_usage, boot_command_fault_number, side_of, side_of_number};
 ghost use Rattle.cmd_common_boot.specs.declared.fault.BootCommandFault.TheVariants.{Host};
 
 use abt_headers::HeaderFault;
@@ -78,6 +78,8 @@ impl<'a> BootCommandFault<'a> {
 impl Told for BootCommandFault<'_> {
     ghost wrong_words = { is_usage };
 
+    ghost side_of = { side_of };
+
     fn is_usage(&self) -> bool {
         match self {
             BootCommandFault::Host(fault) => fault.is_usage(),
@@ -91,11 +93,14 @@ impl Told for BootCommandFault<'_> {
     }
 
     fn side(&self) -> Side {
-        match self.number() {
-            Some(12) => Side::Output,
-            Some(26 | 27 | 28) => Side::Words,
-            Some(_) => Side::Input,
-            None => Side::Words,
+        match self {
+            BootCommandFault::Section(fault) => side_of_number(fault.number()),
+            BootCommandFault::Host(_) => Side::Words,
+            BootCommandFault::OptionNotCarried(_) => Side::Words,
+            BootCommandFault::BadFragment(_) => Side::Words,
+            BootCommandFault::BadNumber(_) => Side::Words,
+            BootCommandFault::BadBoardId(_) => Side::Words,
+            BootCommandFault::CheckFailed => Side::Words,
         }
     }
 
@@ -147,6 +152,16 @@ impl Told for BootCommandFault<'_> {
             BootCommandFault::BadBoardId(word) => put_about("bad board id ", word, text),
             BootCommandFault::CheckFailed => text.word("check failed"),
         }
+    }
+}
+
+fn side_of_number(number: u32) -> Side
+    ensures { result ≡ side_of_number number }
+{
+    match number {
+        12 => Side::Output,
+        26 | 27 | 28 => Side::Words,
+        _ => Side::Input,
     }
 }
 

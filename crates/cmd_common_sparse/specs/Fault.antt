@@ -53,3 +53,28 @@ abbrev pub side_of_number : ℕ → Side
 side_of_number n =
     if n == 12 || (n == 17 || (n == 18 || (n == 35 || n == 37))) then sides.Output
     else (if n == 15 || (n == 16 || n == 31) then sides.Words else sides.Input)
+
+-- a stopped delivery is about the file of its cause
+abbrev pub side_of_flash : FlashFault → Side
+side_of_flash (flashes.Sparse f) = side_of_number (sparse.number_of f)
+side_of_flash (flashes.Read f) = sides.Input
+side_of_flash (flashes.Write f) = sides.Output
+side_of_flash flashes.TooLarge = sides.Input
+side_of_flash flashes.SourceChanged = sides.Input
+side_of_flash (flashes.BadBlock n) = sides.Words
+side_of_flash (flashes.LimitTooSmall n) = sides.Words
+side_of_flash (flashes.PartitionTooSmall n) = sides.Output
+side_of_flash (flashes.Sync f) = sides.Output
+side_of_flash (flashes.Stopped piece cause) = side_of_cause cause
+side_of_flash (flashes.NoSuchPiece n) = sides.Words
+
+-- which of the files in use a fault is about
+abbrev pub side_of : SparseCommandFault → Side
+side_of (faults.Sparse fault) = side_of_number (sparse.number_of fault)
+side_of (faults.Run fault) = side_of_number (run.run_fault_number fault)
+side_of (faults.Piece fault) = side_of_number (piece.piece_fault_number fault)
+side_of (faults.Flash fault) = side_of_flash fault
+side_of (faults.Verify fault) = side_of_number (verify.verify_fault_number fault)
+side_of (faults.OtherBlocks image) = sides.Input
+side_of (faults.OtherCut image) = sides.Input
+side_of (faults.Host fault) = sides.Words

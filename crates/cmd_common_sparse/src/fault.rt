@@ -3,7 +3,7 @@
 ghost use Rattle.std.specs.Prelude.{◌≡◌, List, ℕ};
 ghost use Rattle.sys_text.specs.Printed.{Prints};
 ghost use Rattle.cmd_common_sparse.specs.Fault.{sparse_command_fault_number, side_of_cause, side_of_number};
-ghost use Rattle.cmd_common_sparse.specs.Fault.{wrong_words};
+ghost use Rattle.cmd_common_sparse.specs.Fault.{side_of, side_of_flash, wrong_words};
 ghost use Rattle.cmd_common_sparse.specs.declared.fault.SparseCommandFault.TheVariants.{Host};
 
 use abt_flash_faults::{Cause, FlashFault};
@@ -68,6 +68,8 @@ impl SparseCommandFault {
 impl Told for SparseCommandFault {
     ghost wrong_words = { wrong_words };
 
+    ghost side_of = { side_of };
+
     fn is_usage(&self) -> bool {
         match self {
             SparseCommandFault::Host(fault) => fault.is_usage(),
@@ -83,11 +85,14 @@ impl Told for SparseCommandFault {
 
     fn side(&self) -> Side {
         match self {
-            SparseCommandFault::Flash(FlashFault::Stopped { cause, .. }) => side_of_cause(cause),
-            _ => match self.number() {
-                Some(number) => side_of_number(number),
-                None => Side::Words,
-            },
+            SparseCommandFault::Sparse(fault) => side_of_number(fault.number()),
+            SparseCommandFault::Run(fault) => side_of_number(fault.number()),
+            SparseCommandFault::Piece(fault) => side_of_number(fault.number()),
+            SparseCommandFault::Flash(fault) => side_of_flash(fault),
+            SparseCommandFault::Verify(fault) => side_of_number(fault.number()),
+            SparseCommandFault::OtherBlocks { .. } => Side::Input,
+            SparseCommandFault::OtherCut { .. } => Side::Input,
+            SparseCommandFault::Host(_) => Side::Words,
         }
     }
 
@@ -143,6 +148,24 @@ impl Told for SparseCommandFault {
             }
             SparseCommandFault::Host(fault) => fault.put(place, text),
         }
+    }
+}
+
+fn side_of_flash(fault: &FlashFault) -> Side
+    ensures { result ≡ side_of_flash fault.now }
+{
+    match fault {
+        FlashFault::Sparse(fault) => side_of_number(fault.number()),
+        FlashFault::Read(_) => Side::Input,
+        FlashFault::Write(_) => Side::Output,
+        FlashFault::TooLarge => Side::Input,
+        FlashFault::SourceChanged => Side::Input,
+        FlashFault::BadBlock(_) => Side::Words,
+        FlashFault::LimitTooSmall { .. } => Side::Words,
+        FlashFault::PartitionTooSmall { .. } => Side::Output,
+        FlashFault::Sync(_) => Side::Output,
+        FlashFault::Stopped { cause, .. } => side_of_cause(cause),
+        FlashFault::NoSuchPiece { .. } => Side::Words,
     }
 }
 

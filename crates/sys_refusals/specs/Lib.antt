@@ -1,2 +1,3 @@
+pub mod Blamed
 pub mod Host
 pub mod Paths

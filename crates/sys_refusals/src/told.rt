@@ -2,6 +2,7 @@
 
 ghost use Rattle.std.specs.Prelude.{◌≡◌, Bool, List, ℕ};
 ghost use Rattle.sys_refusals.specs.Host.{is_not_text};
+ghost use Rattle.sys_refusals.specs.declared.told.Side.{Side};
 ghost use Rattle.sys_text.specs.Printed.{Prints};
 
 use crate::place::FileArg;
@@ -36,12 +37,16 @@ pub trait Told {
     /// The words are wrong, rather than what they name.
     ghost wrong_words: { Self → Bool };
 
+    /// Which of the files in use it is about.
+    ghost side_of: { Self → Side };
+
     /// Whether the words are wrong, rather than what they name.
     fn is_usage(&self) -> bool
         ensures { result ≡ wrong_words self.now };
 
     /// Which of the files in use it is about.
-    fn side(&self) -> Side;
+    fn side(&self) -> Side
+        ensures { result ≡ side_of self.now };
 
     /// Whether a device or the opening of a file failed, so that the system gives the reason.
     fn is_of_a_device(&self) -> bool;

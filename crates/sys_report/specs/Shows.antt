@@ -1,5 +1,5 @@
 -- What a report shows.
-use Rattle.std.specs.Prelude.{◌≡◌, ◌<◌, ◌+◌, ◌||◌, ℕ, List, ◌++◌, Bool, IsTrue, true, false}
+use Rattle.std.specs.Prelude.{◌≡◌, ◌<◌, ◌+◌, ◌||◌, ◌⊎◌, ℕ, List, ◌++◌, Bool, IsTrue, true, false}
 use Rattle.sys_report.specs.declared.report.Report.{Report}
 
 -- these bytes more were written to one stream, and none to the other: of standard output and of standard error what was
@@ -34,6 +34,11 @@ IsNoted old new =
 -- nor to standard error
 abbrev pub IsSilent : Report → Report → Type 0
 IsSilent old new = IsNoted old new × (new.err.log.state.bytes ≡ old.err.log.state.bytes)
+
+-- these bytes more were written to standard error; or they could not be, which is counted
+abbrev pub Notes : Report → Report → List ℕ → Type 0
+Notes old new told =
+    (new.err.log.state.bytes ≡ old.err.log.state.bytes ++ told) ⊎ (old.unshown.number < new.unshown.number)
 
 -- how often a line failed: in standard output, in standard error, or because it is no text of a line
 abbrev pub refusals : Report → ℕ

@@ -2,7 +2,7 @@
 
 ghost use Rattle.std.specs.Prelude.{◌≡◌, ◌≤◌, OnOk, OnErr, IfSome};
 ghost use Rattle.std.specs.Fmt.{with_newline};
-ghost use Rattle.sys_report.specs.Shows.{CannotPrint, IsNoted, ShowsBeside, ShowsHere, refusals};
+ghost use Rattle.sys_report.specs.Shows.{CannotPrint, IsNoted, Notes, ShowsBeside, ShowsHere, refusals};
 
 use crate::progress::Progress;
 use crate::standard_output::StandardOutput;
@@ -26,7 +26,7 @@ pub struct Report {
     pub progress: Progress,
     // Whether data went to standard output: then no line does.
     is_data_on_output: bool,
-    // Lines that are not text, or are longer than any line that a command prints.
+    // Lines that are not text, or are longer than any line that a command prints; and notes that could not be written.
     unshown: Tally,
 }
 
@@ -94,13 +94,17 @@ impl Report {
         }
     }
 
-    /// Prints a line to standard error. No contract depends on it.
+    /// Prints a line to standard error. No result depends on it.
     #[inline(never)]
     pub fn note<D: fmt::Display + Drop>(&mut self, line: D)
-        ensures { IsNoted self.old self.new }
+        ensures noted { IsNoted self.old self.new }
+        ensures told { IfSome (with_newline (D.output line)) (Notes self.old self.new) }
     {
         self.progress.erase();
-        let _ = print_line(&mut self.err, line);
+        match print_line(&mut self.err, line) {
+            Ok(()) => {}
+            Err(_) => self.unshown.add(1),
+        }
     }
 
     /// Whether standard output is a terminal, so that each line of a text is awaited.

@@ -1,0 +1,16 @@
+use Rattle.std.proofs.Common.{◌∙◌}
+use Rattle.cmd_common_boot.proofs.Sides.{tells_err, tells_host}
+use Rattle.cmd_unpack.proofs.write_part.finish.Goals as goal
+
+pub returns-in-Err-clause-told_of : goal.returns-in-Err-clause-told_of
+returns-in-Err-clause-told_of g c =
+    let tells = tells_err _ c.in-Err.refusal.fault c.in-Err.refusal.about.place _ _ c.in-Err.ensures.told
+    c.in-Err.ensures.told_of c.in-Err.ensures.host in
+    record {
+      read = λ on. tells.read on ∙ c.reading-sides.ensures.place;
+      written = λ on. tells.written on;
+    }
+
+pub returns-in-Err-line_beside-clause-told_of : goal.returns-in-Err-line_beside-clause-told_of
+returns-in-Err-line_beside-clause-told_of g c =
+    tells_host _ c.in-Err-line_beside.refusal.fault _ _ _ c.into.ensures
