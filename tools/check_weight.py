@@ -72,7 +72,7 @@ LINES = {
     "system": 89,
     "words": 117,
     "commands over sparse images": 144,
-    "commands over boot images": 140,
+    "commands over boot images": 141,
     "laws": 62,
     "memory": 30,
     "for programs in C": 25,
