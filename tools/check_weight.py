@@ -65,7 +65,7 @@ FAMILIES = {
 }
 LINES = {
     "devices": 101,
-    "definitions and reading": 174,
+    "definitions and reading": 177,
     "writing": 182,
     "flashing and verifying": 138,
     "boot images": 227,

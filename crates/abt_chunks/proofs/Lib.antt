@@ -5,6 +5,7 @@ pub mod Turns
 pub mod Causes
 pub mod Fed
 pub mod Finishing
+pub mod Short
 pub mod Showing
 pub mod Repeated
 pub mod Needed

@@ -34,7 +34,7 @@ Ending = Result (Header × List ℕ) SparseFault
 
 -- ---- what lies ahead of a walk, where fewer bytes than it lacks are left
 
-short_head : (h : Header) (size i have : ℕ) (y : List ℕ) → length y < 12
+pub short_head : (h : Header) (size i have : ℕ) (y : List ℕ) → length y < 12
     → chunk_at h size i have y ≡ Bad (Truncated size) []
 unfolding chunk_at
 short_head h size i have y short = rw (lt-ltb _ _ short) refl

@@ -1,5 +1,5 @@
 -- What an expansion of a whole input returns and writes, in terms of what an image is and what a fault is.
-use Rattle.std.specs.Prelude.{◌≡◌, ℕ, ◌*◌, ◌<◌, List, ◌++◌, length, take, Option, Result, Ok, Err}
+use Rattle.std.specs.Prelude.{◌≡◌, ℕ, ◌+◌, ◌*◌, ◌<◌, List, ◌++◌, length, take, Option, Result, Ok, Err}
 use Rattle.abt_sparse.specs.declared.fault.SparseFault.TheVariants.{Truncated}
 use Rattle.abt_sparse.specs.declared.fault.SparseFault.{SparseFault}
 use Rattle.abt_sparse.specs.Block.{laid, expansion}
@@ -39,6 +39,12 @@ pub record Begun (old new y : List ℕ) : Type 0 where
   pub whole : List ℕ
   pub gives : Gives y whole
   pub begins : IsFrontOf new (old ++ whole)
+
+-- All that the bytes y give was written after what was there, but for fewer bytes than a window has.
+pub record AlmostWhole (old new y : List ℕ) : Type 0 where
+  pub whole : List ℕ
+  pub gives : Gives y whole
+  pub few : length old + length whole < length new + 65536
 
 -- of these bytes nothing is known but that they end too soon
 pub record EndsTooSoon (y : List ℕ) : Type 0 where

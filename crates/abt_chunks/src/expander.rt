@@ -14,7 +14,7 @@ ghost use Rattle.abt_chunks.specs.Places.{owed};
 ghost use Rattle.abt_chunks.specs.Stepping.{WalksOn};
 ghost use Rattle.abt_chunks.specs.Taking.{ReadStep, input_state};
 ghost use Rattle.abt_chunks.specs.Turns.{IsWalkOver, todo};
-ghost use Rattle.abt_chunks.specs.Whole.{AllNeeded, Begun, Expands};
+ghost use Rattle.abt_chunks.specs.Whole.{AllNeeded, AlmostWhole, Begun, Expands};
 ghost use Rattle.abt_chunks.specs.declared.progress.MachineProgress.TheVariants.{More};
 
 use crate::expansion::write_part;
@@ -120,6 +120,9 @@ pub fn expand<I: Input, O: Output>(
     // What is written is a beginning of what the bytes read give.
     ensures begun { IsTrue I.models → Begun (O.written output.old) (O.written output.new)
         (take (I.given input.new - I.given input.old) (I.remaining input.old)) }
+    // And it lacks less than a window of what all of them but the last give, which may complete a repeated word.
+    ensures least { IsTrue I.models → AlmostWhole (O.written output.old) (O.written output.new)
+        (take ((I.given input.new - I.given input.old) - 1) (I.remaining input.old)) }
     // No byte is read that is not needed: none after an image, and none once a fault is known.
     ensures needed { IsTrue I.models → AllNeeded (I.remaining input.old) (I.given input.new - I.given input.old) }
     ensures blame { Blamed result (I.read_faults input.old) (I.read_faults input.new) (O.write_faults output.old)

@@ -16,11 +16,44 @@ use Rattle.abt_chunks.proofs.Causes.{since_going}
 use Rattle.abt_chunks.proofs.Finishing.{told_more, begun_more, image_ends, refusal, unless_map, expansion_found}
 use Rattle.abt_chunks.proofs.Finishing.{refused_found, begun_found}
 use Rattle.abt_chunks.proofs.Needed.{needed_more}
+use Rattle.abt_chunks.proofs.Short.{first_told, near_first, near_found, near_more}
 use Rattle.abt_chunks.proofs.Turns.{reads_on}
 use Rattle.abt_chunks.proofs.expander.expand.Goals as goal
 
 abbrev whole : List ℕ → Ahead
 whole l = seen (outcome l)
+
+pub steps-init : goal.steps-init
+steps-init g c =
+    let zero : g.I.Input.given c.args.input.now - g.I.Input.given c.args.input.now ≡ 0 = omega arith in
+    let rem = g.I.Input.remaining c.args.input.now in
+    record {
+      walks = record {
+        input = record {
+          given = omega arith;
+          present = λ models. omega (arith, zero);
+          rest = λ models. rw zero refl;
+          frame = refl;
+          faults = omega arith;
+        };
+        steps = record { steps = omega arith; greatest = omega arith };
+      };
+      writes = record {
+        least = omega arith;
+        frame = refl;
+        faults = omega arith;
+        clean = refl;
+        full_faults = omega arith;
+      };
+      told = λ models t. first_told _ rem _ _ t c.open-machine.ensures zero;
+      needed = λ models n less. absurd (omega (arith, less, zero));
+      near = λ models. near_first _ rem _ zero;
+      going = rw c.open-machine.ensures tt;
+      read_faults = refl;
+      reads = omega arith;
+      calls = omega arith;
+      turns = omega arith;
+    }
 
 pub steps-preserved : goal.steps-preserved
 steps-preserved g c =
@@ -56,6 +89,10 @@ steps-preserved g c =
           (g.met.I.Input.are_bytes c.args.input.now models) (i.walks.input.rest models) sum
           (e.input.input.present models)
           e.input.wanted (i.told models) (i.needed models);
+      near = λ models. near_more (g.O.Output.written c.args.output.now) (g.O.Output.written c.steps.output)
+          (g.O.Output.written c.step.new.output) rem (g.I.Input.remaining c.steps.input) c.steps.machine.walk k n j
+          (i.walks.input.rest models) sum (e.input.input.present models) e.input.wanted e.input.small
+          writes.least (i.told models) (i.near models);
       going = rw stands tt;
       read_faults = blame.clean.0 ∙ i.read_faults;
       reads = omega (arith, i.reads, e.input, e.input.input, i.writes, writes);
@@ -118,6 +155,38 @@ returns-in-Err-clause-begun g c models =
     (g.I.Input.given c.steps.input - g.I.Input.given c.args.input.now)
     (g.I.Input.given c.step.new.input - g.I.Input.given c.steps.input) j whole (i.walks.input.rest models)
     (omega (arith, i.walks.input.given, e.input.input.given)) (i.told models) (e.begun models))
+
+pub returns-in-Ok-Done-clause-least : goal.returns-in-Ok-Done-clause-least
+returns-in-Ok-Done-clause-least g c models =
+    let i = c.steps.invariant in
+    let e = c.step.ensures in
+    let j = g.I.Input.given c.step.new.input - g.I.Input.given c.args.input.now in
+    let rem = g.I.Input.remaining c.args.input.now in
+    near_found (take (j - 1) rem) (outcome (take (j - 1) rem)) (g.O.Output.written c.args.output.now)
+    (g.O.Output.written c.step.new.output)
+    (is_so (take (j - 1) rem) (bytes_of_take (j - 1) rem (g.met.I.Input.are_bytes c.args.input.now models)))
+    (near_more (g.O.Output.written c.args.output.now) (g.O.Output.written c.steps.output)
+    (g.O.Output.written c.step.new.output) rem (g.I.Input.remaining c.steps.input) c.steps.machine.walk
+    (g.I.Input.given c.steps.input - g.I.Input.given c.args.input.now)
+    (g.I.Input.given c.step.new.input - g.I.Input.given c.steps.input) j (i.walks.input.rest models)
+    (omega (arith, i.walks.input.given, e.input.input.given)) (e.input.input.present models) e.input.wanted
+    e.input.small e.writes.least (i.told models) (i.near models))
+
+pub returns-in-Err-clause-least : goal.returns-in-Err-clause-least
+returns-in-Err-clause-least g c models =
+    let i = c.steps.invariant in
+    let e = c.step.ensures in
+    let j = g.I.Input.given c.step.new.input - g.I.Input.given c.args.input.now in
+    let rem = g.I.Input.remaining c.args.input.now in
+    near_found (take (j - 1) rem) (outcome (take (j - 1) rem)) (g.O.Output.written c.args.output.now)
+    (g.O.Output.written c.step.new.output)
+    (is_so (take (j - 1) rem) (bytes_of_take (j - 1) rem (g.met.I.Input.are_bytes c.args.input.now models)))
+    (near_more (g.O.Output.written c.args.output.now) (g.O.Output.written c.steps.output)
+    (g.O.Output.written c.step.new.output) rem (g.I.Input.remaining c.steps.input) c.steps.machine.walk
+    (g.I.Input.given c.steps.input - g.I.Input.given c.args.input.now)
+    (g.I.Input.given c.step.new.input - g.I.Input.given c.steps.input) j (i.walks.input.rest models)
+    (omega (arith, i.walks.input.given, e.input.input.given)) (e.input.input.present models) e.input.wanted
+    e.input.small e.writes.least (i.told models) (i.near models))
 
 pub returns-in-Ok-Done-clause-expands : goal.returns-in-Ok-Done-clause-expands
 returns-in-Ok-Done-clause-expands g c models =

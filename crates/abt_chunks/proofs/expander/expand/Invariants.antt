@@ -8,6 +8,7 @@ use Rattle.abt_chunks.specs.Turns.{todo}
 use Rattle.abt_chunks.specs.Parts.{ahead}
 use Rattle.abt_chunks.specs.Expanding.{IsGoing}
 use Rattle.abt_chunks.specs.Whole.{AllNeeded}
+use Rattle.abt_chunks.proofs.Short.{IsNear}
 use Rattle.abt_chunks.proofs.expander.expand.Given as goal
 
 abbrev pub invariant-steps : goal.invariant-steps
@@ -23,6 +24,8 @@ invariant-steps g l =
           (seen (outcome (take (got l.input - got l.fn.input) (i.remaining l.fn.input) ++ t)))
           ≡ finish (written l.output) (ahead l.machine.walk t);
       needed : IsTrue i.models → AllNeeded (i.remaining l.fn.input) (got l.input - got l.fn.input);
+      near : IsTrue i.models → IsNear (written l.fn.output) (written l.output) (i.remaining l.fn.input)
+          (got l.input - got l.fn.input);
       going : IsGoing l.machine.walk.phase;
       read_faults : i.read_faults l.input ≡ i.read_faults l.fn.input;
       reads : i.reads l.input + 4 * got l.fn.input + 4 * length (written l.fn.output)
