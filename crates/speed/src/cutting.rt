@@ -13,9 +13,9 @@ use abt_runs::SparseRuns;
 use anyhow::{Result, bail};
 use cmd_common_sparse::PiecesOf;
 use std::alloc::Global;
-use std::fs::File;
 use sys_devices::FileSource;
 use sys_readers::ToWrite;
+use sys_std::OsFile;
 
 fn next_piece<S: Source>(
     pieces: &mut PiecesOf<SparseRuns>,
@@ -77,7 +77,7 @@ pub fn cut_single(
 
 /// The image of a file at many limits.
 pub fn cut_file(
-    source: &mut FileSource<File>,
+    source: &mut FileSource<OsFile>,
     seed: u64,
     w: &mut Window,
     m: &mut Meter,

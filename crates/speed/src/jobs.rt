@@ -11,6 +11,7 @@ use anyhow::{Context, Result, bail};
 use std::alloc::Global;
 use std::fs::File;
 use sys_devices::FileSource;
+use sys_std::OsFile;
 
 /// The size of a job.
 #[derive(Clone, Copy, Drop)]
@@ -101,7 +102,7 @@ pub fn done_with_file(
 ) -> Result<()> {
     let seed = number(seed)?;
     let file = File::open(&rt, file)?;
-    let Ok(mut source) = FileSource::new(file) else {
+    let Ok(mut source) = FileSource::new(OsFile::File(file)) else {
         bail!("the file was not opened");
     };
     let digest = cut_file(&mut source, seed, w, m)?;

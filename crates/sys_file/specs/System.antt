@@ -5,15 +5,6 @@ use Rattle.abt_io.specs.Moment.{Past, no_past}
 use Rattle.sys_file.specs.declared.stat.Kind.{Kind}
 use Rattle.sys_file.specs.declared.stat.Kind.TheVariants as kinds
 use Rattle.sys_file.specs.declared.stat.Stat.{Stat}
-use Rattle.sys_file.specs.declared.system.Opening.{Opening}
-use Rattle.sys_file.specs.declared.system.Opening.TheVariants as ways
-
--- the file is created if it does not exist
-abbrev pub creates : Opening → Bool
-creates ways.Read = false
-creates ways.Write = false
-creates ways.Create = true
-creates ways.CreateAndRead = true
 
 -- the call returns whether the file is regular, and the length of a regular file
 pub record StatsFile (is_file : Bool) (content : List ℕ) (stat : Stat) : Type 0 where

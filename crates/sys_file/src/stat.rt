@@ -1,5 +1,10 @@
 //! What the system returns for a file: its kind, its identity, its length and its time of modification.
 
+ghost use Rattle.std.specs.Prelude.{◌≡◌};
+ghost use Rattle.sys_file.specs.Stats.{kind_of_mode, stamp_of};
+
+use crate::system_file::Stamp;
+
 /// The kind of a file.
 #[derive(Clone, Copy, PartialEq, Eq)]
 pub enum Kind {
@@ -9,6 +14,22 @@ pub enum Kind {
     Pipe,
     Socket,
     Other,
+}
+
+impl Kind {
+    /// The kind of a file of this mode.
+    pub fn of_mode(mode: u32) -> Kind
+        ensures { result ≡ kind_of_mode mode }
+    {
+        match mode / 0o10_000 % 16 {
+            0o10 => Kind::File,
+            0o6 => Kind::Block,
+            0o4 => Kind::Folder,
+            0o1 => Kind::Pipe,
+            0o14 => Kind::Socket,
+            _ => Kind::Other,
+        }
+    }
 }
 
 /// What the system returns for a file, as `stat` does.
@@ -26,4 +47,24 @@ pub struct Stat {
     /// The time of the last write, as the file system reports it.
     pub second: i64,
     pub nanosecond: i64,
+}
+
+impl Stat {
+    /// The stamp, if this is a regular file.
+    pub fn stamp(&self) -> Option<Stamp>
+        ensures { result ≡ stamp_of self.now }
+    {
+        match self.kind {
+            Kind::File => Some(Stamp {
+                length: self.length,
+                second: self.second,
+                nanosecond: self.nanosecond,
+            }),
+            Kind::Block => None,
+            Kind::Folder => None,
+            Kind::Pipe => None,
+            Kind::Socket => None,
+            Kind::Other => None,
+        }
+    }
 }

@@ -1,29 +1,20 @@
 //! The files of a system: opening files, and identifying them.
 
-ghost use Rattle.std.specs.Prelude.{◌≡◌, [], ℕ, List, Bool, IsTrue, IfOk, IfErr, IsErr, Option, None, false};
+ghost use Rattle.std.specs.Prelude.{◌≡◌, ◌≢◌, [], ◌∷◌, ℕ, List, Bool, IsTrue, IfOk, IfErr, IfSome, IsErr, Option, None};
+ghost use Rattle.std.specs.Prelude.{false, string_bytes};
 ghost use Rattle.std.specs.IoError.{error_kind};
-ghost use Rattle.sys_file.specs.System.{StatsFile, IsJustOpened, creates, LooksAt, Describes, OpensAt, ClosesFile};
+ghost use Rattle.sys_file.specs.System.{StatsFile, IsJustOpened, LooksAt, Describes, OpensAt, ClosesFile};
+ghost use Rattle.sys_file.specs.Folders.{ListsFolder, HasNone};
+ghost use Rattle.sys_file.specs.Openings.{creates};
 ghost use Rattle.sys_file.specs.System.{HasStreams};
 ghost use Rattle.sys_file.specs.declared.stat.Stat.{Stat};
 
+use crate::opening::Opening;
 use crate::stat::Stat;
 use crate::system_file::SystemFile;
 use std::alloc::Global;
 use std::io;
 use std::io::ErrorKind;
-
-/// How a file is opened.
-#[derive(Clone, Copy, Drop)]
-pub enum Opening {
-    /// The file exists, and is read.
-    Read,
-    /// The file exists, and is written.
-    Write,
-    /// The file is written, and created if it does not exist.
-    Create,
-    /// The file is read and written, and created if it does not exist.
-    CreateAndRead,
-}
 
 /// The files of a system. Opening a file does not empty it.
 ///
@@ -62,6 +53,9 @@ pub trait System {
 
     /// The names in a folder that were not returned yet.
     type Names: Drop;
+
+    /// These names, in the order in which they will be returned.
+    ghost to_come: { Self.Names → List (List ℕ) };
 
     /// The allocator.
     fn alloc(&self) -> Global;
@@ -116,11 +110,22 @@ pub trait System {
     fn contents(&self, path: &str) -> io::Result<Vec<u8>>
         ensures { IsTrue Self.File.models → IsErr result };
 
-    /// The names of the entries of a folder.
-    fn names(&self, folder: &str) -> io::Result<Self::Names>;
+    /// The names of the entries of a folder. If the call fails, no file is in the folder, or memory was refused.
+    fn names(&self, folder: &str) -> io::Result<Self::Names>
+        ensures lists { IsTrue Self.File.models → IfOk result (λ names. ListsFolder (at self.now) folder.now
+            (to_come names)) }
+        ensures none { IsTrue Self.File.models → IfErr result (λ e. error_kind e ≢ ErrorKind.OutOfMemory
+            → HasNone (at self.now) folder.now) };
 
-    /// The next name, if there is one.
-    fn next_name(&self, names: &mut Self::Names) -> Option<io::Result<String>>;
+    /// The next name, if there is one. A name that is no text is an invalid one.
+    fn next_name(&self, names: &mut Self::Names) -> Option<io::Result<String>>
+        ensures ended { IsTrue Self.File.models → result ≡ None → to_come names.old ≡ [] }
+        ensures next { IsTrue Self.File.models → IfSome result (λ r. IfOk r (λ name. to_come names.old
+            ≡ string_bytes name ∷ to_come names.new)) }
+        ensures invalid { IsTrue Self.File.models → IfSome result (λ r. IfErr r (λ e. error_kind e
+            ≡ ErrorKind.InvalidFilename → to_come names.new ≡ to_come names.old)) }
+        ensures failed { IsTrue Self.File.models → IfSome result (λ r. IfErr r (λ e. error_kind e
+            ≢ ErrorKind.InvalidFilename → error_kind e ≡ ErrorKind.OutOfMemory)) };
 
     /// The path without links that leads to the same file as this path.
     fn whole_path(&self, path: &str) -> io::Result<String>;

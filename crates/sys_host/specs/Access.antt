@@ -1,7 +1,5 @@
 -- What a command does with a file.
 use Rattle.std.specs.Prelude.{Bool, true, false}
-use Rattle.sys_file.specs.declared.system.Opening.{Opening}
-use Rattle.sys_file.specs.declared.system.Opening.TheVariants as openings
 use Rattle.sys_host.specs.declared.open_file.Access.{Access}
 use Rattle.sys_host.specs.declared.open_file.Access.TheVariants as ways
 
@@ -22,10 +20,3 @@ may_create ways.InPlace = false
 may_create ways.Create = true
 may_create ways.CreateFile = true
 may_create ways.Spool = true
-
--- the system is asked for more than reading
-abbrev pub asks_to_write : Opening → Bool
-asks_to_write openings.Read = false
-asks_to_write openings.Write = true
-asks_to_write openings.Create = true
-asks_to_write openings.CreateAndRead = true

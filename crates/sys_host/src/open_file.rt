@@ -1,8 +1,8 @@
 //! Opening one file: how it is opened, and what kind of file it has to be.
 
 ghost use Rattle.std.specs.Prelude.{◌≡◌, IsTrue, IfOk};
-ghost use Rattle.sys_file.specs.System.{creates};
-ghost use Rattle.sys_host.specs.Access.{may_write, may_create, asks_to_write};
+ghost use Rattle.sys_file.specs.Openings.{creates, opens_to_write};
+ghost use Rattle.sys_host.specs.Access.{may_write, may_create};
 ghost use Rattle.sys_host.specs.Opens.{WasOpened, OpensPlace};
 ghost use Rattle.sys_refusals.specs.Paths.{path_of};
 
@@ -136,7 +136,7 @@ fn opened_at<S: System>(
 
 // How the file is opened. What is only read is not opened for more.
 fn opening(access: Access) -> Opening
-    ensures writes { asks_to_write result ≡ may_write access }
+    ensures writes { opens_to_write result ≡ may_write access }
     ensures creates { creates result ≡ may_create access }
 {
     match access {

@@ -4,9 +4,11 @@ ghost use Rattle.std.specs.Prelude.{[], false};
 ghost use Rattle.std.proofs.lemmas.Bool.{false≢true};
 ghost use Rattle.abt_io.specs.Moment.{no_past};
 
+use crate::system::stat_of;
 use std::fs::File;
 use std::io;
-use std::io::{ErrorKind, Read, Write};
+use std::io::{ErrorKind, Read, Seek, SeekFrom, Write};
+use std::os::unix::fs::FileExt;
 use std::rt::{Stdin, Stdout};
 use sys_file::{Stamp, SystemFile};
 
@@ -27,13 +29,6 @@ impl OsFile {
             _ => Err(io::Error::from(ErrorKind::Unsupported)),
         }
     }
-
-    fn file_mut(&mut self) -> io::Result<&mut File> {
-        match self {
-            OsFile::File(file) => Ok(file),
-            _ => Err(io::Error::from(ErrorKind::Unsupported)),
-        }
-    }
 }
 
 impl SystemFile for OsFile {
@@ -49,49 +44,52 @@ impl SystemFile for OsFile {
 
     #[inline(never)]
     fn length(&self) -> io::Result<u64> {
-        self.file()?.length()
+        let mut file = self.file()?;
+        file.seek(SeekFrom::End(0))
     }
 
     fn stamp(&self) -> Option<Stamp> {
-        self.file().ok()?.stamp()
+        stat_of(&self.file().ok()?.metadata().ok()?).stamp()
     }
 
     fn read_at(&self, at: u64, out: &mut [u8]) -> io::Result<usize> {
-        SystemFile::read_at(self.file()?, at, out)
+        FileExt::read_at(self.file()?, out, at)
     }
 
     fn write_at(&mut self, at: u64, bytes: &[u8]) -> io::Result<usize> {
-        SystemFile::write_at(self.file_mut()?, at, bytes)
+        FileExt::write_at(self.file()?, bytes, at)
     }
 
     fn read(&mut self, out: &mut [u8]) -> io::Result<usize> {
         match self {
-            OsFile::Input(stdin) => Read::read(stdin, out),
-            _ => Read::read(self.file_mut()?, out),
+            OsFile::Input(stdin) => stdin.read(out),
+            _ => self.file()?.read(out),
         }
     }
 
     fn write(&mut self, bytes: &[u8]) -> io::Result<usize> {
         match self {
-            OsFile::Output(stdout, _) => Write::write(stdout, bytes),
-            _ => Write::write(self.file_mut()?, bytes),
+            OsFile::Output(stdout, _) => stdout.write(bytes),
+            _ => self.file()?.write(bytes),
         }
     }
 
     fn go_to(&mut self, at: u64) -> io::Result<()> {
-        self.file_mut()?.go_to(at)
+        let mut file = self.file()?;
+        file.seek(SeekFrom::Start(at))?;
+        Ok(())
     }
 
     #[inline(never)]
     fn set_len(&mut self, n: u64) -> io::Result<()> {
-        SystemFile::set_len(self.file_mut()?, n)
+        self.file()?.set_len(n)
     }
 
     fn sync(&mut self) -> io::Result<()> {
         match self {
             OsFile::Output(_, None) => Ok(()),
-            OsFile::Output(_, Some(file)) => file.sync(),
-            _ => self.file_mut()?.sync(),
+            OsFile::Output(_, Some(file)) => file.sync_all(),
+            _ => self.file()?.sync_all(),
         }
     }
 }

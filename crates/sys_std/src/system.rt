@@ -24,6 +24,8 @@ impl System for OsSystem {
 
     type Names = Box<ReadDir>;
 
+    ghost to_come = { λ _. [] };
+
     ghost is_file = { λ _. false };
 
     ghost which = { λ _. 0 };
@@ -57,12 +59,9 @@ impl System for OsSystem {
     #[inline(never)]
     fn open(&mut self, path: &str, how: Opening) -> io::Result<OsFile> {
         let mut options = OpenOptions::new();
-        match how {
-            Opening::Read => options.read(true),
-            Opening::Write => options.write(true),
-            Opening::Create => options.write(true).create(true),
-            Opening::CreateAndRead => options.read(true).write(true).create(true),
-        };
+        options.read(how.reads());
+        options.write(how.writes());
+        options.create(how.creates());
         Ok(OsFile::File(options.open(&self.rt, path)?))
     }
 
@@ -136,25 +135,14 @@ fn text_of(alloc: Global, text: &str) -> io::Result<String> {
     Ok(String::from_str(alloc, text)?)
 }
 
-fn stat_of(found: &Metadata) -> Stat {
+pub(crate) fn stat_of(found: &Metadata) -> Stat {
     Stat {
-        kind: kind_of(found),
+        kind: Kind::of_mode(found.mode()),
         on: found.dev(),
         number: found.ino(),
         device: found.rdev(),
         length: found.len(),
         second: found.mtime(),
         nanosecond: found.mtime_nsec(),
-    }
-}
-
-fn kind_of(found: &Metadata) -> Kind {
-    match found.mode() & 0o170_000 {
-        0o100_000 => Kind::File,
-        0o060_000 => Kind::Block,
-        0o040_000 => Kind::Folder,
-        0o010_000 => Kind::Pipe,
-        0o140_000 => Kind::Socket,
-        _ => Kind::Other,
     }
 }

@@ -6,14 +6,14 @@ ghost use Rattle.abt_io.specs.Frame.{last_cut};
 ghost use Rattle.abt_io.specs.Held.{filled_count};
 
 use abt_io::{DeviceFault, Input, Log, Output, Overwrite, Spool, Tally};
-use std::fs::File;
 use sys_file::{SystemFile, read_at, write_at};
+use sys_std::OsFile;
 
 /// One file that is written from its beginning on, and read from its beginning on. It is full where it holds as much
 /// as its capacity.
 #[derive(Drop)]
 pub struct FileSpool {
-    pub file: File,
+    pub file: OsFile,
     pub capacity: u64,
     pub used: u64,
     pub seen: u64,
@@ -39,7 +39,7 @@ pub struct FileSpool {
 impl FileSpool {
     /// A spool of at most `capacity` bytes, over a file that is empty (as one that was opened with its
     /// content cut off).
-    pub(crate) fn new(file: File, capacity: u64) -> FileSpool {
+    pub(crate) fn new(file: OsFile, capacity: u64) -> FileSpool {
         FileSpool {
             file,
             capacity,
@@ -211,7 +211,7 @@ impl Spool for FileSpool {
     /// Truncates the file to no bytes; it stays open.
     fn clear(&mut self) -> Result<(), DeviceFault> {
         self.clears.add(1);
-        match SystemFile::set_len(&mut self.file, 0) {
+        match self.file.set_len(0) {
             Ok(()) => {
                 self.log.cut();
                 self.cleared += self.used;

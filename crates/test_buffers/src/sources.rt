@@ -8,6 +8,7 @@ use std::fs::{File, OpenOptions};
 use std::os::unix::fs::FileExt;
 use std::time::{Duration, UNIX_EPOCH};
 use sys_devices::{AheadSource, FileSource};
+use sys_std::OsFile;
 
 // Lengths on both sides of what is read at once, and one that is long.
 const SIZES: [usize; 8] = [0, 1, 255, 257, 4095, 4097, 65_536, 200_001];
@@ -36,7 +37,7 @@ fn answered<S: Source>(
 }
 
 /// The same file, read ahead.
-fn ahead(alloc: Global, source: FileSource<File>) -> Option<AheadSource<File>> {
+fn ahead(alloc: Global, source: FileSource<OsFile>) -> Option<AheadSource<OsFile>> {
     AheadSource::new(alloc, source).ok()
 }
 
@@ -57,8 +58,8 @@ fn place(random: &mut Random, behind: u64, before: u64, size: u64) -> u64 {
 fn a_source_that_is_read_ahead_gives_what_a_file_gives(rt: HostRuntime) {
     for (seed, size) in SIZES.iter().enumerate() {
         fs::write(&rt, "ahead.tmp", bytes(rt.alloc(), *size).as_slice()).expect(&rt, "is written");
-        let one = File::open(&rt, "ahead.tmp").expect(&rt, "opens");
-        let other = File::open(&rt, "ahead.tmp").expect(&rt, "opens");
+        let one = OsFile::File(File::open(&rt, "ahead.tmp").expect(&rt, "opens"));
+        let other = OsFile::File(File::open(&rt, "ahead.tmp").expect(&rt, "opens"));
         let mut one = FileSource::new(one).expect(&rt, "has a length");
         let other = FileSource::new(other).expect(&rt, "has a length");
         let mut other = ahead(rt.alloc(), other).expect(&rt, "there is memory");
@@ -94,7 +95,7 @@ fn what_was_read_of_a_raw_image_is_kept_for_the_next_piece(rt: HostRuntime) {
     for piece in PIECES.iter() {
         let image = bytes(rt.alloc(), 300_000);
         fs::write(&rt, "kept.tmp", image.as_slice()).expect(&rt, "is written");
-        let read = File::open(&rt, "kept.tmp").expect(&rt, "opens");
+        let read = OsFile::File(File::open(&rt, "kept.tmp").expect(&rt, "opens"));
         let source = FileSource::new(read).expect(&rt, "has a length");
         let mut source = ahead(rt.alloc(), source).expect(&rt, "there is memory");
         let mut have = [0; MOST];
@@ -113,7 +114,7 @@ fn what_was_read_of_a_raw_image_is_kept_for_the_next_piece(rt: HostRuntime) {
     }
     let image = bytes(rt.alloc(), 300_000);
     fs::write(&rt, "kept.tmp", image.as_slice()).expect(&rt, "is written");
-    let read = File::open(&rt, "kept.tmp").expect(&rt, "opens");
+    let read = OsFile::File(File::open(&rt, "kept.tmp").expect(&rt, "opens"));
     let source = FileSource::new(read).expect(&rt, "has a length");
     let mut source = ahead(rt.alloc(), source).expect(&rt, "there is memory");
     let mut have = [0; MOST];
@@ -140,7 +141,7 @@ fn a_source_without_a_file_gives_nothing(rt: HostRuntime) {
 #[test]
 fn a_read_that_fails_is_told(rt: HostRuntime) {
     let mut out = [0; MOST];
-    let folder = File::open(&rt, ".").expect(&rt, "opens");
+    let folder = OsFile::File(File::open(&rt, ".").expect(&rt, "opens"));
     let mut source = FileSource::empty();
     source.file = Some(folder);
     source.size = 100_000;
@@ -162,7 +163,7 @@ fn a_file_that_got_shorter_is_told(rt: HostRuntime) {
         .write(true)
         .open(&rt, "short.tmp")
         .expect(&rt, "opens");
-    let read = File::open(&rt, "short.tmp").expect(&rt, "opens");
+    let read = OsFile::File(File::open(&rt, "short.tmp").expect(&rt, "opens"));
     let source = ahead(
         rt.alloc(),
         FileSource::new(read).expect(&rt, "has a length"),
@@ -199,7 +200,7 @@ fn a_file_that_was_written_is_told(rt: HostRuntime) {
         .open(&rt, "written.tmp")
         .expect(&rt, "opens");
     assert!(rt; file.set_modified(past).is_ok());
-    let read = File::open(&rt, "written.tmp").expect(&rt, "opens");
+    let read = OsFile::File(File::open(&rt, "written.tmp").expect(&rt, "opens"));
     let source = ahead(
         rt.alloc(),
         FileSource::new(read).expect(&rt, "has a length"),
@@ -217,7 +218,7 @@ fn a_file_that_was_written_is_told(rt: HostRuntime) {
 fn a_source_that_rests_is_as_it_began(rt: HostRuntime) {
     let mut out = [0; MOST];
     fs::write(&rt, "rest.tmp", "of before").expect(&rt, "is written");
-    let read = File::open(&rt, "rest.tmp").expect(&rt, "opens");
+    let read = OsFile::File(File::open(&rt, "rest.tmp").expect(&rt, "opens"));
     let source = ahead(
         rt.alloc(),
         FileSource::new(read).expect(&rt, "has a length"),

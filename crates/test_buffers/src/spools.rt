@@ -9,6 +9,7 @@ use std::fs::{File, OpenOptions};
 use std::process::Abort;
 use std::rt::Files;
 use sys_devices::{AheadSource, FilePartition, FileSource, GatheringSpool};
+use sys_std::OsFile;
 
 // Capacities on both sides of what is held at most, one that takes several windows, and small ones.
 const CAPACITIES: [usize; 6] = [1, 100, 5000, 65_535, 65_537, 300_001];
@@ -76,7 +77,12 @@ fn laid_over<S: Spool + Overwrite>(
 }
 
 /// A spool over a file that is empty, which may keep its pages.
-fn gathering(alloc: Global, file: File, capacity: usize, is_keeping: bool) -> GatheringSpool<File> {
+fn gathering(
+    alloc: Global,
+    file: OsFile,
+    capacity: usize,
+    is_keeping: bool,
+) -> GatheringSpool<OsFile> {
     if is_keeping {
         GatheringSpool::keeping(alloc, file, capacity as u64, None, 0)
     } else {
@@ -88,8 +94,8 @@ fn gathering(alloc: Global, file: File, capacity: usize, is_keeping: bool) -> Ga
 fn a_spool_that_gathers_does_what_a_file_does(rt: HostRuntime) {
     let text = bytes(rt.alloc(), 100_000);
     for (seed, capacity) in CAPACITIES.iter().chain(CAPACITIES.iter()).enumerate() {
-        let mut one = FileSpool::new(opened(&rt, "one.tmp"), *capacity as u64);
-        let file = opened(&rt, "other.tmp");
+        let mut one = FileSpool::new(OsFile::File(opened(&rt, "one.tmp")), *capacity as u64);
+        let file = OsFile::File(opened(&rt, "other.tmp"));
         let is_keeping = seed >= CAPACITIES.len();
         let mut other = gathering(rt.alloc(), file, *capacity, is_keeping);
         let mut random = Random::new(seed as u64);
@@ -138,7 +144,8 @@ fn a_spool_that_gathers_does_what_a_file_does(rt: HostRuntime) {
 #[test]
 fn a_spool_that_gathers_is_written_late(rt: HostRuntime) {
     let mut out = [0u8; 3];
-    let mut spool = GatheringSpool::new(rt.alloc(), opened(&rt, "late.tmp"), 65_536, None, 0);
+    let file = OsFile::File(opened(&rt, "late.tmp"));
+    let mut spool = GatheringSpool::new(rt.alloc(), file, 65_536, None, 0);
     fs::write(&rt, "abc.tmp", "abc").expect(&rt, "is written");
     fs::write(&rt, "empty.tmp", "").expect(&rt, "is written");
     assert!(rt; called(&mut spool, 0, b"abc", &mut []) == Ok(3));
@@ -148,7 +155,8 @@ fn a_spool_that_gathers_is_written_late(rt: HostRuntime) {
     assert!(rt; same(&rt, "late.tmp", "abc.tmp"));
     let many = bytes(rt.alloc(), 16_384);
     fs::write(&rt, "many.tmp", many.as_slice()).expect(&rt, "is written");
-    let mut spool = GatheringSpool::new(rt.alloc(), opened(&rt, "late.tmp"), 65_536, None, 0);
+    let file = OsFile::File(opened(&rt, "late.tmp"));
+    let mut spool = GatheringSpool::new(rt.alloc(), file, 65_536, None, 0);
     assert!(rt; called(&mut spool, 0, many.as_slice(), &mut []) == Ok(16_384));
     assert!(rt; same(&rt, "late.tmp", "many.tmp"));
 }
@@ -157,7 +165,8 @@ fn a_spool_that_gathers_is_written_late(rt: HostRuntime) {
 /// the last clear are written nowhere.
 #[test]
 fn what_a_spool_holds_is_laid_over(rt: HostRuntime) {
-    let mut spool = GatheringSpool::new(rt.alloc(), opened(&rt, "late.tmp"), 65_536, None, 0);
+    let file = OsFile::File(opened(&rt, "late.tmp"));
+    let mut spool = GatheringSpool::new(rt.alloc(), file, 65_536, None, 0);
     fs::write(&rt, "empty.tmp", "").expect(&rt, "is written");
     fs::write(&rt, "laid.tmp", "ABCD..yz").expect(&rt, "is written");
     assert!(rt; called(&mut spool, 0, b"........", &mut []) == Ok(8));
@@ -181,7 +190,7 @@ fn a_spool_keeps_its_pages_until_its_magic_is_laid(rt: HostRuntime) {
     fs::write(&rt, "laid.tmp", "ABCD..yz").expect(&rt, "is written");
     fs::write(&rt, "cleared.tmp", "\0\0\0\0..yz").expect(&rt, "is written");
     fs::write(&rt, "few.tmp", "..").expect(&rt, "is written");
-    let file = opened_as_it_is(&rt, "kept.tmp");
+    let file = OsFile::File(opened_as_it_is(&rt, "kept.tmp"));
     let mut spool = GatheringSpool::keeping(rt.alloc(), file, 65_536, None, 9);
     assert!(rt; called(&mut spool, 9, b"", &mut []) == Ok(0));
     assert!(rt; called(&mut spool, 0, b"........", &mut []) == Ok(8));
@@ -201,7 +210,7 @@ fn a_spool_keeps_its_pages_until_its_magic_is_laid(rt: HostRuntime) {
 fn a_spool_that_is_settled_has_nothing_of_before(rt: HostRuntime) {
     fs::write(&rt, "kept.tmp", "of before").expect(&rt, "is written");
     fs::write(&rt, "empty.tmp", "").expect(&rt, "is written");
-    let file = opened_as_it_is(&rt, "kept.tmp");
+    let file = OsFile::File(opened_as_it_is(&rt, "kept.tmp"));
     let mut spool = GatheringSpool::keeping(rt.alloc(), file, 65_536, None, 9);
     assert!(rt; spool.settle() == Ok(()));
     assert!(rt; same(&rt, "kept.tmp", "empty.tmp"));
@@ -213,7 +222,7 @@ fn a_spool_that_is_settled_has_nothing_of_before(rt: HostRuntime) {
 fn a_gathered_write_that_fails_is_told_later(rt: HostRuntime) {
     let mut out = [0u8; 2];
     fs::write(&rt, "unwritten.tmp", "....").expect(&rt, "is written");
-    let file = File::open(&rt, "unwritten.tmp").expect(&rt, "opens");
+    let file = OsFile::File(File::open(&rt, "unwritten.tmp").expect(&rt, "opens"));
     let mut spool = GatheringSpool::new(rt.alloc(), file, 65_536, None, 0);
     assert!(rt; called(&mut spool, 0, b"ab", &mut []) == Ok(2));
     assert!(rt; spool.why() == None);
@@ -232,7 +241,7 @@ fn a_gathered_write_that_fails_is_told_later(rt: HostRuntime) {
 #[test]
 fn a_partition_knows_why_it_failed(rt: HostRuntime) {
     fs::write(&rt, "unwritten.tmp", "....").expect(&rt, "is written");
-    let file = File::open(&rt, "unwritten.tmp").expect(&rt, "opens");
+    let file = OsFile::File(File::open(&rt, "unwritten.tmp").expect(&rt, "opens"));
     let mut part = FilePartition::new(file).expect(&rt, "has a length");
     assert!(rt; part.length() == 4);
     assert!(rt; part.why() == None);
@@ -246,12 +255,13 @@ fn a_spool_is_not_read_where_its_source_got_shorter(rt: HostRuntime) {
     let mut out = [0u8; 12];
     fs::write(&rt, "from.tmp", bytes(rt.alloc(), 9000).as_slice()).expect(&rt, "is written");
     let file = opened_as_it_is(&rt, "from.tmp");
-    let read = File::open(&rt, "from.tmp").expect(&rt, "opens");
+    let read = OsFile::File(File::open(&rt, "from.tmp").expect(&rt, "opens"));
     let from = FileSource::new(read).expect(&rt, "has a length");
     let source = AheadSource::new(rt.alloc(), from);
     let mut source = source.ok().expect(&rt, "there is memory");
     let from = source.shared().ok();
-    let mut spool = GatheringSpool::new(rt.alloc(), opened(&rt, "through.tmp"), 65_536, from, 0);
+    let through = OsFile::File(opened(&rt, "through.tmp"));
+    let mut spool = GatheringSpool::new(rt.alloc(), through, 65_536, from, 0);
     assert!(rt; !spool.is_from_short());
     assert!(rt; called(&mut spool, 9, b"", &mut []) == Ok(0));
     assert!(rt; source.read_at(100, &mut out) == Ok(12));

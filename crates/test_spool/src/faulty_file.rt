@@ -4,9 +4,9 @@ ghost use Rattle.std.specs.Prelude.{[], false};
 ghost use Rattle.std.proofs.lemmas.Bool.{false≢true};
 ghost use Rattle.abt_io.specs.Moment.{no_past};
 
-use std::fs::File;
 use std::io;
 use sys_file::{Stamp, SystemFile};
+use sys_std::OsFile;
 
 /// Why a call fails that was chosen: the number of EIO.
 pub(crate) const WHY: i32 = 5;
@@ -15,7 +15,7 @@ pub(crate) const WHY: i32 = 5;
 /// has written half of its bytes.
 #[derive(Drop)]
 pub(crate) struct FaultyFile {
-    pub file: File,
+    pub file: OsFile,
     pub fails: u64,
 }
 
@@ -48,23 +48,23 @@ impl SystemFile for FaultyFile {
     }
 
     fn read_at(&self, at: u64, out: &mut [u8]) -> io::Result<usize> {
-        SystemFile::read_at(&self.file, at, out)
+        self.file.read_at(at, out)
     }
 
     fn write_at(&mut self, at: u64, bytes: &[u8]) -> io::Result<usize> {
         if self.is_over() {
-            let _ = SystemFile::write_at(&mut self.file, at, &bytes[..bytes.len() / 2]);
+            let _ = self.file.write_at(at, &bytes[..bytes.len() / 2]);
             return Err(io::Error::from_raw_os_error(WHY));
         }
-        SystemFile::write_at(&mut self.file, at, bytes)
+        self.file.write_at(at, bytes)
     }
 
     fn read(&mut self, out: &mut [u8]) -> io::Result<usize> {
-        SystemFile::read(&mut self.file, out)
+        self.file.read(out)
     }
 
     fn write(&mut self, bytes: &[u8]) -> io::Result<usize> {
-        SystemFile::write(&mut self.file, bytes)
+        self.file.write(bytes)
     }
 
     fn go_to(&mut self, at: u64) -> io::Result<()> {
@@ -75,10 +75,10 @@ impl SystemFile for FaultyFile {
         if self.is_over() {
             return Err(io::Error::from_raw_os_error(WHY));
         }
-        SystemFile::set_len(&mut self.file, n)
+        self.file.set_len(n)
     }
 
     fn sync(&mut self) -> io::Result<()> {
-        SystemFile::sync(&mut self.file)
+        self.file.sync()
     }
 }

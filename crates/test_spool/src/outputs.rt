@@ -9,6 +9,7 @@ use mem_files::OpenMemoryFile;
 use std::alloc::Global;
 use sys_file::SystemFile;
 use sys_outputs::{HeldFile, HoleFile, Room};
+use sys_std::OsFile;
 
 // Pieces with late headers and zeros, short and long.
 const CALLS: [Call; 20] = [
@@ -106,7 +107,7 @@ fn late_headers_end_right_in_a_file(rt: HostRuntime) {
     for k in 0..40u64 {
         let fails = (1 + k % 2 * 2) << (k / 2);
         let faulty = FaultyFile {
-            file: opened(&rt, b""),
+            file: OsFile::File(opened(&rt, b"")),
             fails,
         };
         let mut given = Given::new(rt.alloc(), text(rt.alloc()));
@@ -124,7 +125,7 @@ fn holes_end_right_in_a_file(rt: HostRuntime) {
     for k in 0..40u64 {
         let fails = (1 + k % 2 * 2) << (k / 2);
         let faulty = FaultyFile {
-            file: opened(&rt, b""),
+            file: OsFile::File(opened(&rt, b"")),
             fails,
         };
         let mut given = Given::new(rt.alloc(), text(rt.alloc()));

@@ -14,6 +14,7 @@ use std::process::Abort;
 use std::rt::Files;
 use sys_devices::GatheringSpool;
 use sys_file::SystemFile;
+use sys_std::OsFile;
 
 // Two pieces with late headers, which are read back in part.
 const CALLS: [Call; 24] = [
@@ -141,7 +142,7 @@ fn a_spool_is_right_where_calls_fail(rt: HostRuntime) {
     for k in 0..64u64 {
         let fails = (1 + k / 2 % 2 * 2) << (k / 4);
         let file = FaultyFile {
-            file: opened(&rt, BEFORE),
+            file: OsFile::File(opened(&rt, BEFORE)),
             fails,
         };
         let mut spool = gathering(rt.alloc(), file, BEFORE.len(), k % 2 == 1);
@@ -190,7 +191,7 @@ pub(crate) fn has<R: Files + Alloc>(rt: &R, bytes: &[u8]) -> bool {
 #[test]
 fn bytes_that_are_laid_in_part_are_lost(rt: HostRuntime) {
     let file = FaultyFile {
-        file: opened(&rt, b""),
+        file: OsFile::File(opened(&rt, b"")),
         fails: 0b10,
     };
     let mut spool = gathering(rt.alloc(), file, 0, false);
@@ -210,7 +211,7 @@ fn bytes_that_are_laid_in_part_are_lost(rt: HostRuntime) {
 fn what_is_cleared_in_part_is_lost(rt: HostRuntime) {
     for is_keeping in [false, true] {
         let file = FaultyFile {
-            file: opened(&rt, b""),
+            file: OsFile::File(opened(&rt, b"")),
             fails: 0b110,
         };
         let mut spool = gathering(rt.alloc(), file, 0, is_keeping);
@@ -227,7 +228,7 @@ fn what_is_cleared_in_part_is_lost(rt: HostRuntime) {
 #[test]
 fn a_file_without_zeros_is_emptied(rt: HostRuntime) {
     let file = FaultyFile {
-        file: opened(&rt, BEFORE),
+        file: OsFile::File(opened(&rt, BEFORE)),
         fails: 1,
     };
     let mut spool = gathering(rt.alloc(), file, BEFORE.len(), true);
@@ -243,7 +244,7 @@ fn a_file_without_zeros_is_emptied(rt: HostRuntime) {
 #[test]
 fn a_file_that_is_not_cut_off_is_emptied(rt: HostRuntime) {
     let file = FaultyFile {
-        file: opened(&rt, BEFORE),
+        file: OsFile::File(opened(&rt, BEFORE)),
         fails: 0b10,
     };
     let mut spool = gathering(rt.alloc(), file, BEFORE.len(), false);
@@ -263,7 +264,7 @@ fn what_a_failed_write_left_is_cut_off(rt: HostRuntime) {
     let text = text(rt.alloc());
     let many = front(text.as_slice(), 16_384);
     let file = FaultyFile {
-        file: opened(&rt, b""),
+        file: OsFile::File(opened(&rt, b"")),
         fails: 1,
     };
     let mut spool = gathering(rt.alloc(), file, 0, false);
@@ -271,7 +272,7 @@ fn what_a_failed_write_left_is_cut_off(rt: HostRuntime) {
     assert!(rt; spool.settle().is_err());
     assert!(rt; has(&rt, b""));
     let file = FaultyFile {
-        file: opened(&rt, b""),
+        file: OsFile::File(opened(&rt, b"")),
         fails: 1,
     };
     let mut spool = gathering(rt.alloc(), file, 0, false);
@@ -286,7 +287,7 @@ fn what_a_failed_write_left_is_cut_off(rt: HostRuntime) {
 /// What the file held before is cut off, though it is not cleared.
 #[test]
 fn a_spool_begins_over_what_stands(rt: HostRuntime) {
-    let file = opened(&rt, BEFORE);
+    let file = OsFile::File(opened(&rt, BEFORE));
     let mut spool = gathering(rt.alloc(), file, BEFORE.len(), false);
     assert!(rt; spool.write(b"ab") == Ok(2));
     assert!(rt; spool.settle().is_ok());
