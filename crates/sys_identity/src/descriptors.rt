@@ -2,7 +2,8 @@
 //! not exist, and for other descriptors, the path is in `/proc/self/fd`.
 
 ghost use Rattle.std.specs.Prelude.{◌≡◌, false, IsTrue, IsOk, IfOk, IsSome, IfSome, pos, codes};
-ghost use Rattle.sys_file.specs.System.{Describes, KeepsFiles, creates};
+ghost use Rattle.sys_file.specs.Openings.{creates};
+ghost use Rattle.sys_file.specs.System.{Describes, KeepsFiles};
 
 use std::io;
 use sys_file::{Opening, Stat, System};

@@ -8,7 +8,6 @@
 //! | `read_files.rt` | the input files, as they were: whether one changed, or is an output by now |
 //! | `aliases.rt` | the storage below a file or a block device |
 //! | `mounts.rt`, `sysfs.rt` | whether a block device is in use; what Linux reports about block devices |
-//! | `numbered.rt` | which numbered files a folder has |
 //! | `standard_input.rt` | standard input that is read at any offset |
 #![tactic(auto)]
 
@@ -16,7 +15,6 @@ mod aliases;
 mod descriptors;
 mod identity;
 mod mounts;
-mod numbered;
 mod read_files;
 mod standard_input;
 mod sysfs;
@@ -27,7 +25,6 @@ pub use identity::{
     Found, Identity, Modified, found_at, found_of, identity_at, identity_of_stream,
 };
 pub use mounts::is_in_use;
-pub use numbered::next_number;
 pub use read_files::ReadFiles;
 pub use standard_input::{
     StandardSource, is_standard_input, standard_source, standard_source_again,
