@@ -60,6 +60,12 @@ pub record StartsSpool (log : Logged) (capacity asked : ℕ) (lost : Bool) (stal
   pub found : lost ≡ false
   pub as_stood : stale ≡ stands
 
+-- it is over this file, its bytes come from this one, and no read has failed because that has changed
+pub record StandsOver {F A : Type 0} (its_file file : F) (its_source source : A) (is_short : Bool) : Type 0 where
+  pub same_file : its_file ≡ file
+  pub same_source : its_source ≡ source
+  pub not_short : is_short ≡ false
+
 -- what was taken is unchanged
 pub record LeavesTaken (held held' : List ℕ) (sent sent' : Logged) (lost lost' : Bool) (used used' : ℕ)
     : Type 0 where

@@ -50,6 +50,7 @@ impl<F: SystemFile + Drop> Behind<F> {
     /// Nothing is buffered yet, and the file has this many bytes of old content.
     pub(crate) fn new(alloc: Global, file: F, stale: u64) -> Behind<F>
         requires { IsTrue F.models → length (F.stands file) ≤ stale }
+        ensures file { result.file ≡ file }
         ensures held { result.held.items ≡ [] }
         ensures sent { result.sent.state.bytes ≡ [] }
         ensures stale { result.stale ≡ stale }

@@ -1,7 +1,7 @@
 //! A spool that collects small writes, and is read ahead.
 
 ghost use Rattle.std.specs.Prelude.{◌≡◌, ◌≤◌, ◌<◌, ◌+◌, ◌^◌, ◌++◌, [], ℕ, List, not, nat_lt, length, drop, refl};
-ghost use Rattle.std.specs.Prelude.{IsTrue, IfErr, OnOk, OnErr, IsErr};
+ghost use Rattle.std.specs.Prelude.{IsTrue, IfErr, OnOk, OnErr, IsErr, false};
 ghost use Rattle.std.proofs.Props.{props};
 ghost use Rattle.abt_io.specs.Bytes.{AreBytes};
 ghost use Rattle.abt_io.specs.BytesLaws.{bytes_of_drop};
@@ -9,7 +9,7 @@ ghost use Rattle.abt_io.specs.Frame.{last_cut};
 ghost use Rattle.abt_io.specs.Held.{filled_count, held_is};
 ghost use Rattle.sys_devices.specs.Ahead.{HoldsAny};
 ghost use Rattle.sys_file.specs.File.{ReadsAt};
-ghost use Rattle.sys_devices.specs.Writes.{StartsSpool, since_cut};
+ghost use Rattle.sys_devices.specs.Writes.{StandsOver, StartsSpool, since_cut};
 
 use crate::AheadFile;
 use crate::ahead::{Ahead, forget, read_ahead};
@@ -63,7 +63,10 @@ impl<F: SystemFile + Drop> GatheringSpool<F> {
         stands: u64,
     ) -> GatheringSpool<F>
         requires { IsTrue F.models → length (F.stands file) ≤ stands }
-        ensures { StartsSpool result.log.state result.capacity capacity result.behind.is_lost result.behind.stale stands }
+        ensures starts { StartsSpool result.log.state result.capacity capacity result.behind.is_lost
+            result.behind.stale stands }
+        ensures over { StandsOver result.behind.file file result.from from result.is_from_short }
+        ensures keeping { result.is_keeping ≡ false }
     {
         are_bytes(&[]);
         GatheringSpool {
@@ -90,7 +93,10 @@ impl<F: SystemFile + Drop> GatheringSpool<F> {
         stands: u64,
     ) -> GatheringSpool<F>
         requires { IsTrue F.models → length (F.stands file) ≤ stands }
-        ensures { StartsSpool result.log.state result.capacity capacity result.behind.is_lost result.behind.stale stands }
+        ensures starts { StartsSpool result.log.state result.capacity capacity result.behind.is_lost
+            result.behind.stale stands }
+        ensures over { StandsOver result.behind.file file result.from from result.is_from_short }
+        ensures keeping { IsTrue result.is_keeping }
     {
         let mut spool = GatheringSpool::new(alloc, file, capacity, from, stands);
         spool.is_keeping = true;
@@ -105,8 +111,17 @@ impl<F: SystemFile + Drop> GatheringSpool<F> {
     }
 
     /// Whether a read has failed because the file has changed from which all bytes come.
-    pub fn is_from_short(&self) -> bool {
+    pub fn is_from_short(&self) -> bool
+        ensures { result ≡ self.now.is_from_short }
+    {
         self.is_from_short
+    }
+
+    /// Its file, with what was sent to it. What is buffered is lost.
+    pub fn into_file(self) -> F
+        ensures { result ≡ self.behind.file }
+    {
+        self.behind.file
     }
 
     /// Writes the buffer, and truncates the file after it. Fails if a byte taken since the last clear could not be
@@ -125,6 +140,7 @@ impl<F: SystemFile + Drop> GatheringSpool<F> {
         ensures seen { self.new.seen ≡ self.old.seen }
         ensures capacity { self.new.capacity ≡ self.old.capacity }
         ensures counts { self.new.counts ≡ self.old.counts }
+        ensures short { self.new.is_from_short ≡ self.old.is_from_short }
     {
         self.behind.settle()
     }

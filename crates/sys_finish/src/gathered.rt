@@ -3,6 +3,7 @@
 ghost use Rattle.std.specs.Prelude.{◌≡◌, ◌+◌, false, IfOk, OnErr};
 ghost use Rattle.sys_finish.specs.Ends.{EndsWith};
 ghost use Rattle.sys_finish.specs.Given.{given_by_writer, PutsOver, SettlesWriter, LaysZeros};
+ghost use Rattle.sys_outputs.specs.Given.{LetsFileGo};
 
 use crate::sink::Sink;
 use crate::target::Ended;
@@ -59,9 +60,11 @@ impl<F: SystemFile + Drop> Gathered<F> {
         self.writer.get_mut().settle()
     }
 
-    /// Sends the buffer, after the work before has failed.
-    pub(crate) fn give_up(self) {
-        let _ = given_up(self.writer);
+    /// Sends the buffer, after the work before has failed. Returns its file, and whether that holds all that was given.
+    pub(crate) fn give_up(self) -> (F, bool)
+        ensures { LetsFileGo F.models (F.stands result.0) result.1 (given_by_writer self.writer) }
+    {
+        given_up(self.writer)
     }
 
     /// Sends the buffer, and syncs the output if that is wanted. Returns all that it was given, and the file that holds
@@ -72,18 +75,30 @@ impl<F: SystemFile + Drop> Gathered<F> {
     {
         match self.writer.into_inner() {
             Ok(sink) => sink.end(is_synced),
-            Err(error) => Err(given_up(error.into_inner())),
+            Err(error) => Err(sent_again(error.into_inner())),
         }
     }
 }
 
 // Sends the buffer of a writer, as far as possible, and returns why its last call had failed.
-fn given_up<F: SystemFile + Drop>(writer: BufWriter<Sink<F>>) -> Option<i32> {
-    let mut writer = writer;
+fn sent_again<F: SystemFile + Drop>(writer: BufWriter<Sink<F>>) -> Option<i32> {
     let why = writer.get_ref().why;
+    let _ = given_up(writer);
+    why
+}
+
+// Sends the buffer of a writer, as far as possible. What could not be sent is tried once more. Returns its file, and
+// whether that holds all that was given.
+fn given_up<F: SystemFile + Drop>(writer: BufWriter<Sink<F>>) -> (F, bool)
+    ensures { LetsFileGo F.models (F.stands result.0) result.1 (given_by_writer writer) }
+{
+    let mut writer = writer;
     let _ = writer.flush();
     let _ = writer.get_mut().settle();
-    why
+    let is_sent = writer.flush().is_ok();
+    let (sink, _) = writer.into_parts();
+    let (file, is_whole) = sink.let_go();
+    (file, is_sent && is_whole)
 }
 
 // Sends the buffer of a writer, and writes at an offset.

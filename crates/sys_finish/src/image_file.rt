@@ -4,6 +4,7 @@
 ghost use Rattle.std.specs.Prelude.{◌≡◌, [], false, length, IfOk};
 ghost use Rattle.sys_finish.specs.Ends.{EndsWith};
 ghost use Rattle.sys_finish.specs.Given.{given_by_writer};
+ghost use Rattle.sys_outputs.specs.Given.{LetsFileGo};
 
 use crate::output_file::{Finished, OutputFile};
 use abt_io::{DeviceFault, Output, Overwrite};
@@ -41,8 +42,10 @@ impl<F: SystemFile + Drop> ImageFile<F> {
         self.output.finish(place)
     }
 
-    /// Sends the buffer, after the work before has failed.
-    pub fn give_up(self) {
+    /// Sends the buffer, after the work before has failed. Returns its file, and whether that holds all that was given.
+    pub fn give_up(self) -> (F, bool)
+        ensures { LetsFileGo F.models (F.stands result.0) result.1 (given_by_writer self.output.to.writer) }
+    {
         self.output.give_up()
     }
 }

@@ -4,6 +4,7 @@ ghost use Rattle.std.specs.Prelude.{◌≡◌, [], false, IfOk};
 ghost use Rattle.sys_finish.specs.Ends.{EndsWith};
 ghost use Rattle.sys_finish.specs.Given.{given_by_writer, SettlesWriter};
 ghost use Rattle.abt_io.specs.Frame.{nothing_logged};
+ghost use Rattle.sys_outputs.specs.Given.{LetsFileGo};
 
 use crate::gathered::Gathered;
 use crate::sink::Sink;
@@ -96,8 +97,10 @@ impl<F: SystemFile + Drop> OutputFile<F> {
         }
     }
 
-    /// Sends the buffer, after the work before has failed.
-    pub fn give_up(self) {
+    /// Sends the buffer, after the work before has failed. Returns its file, and whether that holds all that was given.
+    pub fn give_up(self) -> (F, bool)
+        ensures { LetsFileGo F.models (F.stands result.0) result.1 (given_by_writer self.to.writer) }
+    {
         self.to.give_up()
     }
 }

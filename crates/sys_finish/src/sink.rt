@@ -6,7 +6,7 @@ ghost use Rattle.abt_io.specs.Over.{and_put};
 ghost use Rattle.sys_finish.specs.Ends.{EndsWith};
 ghost use Rattle.sys_finish.specs.Follows.{Follows, SettlesTarget, StartsAt};
 ghost use Rattle.sys_finish.specs.Follows.{WritesOrFails};
-ghost use Rattle.sys_outputs.specs.Given.{LaysHole};
+ghost use Rattle.sys_outputs.specs.Given.{LaysHole, LetsFileGo};
 
 use crate::target::{Ended, Target};
 use abt_io::{DeviceFault, Log};
@@ -108,6 +108,13 @@ impl<F: SystemFile + Drop> Sink<F> {
                 Err(DeviceFault::Failed)
             }
         }
+    }
+
+    /// The file as it is, and whether it holds all that was given.
+    pub(crate) fn let_go(self) -> (F, bool)
+        ensures { LetsFileGo F.models (F.stands result.0) result.1 self.log.state.bytes }
+    {
+        self.target.let_go()
     }
 
     /// Writes all that is buffered, and syncs it if that is wanted. Returns all that it was given, and its file. On a

@@ -4,6 +4,7 @@
 ghost use Rattle.std.specs.Prelude.{◌≡◌, ◌≤◌, ◌++◌, ℕ, List, IsTrue, replicate, IfOk, OnOk};
 ghost use Rattle.sys_finish.specs.Ends.{EndsWith};
 ghost use Rattle.sys_finish.specs.Follows.{Follows, HoldsNothing, PutsFront, PutsBelow};
+ghost use Rattle.sys_outputs.specs.Given.{LetsFileGo};
 
 use abt_io::Log;
 use std::io;
@@ -86,6 +87,17 @@ impl<F: SystemFile + Drop> Target<F> {
             Target::Stream(_) => Ok(()),
             Target::Holes(_) => Ok(()),
             Target::Held(held) => held.settle(),
+        }
+    }
+
+    /// The file as it is, and whether it holds all that it was given.
+    pub(crate) fn let_go(self) -> (F, bool)
+        ensures { (given : List ℕ) → Follows self given → LetsFileGo F.models (F.stands result.0) result.1 given }
+    {
+        match self {
+            Target::Stream(stream) => stream.let_go(),
+            Target::Holes(holes) => holes.let_go(),
+            Target::Held(held) => held.let_go(),
         }
     }
 

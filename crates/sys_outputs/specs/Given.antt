@@ -37,3 +37,7 @@ pub record StaysGiven (log log' : Logged) (used used' : ℕ) (failed failed' : B
   pub given : log' ≡ log
   pub same_used : used' ≡ used
   pub same_failed : failed' ≡ failed
+
+-- the file holds all that it was given, if that is returned
+abbrev pub LetsFileGo : Bool → List ℕ → Bool → List ℕ → Type 0
+LetsFileGo models stands is_whole given = IsTrue models → IsTrue is_whole → stands ≡ given

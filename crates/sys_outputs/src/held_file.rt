@@ -8,7 +8,7 @@
 ghost use Rattle.std.specs.Prelude.{◌≡◌, ◌<◌, ◌≤◌, ◌+◌, ◌^◌, [], false, IsTrue, length, IfOk, OnOk, OnErr};
 ghost use Rattle.abt_io.specs.Frame.{nothing_logged, and_bytes};
 ghost use Rattle.abt_io.specs.Over.{and_put};
-ghost use Rattle.sys_outputs.specs.Given.{PutsBehind, PutsFrom, TakesOrKeeps};
+ghost use Rattle.sys_outputs.specs.Given.{LetsFileGo, PutsBehind, PutsFrom, TakesOrKeeps};
 ghost use Rattle.sys_outputs.specs.Late.{whole, HasRoomBehind, TakesBack, HoldsAsMuch};
 
 use crate::room::Room;
@@ -263,6 +263,14 @@ impl<F: SystemFile + Drop> HeldFile<F> {
             return Err(io::Error::from(ErrorKind::WriteZero));
         }
         Ok(held.file)
+    }
+
+    /// The file as it is, and whether it holds all that was given.
+    pub fn let_go(self) -> (F, bool)
+        ensures { LetsFileGo F.models (F.stands result.0) result.1 self.given.state.bytes }
+    {
+        let is_whole = !self.is_failed && self.held.is_empty();
+        (self.file, is_whole)
     }
 }
 

@@ -8,7 +8,7 @@ ghost use Rattle.std.specs.Prelude.{◌≡◌, ◌<◌, ◌≤◌, ◌+◌, ◌^
 ghost use Rattle.std.specs.Prelude.{IfOk, OnOk};
 ghost use Rattle.abt_io.specs.Frame.{nothing_logged, and_bytes};
 ghost use Rattle.sys_file.specs.File.{Begins};
-ghost use Rattle.sys_outputs.specs.Given.{PutsBehind, PutsFrom, LaysHole, StaysGiven};
+ghost use Rattle.sys_outputs.specs.Given.{LetsFileGo, PutsBehind, PutsFrom, LaysHole, StaysGiven};
 
 use abt_io::Log;
 use std::io;
@@ -160,6 +160,14 @@ impl<F: SystemFile + Drop> HoleFile<F> {
             Ok(()) => Ok(ended.file),
             Err(error) => Err(error),
         }
+    }
+
+    /// The file as it is, and whether it holds all that was given and nothing after it.
+    pub fn let_go(self) -> (F, bool)
+        ensures { LetsFileGo F.models (F.stands result.0) result.1 self.given.state.bytes }
+    {
+        let is_whole = !self.is_failed && self.stale <= self.used;
+        (self.file, is_whole)
     }
 }
 

@@ -5,7 +5,7 @@
 
 ghost use Rattle.std.specs.Prelude.{◌≡◌, ◌≤◌, [], false, IsTrue, length, IfOk};
 ghost use Rattle.abt_io.specs.Frame.{nothing_logged};
-ghost use Rattle.sys_outputs.specs.Given.{PutsBehind, PutsFrom};
+ghost use Rattle.sys_outputs.specs.Given.{LetsFileGo, PutsBehind, PutsFrom};
 
 use abt_io::Log;
 use std::io;
@@ -91,5 +91,13 @@ impl<F: SystemFile + Drop> StreamFile<F> {
             return Err(io::Error::from(ErrorKind::WriteZero));
         }
         Ok(self.file)
+    }
+
+    /// The file as it is, and whether it holds all that was given.
+    pub fn let_go(self) -> (F, bool)
+        ensures { LetsFileGo F.models (F.stands result.0) result.1 self.given.state.bytes }
+    {
+        let is_failed = self.is_failed;
+        (self.file, !is_failed)
     }
 }
