@@ -13,18 +13,18 @@ ghost use Rattle.sys_refusals.specs.Paths.{path_of, path_out};
 ghost use Rattle.sys_host.specs.Begins.{BeginsOutput, BeginsImage, BeginsKeptSpool, Admits};
 ghost use Rattle.sys_host.specs.Streams.{Mixed};
 ghost use Rattle.sys_host.specs.Taken.{Forbidden, Adds, WritesOne};
+ghost use Rattle.sys_devices.specs.Writes.{LeavesNoMagic};
 
 use crate::open_file::{Access, OpenedFile, not_opened, open_file};
 use crate::reading::Reading;
-use std::alloc::{AllocError, Global};
+use std::alloc::Global;
 use std::{io, mem};
 use sys_devices::FilePartition;
 use sys_disk::ImageTo;
 use sys_file::{Opening, System, SystemFile};
 use sys_finish::{ImageFile, OutputFile, Sink};
 use sys_identity::{
-    Found, Identity, OUTPUT, found_of, identity_at, is_in_use, is_shared, is_shown, next_number,
-    open_again,
+    Found, Identity, OUTPUT, found_of, identity_at, is_in_use, is_shared, is_shown, open_again,
 };
 use sys_refusals::{FileArg, HostFault, HostRefusal};
 
@@ -202,6 +202,7 @@ impl<S: System + Drop> Writing<S> {
         ensures begins { BeginsKeptSpool limit result self.old.reading.streams self.old.reading.taken
             self.new.reading.taken }
         ensures long { IsTrue S.File.models → IfOk result (λ kept. length (S.File.stands kept.0) ≤ kept.1) }
+        ensures blank { IsTrue S.File.models → IfOk result (λ kept. LeavesNoMagic (S.File.stands kept.0)) }
         ensures place { IsTrue S.File.models → OnOk result (WritesPlace S.number S.known (path_of place.entry)
             (S.at self.new.reading.system) self.old.reading.taken self.new.reading.taken) }
         ensures kept { IsTrue S.File.models → KeepsPaths S.at S.holds self.old.reading.system self.new.reading.system }
@@ -285,16 +286,6 @@ impl<S: System + Drop> Writing<S> {
             Ok(path) => Ok(identity_at(&self.reading.system, path.as_str()).is_some()),
             Err(_) => Err(HostRefusal::memory()),
         }
-    }
-
-    /// The least number above this one at which a file exists, with that number after the name of this place.
-    pub fn left_over(&self, place: FileArg<'_>, behind: u32) -> Result<Option<u32>, AllocError> {
-        let prefix = FileArg {
-            number: None,
-            ..place
-        };
-        let prefix = prefix.path(self.alloc)?;
-        next_number(&self.reading.system, prefix.as_str(), behind)
     }
 
     // Data goes to standard output.

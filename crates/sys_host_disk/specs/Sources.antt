@@ -1,5 +1,6 @@
 -- A source that is opened plainly, or read ahead, or is standard input.
-use Rattle.std.specs.Prelude.{ℕ, List}
+use Rattle.std.specs.Prelude.{ℕ, List, Option, Some, None}
+use Rattle.sys_devices.specs.declared.ahead_file.AheadFile.{AheadFile}
 use Rattle.sys_devices.specs.declared.source.FileSource.{FileSource}
 use Rattle.sys_devices.specs.declared.ahead.AheadSource.{AheadSource}
 use Rattle.sys_identity.specs.declared.standard_input.StandardSource.{StandardSource}
@@ -19,6 +20,12 @@ abbrev pub bytes_of_source : {F : Type 0} {g : _} → (FileSource F g → List �
 bytes_of_source plain ahead standard (Plain source) = plain source
 bytes_of_source plain ahead standard (Ahead source) = ahead source
 bytes_of_source plain ahead standard (Standard source) = standard source
+
+-- the file that is read ahead, if it is
+abbrev pub shared_by : {F : Type 0} {g : _} → HostSource F g → Option (AheadFile F g)
+shared_by (Plain source) = None
+shared_by (Ahead source) = Some source.from.value
+shared_by (Standard source) = None
 
 -- what holds of each of them
 pub of_each_source : {F : Type 0} {g : _} (P : HostSource F g → Type 0) → ((s : FileSource F g) → P (Plain s))

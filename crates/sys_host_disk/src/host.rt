@@ -1,34 +1,40 @@
 //! The files of the system as a disk.
 
-ghost use Rattle.std.specs.Prelude.{◌≡◌, [], None, false, IsTrue, IfOk, IfErr, OnOk, codes, is_some, replicate};
+ghost use Rattle.std.specs.Prelude.{◌≡◌, ◌⊎◌, [], None, false, IsTrue, IfOk, IfErr, OnOk, codes, is_some, replicate};
+ghost use Rattle.std.specs.Prelude.{option_map, IsOk};
+ghost use Rattle.abt_io.specs.Frame.{nothing_logged};
 ghost use Rattle.std.proofs.lemmas.Bool.{false≢true};
-ghost use Rattle.sys_disk.specs.Images.{OfImage};
+ghost use Rattle.sys_devices.specs.Writes.{LeavesNoMagic, since_cut};
+ghost use Rattle.sys_disk.specs.Images.{HasNoFront, OfImage};
+ghost use Rattle.sys_disk.specs.LeftOver.{IsNextLeft, path_with};
 ghost use Rattle.sys_file.specs.System.{ClosesFile, KeepsFiles};
 ghost use Rattle.sys_finish.specs.Given.{given_by_writer};
 ghost use Rattle.sys_host.specs.Ends.{ClosesWith};
 ghost use Rattle.sys_host.specs.Places.{IsFreeAt, KeepsPaths, ReadsPlace, WritesOver, WritesPlace};
+ghost use Rattle.sys_host_disk.specs.Ends.{ClosesGivenUp, ClosesOne};
 ghost use Rattle.sys_host_disk.specs.Files.{streams_of, system_of, taken_of};
+ghost use Rattle.sys_host_disk.specs.Sources.{shared_by};
 ghost use Rattle.sys_identity.specs.Identity.{IsIdentityOf};
 ghost use Rattle.sys_refusals.specs.Paths.{path_in, path_of, path_out};
 
 use crate::source::HostSource;
-use abt_io::{Input, Overwrite, Source};
+use abt_io::{Input, Source, Tally};
 use std::alloc::AllocError;
 use sys_devices::{FilePartition, GatheringSpool};
 use sys_disk::{Disk, ImageTo, NoMemory};
-use sys_file::{System, SystemFile};
+use sys_file::System;
 use sys_finish::{ImageFile, OutputFile};
 use sys_host::{InputFile, Reading, Writing, not_opened};
 use sys_identity::{INPUT, is_standard_input, standard_source_again};
+use sys_numbered_names::next_number;
 use sys_refusals::{FileArg, HostFault, HostRefusal};
-
-// The most bytes of the magic of an image.
-const MAGIC: usize = 8;
 
 /// The file calls of a run. It models nothing.
 #[derive(Drop)]
 pub struct Host<S: System + Drop> {
-    writing: Writing<S>,
+    pub(crate) writing: Writing<S>,
+    // How often an output that was given up did not take all that it was given.
+    pub(crate) lost: Tally,
     // What goes through a spool is checked at the end of each piece: a change after the last one does no harm.
     is_looked_at: bool,
 }
@@ -38,6 +44,7 @@ impl<S: System + Drop> Host<S> {
     pub fn new(reading: Reading<S>) -> Host<S> {
         Host {
             writing: reading.all_open(),
+            lost: Tally::new(),
             is_looked_at: false,
         }
     }
@@ -58,7 +65,9 @@ impl<S: System + Drop> Host<S> {
     }
 
     // Fails if a file that is read has changed, and is not one that is checked at the end of each piece.
-    fn unchanged_at_end<'a>(&self) -> Result<(), HostRefusal<'a>> {
+    fn unchanged_at_end<'a>(&self) -> Result<(), HostRefusal<'a>>
+        ensures { IsTrue self.now.is_looked_at → IsOk result }
+    {
         if self.is_looked_at {
             return Ok(());
         }
@@ -267,7 +276,20 @@ impl<S: System + Drop> Disk for Host<S> {
         limit: u32,
         keeping: bool,
         from: &HostSource<S::File>,
-    ) -> Result<GatheringSpool<S::File>, HostRefusal<'a>> {
+    ) -> Result<GatheringSpool<S::File>, HostRefusal<'a>>
+        ensures capacity { IfOk result (λ through. through.capacity ≡ limit) }
+        ensures keeping { IfOk result (λ through. through.is_keeping ≡ keeping) }
+        ensures nothing { IfOk result (λ through. through.log.state ≡ nothing_logged) }
+        ensures source { IfOk result (λ through. option_map (λ file. file.value) through.from ≡ shared_by from.now) }
+        ensures empty { IsTrue S.File.models → keeping ≡ false → IfOk result (λ through.
+            S.File.stands through.behind.file ≡ []) }
+        ensures blank { IsTrue S.File.models → IfOk result (λ through. LeavesNoMagic
+            (S.File.stands through.behind.file)) }
+        ensures place { IsTrue S.File.models → OnOk result (WritesPlace S.number S.known (path_of place.entry)
+            (S.at (system_of self.new)) (taken_of self.old) (taken_of self.new)) }
+        ensures kept { IsTrue S.File.models → KeepsPaths S.at S.holds (system_of self.old) (system_of self.new) }
+        ensures looked { IfOk result (λ through. self.new.is_looked_at ≡ is_some through.from) }
+    {
         let Ok(from) = from.shared() else {
             return Err(HostRefusal::memory());
         };
@@ -285,13 +307,24 @@ impl<S: System + Drop> Disk for Host<S> {
         &mut self,
         through: GatheringSpool<S::File>,
         place: FileArg<'a>,
-    ) -> Result<bool, HostRefusal<'a>> {
+    ) -> Result<bool, HostRefusal<'a>>
+        ensures whole { IsTrue S.File.models → OnOk result (ClosesWith S.which S.File.stands S.File.past false
+            (since_cut through.log.state) (S.at (system_of self.old)) (S.at (system_of self.new))
+            (S.holds (system_of self.old)) (S.holds (system_of self.new))) }
+        ensures closes { IsTrue S.File.models → ClosesOne S.which S.File.stands (S.at (system_of self.old))
+            (S.at (system_of self.new)) (S.holds (system_of self.old)) (S.holds (system_of self.new)) }
+        ensures short { IfOk result (λ is_changed. IsTrue through.is_from_short → IsTrue is_changed) }
+        ensures looked { IsTrue self.old.is_looked_at → IfOk result (λ is_changed. is_changed
+            ≡ through.is_from_short) }
+        ensures fault { IfErr result (λ refusal. refusal.fault ≡ HostFault.Write) }
+    {
         let mut through = through;
-        match through.settle() {
-            Ok(()) => {
-                let is_changed = self.unchanged_at_end().is_err();
-                Ok(through.is_from_short() || is_changed)
-            }
+        let settled = through.settle();
+        let is_changed = settled.is_ok() && self.unchanged_at_end().is_err();
+        let is_from_short = through.is_from_short();
+        self.writing.reading.system.close(through.into_file());
+        match settled {
+            Ok(()) => Ok(is_from_short || is_changed),
             Err(_) => Err(HostRefusal::at(HostFault::Write, place, None)),
         }
     }
@@ -304,11 +337,22 @@ impl<S: System + Drop> Disk for Host<S> {
         self.writing.is_there(place)
     }
 
-    fn left_over(&mut self, place: FileArg<'_>, behind: u32) -> Result<Option<u32>, AllocError> {
-        self.writing.left_over(place, behind)
+    fn left_over(&mut self, place: FileArg<'_>, behind: u32) -> Result<Option<u32>, AllocError>
+        ensures left { IsTrue S.File.models → IfOk result (IsNextLeft (λ n. S.at (system_of self.old)
+            (path_with place.entry n)) behind) }
+        ensures same { self.new ≡ self.old }
+    {
+        let prefix = FileArg {
+            number: None,
+            ..place
+        };
+        let prefix = prefix.path(self.writing.alloc)?;
+        next_number(&self.writing.reading.system, prefix.as_str(), behind)
     }
 
-    fn no_memory(&mut self, _refused: NoMemory) {}
+    fn no_memory(&mut self, _refused: NoMemory)
+        ensures { self.new ≡ self.old }
+    {}
 
     fn refuse_taken<'a>(&mut self, place: FileArg<'a>) -> Result<(), HostRefusal<'a>>
         ensures { IsTrue S.File.models → OnOk result (IsFreeAt S.number S.known (path_of place.entry)
@@ -346,14 +390,18 @@ impl<S: System + Drop> Disk for Host<S> {
             (S.holds (system_of self.old)) (S.holds (system_of self.new))) }
     {
         if let Err(refusal) = self.writing.reading.unchanged() {
-            onto.give_up();
+            self.give_up_output(onto);
             return Err(refusal.begun(place));
         }
         self.writing.finish(onto, place)
     }
 
-    fn give_up(&mut self, onto: OutputFile<S::File>) {
-        onto.give_up()
+    fn give_up(&mut self, onto: OutputFile<S::File>)
+        ensures { IsTrue S.File.models → ClosesGivenUp S.which S.File.stands self.old.lost self.new.lost
+            (λ bytes. bytes ≡ given_by_writer onto.to.writer) (S.at (system_of self.old)) (S.at (system_of self.new))
+            (S.holds (system_of self.old)) (S.holds (system_of self.new)) }
+    {
+        self.give_up_output(onto)
     }
 
     fn image<'a>(
@@ -381,26 +429,21 @@ impl<S: System + Drop> Disk for Host<S> {
             (S.holds (system_of self.old)) (S.holds (system_of self.new))) }
     {
         if let Err(refusal) = self.writing.reading.unchanged() {
-            blank_front(image);
+            self.give_up_blank(image);
             return Err(refusal.begun(place));
         }
         self.writing.finish_image(image, place)
     }
 
-    fn give_up_image(&mut self, image: ImageFile<S::File>) {
+    fn give_up_image(&mut self, image: ImageFile<S::File>)
+        ensures { IsTrue S.File.models → ClosesGivenUp S.which S.File.stands self.old.lost self.new.lost
+            (λ bytes. (bytes ≡ given_by_writer image.output.to.writer) ⊎ HasNoFront bytes) (S.at (system_of self.old))
+            (S.at (system_of self.new)) (S.holds (system_of self.old)) (S.holds (system_of self.new)) }
+    {
         if self.writing.reading.unchanged().is_err() {
-            blank_front(image);
+            self.give_up_blank(image);
         } else {
-            image.give_up()
+            self.give_up_whole(image);
         }
     }
-}
-
-// Closes an image that must not be taken for one: zeros are written over its magic.
-fn blank_front<F: SystemFile + Drop>(image: ImageFile<F>) {
-    let mut image = image;
-    let front = image.position().min(MAGIC as u64) as usize;
-    let zeros = [0u8; MAGIC];
-    let _ = image.write_over(0, &zeros[..front]);
-    image.give_up();
 }

@@ -1,13 +1,15 @@
 //! The program's disk: the files of the system, opened by `sys_host` and read and written through buffers. Its sources
-//! model what their files model. The disk itself models nothing. So no contract states that it makes the calls which it
-//! has to make. Its code is short, and has to be reviewed by reading.
+//! model what their files model. The disk itself models nothing. What its calls do to the files of a system is in
+//! contracts of their own.
 //!
 //! | file | has |
 //! |---|---|
 //! | `host.rt` | the calls of the disk |
+//! | `ending.rt` | the end of an output after the work before has failed |
 //! | `source.rt` | what is read at any offset, maybe ahead |
 #![tactic(auto)]
 
+mod ending;
 mod host;
 mod source;
 

@@ -1,11 +1,11 @@
 //! An input that is read at any offset: a file or a block device.
 
-ghost use Rattle.std.specs.Prelude.{◌≡◌, IsTrue, IfOk, length};
+ghost use Rattle.std.specs.Prelude.{◌≡◌, IsTrue, IfOk, length, option_map};
 ghost use Rattle.abt_io.specs.Bytes.{AreBytes};
 ghost use Rattle.abt_io.specs.BytesLaws.{bytes_of_drop};
 ghost use Rattle.sys_file.specs.File.{are_bytes_of};
 ghost use Rattle.sys_identity.specs.Behind.{long_behind};
-ghost use Rattle.sys_host_disk.specs.Sources.{bytes_of_source, number_of_source, of_each_source};
+ghost use Rattle.sys_host_disk.specs.Sources.{bytes_of_source, number_of_source, of_each_source, shared_by};
 
 use abt_io::{DeviceFault, Source};
 use std::alloc::{AllocError, Global};
@@ -56,7 +56,9 @@ impl<F: SystemFile + Drop> HostSource<F> {
     }
 
     /// The file that is read ahead, if it is, for what goes through a spool.
-    pub(crate) fn shared(&self) -> Result<Option<Rc<AheadFile<F>>>, AllocError> {
+    pub(crate) fn shared(&self) -> Result<Option<Rc<AheadFile<F>>>, AllocError>
+        ensures { IfOk result (λ shared. option_map (λ file. file.value) shared ≡ shared_by self.now) }
+    {
         match self {
             HostSource::Plain(_) => Ok(None),
             HostSource::Standard(_) => Ok(None),

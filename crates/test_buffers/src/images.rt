@@ -103,8 +103,8 @@ fn a_gathered_image_has_the_bytes_of_one_that_is_not(rt: HostRuntime) {
             "image {image}"
         );
         if random.to(3) == 0 {
-            one.give_up();
-            other.give_up();
+            let _ = one.give_up();
+            let _ = other.give_up();
         } else {
             assert!(rt; other.output.settle() == Ok(()));
             assert!(rt; one.finish(alone).is_ok());
