@@ -5,7 +5,7 @@
 
 Of docs/claims.tsv, whose head explains its columns:
   - each definition that must be believed is defined in the file of specs/ that is named, and all of them together have fewer
-    than 1490 lines, with the comments above them;
+    than 1530 lines, with the comments above them;
   - each claim's function is public (in a crate that only the program depends on it may be private), its contract has a
     clause of each name, the definitions are there, and so is each must-fail edit, in the function's crate or one below it
     (further edits in its more-edits/); where a function names no edit, words say why; a claim with further edits has one
@@ -31,7 +31,7 @@ import subprocess
 import sys
 
 HERE = os.path.dirname(os.path.dirname(os.path.abspath(__file__)))
-MOST_LINES = 1490
+MOST_LINES = 1530
 MOST_PAGE_LINES = 400
 PAGE, ROWS = "docs/CLAIMS.md", "docs/claims.tsv"
 # How many columns a row has, by its first one. A number there is that of a claim, whose rows may leave columns empty.
@@ -68,8 +68,8 @@ COMMANDS = ("cmd_flash", "cmd_expand", "cmd_cut", "cmd_pack_inputs")
 
 # What asks the system for anything, and is trusted, and how many lines of code that is at most; what prints a report and
 # holds the standard streams; and what is no part of the program.
-SYSTEM = ("crates/sys_file/src/os_file.rt", "crates/sys_std/src/os_file.rt", "crates/sys_std/src/system.rt")
-MOST_TRUSTED = 199
+SYSTEM = ("crates/sys_std/src/os_file.rt", "crates/sys_std/src/system.rt")
+MOST_TRUSTED = 143
 STREAMS = (
     "crates/sys_report/src/report.rt", "crates/sys_report/src/standard_output.rt", "crates/abootimg/src/main.rt",
     "crates/abootimg/src/tool.rt", "crates/abootimg/src/image_id.rt",
