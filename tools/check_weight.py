@@ -67,7 +67,7 @@ LINES = {
     "devices": 103,
     "definitions and reading": 177,
     "writing": 182,
-    "flashing and verifying": 138,
+    "flashing and verifying": 139,
     "boot images": 227,
     "system": 96,
     "words": 117,

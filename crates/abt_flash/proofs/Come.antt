@@ -4,6 +4,7 @@ use Rattle.std.proofs.Common.{length, take, drop, Option, Some, None, Result, Ok
 use Rattle.std.proofs.Common.{append-nil, append_assoc, arith, inl, inr, length-append, take-append-drop, nat_lt}
 use Rattle.std.proofs.Common.{ltb-true, ltb-false, ◌||◌, ◌==◌, eq-eqb}
 use Rattle.std.proofs.lemmas.Bool.{cases_Bool}
+use Rattle.std.proofs.lemmas.List.{length-take-le, take-take}
 use Rattle.std.proofs.Math.Nat.{mul-div_cancel_left, mul-le-mul}
 use Rattle.std.specs.Prelude.{IsTrue, OnOk, is_err}
 use Rattle.abt_io.specs.Moment.{Moment, Past, Keeps, KeepsUnsynced, EachSince, moment_of}
@@ -32,19 +33,20 @@ use Rattle.abt_chunks.specs.Parts.{ahead, ahead_in}
 use Rattle.abt_chunks.specs.Places.{place_of, place_in}
 use Rattle.abt_chunks.specs.ListingAhead.{at_end, head_in, upcoming, upcoming_in}
 use Rattle.abt_chunks.proofs.Onward.{before-append}
+use Rattle.abt_chunks.proofs.Short.{too_few}
 use Rattle.abt_pieces.specs.Contents.{written_in}
 use Rattle.abt_flash_faults.specs.declared.fault.FlashFault.{FlashFault}
 use Rattle.abt_flash_faults.specs.declared.fault.FlashFault.TheVariants as fails
 use Rattle.abt_flash.specs.declared.stage.Flashed.{Flashed}
 use Rattle.abt_flash.specs.declared.stage.FlashStage.{FlashStage}
 use Rattle.abt_flash.specs.declared.stage.FlashStage.TheVariants as stages
-use Rattle.abt_flash.specs.Laying.{BreaksOff, During, IsFrontLaid, writes}
+use Rattle.abt_flash.specs.Laying.{During, writes}
 use Rattle.abt_flash.specs.Stepping.{Goes, Heads, IsFresh, IsFresh_in, Laid, Leaves, Measures, OnShort, UnlessFlashing}
 use Rattle.abt_flash.specs.Stepping.{UnlessFlashingDevice, need_of, passed, passed_in}
-use Rattle.abt_flash.specs.Flashing.{Flashes, Holds, RefusedFlash, WholeFlash}
+use Rattle.abt_flash.specs.Flashing.{Flashes, Holds, IsLaidSoFar, RefusedFlash, WholeFlash}
 use Rattle.abt_flash.proofs.Cells.{over_more, unwritten_behind, unwritten_front, written_by-append, written_cells}
 use Rattle.abt_flash.proofs.Cells.{written_le_blocks}
-use Rattle.abt_flash.proofs.Fronts.{breaks_behind, front_more}
+use Rattle.abt_flash.proofs.Fronts.{BreaksPast, FrontAtLeast, at_least_more, breaks_behind}
 use Rattle.abt_flash.proofs.Heads.{head_spelled, passed_head, spelled_head}
 use Rattle.abt_flash.proofs.Moments.{during_then, during_within, unsynced_during, unsynced_within}
 use Rattle.abt_chunks.specs.Places.{from_place, said_by}
@@ -60,6 +62,7 @@ pub record Come (models : Bool) (s : Walk) (k : ℕ) (x : List ℕ) (size : ℕ)
   pub content : IsTrue models → p ≡ over p0 cells
   pub kept : IsTrue models → Keeps (writes cells) (moment_of past0 p0) (moment_of past p)
   pub moments : IsTrue models → EachSince past0.moments past.moments (KeepsUnsynced (writes cells) (moment_of past0 p0))
+  pub near : length (given (outcome (take (k - 1) x))) < length cells + 65536
   pub head : (listing_of x).head ≡ (upcoming s (drop k x)).head
   pub fits : s.phase ≡ phases.Body → 0 < s.index → (h : Header) → (listing_of x).head ≡ Some h
       → h.total_blks * h.blk_sz ≤ size
@@ -70,6 +73,17 @@ over_none (y ∷ p) = refl
 
 ahead_first : (s : Walk) (t : List ℕ) → s.phase ≡ phases.Header → ahead s t ≡ seen (outcome t)
 ahead_first s t e = ap (λ (ph : Phase). ahead_in ph s t) e
+
+pub seen_given : (o : Outcome) → (seen o).cells ≡ given o
+seen_given (Image h cs rest) = refl
+seen_given (Fault f cs) = refl
+
+near_none : (y : List ℕ) → y ≡ [] → length (given (outcome y)) < 0 + 65536
+near_none y e =
+    let z : length (given (outcome y)) ≡ 0 =
+    ap (λ (l : List ℕ). length (given (outcome l))) e ∙ ap length (sym (seen_given (outcome []))
+    ∙ too_few [] (omega arith)) in
+    omega (arith, z)
 
 -- at the beginning nothing has
 pub come_first : (models : Bool) (s : Walk) (k : ℕ) (x : List ℕ) (size : ℕ) (past : Past) (p : List ℕ)
@@ -84,6 +98,7 @@ come_first models s k x size past p taken laid first none fine = record {
   content = λ t. over_none p;
   kept = λ t. keeps_same _ (moment_of past p);
   moments = λ t. none_since past.moments _;
+  near = near_none (take (k - 1) x) (ap (λ (i : ℕ). take i x) (let z : k - 1 ≡ 0 = omega (arith, none) in z));
   head = sym (ap (λ (ph : Phase). (upcoming_in ph s (drop k x)).head) first
       ∙ ap (λ (j : ℕ). (listing_of (drop j x)).head) none);
   fits = λ body some h e. absurd (let q : phases.Header ≡ phases.Body = sym first ∙ body in cc);
@@ -99,22 +114,21 @@ pub unless_map : {X : Type 0} (r : Result X FlashFault) (P Q : Type 0) → (P �
 unless_map (Ok v) P Q go h = go h
 unless_map (Err f) P Q go h = unless_fault f P Q go h
 
-pub seen_given : (o : Outcome) → (seen o).cells ≡ given o
-seen_given (Image h cs rest) = refl
-seen_given (Fault f cs) = refl
-
--- A flash that returns r, where x was read as far as rest: all cells that it wrote or may have touched.
-pub record Ends (models : Bool) (r : Result MachineProgress FlashFault) (s' : Walk) (x read rest : List ℕ)
-    (past0 past' : Past) (p0 p' : List ℕ) (taken0 taken' laid' : ℕ) : Type 0 where
+-- A flash that returns r, where so many bytes of x were read, as far as rest: all cells that it wrote or may have
+-- touched. Of these so many at least are written where a device failed.
+pub record Ends (models : Bool) (r : Result MachineProgress FlashFault) (s' : Walk) (x : List ℕ) (got : ℕ)
+    (rest : List ℕ) (past0 past' : Past) (p0 p' : List ℕ) (taken0 taken' laid' : ℕ) : Type 0 where
   pub all : List (Option ℕ)
   pub more : List ℕ → List (Option ℕ)
-  pub front : (t : List ℕ) → given (outcome (read ++ t)) ≡ all ++ more t
-  pub whole : read ++ rest ≡ x
+  pub front : (t : List ℕ) → given (outcome (take got x ++ t)) ≡ all ++ more t
+  pub whole : take got x ++ rest ≡ x
   pub told : UnlessFlashing r (seen (outcome x) ≡ before all (ahead s' rest))
   pub counted : UnlessFlashing r (taken' ≡ taken0 + said_by all)
   pub noted : OnOk r (laid' ≡ min (said_by all) (2 ^ 64 - 1))
   pub content : IsTrue models → UnlessFlashing r (p' ≡ over p0 all)
-  pub broken : IsTrue models → BreaksOff r 0 all p0 p'
+  pub least : ℕ
+  pub broken : IsTrue models → BreaksPast r least all p0 p'
+  pub near : length (given (outcome (take (got - 1) x))) < least + 65536
   pub kept : IsTrue models → Keeps (writes all) (moment_of past0 p0) (moment_of past' p')
   pub moments : IsTrue models
       → EachSince past0.moments past'.moments (During (writes all) (moment_of past0 p0) (moment_of past' p'))
@@ -179,7 +193,7 @@ module _ (models : Bool) (stage : FlashStage) (s s' : Walk) (x x' rest : List �
   all_content t = unless_map r _ _ (λ q. over_more p0 p p' i.cells e.cells (place_of s) (i.content t) i.placed q)
       (e.content t)
 
-  pub all_broken : IsTrue models → BreaksOff r 0 All p0 p'
+  pub all_broken : IsTrue models → BreaksPast r (length i.cells) All p0 p'
   all_broken t = breaks_behind r (place_of s) p0 p p' i.cells e.cells (i.content t) i.placed (e.broken t)
 
   pub all_counted : UnlessFlashing r (taken' ≡ taken0 + said_by All)
@@ -195,9 +209,36 @@ module _ (models : Bool) (stage : FlashStage) (s s' : Walk) (x x' rest : List �
   all_noted laid' note =
       on_ok r _ _ _ (λ a b. omega (arith, a, b, i.noted, written_by-append i.cells e.cells)) e.counted note
 
-  pub ends : (laid' : ℕ) → rest ≡ drop j x → OnOk r (laid' ≡ min (laid + (taken' - taken)) (2 ^ 64 - 1))
-      → Ends models r s' x (take j x) rest past0 past' p0 p' taken0 taken' laid'
-  ends laid' at_rest note =
+  -- fewer bytes than are read so far give less than a window more than was written before this step
+  pub all_near : n ≤ length x' → n ≤ 65536
+      → length (given (outcome (take (j - 1) x))) < length i.cells + 65536
+  all_near there small = elim (cases_Bool (nat_lt 0 n)) [
+    | inl some ↦
+        let m = n - 1 in
+        let here : 0 < n = ltb-true _ _ some in
+        let t = take m x' in
+        let c = take n x' in
+        let read : length c ≡ n = length-take-le n x' there in
+        let part : take m c ≡ t = take-take m n x' (omega arith) in
+        let few : length (ahead s (take m c)).cells ≤ m = e.short m (omega (arith, read, here)) in
+        let less : length (ahead s t).cells ≤ m = rw part at few in
+        let all : take k x ++ t ≡ take (j - 1) x = ap (λ (l : List ℕ). take k x ++ take m l) left
+        ∙ take_plus k m x ∙ ap (λ (q : ℕ). take q x) (let z : k + m ≡ j - 1 = omega (arith, same, here) in z) in
+        let sum : length (given (outcome (take (j - 1) x))) ≡ length (i.cells ++ (ahead s t).cells) =
+        ap (λ (l : List ℕ). length (given (outcome l))) (sym all)
+        ∙ ap length (sym (seen_given (outcome (take k x ++ t))) ∙ ap (λ (a : Ahead). a.cells) (i.told t)) in
+        omega (arith, sum, length-append i.cells (ahead s t).cells, less, small)
+    | inr none ↦
+        let zero : n ≤ 0 = ltb-false _ _ none in
+        let e : length (given (outcome (take (j - 1) x))) ≡ length (given (outcome (take (k - 1) x))) =
+        ap (λ (q : ℕ). length (given (outcome (take (q - 1) x)))) (let z : j ≡ k = omega (arith, same, zero) in z) in
+        omega (arith, e, i.near)
+  ]
+
+  pub ends : (laid' : ℕ) → n ≤ length x' → n ≤ 65536 → rest ≡ drop j x
+      → OnOk r (laid' ≡ min (laid + (taken' - taken)) (2 ^ 64 - 1))
+      → Ends models r s' x j rest past0 past' p0 p' taken0 taken' laid'
+  ends laid' there small at_rest note =
       let whole : take j x ++ rest ≡ x = ap (λ (l : List ℕ). take j x ++ l) at_rest ∙ take-append-drop j x in
       record {
         all = All;
@@ -209,7 +250,9 @@ module _ (models : Bool) (stage : FlashStage) (s s' : Walk) (x x' rest : List �
         counted = all_counted;
         noted = all_noted laid' note;
         content = all_content;
+        least = length i.cells;
         broken = all_broken;
+        near = all_near there small;
         kept = all_kept;
         moments = all_moments;
       }
@@ -245,10 +288,10 @@ pub come_next : (models : Bool) (stage : FlashStage) (s s' : Walk) (x x' rest : 
     → Laid models stage (Ok answers.More) s s' (take n x') rest past past' p p' taken taken'
     → laid' ≡ min (laid + (taken' - taken)) (2 ^ 64 - 1) → rest ≡ drop j x → Heads (Ok answers.More) s s' x' rest
     → (0 < s'.index → passed s ≡ true) → Measures (Ok answers.More) s size → IsGoing s.phase
-    → past'.synced ≡ past.synced
+    → past'.synced ≡ past.synced → n ≤ length x' → n ≤ 65536
     → Come models s' j x size past0 past' p0 p' taken0 taken' laid'
 come_next models stage s s' x x' rest k n j size past0 past past' p0 p p' taken0 taken taken' laid laid' left same
-    unsynced i e note behind heads begins measures going quiet = record {
+    unsynced i e note behind heads begins measures going quiet there small = record {
       cells = i.cells ++ e.cells;
       told = λ t. all_told models stage s s' x x' rest k n j size past0 past past' p0 p p' taken0 taken taken' laid
           (Ok answers.More) left same unsynced i e t (λ z. absurd cc);
@@ -264,6 +307,10 @@ come_next models stage s s' x x' rest k n j size past0 past past' p0 p p' taken0
           (moment_of past' p') past0.moments past'.moments (quiet ∙ unsynced)
           (all_moments models stage s s' x x' rest k n j size past0 past past' p0 p p' taken0 taken taken' laid
           (Ok answers.More) left same unsynced i e t);
+      near =
+          let less = all_near models stage s s' x x' rest k n j size past0 past past' p0 p p' taken0 taken taken' laid
+          (Ok answers.More) left same unsynced i e there small in
+          omega (arith, less, length-append i.cells e.cells);
       head = i.head ∙ ap (λ (l : List ℕ). (upcoming s l).head) (sym left) ∙ heads
           ∙ ap (λ (l : List ℕ). (upcoming s' l).head) behind;
       fits = λ body some h q. fits_known s x size h
@@ -321,20 +368,20 @@ counted_back b w most some small few le =
 
 -- ---- what is touched
 
-module _ (models : Bool) (r : Result MachineProgress FlashFault) (s' : Walk) (x read rest : List ℕ)
-    (past0 past' : Past) (p0 p' : List ℕ) (taken0 taken' laid' : ℕ)
-    (e : Ends models r s' x read rest past0 past' p0 p' taken0 taken' laid') where
+module _ (models : Bool) (r : Result MachineProgress FlashFault) (s' : Walk) (x : List ℕ) (got : ℕ)
+    (rest : List ℕ) (past0 past' : Past) (p0 p' : List ℕ) (taken0 taken' laid' : ℕ)
+    (e : Ends models r s' x got rest past0 past' p0 p' taken0 taken' laid') where
   given_all : given (outcome x) ≡ e.all ++ e.more rest
   given_all = ap (λ (l : List ℕ). given (outcome l)) (sym e.whole) ∙ e.front rest
 
-  given_read : given (outcome read) ≡ e.all ++ e.more []
-  given_read = ap (λ (l : List ℕ). given (outcome l)) (sym (append-nil read)) ∙ e.front []
+  given_read : given (outcome (take got x)) ≡ e.all ++ e.more []
+  given_read = ap (λ (l : List ℕ). given (outcome l)) (sym (append-nil (take got x))) ∙ e.front []
 
   within_all : (i : ℕ) → writes (given (outcome x)) i ≡ false → writes e.all i ≡ false
   within_all i q = unwritten_front e.all (e.more rest) i (ap (λ (cs : List (Option ℕ)). writes cs i) (sym given_all)
       ∙ q)
 
-  within_read : (i : ℕ) → writes (given (outcome read)) i ≡ false → writes e.all i ≡ false
+  within_read : (i : ℕ) → writes (given (outcome (take got x))) i ≡ false → writes e.all i ≡ false
   within_read i q = unwritten_front e.all (e.more []) i (ap (λ (cs : List (Option ℕ)). writes cs i) (sym given_read)
       ∙ q)
 
@@ -348,8 +395,9 @@ module _ (models : Bool) (r : Result MachineProgress FlashFault) (s' : Walk) (x 
   ends_moments t = during_within (writes e.all) (writes (given (outcome x))) (moment_of past0 p0)
       (moment_of past' p') past0.moments past'.moments within_all (e.moments t)
 
-  pub ends_seen : IsTrue models → Keeps (writes (given (outcome read))) (moment_of past0 p0) (moment_of past' p')
-  ends_seen t = keeps_within (writes e.all) (writes (given (outcome read))) (moment_of past0 p0)
+  pub ends_seen : IsTrue models
+      → Keeps (writes (given (outcome (take got x)))) (moment_of past0 p0) (moment_of past' p')
+  ends_seen t = keeps_within (writes e.all) (writes (given (outcome (take got x)))) (moment_of past0 p0)
       (moment_of past' p') within_read (e.kept t)
 
 -- ---- an image
@@ -392,8 +440,8 @@ image_of x all rest hs ht e size taken0 taken' laid' (Image h cs left) is q know
 image_of x all rest hs ht e size taken0 taken' laid' (Fault f cs) is q known fits count note blocks =
     absurd (err_ok f (view ht) rest (ap (λ (a : Ahead). a.ending) q))
 
-module _ (models : Bool) (s s' : Walk) (x read rest : List ℕ) (past0 past' : Past) (p0 p' : List ℕ)
-    (taken0 taken' laid' : ℕ) (e : Ends models (Ok answers.Done) s' x read rest past0 past' p0 p' taken0 taken' laid')
+module _ (models : Bool) (s s' : Walk) (x : List ℕ) (got : ℕ) (rest : List ℕ) (past0 past' : Past) (p0 p' : List ℕ)
+    (taken0 taken' laid' : ℕ) (e : Ends models (Ok answers.Done) s' x got rest past0 past' p0 p' taken0 taken' laid')
     (ended : s'.phase ≡ phases.Done) where
   done_told : seen (outcome x) ≡ before e.all (record { cells = []; ending = Ok (view s'.header, rest) })
   done_told = e.told ∙ ap (λ (a : Ahead). before e.all a) (at_done s' rest ended)
@@ -443,7 +491,7 @@ no_cells : (cs : List (Option ℕ)) → length cs ≡ 0 → cs ≡ []
 no_cells [] e = refl
 no_cells (c ∷ cs) e = absurd (omega (arith, e))
 
-module _ (models : Bool) (s s' : Walk) (x x' read rest : List ℕ) (k size : ℕ) (past0 past past' : Past)
+module _ (models : Bool) (s s' : Walk) (x x' : List ℕ) (got : ℕ) (rest : List ℕ) (k size : ℕ) (past0 past past' : Past)
     (p0 p p' : List ℕ) (taken0 taken taken' laid laid' : ℕ) (bytes : IsBytes x) (going : IsGoing s.phase)
     (left : x' ≡ drop k x) (i : Come models s k x size past0 past p0 p taken0 taken laid) where
   known : passed s ≡ true → (listing_of x).head ≡ Some (view s.header)
@@ -478,7 +526,7 @@ module _ (models : Bool) (s s' : Walk) (x x' read rest : List ℕ) (k size : ℕ
     place_none phases.Done s e = omega (arith, e)
     place_none (phases.Failed g) s e = omega (arith, e)
 
-  pub fault_flashes : (f : FlashFault) → Ends models (Err f) s' x read rest past0 past' p0 p' taken0 taken' laid'
+  pub fault_flashes : (f : FlashFault) → Ends models (Err f) s' x got rest past0 past' p0 p' taken0 taken' laid'
       → Leaves (Err f) s'.phase → Heads (Err f) s s' x' rest → Measures (Err f) s size
       → OnShort {X = MachineProgress} (Err f) (taken' ≡ taken) → Flashes (Err f) size taken0 taken' x rest
   fault_flashes (fails.Sparse g) e leaves heads measures none =
@@ -506,18 +554,19 @@ module _ (models : Bool) (s s' : Walk) (x x' read rest : List ℕ) (k size : ℕ
       )
   fault_flashes f e leaves heads measures none = tt
 
-  -- what is written is the front of all that x gives
+  -- what is written is the front of what the bytes give that were read
   front_all : (r : Result MachineProgress FlashFault) (torn : ℕ)
-      → (e : Ends models r s' x read rest past0 past' p0 p' taken0 taken' laid')
-      → IsFrontLaid torn 0 e.all p0 p' → IsFrontLaid torn 0 (given (outcome x)) p0 p'
+      → (e : Ends models r s' x got rest past0 past' p0 p' taken0 taken' laid')
+      → FrontAtLeast e.least torn e.all p0 p' → IsLaidSoFar torn got x p0 p'
   front_all r torn e h =
-      let are = given_all models r s' x read rest past0 past' p0 p' taken0 taken' laid' e in
-      subst (λ (cs : List (Option ℕ)). IsFrontLaid torn 0 cs p0 p') (sym are)
-      (front_more torn 0 e.all (e.more rest) p0 p' h)
+      let are = given_read models r s' x got rest past0 past' p0 p' taken0 taken' laid' e in
+      let all = subst (λ (cs : List (Option ℕ)). FrontAtLeast e.least torn cs p0 p') (sym are)
+      (at_least_more e.least torn e.all (e.more []) p0 p' h) in
+      record { front = all.front; least = omega (arith, e.near, all.long) }
 
-  pub fault_holds : (f : FlashFault) → Ends models (Err f) s' x read rest past0 past' p0 p' taken0 taken' laid'
+  pub fault_holds : (f : FlashFault) → Ends models (Err f) s' x got rest past0 past' p0 p' taken0 taken' laid'
       → Leaves (Err f) s'.phase → Measures (Err f) s size → OnShort {X = MachineProgress} (Err f) (p' ≡ p)
-      → IsTrue models → Holds (Err f) p0 p' x
+      → IsTrue models → Holds (Err f) got p0 p' x
   fault_holds (fails.Sparse g) e leaves measures same t =
       let q = e.told ∙ ap (λ (a : Ahead). before e.all a) (at_fault s' rest g leaves) in
       let are : given (outcome x) ≡ e.all = sym (seen_given (outcome x)) ∙ ap (λ (a : Ahead). a.cells) q

@@ -106,7 +106,8 @@ unless_all (Err f) P h = unless_fault f P h
 -- ---- what a step writes
 
 module _ (models : Bool) (stage : FlashStage) (s s' : Walk) (c rest win : List ℕ) (past past' : Past) (p p' : List ℕ)
-    (taken taken' r m : ℕ) (in_window : take r win ≡ c) (long : r ≤ length win) where
+    (taken taken' r m : ℕ) (in_window : take r win ≡ c) (long : r ≤ length win)
+    (short : (i : ℕ) → i < length c → length (ahead s (take i c)).cells ≤ i) where
   abbrev First : Moment
   First = moment_of past p
 
@@ -143,6 +144,7 @@ module _ (models : Bool) (stage : FlashStage) (s s' : Walk) (c rest win : List �
     kept = λ t. keeps_within _ _ First Last (λ i. outside q win r m (place_of s) i moved long within) (kept t);
     moments = λ t. during_within _ _ First Last past.moments past'.moments
         (λ i. outside q win r m (place_of s) i moved long within) (moments t);
+    short = short;
     held = λ goes. fine;
   }
 
@@ -162,6 +164,7 @@ module _ (models : Bool) (stage : FlashStage) (s s' : Walk) (c rest win : List �
     kept = λ t. keeps_within _ _ First Last (λ i e. empty_range (place_of s) i) (kept t);
     moments = λ t. during_within _ _ First Last past.moments past'.moments (λ i e. empty_range (place_of s) i)
         (moments t);
+    short = short;
     held = λ goes. tt;
   }
   fault_laid (faults.Write d) says leaves put content kept moments = record {
@@ -176,6 +179,7 @@ module _ (models : Bool) (stage : FlashStage) (s s' : Walk) (c rest win : List �
     kept = λ t. keeps_within _ _ First Last (λ i e. empty_range (place_of s) i) (kept t);
     moments = λ t. during_within _ _ First Last past.moments past'.moments (λ i e. empty_range (place_of s) i)
         (moments t);
+    short = short;
     held = λ goes. tt;
   }
   fault_laid f says leaves put content kept moments = record {
@@ -190,6 +194,7 @@ module _ (models : Bool) (stage : FlashStage) (s s' : Walk) (c rest win : List �
     kept = λ t. keeps_within _ _ First Last (λ i e. empty_range (place_of s) i) (kept t);
     moments = λ t. during_within _ _ First Last past.moments past'.moments (λ i e. empty_range (place_of s) i)
         (moments t);
+    short = short;
     held = λ goes. tt;
   }
 
@@ -242,6 +247,7 @@ module _ (models : Bool) (stage : FlashStage) (s s' : Walk) (c rest win : List �
     broken = torn;
     kept = λ t. keeps_within _ _ First Last out (kept t);
     moments = λ t. during_within _ _ First Last past.moments past'.moments out (moments t);
+    short = short;
     held = λ goes. tt;
   }
 
@@ -284,6 +290,7 @@ module _ (models : Bool) (stage : FlashStage) (s s' : Walk) (c rest win : List �
     kept = λ t. keeps_within _ _ First Last (λ i e. empty_range (place_of s) i) (kept t);
     moments = λ t. during_within _ _ First Last past.moments past'.moments (λ i e. empty_range (place_of s) i)
         (moments t);
+    short = short;
     held = λ goes. tt;
   }
 
@@ -398,5 +405,6 @@ nothing_laid models stage r s s' c rest past p taken none same held moved = reco
   broken = λ t. breaks_none r (place_of s) [] p p refl;
   kept = λ t. keeps_same _ (moment_of past p);
   moments = λ t. during_none _ _ _ past.moments;
+  short = λ i less. absurd (omega (arith, less, ap length none));
   held = held;
 }

@@ -101,9 +101,32 @@ breaks_none (Err (fails.Read d)) at cs p p' same = front_none 0 at cs p p' same
 breaks_none (Err (fails.Write d)) at cs p p' same = front_none 65536 at cs p p' same
 breaks_none (Err f) at cs p p' same = tt
 
+-- the front has so many cells at least
+pub record FrontAtLeast (least torn : ℕ) (cells : List (Option ℕ)) (p p' : List ℕ) : Type 0 where
+  pub front : IsFrontLaid torn 0 cells p p'
+  pub long : least ≤ front.laid
+
+pub at_least_more : (least torn : ℕ) (cs ds : List (Option ℕ)) (p p' : List ℕ) → FrontAtLeast least torn cs p p'
+    → FrontAtLeast least torn (cs ++ ds) p p'
+unfolding front_more
+at_least_more least torn cs ds p p' h = record { front = front_more torn 0 cs ds p p' h.front; long = h.long }
+
+at_least_behind : (torn at : ℕ) (p0 p p' : List ℕ) (cs ds : List (Option ℕ)) → p ≡ over p0 cs → at ≡ length cs
+    → IsFrontLaid torn at ds p p' → FrontAtLeast (length cs) torn (cs ++ ds) p0 p'
+unfolding front_behind
+at_least_behind torn at p0 p p' cs ds before long h =
+    record { front = front_behind torn at p0 p p' cs ds before long h; long = omega (arith, long) }
+
+-- the same of what is returned
+abbrev pub BreaksPast : {X : Type 0} → Result X FlashFault → ℕ → List (Option ℕ) → List ℕ → List ℕ → Type 0
+BreaksPast (Err (fails.Read d)) least cells p p' = FrontAtLeast least 0 cells p p'
+BreaksPast (Err (fails.Write d)) least cells p p' = FrontAtLeast least 65536 cells p p'
+BreaksPast r least cells p p' = Unit {0}
+
 pub breaks_behind : {X : Type 0} (r : Result X FlashFault) (at : ℕ) (p0 p p' : List ℕ) (cs ds : List (Option ℕ))
-    → p ≡ over p0 cs → at ≡ length cs → BreaksOff r at ds p p' → BreaksOff r 0 (cs ++ ds) p0 p'
+    → p ≡ over p0 cs → at ≡ length cs → BreaksOff r at ds p p' → BreaksPast r (length cs) (cs ++ ds) p0 p'
 breaks_behind (Ok v) at p0 p p' cs ds before long h = tt
-breaks_behind (Err (fails.Read d)) at p0 p p' cs ds before long h = front_behind 0 at p0 p p' cs ds before long h
-breaks_behind (Err (fails.Write d)) at p0 p p' cs ds before long h = front_behind 65536 at p0 p p' cs ds before long h
+breaks_behind (Err (fails.Read d)) at p0 p p' cs ds before long h = at_least_behind 0 at p0 p p' cs ds before long h
+breaks_behind (Err (fails.Write d)) at p0 p p' cs ds before long h =
+    at_least_behind 65536 at p0 p p' cs ds before long h
 breaks_behind (Err f) at p0 p p' cs ds before long h = tt

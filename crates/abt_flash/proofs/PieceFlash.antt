@@ -204,19 +204,19 @@ image_reads b n y i = record {
 }
 
 -- a piece that was refused is flashed whole where its sync was
-pub laid_stops : (e : FlashFault) (p p' x : List ℕ) (cs : List (Option ℕ)) → Holds (Err e) p p' x
+pub laid_stops : (e : FlashFault) (got : ℕ) (p p' x : List ℕ) (cs : List (Option ℕ)) → Holds (Err e) got p p' x
     → given (outcome x) ≡ cs → OnFlashed (Err (flashing_cause e)) (p' ≡ over p cs)
-laid_stops (Sync d) p p' x cs h same = h ∙ ap (over p) same
-laid_stops (Sparse f) p p' x cs h same = tt
-laid_stops (PartitionTooSmall n) p p' x cs h same = tt
-laid_stops (Read d) p p' x cs h same = tt
-laid_stops (Write d) p p' x cs h same = tt
-laid_stops TooLarge p p' x cs h same = tt
-laid_stops SourceChanged p p' x cs h same = tt
-laid_stops (BadBlock n) p p' x cs h same = tt
-laid_stops (LimitTooSmall n) p p' x cs h same = tt
-laid_stops (Stopped n c) p p' x cs h same = tt
-laid_stops (NoSuchPiece n) p p' x cs h same = tt
+laid_stops (Sync d) got p p' x cs h same = h ∙ ap (over p) same
+laid_stops (Sparse f) got p p' x cs h same = tt
+laid_stops (PartitionTooSmall n) got p p' x cs h same = tt
+laid_stops (Read d) got p p' x cs h same = tt
+laid_stops (Write d) got p p' x cs h same = tt
+laid_stops TooLarge got p p' x cs h same = tt
+laid_stops SourceChanged got p p' x cs h same = tt
+laid_stops (BadBlock n) got p p' x cs h same = tt
+laid_stops (LimitTooSmall n) got p p' x cs h same = tt
+laid_stops (Stopped n c) got p p' x cs h same = tt
+laid_stops (NoSuchPiece n) got p p' x cs h same = tt
 
 -- and only then a sync was refused
 pub unsynced_stops : (e : FlashFault) (r r' p p' : ℕ) → FlashCause e r r' p p'

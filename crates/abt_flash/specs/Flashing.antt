@@ -1,6 +1,6 @@
 -- What flashing a whole input returns, and what the partition holds then.
-use Rattle.std.specs.Prelude.{◌≡◌, ℕ, ◌+◌, ◌*◌, ◌<◌, ◌≤◌, Bool, IsTrue, List, [], Option, Result, Ok, Err, OnOk, is_ok}
-use Rattle.std.specs.Prelude.{max, if◌then◌else◌}
+use Rattle.std.specs.Prelude.{◌≡◌, ℕ, ◌+◌, ◌-◌, ◌*◌, ◌<◌, ◌≤◌, Bool, IsTrue, List, [], Option, Result, Ok, Err}
+use Rattle.std.specs.Prelude.{OnOk, is_ok, length, max, take, if◌then◌else◌}
 use Rattle.abt_io.specs.Moment.{Past}
 use Rattle.abt_io.specs.declared.meter.Meter.{Meter}
 use Rattle.abt_sparse.specs.declared.fault.SparseFault.{SparseFault}
@@ -50,18 +50,24 @@ Flashes (Err (PartitionTooSmall need)) size taken taken' x rest = Short need siz
 Flashes (Err (Sync d)) size taken taken' x rest = (e : Flashed) × WholeFlash e size taken taken' x rest
 Flashes (Err f) size taken taken' x rest = Unit {0}
 
--- What a partition that held p holds after it: what x gives is written over it, an image or what comes before a fault.
--- One that is too small is as it was, and one that was not synced holds all of the image, of which a crash may leave
--- less. Where reading or writing failed, a front of it is written. Behind that up to a window may be anything, which a
--- failed write left.
-abbrev pub Holds : Result Flashed FlashFault → List ℕ → List ℕ → List ℕ → Type 0
-Holds (Ok e) p p' x = p' ≡ flashed p x
-Holds (Err (Sparse f)) p p' x = p' ≡ flashed p x
-Holds (Err (PartitionTooSmall need)) p p' x = p' ≡ p
-Holds (Err (Sync d)) p p' x = p' ≡ flashed p x
-Holds (Err (Read d)) p p' x = IsFrontLaid 0 0 (given (outcome x)) p p'
-Holds (Err (Write d)) p p' x = IsFrontLaid 65536 0 (given (outcome x)) p p'
-Holds (Err f) p p' x = Unit {0}
+-- Where a device failed after `got` bytes of x were read: p' is p under a front of what these bytes give, and up to
+-- `torn` bytes behind it may be any. The front lacks less than a window of what all of them but the last give, which
+-- may complete a word that is repeated any number of times.
+pub record IsLaidSoFar (torn got : ℕ) (x p p' : List ℕ) : Type 0 where
+  pub front : IsFrontLaid torn 0 (given (outcome (take got x))) p p'
+  pub least : length (given (outcome (take (got - 1) x))) < front.laid + 65536
+
+-- What a partition that held p holds after `got` bytes of x were read: what x gives is written over it, an image or
+-- what comes before a fault. One that is too small is as it was, and one that was not synced holds all of the image, of
+-- which a crash may leave less. Where reading or writing failed, what was read so far is written.
+abbrev pub Holds : Result Flashed FlashFault → ℕ → List ℕ → List ℕ → List ℕ → Type 0
+Holds (Ok e) got p p' x = p' ≡ flashed p x
+Holds (Err (Sparse f)) got p p' x = p' ≡ flashed p x
+Holds (Err (PartitionTooSmall need)) got p p' x = p' ≡ p
+Holds (Err (Sync d)) got p p' x = p' ≡ flashed p x
+Holds (Err (Read d)) got p p' x = IsLaidSoFar 0 got x p p'
+Holds (Err (Write d)) got p p' x = IsLaidSoFar 65536 got x p p'
+Holds (Err f) got p p' x = Unit {0}
 
 -- In every intermediate state from the first to the last no byte was touched but those that the cells write.
 abbrev pub TouchesOnly : List (Option ℕ) → Past → Past → List ℕ → List ℕ → Type 0

@@ -126,6 +126,8 @@ pub record Laid (models : Bool) (stage : FlashStage) (r : Result MachineProgress
   pub kept : IsTrue models → Keeps (writes (from_place (place_of s) cells)) (moment_of past p) (moment_of past' p')
   pub moments : IsTrue models → EachSince past.moments past'.moments
       (During (writes (from_place (place_of s) cells)) (moment_of past p) (moment_of past' p'))
+  -- fewer bytes than these give no more than themselves
+  pub short : (m : ℕ) → m < length c → length (ahead s (take m c)).cells ≤ m
   -- nothing is held over but words of a fill, and a gap
   pub held : Goes stage s.phase → OnOk r (more [] ≡ owed s')
 

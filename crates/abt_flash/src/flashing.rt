@@ -38,7 +38,8 @@ pub fn flash<I: Input, P: Partition>(
         (P.taken partition.new) (I.remaining input.old) (I.remaining input.new) }
     // What the partition holds, and that no other byte was touched in any intermediate state.
     ensures holds { IsTrue I.models → IsTrue P.models →
-        Holds result (P.content partition.old) (P.content partition.new) (I.remaining input.old) }
+        Holds result (I.given input.new - I.given input.old) (P.content partition.old) (P.content partition.new)
+        (I.remaining input.old) }
     ensures touches { IsTrue I.models → IsTrue P.models → TouchesOnly (given (outcome (I.remaining input.old)))
         (P.past partition.old) (P.past partition.new) (P.content partition.old) (P.content partition.new) }
     // Of the bytes that the image writes none but those that the bytes read so far give.

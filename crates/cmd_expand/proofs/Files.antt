@@ -1,7 +1,7 @@
 -- What opening, creating and ending leave together.
 use Rattle.std.proofs.Common.{inl, inr, arith, ◌≡◌, ◌<◌, ℕ, ◌+◌, Bool, true, false, List, [], ◌∷◌, ◌++◌}
 use Rattle.std.proofs.Common.{refl, sym, ◌∙◌, ap, subst, None}
-use Rattle.std.specs.Prelude.{Result, Ok, Err, IsOk, IfErr, OnOk, IsErrAnd, is_ok, take, if◌then◌else◌}
+use Rattle.std.specs.Prelude.{Result, Ok, Err, IsOk, IfErr, OnOk, IsErrAnd, is_ok, if◌then◌else◌}
 use Rattle.std.proofs.lemmas.Bool.{false≢true}
 use Rattle.abt_sparse.specs.Block.{expansion, laid}
 use Rattle.abt_sparse.specs.Chunk.{classed}
@@ -11,7 +11,7 @@ use Rattle.abt_sparse.specs.declared.fault.SparseFault.{SparseFault}
 use Rattle.abt_sparse.specs.declared.fault.SparseFault.TheVariants as of_sparse
 use Rattle.abt_chunks.specs.Cause.{Clean}
 use Rattle.abt_chunks.specs.Expanding.{ExpandingRises, UnlessExpandingDevice}
-use Rattle.abt_chunks.specs.Whole.{Begun, Expansion, Refusal}
+use Rattle.abt_chunks.specs.Whole.{Expansion, Refusal}
 use Rattle.sys_disk.specs.World.{World, OpenFiles, Spares, OpensFile, Creates, Ends, SparesRest, HasFailed}
 use Rattle.sys_disk.specs.World.{HasNotFailed}
 use Rattle.sys_disk.specs.Among.{FileHolds}
@@ -22,7 +22,7 @@ use Rattle.cmd_common_sparse.specs.Lines.{line_text}
 use Rattle.cmd_common_sparse.specs.declared.fault.SparseCommandFault.{SparseCommandFault}
 use Rattle.cmd_common_sparse.specs.declared.fault.SparseCommandFault.TheVariants as faults
 use Rattle.cmd_expand.specs.Expanding.{Blames, ExpandsFile, ExpandingSays, LeavesExpanded, RefusesFile, HasFault}
-use Rattle.cmd_expand.specs.Expanding.{BlamesDevice, FromHost, LeavesFront, OfDevice}
+use Rattle.cmd_expand.specs.Expanding.{BlamesDevice, FromHost, LeavesFront, OfDevice, WritesRead}
 
 -- ---- what was read is closed before the output is completed
 
@@ -123,7 +123,7 @@ holds_left path bytes h h' a b c made ends =
 -- what a fault of IN leaves of an output that was empty
 front_of : (f : SparseFault) (input path x old new : List ℕ) (h h1 k : OpenFiles) (a c : World)
     (r0 r w w' more read : ℕ) → OpensFile a input x h h1 → r0 ≡ 0 → w ≡ 0 → k.failed ≡ h.failed + (r + (more + w'))
-    → UnlessExpandingDevice f (Refusal f old new x) → BlamesDevice f r0 r w w' → old ≡ [] → Begun old new (take read x)
+    → UnlessExpandingDevice f (Refusal f old new x) → BlamesDevice f r0 r w w' → old ≡ [] → WritesRead read x old new
     → (more + w' ≡ 0 → FileHolds c path new) → LeavesFront f input path a c h k
 front_of (of_sparse.Read d) input path x old new h h1 k a c r0 r w w' more read opened first none count is blames empty
     begun left = λ one. record {
@@ -131,8 +131,8 @@ front_of (of_sparse.Read d) input path x old new h h1 k a c r0 r w w' more read 
       there = opened.there;
       read = read;
       front = new;
-      begun = subst (λ z. Begun z new (take read (a.holds opened.file))) empty
-          (subst (λ z. Begun old new (take read z)) opened.held begun);
+      written = subst (λ z. WritesRead read (a.holds opened.file) z new) empty
+          (subst (λ z. WritesRead read z old new) opened.held begun);
       holds = left (omega (arith, one, count, blames.0, first));
     }
 front_of (of_sparse.Write d) input path x old new h h1 k a c r0 r w w' more read opened first none count is blames
@@ -150,7 +150,7 @@ front_of f input path x old new h h1 k a c r0 r w w' more read opened first none
 own : (untold : List ℕ → Type 0) (input path x old new : List ℕ) (h h1 k : OpenFiles) (a c : World)
     (f : SparseCommandFault) (r0 r w w' more read : ℕ)
     → OpensFile a input x h h1 → r0 ≡ 0 → w ≡ 0 → k.failed ≡ h.failed + (r + (more + w'))
-    → ExpandingSays (Err f) x old new → Blames (Err f) r0 r w w' → old ≡ [] → Begun old new (take read x)
+    → ExpandingSays (Err f) x old new → Blames (Err f) r0 r w w' → old ≡ [] → WritesRead read x old new
     → (more + w' ≡ 0 → FileHolds c path new) → RefusesFile f input path a c h k untold
 own untold input path x old new h h1 k a c (faults.Sparse f) r0 r w w' more read opened first none count says blames
     empty begun left = (
@@ -201,7 +201,7 @@ pub refuses : (untold : List ℕ → Type 0) (input path x old new : List ℕ) (
     (r0 r w w' more read : ℕ) → OpensFile a input x h h1 → r0 ≡ 0 → w ≡ 0
     → k.failed ≡ h.failed + (r + (more + w')) → (IsOk answer → 0 < more) → ExpandingSays answer x old new
     → Blames answer r0 r w w' → (IsOk answer → FromHost told) → IfErr answer (λ f. told ≡ f)
-    → old ≡ [] → Begun old new (take read x) → (more + w' ≡ 0 → FileHolds c path new)
+    → old ≡ [] → WritesRead read x old new → (more + w' ≡ 0 → FileHolds c path new)
     → RefusesFile told input path a c h k untold
 refuses untold input path x old new h h1 k a c (Ok e) told r0 r w w' more read opened first none count late says blames
     files is empty begun left =

@@ -147,16 +147,17 @@ breaks_among f all xs xs' p q p' x is before broken = record {
 pub at_front : (n : ℕ) (x : List ℕ) → n ≡ 0 → drop n x ≡ x
 at_front n x none = ap (λ k. drop k x) none
 
-pub done_holds : (a : Result Flashed FlashFault) (e : Flashed) (p p' x : List ℕ) → a ≡ Ok e → Holds a p p' x
-    → p' ≡ flashed p x
-done_holds a e p p' x is holds = subst (λ r. Holds r p p' x) is holds
+pub done_holds : (a : Result Flashed FlashFault) (e : Flashed) (got : ℕ) (p p' x : List ℕ) → a ≡ Ok e
+    → Holds a got p p' x → p' ≡ flashed p x
+done_holds a e got p p' x is holds = subst (λ r. Holds r got p p' x) is holds
 
 -- it was refused for this
-pub breaks_at : (a : Result Flashed FlashFault) (f : FlashFault) (told : SparseCommandFault) (p p' x y : List ℕ)
-    → a ≡ Err f → told ≡ faults.Flash f → x ≡ y → Holds a p p' x → BreaksAt told y p p'
-breaks_at a f told p p' x y is named same holds =
-    subst (λ q. BreaksAt q y p p') (sym named) (subst (λ z. Holds (Err f) p p' z) same (subst (λ r. Holds r p p' x) is
-    holds))
+pub breaks_at : (a : Result Flashed FlashFault) (f : FlashFault) (told : SparseCommandFault) (got : ℕ)
+    (p p' x y : List ℕ)
+    → a ≡ Err f → told ≡ faults.Flash f → x ≡ y → Holds a got p p' x → BreaksAt told y p p'
+breaks_at a f told got p p' x y is named same holds =
+    subst (λ q. BreaksAt q y p p') (sym named)
+    (got, subst (λ z. Holds (Err f) got p p' z) same (subst (λ r. Holds r got p p' x) is holds))
 
 pub done_so : (a : Result Flashed FlashFault) (e : Flashed) (P : Type 0) → a ≡ Ok e → OnOk a P → P
 done_so a e P is so = subst (λ r. OnOk r P) is so

@@ -247,7 +247,9 @@ breaks_in (faults.Flash f) number size inputs xs output z onto a c ins here byte
   next = broken.next;
   behind = broken.behind;
   among = sym bytes ∙ broken.among;
-  holds = subst (λ l. Holds (Err f) (flashed_in_turn l broken.before) (c.holds onto) broken.next) zeros broken.holds;
+  read = broken.holds.0;
+  holds = subst (λ l. Holds (Err f) broken.holds.0 (flashed_in_turn l broken.before) (c.holds onto) broken.next) zeros
+      broken.holds.1;
 }
 breaks_in (faults.Run f) number size inputs xs output z onto a c ins here bytes zeros broken = tt
 breaks_in (faults.Sparse f) number size inputs xs output z onto a c ins here bytes zeros broken = tt

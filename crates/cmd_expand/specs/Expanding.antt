@@ -1,6 +1,6 @@
 -- What the command `expand` leaves of files, and what it prints.
-use Rattle.std.specs.Prelude.{◌≡◌, ◌≢◌, ◌⊎◌, ℕ, ◌+◌, ◌*◌, ◌<◌, List, [], ◌∷◌, ◌++◌, Option, Some, None, Result, Ok, Err}
-use Rattle.std.specs.Prelude.{OnOk, take}
+use Rattle.std.specs.Prelude.{◌≡◌, ◌≢◌, ◌⊎◌, ℕ, ◌+◌, ◌-◌, ◌*◌, ◌<◌, List, [], ◌∷◌, ◌++◌, Option, Some, None}
+use Rattle.std.specs.Prelude.{Result, Ok, Err, OnOk, take}
 use Rattle.abt_sparse.specs.declared.fault.SparseFault.{SparseFault}
 use Rattle.abt_sparse.specs.declared.fault.SparseFault.TheVariants as of_sparse
 use Rattle.abt_sparse.specs.Block.{expansion, laid}
@@ -8,7 +8,7 @@ use Rattle.abt_sparse.specs.Chunk.{Header, Chunk, classed}
 use Rattle.abt_sparse.specs.Fails.{Fails, Spells}
 use Rattle.abt_chunks.specs.declared.progress.Expanded.{Expanded}
 use Rattle.abt_chunks.specs.Expanding.{UnlessExpandingDevice}
-use Rattle.abt_chunks.specs.Whole.{Begun, Expansion, Refusal}
+use Rattle.abt_chunks.specs.Whole.{AlmostWhole, Begun, Expansion, Refusal}
 use Rattle.sys_disk.specs.Among.{FileHolds}
 use Rattle.sys_disk.specs.World.{World, OpenFiles, KeepsFile, OnlyAt, Spares, SparesInUse, HasFailed, HasNotFailed}
 use Rattle.sys_refusals.specs.declared.refusal.HostFault.{HostFault}
@@ -92,17 +92,23 @@ pub record HoldsUpTo (input output : List ℕ) (f : SparseFault) (old new : Worl
   pub fails : Fails (old.holds from) f given
   pub holds : FileHolds new output (laid given)
 
--- the file at the other path holds a beginning of what the first bytes give of the file at the one
+-- This many bytes of x were read. What they give is written after what was there: a beginning of it, which is all of it
+-- but for less than a window. The last byte does not count, since it may complete a word that is repeated.
+pub record WritesRead (read : ℕ) (x old new : List ℕ) : Type 0 where
+  pub begun : Begun old new (take read x)
+  pub least : AlmostWhole old new (take (read - 1) x)
+
+-- the file at the other path holds what the first bytes give of the file at the one, some number of which was read
 pub record HoldsBegun (input output : List ℕ) (old new : World) : Type 0 where
   pub from : ℕ
   pub there : old.at input ≡ Some from
   pub read : ℕ
   pub front : List ℕ
-  pub begun : Begun [] front (take read (old.holds from))
+  pub written : WritesRead read (old.holds from) [] front
   pub holds : FileHolds new output front
 
 -- What OUT's file holds after a fault of IN, where no other call has failed: what comes before the fault; or, where IN
--- could not be read, a beginning of what was read.
+-- could not be read, what was read, but for less than a window.
 abbrev pub LeavesFront : SparseFault → List ℕ → List ℕ → World → World → OpenFiles → OpenFiles → Type 0
 LeavesFront (of_sparse.Read d) input output old new held held' =
     held'.failed ≡ held.failed + 1 → HoldsBegun input output old new

@@ -124,7 +124,8 @@ pub record LeavesOverlaid {X F : Type 0} (r : Result X F) (paths : List (List �
   pub clean : OnOk r (HasNotFailed held held')
 
 -- The files at the INs' paths held images of the same blocks. OUT's file holds zeros over which some of them were
--- flashed in turn, and then what flashing the next one leaves that stops with this fault.
+-- flashed in turn, and then what flashing the next one leaves that stops with this fault, once some number of its bytes
+-- was read.
 pub record OverlaysInPart (fault : FlashFault) (inputs : List (List ℕ)) (output : List ℕ) (old new : World) : Type 0
   where
     pub blocks : ℕ
@@ -136,7 +137,8 @@ pub record OverlaysInPart (fault : FlashFault) (inputs : List (List ℕ)) (outpu
     pub next : List ℕ
     pub behind : List (List ℕ)
     pub among : map old.holds ins.files ≡ before ++ (next ∷ behind)
-    pub holds : Holds (Err fault) (flashed_in_turn (replicate (blocks * size) 0) before) (new.holds onto) next
+    pub read : ℕ
+    pub holds : Holds (Err fault) read (flashed_in_turn (replicate (blocks * size) 0) before) (new.holds onto) next
 
 -- 1 where there is one at least
 abbrev pub once_if_any : {X : Type 0} → List X → ℕ

@@ -112,9 +112,9 @@ abbrev pub IsNotLaid : SparseCommandFault → ℕ → ℕ → Type 0
 IsNotLaid (faults.Flash f) n n' = IsNotFlashed f n n'
 IsNotLaid f n n' = ⊥
 
--- what flashing x over p leaves, where it was refused for this
+-- what flashing x over p leaves, where it was refused for this once some number of its bytes was read
 abbrev pub BreaksAt : SparseCommandFault → List ℕ → List ℕ → List ℕ → Type 0
-BreaksAt (faults.Flash f) x p p' = Holds (Err f) p p' x
+BreaksAt (faults.Flash f) x p p' = (got : ℕ) × Holds (Err f) got p p' x
 BreaksAt f x p p' = Unit {0}
 
 -- of these images some are flashed in turn over p, and then the next one, which was refused for this

@@ -1,12 +1,12 @@
 //! The command `expand` of one image.
 
-ghost use Rattle.std.specs.Prelude.{◌≡◌, ◌+◌, ◌++◌, ℕ, [], ◌∷◌, IsTrue, IfErr, OnOk, OnErr, take, if◌then◌else◌};
-ghost use Rattle.abt_chunks.specs.Whole.{Begun};
+ghost use Rattle.std.specs.Prelude.{◌≡◌, ◌+◌, ◌-◌, ◌++◌, [], ◌∷◌, IsTrue, IfErr, OnOk, OnErr, if◌then◌else◌};
 ghost use Rattle.sys_refusals.specs.Paths.{path_in, path_out};
 ghost use Rattle.sys_disk.specs.World.{IsReading};
 ghost use Rattle.sys_report.specs.Shows.{CannotPrint, ShowsBeside, Unprinted};
 ghost use Rattle.cmd_common_sparse.specs.Lines.{line_text};
 ghost use Rattle.cmd_expand.specs.Expanding.{Blames, ExpandingSays, ExpandsFile, LeavesExpanded, RefusesFile};
+ghost use Rattle.cmd_expand.specs.Expanding.{WritesRead};
 
 use abt_chunks::{Expanded, expand};
 use abt_io::{Input, Meter, Output, Window};
@@ -86,8 +86,8 @@ fn expanded<I: Input, O: Output>(
 ) -> Result<Expanded, SparseCommandFault>
     ensures says { IsTrue I.models → ExpandingSays result (I.remaining from.old.device) (O.written onto.old)
         (O.written onto.new) }
-    ensures begun { IsTrue I.models → (read : ℕ) × Begun (O.written onto.old) (O.written onto.new)
-        (take read (I.remaining from.old.device)) }
+    ensures begun { IsTrue I.models → WritesRead (I.given from.new.device - I.given from.old.device)
+        (I.remaining from.old.device) (O.written onto.old) (O.written onto.new) }
     ensures blames { Blames result (I.read_faults from.old.device) (I.read_faults from.new.device)
         (O.write_faults onto.old) (O.write_faults onto.new) }
 {

@@ -1,7 +1,7 @@
 //! Writes opened images over one another: each is flashed in turn to a file of zeros.
 
-ghost use Rattle.std.specs.Prelude.{◌≡◌, ◌+◌, ◌*◌, ℕ, [], None, Ok, IsTrue, IfOk, IfErr, OnOk, length, map, IfSome};
-ghost use Rattle.std.specs.Prelude.{IsErr};
+ghost use Rattle.std.specs.Prelude.{◌≡◌, ◌+◌, ◌-◌, ◌*◌, ℕ, [], None, Ok, IsTrue, IfOk, IfErr, OnOk, length, map};
+ghost use Rattle.std.specs.Prelude.{IfSome, IsErr};
 ghost use Rattle.std.specs.List.{AllByRecursion};
 ghost use Rattle.abt_flash_faults.specs.Fault.{FlashingRises};
 ghost use Rattle.abt_flash.specs.Flashing.{Holds};
@@ -144,7 +144,8 @@ fn flash_one<S: Source, P: Partition>(
 ) -> Result<Flashed, FlashFault>
     requires first { from.old.device.position ≡ 0 }
     ensures holds { IsTrue S.models → IsTrue P.models →
-        Holds result (P.content onto.old) (P.content onto.new) (S.content from.old.device.source) }
+        Holds result (S.given from.new.device.source - S.given from.old.device.source) (P.content onto.old)
+        (P.content onto.new) (S.content from.old.device.source) }
     ensures size { P.size onto.new ≡ P.size onto.old }
     ensures synced { OnOk result ((P.past onto.new).synced ≡ (P.past onto.old).synced + 1) }
     ensures settled { IsTrue P.models → OnOk result ((P.past onto.new).pending ≡ []) }

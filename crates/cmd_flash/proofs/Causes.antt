@@ -1,5 +1,5 @@
 -- What the engine's calls say of their faults, in the words of the commands.
-use Rattle.std.proofs.Common.{◌≡◌, ◌<◌, ◌≤◌, ◌+◌, ◌*◌, ℕ, List, Bool, true, length, Option, refl, subst, arith}
+use Rattle.std.proofs.Common.{◌≡◌, ◌<◌, ◌≤◌, ◌+◌, ◌*◌, ℕ, List, Bool, true, length, take, Option, refl, subst, arith}
 use Rattle.std.specs.Prelude.{Err, IsTrue}
 use Rattle.abt_chunks.specs.Expanding.{UnlessExpandingDevice}
 use Rattle.abt_sparse.specs.Pieces.{flashed, given}
@@ -41,12 +41,13 @@ whole e size taken taken' x rest p p' long found holds = (
   },
 )
 
-pub unflashed : (f : FlashFault) (size taken taken' r r' t t' : ℕ) (x rest p p' : List ℕ) → size ≡ length p
-    → Flashes (Err f) size taken taken' x rest → Holds (Err f) p p' x → HoldsBut (writes (given (outcome x))) p p'
-    → FlashCause f r r' t t' → IsUnflashed (r + t < r' + t') f x p p'
-unflashed (flashes.Sparse f) size taken taken' r r' t t' x rest p p' long found holds kept cause =
+pub unflashed : (f : FlashFault) (size taken taken' r r' t t' got : ℕ) (x rest p p' : List ℕ) → size ≡ length p
+    → Flashes (Err f) size taken taken' x rest → Holds (Err f) got p p' x
+    → HoldsBut (writes (given (outcome (take got x)))) p p'
+    → FlashCause f r r' t t' → IsUnflashed (r + t < r' + t') got f x p p'
+unflashed (flashes.Sparse f) size taken taken' r r' t t' got x rest p p' long found holds kept cause =
     record { given = found.given; fails = found.fails; holds = holds }
-unflashed (flashes.PartitionTooSmall need) size taken taken' r r' t t' x rest p p' long found holds kept
+unflashed (flashes.PartitionTooSmall need) size taken taken' r r' t t' got x rest p p' long found holds kept
     cause = record {
       header = found.header;
       behind = found.behind;
@@ -55,29 +56,29 @@ unflashed (flashes.PartitionTooSmall need) size taken taken' r r' t t' x rest p 
       short = subst (λ s. s < need) long found.short;
       kept = holds;
     }
-unflashed (flashes.Read d) size taken taken' r r' t t' x rest p p' long found holds kept cause =
+unflashed (flashes.Read d) size taken taken' r r' t t' got x rest p p' long found holds kept cause =
     let more = cause.0 in
     let same = cause.2 in
     (omega (arith, more, same), record { others = kept; front = holds })
-unflashed (flashes.Write d) size taken taken' r r' t t' x rest p p' long found holds kept cause =
+unflashed (flashes.Write d) size taken taken' r r' t t' got x rest p p' long found holds kept cause =
     let more = cause.0 in
     let same = cause.2 in
     (omega (arith, more, same), record { others = kept; front = holds })
-unflashed (flashes.Sync d) size taken taken' r r' t t' x rest p p' long found holds kept cause =
+unflashed (flashes.Sync d) size taken taken' r r' t t' got x rest p p' long found holds kept cause =
     let more = cause.0 in
     let same = cause.2 in
     (omega (arith, more, same), whole found.0 size taken taken' x rest p p' long found.1 holds)
-unflashed flashes.TooLarge size taken taken' r r' t t' x rest p p' long found holds kept cause =
+unflashed flashes.TooLarge size taken taken' r r' t t' got x rest p p' long found holds kept cause =
     absurd cause
-unflashed flashes.SourceChanged size taken taken' r r' t t' x rest p p' long found holds kept cause =
+unflashed flashes.SourceChanged size taken taken' r r' t t' got x rest p p' long found holds kept cause =
     absurd cause
-unflashed (flashes.BadBlock n) size taken taken' r r' t t' x rest p p' long found holds kept cause =
+unflashed (flashes.BadBlock n) size taken taken' r r' t t' got x rest p p' long found holds kept cause =
     absurd cause
-unflashed (flashes.LimitTooSmall n) size taken taken' r r' t t' x rest p p' long found holds kept cause =
+unflashed (flashes.LimitTooSmall n) size taken taken' r r' t t' got x rest p p' long found holds kept cause =
     absurd cause
-unflashed (flashes.Stopped n c) size taken taken' r r' t t' x rest p p' long found holds kept cause =
+unflashed (flashes.Stopped n c) size taken taken' r r' t t' got x rest p p' long found holds kept cause =
     absurd cause
-unflashed (flashes.NoSuchPiece n) size taken taken' r r' t t' x rest p p' long found holds kept cause =
+unflashed (flashes.NoSuchPiece n) size taken taken' r r' t t' got x rest p p' long found holds kept cause =
     absurd cause
 
 not_there_true : (f : VerifyFault) (r r' t t' g g' : ℕ) (x rest p : List ℕ) → Verifies true (Err f) p x rest g g'

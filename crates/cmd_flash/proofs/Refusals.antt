@@ -13,8 +13,10 @@ use Rattle.abt_sparse.specs.declared.fault.SparseFault.{SparseFault}
 use Rattle.abt_sparse.specs.declared.fault.SparseFault.TheVariants as of_sparse
 use Rattle.cmd_flash.specs.Files.{Between, OfBoth, OfFile}
 use Rattle.cmd_flash.specs.Listing.{IsUnlisted, RefusesList}
-use Rattle.cmd_flash.specs.Flashing.{FlashesFile, IsFlashed, IsFlashedWhole, IsUnflashed, Lays, RefusesFlash}
-use Rattle.cmd_flash.specs.FlashingRaw.{FlashesRawFile, IsFlashedRaw, IsFlashedWholeRaw, IsUnflashedRaw, IsUnlaid}
+use Rattle.cmd_flash.specs.Flashing.{FlashesFile, IsFlashed, IsFlashedWhole, IsUnflashed, IsUnflashedThen, Lays}
+use Rattle.cmd_flash.specs.Flashing.{RefusesFlash}
+use Rattle.cmd_flash.specs.FlashingRaw.{FlashesRawFile, IsFlashedRaw, IsFlashedWholeRaw, IsUnflashedRaw}
+use Rattle.cmd_flash.specs.FlashingRaw.{IsUnflashedRawThen, IsUnlaid}
 use Rattle.cmd_flash.specs.FlashingRaw.{IsUnopened, LaysRaw, RefusesFlashRaw}
 use Rattle.cmd_flash.specs.Verifying.{Finds, FindsRaw, IsNotThere, IsNotThereRaw, RefusesVerify, RefusesVerifyRaw}
 use Rattle.cmd_common_sparse.specs.declared.fault.SparseCommandFault.{SparseCommandFault}
@@ -22,41 +24,41 @@ use Rattle.cmd_common_sparse.specs.declared.fault.SparseCommandFault.TheVariants
 
 -- ---- of a device: where that its count rose says that something has failed
 
-unflashed_for : (f : FlashFault) (F G : Type 0) (x p p' : List ℕ) → (F → G) → IsUnflashed F f x p p' → IsUnflashed G f
-    x p p'
-unflashed_for (flashes.Sparse f) F G x p p' go is = is
-unflashed_for (flashes.PartitionTooSmall n) F G x p p' go is = is
-unflashed_for (flashes.Read d) F G x p p' go is = (go is.0, is.1)
-unflashed_for (flashes.Write d) F G x p p' go is = (go is.0, is.1)
-unflashed_for (flashes.Sync d) F G x p p' go is = (go is.0, is.1)
-unflashed_for flashes.TooLarge F G x p p' go is = absurd is
-unflashed_for flashes.SourceChanged F G x p p' go is = absurd is
-unflashed_for (flashes.BadBlock n) F G x p p' go is = absurd is
-unflashed_for (flashes.LimitTooSmall n) F G x p p' go is = absurd is
-unflashed_for (flashes.Stopped n c) F G x p p' go is = absurd is
-unflashed_for (flashes.NoSuchPiece n) F G x p p' go is = absurd is
+unflashed_for : (f : FlashFault) (got : ℕ) (F G : Type 0) (x p p' : List ℕ) → (F → G) → IsUnflashed F got f x p p'
+    → IsUnflashed G got f x p p'
+unflashed_for (flashes.Sparse f) got F G x p p' go is = is
+unflashed_for (flashes.PartitionTooSmall n) got F G x p p' go is = is
+unflashed_for (flashes.Read d) got F G x p p' go is = (go is.0, is.1)
+unflashed_for (flashes.Write d) got F G x p p' go is = (go is.0, is.1)
+unflashed_for (flashes.Sync d) got F G x p p' go is = (go is.0, is.1)
+unflashed_for flashes.TooLarge got F G x p p' go is = absurd is
+unflashed_for flashes.SourceChanged got F G x p p' go is = absurd is
+unflashed_for (flashes.BadBlock n) got F G x p p' go is = absurd is
+unflashed_for (flashes.LimitTooSmall n) got F G x p p' go is = absurd is
+unflashed_for (flashes.Stopped n c) got F G x p p' go is = absurd is
+unflashed_for (flashes.NoSuchPiece n) got F G x p p' go is = absurd is
 
-unlaid_for : (f : FlashFault) (F G : Type 0) (b : ℕ) (x p p' : List ℕ) → (F → G) → IsUnlaid F f b x p p' → IsUnlaid G
-    f b x p p'
-unlaid_for (flashes.Sparse f) F G b x p p' go is = absurd is
-unlaid_for (flashes.PartitionTooSmall n) F G b x p p' go is = is
-unlaid_for (flashes.Read d) F G b x p p' go is = absurd is
-unlaid_for (flashes.Write d) F G b x p p' go is = (go is.0, is.1)
-unlaid_for (flashes.Sync d) F G b x p p' go is = (go is.0, is.1)
-unlaid_for flashes.TooLarge F G b x p p' go is = absurd is
-unlaid_for flashes.SourceChanged F G b x p p' go is = absurd is
-unlaid_for (flashes.BadBlock n) F G b x p p' go is = absurd is
-unlaid_for (flashes.LimitTooSmall n) F G b x p p' go is = absurd is
-unlaid_for (flashes.Stopped n c) F G b x p p' go is = absurd is
-unlaid_for (flashes.NoSuchPiece n) F G b x p p' go is = absurd is
+unlaid_for : (f : FlashFault) (got : ℕ) (F G : Type 0) (b : ℕ) (x p p' : List ℕ) → (F → G)
+    → IsUnlaid F got f b x p p' → IsUnlaid G got f b x p p'
+unlaid_for (flashes.Sparse f) got F G b x p p' go is = absurd is
+unlaid_for (flashes.PartitionTooSmall n) got F G b x p p' go is = is
+unlaid_for (flashes.Read d) got F G b x p p' go is = absurd is
+unlaid_for (flashes.Write d) got F G b x p p' go is = (go is.0, is.1)
+unlaid_for (flashes.Sync d) got F G b x p p' go is = (go is.0, is.1)
+unlaid_for flashes.TooLarge got F G b x p p' go is = absurd is
+unlaid_for flashes.SourceChanged got F G b x p p' go is = absurd is
+unlaid_for (flashes.BadBlock n) got F G b x p p' go is = absurd is
+unlaid_for (flashes.LimitTooSmall n) got F G b x p p' go is = absurd is
+unlaid_for (flashes.Stopped n c) got F G b x p p' go is = absurd is
+unlaid_for (flashes.NoSuchPiece n) got F G b x p p' go is = absurd is
 
-unopened_for : (f : RunFault) (F G : Type 0) (b : ℕ) (x p p' : List ℕ) → (F → G) → IsUnopened F f b x p p'
-    → IsUnopened G f b x p p'
-unopened_for (of_runs.Read d) F G b x p p' go is = (go is.0, is.1)
-unopened_for (of_runs.Sparse f) F G b x p p' go is = is
-unopened_for of_runs.TooLarge F G b x p p' go is = is
-unopened_for of_runs.SourceChanged F G b x p p' go is = is
-unopened_for (of_runs.BadBlock n) F G b x p p' go is = is
+unopened_for : (f : RunFault) (got : ℕ) (F G : Type 0) (b : ℕ) (x p p' : List ℕ) → (F → G)
+    → IsUnopened F got f b x p p' → IsUnopened G got f b x p p'
+unopened_for (of_runs.Read d) got F G b x p p' go is = (go is.0, is.1)
+unopened_for (of_runs.Sparse f) got F G b x p p' go is = is
+unopened_for of_runs.TooLarge got F G b x p p' go is = is
+unopened_for of_runs.SourceChanged got F G b x p p' go is = is
+unopened_for (of_runs.BadBlock n) got F G b x p p' go is = is
 
 not_there_raw_for : (f : VerifyFault) (F G : Type 0) (b : ℕ) (x p : List ℕ) → (F → G) → IsNotThereRaw F f b x p
     → IsNotThereRaw G f b x p
@@ -69,71 +71,75 @@ not_there_raw_for (verifies.BadBlock n) F G b x p go is = is
 
 -- ---- of a command
 
-flash_own : (untold : List ℕ → Type 0) (f : SparseCommandFault) (F : Type 0) (input path x p p' : List ℕ) (a c : World)
+flash_own : (untold : List ℕ → Type 0) (f : SparseCommandFault) (got : ℕ) (F : Type 0) (input path x p p' : List ℕ)
+    (a c : World)
     (h h' : OpenFiles)
     → h'.part ≡ None → (F → HasFailed h h')
     → ((P : List ℕ → List ℕ → List ℕ → Type 0) → P x p p' → Between input path a c P)
-    → Lays F (Err f) x p p' → RefusesFlash f input path a c h h' untold
-flash_own untold (faults.Flash f) F input path x p p' a c h h' closed go with_files lays =
-    (closed, with_files (IsUnflashed (HasFailed h h') f) (unflashed_for f F (HasFailed h h') x p p' go lays))
-flash_own untold (faults.Sparse f) F input path x p p' a c h h' closed go with_files lays = absurd lays
-flash_own untold (faults.Run f) F input path x p p' a c h h' closed go with_files lays = absurd lays
-flash_own untold (faults.Piece f) F input path x p p' a c h h' closed go with_files lays = absurd lays
-flash_own untold (faults.Verify f) F input path x p p' a c h h' closed go with_files lays = absurd lays
-flash_own untold (faults.OtherBlocks image) F input path x p p' a c h h' closed go with_files lays = absurd lays
-flash_own untold (faults.OtherCut image) F input path x p p' a c h h' closed go with_files lays = absurd lays
-flash_own untold (faults.Host f) F input path x p p' a c h h' closed go with_files lays = absurd lays
+    → Lays F got (Err f) x p p' → RefusesFlash f input path a c h h' untold
+flash_own untold (faults.Flash f) got F input path x p p' a c h h' closed go with_files lays = (
+  closed,
+  with_files (IsUnflashedThen (HasFailed h h') f) (got, unflashed_for f got F (HasFailed h h') x p p' go lays),
+)
+flash_own untold (faults.Sparse f) got F input path x p p' a c h h' closed go with_files lays = absurd lays
+flash_own untold (faults.Run f) got F input path x p p' a c h h' closed go with_files lays = absurd lays
+flash_own untold (faults.Piece f) got F input path x p p' a c h h' closed go with_files lays = absurd lays
+flash_own untold (faults.Verify f) got F input path x p p' a c h h' closed go with_files lays = absurd lays
+flash_own untold (faults.OtherBlocks image) got F input path x p p' a c h h' closed go with_files lays = absurd lays
+flash_own untold (faults.OtherCut image) got F input path x p p' a c h h' closed go with_files lays = absurd lays
+flash_own untold (faults.Host f) got F input path x p p' a c h h' closed go with_files lays = absurd lays
 
 -- the fault of the call is reported; or it had none, and closing failed
 pub refuses_flash : (untold : List ℕ → Type 0) (answer : Result ℕ SparseCommandFault) (e : SparseCommandFault)
-    (F : Type 0)
+    (got : ℕ) (F : Type 0)
     (input path x p p' : List ℕ)
     (a c : World) (h h' : OpenFiles) → IfErr answer (λ f. e ≡ f) →
     (IsOk answer → (host : HostFault) × (e ≡ faults.Host host))
     → (IsOk answer → HasFailed h h') → h'.part ≡ None → (F → HasFailed h h')
     → ((P : List ℕ → List ℕ → List ℕ → Type 0) → P x p p' → Between input path a c P)
-    → Lays F answer x p p' → RefusesFlash e input path a c h h' untold
-refuses_flash untold (Ok n) e F input path x p p' a c h h' told host unclosed closed go with_files lays =
+    → Lays F got answer x p p' → RefusesFlash e input path a c h h' untold
+refuses_flash untold (Ok n) e got F input path x p p' a c h h' told host unclosed closed go with_files lays =
     subst (λ (z : SparseCommandFault). RefusesFlash z input path a c h h' untold) (sym (host refl).1)
     (inl (unclosed refl, inr (closed, with_files IsFlashedWhole (n, lays))))
-refuses_flash untold (Err f) e F input path x p p' a c h h' told host unclosed closed go with_files lays =
+refuses_flash untold (Err f) e got F input path x p p' a c h h' told host unclosed closed go with_files lays =
     subst (λ (z : SparseCommandFault). RefusesFlash z input path a c h h' untold) (sym told)
-    (flash_own untold f F input path x p p' a c h h' closed go with_files lays)
+    (flash_own untold f got F input path x p p' a c h h' closed go with_files lays)
 
-raw_own : (untold : List ℕ → Type 0) (f : SparseCommandFault) (F : Type 0) (b : ℕ) (input path x p p' : List ℕ)
+raw_own : (untold : List ℕ → Type 0) (f : SparseCommandFault) (got : ℕ) (F : Type 0) (b : ℕ)
+    (input path x p p' : List ℕ)
     (a c : World) (h h' : OpenFiles)
     → h'.part ≡ None → (F → HasFailed h h')
     → ((P : List ℕ → List ℕ → List ℕ → Type 0) → P x p p' → Between input path a c P)
-    → LaysRaw F (Err f) b x p p' → RefusesFlashRaw f b input path a c h h' untold
-raw_own untold (faults.Flash f) F b input path x p p' a c h h' closed go with_files lays = (
+    → LaysRaw F got (Err f) b x p p' → RefusesFlashRaw f b input path a c h h' untold
+raw_own untold (faults.Flash f) got F b input path x p p' a c h h' closed go with_files lays = (
   closed,
-  with_files (IsUnflashedRaw (HasFailed h h') (faults.Flash f) b)
-      (unlaid_for f F (HasFailed h h') b x p p' go lays),
+  with_files (IsUnflashedRawThen (HasFailed h h') (faults.Flash f) b)
+      (got, unlaid_for f got F (HasFailed h h') b x p p' go lays),
 )
-raw_own untold (faults.Run f) F b input path x p p' a c h h' closed go with_files lays = (
+raw_own untold (faults.Run f) got F b input path x p p' a c h h' closed go with_files lays = (
   closed,
-  with_files (IsUnflashedRaw (HasFailed h h') (faults.Run f) b)
-      (unopened_for f F (HasFailed h h') b x p p' go lays),
+  with_files (IsUnflashedRawThen (HasFailed h h') (faults.Run f) b)
+      (got, unopened_for f got F (HasFailed h h') b x p p' go lays),
 )
-raw_own untold (faults.Sparse f) F b input path x p p' a c h h' closed go with_files lays = absurd lays
-raw_own untold (faults.Piece f) F b input path x p p' a c h h' closed go with_files lays = absurd lays
-raw_own untold (faults.Verify f) F b input path x p p' a c h h' closed go with_files lays = absurd lays
-raw_own untold (faults.OtherBlocks image) F b input path x p p' a c h h' closed go with_files lays = absurd lays
-raw_own untold (faults.OtherCut image) F b input path x p p' a c h h' closed go with_files lays = absurd lays
-raw_own untold (faults.Host f) F b input path x p p' a c h h' closed go with_files lays = absurd lays
+raw_own untold (faults.Sparse f) got F b input path x p p' a c h h' closed go with_files lays = absurd lays
+raw_own untold (faults.Piece f) got F b input path x p p' a c h h' closed go with_files lays = absurd lays
+raw_own untold (faults.Verify f) got F b input path x p p' a c h h' closed go with_files lays = absurd lays
+raw_own untold (faults.OtherBlocks image) got F b input path x p p' a c h h' closed go with_files lays = absurd lays
+raw_own untold (faults.OtherCut image) got F b input path x p p' a c h h' closed go with_files lays = absurd lays
+raw_own untold (faults.Host f) got F b input path x p p' a c h h' closed go with_files lays = absurd lays
 
 pub refuses_raw : (untold : List ℕ → Type 0) (answer : Result ℕ SparseCommandFault) (e : SparseCommandFault)
-    (F : Type 0) (b : ℕ)
+    (got : ℕ) (F : Type 0) (b : ℕ)
     (input path x p p' : List ℕ) (a c : World) (h h' : OpenFiles) → IfErr answer (λ f. e ≡ f)
     → (IsOk answer → (host : HostFault) × (e ≡ faults.Host host)) → (IsOk answer → HasFailed h h') → h'.part ≡ None
     → (F → HasFailed h h') → ((P : List ℕ → List ℕ → List ℕ → Type 0) → P x p p' → Between input path a c P)
-    → LaysRaw F answer b x p p' → RefusesFlashRaw e b input path a c h h' untold
-refuses_raw untold (Ok n) e F b input path x p p' a c h h' told host unclosed closed go with_files lays =
+    → LaysRaw F got answer b x p p' → RefusesFlashRaw e b input path a c h h' untold
+refuses_raw untold (Ok n) e got F b input path x p p' a c h h' told host unclosed closed go with_files lays =
     subst (λ (z : SparseCommandFault). RefusesFlashRaw z b input path a c h h' untold) (sym (host refl).1)
     (inl (unclosed refl, inr (closed, with_files (IsFlashedWholeRaw b) (n, lays))))
-refuses_raw untold (Err f) e F b input path x p p' a c h h' told host unclosed closed go with_files lays =
+refuses_raw untold (Err f) e got F b input path x p p' a c h h' told host unclosed closed go with_files lays =
     subst (λ (z : SparseCommandFault). RefusesFlashRaw z b input path a c h h' untold) (sym told)
-    (raw_own untold f F b input path x p p' a c h h' closed go with_files lays)
+    (raw_own untold f got F b input path x p p' a c h h' closed go with_files lays)
 
 pub refuses_verify_raw : (untold : List ℕ → Type 0) (f : SparseCommandFault) (F : Type 0) (b : ℕ)
     (input path x p : List ℕ) (a : World)
@@ -194,13 +200,13 @@ raw_untold untold e host b input path a c h h' is closed done =
 
 -- ---- what was returned holds
 
-pub is_flashed : (answer : Result ℕ SparseCommandFault) (n : ℕ) (F : Type 0) (x p p' : List ℕ) → answer ≡ Ok n
-    → Lays F answer x p p' → IsFlashed n x p p'
-is_flashed answer n F x p p' is lays = subst (λ r. Lays F r x p p') is lays
+pub is_flashed : (answer : Result ℕ SparseCommandFault) (n got : ℕ) (F : Type 0) (x p p' : List ℕ) → answer ≡ Ok n
+    → Lays F got answer x p p' → IsFlashed n x p p'
+is_flashed answer n got F x p p' is lays = subst (λ r. Lays F got r x p p') is lays
 
-pub is_flashed_raw : (answer : Result ℕ SparseCommandFault) (n b : ℕ) (F : Type 0) (x p p' : List ℕ) → answer ≡ Ok n
-    → LaysRaw F answer b x p p' → IsFlashedRaw n b x p p'
-is_flashed_raw answer n b F x p p' is lays = subst (λ r. LaysRaw F r b x p p') is lays
+pub is_flashed_raw : (answer : Result ℕ SparseCommandFault) (n b got : ℕ) (F : Type 0) (x p p' : List ℕ)
+    → answer ≡ Ok n → LaysRaw F got answer b x p p' → IsFlashedRaw n b x p p'
+is_flashed_raw answer n b got F x p p' is lays = subst (λ r. LaysRaw F got r b x p p') is lays
 
 pub on_ok : (answer : Result ℕ SparseCommandFault) (n : ℕ) (P : Type 0) → answer ≡ Ok n → OnOk answer P → P
 on_ok answer n P is so = subst (λ r. OnOk r P) is so

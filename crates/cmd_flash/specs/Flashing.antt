@@ -1,6 +1,6 @@
 -- What the command `flash` of a sparse image leaves of files, and what it prints.
-use Rattle.std.specs.Prelude.{◌≡◌, ℕ, ◌+◌, ◌*◌, ◌≤◌, ◌<◌, ◌⊎◌, List, [], ◌∷◌, ◌++◌, length, Option, Result, Ok, Err}
-use Rattle.std.specs.Prelude.{IsTrue, OnOk}
+use Rattle.std.specs.Prelude.{◌≡◌, ℕ, ◌+◌, ◌*◌, ◌≤◌, ◌<◌, ◌⊎◌, List, [], ◌∷◌, ◌++◌, length, take, Option}
+use Rattle.std.specs.Prelude.{Result, Ok, Err, IsTrue, OnOk}
 use Rattle.abt_io.specs.declared.device.Source as sources
 use Rattle.abt_io.specs.declared.device.Partition as partitions
 use Rattle.abt_sparse.specs.declared.fault.SparseFault.{SparseFault}
@@ -9,7 +9,8 @@ use Rattle.abt_sparse.specs.Fails.{Fails, Spells, SpellsHeader}
 use Rattle.abt_sparse.specs.Pieces.{flashed, given}
 use Rattle.abt_sparse.specs.Reading.{outcome}
 use Rattle.abt_pieces.specs.Contents.{written_in}
-use Rattle.abt_flash.specs.Laying.{IsFrontLaid, writes}
+use Rattle.abt_flash.specs.Flashing.{IsLaidSoFar}
+use Rattle.abt_flash.specs.Laying.{writes}
 use Rattle.abt_flash_faults.specs.declared.fault.FlashFault.{FlashFault}
 use Rattle.abt_flash_faults.specs.declared.fault.FlashFault.TheVariants as flashes
 use Rattle.sys_disk.specs.World.{World, OpenFiles, HasFailed}
@@ -46,26 +47,31 @@ pub record HasNoRoom (need : ℕ) (x p p' : List ℕ) : Type 0 where
   pub short : length p < need
   pub kept : p' ≡ p
 
--- p' equals p wherever x writes nothing; x is an image, or what comes before its fault. A front of what x writes is
--- there, and p' equals p behind it, save for up to this many bytes.
-pub record IsFlashedInPart (torn : ℕ) (x p p' : List ℕ) : Type 0 where
-  pub others : HoldsBut (writes (given (outcome x))) p p'
-  pub front : IsFrontLaid torn 0 (given (outcome x)) p p'
+-- `got` bytes of x were read: an image, or what comes before its fault, or the beginning of these. p' equals p wherever
+-- they write nothing. What they write is there, but for less than a window at its end, and p' equals p behind it, save
+-- for up to this many bytes.
+pub record IsFlashedInPart (torn got : ℕ) (x p p' : List ℕ) : Type 0 where
+  pub others : HoldsBut (writes (given (outcome (take got x)))) p p'
+  pub front : IsLaidSoFar torn got x p p'
 
 -- it is flashed, as this many blocks
 abbrev pub IsFlashedWhole : List ℕ → List ℕ → List ℕ → Type 0
 IsFlashedWhole x p p' = (blocks : ℕ) × IsFlashed blocks x p p'
 
--- Why it is not flashed: the first fault of x, no room, or the fault of a device where one has failed. After a failed
--- sync everything is written, and after a failed read or write a front of it; a write may have left up to a window of
--- anything behind that.
-abbrev pub IsUnflashed : Type 0 → FlashFault → List ℕ → List ℕ → List ℕ → Type 0
-IsUnflashed failed (flashes.Sparse f) x p p' = IsFlashedUpTo f x p p'
-IsUnflashed failed (flashes.PartitionTooSmall need) x p p' = HasNoRoom need x p p'
-IsUnflashed failed (flashes.Read d) x p p' = failed × IsFlashedInPart 0 x p p'
-IsUnflashed failed (flashes.Write d) x p p' = failed × IsFlashedInPart 65536 x p p'
-IsUnflashed failed (flashes.Sync d) x p p' = failed × IsFlashedWhole x p p'
-IsUnflashed failed f x p p' = ⊥
+-- Why it is not flashed, where so many bytes of x were read: the first fault of x, no room, or the fault of a device
+-- where one has failed. After a failed sync everything is written. After a failed read or write what was read is; a
+-- write may have left up to a window of anything behind that.
+abbrev pub IsUnflashed : Type 0 → ℕ → FlashFault → List ℕ → List ℕ → List ℕ → Type 0
+IsUnflashed failed got (flashes.Sparse f) x p p' = IsFlashedUpTo f x p p'
+IsUnflashed failed got (flashes.PartitionTooSmall need) x p p' = HasNoRoom need x p p'
+IsUnflashed failed got (flashes.Read d) x p p' = failed × IsFlashedInPart 0 got x p p'
+IsUnflashed failed got (flashes.Write d) x p p' = failed × IsFlashedInPart 65536 got x p p'
+IsUnflashed failed got (flashes.Sync d) x p p' = failed × IsFlashedWhole x p p'
+IsUnflashed failed got f x p p' = ⊥
+
+-- the same, whatever number of bytes was read
+abbrev pub IsUnflashedThen : Type 0 → FlashFault → List ℕ → List ℕ → List ℕ → Type 0
+IsUnflashedThen failed f x p p' = (got : ℕ) × IsUnflashed failed got f x p p'
 
 -- the partition keeps its length; after an Ok it was synced once, after its last byte
 pub record SyncsOnce {X F : Type 0} (r : Result X F) {C : Type 0} (s : sources.Ghosts C) (p : partitions.Ghosts C)
@@ -94,14 +100,14 @@ FlashesUntold input partition old new held held' untold =
 abbrev pub RefusesFlash : SparseCommandFault → List ℕ → List ℕ → World → World → OpenFiles → OpenFiles
     → (List ℕ → Type 0) → Type 0
 RefusesFlash (faults.Flash f) input partition old new held held' untold =
-    OnClosed held' (Between input partition old new (IsUnflashed (HasFailed held held') f))
+    OnClosed held' (Between input partition old new (IsUnflashedThen (HasFailed held held') f))
 RefusesFlash (faults.Host f) input partition old new held held' untold =
     FailsAround partition old new held held' (Between input partition old new IsFlashedWhole)
     ⊎ FlashesUntold input partition old new held held' untold
 RefusesFlash f input partition old new held held' untold = ⊥
 
--- what the call returns of x, over a partition that held p and then holds p'
-abbrev pub Lays : Type 0 → Result ℕ SparseCommandFault → List ℕ → List ℕ → List ℕ → Type 0
-Lays failed (Ok n) x p p' = IsFlashed n x p p'
-Lays failed (Err (faults.Flash f)) x p p' = IsUnflashed failed f x p p'
-Lays failed (Err f) x p p' = ⊥
+-- what the call returns of x, of which it read so many bytes, over a partition that held p and then holds p'
+abbrev pub Lays : Type 0 → ℕ → Result ℕ SparseCommandFault → List ℕ → List ℕ → List ℕ → Type 0
+Lays failed got (Ok n) x p p' = IsFlashed n x p p'
+Lays failed got (Err (faults.Flash f)) x p p' = IsUnflashed failed got f x p p'
+Lays failed got (Err f) x p p' = ⊥

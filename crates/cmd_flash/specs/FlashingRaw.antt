@@ -37,33 +37,40 @@ pub record HasNoRoomRaw (need b : ℕ) (x p p' : List ℕ) : Type 0 where
 abbrev pub IsFlashedWholeRaw : ℕ → List ℕ → List ℕ → List ℕ → Type 0
 IsFlashedWholeRaw b x p p' = (blocks : ℕ) × IsFlashedRaw blocks b x p p'
 
--- p' is p whose beginning is overwritten by the first bytes of x, except for this many bytes after these
-pub record IsLaidInPart (torn : ℕ) (x p p' : List ℕ) : Type 0 where
+-- p' is p whose beginning is overwritten by the first bytes of x, except for this many bytes after these. They are the
+-- `got` bytes of x that were read, or these without a window that was being written.
+pub record IsLaidInPart (torn got : ℕ) (x p p' : List ℕ) : Type 0 where
   pub laid : ℕ
   pub within : laid ≤ length x
+  pub most : laid ≤ got
+  pub least : got ≤ laid + torn
   pub holds : HoldsBut (in_range laid torn) (put_at p 0 (take laid x)) p'
 
 -- it has no such blocks, or too many, and nothing was written; or it could not be read
-abbrev pub IsUnopened : Type 0 → RunFault → ℕ → List ℕ → List ℕ → List ℕ → Type 0
-IsUnopened failed (of_runs.Read d) b x p p' = failed × IsLaidInPart 0 x p p'
-IsUnopened failed f b x p p' = RefusedRaw f b (length x) × (p' ≡ p)
+abbrev pub IsUnopened : Type 0 → ℕ → RunFault → ℕ → List ℕ → List ℕ → List ℕ → Type 0
+IsUnopened failed got (of_runs.Read d) b x p p' = failed × IsLaidInPart 0 got x p p'
+IsUnopened failed got f b x p p' = RefusedRaw f b (length x) × (p' ≡ p)
 
 -- There is no room, or a device has failed: writing a window, or syncing all.
-abbrev pub IsUnlaid : Type 0 → FlashFault → ℕ → List ℕ → List ℕ → List ℕ → Type 0
-IsUnlaid failed (flashes.PartitionTooSmall need) b x p p' = HasNoRoomRaw need b x p p'
-IsUnlaid failed (flashes.Write d) b x p p' = failed × IsLaidInPart 65536 x p p'
-IsUnlaid failed (flashes.Sync d) b x p p' = failed × IsFlashedWholeRaw b x p p'
-IsUnlaid failed f b x p p' = ⊥
+abbrev pub IsUnlaid : Type 0 → ℕ → FlashFault → ℕ → List ℕ → List ℕ → List ℕ → Type 0
+IsUnlaid failed got (flashes.PartitionTooSmall need) b x p p' = HasNoRoomRaw need b x p p'
+IsUnlaid failed got (flashes.Write d) b x p p' = failed × IsLaidInPart 65536 got x p p'
+IsUnlaid failed got (flashes.Sync d) b x p p' = failed × IsFlashedWholeRaw b x p p'
+IsUnlaid failed got f b x p p' = ⊥
 
--- what the call returns of x, over a partition that held p and then holds p'
-abbrev pub IsUnflashedRaw : Type 0 → SparseCommandFault → ℕ → List ℕ → List ℕ → List ℕ → Type 0
-IsUnflashedRaw failed (faults.Run f) b x p p' = IsUnopened failed f b x p p'
-IsUnflashedRaw failed (faults.Flash f) b x p p' = IsUnlaid failed f b x p p'
-IsUnflashedRaw failed f b x p p' = ⊥
+-- what the call returns of x, of which it read so many bytes, over a partition that held p and then holds p'
+abbrev pub IsUnflashedRaw : Type 0 → ℕ → SparseCommandFault → ℕ → List ℕ → List ℕ → List ℕ → Type 0
+IsUnflashedRaw failed got (faults.Run f) b x p p' = IsUnopened failed got f b x p p'
+IsUnflashedRaw failed got (faults.Flash f) b x p p' = IsUnlaid failed got f b x p p'
+IsUnflashedRaw failed got f b x p p' = ⊥
 
-abbrev pub LaysRaw : Type 0 → Result ℕ SparseCommandFault → ℕ → List ℕ → List ℕ → List ℕ → Type 0
-LaysRaw failed (Ok n) b x p p' = IsFlashedRaw n b x p p'
-LaysRaw failed (Err f) b x p p' = IsUnflashedRaw failed f b x p p'
+abbrev pub LaysRaw : Type 0 → ℕ → Result ℕ SparseCommandFault → ℕ → List ℕ → List ℕ → List ℕ → Type 0
+LaysRaw failed got (Ok n) b x p p' = IsFlashedRaw n b x p p'
+LaysRaw failed got (Err f) b x p p' = IsUnflashedRaw failed got f b x p p'
+
+-- why it is not flashed, whatever number of bytes was read
+abbrev pub IsUnflashedRawThen : Type 0 → SparseCommandFault → ℕ → List ℕ → List ℕ → List ℕ → Type 0
+IsUnflashedRawThen failed f b x p p' = (got : ℕ) × IsUnflashedRaw failed got f b x p p'
 
 -- ---- of files
 
@@ -88,4 +95,4 @@ RefusesFlashRaw (faults.Host f) size input partition old new held held' untold =
     FailsAround partition old new held held' (Between input partition old new (IsFlashedWholeRaw size))
     ⊎ FlashesRawUntold size input partition old new held held' untold
 RefusesFlashRaw f size input partition old new held held' untold =
-    OnClosed held' (Between input partition old new (IsUnflashedRaw (HasFailed held held') f size))
+    OnClosed held' (Between input partition old new (IsUnflashedRawThen (HasFailed held held') f size))

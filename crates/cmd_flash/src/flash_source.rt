@@ -25,7 +25,7 @@ pub(crate) fn lay_filled<S: Source, P: Partition>(
     ensures laid { IsTrue S.models → IsTrue P.models → OnOk result (P.content onto.new
         ≡ put_at (P.content onto.old) 0 (filled_to need (S.content source.old))) }
     ensures broken { IsTrue S.models → IsTrue P.models → IfErr result (λ fault. IsLaidInPart (torn_by fault)
-        (S.content source.old) (P.content onto.old) (P.content onto.new)) }
+        (S.given source.new - S.given source.old) (S.content source.old) (P.content onto.old) (P.content onto.new)) }
     ensures moves { OnOk result (MovesOnce S.Source P.Partition.own (S.size source.old) need source.old source.new
         onto.old onto.new) }
     ensures lays { OnlyLays result S.Source P.Source P.Partition.own source.old source.new onto.old onto.new }
@@ -53,7 +53,7 @@ fn lay_source<S: Source, P: Partition>(
     ensures laid { IsTrue S.models → IsTrue P.models → OnOk result (P.content onto.new
         ≡ put_at (P.content onto.old) 0 (S.content source.old)) }
     ensures broken { IsTrue S.models → IsTrue P.models → IfErr result (λ fault. IsLaidInPart (torn_by fault)
-        (S.content source.old) (P.content onto.old) (P.content onto.new)) }
+        (S.given source.new - S.given source.old) (S.content source.old) (P.content onto.old) (P.content onto.new)) }
     ensures moves { OnOk result (MovesOnce S.Source P.Partition.own held held source.old source.new onto.old
         onto.new) }
     ensures lays { OnlyLays result S.Source P.Source P.Partition.own source.old source.new onto.old onto.new }
@@ -90,6 +90,9 @@ fn lay_step<S: Source, P: Partition>(
     ensures torn { IsTrue P.models → IfErr result (λ fault. HoldsBut (in_range at (torn_by fault)) (P.content onto.old)
         (P.content onto.new)) }
     ensures content { IsTrue S.models → S.content source.new ≡ S.content source.old }
+    // where it fails, no more was read than what was being written
+    ensures few { IfErr result (λ fault. (S.given source.old ≤ S.given source.new) ×
+        (S.given source.new ≤ S.given source.old + torn_by fault)) }
     ensures moves { IfOk result (λ got. MovesOnce S.Source P.Partition.own got got source.old source.new onto.old
         onto.new) }
     ensures lays { OnlyLays result S.Source P.Source P.Partition.own source.old source.new onto.old onto.new }

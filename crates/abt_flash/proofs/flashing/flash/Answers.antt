@@ -17,6 +17,9 @@ use Rattle.abt_flash.proofs.flashing.flash.Goals as goal
 use Rattle.abt_flash.proofs.Still.{unread_then}
 use Rattle.abt_chunks.specs.ListingAhead.{idle}
 
+window_of : (a b : ℕ) → b ≤ a + 65536 → b - a ≤ 65536
+window_of a b le = omega (arith, le)
+
 pub steps-init : goal.steps-init
 steps-init g c =
     let zero : g.I.Input.given c.args.input.now - g.I.Input.given c.args.input.now ≡ 0 = omega arith in
@@ -97,7 +100,7 @@ steps-preserved g c =
           _ _ _ _ _ _ _ _ _ _ _ (i.rest models) (let q : j ≡ k + n = omega arith in q) i.synced (i.told models)
           (rw c.in-Ok-More.field-0-is at (m.stepped.told models)) (m.stepped.laid i.goes) (rest models)
           (rw c.in-Ok-More.field-0-is at (m.stepped.heads models i.goes))
-          begins measures going quiet;
+          begins measures going quiet (e.stepped.read.present models) (window_of _ _ e.stepped.read.asked);
       fresh = λ f. let q = fresh f in q.1 ∙ i.fresh q.0;
       measured = λ b some. need_stays c.steps.machine.walk c.step.new.self.walk _ going (begins some)
           (rw c.in-Ok-More.field-0-is at m.stepped.goes_on.header) (measures (begins some));
@@ -129,7 +132,8 @@ returns-in-Ok-Done-clause-touches g c models partition =
     (g.I.Input.remaining c.steps.input) (g.I.Input.remaining c.step.new.input) k n j
     (g.P.Source.size c.args.partition.now)
     _ _ _ _ _ _ _ _ _ _ c.step.result (i.rest models) same i.synced (i.told models)
-    (e.stepped.told models) c.step.new.self.laid rest (e.stepped.laid i.goes)) in
+    (e.stepped.told models) c.step.new.self.laid
+    (e.stepped.read.present models) (window_of _ _ e.stepped.read.asked) rest (e.stepped.laid i.goes)) in
     record {
       kept = ends_kept _ _ _ _ _ _ _ _ _ _ _ _ _ ended partition;
       moments = ends_moments _ _ _ _ _ _ _ _ _ _ _ _ _ ended partition;
@@ -151,7 +155,8 @@ returns-in-Ok-Done-clause-seen g c models =
     (g.I.Input.remaining c.steps.input) (g.I.Input.remaining c.step.new.input) k n j
     (g.P.Source.size c.args.partition.now)
     _ _ _ _ _ _ _ _ _ _ c.step.result (i.rest models) same i.synced (i.told models)
-    (e.stepped.told models) c.step.new.self.laid rest (e.stepped.laid i.goes))
+    (e.stepped.told models) c.step.new.self.laid
+    (e.stepped.read.present models) (window_of _ _ e.stepped.read.asked) rest (e.stepped.laid i.goes))
 
 pub returns-in-Err-clause-touches : goal.returns-in-Err-clause-touches
 returns-in-Err-clause-touches g c models partition =
@@ -168,7 +173,8 @@ returns-in-Err-clause-touches g c models partition =
     (g.I.Input.remaining c.steps.input) (g.I.Input.remaining c.step.new.input) k n j
     (g.P.Source.size c.args.partition.now)
     _ _ _ _ _ _ _ _ _ _ c.step.result (i.rest models) same i.synced (i.told models)
-    (e.stepped.told models) c.step.new.self.laid rest (e.stepped.laid i.goes)) in
+    (e.stepped.told models) c.step.new.self.laid
+    (e.stepped.read.present models) (window_of _ _ e.stepped.read.asked) rest (e.stepped.laid i.goes)) in
     record {
       kept = ends_kept _ _ _ _ _ _ _ _ _ _ _ _ _ ended partition;
       moments = ends_moments _ _ _ _ _ _ _ _ _ _ _ _ _ ended partition;
@@ -190,7 +196,8 @@ returns-in-Err-clause-seen g c models =
     (g.I.Input.remaining c.steps.input) (g.I.Input.remaining c.step.new.input) k n j
     (g.P.Source.size c.args.partition.now)
     _ _ _ _ _ _ _ _ _ _ c.step.result (i.rest models) same i.synced (i.told models)
-    (e.stepped.told models) c.step.new.self.laid rest (e.stepped.laid i.goes))
+    (e.stepped.told models) c.step.new.self.laid
+    (e.stepped.read.present models) (window_of _ _ e.stepped.read.asked) rest (e.stepped.laid i.goes))
 
 pub returns-in-Ok-Done-clause-flashes : goal.returns-in-Ok-Done-clause-flashes
 returns-in-Ok-Done-clause-flashes g c models =
@@ -211,7 +218,8 @@ returns-in-Ok-Done-clause-flashes g c models =
     (g.I.Input.remaining c.steps.input) (g.I.Input.remaining c.step.new.input) k n j
     (g.P.Source.size c.args.partition.now)
     _ _ _ _ _ _ _ _ _ _ (Ok Done) (i.rest models) same i.synced (i.told models)
-    (rw c.in-Ok-Done.field-0-is at (c.in-Ok-Done.ensures.stepped.told models)) c.step.new.self.laid rest
+    (rw c.in-Ok-Done.field-0-is at (c.in-Ok-Done.ensures.stepped.told models)) c.step.new.self.laid
+    (e.stepped.read.present models) (window_of _ _ e.stepped.read.asked) rest
     (c.in-Ok-Done.ensures.stepped.laid i.goes)) ended _ _ (g.met.I.Input.are_bytes c.args.input.now models)
     (known_head _ _ _ _ _ _ _ _ _ _ _ _ (i.told models) going measures.0) measures.1 c.blocks-in-Ok-Done.ensures
 
@@ -232,7 +240,8 @@ returns-in-Ok-Done-clause-holds g c models t =
     (g.I.Input.remaining c.steps.input) (g.I.Input.remaining c.step.new.input) k n j
     (g.P.Source.size c.args.partition.now)
     _ _ _ _ _ _ _ _ _ _ (Ok Done) (i.rest models) same i.synced (i.told models)
-    (rw c.in-Ok-Done.field-0-is at (c.in-Ok-Done.ensures.stepped.told models)) c.step.new.self.laid rest
+    (rw c.in-Ok-Done.field-0-is at (c.in-Ok-Done.ensures.stepped.told models)) c.step.new.self.laid
+    (e.stepped.read.present models) (window_of _ _ e.stepped.read.asked) rest
     (c.in-Ok-Done.ensures.stepped.laid i.goes)) ended t
 
 pub returns-in-Err-clause-flashes : goal.returns-in-Err-clause-flashes
@@ -254,7 +263,8 @@ returns-in-Err-clause-flashes g c models =
     (g.I.Input.remaining c.steps.input) (g.I.Input.remaining c.step.new.input) k n j
     (g.P.Source.size c.args.partition.now)
     _ _ _ _ _ _ _ _ _ _ (Err c.in-Err.fault) (i.rest models) same i.synced (i.told models)
-    (m.stepped.told models) c.step.new.self.laid rest tt)
+    (m.stepped.told models) c.step.new.self.laid
+    (e.stepped.read.present models) (window_of _ _ e.stepped.read.asked) rest tt)
     (m.stepped.leaves i.goes) (m.stepped.heads models i.goes) (rw i.unread.size at (m.stepped.measures i.goes))
     (short_same c.in-Err.fault _ _ (λ q. ap g.P.Partition.taken q) m.stepped.short)
 
@@ -277,7 +287,8 @@ returns-in-Err-clause-holds g c models t =
     (g.I.Input.remaining c.steps.input) (g.I.Input.remaining c.step.new.input) k n j
     (g.P.Source.size c.args.partition.now)
     _ _ _ _ _ _ _ _ _ _ (Err c.in-Err.fault) (i.rest models) same i.synced (i.told models)
-    (m.stepped.told models) c.step.new.self.laid rest tt)
+    (m.stepped.told models) c.step.new.self.laid
+    (e.stepped.read.present models) (window_of _ _ e.stepped.read.asked) rest tt)
     (m.stepped.leaves i.goes) (rw i.unread.size at (m.stepped.measures i.goes))
     (short_same c.in-Err.fault _ _ (λ q. ap g.P.Source.content q) m.stepped.short) t
 

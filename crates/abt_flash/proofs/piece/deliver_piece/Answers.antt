@@ -345,7 +345,7 @@ returns-in-Err-flash-clause-partition g c = record {
   laid = λ models spool partition.
       let s = (goal.at.returns-in-Err-flash-clause-partition g c).In-Ok-write_piece in
       rw (c.not_flashed.ensures)
-      (laid_stops c.in-Err-flash.fault _ _ _ _ (c.in-Err-flash.ensures.holds spool partition)
+      (laid_stops c.in-Err-flash.fault _ _ _ _ _ (c.in-Err-flash.ensures.holds spool partition)
       (ap (λ (x : List ℕ). given (outcome x)) (comes g s models spool) ∙ given_reads _ _ _ _ (reads g s models)));
   touches = λ models spool partition.
       rw (touches g ((goal.at.returns-in-Err-flash-clause-partition g c).In-Ok-write_piece) models spool) at

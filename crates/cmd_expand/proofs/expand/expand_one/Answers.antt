@@ -64,7 +64,7 @@ returns-in-Err-clause-refused g c = λ t.
     refuses _ _ _ _ _ _ (g.D.Disk.held c.args.disk.now) _ (g.D.Disk.held c.ended.new.disk) _ _ c.expanded-answer.result
     c.in-Err.refusal.fault _ (g.D.From.Input.read_faults c.expanded-answer.new.from.device) _
     (g.D.Onto.Output.write_faults c.expanded-answer.new.onto) (c.in-Err.ensures.closed t).more
-    (c.expanded-answer.ensures.begun (g.met.D.Disk.told t)).0 (c.in_ok-from.ensures.opened t)
+    _ (c.in_ok-from.ensures.opened t)
     (c.in_ok-from.ensures.clean t) (c.in_ok-onto.ensures.clean t)
     (failed_behind _ _ _ _ _ _ _ _ _ _ _ (g.D.From.Input.read_faults c.expanded-answer.new.from.device)
     ((c.in-Err.ensures.closed t).more + (g.D.Onto.Output.write_faults c.expanded-answer.new.onto)) false
@@ -73,7 +73,7 @@ returns-in-Err-clause-refused g c = λ t.
     (λ ok. (c.in-Err.ensures.closed t).cause ok refl)
     (c.expanded-answer.ensures.says (g.met.D.Disk.told t)) c.expanded-answer.ensures.blames
     c.in-Err.ensures.host c.in-Err.ensures.told c.in_ok-onto.ensures.empty
-    (c.expanded-answer.ensures.begun (g.met.D.Disk.told t)).1
+    (c.expanded-answer.ensures.begun (g.met.D.Disk.told t))
     (λ none. holds_left _ _ _ _ _ _ _ (c.in_ok-onto.ensures.created t) (ends_behind _ _ _ _ _ _ _
     (c.let_go.ensures.held t) (c.let_go.ensures.world t) ((c.in-Err.ensures.closed t).left none)))
 

@@ -8,7 +8,7 @@ returns-in-Err-clause-blames g c =
     c.in-Err.ensures.blame.clean
 
 pub returns-in-Ok-clause-begun : goal.returns-in-Ok-clause-begun
-returns-in-Ok-clause-begun g c = λ t. (_, c.expand.ensures.begun t)
+returns-in-Ok-clause-begun g c = λ t. record { begun = c.expand.ensures.begun t; least = c.expand.ensures.least t }
 
 pub returns-in-Err-clause-begun : goal.returns-in-Err-clause-begun
-returns-in-Err-clause-begun g c = λ t. (_, c.expand.ensures.begun t)
+returns-in-Err-clause-begun g c = λ t. record { begun = c.expand.ensures.begun t; least = c.expand.ensures.least t }

@@ -1,4 +1,4 @@
-use Rattle.std.proofs.Common.{sym, subst}
+use Rattle.std.proofs.Common.{◌-◌, sym, subst}
 use Rattle.abt_flash.specs.Flashing.{Holds}
 use Rattle.cmd_expand.specs.Overlaying.{IsImageOf}
 use Rattle.cmd_expand.proofs.Lays.{answer_blames, at_front, synced_if}
@@ -6,7 +6,9 @@ use Rattle.cmd_expand.proofs.overlay_loop.flash_one.Goals as goal
 
 pub returns-clause-holds : goal.returns-clause-holds
 returns-clause-holds g c = λ t u.
-    subst (λ x. Holds c.flash.result (g.P.Source.content c.args.onto.now) (g.P.Source.content c.flash.new.partition) x)
+    subst (λ x. Holds c.flash.result (g.S.Source.given c.flash.new.input.device.source
+    - g.S.Source.given c.args.from.now.device.source)
+    (g.P.Source.content c.args.onto.now) (g.P.Source.content c.flash.new.partition) x)
     (at_front c.args.from.now.device.position (g.S.Source.content c.args.from.now.device.source) c.requires.first)
     (c.flash.ensures.holds t u)
 

@@ -8,7 +8,7 @@ use Rattle.cmd_expand.proofs.overlay_loop.lay_one.Goals as goal
 
 pub returns-in-Ok-clause-laid : goal.returns-in-Ok-clause-laid
 returns-in-Ok-clause-laid g c = λ t.
-    done_holds c.flash_one-answer.result c.in-Ok.field-0 _ _ _ c.in-Ok.ensures.done
+    done_holds c.flash_one-answer.result c.in-Ok.field-0 _ _ _ _ c.in-Ok.ensures.done
     (c.flash_one-answer.ensures.holds (g.met.D.Disk.source_told t) (g.met.D.Disk.part_told t))
     ∙ ap (flashed (g.D.InPlace.Source.content c.args.onto.now))
     (ap g.D.At.Source.content c.new.ensures.source ∙ c.forget.ensures.content (g.met.D.Disk.source_told t))
@@ -43,7 +43,7 @@ returns-in-Err-clause-broken g c = λ t.
     let told = g.met.D.Disk.source_told t in
     let content : g.D.At.Source.content c.new.result.source ≡ g.D.At.Source.content c.args.one.source
     = ap g.D.At.Source.content c.new.ensures.source ∙ c.forget.ensures.content told in
-    breaks_at c.flash_one-answer.result c.in-Err.fault c.refuse.result.fault _ _ _ _
+    breaks_at c.flash_one-answer.result c.in-Err.fault c.refuse.result.fault _ _ _ _ _
     (sym (c.in-Err.ensures.whole (c.shorter.ensures told))) c.refuse.ensures content
     (c.flash_one-answer.ensures.holds told (g.met.D.Disk.part_told t))
 

@@ -52,7 +52,7 @@ returns-in-Err-clause-refused g c = λ t.
     (c.in_ok-from.ensures.opened t) (c.in_ok-from.ensures.world t)
     (c.in_ok-onto.ensures.opened t) (c.in_ok-onto.ensures.world t) (c.let_go.ensures.held t) (c.let_go.ensures.world t)
     (c.closed.ensures.ended t) (c.closed.ensures.paths t) (c.in-Err.ensures.closed t) in
-    refuses_flash _ c.flashed-answer.result c.in-Err.refusal.fault _ _ _ _ _ _ _ _ _ _ c.in-Err.ensures.told
+    refuses_flash _ c.flashed-answer.result c.in-Err.refusal.fault _ _ _ _ _ _ _ _ _ _ _ c.in-Err.ensures.told
     c.in-Err.ensures.host (λ ok. ran_unclosed _ _ _ _ _ _ _ _ _ _ _ _ all ((c.in-Err.ensures.closed t).cause ok refl))
     all.closed
     (ran_failed _ _ _ _ _ _ _ _ _ _ _ _ _ _ _ all (c.in_ok-from.ensures.clean t) (c.in_ok-onto.ensures.clean t))
@@ -69,7 +69,8 @@ returns-clause-done g c = λ t.
     (c.closed.ensures.ended t) (c.closed.ensures.paths t) (c.in-Ok.ensures.closed t) in
     record {
       blocks = c.in-Ok.end.0;
-      flashed = all.with_files (IsFlashed c.in-Ok.end.0) (is_flashed c.flashed-answer.result c.in-Ok.end.0 _ _ _ _ done
+      flashed = all.with_files (IsFlashed c.in-Ok.end.0)
+          (is_flashed c.flashed-answer.result c.in-Ok.end.0 _ _ _ _ _ done
           (f.lays (g.met.D.Disk.told t) (g.met.D.Disk.part_told t)));
       synced = all.synced (settled_once (g.D.InPlace.Partition.past c.in_ok-onto.onto)
           (g.D.InPlace.Partition.past c.flashed-answer.new.onto) (c.in_ok-onto.ensures.past t)
@@ -90,7 +91,8 @@ returns-in_err-line_beside-clause-refused g c = λ t.
     handed_on c.from_residual-in_err-line_beside.result _ _
     (λ r made. flash_untold _ r.fault _ _ _ _ _ _ _ made all.closed (record {
       blocks = c.in-Ok.end.0;
-      flashed = all.with_files (IsFlashed c.in-Ok.end.0) (is_flashed c.flashed-answer.result c.in-Ok.end.0 _ _ _ _ done
+      flashed = all.with_files (IsFlashed c.in-Ok.end.0)
+          (is_flashed c.flashed-answer.result c.in-Ok.end.0 _ _ _ _ _ done
           (f.lays (g.met.D.Disk.told t) (g.met.D.Disk.part_told t)));
       synced = all.synced (settled_once (g.D.InPlace.Partition.past c.in_ok-onto.onto)
           (g.D.InPlace.Partition.past c.flashed-answer.new.onto) (c.in_ok-onto.ensures.past t)

@@ -12,6 +12,7 @@ returns-in-Ok-clause-clean g c =
 pub returns-in-Err-clause-lays : goal.returns-in-Err-clause-lays
 returns-in-Err-clause-lays g c = λ t u.
     let e = c.in-Err.ensures in
-    let kept = (e.touches t u).kept in
-    unflashed c.in-Err.fault _ _ _ _ _ _ _ _ _ _ _ (g.met.P.Source.sized c.args.onto.now u) (e.flashes t) (e.holds t u)
+    let kept = e.seen t u in
+    unflashed c.in-Err.fault _ _ _ _ _ _ _ _ _ _ _ _ (g.met.P.Source.sized c.args.onto.now u) (e.flashes t)
+    (e.holds t u)
     (record { long = kept.size; kept = kept.bytes }) e.cause

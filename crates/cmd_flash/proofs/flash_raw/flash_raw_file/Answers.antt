@@ -57,7 +57,7 @@ returns-in-Err-clause-refused g c = λ t.
     (c.in_ok-onto.ensures.opened t) (c.in_ok-onto.ensures.world t) (c.let_go_source.ensures.held t)
     (c.let_go_source.ensures.world t)
     (c.closed.ensures.ended t) (c.closed.ensures.paths t) (c.in-Err.ensures.closed t) in
-    refuses_raw _ c.flash_blocks-answer.result c.in-Err.refusal.fault _ c.args.size _ _ _ _ _ _ _ _ _
+    refuses_raw _ c.flash_blocks-answer.result c.in-Err.refusal.fault _ _ c.args.size _ _ _ _ _ _ _ _ _
     c.in-Err.ensures.told
     c.in-Err.ensures.host (λ ok. ran_unclosed _ _ _ _ _ _ _ _ _ _ _ _ all ((c.in-Err.ensures.closed t).cause ok refl))
     all.closed
@@ -77,7 +77,7 @@ returns-clause-done g c = λ t.
     record {
       blocks = c.in-Ok.end.0;
       flashed = all.with_files (IsFlashedRaw c.in-Ok.end.0 c.args.size)
-          (is_flashed_raw c.flash_blocks-answer.result c.in-Ok.end.0 c.args.size _ _ _ _ done
+          (is_flashed_raw c.flash_blocks-answer.result c.in-Ok.end.0 c.args.size _ _ _ _ _ done
           (f.lays (g.met.D.Disk.source_told t) (g.met.D.Disk.part_told t)));
       synced = all.synced (settled_once (g.D.InPlace.Partition.past c.in_ok-onto.onto)
           (g.D.InPlace.Partition.past c.flash_blocks-answer.new.onto) (c.in_ok-onto.ensures.past t)
@@ -100,7 +100,7 @@ returns-in_err-line_beside-clause-refused g c = λ t.
     (λ r made. raw_untold _ r.fault _ c.args.size _ _ _ _ _ _ made all.closed (record {
       blocks = c.in-Ok.end.0;
       flashed = all.with_files (IsFlashedRaw c.in-Ok.end.0 c.args.size)
-          (is_flashed_raw c.flash_blocks-answer.result c.in-Ok.end.0 c.args.size _ _ _ _ done
+          (is_flashed_raw c.flash_blocks-answer.result c.in-Ok.end.0 c.args.size _ _ _ _ _ done
           (f.lays (g.met.D.Disk.source_told t) (g.met.D.Disk.part_told t)));
       synced = all.synced (settled_once (g.D.InPlace.Partition.past c.in_ok-onto.onto)
           (g.D.InPlace.Partition.past c.flash_blocks-answer.new.onto) (c.in_ok-onto.ensures.past t)

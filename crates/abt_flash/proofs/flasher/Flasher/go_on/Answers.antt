@@ -1,6 +1,10 @@
 use Rattle.std.proofs.Common.{◌≡◌, ◌+◌, ◌-◌, ◌≤◌, ◌<◌, ◌^◌, ◌++◌, ℕ, Bool, List, [], true, false, length, take, arith}
 use Rattle.std.proofs.Common.{refl, sym, ap, ◌∙◌, length-take, take-append-drop, nat_lt, max, ◌&&◌, ltb-false}
+use Rattle.std.proofs.lemmas.List.{length-take-le}
+use Rattle.abt_chunks.specs.Cause.{wanted}
+use Rattle.abt_chunks.specs.Parts.{ahead}
 use Rattle.abt_chunks.specs.declared.walk.Walk.{Walk}
+use Rattle.abt_chunks.proofs.Short.{short_of}
 use Rattle.abt_flash.specs.Stepping.{is_short_of, need_of, passed}
 use Rattle.abt_flash.proofs.FlashSteps.{answer_cause, laid_part, nothing_laid, refused_cause, refused_heads}
 use Rattle.abt_flash.proofs.FlashSteps.{refused_laid, refused_leaves, refused_measures}
@@ -25,6 +29,12 @@ lay_part-done-requires-clause-fits g c =
 
 not_short : (s : Walk) (size : ℕ) → is_short_of s size ≡ false → passed s ≡ true → need_of s ≤ size
 not_short s size short q = ltb-false _ _ (ap (λ (b : Bool). b && nat_lt size (need_of s)) (sym q) ∙ short)
+
+-- fewer bytes than a step read give no more than themselves
+few_read : (s : Walk) (rem : List ℕ) (n : ℕ) → n ≤ length rem → n ≤ wanted s → (m : ℕ) → m < length (take n rem)
+    → length (ahead s (take m (take n rem))).cells ≤ m
+few_read s rem n there lacks m less = let long = length-take-le n rem there in
+    short_of s (take n rem) n m (omega (arith, long)) lacks (omega (arith, long, less))
 
 nothing_read : (n : ℕ) (x : List ℕ) → take (n - n) x ≡ []
 nothing_read n x = ap (λ (k : ℕ). take k x) (let z : n - n ≡ 0 = omega arith in z)
@@ -87,6 +97,7 @@ returns-in-Ok g c = record {
         (g.P.Source.content c.args.partition.now) (g.P.Source.content c.lay_part-done.new.partition)
         (g.P.Partition.taken c.args.partition.now) (g.P.Partition.taken c.lay_part-done.new.partition) r
         c.max-all.result (p.gives.window models) long
+        (few_read c.args.self.now.walk rem r (rw k at (p.step.input.input.present models)) p.step.input.wanted)
         c.part_within-taken.result.part p.step.turn.moved p.gives.words.within p.step.turn.leaves
         (p.gives.told models).says p.step.turn.place e.all
         (λ t. rw c.place-at.ensures at ((e.laid t).all)) (λ t. rw c.place-at.ensures at (e.touches t).kept)
@@ -216,6 +227,7 @@ returns-in-Err g c = record {
         (g.P.Source.content c.args.partition.now) (g.P.Source.content c.lay_part-done.new.partition)
         (g.P.Partition.taken c.args.partition.now) (g.P.Partition.taken c.lay_part-done.new.partition) r
         c.max-all.result (p.gives.window models) long
+        (few_read c.args.self.now.walk rem r (rw k at (p.step.input.input.present models)) p.step.input.wanted)
         c.part_within-taken.result.part c.in-Err.fault _ _ p.step.turn.moved p.gives.words.within p.step.turn.leaves
         (p.gives.told models).says e.cause e.ends e.all (λ t. rw c.place-at.ensures at ((e.laid t).all))
         (λ t. rw c.place-at.ensures at ((e.laid t).front)) (λ t. rw c.place-at.ensures at (e.touches t).kept)
