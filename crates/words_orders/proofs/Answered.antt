@@ -1,5 +1,6 @@
 -- What answers say, and which of them can be read.
-use Rattle.std.proofs.Common.{◌≡◌, ◌∙◌, ℕ, ◌+◌, ◌<◌, List, [], ◌∷◌, ◌++◌, refl, sym, ap, subst, map, drop, length, get_or}
+use Rattle.std.proofs.Common.{◌≡◌, ◌∙◌, ℕ, ◌+◌, ◌<◌, List, [], ◌∷◌, ◌++◌, refl, sym, ap, subst, map, drop, length}
+use Rattle.std.proofs.Common.{get_or}
 use Rattle.std.proofs.Common.{Some, arith, suc}
 use Rattle.std.specs.Prelude.{Bool, true, false, is_some, not, ◌==◌, IsTrue}
 use Rattle.std.specs.List.{All}

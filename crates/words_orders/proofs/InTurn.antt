@@ -48,7 +48,8 @@ over_one a x (Some l) = ap (λ y. Some y) (append_assoc a (x ∷ []) l)
 
 pub last_none : (said : List Saying) (b : Bool) (o : Option (List Saying))
     → (if b then None else Some []) ≡ o → b ≡ true → None ≡ before_all said o
-last_none said b o is holds = ap (λ c. before_all said (if c then None else Some [])) (sym holds) ∙ ap (before_all said) is
+last_none said b o is holds =
+    ap (λ c. before_all said (if c then None else Some [])) (sym holds) ∙ ap (before_all said) is
 
 pub last_some : (said : List Saying) (b : Bool) (o : Option (List Saying))
     → (if b then None else Some []) ≡ o → b ≡ false → Some said ≡ before_all said o

@@ -1,5 +1,6 @@
 -- Lists that a loop goes through, one element further, where a function of each element is tested.
-use Rattle.std.proofs.Common.{◌+◌, ◌≡◌, ℕ, ◌<◌, ◌≤◌, List, [], ◌∷◌, Some, None, ◌∙◌, ap, refl, drop, length, get_or, map}
+use Rattle.std.proofs.Common.{◌+◌, ◌≡◌, ℕ, ◌<◌, ◌≤◌, List, [], ◌∷◌, Some, None, ◌∙◌, ap, refl, drop, length}
+use Rattle.std.proofs.Common.{get_or, map}
 use Rattle.std.specs.Prelude.{Bool, true, false, ◌&&◌, ◌||◌}
 use Rattle.std.specs.List.{find, list_all, list_any, position_or_len}
 use Rattle.std.proofs.lemmas.List.{drop_all, drop_more}

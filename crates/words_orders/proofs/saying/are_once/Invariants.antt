@@ -7,4 +7,5 @@ use Rattle.words_orders.proofs.saying.are_once.Given as goal
 
 abbrev pub invariant-loop-row : goal.invariant-loop-row
 invariant-loop-row l =
-    list_all (is_once (map saying_of l.said)) (table_of (drop l.row-index l.rows)) ≡ list_all (is_once (map saying_of l.said)) (table_of l.rows)
+    list_all (is_once (map saying_of l.said)) (table_of (drop l.row-index l.rows)) ≡ list_all
+    (is_once (map saying_of l.said)) (table_of l.rows)

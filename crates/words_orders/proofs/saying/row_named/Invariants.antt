@@ -7,4 +7,5 @@ use Rattle.words_orders.proofs.saying.row_named.Given as goal
 
 abbrev pub invariant-loop-row : goal.invariant-loop-row
 invariant-loop-row l =
-    find (names_row l.is_short (table_of l.rows) l.said) (table_of (drop l.row-index l.rows)) ≡ row_named l.is_short (table_of l.rows) l.said
+    find (names_row l.is_short (table_of l.rows) l.said) (table_of (drop l.row-index l.rows)) ≡ row_named l.is_short
+    (table_of l.rows) l.said

@@ -13,15 +13,18 @@ loop-word-init g c =
 pub loop-word-preserved : goal.loop-word-preserved
 loop-word-preserved g c =
     turn g.S.AsStr.text c.args.is_short (table_of c.args.rows.now) c.args.words.now c.loop-word.word-index
-    (before_of c.loop-word.state) c.word-item.result c.as_str.result.now c.in-Some.next (map saying_of c.loop-word.said.items)
-    (map saying_of c.push_next.new.said.items) c.loop-word-test.true (c.as_str.ensures ∙ ap g.S.AsStr.text c.word-item.is)
+    (before_of c.loop-word.state) c.word-item.result c.as_str.result.now c.in-Some.next
+    (map saying_of c.loop-word.said.items)
+    (map saying_of c.push_next.new.said.items) c.loop-word-test.true
+    (c.as_str.ensures ∙ ap g.S.AsStr.text c.word-item.is)
     (rw c.in-Some.is at c.in_ok-next.ensures) ∙ c.loop-word.invariant
 
 pub returns-in-None : goal.returns-in-None
 returns-in-None g c =
     turn_none g.S.AsStr.text c.args.is_short (table_of c.args.rows.now) c.args.words.now c.loop-word.word-index
     (before_of c.loop-word.state) c.word-item.result c.as_str.result.now (map saying_of c.loop-word.said.items)
-    (map saying_of c.push_next.new.said.items) c.loop-word-test.true (c.as_str.ensures ∙ ap g.S.AsStr.text c.word-item.is)
+    (map saying_of c.push_next.new.said.items) c.loop-word-test.true
+    (c.as_str.ensures ∙ ap g.S.AsStr.text c.word-item.is)
     (rw c.in-None.is at c.in_ok-next.ensures) ∙ c.loop-word.invariant
 
 pub returns-then-is_awaiting : goal.returns-then-is_awaiting

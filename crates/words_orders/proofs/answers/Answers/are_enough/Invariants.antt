@@ -7,4 +7,5 @@ use Rattle.words_orders.proofs.answers.Answers.are_enough.Given as goal
 
 abbrev pub invariant-loop-row : goal.invariant-loop-row
 invariant-loop-row l =
-    list_all (is_enough (map saying_of_answer l.self.all.items)) (table_of (drop l.row-index l.rows)) ≡ list_all (is_enough (map saying_of_answer l.self.all.items)) (table_of l.rows)
+    list_all (is_enough (map saying_of_answer l.self.all.items)) (table_of (drop l.row-index l.rows)) ≡ list_all
+    (is_enough (map saying_of_answer l.self.all.items)) (table_of l.rows)
