@@ -42,11 +42,12 @@ OF_THE_PROGRAM = (
     "sys_devices", "words_values", "words_orders", "words_tools", "sys_refusals", "sys_disk", "mem_disk", "sys_report",
     "sys_finish", "sys_host", "sys_host_disk", "cmd_common_sparse", "cmd_expand", "cmd_cut", "cmd_flash",
     "cmd_sparse_dispatch", "cmd_common_boot", "cmd_unpack", "cmd_unpack_aosp", "cmd_info", "cmd_pack_inputs",
-    "cmd_pack_outputs", "cmd_pack", "cmd_boot_dispatch", "mem_commands", "words_program", "abootimg",
+    "cmd_pack_outputs", "cmd_pack", "cmd_boot_dispatch", "mem_commands", "words_program", "run_files",
+    "run_order", "run_unpack", "run_words", "run_tools",
 )
 
 # What the name of a crate begins with, and the two crates that are programs. docs/ARCHITECTURE.md says what each means.
-PREFIXES = ("abt_", "sys_", "words_", "cmd_", "law_", "mem_", "test_")
+PREFIXES = ("abt_", "sys_", "words_", "cmd_", "run_", "law_", "mem_", "test_")
 PROGRAMS = ("abootimg", "speed")
 
 # The public types of src/ that two crates define, and why: no crate sees both but where that is said.
@@ -72,7 +73,7 @@ SYSTEM = ("crates/sys_file/src/os_file.rt", "crates/sys_std/src/os_file.rt", "cr
 MOST_TRUSTED = 199
 STREAMS = (
     "crates/sys_report/src/report.rt", "crates/sys_report/src/standard_output.rt", "crates/abootimg/src/main.rt",
-    "crates/abootimg/src/tool.rt", "crates/abootimg/src/image_id.rt",
+    "crates/run_tools/src/tool.rt", "crates/run_files/src/kinds.rt",
 )
 OUTSIDE = ("speed", "abt_c")
 

@@ -52,7 +52,8 @@ FAMILIES = {
     "boot images": "abt_headers abt_sections cmd_common_fields cmd_common_texts cmd_unpack_aosp_texts cmd_common_findings",
     "system":
         "sys_text sys_refusals sys_disk sys_report sys_finish sys_numbered_names sys_std sys_identity sys_host sys_host_disk",
-    "words": "words_values words_orders words_tools words_program abootimg",
+    "words": "words_values words_orders words_tools words_program",
+    "a run of the program": "run_files run_order run_unpack run_words run_tools abootimg",
     "commands over sparse images": "cmd_common_listing cmd_common_sparse cmd_flash cmd_expand cmd_cut cmd_sparse_dispatch",
     "commands over boot images":
         "cmd_common_boot cmd_unpack cmd_unpack_aosp cmd_info cmd_pack_inputs cmd_pack_outputs cmd_pack cmd_boot_dispatch",
@@ -70,7 +71,8 @@ LINES = {
     "flashing and verifying": 138,
     "boot images": 227,
     "system": 89,
-    "words": 117,
+    "words": 85,
+    "a run of the program": 33,
     "commands over sparse images": 144,
     "commands over boot images": 141,
     "laws": 62,

@@ -1,42 +1,15 @@
 //! The program `abootimg`: a toolkit for Android sparse images and boot images on the command line.
-//!
-//! | file | has |
-//! |---|---|
-//! | `main.rt` | the standard streams, the window, and the words |
-//! | `running.rt` | doing what the words ask for, and the exit status |
-//! | `beginning.rt` | the settings of all outputs, before a command begins |
-//! | `tool.rt` | the same under the name of one of AOSP's tools |
-//! | `turns.rt` | the orders of a tool, one after the other |
-//! | `storage.rt` | where the files of a run are |
-//! | `image_id.rt` | printing the id of a boot image |
-//! | `unpack_image.rt` | unpacking an image as unpack_bootimg does |
-//! | `unpack_links.rt`, `unpack_steps.rt` | its links, and what its steps share |
-//! | `sparse_task.rt`, `boot_task.rt` | doing a task, over any disk |
-//! | `outcome.rt` | the exit status and message of a command's result |
 #![tactic(auto)]
 
-mod beginning;
-mod boot_task;
-mod image_id;
-mod outcome;
-mod running;
-mod sparse_task;
-mod storage;
-mod tool;
-mod turns;
-mod unpack_image;
-mod unpack_links;
-mod unpack_steps;
-
 use abt_io::{Meter, Window};
-use running::{demonstrate, run};
+use run_tools::run_tool;
+use run_words::{demonstrate, run};
 use std::fs::{File, OpenOptions};
 use std::os::fd::{AsRawFd, IntoRawFd};
 use std::process::ExitCode;
 use std::{env, io};
 use sys_host::{REFUSED, USAGE};
 use sys_report::Report;
-use tool::run_tool;
 use words_tools::called;
 
 fn main(rt: HostRuntime) -> ExitCode {

@@ -1,9 +1,0 @@
-pub mod BootDone
-pub mod InTurn
-pub mod LooksAhead
-pub mod OrderDone
-pub mod OrderEnds
-pub mod Stored
-pub mod ToolEnds
-pub mod UnpackEnds
-pub mod WordsEnd

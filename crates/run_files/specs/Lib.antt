@@ -1,0 +1,3 @@
+pub mod LooksAhead
+pub mod Ready
+pub mod Stored

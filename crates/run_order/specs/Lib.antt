@@ -1,0 +1,4 @@
+pub mod BootDone
+pub mod InTurn
+pub mod OrderDone
+pub mod OrderEnds

@@ -1,0 +1,10 @@
+use Rattle.std.proofs.Common.{refl}
+use Rattle.std.specs.Prelude.{Err}
+use Rattle.run_tools.proofs.tool.do_called.Goals as goal
+
+pub returns-in-Err : goal.returns-in-Err
+returns-in-Err g c = λ t. record {
+  found = Err c.in-Err.fault;
+  asked = tt;
+  ends = (refl, c.wrong_words.ensures.mistake);
+}

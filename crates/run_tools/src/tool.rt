@@ -1,0 +1,250 @@
+//! Doing what the words of one of AOSP's tools ask for, and the exit status.
+
+ghost use Rattle.std.specs.Prelude.{◌≡◌, ◌≢◌, IsTrue, IfOk, map, string_bytes};
+ghost use Rattle.words_tools.specs.Tools.{AreOrdersOf, ArePartedFor};
+ghost use Rattle.cmd_sparse_dispatch.specs.Commands.{state};
+ghost use Rattle.run_files.specs.Ready.{IsReadyForOrder};
+ghost use Rattle.run_tools.specs.ToolEnds.{ArePlain, CalledEnds, OrdersEnd, OrdersFoundEnd, PartedEnds, ToolEnds, status_as};
+
+use abt_io::{Meter, Window};
+use run_files::{Beginning, Storage, SystemStorage, print_id, refusal_of_orders, spare_inputs};
+use run_order::do_in_turn;
+use run_unpack::unpack_image;
+use std::alloc::Global;
+use std::fs::OpenOptions;
+use std::io::IsTerminal;
+use sys_disk::Disk;
+use sys_host::{DONE, Telling, USAGE};
+use sys_readers::ToWrite;
+use sys_report::{Report, StandardOutput};
+use words_orders::{Answer, WordsFault};
+use words_program::{refused, wrong_words};
+use words_tools::{Orders, Parted, Tool, orders_of, part_words, texts_of};
+
+/// Does what the words of a tool ask for, of which the first calls it, and returns the exit status.
+///
+/// A tool prints nothing that it isn't asked for. The message of a fault goes to standard error, after the tool's name.
+/// No word is replaced by the lines of a file. The stack that this takes is not taken from what the program does under
+/// its own name.
+#[inline(never)]
+pub fn run_tool(
+    rt: HostRuntime,
+    tool: Tool,
+    words: &[String],
+    report: &mut Report,
+    w: &mut Window,
+    m: &mut Meter,
+) -> u8 {
+    let how = Telling {
+        program: tool.name(),
+        is_verbose: rt.stderr().is_terminal(),
+    };
+    do_tool(
+        rt,
+        tool,
+        words,
+        how,
+        &mut SystemStorage { rt },
+        report,
+        w,
+        m,
+    )
+}
+
+// Does it with files wherever they are.
+fn do_tool<S: Storage>(
+    rt: HostRuntime,
+    tool: Tool,
+    words: &[String],
+    how: Telling,
+    storage: &mut S,
+    report: &mut Report,
+    w: &mut Window,
+    m: &mut Meter,
+) -> u8
+    // the orders are carried out that the words give, if they are found
+    ensures { IsTrue S.Disk.models → ToolEnds S.Disk.on_output S.Disk.is_file tool (map string_bytes words.now)
+        (S.its storage.old) report.old (S.its storage.new) report.new result }
+{
+    let status = do_called(rt, tool, words, how, storage, report, w, m);
+    status_for(tool, status)
+}
+
+// Does what a call of a tool asks for, and returns the exit status, where that of wrong words is 2.
+#[tactic(auto, using(crate::proofs::Called::called_from))]
+fn do_called<S: Storage>(
+    rt: HostRuntime,
+    tool: Tool,
+    words: &[String],
+    how: Telling,
+    storage: &mut S,
+    report: &mut Report,
+    w: &mut Window,
+    m: &mut Meter,
+) -> u8
+    ensures { IsTrue S.Disk.models → CalledEnds S.Disk.on_output S.Disk.is_file tool (map string_bytes words.now)
+        (S.its storage.old) report.old (S.its storage.new) report.new result }
+{
+    match parted_for(rt.alloc(), tool, words) {
+        Ok(parted) => {
+            let words = parted.others.as_slice();
+            let said = parted.said.as_slice();
+            do_parted(rt, tool, words, said, how, storage, report, w, m)
+        }
+        Err(fault) => wrong_words(rt, Some(tool), words, &fault, how, report),
+    }
+}
+
+// The exit status under a tool's name.
+fn status_for(tool: Tool, status: u8) -> u8
+    ensures { result ≡ status_as tool status }
+{
+    if status == USAGE {
+        tool.wrong_words()
+    } else {
+        status
+    }
+}
+
+// The words separated: those of mkbootimg that say something of ramdisk fragments, and the others.
+fn parted_for<'a>(alloc: Global, tool: Tool, words: &'a [String]) -> Result<Parted<'a>, WordsFault>
+    ensures { IfOk result (λ parted. ArePartedFor tool (map string_bytes words.now)
+        (map (λ word. word.now) parted.others.items) parted.said.items) }
+{
+    match tool {
+        Tool::Mkbootimg => part_words(alloc, words),
+        _ => Ok(Parted::of_others(alloc, words)?),
+    }
+}
+
+// Does what these words ask for.
+#[tactic(auto, using(crate::proofs::Plain::found_plain))]
+fn do_parted<'a, S: Storage>(
+    rt: HostRuntime,
+    tool: Tool,
+    words: &'a [&'a str],
+    said: &'a [Answer<'a>],
+    how: Telling,
+    storage: &mut S,
+    report: &mut Report,
+    w: &mut Window,
+    m: &mut Meter,
+) -> u8
+    ensures { IsTrue S.Disk.models → PartedEnds S.Disk.on_output S.Disk.is_file tool (map (λ word. word.now) words.now) said.now
+        (S.its storage.old) report.old (S.its storage.new) report.new result }
+{
+    match texts_of(rt.alloc(), tool, words, said) {
+        Ok(texts) => {
+            let found = ordered(rt.alloc(), tool, &*words, &*said, texts.as_slice());
+            do_found_orders(rt, tool, words, found, how, storage, report, w, m)
+        }
+        Err(fault) => wrong_words(rt, Some(tool), words, &fault, how, report),
+    }
+}
+
+// The orders that the words give. The stack for reading them is free again while they are carried out.
+#[inline(never)]
+fn ordered<'a>(
+    alloc: Global,
+    tool: Tool,
+    words: &'a [&'a str],
+    said: &'a [Answer<'a>],
+    texts: &'a [String],
+) -> Result<Orders<'a>, WordsFault>
+    ensures { IfOk result (AreOrdersOf tool (map (λ word. word.now) words.now) said.now) }
+{
+    orders_of(alloc, tool, words, said, texts)
+}
+
+// Carries out the orders that were found in these words, or unpacks an image instead, or tells what is wrong with the
+// words.
+fn do_found_orders<S: Storage>(
+    rt: HostRuntime,
+    tool: Tool,
+    words: &[&str],
+    found: Result<Orders<'_>, WordsFault>,
+    how: Telling,
+    storage: &mut S,
+    report: &mut Report,
+    w: &mut Window,
+    m: &mut Meter,
+) -> u8
+    requires plain { IfOk found ArePlain }
+    ensures { IsTrue S.Disk.models → OrdersFoundEnd S.Disk.on_output S.Disk.is_file found.entry (S.its storage.old) report.old
+        (S.its storage.new) report.new result }
+{
+    let orders = match found {
+        Ok(orders) => orders,
+        Err(fault) => return wrong_words(rt, Some(tool), words, &fault, how, report),
+    };
+    if let Some(image) = orders.unpack {
+        return unpack_image(rt, image, how, storage, report, w, m);
+    }
+    let mut disk = storage.disk();
+    let status = do_orders(rt, orders, &mut disk, how, report, w, m);
+    storage.give_back(disk);
+    status
+}
+
+// Does the first order, and the second if the first is done. Then an id is printed, if that is asked for.
+#[tactic(auto, using(crate::proofs::Turns::turns_from))]
+fn do_orders<D: Beginning>(
+    rt: HostRuntime,
+    orders: Orders<'_>,
+    disk: &mut D,
+    how: Telling,
+    report: &mut Report,
+    w: &mut Window,
+    m: &mut Meter,
+) -> u8
+    requires ready { IsTrue D.models → IsReadyForOrder (D.held disk.old) }
+    requires plain { ArePlain orders }
+    ensures { IsTrue D.models → OrdersEnd D.on_output D.is_file orders.entry
+        (state (D.world disk.old) (D.held disk.old) report.old)
+        (state (D.world disk.new) (D.held disk.new) report.new) result }
+{
+    let Orders {
+        first,
+        second,
+        id_of,
+        ..
+    } = orders;
+    if let Some(instead) = refusal_of_orders(rt, &first, &second) {
+        return not_taken(rt, instead, how, report);
+    }
+    silence(rt, report);
+    if let Err(refusal) = spare_inputs(rt, disk, &second) {
+        return refused(rt, refusal, how, report);
+    }
+    let status = do_in_turn(rt, first, second, disk, how, report, w, m);
+    if status != DONE {
+        return status;
+    }
+    match id_of {
+        Some(path) => print_id(rt, path, how),
+        None => DONE,
+    }
+}
+
+// Tells that this is not done, and what does it instead.
+fn not_taken(rt: HostRuntime, instead: &'static str, how: Telling, report: &mut Report) -> u8
+    ensures { result ≢ 0 }
+{
+    let words: [&str; 0] = [];
+    wrong_words(
+        rt,
+        None,
+        &words,
+        &WordsFault::NotTaken(instead),
+        how,
+        report,
+    )
+}
+
+// From now on standard output gets no report, if the system has a file that takes and discards it.
+fn silence(rt: HostRuntime, report: &mut Report) {
+    let mut how = OpenOptions::new();
+    if let Ok(file) = how.write(true).open(&rt, "/dev/null") {
+        report.out = ToWrite::new(StandardOutput::in_file(file));
+    }
+}

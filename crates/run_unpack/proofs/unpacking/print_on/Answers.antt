@@ -1,0 +1,21 @@
+use Rattle.std.proofs.Common.{refl}
+use Rattle.run_unpack.proofs.Unpacks.{kept_failing, kept_opening, kept_then, text_done, text_refused}
+use Rattle.run_unpack.proofs.unpacking.print_on.Goals as goal
+
+pub returns-in-Err : goal.returns-in-Err
+returns-in-Err g c = λ t. text_refused _ _ _ _ _ _
+    (kept_failing _ _ _ _ _ (c.in-Err.ensures.world t) (c.in-Err.ensures.kept t)) c.refused_step.ensures
+
+pub returns-in-Ok-write_text : goal.returns-in-Ok-write_text
+returns-in-Ok-write_text g c = λ t.
+    text_done c.args.image _ _ _ _ _ _ (g.D.Disk.held c.let_go_source.new.self) _ _ _ c.input_of-place.ensures
+    (c.in-Ok.ensures.opened t)
+    (c.in-Ok-write_text.ensures (g.met.D.Disk.source_told t)) refl
+    (kept_then _ _ _ (kept_opening _ _ _ _ _ _ (c.in-Ok.ensures.opened t) (c.in-Ok.ensures.world t))
+    (kept_failing _ _ _ _ _ (c.let_go_source.ensures.world t) (c.let_go_source.ensures.held t)))
+
+pub returns-in-Err-write_text : goal.returns-in-Err-write_text
+returns-in-Err-write_text g c = λ t. text_refused _ _ _ _ _ _
+    (kept_then _ _ _ (kept_opening _ _ _ _ _ _ (c.in-Ok.ensures.opened t) (c.in-Ok.ensures.world t))
+    (kept_failing _ _ _ _ _ (c.let_go_source-in-Err-write_text.ensures.world t)
+    (c.let_go_source-in-Err-write_text.ensures.held t))) c.refused_image.ensures
