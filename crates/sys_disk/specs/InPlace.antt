@@ -2,6 +2,7 @@
 use Rattle.std.specs.Prelude.{◌≡◌, ℕ, ◌+◌, List, [], ◌∷◌, length, Option, Some, None, Bool, false, Contains, nat_lt}
 use Rattle.std.specs.Prelude.{◌<◌, IsTrue, if◌then◌else◌, replicate}
 use Rattle.abt_io.specs.Moment.{Past}
+use Rattle.sys_disk.specs.Failures.{Failures, IsNone, added}
 use Rattle.sys_disk.specs.World.{World, OpenFiles, MayWrite, Spares, failing}
 
 -- this file more is written, in place
@@ -28,20 +29,19 @@ abbrev pub is_settled : Past → Bool
 is_settled past = is_settled_in past.pending past.synced
 
 -- it is closed, and has failed this often; one sync more, if it was synced after its last byte
-abbrev pub closed_part : Past → ℕ → OpenFiles → OpenFiles
+abbrev pub closed_part : Past → Failures → OpenFiles → OpenFiles
 closed_part past failures h = record h {
   part = None;
   syncs = h.syncs + (if is_settled past then 1 else 0);
-  failed = h.failed + failures;
+  failed = added h.failed failures;
 }
 
 -- The file that was written in place is closed, and this is the result of the call that wrote it. The result is Ok only
--- if nothing failed at the end. If the call had done its work, the result is an error only if something has failed.
-pub record ClosesPart (is_written is_done : Bool) (past : Past) (failures : ℕ) (old new : OpenFiles) : Type 0 where
-  pub more : ℕ
+-- if nothing failed at the end.
+pub record ClosesPart (is_done : Bool) (past : Past) (failures : Failures) (old new : OpenFiles) : Type 0 where
+  pub more : Failures
   pub closed : new ≡ failing more (closed_part past failures old)
-  pub clean : IsTrue is_done → more ≡ 0
-  pub cause : IsTrue is_written → is_done ≡ false → 0 < more
+  pub clean : IsTrue is_done → IsNone more
 
 -- the file at this path, which may be written, was created or emptied, and is this many zeros, to be written in place:
 -- none that is read or was begun, and all others are as before

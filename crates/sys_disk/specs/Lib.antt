@@ -1,5 +1,6 @@
 pub mod Among
 pub mod DiskCalls
+pub mod Failures
 pub mod Images
 pub mod InPlace
 pub mod Lasts
