@@ -22,7 +22,7 @@ from repository import HERE, crate_lines
 
 # The most functions of a crate, and those that have more; docs/DECISIONS.md says why these are not taken apart.
 FUNCTIONS = 100
-MORE_FUNCTIONS = {"abt_sections": 107, "mem_disk": 102, "words_orders": 106, "cmd_unpack_aosp_texts": 106, "words_tools": 101}
+MORE_FUNCTIONS = {"abt_sections": 107, "mem_disk": 102, "words_orders": 140, "cmd_unpack_aosp_texts": 106, "words_tools": 101}
 # How many functions have contracts of more clauses than this.
 LONG_CONTRACTS = {15: 3, 20: 1}
 # How many clauses are, to the letter, one that stands before, in any function of any crate.
@@ -30,10 +30,14 @@ REPEATED_CLAUSES = 684
 # The names that two files define, each with what it says in the one and in the other.
 NAMES_DEFINED_TWICE = {
     "Begins": "of a spool's and of a file's bytes, of which they are a front; of a text, which has grown by one",
+    "IsReadOf": "of a word of `pack` for a fragment; of a word of the command line",
     "Header": "of a sparse image (`sparse_header_t`); of a boot image of either kind",
     "LaysBlocks": "a law of definitions; what a delivery leaves on a partition",
     "Leaves": "what an output holds that was broken off; the phase that an answer leaves",
     "expansion": "of blocks; of words `@FILE`",
+    "goes_on": "of a part of a chunk; of a positional word in a run",
+    "is_plain": "of a letter that is printed as it is; of a word of the command line",
+    "is_short_of": "of what a delivery lacks; of a prefix of a name",
     "laid": "cells over zeros; parts one after another, each padded",
     "left_of": "of a chunk; of a byte after a crash; of words that were met",
     "number_at": "the same in `abt_sparse` and `abt_headers`, which depend on nothing of ours together",
@@ -70,7 +74,7 @@ LINES = {
     "flashing and verifying": 139,
     "boot images": 227,
     "system": 96,
-    "words": 117,
+    "words": 133,
     "commands over sparse images": 144,
     "commands over boot images": 141,
     "laws": 62,

@@ -1,6 +1,12 @@
 pub mod Among
+pub mod Answered
 pub mod Filling
+pub mod InTurn
 pub mod Lists
-pub mod Split
+pub mod Mapped
+pub mod NoOrder
+pub mod Placing
+pub mod ReadKinds
 pub mod ReadSteps
+pub mod Refusing
 pub mod Told

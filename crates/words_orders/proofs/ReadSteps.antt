@@ -1,20 +1,16 @@
 -- Lists that a loop adds to, one element further.
 use Rattle.std.proofs.Common.{◌+◌, ◌≡◌, ◌≢◌, ◌<◌, ◌≤◌, ◌∙◌, ℕ, List, [], ◌∷◌, ◌++◌, sym, ap, map, drop, get_or, length}
 use Rattle.std.proofs.Common.{append_assoc}
-use Rattle.std.proofs.Common.{subst, take, arith, rules, refl, zero, suc, Option, Some, None, eqb-true, ⊎_elim}
-use Rattle.std.specs.Prelude.{Bool, Contains, true, false, IsTrue, ◌==◌, not, unwrap_or}
+use Rattle.std.proofs.Common.{subst, rules, refl, Option, Some, None, eqb-true, ⊎_elim}
+use Rattle.std.specs.Prelude.{Bool, true, false, ◌==◌, unwrap_or}
 use Rattle.std.proofs.lemmas.Bool.{cases_Bool, cond-false, cond-true}
-use Rattle.std.proofs.lemmas.List.{drop_all, drop_more, map-append, append-nil, take_more}
-use Rattle.std.specs.List.{AllZip}
-use Rattle.std.proofs.lemmas.Slice.Zip.{all_zipped_more}
-use Rattle.words_values.specs.NumberWord.{IsRead}
+use Rattle.std.proofs.lemmas.List.{drop_all, drop_more, map-append}
 use Rattle.words_values.specs.declared.rows.Row.{Row}
-use Rattle.words_values.specs.declared.rows.WordPlace.TheVariants as places
 use Rattle.words_orders.specs.declared.answers.Answer.{Answer}
 use Rattle.words_orders.specs.Asked.{IsReadRight, saying_of_answer}
+use Rattle.words_orders.specs.Reads.{IsReadFor}
 use Rattle.words_orders.specs.Table.{Shape, shape_of}
-use Rattle.words_orders.specs.Words.{AddsSaid, IsLetter, Saying, SaysNext, WordsSay, answers_due, end, left_over}
-use Rattle.words_orders.specs.Words.{is_of_name, last_word, letter_apart, letter_value, letters, more, of_row}
+use Rattle.words_orders.specs.Words.{Saying, answers_due, is_of_name, last_word, left_over, letter_value, of_row}
 use Rattle.words_orders.specs.Words.{said_words, saying_of}
 use Rattle.words_orders.specs.Words.{words_due, words_of_row}
 use Rattle.words_orders.specs.declared.saying.Said.{Said}
@@ -34,34 +30,6 @@ added_more_of f g h xs new ys i d x below is same =
 pub added_one : {X Z : Type 0} (f : X → Z) (xs new : List X) (x : X) → new ≡ xs ++ (x ∷ [])
     → map f new ≡ map f xs ++ (f x ∷ [])
 added_one f xs new x is = ap (map f) is ∙ map-append f xs (x ∷ [])
-
--- what the words say that are left, and with it what all say
-pub says_more : (short : Bool) (table : List Shape) (all words rest : List (List ℕ)) (before after later : List Saying)
-    → ((l : List Saying) → WordsSay short table words l → WordsSay short table all (before ++ l))
-    → AddsSaid short table words before after rest
-    → WordsSay short table rest later
-    → WordsSay short table all (after ++ later)
-says_more short table all words rest before after later so_far a says =
-    subst (λ l. WordsSay short table all (l ++ later)) (sym a.after_is)
-    (subst (WordsSay short table all) (sym (append_assoc before a.said later))
-    (so_far (a.said ++ later) (more words a.said rest later a.says says)))
-
-pub says_all : (short : Bool) (table : List Shape) (all words : List (List ℕ)) (said : List Saying)
-    → ((l : List Saying) → WordsSay short table words l → WordsSay short table all (said ++ l)) → words ≡ []
-    → WordsSay short table all said
-says_all short table all words said so_far none =
-    subst (WordsSay short table all) (append-nil said)
-    (so_far [] (subst (λ w. WordsSay short table w []) (sym none) end))
-
--- one word, or an option and its value, adds one saying
-pub adds_one : {X : Type 0} (f : X → Saying) (short : Bool) (table : List Shape) (words rest : List (List ℕ))
-    (xs new : List X) (x : X) (s : Saying) → new ≡ xs ++ (x ∷ []) → f x ≡ s → SaysNext short table words (s ∷ []) rest
-    → AddsSaid short table words (map f xs) (map f new) rest
-adds_one f short table words rest xs new x s is same says = record {
-  said = s ∷ [];
-  after_is = added_one f xs new x is ∙ ap (λ z. map f xs ++ (z ∷ [])) same;
-  says = says;
-}
 
 -- one row more is answered
 pub answered_more : {X : Type 0} (f : X → Shape) (rows : List X) (i : ℕ) (d : X) (said old new : List Saying)
@@ -94,51 +62,12 @@ answer_is a row word r w =
     ap (λ s. of_row (shape_of s) a.word.now) r ∙ ap (of_row (shape_of row)) w
 
 pub read_is : (a : Answer) (row : Row) (word : List ℕ) → a.row.now ≡ row → a.word.now ≡ word
-    → IsRead row.value word a.number → IsReadRight a
+    → IsReadFor (shape_of row) word a.number → IsReadRight a
 read_is a row word r w n =
-    subst (λ s. IsRead s.value a.word.now a.number) (sym r) (subst (λ v. IsRead row.value v a.number) (sym w) n)
-
--- ---- letters
-
-pub letter_more : (table : List Shape) (text : List ℕ) (i d : ℕ) (first old new added : List Saying) (s : Saying)
-    → i < length text → old ≡ first ++ added → AllZip (IsLetter table) (take i text) added → new ≡ old ++ (s ∷ [])
-    → IsLetter table (get_or text i d) s
-    → (x : List Saying) × (new ≡ first ++ x) × AllZip (IsLetter table) (take (i + 1) text) x
-letter_more table text i d first old new added s below old_is so_far new_is here = (
-  added ++ (s ∷ []),
-  new_is ∙ ap (λ l. l ++ (s ∷ [])) old_is ∙ append_assoc first added (s ∷ []),
-  subst (λ l. AllZip (IsLetter table) l (added ++ (s ∷ []))) (sym (take_more text i d below))
-      (all_zipped_more (IsLetter table) (take i text) added (get_or text i d) s so_far here),
-)
-
-pub letters_all : (short : Bool) (table : List Shape) (text : List ℕ) (words : List (List ℕ))
-    (first new added : List Saying) → 0 < length text → new ≡ first ++ added → AllZip (IsLetter table) text added
-    → AddsSaid short table ((45 ∷ text) ∷ words) first new words
-letters_all short table [] words first new added some is zipped = absurd (omega (arith, some))
-letters_all short table (letter ∷ rest) words first new added some is zipped =
-    record { said = added; after_is = is; says = letters letter rest added words zipped }
-
-pub some_letters : (n : ℕ) (b : Bool) → b ≡ (n == 0) → IsTrue (not b) → 0 < n
-some_letters zero b e t = absurd (search (rules, e, t))
-some_letters (suc n) b e t = omega arith
-
-pub no_words : {X : Type 0} (text : X → List ℕ) (xs : List X) → length xs ≡ 0 → map text xs ≡ []
-no_words text [] e = refl
-no_words text (x ∷ xs) e = absurd (omega (arith, e))
+    subst (λ s. IsReadFor (shape_of s) a.word.now a.number) (sym r)
+    (subst (λ v. IsReadFor (shape_of row) v a.number) (sym w) n)
 
 -- ---- the value behind a letter
-
--- there is none only if nothing is behind it
-pub no_value : (more : List ℕ) → letter_value more ≡ None → more ≡ []
-no_value [] e = refl
-no_value (first ∷ rest) e = absurd (search (rules, e))
-
-pub letter_alone : (short : Bool) (table : List Shape) (row : Shape) (behind value : List ℕ) (rest : List (List ℕ))
-    → Contains table row → row.place ≡ places.Letter → behind ≡ []
-    → SaysNext short table ((45 ∷ (row.name ++ behind)) ∷ (value ∷ rest)) (of_row row value ∷ []) rest
-letter_alone short table row behind value rest stands letter none =
-    subst (λ w. SaysNext short table ((45 ∷ w) ∷ (value ∷ rest)) (of_row row value ∷ []) rest)
-    (sym (append-nil row.name) ∙ ap (λ m. row.name ++ m) (sym none)) (letter_apart row value rest stands letter)
 
 -- without `=` it is all
 pub whole_value : (more : List ℕ) (b : Bool) → b ≡ (length more == 0) → b ≡ false

@@ -1,9 +1,8 @@
 -- The order that the answers to the rows of a command's table ask for.
 use Rattle.std.specs.Prelude.{◌≡◌, ℕ, ◌++◌, List, [], Bool, true, false, Option, Some, None, map, codes, bytes_eq}
-use Rattle.std.specs.Prelude.{unwrap_or, option_map, IsTrue, IfSome, ◌∷◌, ◌||◌, is_some}
+use Rattle.std.specs.Prelude.{unwrap_or, option_map, ◌&&◌, ◌||◌, not, is_some, drop}
 use Rattle.std.specs.Prelude.{if◌then◌else◌, nat_lt}
-use Rattle.std.specs.List.{filter, find, All, AllZip}
-use Rattle.words_values.specs.NumberWord.{IsRead}
+use Rattle.std.specs.List.{after_first, before_first, filter, find, list_all, All, AllZip}
 use Rattle.words_orders.specs.declared.answers.Answer.{Answer}
 use Rattle.words_orders.specs.declared.completions.Shell.{Shell}
 use Rattle.words_orders.specs.declared.completions.Shell.TheVariants as shells
@@ -18,8 +17,9 @@ use Rattle.words_orders.specs.declared.order.Pieces.{Pieces}
 use Rattle.words_orders.specs.declared.order.PackOrder.{PackOrder}
 use Rattle.words_orders.specs.declared.order.Given.{Given}
 use Rattle.words_orders.specs.Table.{Shape, name_of, option_rows, rows_of, shape_of, telling_rows, work_of}
-use Rattle.words_orders.specs.Words.{AreRead, Saying, WordsSay, answers_due, says_name, left_over, of_row}
-use Rattle.words_orders.specs.Words.{words_by_place}
+use Rattle.words_orders.specs.Reads.{IsReadFor}
+use Rattle.words_orders.specs.Words.{Saying, answers_due, is_option_word, left_over, of_row, says, says_name}
+use Rattle.words_orders.specs.Words.{words_by_place, words_say}
 
 -- whether this is an answer to the row of this name
 abbrev pub is_named : List ℕ → Answer → Bool
@@ -123,18 +123,24 @@ Asks all (tasks.Completions shell) = shell ≡ shell_named (word_named (codes "S
 -- ---- an order
 
 -- a row that must have an answer has one, with the row that it needs, and without the one that it excludes
-pub record IsEnough (all : List Answer) (row : Shape) : Type 0 where
-  pub required : IsTrue row.required → IsTrue (is_some (answer_named row.name all))
-  pub needs : IsTrue (is_some (answer_named row.name all)) → IfSome row.needs (λ other.
-      IsTrue (is_some (answer_named other all)))
-  pub excludes : IsTrue (is_some (answer_named row.name all)) → IfSome row.excludes (λ other.
-      is_some (answer_named other all) ≡ false)
+abbrev pub has_needed : List Saying → Option (List ℕ) → Bool
+has_needed due None = true
+has_needed due (Some other) = says_name other due
+
+abbrev pub has_excluded : List Saying → Option (List ℕ) → Bool
+has_excluded due None = false
+has_excluded due (Some other) = says_name other due
+
+abbrev pub is_enough : List Saying → Shape → Bool
+is_enough due row =
+    if says_name row.name due then has_needed due row.needs && not (has_excluded due row.excludes)
+    else not row.required
 
 abbrev pub saying_of_answer : Answer → Saying
 saying_of_answer a = of_row (shape_of a.row.now) a.word.now
 
 abbrev pub IsReadRight : Answer → Type 0
-IsReadRight a = IsRead a.row.now.value a.word.now a.number
+IsReadRight a = IsReadFor (shape_of a.row.now) a.word.now a.number
 
 -- the answers are what is said of each row, else its default; no word is left, and each number is the one that its word
 -- encodes
@@ -142,32 +148,37 @@ pub record AreAnswers (table : List Shape) (said : List Saying) (all : List Answ
   pub are : map saying_of_answer all ≡ answers_due table said (words_by_place said)
   pub none_left : left_over table (words_by_place said) ≡ []
   pub read : All IsReadRight all
-  pub enough : All (IsEnough all) table
-
--- the words are the program's, options, the command's name, and those after it
-pub record IsSplit (words : List (List ℕ)) (command : List ℕ) (front behind : List (List ℕ)) : Type 0 where
-  pub program : List ℕ
-  pub parts : words ≡ program ∷ (front ++ (command ∷ behind))
+  pub enough : list_all (is_enough (map saying_of_answer all)) table ≡ true
 
 -- the answers of these words, where names may be abbreviated: each word is used once
 pub record AreAnswersOf (table : List Shape) (words : List (List ℕ)) (all : List Answer) : Type 0 where
   pub said : List Saying
-  pub says : WordsSay true table words said
+  pub says_these : says true table words ≡ Some said
   pub answers : AreAnswers table said all
+
+-- the command is the first word after the program's name that is no option; the words before it, and those behind it
+abbrev pub is_command_word : List ℕ → Bool
+is_command_word word = not (is_option_word word)
+
+abbrev pub command_in : List (List ℕ) → Option (List ℕ)
+command_in words = find is_command_word (drop 1 words)
+
+abbrev pub words_before : List (List ℕ) → List (List ℕ)
+words_before words = before_first is_command_word (drop 1 words)
+
+abbrev pub words_behind : List (List ℕ) → List (List ℕ)
+words_behind words = after_first is_command_word (drop 1 words)
 
 -- the words ask for it: each of them is used once, and what they answer to the rows of the command asks for its task
 pub record IsOrderOf (words : List (List ℕ)) (order : Order) : Type 0 where
-  pub front : List (List ℕ)
-  pub behind : List (List ℕ)
-  pub split : IsSplit words order.command.now front behind
+  pub named : command_in words ≡ Some (name_of (work_of order.task))
   pub command : order.command.now ≡ name_of (work_of order.task)
-  -- what is said before the command: options alone
+  -- what is said before the command
   pub before : List Saying
-  pub first : AreRead telling_rows front before
-  pub options : words_by_place before ≡ []
-  -- what is said after it, and the answers
+  pub first : words_say telling_rows (words_before words) ≡ Some before
+  -- what is said behind it, and the answers
   pub said : List Saying
-  pub reads : AreRead (rows_of (work_of order.task)) behind said
+  pub reads : words_say (rows_of (work_of order.task)) (words_behind words) ≡ Some said
   pub all : List Answer
   pub answers : AreAnswers (rows_of (work_of order.task)) said all
   pub asks : Asks all order.task

@@ -1,4 +1,6 @@
 pub mod Asked
+pub mod Reads
 pub mod Refused
+pub mod Steps
 pub mod Table
 pub mod Words

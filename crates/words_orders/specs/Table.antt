@@ -1,6 +1,7 @@
 -- The table of the command line: the rows of each command.
 use Rattle.std.specs.Prelude.{ℕ, List, [], ◌∷◌, ◌++◌, Bool, true, false, Option, Some, None, codes}
-use Rattle.std.specs.Prelude.{option_map}
+use Rattle.std.specs.Prelude.{bytes_eq, map, option_map}
+use Rattle.std.specs.List.{find}
 use Rattle.words_values.specs.declared.rows.WordPlace.{WordPlace}
 use Rattle.words_values.specs.declared.rows.WordPlace.TheVariants as places
 use Rattle.words_values.specs.declared.rows.Row.{Row}
@@ -15,11 +16,13 @@ use Rattle.words_orders.specs.declared.order.Task.TheVariants as tasks
 use Rattle.words_orders.specs.declared.rows.Work.{Work}
 use Rattle.words_orders.specs.declared.rows.Work.TheVariants as works
 
--- what a row says of the words of its answers; it does not say which names a choice has
+-- what a row says of the words of its answers
 pub record Shape : Type 0 where
   pub name : List ℕ
   pub place : WordPlace
+  -- the kind of its value, or the names that the value is one of
   pub value : Option Value
+  pub names : List (List ℕ)
   pub default : Option (List ℕ)
   -- it must have an answer; the row that must have one too, and the row that must not
   pub required : Bool
@@ -30,11 +33,16 @@ abbrev pub plain_value : Value → Option Value
 plain_value (values.Name names) = None
 plain_value value = Some value
 
+abbrev pub names_in : Value → List (List ℕ)
+names_in (values.Name names) = map (λ s. s.now) names.now
+names_in value = []
+
 abbrev pub shape_of : Row → Shape
 shape_of row = record {
   name = row.name.now;
   place = row.place;
   value = plain_value row.value;
+  names = names_in row.value;
   default = option_map (λ s. s.now) row.default;
   required = row.is_required;
   needs = option_map (λ s. s.now) row.needs;
@@ -48,6 +56,7 @@ row place value name = record {
   name = name;
   place = place;
   value = Some value;
+  names = [];
   default = None;
   required = false;
   needs = None;
@@ -74,6 +83,9 @@ number name = row places.Option values.Number name
 
 abbrev pub flag : List ℕ → Shape
 flag name = row places.Flag values.IsGiven name
+
+abbrev pub choice : List (List ℕ) → Shape → Shape
+choice names shape = record shape { value = None; names = names }
 
 abbrev pub usual : List ℕ → Shape → Shape
 usual word shape = record shape { default = Some word }
@@ -130,7 +142,7 @@ own_rows_of works.Repack = path (codes "IN") ∷ number (codes "page") ∷ flag 
 own_rows_of works.Unpack = path (codes "IN") ∷ path (codes "DIR") ∷ flag (codes "words") ∷ []
 own_rows_of works.Info = flag (codes "check") ∷ flag (codes "hex") ∷ path (codes "IN") ∷ []
 own_rows_of works.Completions =
-    record (path (codes "SHELL")) { value = None } ∷ []
+    choice (codes "bash" ∷ codes "zsh" ∷ codes "fish" ∷ []) (path (codes "SHELL")) ∷ []
 
 abbrev pub filling_rows_of : Work → List Shape
 filling_rows_of works.Pack = option_rows
@@ -163,6 +175,14 @@ name_of works.Repack = codes "repack"
 name_of works.Unpack = codes "unpack"
 name_of works.Info = codes "info"
 name_of works.Completions = codes "completions"
+
+abbrev pub all_works : List Work
+all_works =
+    works.Expand ∷ works.List ∷ works.Sparse ∷ works.Cut ∷ works.Flash ∷ works.Verify ∷ works.Pack ∷ works.Repack
+    ∷ works.Unpack ∷ works.Info ∷ works.Completions ∷ []
+
+abbrev pub work_named : List ℕ → Option Work
+work_named name = find (λ work. bytes_eq (name_of work) name) all_works
 
 abbrev pub work_of_sparse : SparseTask → Work
 work_of_sparse (sparse.Expand inputs output) = works.Expand

@@ -1,16 +1,18 @@
 //! The answers of a command: what was given for each row of its table.
 
-ghost use Rattle.std.specs.Prelude.{◌≡◌, ◌++◌, IfOk, IfErr, OnOk, map, option_map, unwrap_or, nat_lt, Some, None};
-ghost use Rattle.std.specs.Prelude.{Contains, List, [], ◌∷◌, ◌≤◌, if◌then◌else◌, IfSome, IsTrue, is_some, false};
+ghost use Rattle.std.specs.Prelude.{◌≡◌, ◌++◌, ◌↔◌, IfOk, IfErr, OnOk, map, option_map, unwrap_or, nat_lt, Some, None};
+ghost use Rattle.std.specs.Prelude.{List, [], ◌∷◌, ◌≤◌, ℕ, if◌then◌else◌, IfSome, IsTrue, is_some, bytes_eq};
 ghost use Rattle.std.specs.Prelude.{drop, length, take};
-ghost use Rattle.std.specs.List.{All};
-ghost use Rattle.words_values.specs.NumberWord.{IsRead};
-ghost use Rattle.words_orders.specs.Asked.{IsEnough, IsGiven, IsReadRight, saying_of_answer, answer_named};
-ghost use Rattle.words_orders.specs.Asked.{answer_number, flag_named, number_named, word_named, words_named};
-ghost use Rattle.words_orders.specs.Refused.{TellsNoNumber};
+ghost use Rattle.std.specs.List.{All, list_all, list_any};
+ghost use Rattle.words_orders.specs.Asked.{IsGiven, IsReadRight, has_excluded, has_needed, is_enough};
+ghost use Rattle.words_orders.specs.Asked.{answer_named, answer_number, flag_named, number_named, saying_of_answer};
+ghost use Rattle.words_orders.specs.Asked.{word_named, words_named};
+ghost use Rattle.words_orders.specs.Reads.{CanBeRead, IsReadFor, takes};
+ghost use Rattle.words_orders.specs.Refused.{IsOfWords, TellsNoNumber};
+ghost use Rattle.words_orders.specs.Steps.{table_of};
 ghost use Rattle.words_orders.specs.Table.{shape_of};
 ghost use Rattle.words_orders.specs.Words.{answers_due, words_due, default_words, left_over, of_row, option_list};
-ghost use Rattle.words_orders.specs.Words.{saying_of, words_of_row};
+ghost use Rattle.words_orders.specs.Words.{saying_of, says_name, words_of_row};
 
 use crate::fault::WordsFault;
 use crate::order::Given;
@@ -37,10 +39,10 @@ impl<'a> Answer<'a> {
     ) -> Result<Answer<'a>, WordsFault>
         ensures row { IfOk result (λ answer. answer.row.now ≡ row.now) }
         ensures word { IfOk result (λ answer. answer.word.now ≡ word.now) }
-        ensures number { IfOk result (λ answer. IsRead row.now.value word.now answer.number) }
-        ensures refused { IfErr result (TellsNoNumber row.now.value word.now is_verbose) }
+        ensures number { IfOk result (λ answer. IsReadFor (shape_of row.now) word.now answer.number) }
+        ensures refused { IfErr result (TellsNoNumber (shape_of row.now) word.now is_verbose) }
     {
-        match number_in(row.value, word) {
+        match number_for(row, word) {
             Some(number) => Ok(Answer { row, word, number }),
             None if is_not_taken(row.value) => Err(WordsFault::NotTaken(row.help)),
             None => Err(WordsFault::BadNumber {
@@ -81,15 +83,20 @@ impl<'a> Answers<'a> {
         placed: &[&'a str],
     ) -> Result<bool, WordsFault>
         ensures are { OnOk result (map saying_of_answer self.new.all.items ≡ map saying_of_answer self.old.all.items
-            ++ answers_due (map (λ row. shape_of row.now) rows.now) (map saying_of said.now) (map (λ s. s.now) placed.now)) }
+            ++ answers_due (table_of rows.now) (map saying_of said.now) (map (λ s. s.now) placed.now)) }
         ensures read { All IsReadRight self.old.all.items → OnOk result (All IsReadRight self.new.all.items) }
-        ensures left { IfOk result (λ is_all. IsTrue is_all →
-            left_over (map (λ row. shape_of row.now) rows.now) (map (λ s. s.now) placed.now) ≡ []) }
+        ensures left { IfOk result (λ is_all. IsTrue is_all ↔
+            (left_over (table_of rows.now) (map (λ s. s.now) placed.now) ≡ [])) }
+        ensures refused { IfErr result (λ fault. IsOfWords fault → All CanBeRead
+            (answers_due (table_of rows.now) (map saying_of said.now) (map (λ s. s.now) placed.now)) → ⊥) }
     {
         let mut left = placed;
         for row in rows {
             let words = words_for(alloc, row, said, left)?;
-            self.read_words(alloc, row, words.as_slice())?;
+            match self.read_words(alloc, row, words.as_slice()) {
+                Ok(()) => {}
+                Err(fault) => return Err(fault),
+            }
             left = later_words(row.place, left);
         }
         Ok(left.is_empty())
@@ -104,9 +111,14 @@ impl<'a> Answers<'a> {
         ensures are { OnOk result (map saying_of_answer self.new.all.items ≡ map saying_of_answer self.old.all.items
             ++ map (of_row (shape_of row.now)) (map (λ s. s.now) words.now)) }
         ensures read { OnOk result (All IsReadRight self.old.all.items → All IsReadRight self.new.all.items) }
+        ensures refused { IfErr result (λ fault. IsOfWords fault →
+            All CanBeRead (map (of_row (shape_of row.now)) (map (λ s. s.now) words.now)) → ⊥) }
     {
         for word in words {
-            let answer = Answer::new(alloc, row, *word, self.is_verbose)?;
+            let answer = match Answer::new(alloc, row, *word, self.is_verbose) {
+                Ok(answer) => answer,
+                Err(fault) => return Err(fault),
+            };
             self.push(answer)?;
         }
         Ok(())
@@ -198,7 +210,7 @@ impl<'a> Answers<'a> {
 
     /// Whether these rows have the answers that they must have.
     pub(crate) fn are_enough(&self, rows: &[&'static Row]) -> bool
-        ensures { IsTrue result → All (IsEnough self.now.all.items) (map (λ row. shape_of row.now) rows.now) }
+        ensures { result ≡ list_all (is_enough (map saying_of_answer self.now.all.items)) (table_of rows.now) }
     {
         for row in rows {
             if !self.is_enough(row) {
@@ -210,7 +222,7 @@ impl<'a> Answers<'a> {
 
     // Whether a row that must have an answer has one, with the row that it needs, and without the one that it excludes.
     fn is_enough(&self, row: &'static Row) -> bool
-        ensures { IsTrue result → IsEnough self.now.all.items (shape_of row.now) }
+        ensures { result ≡ is_enough (map saying_of_answer self.now.all.items) (shape_of row.now) }
     {
         if !self.is_answered(row.name) {
             return !row.is_required;
@@ -219,8 +231,8 @@ impl<'a> Answers<'a> {
     }
 
     fn has_needed(&self, other: Option<&'static str>) -> bool
-        ensures { IsTrue result → IfSome other.entry (λ name. IsTrue (is_some (answer_named name.now
-            self.now.all.items))) }
+        ensures { result ≡ has_needed (map saying_of_answer self.now.all.items)
+            (option_map (λ s. s.now) other.entry) }
     {
         match other {
             Some(name) => self.is_answered(name),
@@ -229,8 +241,8 @@ impl<'a> Answers<'a> {
     }
 
     fn has_excluded(&self, other: Option<&'static str>) -> bool
-        ensures { result ≡ false → IfSome other.entry (λ name. is_some (answer_named name.now
-            self.now.all.items) ≡ false) }
+        ensures { result ≡ has_excluded (map saying_of_answer self.now.all.items)
+            (option_map (λ s. s.now) other.entry) }
     {
         match other {
             Some(name) => self.is_answered(name),
@@ -240,7 +252,7 @@ impl<'a> Answers<'a> {
 
     #[inline(never)]
     fn is_answered(&self, name: &str) -> bool
-        ensures { result ≡ is_some (answer_named name.now self.now.all.items) }
+        ensures { result ≡ says_name name.now (map saying_of_answer self.now.all.items) }
     {
         self.find(name).is_some()
     }
@@ -266,6 +278,44 @@ impl<'a> Answers<'a> {
         }
         Ok(())
     }
+}
+
+// The number that a word gives to a row; none if the row takes no such word.
+fn number_for(row: &Row, word: &str) -> Option<u64>
+    ensures value { IfSome result (λ n. IsReadFor (shape_of row.now) word.now n) }
+    ensures accepts { (n : ℕ) → IsReadFor (shape_of row.now) word.now n → result ≡ Some n }
+{
+    let number = number_in(row.value, word)?;
+    if takes(row.value, word, number) {
+        Some(number)
+    } else {
+        None
+    }
+}
+
+// Whether a value is one of its names, or a count is large enough.
+fn takes(value: Value, word: &str, number: u64) -> bool
+    ensures { result ≡ takes value word.now number }
+{
+    match value {
+        Value::Name(names) => is_among(names, word),
+        Value::Count(least) => number >= least as u64,
+        Value::File | Value::Text | Value::Os | Value::CommandLine | Value::IsGiven => true,
+        Value::Number | Value::LongNumber | Value::NotTaken => true,
+        Value::PythonNumber | Value::LongPythonNumber => true,
+        Value::OsVersion | Value::PatchLevel => true,
+    }
+}
+
+fn is_among(names: &[&str], word: &str) -> bool
+    ensures { result ≡ list_any (bytes_eq word.now) (map (λ s. s.now) names.now) }
+{
+    for name in names {
+        if word == *name {
+            return true;
+        }
+    }
+    false
 }
 
 // Whether the value is one that no word gives.

@@ -12,6 +12,8 @@ use std::alloc::{AllocError, AllocFailed};
 pub enum WordsFault {
     /// A mistake, or `--help` or `--version`: the text for the user.
     Usage(Error),
+    /// Clap refuses words that ask for an order by the table, which no correct parser does.
+    Misread(Error),
     /// This word is no number, or one that does not fit its value.
     BadNumber {
         word: String,

@@ -1,12 +1,17 @@
 //! Reading the words: the order that the answers to a command's rows ask for.
 
-ghost use Rattle.std.specs.Prelude.{◌≡◌, ◌||◌, [], ℕ, List, IfOk, IfSome, map};
-ghost use Rattle.std.specs.List.{AllZip};
+ghost use Rattle.std.specs.Prelude.{◌≡◌, ◌≢◌, ◌||◌, ◌<◌, ℕ, List, None, Some, IfErr, IfOk, IfSome, length, map, option_map, slice_get};
+ghost use Rattle.std.specs.List.{AllZip, find, position_or_len};
 ghost use Rattle.words_orders.specs.Asked.{AreAnswers, Asks, AsksBoot, AsksPack, AsksPieces, AsksSparse, IsGiven};
-ghost use Rattle.words_orders.specs.Asked.{AreAnswersOf, IsOrderOf, IsSplit};
-ghost use Rattle.words_orders.specs.Table.{name_of, option_rows, shape_of, telling_rows, work_of, work_of_boot};
-ghost use Rattle.words_orders.specs.Table.{work_of_sparse};
-ghost use Rattle.words_orders.specs.Words.{AreRead, says_name, saying_of, words_by_place};
+ghost use Rattle.words_orders.specs.Asked.{AreAnswersOf, IsOrderOf, command_in, is_command_word};
+ghost use Rattle.words_orders.specs.Refused.{FindsNone, IsOfWords};
+ghost use Rattle.words_orders.specs.Steps.{IsSplit, table_of};
+ghost use Rattle.words_orders.specs.Table.{name_of, option_rows, shape_of, telling_rows, work_named, work_of};
+ghost use Rattle.words_orders.specs.Table.{work_of_boot, work_of_sparse};
+ghost use Rattle.words_orders.specs.Words.{says_name, saying_of, words_say};
+ghost use Rattle.words_orders.specs.declared.answers.Answer.{Answer};
+ghost use Rattle.words_orders.specs.declared.order.Order.{Order};
+ghost use Rattle.words_orders.specs.declared.rows.Work.{Work};
 ghost use Rattle.words_orders.specs.declared.rows.Work.TheVariants as works;
 
 use crate::answers::Answers;
@@ -15,8 +20,9 @@ use crate::fault::WordsFault;
 use crate::order::{BootTask, Given, Order, PackOrder, Pieces, SparseTask, Task};
 use crate::parser::program;
 use crate::rows::{CommandRow, Work};
-use crate::saying::{Said, is_said, placed_words, read, said_by};
+use crate::saying::{Said, is_option_word, is_said, placed_words, read, said_by};
 use crate::table::{commands, front_rows, listed, options};
+use clap::Error;
 use clap::error::ErrorKind;
 use std::alloc::{AllocError, Global};
 use std::convert::AsStr;
@@ -25,42 +31,117 @@ use words_values::Row;
 /// Reads the words, of which the first is the program's name. Clap reports what is wrong with them. The order is read
 /// here, and no contract depends on how clap read them.
 pub fn order_of<'a, S: AsStr>(alloc: Global, words: &'a [S]) -> Result<Order<'a>, WordsFault>
-    ensures { IfOk result (IsOrderOf (map S.text words.entry.now)) }
+    ensures order { IfOk result (IsOrderOf (map S.text words.entry.now)) }
+    // they are rejected only if they ask for none, or for want of memory, or if clap read them in another way
+    ensures none { IfErr result (λ fault. IsOfWords fault → (order : Order) →
+        IsOrderOf (map S.text words.entry.now) order → ⊥) }
 {
-    let _found = program(alloc)?.try_get_matches_from(words)?;
-    let Some(parts) = split(words) else {
-        return Err(misread(alloc)?);
-    };
-    match read_parts(alloc, parts)? {
-        Some(order) => Ok(order),
-        None => Err(misread(alloc)?),
+    match program(alloc)?.try_get_matches_from(words) {
+        Ok(_found) => accepted_order(alloc, words),
+        Err(error) => Err(fault_for(alloc, words, error)),
+    }
+}
+
+// The order of words that clap accepts.
+fn accepted_order<'a, S: AsStr>(alloc: Global, words: &'a [S]) -> Result<Order<'a>, WordsFault>
+    ensures order { IfOk result (IsOrderOf (map S.text words.entry.now)) }
+    ensures none { IfErr result (λ fault. IsOfWords fault → (order : Order) →
+        IsOrderOf (map S.text words.entry.now) order → ⊥) }
+{
+    match order_in(alloc, words) {
+        Ok(Some(order)) => Ok(order),
+        Ok(None) => Err(WordsFault::Usage(misread(alloc)?)),
+        Err(fault) => Err(fault),
+    }
+}
+
+// What is wrong with words that clap refuses: what clap says, unless an order is found in them.
+#[inline(never)]
+fn fault_for<S: AsStr>(alloc: Global, words: &[S], error: Error) -> WordsFault
+    ensures { IsOfWords result → (order : Order) → IsOrderOf (map S.text words.now) order → ⊥ }
+{
+    match order_in(alloc, words) {
+        Ok(None) => WordsFault::from(error),
+        Ok(Some(_order)) => misread_fault(alloc),
+        Err(fault) => told_by(fault, error),
+    }
+}
+
+// The fault that clap tells of, in the place of one of the words themselves.
+fn told_by(fault: WordsFault, told: Error) -> WordsFault
+    ensures { IsOfWords result → IsOfWords fault }
+{
+    match fault {
+        WordsFault::Usage(_error) => WordsFault::from(told),
+        WordsFault::Misread(error) => WordsFault::Misread(error),
+        WordsFault::BadNumber {
+            word: _word,
+            is_number: _is_number,
+            is_verbose: _is_verbose,
+        } => WordsFault::from(told),
+        WordsFault::NotTaken(_instead) => WordsFault::from(told),
+        WordsFault::Memory => WordsFault::Memory,
+    }
+}
+
+// The order that the words ask for; none if they ask for none.
+fn order_in<'a, S: AsStr>(alloc: Global, words: &'a [S]) -> Result<Option<Order<'a>>, WordsFault>
+    ensures order { IfOk result (λ found. IfSome found (IsOrderOf (map S.text words.entry.now))) }
+    ensures none { FindsNone result → (order : Order) → IsOrderOf (map S.text words.entry.now) order → ⊥ }
+{
+    match split(words) {
+        Some(parts) => read_parts(alloc, parts),
+        None => Ok(None),
     }
 }
 
 /// The options before a command, the command, and the words after it.
 #[derive(Clone, Copy)]
-struct Parts<'a, S> {
+pub(crate) struct Parts<'a, S> {
     front: &'a [S],
     command: &'static CommandRow,
     behind: &'a [S],
 }
 
-// The words, split at the first name of a command.
+// The words, split at the name of a command.
 fn split<'a, S: AsStr>(words: &'a [S]) -> Option<Parts<'a, S>>
-    ensures command { IfSome result (λ parts. parts.command.now.name.now ≡ name_of parts.command.now.work) }
-    ensures words { IfSome result (λ parts. IsSplit (map S.text words.entry.now) parts.command.now.name.now
-        (map S.text parts.front.now) (map S.text parts.behind.now)) }
+    ensures some { IfSome result (λ parts. IsSplit (map S.text words.entry.now) parts.command.now.name.now
+        parts.command.now.work (map S.text parts.front.now) (map S.text parts.behind.now)) }
+    ensures none { result ≡ None → (work : Work) → command_in (map S.text words.entry.now) ≢ Some (name_of work) }
 {
-    for i in 1..words.len() {
-        if let Some(command) = command_named(words[i].as_str()) {
-            return Some(Parts {
-                front: &words[1..i],
-                command,
-                behind: &words[i + 1..],
-            });
+    let (_program, own) = words.split_first()?;
+    let at = command_place(own);
+    let word = word_at(own, at)?;
+    let Some(command) = command_named(word) else {
+        return None;
+    };
+    Some(Parts {
+        front: &own[..at],
+        command,
+        behind: &own[at + 1..],
+    })
+}
+
+fn word_at<'a, S: AsStr>(words: &'a [S], at: usize) -> Option<&'a str>
+    ensures word { option_map (λ s. s.now) result ≡ slice_get (map S.text words.entry.now) at }
+    ensures within { IfSome result (λ word. at < length words.entry.now) }
+{
+    match words.get(at) {
+        Some(word) => Some(word.as_str()),
+        None => None,
+    }
+}
+
+// Where the first word is that is no option; after all, if there is none.
+fn command_place<S: AsStr>(words: &[S]) -> usize
+    ensures { result ≡ position_or_len is_command_word (map S.text words.now) }
+{
+    for i in 0..words.len() {
+        if !is_option_word(words[i].as_str()) {
+            return i;
         }
     }
-    None
+    words.len()
 }
 
 // The order that these ask for; none if a word says nothing, or is left over.
@@ -68,21 +149,28 @@ fn read_parts<'a, S: AsStr>(
     alloc: Global,
     parts: Parts<'a, S>,
 ) -> Result<Option<Order<'a>>, WordsFault>
-    requires { parts.command.now.name.now ≡ name_of parts.command.now.work }
-    ensures { IfOk result (λ found. IfSome found (λ order. (words : List (List ℕ)) →
-        IsSplit words parts.entry.command.now.name.now (map S.text parts.entry.front.now)
-        (map S.text parts.entry.behind.now) → IsOrderOf words order)) }
+    ensures order { IfOk result (λ found. IfSome found (λ order. (words : List (List ℕ)) →
+        IsSplit words parts.entry.command.now.name.now parts.entry.command.now.work
+        (map S.text parts.entry.front.now) (map S.text parts.entry.behind.now) → IsOrderOf words order)) }
+    ensures none { FindsNone result → (words : List (List ℕ)) →
+        IsSplit words parts.entry.command.now.name.now parts.entry.command.now.work
+        (map S.text parts.entry.front.now) (map S.text parts.entry.behind.now) →
+        (order : Order) → IsOrderOf words order → ⊥ }
 {
     let Some(before) = read_front(alloc, parts.front)? else {
         return Ok(None);
     };
     let rows = parts.command.rows(alloc)?;
-    let Some(said) = read(alloc, rows.as_slice(), parts.behind)? else {
-        return Ok(None);
+    let said = match read(alloc, rows.as_slice(), parts.behind) {
+        Ok(Some(said)) => said,
+        Ok(None) => return Ok(None),
+        Err(AllocError) => return Err(WordsFault::Memory),
     };
     let is_verbose = is_said_in("verbose", before.as_slice(), said.as_slice());
-    let Some(answers) = answers_to(alloc, rows.as_slice(), said.as_slice(), is_verbose)? else {
-        return Ok(None);
+    let answers = match answers_to(alloc, rows.as_slice(), said.as_slice(), is_verbose) {
+        Ok(Some(answers)) => answers,
+        Ok(None) => return Ok(None),
+        Err(fault) => return Err(fault),
     };
     Ok(Some(Order {
         command: parts.command.name,
@@ -101,24 +189,16 @@ fn is_said_in(name: &str, before: &[Said<'_>], said: &[Said<'_>]) -> bool
     is_said(name, before) || is_said(name, said)
 }
 
-// What is said before a command; none if that is not options alone.
+// What is said before a command.
 fn read_front<'a, S: AsStr>(
     alloc: Global,
     front: &'a [S],
 ) -> Result<Option<Vec<Said<'a>>>, AllocError>
-    ensures reads { IfOk result (λ found. IfSome found (λ said. AreRead telling_rows (map S.text front.entry.now)
-        (map saying_of said.items))) }
-    ensures options { IfOk result (λ found. IfSome found (λ said. words_by_place (map saying_of said.items) ≡ [])) }
+    ensures { IfOk result (λ found. option_map (λ said. map saying_of said.items) found
+        ≡ words_say telling_rows (map S.text front.entry.now)) }
 {
     let rows = front_rows(alloc)?;
-    let Some(said) = read(alloc, rows.as_slice(), front)? else {
-        return Ok(None);
-    };
-    if placed_words(alloc, said.as_slice())?.is_empty() {
-        Ok(Some(said))
-    } else {
-        Ok(None)
-    }
+    read(alloc, rows.as_slice(), front)
 }
 
 // The answers of what is said; none where a word is left over, or one is missing.
@@ -128,17 +208,22 @@ fn answers_to<'a>(
     said: &[Said<'a>],
     is_verbose: bool,
 ) -> Result<Option<Answers<'a>>, WordsFault>
-    ensures { IfOk result (λ found. IfSome found (λ answers. AreAnswers (map (λ row. shape_of row.now) rows.now)
+    ensures answers { IfOk result (λ found. IfSome found (λ answers. AreAnswers (table_of rows.now)
         (map saying_of said.now) answers.all.items)) }
+    ensures none { FindsNone result → (all : List Answer) →
+        AreAnswers (table_of rows.now) (map saying_of said.now) all → ⊥ }
 {
     let placed = placed_words(alloc, said)?;
     let mut answers = Answers::new(alloc, is_verbose);
-    let is_all = answers.read_rows(alloc, rows, said, placed.as_slice())?;
-    if is_all && answers.are_enough(rows) {
-        Ok(Some(answers))
-    } else {
-        Ok(None)
+    match answers.read_rows(alloc, rows, said, placed.as_slice()) {
+        Ok(true) => {}
+        Ok(false) => return Ok(None),
+        Err(fault) => return Err(fault),
     }
+    if !answers.are_enough(rows) {
+        return Ok(None);
+    }
+    Ok(Some(answers))
 }
 
 /// The answers of these words to the rows of a tool, where a name may be abbreviated; none if a word says nothing, or
@@ -158,14 +243,23 @@ pub fn answers_of<'a, S: AsStr>(
     }
 }
 
-// Clap read the words differently, which no correct parser does.
-fn misread(alloc: Global) -> Result<WordsFault, AllocError> {
-    let error = program(alloc)?.error(ErrorKind::InvalidValue, "the words were read as others")?;
-    Ok(WordsFault::Usage(error))
+// The words were read in two ways.
+#[inline(never)]
+fn misread_fault(alloc: Global) -> WordsFault
+    ensures { IsOfWords result → ⊥ }
+{
+    match misread(alloc) {
+        Ok(error) => WordsFault::Misread(error),
+        Err(_) => WordsFault::Memory,
+    }
+}
+
+fn misread(alloc: Global) -> Result<Error, AllocError> {
+    program(alloc)?.error(ErrorKind::InvalidValue, "the words were read as others")
 }
 
 fn command_named(name: &str) -> Option<&'static CommandRow>
-    ensures work { IfSome result (λ command. command.now.name.now ≡ name_of command.now.work) }
+    ensures work { option_map (λ command. command.now.work) result ≡ work_named name.now }
     ensures name { IfSome result (λ command. command.now.name.now ≡ name.now) }
 {
     for command in commands() {

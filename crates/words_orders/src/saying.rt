@@ -1,18 +1,23 @@
 //! What words say, by the rows of a table: each word is used once, and none is left.
 
-ghost use Rattle.std.specs.Prelude.{◌≡◌, ◌≢◌, ◌≤◌, ◌++◌, ◌∷◌, [], ℕ, List, Bool, None, IfOk, IfSome, IsTrue, OnOk};
-ghost use Rattle.std.specs.Prelude.{Contains, codes, map, length, option_map};
-ghost use Rattle.std.specs.List.{All, AllZip};
-ghost use Rattle.words_values.specs.declared.rows.WordPlace.TheVariants as places;
-ghost use Rattle.words_orders.specs.Table.{Shape, shape_of};
-ghost use Rattle.words_orders.specs.Words.{AddsSaid, AreRead, IsLetter, IsNoOption, IsOnce, IsOnly, IsShortOf};
-ghost use Rattle.words_orders.specs.Words.{NamesOption, Saying, WordsSay, by_place, counted_words, is_again, is_flag};
-ghost use Rattle.words_orders.specs.Words.{is_of_name, is_option, is_word, last_word, letter_value, said_words};
-ghost use Rattle.words_orders.specs.Words.{saying_of, says_name, words_by_place, written};
+ghost use Rattle.std.specs.Prelude.{◌≡◌, ◌++◌, ◌∷◌, ◌==◌, ◌||◌, [], true, false, map, length, drop};
+ghost use Rattle.std.specs.Prelude.{option_map, if◌then◌else◌, IfOk, OnOk, Some, None};
+ghost use Rattle.std.specs.List.{list_all, list_any, starts_with};
+ghost use Rattle.clap.specs.Lexer.{name_and_value, strip_byte};
+ghost use Rattle.words_orders.specs.Table.{plain_value, shape_of};
+ghost use Rattle.words_orders.specs.Steps.{Steps, before_of, look_of, table_of};
+ghost use Rattle.words_orders.specs.Words.{begins_with, counted_words, ends_run, flag_of, flags_said, flags_step};
+ghost use Rattle.words_orders.specs.Words.{goes_on, has_placed, is_again, is_either, is_flag, is_letter, is_lettered};
+ghost use Rattle.words_orders.specs.Words.{is_of_name, is_once, is_only, is_option, is_option_word, is_placed};
+ghost use Rattle.words_orders.specs.Words.{is_placed_right, is_plain, is_run, is_stop, is_several, is_short_of, is_word};
+ghost use Rattle.words_orders.specs.Words.{last_word, letter_says, letter_value, lettered_in, letters_say, look};
+ghost use Rattle.words_orders.specs.Words.{look_letters, look_long, may_be_value, names_row, nothing, of_row, row_named};
+ghost use Rattle.words_orders.specs.Words.{row_says, said_words, saying, saying_of, says, says_last, says_name, step, step_of};
+ghost use Rattle.words_orders.specs.Words.{takes_hyphens, word_says, words_by_place, words_say};
 
 use std::alloc::{AllocError, Global};
 use std::convert::AsStr;
-use words_values::{Row, WordPlace};
+use words_values::{Row, Value, WordPlace};
 
 /// What a word says, alone or with the value after it.
 #[derive(Clone, Copy)]
@@ -29,9 +34,12 @@ pub(crate) fn read<'a, S: AsStr>(
     rows: &[&'static Row],
     words: &'a [S],
 ) -> Result<Option<Vec<Said<'a>>>, AllocError>
-    ensures { IfOk result (λ found. IfSome found (λ said. AreRead (map (λ row. shape_of row.now) rows.now)
-        (map S.text words.entry.now) (map saying_of said.items))) }
+    ensures { IfOk result (λ found. option_map (λ said. map saying_of said.items) found
+        ≡ words_say (table_of rows.now) (map S.text words.entry.now)) }
 {
+    if !is_placed_right(rows, words) {
+        return Ok(None);
+    }
     let Some(said) = said_by(alloc, rows, false, words)? else {
         return Ok(None);
     };
@@ -49,113 +57,189 @@ pub(crate) fn said_by<'a, S: AsStr>(
     is_short: bool,
     words: &'a [S],
 ) -> Result<Option<Vec<Said<'a>>>, AllocError>
-    ensures { IfOk result (λ found. IfSome found (λ said. WordsSay is_short (map (λ row. shape_of row.now) rows.now)
-        (map S.text words.entry.now) (map saying_of said.items))) }
+    ensures { IfOk result (λ found. option_map (λ said. map saying_of said.items) found
+        ≡ says is_short (table_of rows.now) (map S.text words.entry.now)) }
 {
     let mut said = Vec::new(alloc);
-    let mut left = words;
-    while let Some((word, rest)) = left.split_first() {
-        match push_next(rows, is_short, word.as_str(), rest, &mut said)? {
-            Some(behind) => left = behind,
+    let mut state = State::Nothing;
+    for word in words {
+        match push_next(rows, is_short, state, word.as_str(), &mut said)? {
+            Some(next) => state = next,
             None => return Ok(None),
         }
+    }
+    if is_awaiting(state) {
+        return Ok(None);
     }
     Ok(Some(said))
 }
 
-// Adds what a word says, alone or with the value after it; returns the words that are left.
-fn push_next<'a, S: AsStr>(
-    rows: &[&'static Row],
-    is_short: bool,
-    word: &'a str,
-    rest: &'a [S],
-    said: &mut Vec<Said<'a>>,
-) -> Result<Option<&'a [S]>, AllocError>
-    ensures adds { IfOk result (λ next. IfSome next (λ behind. AddsSaid is_short
-        (map (λ row. shape_of row.now) rows.now) (word.entry.now ∷ map S.text rest.entry.now)
-        (map saying_of said.old.items) (map saying_of said.new.items) (map S.text behind.now))) }
-    ensures fewer { IfOk result (λ next. IfSome next (λ behind. length behind.now ≤ length rest.entry.now)) }
+// Whether an option awaits its value.
+fn is_awaiting(state: State) -> bool
+    ensures { (if result then None else Some []) ≡ says_last (before_of state) }
 {
-    if is_plain(word) {
-        said.push(Said { row: None, word })?;
-        return Ok(Some(rest));
-    }
-    if word == "--" {
-        push_placed(rest, said)?;
-        return Ok(Some(&[]));
-    }
-    if let Some(found) = found_in(rows, is_short, word) {
-        return push_found(found, rest, said);
-    }
-    if let Some(found) = letter_in(rows, word) {
-        return push_lettered(found, rest, said);
-    }
-    match letters_in(word) {
-        Some(letters) if push_letters(rows, letters, said)? => Ok(Some(rest)),
-        _ => Ok(None),
+    match state {
+        State::Awaiting(_row) => true,
+        State::Nothing => false,
+        State::Stopped => false,
     }
 }
 
-// Whether a word is no option.
-fn is_plain(word: &str) -> bool
-    ensures { IsTrue result → IsNoOption word.now }
+/// What came before a word.
+#[derive(Clone, Copy)]
+pub(crate) enum State {
+    /// Nothing that matters to it.
+    Nothing,
+    /// An option that awaits its value.
+    Awaiting(&'static Row),
+    /// `--`.
+    Stopped,
+}
+
+// Adds what a word says; returns what is then before the next one, or none if it says nothing.
+fn push_next<'a>(
+    rows: &[&'static Row],
+    is_short: bool,
+    state: State,
+    word: &'a str,
+    said: &mut Vec<Said<'a>>,
+) -> Result<Option<State>, AllocError>
+    ensures { IfOk result (λ next. Steps (step_of is_short (table_of rows.now) (before_of state) word.now) next
+        (map saying_of said.old.items) (map saying_of said.new.items)) }
 {
-    match behind_hyphen(word) {
-        Some(rest) => rest == "",
-        None => true,
+    match state {
+        State::Nothing => push_word(rows, is_short, word, said),
+        State::Awaiting(row) => push_value(is_short, row, word, said),
+        State::Stopped => add(said, None, word, State::Stopped),
+    }
+}
+
+// Adds that a row, or none, gets this word. Returns what is then before the next one.
+fn add<'a>(
+    said: &mut Vec<Said<'a>>,
+    row: Option<&'static Row>,
+    word: &'a str,
+    next: State,
+) -> Result<Option<State>, AllocError>
+    ensures { IfOk result (λ found. Steps (step (saying (option_map (λ row. shape_of row.now) row.entry) word.now ∷ [])
+        (before_of next)) found (map saying_of said.old.items) (map saying_of said.new.items)) }
+{
+    said.push(Said { row, word })?;
+    Ok(Some(next))
+}
+
+fn push_value<'a>(
+    is_short: bool,
+    row: &'static Row,
+    word: &'a str,
+    said: &mut Vec<Said<'a>>,
+) -> Result<Option<State>, AllocError>
+    ensures { IfOk result (λ next. Steps (if may_be_value is_short (shape_of row.now) word.now
+        then step (of_row (shape_of row.now) word.now ∷ []) nothing else None) next
+        (map saying_of said.old.items) (map saying_of said.new.items)) }
+{
+    if !may_be_value(is_short, row, word) {
+        return Ok(None);
+    }
+    add(said, Some(row), word, State::Nothing)
+}
+
+// Whether a word may be the value of the option before it.
+fn may_be_value(is_short: bool, row: &Row, word: &str) -> bool
+    ensures { result ≡ may_be_value is_short (shape_of row.now) word.now }
+{
+    is_short || (takes_hyphens(row.value) || is_plain(word))
+}
+
+fn takes_hyphens(value: Value) -> bool
+    ensures { result ≡ takes_hyphens (plain_value value) }
+{
+    match value {
+        Value::CommandLine => true,
+        Value::File | Value::Text | Value::Os | Value::Name(_) | Value::IsGiven => false,
+        Value::Number | Value::LongNumber | Value::Count(_) | Value::NotTaken => false,
+        Value::PythonNumber | Value::LongPythonNumber => false,
+        Value::OsVersion | Value::PatchLevel => false,
+    }
+}
+
+fn push_word<'a>(
+    rows: &[&'static Row],
+    is_short: bool,
+    word: &'a str,
+    said: &mut Vec<Said<'a>>,
+) -> Result<Option<State>, AllocError>
+    ensures { IfOk result (λ next. Steps (word_says is_short (table_of rows.now) word.now (look word.now)) next
+        (map saying_of said.old.items) (map saying_of said.new.items)) }
+{
+    match form_of(word) {
+        Form::Plain => add(said, None, word, State::Nothing),
+        Form::Stop => Ok(Some(State::Stopped)),
+        Form::Long(name, value) => push_named(row_named(rows, is_short, name), value, said),
+        Form::Letters(text) => push_letters(rows, text, said),
+    }
+}
+
+// ---- what a word looks like
+
+/// What a word looks like.
+#[derive(Clone, Copy)]
+pub(crate) enum Form<'a> {
+    /// No option.
+    Plain,
+    /// `--`.
+    Stop,
+    /// `--NAME`, or `--NAME=VALUE`.
+    Long(&'a str, Option<&'a str>),
+    /// A hyphen and letters.
+    Letters(&'a str),
+}
+
+fn form_of<'a>(word: &'a str) -> Form<'a>
+    ensures { look_of result ≡ look word.entry.now }
+{
+    let Some(behind) = behind_hyphen(word) else {
+        return Form::Plain;
+    };
+    match behind_hyphen(behind) {
+        Some(text) => long_form(text),
+        None => letters_form(behind),
+    }
+}
+
+// Of what follows two hyphens.
+fn long_form<'a>(text: &'a str) -> Form<'a>
+    ensures { look_of result ≡ look_long text.entry.now }
+{
+    if text.is_empty() {
+        return Form::Stop;
+    }
+    let (name, value) = name_and_value(text);
+    Form::Long(name, value)
+}
+
+// Of what follows a hyphen, and begins with none.
+fn letters_form<'a>(text: &'a str) -> Form<'a>
+    ensures { look_of result ≡ look_letters text.entry.now }
+{
+    if text.is_empty() {
+        Form::Plain
+    } else {
+        Form::Letters(text)
     }
 }
 
 // What follows a hyphen.
+#[inline(never)]
 fn behind_hyphen<'a>(word: &'a str) -> Option<&'a str>
-    ensures some { IfSome result (λ rest. word.entry.now ≡ 45 ∷ rest.now) }
-    ensures none { result ≡ None → (rest : List ℕ) → word.entry.now ≢ 45 ∷ rest }
+    ensures { option_map (λ s. s.now) result ≡ strip_byte 45 word.entry.now }
 {
     word.strip_prefix('-')
 }
 
-// Adds these as positional words.
-fn push_placed<'a, S: AsStr>(words: &'a [S], said: &mut Vec<Said<'a>>) -> Result<(), AllocError>
-    ensures { OnOk result (map saying_of said.new.items ≡ map saying_of said.old.items ++ map by_place (map S.text
-        words.entry.now)) }
-{
-    for word in words {
-        said.push(Said {
-            row: None,
-            word: word.as_str(),
-        })?;
-    }
-    Ok(())
-}
-
-// ---- options
-
-/// An option or a flag of a table, the name that says it, and the value that its word has.
-#[derive(Clone, Copy)]
-pub(crate) struct Found<'a> {
-    row: &'static Row,
-    name: &'a str,
-    value: Option<&'a str>,
-}
-
-// The option or the flag that a word names.
-fn found_in<'a>(rows: &[&'static Row], is_short: bool, word: &'a str) -> Option<Found<'a>>
-    ensures stands { IfSome result (λ found. Contains (map (λ row. shape_of row.now) rows.now)
-        (shape_of found.row.now)) }
-    ensures named { IfSome result (λ found. NamesOption is_short (map (λ row. shape_of row.now) rows.now) found.name.now
-        found.row.now.name.now) }
-    ensures names { IfSome result (λ found. word.entry.now ≡ codes "--" ++ written found.name.now
-        (option_map (λ s. s.now) found.value)) }
-{
-    let text = word.strip_prefix("--")?;
-    let (name, value) = name_and_value(text);
-    let row = row_named(rows, is_short, name)?;
-    Some(Found { row, name, value })
-}
-
 // The name of an option, and the value after `=`.
 fn name_and_value<'a>(text: &'a str) -> (&'a str, Option<&'a str>)
-    ensures { text.entry.now ≡ written result.0.now (option_map (λ s. s.now) result.1) }
+    ensures { (result.0.now, option_map (λ s. s.now) result.1) ≡ name_and_value text.entry.now }
 {
     match text.split_once('=') {
         Some((name, value)) => (name, Some(value)),
@@ -163,107 +247,236 @@ fn name_and_value<'a>(text: &'a str) -> (&'a str, Option<&'a str>)
     }
 }
 
-fn row_named(rows: &[&'static Row], is_short: bool, said: &str) -> Option<&'static Row>
-    ensures stands { IfSome result (λ row. Contains (map (λ row. shape_of row.now) rows.now) (shape_of row.now)) }
-    ensures named { IfSome result (λ row. NamesOption is_short (map (λ row. shape_of row.now) rows.now) said.now
-        row.now.name.now) }
+/// Whether a word is no option.
+fn is_plain(word: &str) -> bool
+    ensures { result ≡ is_plain word.now }
+{
+    match form_of(word) {
+        Form::Plain => true,
+        Form::Stop => false,
+        Form::Long(_name, _value) => false,
+        Form::Letters(_text) => false,
+    }
+}
+
+// Whether a word is `--`.
+fn is_stop(word: &str) -> bool
+    ensures { result ≡ is_stop word.now }
+{
+    match form_of(word) {
+        Form::Plain => false,
+        Form::Stop => true,
+        Form::Long(_name, _value) => false,
+        Form::Letters(_text) => false,
+    }
+}
+
+/// Whether a word is an option, or letters of flags.
+pub(crate) fn is_option_word(word: &str) -> bool
+    ensures { result ≡ is_option_word word.now }
+{
+    match form_of(word) {
+        Form::Plain => false,
+        Form::Stop => false,
+        Form::Long(_name, _value) => true,
+        Form::Letters(_text) => true,
+    }
+}
+
+// ---- several words for one row
+
+fn is_placed_right<S: AsStr>(rows: &[&'static Row], words: &[S]) -> bool
+    ensures { result ≡ is_placed_right (table_of rows.now) (map S.text words.now) }
+{
+    !has_several(rows) || is_run(words)
+}
+
+// Whether a row has several words, with another row behind it.
+fn has_several(rows: &[&'static Row]) -> bool
+    ensures { result ≡ list_any (λ row. is_several row.place) (table_of rows.now) }
 {
     for row in rows {
-        if is_named(rows, is_short, said, row.name) {
+        if is_several(row.place) {
+            return true;
+        }
+    }
+    false
+}
+
+fn is_several(place: WordPlace) -> bool
+    ensures { result ≡ is_several place }
+{
+    match place {
+        WordPlace::Words => true,
+        WordPlace::Word | WordPlace::LastWords | WordPlace::Letter | WordPlace::Flag => false,
+        WordPlace::Option | WordPlace::Options | WordPlace::ShortFlag(_) => false,
+    }
+}
+
+// Whether positional words stand in one run.
+fn is_run<S: AsStr>(words: &[S]) -> bool
+    ensures { result ≡ is_run false (map S.text words.now) }
+{
+    let mut is_ended = false;
+    let mut left = words;
+    while let Some((word, rest)) = left.split_first() {
+        let text = word.as_str();
+        if !goes_on(is_ended, text, rest) {
+            return false;
+        }
+        is_ended = is_ended_behind(is_ended, text);
+        left = rest;
+    }
+    true
+}
+
+// Whether a positional word has an option, or nothing, behind it exactly if it is the last.
+fn goes_on<S: AsStr>(is_ended: bool, word: &str, rest: &[S]) -> bool
+    ensures { result ≡ goes_on is_ended word.now (map S.text rest.now) }
+{
+    !is_placed_word(is_ended, word) || is_either(ends_run(rest), has_placed(is_ended, rest))
+}
+
+fn is_ended_behind(is_ended: bool, word: &str) -> bool
+    ensures { result ≡ (is_ended || is_stop word.now) }
+{
+    is_ended || is_stop(word)
+}
+
+// Whether an option, or nothing, comes next.
+fn ends_run<S: AsStr>(words: &[S]) -> bool
+    ensures { result ≡ ends_run (map S.text words.now) }
+{
+    match words {
+        [] => true,
+        [word, ..] => is_option_word(word.as_str()),
+    }
+}
+
+// Whether a positional word comes later.
+fn has_placed<S: AsStr>(was_ended: bool, words: &[S]) -> bool
+    ensures { result ≡ has_placed was_ended (map S.text words.now) }
+{
+    let mut is_ended = was_ended;
+    for word in words {
+        let text = word.as_str();
+        if is_placed_word(is_ended, text) {
+            return true;
+        }
+        is_ended = is_ended_behind(is_ended, text);
+    }
+    false
+}
+
+fn is_placed_word(is_ended: bool, word: &str) -> bool
+    ensures { result ≡ is_placed is_ended word.now }
+{
+    is_ended || is_plain(word)
+}
+
+fn is_either(one: bool, other: bool) -> bool
+    ensures { result ≡ is_either one other }
+{
+    if one { !other } else { other }
+}
+
+// ---- options
+
+fn row_named(rows: &[&'static Row], is_short: bool, said: &str) -> Option<&'static Row>
+    ensures { option_map (λ row. shape_of row.now) result ≡ row_named is_short (table_of rows.now) said.now }
+{
+    for row in rows {
+        if is_named(rows, is_short, said, row) {
             return Some(*row);
         }
     }
     None
 }
 
-// Whether a name says the option of another: that name itself, or one that is short for it.
-fn is_named(rows: &[&'static Row], is_short: bool, said: &str, name: &str) -> bool
-    ensures { IsTrue result → NamesOption is_short (map (λ row. shape_of row.now) rows.now) said.now name.now }
+// Whether a name says a row: its own, or one that is short for it.
+fn is_named(rows: &[&'static Row], is_short: bool, said: &str, row: &Row) -> bool
+    ensures { result ≡ names_row is_short (table_of rows.now) said.now (shape_of row.now) }
 {
-    if said == name {
-        return true;
-    }
-    is_short && is_short_of(rows, said, name)
+    said == row.name || (is_short && is_short_of(rows, said, row.name))
 }
 
 // Whether this is a prefix of the name, and of no other.
 fn is_short_of(rows: &[&'static Row], short: &str, name: &str) -> bool
-    ensures { IsTrue result → IsShortOf (map (λ row. shape_of row.now) rows.now) short.now name.now }
+    ensures { result ≡ is_short_of (table_of rows.now) short.now name.now }
 {
-    match behind(name, short) {
-        Some(_rest) => is_only(rows, short, name),
-        None => false,
-    }
+    begins(name, short) && is_only(rows, short, name)
 }
 
-// What follows a prefix.
-fn behind<'a>(name: &'a str, front: &str) -> Option<&'a str>
-    ensures { IfSome result (λ rest. name.entry.now ≡ front.now ++ rest.now) }
+fn begins(name: &str, front: &str) -> bool
+    ensures { result ≡ starts_with ◌==◌ name.now front.now }
 {
-    name.strip_prefix(front)
+    name.starts_with(front)
 }
 
 fn is_only(rows: &[&'static Row], short: &str, name: &str) -> bool
-    ensures { IsTrue result → All (λ row. IsOnly short.now name.now row.now.name.now) rows.now }
+    ensures { result ≡ list_all (is_only short.now name.now) (table_of rows.now) }
 {
     for row in rows {
-        if !is_this(row.name, short, name) {
+        if !is_this(row, short, name) {
             return false;
         }
     }
     true
 }
 
-// Whether a name is this one, or doesn't begin so.
-fn is_this(other: &str, short: &str, name: &str) -> bool
-    ensures { IsTrue result → IsOnly short.now name.now other.now }
+// Whether a row has this name, or one that doesn't begin so.
+fn is_this(row: &Row, short: &str, name: &str) -> bool
+    ensures { result ≡ is_only short.now name.now (shape_of row.now) }
 {
-    other == name || !other.starts_with(short)
+    row.name == name || !begins(row.name, short)
 }
 
-// Adds what an option or a flag says, if it has a value where it is an option; returns the words that are left.
-fn push_found<'a, S: AsStr>(
-    found: Found<'a>,
-    rest: &'a [S],
+// Adds what an option or a flag says, if the value may stand where it does.
+fn push_named<'a>(
+    row: Option<&'static Row>,
+    value: Option<&'a str>,
     said: &mut Vec<Said<'a>>,
-) -> Result<Option<&'a [S]>, AllocError>
-    ensures adds { IfOk result (λ next. IfSome next (λ behind. (short : Bool) (table : List Shape) →
-        Contains table (shape_of found.entry.row.now) →
-        NamesOption short table found.entry.name.now found.entry.row.now.name.now → AddsSaid short table
-        ((codes "--" ++ written found.entry.name.now (option_map (λ s. s.now) found.entry.value))
-        ∷ map S.text rest.entry.now) (map saying_of said.old.items) (map saying_of said.new.items)
-        (map S.text behind.now))) }
-    ensures fewer { IfOk result (λ next. IfSome next (λ left. length left.now ≤ length rest.entry.now)) }
+) -> Result<Option<State>, AllocError>
+    ensures { IfOk result (λ next. Steps (row_says (option_map (λ row. shape_of row.now) row.entry)
+        (option_map (λ s. s.now) value.entry)) next (map saying_of said.old.items) (map saying_of said.new.items)) }
 {
-    let row = found.row;
-    if let Some(word) = found.value {
-        if !is_option(row.place) {
-            return Ok(None);
-        }
-        said.push(Said {
-            row: Some(row),
-            word,
-        })?;
-        return Ok(Some(rest));
+    let Some(row) = row else {
+        return Ok(None);
+    };
+    match value {
+        Some(value) => push_joined(row, value, said),
+        None => push_alone(row, said),
     }
-    if is_flag(row.place) {
-        said.push(Said {
-            row: Some(row),
-            word: "true",
-        })?;
-        return Ok(Some(rest));
-    }
+}
+
+// The same with a value in its word.
+fn push_joined<'a>(
+    row: &'static Row,
+    word: &'a str,
+    said: &mut Vec<Said<'a>>,
+) -> Result<Option<State>, AllocError>
+    ensures { IfOk result (λ next. Steps (row_says (Some (shape_of row.now)) (Some word.now)) next
+        (map saying_of said.old.items) (map saying_of said.new.items)) }
+{
     if !is_option(row.place) {
         return Ok(None);
     }
-    let Some((value, behind)) = rest.split_first() else {
-        return Ok(None);
-    };
-    said.push(Said {
-        row: Some(row),
-        word: value.as_str(),
-    })?;
-    Ok(Some(behind))
+    add(said, Some(row), word, State::Nothing)
+}
+
+// The same without one.
+fn push_alone<'a>(row: &'static Row, said: &mut Vec<Said<'a>>) -> Result<Option<State>, AllocError>
+    ensures { IfOk result (λ next. Steps (row_says (Some (shape_of row.now)) None) next
+        (map saying_of said.old.items) (map saying_of said.new.items)) }
+{
+    if is_flag(row.place) {
+        return add(said, Some(row), "true", State::Nothing);
+    }
+    if is_option(row.place) {
+        Ok(Some(State::Awaiting(row)))
+    } else {
+        Ok(None)
+    }
 }
 
 /// Whether a row is a positional word.
@@ -297,69 +510,74 @@ fn is_flag(place: WordPlace) -> bool
     }
 }
 
-// ---- an option with the name of a letter
+// ---- letters
 
-/// Such an option of a table, and what follows its name in its word.
-#[derive(Clone, Copy)]
-pub(crate) struct Lettered<'a> {
-    row: &'static Row,
-    more: &'a str,
+fn push_letters<'a>(
+    rows: &[&'static Row],
+    text: &'a str,
+    said: &mut Vec<Said<'a>>,
+) -> Result<Option<State>, AllocError>
+    ensures { IfOk result (λ next. Steps (letters_say (table_of rows.now) text.now
+        (lettered_in (table_of rows.now) text.now)) next
+        (map saying_of said.old.items) (map saying_of said.new.items)) }
+{
+    match lettered_in(rows, text) {
+        Some(row) => push_lettered(row, letter_value(behind(text, row.name)), said),
+        None => push_flags(rows, text.as_bytes(), said),
+    }
 }
 
-fn letter_in<'a>(rows: &[&'static Row], word: &'a str) -> Option<Lettered<'a>>
-    ensures stands { IfSome result (λ found. Contains (map (λ row. shape_of row.now) rows.now)
-        (shape_of found.row.now)) }
-    ensures letter { IfSome result (λ found. found.row.now.place ≡ places.Letter) }
-    ensures names { IfSome result (λ found. word.entry.now ≡ 45 ∷ (found.row.now.name.now ++ found.more.now)) }
+// The option whose name is a letter, with which these letters begin.
+fn lettered_in(rows: &[&'static Row], text: &str) -> Option<&'static Row>
+    ensures { option_map (λ row. shape_of row.now) result ≡ lettered_in (table_of rows.now) text.now }
 {
-    let text = behind_hyphen(word)?;
     for row in rows {
-        if let Some(more) = behind_letter(row, text) {
-            return Some(Lettered { row: *row, more });
+        if begins_with(text, row) {
+            return Some(*row);
         }
     }
     None
 }
 
-// What follows the name of a letter.
-fn behind_letter<'a>(row: &Row, text: &'a str) -> Option<&'a str>
-    ensures letter { IfSome result (λ more. row.now.place ≡ places.Letter) }
-    ensures names { IfSome result (λ more. text.entry.now ≡ row.now.name.now ++ more.now) }
+fn begins_with(text: &str, row: &Row) -> bool
+    ensures { result ≡ begins_with text.now (shape_of row.now) }
 {
-    match row.place {
-        WordPlace::Letter => behind(text, row.name),
-        _ => None,
+    is_lettered(row.place) && begins(text, row.name)
+}
+
+fn is_lettered(place: WordPlace) -> bool
+    ensures { result ≡ is_lettered place }
+{
+    match place {
+        WordPlace::Letter => true,
+        WordPlace::Word | WordPlace::Words | WordPlace::LastWords | WordPlace::Flag => false,
+        WordPlace::Option | WordPlace::Options | WordPlace::ShortFlag(_) => false,
     }
 }
 
-// Adds what such an option says, if it has a value; returns the words that are left.
-fn push_lettered<'a, S: AsStr>(
-    found: Lettered<'a>,
-    rest: &'a [S],
-    said: &mut Vec<Said<'a>>,
-) -> Result<Option<&'a [S]>, AllocError>
-    ensures adds { IfOk result (λ next. IfSome next (λ behind. (short : Bool) (table : List Shape) →
-        Contains table (shape_of found.entry.row.now) → found.entry.row.now.place ≡ places.Letter →
-        AddsSaid short table ((45 ∷ (found.entry.row.now.name.now ++ found.entry.more.now)) ∷ map S.text rest.entry.now)
-        (map saying_of said.old.items) (map saying_of said.new.items) (map S.text behind.now))) }
-    ensures fewer { IfOk result (λ next. IfSome next (λ left. length left.now ≤ length rest.entry.now)) }
+// What follows the front of a text.
+fn behind<'a>(text: &'a str, front: &str) -> &'a str
+    ensures { starts_with ◌==◌ text.entry.now front.now ≡ true → result.now ≡ drop (length front.now) text.entry.now }
 {
-    let row = found.row;
-    if let Some(word) = letter_value(found.more) {
-        said.push(Said {
-            row: Some(row),
-            word,
-        })?;
-        return Ok(Some(rest));
+    match text.strip_prefix(front) {
+        Some(rest) => rest,
+        None => "",
     }
-    let Some((value, left)) = rest.split_first() else {
-        return Ok(None);
+}
+
+// Adds what such an option says.
+fn push_lettered<'a>(
+    row: &'static Row,
+    value: Option<&'a str>,
+    said: &mut Vec<Said<'a>>,
+) -> Result<Option<State>, AllocError>
+    ensures { IfOk result (λ next. Steps (letter_says (shape_of row.now) (option_map (λ s. s.now) value.entry)) next
+        (map saying_of said.old.items) (map saying_of said.new.items)) }
+{
+    let Some(word) = value else {
+        return Ok(Some(State::Awaiting(row)));
     };
-    said.push(Said {
-        row: Some(row),
-        word: value.as_str(),
-    })?;
-    Ok(Some(left))
+    add(said, Some(row), word, State::Nothing)
 }
 
 // The value behind a letter in its word, of which a first `=` is no part.
@@ -375,40 +593,30 @@ fn letter_value<'a>(more: &'a str) -> Option<&'a str>
     }
 }
 
-// ---- letters
-
-fn letters_in<'a>(word: &'a str) -> Option<&'a [u8]>
-    ensures { IfSome result (λ letters. word.entry.now ≡ 45 ∷ letters.now) }
-{
-    Some(behind_hyphen(word)?.as_bytes())
-}
-
-// Adds the flags of these letters; false if one has no flag, or there is no letter.
-fn push_letters<'a>(
+// Adds the flags of these letters.
+fn push_flags<'a>(
     rows: &[&'static Row],
     letters: &[u8],
     said: &mut Vec<Said<'a>>,
-) -> Result<bool, AllocError>
-    ensures { IfOk result (λ are. IsTrue are → (table : List Shape) → table ≡ map (λ row. shape_of row.now) rows.now →
-        (short : Bool) (words : List (List ℕ)) → AddsSaid short table ((45 ∷ letters.now) ∷ words)
-        (map saying_of said.old.items) (map saying_of said.new.items) words) }
+) -> Result<Option<State>, AllocError>
+    ensures { IfOk result (λ next. Steps (flags_step (flags_said (table_of rows.now) letters.now)) next
+        (map saying_of said.old.items) (map saying_of said.new.items)) }
 {
     for letter in letters {
         let Some(row) = flag_of(rows, *letter) else {
-            return Ok(false);
+            return Ok(None);
         };
         said.push(Said {
             row: Some(row),
             word: "true",
         })?;
     }
-    Ok(!letters.is_empty())
+    Ok(Some(State::Nothing))
 }
 
 // The flag of a letter.
 fn flag_of(rows: &[&'static Row], letter: u8) -> Option<&'static Row>
-    ensures stands { IfSome result (λ row. Contains (map (λ row. shape_of row.now) rows.now) (shape_of row.now)) }
-    ensures letter { IfSome result (λ row. row.now.place ≡ places.ShortFlag letter) }
+    ensures { option_map (λ row. shape_of row.now) result ≡ flag_of (table_of rows.now) letter }
 {
     for row in rows {
         if is_letter(row.place, letter) {
@@ -419,7 +627,7 @@ fn flag_of(rows: &[&'static Row], letter: u8) -> Option<&'static Row>
 }
 
 fn is_letter(place: WordPlace, letter: u8) -> bool
-    ensures { IsTrue result → place ≡ places.ShortFlag letter }
+    ensures { result ≡ is_letter letter place }
 {
     match place {
         WordPlace::ShortFlag(own) => own as u32 == letter as u32,
@@ -432,14 +640,20 @@ fn is_letter(place: WordPlace, letter: u8) -> bool
 
 // Whether each option and flag is said once, or may be said again.
 fn are_once(rows: &[&'static Row], said: &[Said<'_>]) -> bool
-    ensures { IsTrue result → All (IsOnce (map saying_of said.now)) (map (λ row. shape_of row.now) rows.now) }
+    ensures { result ≡ list_all (is_once (map saying_of said.now)) (table_of rows.now) }
 {
     for row in rows {
-        if !is_again(row.place) && count_said(row.name, said) > 1 {
+        if !is_once(row, said) {
             return false;
         }
     }
     true
+}
+
+fn is_once(row: &Row, said: &[Said<'_>]) -> bool
+    ensures { result ≡ is_once (map saying_of said.now) (shape_of row.now) }
+{
+    is_again(row.place) || count_said(row.name, said) <= 1
 }
 
 fn is_again(place: WordPlace) -> bool

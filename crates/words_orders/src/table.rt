@@ -4,7 +4,7 @@
 //! A row is on one line, except for its help: `tools/make_completions.py` reads this file too.
 
 ghost use Rattle.std.specs.Prelude.{◌≡◌, ◌++◌, IfOk, OnOk, map};
-ghost use Rattle.words_orders.specs.Table.{filling_rows_of, name_of, option_rows, own_rows_of, shape_of};
+ghost use Rattle.words_orders.specs.Table.{all_works, filling_rows_of, name_of, option_rows, own_rows_of, shape_of};
 ghost use Rattle.words_orders.specs.Table.{rows_of, shared_rows_of, telling_rows};
 
 use crate::rows::{CommandRow, Work};
@@ -325,7 +325,8 @@ impl CommandRow {
 
 /// Every command, in the order in which help names them.
 pub(crate) fn commands() -> &'static [CommandRow]
-    ensures { map (λ command. command.name.now) result.now ≡ map (λ command. name_of command.work) result.now }
+    ensures names { map (λ command. command.name.now) result.now ≡ map (λ command. name_of command.work) result.now }
+    ensures works { map (λ command. command.work) result.now ≡ all_works }
 {
     &COMMANDS
 }

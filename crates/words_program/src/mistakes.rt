@@ -1,13 +1,15 @@
 //! The messages about wrong words. No word is sent to a terminal as it is: each is shown as paths are.
 
-ghost use Rattle.std.specs.Prelude.{◌≡◌, ◌≢◌, ◌≤◌};
+ghost use Rattle.std.specs.Prelude.{◌≡◌, ◌≢◌, ◌≤◌, ◌⊎◌};
+ghost use Rattle.words_orders.specs.Refused.{IsOfWords};
 ghost use Rattle.words_program.specs.Mistake.{IsMistake};
 
 use crate::telling::{print, refused};
+use clap::Error;
 use std::alloc::{AllocError, Global};
 use std::convert::AsStr;
 use std::fmt;
-use sys_host::{Telling, USAGE};
+use sys_host::{REFUSED, Telling, USAGE};
 use sys_refusals::HostRefusal;
 use sys_report::Report;
 use sys_text::{ShownPath, Text};
@@ -26,10 +28,13 @@ pub fn wrong_words<S: AsStr>(
     report: &mut Report,
 ) -> u8
     ensures mistake { IsMistake fault.now → result ≢ 0 }
+    // it ends as a wrong use only if the words themselves are wrong
+    ensures wrong { result ≡ 2 → IsOfWords fault.now }
     ensures status { result ≤ 2 }
 {
     match fault {
         WordsFault::Memory => refused(rt, HostRefusal::memory(), how, report),
+        WordsFault::Misread(error) => tell_error(rt, error, REFUSED, how, report),
         WordsFault::BadNumber {
             word,
             is_number,
@@ -110,18 +115,24 @@ fn wrong_use(
     ensures status { result ≤ 2 }
 {
     match fault_of(rt.alloc(), tool, shown) {
-        Some(WordsFault::Usage(error)) => {
-            let Ok(told) = format!(in rt.alloc(); "{error}") else {
-                return refused(rt, HostRefusal::memory(), how, report);
-            };
-            let mut text = Text::new(&mut report.err);
-            text.word(told.as_str());
-            let _ = text.finish();
-            USAGE
-        }
+        Some(WordsFault::Usage(error)) => tell_error(rt, &error, USAGE, how, report),
+        Some(WordsFault::Misread(error)) => tell_error(rt, &error, USAGE, how, report),
         Some(WordsFault::Memory) => refused(rt, HostRefusal::memory(), how, report),
         _ => USAGE,
     }
+}
+
+// Prints what the parser says of words, and returns this status, or that of a lack of memory.
+fn tell_error(rt: HostRuntime, error: &Error, status: u8, how: Telling, report: &mut Report) -> u8
+    ensures { (result ≡ status) ⊎ (result ≡ 1) }
+{
+    let Ok(told) = format!(in rt.alloc(); "{error}") else {
+        return refused(rt, HostRefusal::memory(), how, report);
+    };
+    let mut text = Text::new(&mut report.err);
+    text.word(told.as_str());
+    let _ = text.finish();
+    status
 }
 
 // Why these words are rejected.

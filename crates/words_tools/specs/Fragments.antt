@@ -3,7 +3,7 @@
 use Rattle.std.specs.Prelude.{◌≡◌, ◌⊎◌, ◌+◌, ◌||◌, ℕ, List, [], ◌∷◌, ◌++◌, Bool, not, Option, Some, None, codes}
 use Rattle.std.specs.Borrow.{Bor}
 use Rattle.std.specs.Prelude.{option_map}
-use Rattle.std.specs.Prelude.{Contains, bytes_eq, if◌then◌else◌}
+use Rattle.std.specs.Prelude.{Contains, IsTrue, bytes_eq, if◌then◌else◌}
 use Rattle.std.specs.Str.{str_eq_ignore_ascii_case}
 use Rattle.words_values.specs.AospNumber.{python_number}
 use Rattle.words_values.specs.NumberWord.{IsDigits, IsRead}
@@ -15,7 +15,7 @@ use Rattle.words_orders.specs.Table.{Shape, part, row, shape_of}
 use Rattle.words_tools.specs.declared.fragments.WordKind.{WordKind}
 use Rattle.words_tools.specs.declared.fragments.WordKind.TheVariants as kinds
 use Rattle.words_tools.specs.declared.groups.Group.{Group}
-use Rattle.words_orders.specs.Words.{IsShortOf}
+use Rattle.words_orders.specs.Words.{is_short_of}
 
 -- ---- their table
 
@@ -36,7 +36,7 @@ fragment_rows =
 
 -- a name of the table, or a prefix of it and of no other
 abbrev pub IsNameOf : List ℕ → List ℕ → Type 0
-IsNameOf short name = (short ≡ name) ⊎ IsShortOf fragment_rows short name
+IsNameOf short name = (short ≡ name) ⊎ IsTrue (is_short_of fragment_rows short name)
 
 -- the answer of a word to a row
 pub record IsAnswerTo (row : Row) (word : List ℕ) (a : Answer) : Type 0 where

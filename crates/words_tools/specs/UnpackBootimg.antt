@@ -4,21 +4,18 @@ use Rattle.words_values.specs.declared.rows.WordPlace.TheVariants as places
 use Rattle.words_values.specs.declared.rows.Value.TheVariants as values
 use Rattle.words_orders.specs.declared.answers.Answer.{Answer}
 use Rattle.words_orders.specs.Asked.{flag_named, word_named}
-use Rattle.words_orders.specs.Table.{Shape, part, required, row, usual}
+use Rattle.words_orders.specs.Table.{Shape, choice, part, required, row, usual}
 use Rattle.words_tools.specs.declared.unpack_bootimg.UnpackImage.{UnpackImage}
 use Rattle.words_tools.specs.declared.unpack_bootimg.UnpackText.{UnpackText}
 use Rattle.words_tools.specs.declared.unpack_bootimg.UnpackText.TheVariants as kinds
 
 -- ---- the table
 
--- an option whose value is one of several names, with this default
-abbrev pub named_choice : List ℕ → List ℕ → Shape
-named_choice name word = record (usual word (part name)) { value = None }
-
 abbrev pub unpack_rows : List Shape
 unpack_rows =
     required (part (codes "boot_img")) ∷ usual (codes "out") (part (codes "out"))
-    ∷ named_choice (codes "format") (codes "info") ∷ row (places.ShortFlag 48) values.IsGiven (codes "null") ∷ []
+    ∷ choice (codes "info" ∷ codes "mkbootimg" ∷ []) (usual (codes "info") (part (codes "format")))
+    ∷ row (places.ShortFlag 48) values.IsGiven (codes "null") ∷ []
 
 -- ---- what is asked for
 

@@ -1,43 +1,39 @@
 //! Whether a name is short for another of a table.
 
-ghost use Rattle.std.specs.Prelude.{◌≡◌, ◌++◌, IfSome, IsTrue, map};
-ghost use Rattle.std.specs.List.{All};
+ghost use Rattle.std.specs.Prelude.{◌≡◌, ◌==◌, map};
+ghost use Rattle.std.specs.List.{list_all, starts_with};
 ghost use Rattle.words_orders.specs.Table.{shape_of};
-ghost use Rattle.words_orders.specs.Words.{IsOnly, IsShortOf};
+ghost use Rattle.words_orders.specs.Words.{is_only, is_short_of};
 
 use words_values::Row;
 
 /// Whether this is a prefix of the name, and of no other.
 pub(crate) fn is_short_of(rows: &[Row], short: &str, name: &str) -> bool
-    ensures { IsTrue result → IsShortOf (map shape_of rows.now) short.now name.now }
+    ensures { result ≡ is_short_of (map shape_of rows.now) short.now name.now }
 {
-    match behind(name, short) {
-        Some(_rest) => is_only(rows, short, name),
-        None => false,
-    }
+    begins(name, short) && is_only(rows, short, name)
 }
 
-// What follows a prefix of a name.
-fn behind<'a>(name: &'a str, short: &str) -> Option<&'a str>
-    ensures { IfSome result (λ rest. name.now ≡ short.now ++ rest.now) }
+fn begins(name: &str, front: &str) -> bool
+    ensures { result ≡ starts_with ◌==◌ name.now front.now }
 {
-    name.strip_prefix(short)
+    name.starts_with(front)
 }
 
 fn is_only(rows: &[Row], short: &str, name: &str) -> bool
-    ensures { IsTrue result → All (λ row. IsOnly short.now name.now row.name.now) rows.now }
+    ensures { result ≡ list_all (is_only short.now name.now) (map shape_of rows.now) }
 {
     for row in rows {
-        if !is_this(row.name, short, name) {
+        if !is_this(row, short, name) {
             return false;
         }
     }
     true
 }
 
-// Whether a name is this one, or doesn't begin so.
-fn is_this(other: &str, short: &str, name: &str) -> bool
-    ensures { IsTrue result → IsOnly short.now name.now other.now }
+// Whether a row has this name, or one that doesn't begin so.
+fn is_this(row: &Row, short: &str, name: &str) -> bool
+    ensures { result ≡ is_only short.now name.now (shape_of row.now) }
 {
-    other == name || !other.starts_with(short)
+    row.name == name || !begins(row.name, short)
 }

@@ -1,9 +1,11 @@
-use Rattle.std.proofs.Common.{ℕ, ◌<◌, map}
-use Rattle.std.specs.Prelude.{slice_index_or}
+use Rattle.std.proofs.Common.{◌≡◌, drop, map}
+use Rattle.std.specs.List.{list_all}
+use Rattle.words_orders.specs.Steps.{table_of}
 use Rattle.words_orders.specs.Table.{shape_of}
-use Rattle.words_orders.specs.Words.{IsOnce, saying_of}
+use Rattle.words_orders.specs.Words.{is_once, saying_of}
 use Rattle.words_orders.proofs.saying.are_once.Given as goal
 
 abbrev pub invariant-loop-row : goal.invariant-loop-row
 invariant-loop-row l =
-    (k : ℕ) (d : _) → k < l.row-index → IsOnce (map saying_of l.said) (shape_of (slice_index_or l.rows k d).now)
+    list_all (is_once (map saying_of l.said)) (table_of (drop l.row-index l.rows)) ≡ list_all
+    (is_once (map saying_of l.said)) (table_of l.rows)

@@ -1,8 +1,11 @@
-use Rattle.std.proofs.Common.{ℕ, ◌<◌}
-use Rattle.std.specs.Prelude.{slice_index_or}
-use Rattle.words_orders.specs.Words.{IsOnly}
+use Rattle.std.proofs.Common.{◌≡◌, drop, map}
+use Rattle.std.specs.List.{list_all}
+use Rattle.words_orders.specs.Steps.{table_of}
+use Rattle.words_orders.specs.Table.{shape_of}
+use Rattle.words_orders.specs.Words.{is_only}
 use Rattle.words_orders.proofs.saying.is_only.Given as goal
 
 abbrev pub invariant-loop-row : goal.invariant-loop-row
 invariant-loop-row l =
-    (k : ℕ) (d : _) → k < l.row-index → IsOnly l.short l.name (slice_index_or l.rows k d).now.name.now
+    list_all (is_only l.short l.name) (table_of (drop l.row-index l.rows)) ≡ list_all (is_only l.short l.name)
+    (table_of l.rows)

@@ -1,13 +1,11 @@
-use Rattle.std.proofs.Common.{List, ◌++◌, map, length}
-use Rattle.words_orders.specs.Table.{shape_of}
-use Rattle.words_orders.specs.Words.{Saying, WordsSay, saying_of}
+use Rattle.std.proofs.Common.{◌≡◌, drop, map}
+use Rattle.words_orders.specs.Steps.{before_of, table_of}
+use Rattle.words_orders.specs.Words.{says, says_after, saying_of}
+use Rattle.words_orders.proofs.InTurn.{before_all}
 use Rattle.words_orders.proofs.saying.said_by.Given as goal
 
 abbrev pub invariant-loop-word : goal.invariant-loop-word
 invariant-loop-word g l =
-    (later : List Saying) → WordsSay l.is_short (map (λ row. shape_of row.now) l.rows) (map g.S.AsStr.text l.left) later
-    → WordsSay l.is_short (map (λ row. shape_of row.now) l.rows) (map g.S.AsStr.text l.words)
-    (map saying_of l.said.items ++ later)
-
-abbrev pub decreases-loop-word : goal.decreases-loop-word
-decreases-loop-word g l = length l.left
+    before_all (map saying_of l.said.items)
+    (says_after l.is_short (table_of l.rows) (before_of l.state) (map g.S.AsStr.text (drop l.word-index l.words)))
+    ≡ says l.is_short (table_of l.rows) (map g.S.AsStr.text l.words)

@@ -1,10 +1,23 @@
-use Rattle.std.proofs.Common.{arith}
-use Rattle.std.proofs.lemmas.List.Elements.{All-map}
-use Rattle.words_orders.specs.Asked.{IsEnough}
+use Rattle.std.proofs.Common.{◌∙◌, sym, map}
 use Rattle.words_orders.specs.Table.{shape_of}
+use Rattle.words_orders.specs.Asked.{is_enough, saying_of_answer}
+use Rattle.words_orders.proofs.Mapped.{all_fail, all_later, all_pass}
 use Rattle.words_orders.proofs.answers.Answers.are_enough.Goals as goal
 
+pub returns-then-not-is_enough : goal.returns-then-not-is_enough
+returns-then-not-is_enough c =
+    sym (all_fail (λ row. shape_of row.now) (is_enough (map saying_of_answer c.args.self.now.all.items))
+    c.args.rows.now c.loop-row.row-index _ c.loop-row-test.true
+    (sym c.is_enough.ensures ∙ c.if-not-is_enough.true)) ∙ c.loop-row.invariant
+
+pub loop-row-preserved : goal.loop-row-preserved
+loop-row-preserved c =
+    sym (all_later (λ row. shape_of row.now) (is_enough (map saying_of_answer c.args.self.now.all.items))
+    c.args.rows.now c.loop-row.row-index _ c.loop-row-test.true
+    (sym c.is_enough.ensures ∙ c.if-not-is_enough.false)) ∙ c.loop-row.invariant
+
 pub returns : goal.returns
-returns c = λ _.
-    All-map (IsEnough c.args.self.now.all.items) (λ row. shape_of row.now) c.args.rows.now
-    (λ k d below. c.loop-row.invariant k d (omega (arith, below, c.loop-row-test.false)))
+returns c =
+    sym (all_pass (λ row. shape_of row.now) (is_enough (map saying_of_answer c.args.self.now.all.items))
+    c.args.rows.now c.loop-row.row-index c.loop-row-test.false)
+    ∙ c.loop-row.invariant

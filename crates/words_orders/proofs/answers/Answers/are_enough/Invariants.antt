@@ -1,9 +1,11 @@
-use Rattle.std.proofs.Common.{ℕ, ◌<◌}
-use Rattle.std.specs.Prelude.{slice_index_or}
-use Rattle.words_orders.specs.Asked.{IsEnough}
+use Rattle.std.proofs.Common.{◌≡◌, drop, map}
+use Rattle.std.specs.List.{list_all}
+use Rattle.words_orders.specs.Steps.{table_of}
 use Rattle.words_orders.specs.Table.{shape_of}
+use Rattle.words_orders.specs.Asked.{is_enough, saying_of_answer}
 use Rattle.words_orders.proofs.answers.Answers.are_enough.Given as goal
 
 abbrev pub invariant-loop-row : goal.invariant-loop-row
 invariant-loop-row l =
-    (k : ℕ) (d : _) → k < l.row-index → IsEnough l.self.all.items (shape_of (slice_index_or l.rows k d).now)
+    list_all (is_enough (map saying_of_answer l.self.all.items)) (table_of (drop l.row-index l.rows)) ≡ list_all
+    (is_enough (map saying_of_answer l.self.all.items)) (table_of l.rows)
