@@ -39,8 +39,8 @@ COLUMNS = {"definition": 5, "claim": 7, "unclaimed": 4}
 DOCUMENTS = ("README.md", "CONTRIBUTING.md", "CHANGELOG.md", "docs/*.md")
 # What these do is called by the program alone, and most of it only in its own crate.
 OF_THE_PROGRAM = (
-    "sys_devices", "words_values", "words_orders", "words_tools", "sys_refusals", "sys_disk", "mem_disk", "sys_report",
-    "sys_finish", "sys_host", "sys_host_disk", "cmd_common_sparse", "cmd_expand", "cmd_cut", "cmd_flash",
+    "sys_devices", "words_values", "words_sayings", "words_orders", "words_tools", "sys_refusals", "sys_disk", "mem_disk",
+    "sys_report", "sys_finish", "sys_host", "sys_host_disk", "cmd_common_sparse", "cmd_expand", "cmd_cut", "cmd_flash",
     "cmd_sparse_dispatch", "cmd_common_boot", "cmd_unpack", "cmd_unpack_aosp", "cmd_info", "cmd_pack_inputs",
     "cmd_pack_outputs", "cmd_pack", "cmd_boot_dispatch", "mem_commands", "words_program", "abootimg",
 )

@@ -22,7 +22,7 @@ from repository import HERE, crate_lines
 
 # The most functions of a crate, and those that have more; docs/DECISIONS.md says why these are not taken apart.
 FUNCTIONS = 100
-MORE_FUNCTIONS = {"abt_sections": 107, "mem_disk": 102, "words_orders": 140, "cmd_unpack_aosp_texts": 106, "words_tools": 101}
+MORE_FUNCTIONS = {"abt_sections": 107, "mem_disk": 102, "cmd_unpack_aosp_texts": 106, "words_tools": 101}
 # How many functions have contracts of more clauses than this.
 LONG_CONTRACTS = {15: 3, 20: 1}
 # How many clauses are, to the letter, one that stands before, in any function of any crate.
@@ -56,7 +56,7 @@ FAMILIES = {
     "boot images": "abt_headers abt_sections cmd_common_fields cmd_common_texts cmd_unpack_aosp_texts cmd_common_findings",
     "system":
         "sys_text sys_refusals sys_disk sys_report sys_finish sys_numbered_names sys_std sys_identity sys_host sys_host_disk",
-    "words": "words_values words_orders words_tools words_program abootimg",
+    "words": "words_values words_sayings words_orders words_tools words_program abootimg",
     "commands over sparse images": "cmd_common_listing cmd_common_sparse cmd_flash cmd_expand cmd_cut cmd_sparse_dispatch",
     "commands over boot images":
         "cmd_common_boot cmd_unpack cmd_unpack_aosp cmd_info cmd_pack_inputs cmd_pack_outputs cmd_pack cmd_boot_dispatch",

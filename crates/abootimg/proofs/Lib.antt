@@ -1,3 +1,4 @@
+pub mod Asking
 pub mod Called
 pub mod Looks
 pub mod Orders

@@ -1,8 +1,9 @@
 //! Doing what the words ask for, and the exit status.
 
-ghost use Rattle.std.specs.Prelude.{◌≡◌, ◌≢◌, ◌≤◌, ◌||◌, IfOk, IsTrue, map, string_bytes};
+ghost use Rattle.std.specs.Prelude.{◌≡◌, ◌≢◌, ◌≤◌, ◌||◌, IfErr, IfOk, IsTrue, map, string_bytes};
 ghost use Rattle.sys_host.specs.Answering.{PrintsNothing};
-ghost use Rattle.words_orders.specs.Asked.{IsOrderOf};
+ghost use Rattle.words_orders.specs.Asked.{AskForNone, IsOrderOf};
+ghost use Rattle.words_orders.specs.Refused.{IsOfWords};
 ghost use Rattle.abootimg.specs.OrderDone.{IsReadyForOrder};
 ghost use Rattle.abootimg.specs.OrderEnds.{OrderEnds, TaskEnds};
 ghost use Rattle.abootimg.specs.WordsEnd.{FoundEnds, WordsEnd};
@@ -47,6 +48,7 @@ pub fn run(
 }
 
 /// Does on any disk what the words ask for, where standard error is a terminal or is not.
+#[tactic(auto, using(crate::proofs::Asking::none_asked))]
 fn do_words<D: Beginning>(
     rt: HostRuntime,
     words: &[String],
@@ -58,7 +60,8 @@ fn do_words<D: Beginning>(
 ) -> u8
     requires ready { IsTrue D.models → IsReadyForOrder (D.held disk.old) }
     ensures status { result ≤ 2 }
-    // the words of files are read, and the order that all of them ask for is carried out, if one is found
+    // the words of files are read, and the order that all of them ask for is carried out, if one is found; else the
+    // status is 2 only if they ask for none
     ensures ends { IsTrue D.models → WordsEnd D.on_output (map string_bytes words.now) (D.world disk.old)
         (D.held disk.old) report.old (D.world disk.new) (D.held disk.new) report.new result }
     // the status is 2 only if every file is as before
@@ -142,7 +145,8 @@ fn telling(is_verbose: bool) -> Telling
 // The order that the words give. The stack for reading them is free again while it is carried out.
 #[inline(never)]
 fn ordered<'a>(alloc: Global, words: &'a [&str]) -> Result<Order<'a>, WordsFault>
-    ensures { IfOk result (IsOrderOf (map (λ word. word.now) words.entry.now)) }
+    ensures order { IfOk result (IsOrderOf (map (λ word. word.now) words.entry.now)) }
+    ensures none { IfErr result (λ fault. IsOfWords fault → AskForNone (map (λ word. word.now) words.entry.now)) }
 {
     order_of(alloc, words)
 }

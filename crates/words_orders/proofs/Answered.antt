@@ -11,7 +11,7 @@ use Rattle.std.proofs.lemmas.List.Elements.{All-map, All-same}
 use Rattle.words_orders.specs.declared.answers.Answer.{Answer}
 use Rattle.words_orders.specs.Asked.{IsReadRight, answer_named, is_named, saying_of_answer}
 use Rattle.words_orders.specs.Reads.{CanBeRead}
-use Rattle.words_orders.specs.Words.{Saying, said_words, says_name}
+use Rattle.words_sayings.specs.Words.{Saying, said_words, says_name}
 
 none_longer : (n : ℕ) → (suc n == 0) ≡ false
 none_longer n = grind (arith, nat_tests)

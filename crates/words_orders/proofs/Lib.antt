@@ -1,9 +1,7 @@
 pub mod Among
 pub mod Answered
 pub mod Filling
-pub mod InTurn
 pub mod Lists
-pub mod Mapped
 pub mod NoOrder
 pub mod Placing
 pub mod ReadKinds

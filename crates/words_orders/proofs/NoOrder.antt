@@ -6,11 +6,10 @@ use Rattle.words_orders.specs.declared.answers.Answer.{Answer}
 use Rattle.words_orders.specs.declared.order.Order.{Order}
 use Rattle.words_orders.specs.declared.rows.Work.{Work}
 use Rattle.words_orders.specs.declared.rows.Work.TheVariants as works
-use Rattle.words_orders.specs.Asked.{AreAnswers, IsOrderOf}
-use Rattle.words_orders.specs.Steps.{IsSplit}
+use Rattle.words_orders.specs.Asked.{AreAnswers, IsOrderOf, IsSplit}
 use Rattle.words_orders.specs.Table.{all_works, name_of, rows_of, telling_rows, work_named, work_of}
-use Rattle.words_orders.specs.Words.{Saying, words_say}
-use Rattle.words_orders.proofs.Mapped.{found_passes}
+use Rattle.words_sayings.specs.Words.{Saying, words_say}
+use Rattle.words_sayings.proofs.Mapped.{found_passes}
 
 pub none_some : {X : Type 0} (x : X) → None ≡ Some x → ⊥
 none_some x e = absurd (cc)

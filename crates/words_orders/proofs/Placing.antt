@@ -6,7 +6,7 @@ use Rattle.std.specs.List.{after_first, before_first, find, position_or_len, pre
 use Rattle.std.proofs.lemmas.List.{drop-map, drop_all, drop_more, take-map, take_all, length-drop, length-map}
 use Rattle.std.proofs.lemmas.List.Folds.{find_at}
 use Rattle.words_orders.specs.Asked.{command_in, is_command_word, words_before, words_behind}
-use Rattle.words_orders.specs.Words.{is_option_word}
+use Rattle.words_sayings.specs.Words.{is_option_word}
 
 abbrev prefix_step : Bool → ℕ → ℕ
 prefix_step b n = cond (not (not b)) (1 + n) 0

@@ -7,7 +7,7 @@ use Rattle.words_values.specs.declared.rows.Value.TheVariants.{Name, IsGiven, Py
 use Rattle.words_values.specs.declared.rows.Value.TheVariants.{PatchLevel, NotTaken}
 use Rattle.words_values.specs.NumberWord.{IsRead}
 use Rattle.words_orders.specs.Reads.{IsReadBy, takes}
-use Rattle.words_orders.specs.Table.{names_in, plain_value}
+use Rattle.words_sayings.specs.Rows.{names_in, plain_value}
 use Rattle.std.proofs.lemmas.Bool.Decides.{nat_tests}
 
 pub reads_by : (v : Value) (word : List ℕ) (n : ℕ) → IsRead v word n → takes v word n ≡ true
@@ -59,9 +59,6 @@ taken_from LongPythonNumber word n r = refl
 taken_from OsVersion word n r = refl
 taken_from PatchLevel word n r = refl
 taken_from NotTaken word n r = refl
-
-pub clash : false ≡ true → ⊥
-clash e = absurd (cc)
 
 pub same_taken : (v : Value) (word : List ℕ) (m n : ℕ) → Some m ≡ Some n → takes v word m ≡ takes v word n
 same_taken v word m n e = let same : m ≡ n = cc in ap (takes v word) same

@@ -11,8 +11,8 @@ use Rattle.words_orders.specs.declared.fault.WordsFault.TheVariants.{Usage, Misr
 use Rattle.words_orders.specs.Asked.{AreAnswers, is_enough, saying_of_answer}
 use Rattle.words_orders.specs.Reads.{CanBeRead, IsReadFor}
 use Rattle.words_orders.specs.Refused.{IsOfWords, TellsNoNumber}
-use Rattle.words_orders.specs.Table.{Shape}
-use Rattle.words_orders.specs.Words.{Saying, answers_due, left_over, of_row, words_by_place, words_due, words_of_row}
+use Rattle.words_sayings.specs.Rows.{Shape}
+use Rattle.words_sayings.specs.Words.{Saying, answers_due, left_over, of_row, words_by_place, words_due, words_of_row}
 use Rattle.words_orders.proofs.Answered.{readable}
 
 -- a word that is told of gives no number

@@ -16,10 +16,12 @@ use Rattle.words_orders.specs.declared.order.BootTask.TheVariants as boot
 use Rattle.words_orders.specs.declared.order.Pieces.{Pieces}
 use Rattle.words_orders.specs.declared.order.PackOrder.{PackOrder}
 use Rattle.words_orders.specs.declared.order.Given.{Given}
-use Rattle.words_orders.specs.Table.{Shape, name_of, option_rows, rows_of, shape_of, telling_rows, work_of}
+use Rattle.words_orders.specs.declared.rows.Work.{Work}
+use Rattle.words_orders.specs.Table.{name_of, option_rows, rows_of, telling_rows, work_of}
+use Rattle.words_sayings.specs.Rows.{Shape, shape_of}
 use Rattle.words_orders.specs.Reads.{IsReadFor}
-use Rattle.words_orders.specs.Words.{Saying, answers_due, is_option_word, left_over, of_row, says, says_name}
-use Rattle.words_orders.specs.Words.{words_by_place, words_say}
+use Rattle.words_sayings.specs.Words.{Saying, answers_due, is_option_word, left_over, of_row, says, says_name}
+use Rattle.words_sayings.specs.Words.{words_by_place, words_say}
 
 -- whether this is an answer to the row of this name
 abbrev pub is_named : List ℕ → Answer → Bool
@@ -169,6 +171,13 @@ words_before words = before_first is_command_word (drop 1 words)
 abbrev pub words_behind : List (List ℕ) → List (List ℕ)
 words_behind words = after_first is_command_word (drop 1 words)
 
+-- the words, with a command and its name, those before it and those behind it
+pub record IsSplit (words : List (List ℕ)) (name : List ℕ) (work : Work) (front behind : List (List ℕ)) : Type 0 where
+  pub named : command_in words ≡ Some name
+  pub name_is : name ≡ name_of work
+  pub front_is : front ≡ words_before words
+  pub behind_is : behind ≡ words_behind words
+
 -- the words ask for it: each of them is used once, and what they answer to the rows of the command asks for its task
 pub record IsOrderOf (words : List (List ℕ)) (order : Order) : Type 0 where
   pub named : command_in words ≡ Some (name_of (work_of order.task))
@@ -186,3 +195,7 @@ pub record IsOrderOf (words : List (List ℕ)) (order : Order) : Type 0 where
   pub quiet : order.is_quiet ≡ (says_name (codes "quiet") before || says_name (codes "quiet") said)
   pub synced : order.is_synced ≡ says_name (codes "sync") said
   pub mounted : order.is_mounted_allowed ≡ says_name (codes "mounted") said
+
+-- the words ask for no order
+abbrev pub AskForNone : List (List ℕ) → Type 0
+AskForNone words = (order : Order) → IsOrderOf words order → ⊥

@@ -4,8 +4,8 @@ use Rattle.std.specs.List.{list_any}
 use Rattle.words_values.specs.declared.rows.Value.{Value}
 use Rattle.words_values.specs.declared.rows.Value.TheVariants as values
 use Rattle.words_values.specs.NumberWord.{IsRead}
-use Rattle.words_orders.specs.Table.{Shape}
-use Rattle.words_orders.specs.Words.{Saying}
+use Rattle.words_sayings.specs.Rows.{Shape}
+use Rattle.words_sayings.specs.Words.{Saying}
 
 -- the least that a count may be
 abbrev pub least_of : Value → ℕ

@@ -4,7 +4,7 @@ use Rattle.std.specs.Prelude.{string_bytes}
 use Rattle.words_orders.specs.declared.fault.WordsFault.{WordsFault}
 use Rattle.words_orders.specs.declared.fault.WordsFault.TheVariants.{Usage, Misread, BadNumber, NotTaken, Memory}
 use Rattle.words_orders.specs.Reads.{IsReadFor}
-use Rattle.words_orders.specs.Table.{Shape}
+use Rattle.words_sayings.specs.Rows.{Shape}
 use Rattle.words_values.specs.NumberWord.{IsNumber}
 
 -- the words themselves are wrong: no allocation failed, and clap did not read them in another way than the table

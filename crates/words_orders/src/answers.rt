@@ -9,15 +9,15 @@ ghost use Rattle.words_orders.specs.Asked.{answer_named, answer_number, flag_nam
 ghost use Rattle.words_orders.specs.Asked.{word_named, words_named};
 ghost use Rattle.words_orders.specs.Reads.{CanBeRead, IsReadFor, takes};
 ghost use Rattle.words_orders.specs.Refused.{IsOfWords, TellsNoNumber};
-ghost use Rattle.words_orders.specs.Steps.{table_of};
-ghost use Rattle.words_orders.specs.Table.{shape_of};
-ghost use Rattle.words_orders.specs.Words.{answers_due, words_due, default_words, left_over, of_row, option_list};
-ghost use Rattle.words_orders.specs.Words.{saying_of, says_name, words_of_row};
+ghost use Rattle.words_sayings.specs.Steps.{table_of};
+ghost use Rattle.words_sayings.specs.Rows.{shape_of};
+ghost use Rattle.words_sayings.specs.Words.{answers_due, words_due, default_words, left_over, of_row, option_list};
+ghost use Rattle.words_sayings.specs.Words.{saying_of, says_name, words_of_row};
 
 use crate::fault::WordsFault;
 use crate::order::Given;
-use crate::saying::{Said, is_placed, push_counted};
 use std::alloc::{AllocError, Global};
+use words_sayings::{Said, is_placed, push_counted};
 use words_values::{Row, Value, WordPlace, number_in, number_word};
 
 /// A word that was given for a row, or the row's default.

@@ -6,7 +6,6 @@
 //! | `table.rt`, `rows.rt` | the table of the command line: its commands, and a command's row |
 //! | `parser.rt` | the parser that clap makes of the table |
 //! | `reading.rt` | reading the words: the order that the answers ask for |
-//! | `saying.rt` | what words say, by the rows of a table |
 //! | `answers.rt` | the answers of a command: what was given for each row of its table |
 //! | `fault.rt` | why words are rejected |
 //! | `completions.rt`, `completion_texts.rt` | the shells that can complete words, and what they read for that |
@@ -20,7 +19,6 @@ mod order;
 mod parser;
 mod reading;
 mod rows;
-mod saying;
 mod table;
 
 pub use answers::{Answer, Answers};

@@ -1,16 +1,17 @@
 //! Reading the words: the order that the answers to a command's rows ask for.
 
-ghost use Rattle.std.specs.Prelude.{◌≡◌, ◌≢◌, ◌||◌, ◌<◌, ℕ, List, None, Some, IfErr, IfOk, IfSome, length, map, option_map, slice_get};
+ghost use Rattle.std.specs.Prelude.{◌≡◌, ◌≢◌, ◌||◌, ◌<◌, ℕ, List, None, Some, IfErr, IfOk, IfSome};
+ghost use Rattle.std.specs.Prelude.{length, map, option_map, slice_get};
 ghost use Rattle.std.specs.List.{AllZip, find, position_or_len};
 ghost use Rattle.words_orders.specs.Asked.{AreAnswers, Asks, AsksBoot, AsksPack, AsksPieces, AsksSparse, IsGiven};
-ghost use Rattle.words_orders.specs.Asked.{AreAnswersOf, IsOrderOf, command_in, is_command_word};
+ghost use Rattle.words_sayings.specs.Rows.{shape_of};
+ghost use Rattle.words_sayings.specs.Steps.{table_of};
+ghost use Rattle.words_sayings.specs.Words.{says_name, saying_of, words_say};
+ghost use Rattle.words_orders.specs.Asked.{AreAnswersOf, AskForNone, IsOrderOf, IsSplit, command_in, is_command_word};
 ghost use Rattle.words_orders.specs.Refused.{FindsNone, IsOfWords};
-ghost use Rattle.words_orders.specs.Steps.{IsSplit, table_of};
-ghost use Rattle.words_orders.specs.Table.{name_of, option_rows, shape_of, telling_rows, work_named, work_of};
+ghost use Rattle.words_orders.specs.Table.{name_of, option_rows, telling_rows, work_named, work_of};
 ghost use Rattle.words_orders.specs.Table.{work_of_boot, work_of_sparse};
-ghost use Rattle.words_orders.specs.Words.{says_name, saying_of, words_say};
 ghost use Rattle.words_orders.specs.declared.answers.Answer.{Answer};
-ghost use Rattle.words_orders.specs.declared.order.Order.{Order};
 ghost use Rattle.words_orders.specs.declared.rows.Work.{Work};
 ghost use Rattle.words_orders.specs.declared.rows.Work.TheVariants as works;
 
@@ -20,12 +21,12 @@ use crate::fault::WordsFault;
 use crate::order::{BootTask, Given, Order, PackOrder, Pieces, SparseTask, Task};
 use crate::parser::program;
 use crate::rows::{CommandRow, Work};
-use crate::saying::{Said, is_option_word, is_said, placed_words, read, said_by};
 use crate::table::{commands, front_rows, listed, options};
 use clap::Error;
 use clap::error::ErrorKind;
 use std::alloc::{AllocError, Global};
 use std::convert::AsStr;
+use words_sayings::{Said, is_option_word, is_said, placed_words, read, said_by};
 use words_values::Row;
 
 /// Reads the words, of which the first is the program's name. Clap reports what is wrong with them. The order is read
@@ -33,8 +34,7 @@ use words_values::Row;
 pub fn order_of<'a, S: AsStr>(alloc: Global, words: &'a [S]) -> Result<Order<'a>, WordsFault>
     ensures order { IfOk result (IsOrderOf (map S.text words.entry.now)) }
     // they are rejected only if they ask for none, or for want of memory, or if clap read them in another way
-    ensures none { IfErr result (λ fault. IsOfWords fault → (order : Order) →
-        IsOrderOf (map S.text words.entry.now) order → ⊥) }
+    ensures none { IfErr result (λ fault. IsOfWords fault → AskForNone (map S.text words.entry.now)) }
 {
     match program(alloc)?.try_get_matches_from(words) {
         Ok(_found) => accepted_order(alloc, words),
@@ -45,8 +45,7 @@ pub fn order_of<'a, S: AsStr>(alloc: Global, words: &'a [S]) -> Result<Order<'a>
 // The order of words that clap accepts.
 fn accepted_order<'a, S: AsStr>(alloc: Global, words: &'a [S]) -> Result<Order<'a>, WordsFault>
     ensures order { IfOk result (IsOrderOf (map S.text words.entry.now)) }
-    ensures none { IfErr result (λ fault. IsOfWords fault → (order : Order) →
-        IsOrderOf (map S.text words.entry.now) order → ⊥) }
+    ensures none { IfErr result (λ fault. IsOfWords fault → AskForNone (map S.text words.entry.now)) }
 {
     match order_in(alloc, words) {
         Ok(Some(order)) => Ok(order),
@@ -58,7 +57,7 @@ fn accepted_order<'a, S: AsStr>(alloc: Global, words: &'a [S]) -> Result<Order<'
 // What is wrong with words that clap refuses: what clap says, unless an order is found in them.
 #[inline(never)]
 fn fault_for<S: AsStr>(alloc: Global, words: &[S], error: Error) -> WordsFault
-    ensures { IsOfWords result → (order : Order) → IsOrderOf (map S.text words.now) order → ⊥ }
+    ensures { IsOfWords result → AskForNone (map S.text words.now) }
 {
     match order_in(alloc, words) {
         Ok(None) => WordsFault::from(error),
@@ -87,7 +86,7 @@ fn told_by(fault: WordsFault, told: Error) -> WordsFault
 // The order that the words ask for; none if they ask for none.
 fn order_in<'a, S: AsStr>(alloc: Global, words: &'a [S]) -> Result<Option<Order<'a>>, WordsFault>
     ensures order { IfOk result (λ found. IfSome found (IsOrderOf (map S.text words.entry.now))) }
-    ensures none { FindsNone result → (order : Order) → IsOrderOf (map S.text words.entry.now) order → ⊥ }
+    ensures none { FindsNone result → AskForNone (map S.text words.entry.now) }
 {
     match split(words) {
         Some(parts) => read_parts(alloc, parts),
@@ -154,8 +153,7 @@ fn read_parts<'a, S: AsStr>(
         (map S.text parts.entry.front.now) (map S.text parts.entry.behind.now) → IsOrderOf words order)) }
     ensures none { FindsNone result → (words : List (List ℕ)) →
         IsSplit words parts.entry.command.now.name.now parts.entry.command.now.work
-        (map S.text parts.entry.front.now) (map S.text parts.entry.behind.now) →
-        (order : Order) → IsOrderOf words order → ⊥ }
+        (map S.text parts.entry.front.now) (map S.text parts.entry.behind.now) → AskForNone words }
 {
     let Some(before) = read_front(alloc, parts.front)? else {
         return Ok(None);

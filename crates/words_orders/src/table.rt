@@ -4,7 +4,8 @@
 //! A row is on one line, except for its help: `tools/make_completions.py` reads this file too.
 
 ghost use Rattle.std.specs.Prelude.{◌≡◌, ◌++◌, IfOk, OnOk, map};
-ghost use Rattle.words_orders.specs.Table.{all_works, filling_rows_of, name_of, option_rows, own_rows_of, shape_of};
+ghost use Rattle.words_orders.specs.Table.{all_works, filling_rows_of, name_of, option_rows, own_rows_of};
+ghost use Rattle.words_sayings.specs.Rows.{shape_of};
 ghost use Rattle.words_orders.specs.Table.{rows_of, shared_rows_of, telling_rows};
 
 use crate::rows::{CommandRow, Work};

@@ -6,7 +6,7 @@ use Rattle.std.proofs.lemmas.List.{append-nil, append_assoc, get_or-map, length-
 use Rattle.words_values.specs.declared.rows.Row.{Row}
 use Rattle.words_values.specs.NumberWord.{IsRead}
 use Rattle.words_orders.specs.declared.answers.Answer.{Answer}
-use Rattle.words_orders.specs.Table.{shape_of}
+use Rattle.words_sayings.specs.Rows.{shape_of}
 use Rattle.words_tools.specs.Fragments.{AreParted, AreParting, AwaitsValue, IsAnswerTo, IsNameOf, IsSaidOf}
 use Rattle.words_tools.specs.Fragments.{fragment_rows, none, other, with_equals, with_next}
 

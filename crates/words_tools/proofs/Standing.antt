@@ -5,7 +5,7 @@ use Rattle.std.specs.List.{All}
 use Rattle.std.proofs.lemmas.List.{get_or-map, length-map}
 use Rattle.std.proofs.lemmas.List.Elements.{Contains-get_or}
 use Rattle.words_values.specs.declared.rows.Row.{Row}
-use Rattle.words_orders.specs.Table.{Shape, shape_of}
+use Rattle.words_sayings.specs.Rows.{Shape, shape_of}
 
 rows_in : (rows : List Row) → All (λ row. Contains (map shape_of rows) (shape_of row)) rows
 rows_in rows = λ k d below.

@@ -11,11 +11,12 @@ use Rattle.words_values.specs.declared.rows.WordPlace.TheVariants as places
 use Rattle.words_values.specs.declared.rows.Row.{Row}
 use Rattle.words_values.specs.declared.rows.Value.TheVariants as values
 use Rattle.words_orders.specs.declared.answers.Answer.{Answer}
-use Rattle.words_orders.specs.Table.{Shape, part, row, shape_of}
+use Rattle.words_orders.specs.Table.{part, row}
+use Rattle.words_sayings.specs.Rows.{Shape, shape_of}
 use Rattle.words_tools.specs.declared.fragments.WordKind.{WordKind}
 use Rattle.words_tools.specs.declared.fragments.WordKind.TheVariants as kinds
 use Rattle.words_tools.specs.declared.groups.Group.{Group}
-use Rattle.words_orders.specs.Words.{is_short_of}
+use Rattle.words_sayings.specs.Words.{is_short_of}
 
 -- ---- their table
 

@@ -13,7 +13,8 @@ use Rattle.words_orders.specs.declared.order.PackOrder.{PackOrder}
 use Rattle.words_orders.specs.declared.order.Task.{Task}
 use Rattle.words_orders.specs.declared.order.Task.TheVariants as tasks
 use Rattle.words_orders.specs.Asked.{answer_named, answer_number, flag_named, number_named}
-use Rattle.words_orders.specs.Table.{option_rows, shape_of}
+use Rattle.words_orders.specs.Table.{option_rows}
+use Rattle.words_sayings.specs.Rows.{shape_of}
 use Rattle.words_tools.specs.Fragments.{BoardSaid, FragmentSaid, IsBoardText, IsFragmentText, boards_said}
 use Rattle.words_tools.specs.Fragments.{fragments_said, no_group, of_platform}
 

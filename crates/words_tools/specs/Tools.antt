@@ -18,7 +18,8 @@ use Rattle.words_tools.specs.Fragments.{AreParted}
 use Rattle.words_tools.specs.Mkbootimg.{AreImagesOf, PacksImage, id_asked}
 use Rattle.words_tools.specs.UnpackBootimg.{AsksUnpack, unpack_rows}
 use Rattle.words_tools.specs.declared.unpack_bootimg.UnpackImage.{UnpackImage}
-use Rattle.words_orders.specs.Table.{Shape, excludes, flag, part, path, required, row, usual, work_of}
+use Rattle.words_orders.specs.Table.{excludes, flag, part, path, required, row, usual, work_of}
+use Rattle.words_sayings.specs.Rows.{Shape}
 
 -- ---- which tool it is
 

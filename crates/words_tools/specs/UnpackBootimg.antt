@@ -4,7 +4,8 @@ use Rattle.words_values.specs.declared.rows.WordPlace.TheVariants as places
 use Rattle.words_values.specs.declared.rows.Value.TheVariants as values
 use Rattle.words_orders.specs.declared.answers.Answer.{Answer}
 use Rattle.words_orders.specs.Asked.{flag_named, word_named}
-use Rattle.words_orders.specs.Table.{Shape, choice, part, required, row, usual}
+use Rattle.words_orders.specs.Table.{choice, part, required, row, usual}
+use Rattle.words_sayings.specs.Rows.{Shape}
 use Rattle.words_tools.specs.declared.unpack_bootimg.UnpackImage.{UnpackImage}
 use Rattle.words_tools.specs.declared.unpack_bootimg.UnpackText.{UnpackText}
 use Rattle.words_tools.specs.declared.unpack_bootimg.UnpackText.TheVariants as kinds

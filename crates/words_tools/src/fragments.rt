@@ -1,7 +1,7 @@
 //! The words of ramdisk fragments, separated from the other words of a call of mkbootimg.
 
 ghost use Rattle.std.specs.Prelude.{◌≡◌, ◌++◌, ℕ, List, [], ◌∷◌, IfOk, IfSome, IsTrue, OnOk, Contains, codes, map};
-ghost use Rattle.words_orders.specs.Table.{shape_of};
+ghost use Rattle.words_sayings.specs.Rows.{shape_of};
 ghost use Rattle.words_tools.specs.Fragments.{AreParted, AreParting, IsAnswerTo, IsNameOf, SaysOption, fragment_rows};
 
 use crate::hyphens::is_value;

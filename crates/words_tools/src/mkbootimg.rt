@@ -9,7 +9,8 @@ ghost use Rattle.words_tools.specs.Mkbootimg.{boards_asked, filling, fragments_a
 ghost use Rattle.words_tools.specs.Mkbootimg.{output_word, page_asked};
 ghost use Rattle.words_tools.specs.Mkbootimg.{IsPackOf, platform_asked, version_asked};
 ghost use Rattle.words_orders.specs.Asked.{answer_named};
-ghost use Rattle.words_orders.specs.Table.{option_rows, shape_of};
+ghost use Rattle.words_orders.specs.Table.{option_rows};
+ghost use Rattle.words_sayings.specs.Rows.{shape_of};
 
 use crate::groups::{board_words, fragment_words, fragments_refusal};
 use std::alloc::{AllocError, Global};

@@ -2,8 +2,8 @@
 
 ghost use Rattle.std.specs.Prelude.{◌≡◌, ◌==◌, map};
 ghost use Rattle.std.specs.List.{list_all, starts_with};
-ghost use Rattle.words_orders.specs.Table.{shape_of};
-ghost use Rattle.words_orders.specs.Words.{is_only, is_short_of};
+ghost use Rattle.words_sayings.specs.Rows.{shape_of};
+ghost use Rattle.words_sayings.specs.Words.{is_only, is_short_of};
 
 use words_values::Row;
 

@@ -1,7 +1,7 @@
 //! The tables of AOSP's tools: the words and options of each, with their help.
 
 ghost use Rattle.std.specs.Prelude.{◌≡◌, map};
-ghost use Rattle.words_orders.specs.Table.{shape_of};
+ghost use Rattle.words_sayings.specs.Rows.{shape_of};
 ghost use Rattle.words_tools.specs.Fragments.{fragment_rows};
 ghost use Rattle.words_tools.specs.Tools.{tool_rows};
 

@@ -1,6 +1,6 @@
 use Rattle.std.proofs.Common.{◌∙◌, sym}
 use Rattle.std.specs.Prelude.{bytes_eq}
-use Rattle.words_orders.proofs.Mapped.{any_later, any_now, any_nowhere}
+use Rattle.words_sayings.proofs.Mapped.{any_later, any_now, any_nowhere}
 use Rattle.words_orders.proofs.answers.is_among.Goals as goal
 
 pub returns-then-eq : goal.returns-then-eq

@@ -1,6 +1,6 @@
 use Rattle.std.proofs.Common.{◌∙◌, ◌-◌, arith, sym, ap, map, drop, length}
 use Rattle.std.proofs.lemmas.List.{drop-map, length-drop, length-map, take_all}
-use Rattle.words_orders.specs.Words.{words_due}
+use Rattle.words_sayings.specs.Words.{words_due}
 use Rattle.words_orders.proofs.answers.later_words.Goals as goal
 
 pub returns : goal.returns

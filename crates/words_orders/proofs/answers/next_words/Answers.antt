@@ -1,6 +1,6 @@
 use Rattle.std.proofs.Common.{◌∙◌, sym, ap, map, take}
 use Rattle.std.proofs.lemmas.List.{length-map, take-map}
-use Rattle.words_orders.specs.Words.{words_due}
+use Rattle.words_sayings.specs.Words.{words_due}
 use Rattle.words_orders.proofs.answers.next_words.Goals as goal
 
 pub returns : goal.returns

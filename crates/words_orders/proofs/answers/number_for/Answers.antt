@@ -1,5 +1,6 @@
 use Rattle.std.proofs.Common.{◌∙◌, sym}
-use Rattle.words_orders.proofs.ReadKinds.{clash, read_from, reads_by, same_taken, taken_from}
+use Rattle.words_sayings.proofs.Mapped.{clash}
+use Rattle.words_orders.proofs.ReadKinds.{read_from, reads_by, same_taken, taken_from}
 use Rattle.words_orders.proofs.Told.{none_is_some}
 use Rattle.words_orders.proofs.answers.number_for.Goals as goal
 

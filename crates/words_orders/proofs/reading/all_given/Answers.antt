@@ -1,7 +1,8 @@
 use Rattle.std.proofs.Common.{◌+◌, List, sym, subst, take}
 use Rattle.std.specs.List.{AllZip}
 use Rattle.words_orders.specs.Asked.{IsGiven}
-use Rattle.words_orders.specs.Table.{option_rows, shape_of}
+use Rattle.words_orders.specs.Table.{option_rows}
+use Rattle.words_sayings.specs.Rows.{shape_of}
 use Rattle.words_orders.specs.declared.order.Given.{Given}
 use Rattle.words_orders.proofs.Filling.{given_more}
 use Rattle.words_orders.proofs.reading.all_given.Goals as goal

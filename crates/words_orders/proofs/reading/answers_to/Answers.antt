@@ -1,6 +1,6 @@
 use Rattle.std.proofs.Common.{map}
-use Rattle.words_orders.specs.Steps.{table_of}
-use Rattle.words_orders.specs.Words.{saying_of}
+use Rattle.words_sayings.specs.Steps.{table_of}
+use Rattle.words_sayings.specs.Words.{saying_of}
 use Rattle.words_orders.proofs.Refusing.{unread_answers}
 use Rattle.words_orders.proofs.reading.answers_to.Goals as goal
 

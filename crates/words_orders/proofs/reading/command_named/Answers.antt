@@ -3,7 +3,7 @@ use Rattle.std.specs.Prelude.{bytes_eq, true, false}
 use Rattle.std.specs.List.{find}
 use Rattle.words_orders.specs.Table.{name_of}
 use Rattle.words_orders.proofs.Among.{all_alike}
-use Rattle.words_orders.proofs.Mapped.{found_later, found_now, found_nowhere}
+use Rattle.words_sayings.proofs.Mapped.{found_later, found_now, found_nowhere}
 use Rattle.words_orders.proofs.reading.command_named.Goals as goal
 
 pub loop-command-init : goal.loop-command-init

@@ -1,7 +1,7 @@
 use Rattle.std.proofs.Common.{◌≡◌, ◌∙◌, None, Some, map, ap}
-use Rattle.words_orders.specs.Steps.{table_of}
+use Rattle.words_sayings.specs.Steps.{table_of}
 use Rattle.words_orders.specs.Table.{rows_of}
-use Rattle.words_orders.specs.Words.{saying_of, words_say}
+use Rattle.words_sayings.specs.Words.{saying_of, words_say}
 use Rattle.words_orders.proofs.NoOrder.{no_answers, no_said}
 use Rattle.words_orders.proofs.reading.read_parts.Goals as goal
 

@@ -1,5 +1,5 @@
 use Rattle.std.proofs.Common.{◌≡◌, ◌++◌, drop, map}
-use Rattle.words_orders.specs.Table.{shape_of}
+use Rattle.words_sayings.specs.Rows.{shape_of}
 use Rattle.words_orders.proofs.table.push_rows.Given as goal
 
 abbrev pub invariant-loop-row : goal.invariant-loop-row

@@ -1,7 +1,7 @@
 use Rattle.std.proofs.Common.{◌∙◌, sym}
-use Rattle.words_orders.specs.Table.{shape_of}
-use Rattle.words_orders.specs.Words.{is_only}
-use Rattle.words_orders.proofs.Mapped.{all_fail, all_later, all_pass}
+use Rattle.words_sayings.specs.Rows.{shape_of}
+use Rattle.words_sayings.specs.Words.{is_only}
+use Rattle.words_sayings.proofs.Mapped.{all_fail, all_later, all_pass}
 use Rattle.words_tools.proofs.shortening.is_only.Goals as goal
 
 pub returns-then-not-is_this : goal.returns-then-not-is_this

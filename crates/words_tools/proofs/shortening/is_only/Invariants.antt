@@ -1,7 +1,7 @@
 use Rattle.std.proofs.Common.{◌≡◌, drop, map}
 use Rattle.std.specs.List.{list_all}
-use Rattle.words_orders.specs.Table.{shape_of}
-use Rattle.words_orders.specs.Words.{is_only}
+use Rattle.words_sayings.specs.Rows.{shape_of}
+use Rattle.words_sayings.specs.Words.{is_only}
 use Rattle.words_tools.proofs.shortening.is_only.Given as goal
 
 abbrev pub invariant-loop-row : goal.invariant-loop-row

@@ -1,7 +1,7 @@
 use Rattle.std.proofs.Common.{◌∙◌, sym, map}
-use Rattle.words_orders.specs.Table.{shape_of}
+use Rattle.words_sayings.specs.Rows.{shape_of}
 use Rattle.words_orders.specs.Asked.{is_enough, saying_of_answer}
-use Rattle.words_orders.proofs.Mapped.{all_fail, all_later, all_pass}
+use Rattle.words_sayings.proofs.Mapped.{all_fail, all_later, all_pass}
 use Rattle.words_orders.proofs.answers.Answers.are_enough.Goals as goal
 
 pub returns-then-not-is_enough : goal.returns-then-not-is_enough

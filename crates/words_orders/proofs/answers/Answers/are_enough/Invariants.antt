@@ -1,7 +1,7 @@
 use Rattle.std.proofs.Common.{◌≡◌, drop, map}
 use Rattle.std.specs.List.{list_all}
-use Rattle.words_orders.specs.Steps.{table_of}
-use Rattle.words_orders.specs.Table.{shape_of}
+use Rattle.words_sayings.specs.Steps.{table_of}
+use Rattle.words_sayings.specs.Rows.{shape_of}
 use Rattle.words_orders.specs.Asked.{is_enough, saying_of_answer}
 use Rattle.words_orders.proofs.answers.Answers.are_enough.Given as goal
 

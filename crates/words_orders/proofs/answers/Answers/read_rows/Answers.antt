@@ -1,7 +1,7 @@
 use Rattle.std.proofs.Common.{◌∙◌, map}
 use Rattle.words_orders.specs.Asked.{saying_of_answer}
-use Rattle.words_orders.specs.Table.{shape_of}
-use Rattle.words_orders.specs.Words.{saying_of}
+use Rattle.words_sayings.specs.Rows.{shape_of}
+use Rattle.words_sayings.specs.Words.{saying_of}
 use Rattle.words_orders.proofs.ReadSteps.{answered_more, left_more}
 use Rattle.words_orders.proofs.Refusing.{due_here, due_later, none_left}
 use Rattle.words_orders.proofs.answers.Answers.read_rows.Goals as goal

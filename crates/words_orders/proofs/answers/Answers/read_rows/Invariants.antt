@@ -2,8 +2,8 @@ use Rattle.std.proofs.Common.{◌≡◌, ◌++◌, map, drop}
 use Rattle.std.specs.List.{All}
 use Rattle.words_orders.specs.Asked.{IsReadRight, saying_of_answer}
 use Rattle.words_orders.specs.Reads.{CanBeRead}
-use Rattle.words_orders.specs.Table.{shape_of}
-use Rattle.words_orders.specs.Words.{answers_due, left_over, saying_of}
+use Rattle.words_sayings.specs.Rows.{shape_of}
+use Rattle.words_sayings.specs.Words.{answers_due, left_over, saying_of}
 use Rattle.words_orders.proofs.answers.Answers.read_rows.Given as goal
 
 abbrev pub invariant-loop-row : goal.invariant-loop-row

@@ -1,8 +1,8 @@
 use Rattle.std.proofs.Common.{[], ◌∷◌, ◌++◌, ◌∙◌}
 use Rattle.std.proofs.lemmas.List.Elements.{All-push, All-same}
 use Rattle.words_orders.specs.Asked.{IsReadRight, saying_of_answer}
-use Rattle.words_orders.specs.Table.{shape_of}
-use Rattle.words_orders.specs.Words.{of_row}
+use Rattle.words_sayings.specs.Rows.{shape_of}
+use Rattle.words_sayings.specs.Words.{of_row}
 use Rattle.words_orders.proofs.ReadSteps.{added_more_of, answer_is, read_is}
 use Rattle.words_orders.proofs.Refusing.{told_unread, unread_at}
 use Rattle.words_orders.proofs.answers.Answers.read_words.Goals as goal

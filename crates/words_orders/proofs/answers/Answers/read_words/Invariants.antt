@@ -1,8 +1,8 @@
 use Rattle.std.proofs.Common.{◌≡◌, ◌++◌, map, drop}
 use Rattle.std.specs.List.{All}
 use Rattle.words_orders.specs.Asked.{IsReadRight, saying_of_answer}
-use Rattle.words_orders.specs.Table.{shape_of}
-use Rattle.words_orders.specs.Words.{of_row}
+use Rattle.words_sayings.specs.Rows.{shape_of}
+use Rattle.words_sayings.specs.Words.{of_row}
 use Rattle.words_orders.proofs.answers.Answers.read_words.Given as goal
 
 abbrev pub invariant-loop-word : goal.invariant-loop-word
