@@ -1,4 +1,4 @@
-use Rattle.std.proofs.Common.{rules, ap, map, subst}
+use Rattle.std.proofs.Common.{rules, [], ◌∷◌, ◌++◌, ap, map, subst}
 use Rattle.words_tools.specs.Fragments.{AreParting}
 use Rattle.words_tools.proofs.Parting.{leave_one, parted_of_none, say_equals, say_next}
 use Rattle.words_tools.proofs.fragments.Parted.take.Goals as goal
@@ -27,3 +27,18 @@ returns-in_ok-say-in-WithEquals c = λ words before.
       search (rules, c.in_default.not-Some, c.in_default.is),
     )) before) says.2 says.3 c.in_ok-answer_of-in-WithEquals.ensures says.1 c.in_ok-say-in-WithEquals.ensures.said
     (ap (map (λ it. it.now)) c.in_ok-say-in-WithEquals.ensures.others)
+
+pub returns-in-WithNext : goal.returns-in-WithNext
+returns-in-WithNext c = λ words before.
+    let says = c.in-WithNext.ensures in
+    record {
+      front = words;
+      short = says.0;
+      last = ap (λ w. words ++ (w ∷ [])) says.1;
+      named = says.2;
+      row_in = says.3;
+      parted = parted_of_none words _ _ c.args.before (first_of (
+        assumption c.in_default.not-Some,
+        search (rules, c.in_default.not-Some, c.in_default.is),
+      )) before;
+    }
