@@ -35,15 +35,17 @@ IsNoted old new =
 abbrev pub IsSilent : Report → Report → Type 0
 IsSilent old new = IsNoted old new × (new.err.log.state.bytes ≡ old.err.log.state.bytes)
 
--- these bytes more were written to standard error; or they could not be, which is counted
+-- these bytes more were written to standard error, and nothing is counted; or they could not be, which is counted
 abbrev pub Notes : Report → Report → List ℕ → Type 0
 Notes old new told =
-    (new.err.log.state.bytes ≡ old.err.log.state.bytes ++ told) ⊎ (old.unshown.number < new.unshown.number)
+    ((new.err.log.state.bytes ≡ old.err.log.state.bytes ++ told) × (new.unshown.number ≡ old.unshown.number))
+    ⊎ (old.unshown.number < new.unshown.number)
 
 -- the same of one of these texts
 abbrev pub NotesOne : Report → Report → (List ℕ → Type 0) → Type 0
 NotesOne old new IsText =
-    ((told : List ℕ) × IsText told × (new.err.log.state.bytes ≡ old.err.log.state.bytes ++ told))
+    ((told : List ℕ) × IsText told × (new.err.log.state.bytes ≡ old.err.log.state.bytes ++ told)
+        × (new.unshown.number ≡ old.unshown.number))
     ⊎ (old.unshown.number < new.unshown.number)
 
 -- a line: the program's name, a colon and a space, and what is said of a fault

@@ -1,4 +1,4 @@
-use Rattle.std.proofs.Common.{◌≡◌, ◌⊎◌, ◌<◌, ◌+◌, ℕ, List, ◌++◌, Option, Some, None, IfSome, inl, inr, arith}
+use Rattle.std.proofs.Common.{◌≡◌, ◌⊎◌, ◌<◌, ◌+◌, ℕ, List, ◌++◌, Option, Some, None, IfSome, inl, inr, refl, arith}
 use Rattle.sys_report.proofs.report.Report.note.Goals as goal
 
 -- the line went out
@@ -13,7 +13,7 @@ counted None Q more = tt
 counted (Some told) Q more = more told
 
 pub returns-in-Ok-clause-told : goal.returns-in-Ok-clause-told
-returns-in-Ok-clause-told g c = noted _ _ _ (λ told is. inl is) c.in-Ok.ensures
+returns-in-Ok-clause-told g c = noted _ _ _ (λ told is. inl (is, refl)) c.in-Ok.ensures
 
 pub returns-in-Err-clause-told : goal.returns-in-Err-clause-told
 returns-in-Err-clause-told g c = counted _ _ (λ told. inr (omega (arith, c.add.ensures)))

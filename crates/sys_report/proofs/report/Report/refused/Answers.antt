@@ -23,4 +23,5 @@ returns-else-is_err-2-clause-told g c =
           c.args.self.now.err.log.state.bytes c.finish-sent.new.self.output.now.log.state.bytes _ prints
           c.finish-sent.ensures.done c.finish-sent.ensures.emptied c.new-text.ensures.nothing_held
           c.new-text.ensures.written refl) sent,
+      refl,
     )
