@@ -1,6 +1,6 @@
 -- What a message adds to a report.
 use Rattle.std.specs.Prelude.{◌≡◌, ℕ, ℤ, pos, negsuc, List, [], ◌∷◌, ◌++◌, ◌==◌, ◌||◌, Bool, true, false, Option}
-use Rattle.std.specs.Prelude.{Some, None, IfSome, codes, decimal, if◌then◌else◌}
+use Rattle.std.specs.Prelude.{Some, None, IfSome, codes, decimal}
 use Rattle.sys_refusals.specs.Paths.{shown_place}
 use Rattle.sys_refusals.specs.declared.place.FileArg.{FileArg}
 use Rattle.sys_refusals.specs.declared.refusal.About.{About}
@@ -27,8 +27,8 @@ is_of_room (Some (negsuc n)) = false
 -- from which piece a stopped flash continues
 abbrev pub mending : Option ℕ → Bool → List ℕ
 mending None room = []
-mending (Some piece) room =
-    codes (if room then "; make room, then --from " else "; --from ") ++ (decimal piece ++ codes " mends it")
+mending (Some piece) true = codes "; make room, then --from " ++ (decimal piece ++ codes " mends it")
+mending (Some piece) false = codes "; --from " ++ (decimal piece ++ codes " mends it")
 
 -- the file that is not complete
 abbrev pub unfinished_text : Option FileArg → List ℕ
@@ -41,7 +41,7 @@ pub record IsSecondLine (piece : Option ℕ) (about : About) (line : List ℕ) :
   pub why : List ℕ
   pub advised : IfSome about.advice (λ advice. why ≡ advice.now)
   pub whole :
-    line ≡ of_place about.place why ++ mending piece (is_of_room about.why) ++ unfinished_text about.unfinished
+      line ≡ of_place about.place why ++ mending piece (is_of_room about.why) ++ unfinished_text about.unfinished
 
 -- it is asked for, or not
 abbrev pub IsSecond : Bool → Option ℕ → About → List ℕ → Type 0

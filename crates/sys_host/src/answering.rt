@@ -46,7 +46,7 @@ pub fn answer<F: Told + Drop>(
     ensures refused { IfErr outcome.entry (λ refusal. result ≡ (if F.wrong_words refusal.fault then 2 else 1)) }
     ensures noted { IsNoted report.old report.new }
     ensures told { IfErr outcome.entry (λ refusal. Answers refusal.about.is_untold report.old report.new
-        (IsMessage (F.says refusal.fault) (F.mended_from refusal.fault) how.entry refusal.about)) }
+        (IsMessage (F.says refusal.fault) (F.mended_from refusal.fault) how refusal.about)) }
 {
     report.progress.erase();
     let refusal = match outcome {
@@ -71,7 +71,7 @@ fn tell<F: Told, S: System>(
 )
     ensures noted { IsNoted report.old report.new }
     ensures told { NotesOne report.old report.new (IsMessage (F.says refusal.now.fault) (F.mended_from
-        refusal.now.fault) how.entry refusal.now.about) }
+        refusal.now.fault) how refusal.now.about) }
 {
     if !how.is_verbose {
         report.refused(how.program, &refusal.fault, refusal.about.place);
@@ -102,7 +102,12 @@ fn second_line<F: Told, S: System>(
         },
     };
     let line = of_place(alloc, about.place, why.as_str())?;
-    let mended = with_mending(alloc, line.as_str(), refusal.fault.mending_piece(), about.why)?;
+    let mended = with_mending(
+        alloc,
+        line.as_str(),
+        refusal.fault.mending_piece(),
+        about.why,
+    )?;
     with_unfinished(alloc, mended.as_str(), about.unfinished)
 }
 
