@@ -26,7 +26,7 @@ MORE_FUNCTIONS = {"abt_sections": 107, "mem_disk": 102, "cmd_unpack_aosp_texts":
 # How many functions have contracts of more clauses than this.
 LONG_CONTRACTS = {15: 3, 20: 1}
 # How many clauses are, to the letter, one that stands before, in any function of any crate.
-REPEATED_CLAUSES = 684
+REPEATED_CLAUSES = 703
 # The names that two files define, each with what it says in the one and in the other.
 NAMES_DEFINED_TWICE = {
     "Begins": "of a spool's and of a file's bytes, of which they are a front; of a text, which has grown by one",
@@ -75,8 +75,8 @@ LINES = {
     "boot images": 227,
     "system": 96,
     "words": 133,
-    "commands over sparse images": 144,
-    "commands over boot images": 141,
+    "commands over sparse images": 152,
+    "commands over boot images": 145,
     "laws": 62,
     "memory": 30,
     "for programs in C": 25,

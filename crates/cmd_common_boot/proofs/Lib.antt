@@ -3,4 +3,5 @@ pub mod Calls
 pub mod Causes
 pub mod Ranging
 pub mod Refusals
+pub mod Sides
 pub mod Words

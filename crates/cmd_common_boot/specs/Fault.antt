@@ -1,7 +1,13 @@
--- Which faults concern the arguments, and the number of each fault.
-use Rattle.std.specs.Prelude.{◌≡◌, ℕ, Bool, true, false, Option, Some, None}
+-- Which faults concern the arguments, the number of each fault, and which of the files it concerns.
+use Rattle.sys_text.specs.Shown.{as_shown}
+use Rattle.sys_refusals.specs.Said.{TellsNumber, host_said, shortened}
+use Rattle.sys_refusals.specs.declared.place.FileArg.{FileArg}
+use Rattle.std.specs.Prelude.{◌≡◌, ℕ, ◌==◌, ◌||◌, List, ◌++◌, Bool, true, false, Option, Some, None, codes}
+use Rattle.std.specs.Prelude.{if◌then◌else◌}
 use Rattle.sys_refusals.specs.Host.{is_not_text}
 use Rattle.sys_refusals.specs.declared.refusal.HostFault.TheVariants as hosts
+use Rattle.sys_refusals.specs.declared.told.Side.{Side}
+use Rattle.sys_refusals.specs.declared.told.Side.TheVariants as sides
 use Rattle.abt_sections.specs.Fault as section
 use Rattle.abt_headers.specs.declared.fault.HeaderFault.TheVariants as headers
 use Rattle.abt_sections.specs.declared.fault.SectionFault.TheVariants as sections
@@ -28,6 +34,36 @@ boot_command_fault_number (faults.BadFragment word) = None
 boot_command_fault_number (faults.BadNumber word) = None
 boot_command_fault_number (faults.BadBoardId word) = None
 boot_command_fault_number faults.CheckFailed = None
+
+-- Of what is written: 12 is not written. Of the arguments: 26 no name, 27 no command line, 28 no OS version. All others
+-- are of what is read.
+abbrev pub boot_side_of_number : ℕ → Side
+boot_side_of_number n = if n == 12 then sides.Output else (if n == 26 || (n == 27 || n == 28) then sides.Words
+    else sides.Input)
+
+-- which of the files in use a fault is about
+abbrev pub boot_side_of : BootCommandFault → Side
+boot_side_of (faults.Section fault) = boot_side_of_number (section.section_fault_number fault)
+boot_side_of (faults.Host fault) = sides.Call
+boot_side_of (faults.OptionNotCarried name) = sides.Words
+boot_side_of (faults.BadFragment word) = sides.Words
+boot_side_of (faults.BadNumber word) = sides.Words
+boot_side_of (faults.BadBoardId word) = sides.Words
+boot_side_of faults.CheckFailed = sides.Words
+
+-- what is wrong, and the word that it concerns
+abbrev pub about_word : List ℕ → List ℕ → List ℕ
+about_word wrong word = wrong ++ shortened (as_shown word)
+
+-- what the first line may say of a fault: the number and a text, or exactly what is wrong
+abbrev pub boot_says : BootCommandFault → Option FileArg → List ℕ → Type 0
+boot_says (faults.Section fault) place told = TellsNumber (section.section_fault_number fault) told
+boot_says (faults.Host fault) place told = told ≡ host_said fault place
+boot_says (faults.OptionNotCarried name) place told = told ≡ about_word (codes "option not carried: --") name.now
+boot_says (faults.BadFragment word) place told = told ≡ about_word (codes "bad fragment ") word.now
+boot_says (faults.BadNumber word) place told = told ≡ about_word (codes "bad number ") word.now
+boot_says (faults.BadBoardId word) place told = told ≡ about_word (codes "bad board id ") word.now
+boot_says faults.CheckFailed place told = told ≡ codes "check failed"
 
 -- there is no such header version
 abbrev pub of_version : ℕ → BootCommandFault

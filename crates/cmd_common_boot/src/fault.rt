@@ -1,13 +1,15 @@
 //! Why a command of boot images fails, and what the user is told.
 
-ghost use Rattle.std.specs.Prelude.{◌≡◌, ℕ, List, MatchResult, Ok, Err};
+ghost use Rattle.std.specs.Prelude.{◌≡◌, ℕ, List, MatchResult, None, OnOk, Ok, Err};
 ghost use Rattle.sys_text.specs.Printed.{Prints};
-ghost use Rattle.cmd_common_boot.specs.Fault.{is_usage, boot_command_fault_number};
+ghost use Rattle.cmd_common_boot.specs.Fault.{about_word, boot_command_fault_number, boot_says, boot_side_of};
+ghost use Rattle.cmd_common_boot.specs.Fault.{boot_side_of_number, is_usage};
 ghost use Rattle.cmd_common_boot.specs.declared.fault.BootCommandFault.TheVariants.{Host};
 
 use abt_headers::HeaderFault;
 use abt_io::Output;
 use abt_sections::SectionFault;
+use std::fmt;
 use sys_refusals::{FileArg, HostFault, Magic, Refusal, Side, Told};
 use sys_text::{ShownPath, Text};
 
@@ -78,6 +80,12 @@ impl<'a> BootCommandFault<'a> {
 impl Told for BootCommandFault<'_> {
     ghost wrong_words = { is_usage };
 
+    ghost side_of = { boot_side_of };
+
+    ghost says = { boot_says };
+
+    ghost mended_from = { λ _. None };
+
     fn is_usage(&self) -> bool {
         match self {
             BootCommandFault::Host(fault) => fault.is_usage(),
@@ -91,11 +99,14 @@ impl Told for BootCommandFault<'_> {
     }
 
     fn side(&self) -> Side {
-        match self.number() {
-            Some(12) => Side::Output,
-            Some(26 | 27 | 28) => Side::Words,
-            Some(_) => Side::Input,
-            None => Side::Words,
+        match self {
+            BootCommandFault::Section(fault) => side_of_number(fault.number()),
+            BootCommandFault::Host(_) => Side::Call,
+            BootCommandFault::OptionNotCarried(_) => Side::Words,
+            BootCommandFault::BadFragment(_) => Side::Words,
+            BootCommandFault::BadNumber(_) => Side::Words,
+            BootCommandFault::BadBoardId(_) => Side::Words,
+            BootCommandFault::CheckFailed => Side::Words,
         }
     }
 
@@ -135,28 +146,43 @@ impl Told for BootCommandFault<'_> {
         None
     }
 
-    fn put<O: Output>(&self, place: Option<FileArg<'_>>, text: &mut Text<'_, O>) {
+    fn put<O: Output>(&self, place: Option<FileArg<'_>>, text: &mut Text<'_, O>) -> fmt::Result {
         match self {
             BootCommandFault::Host(fault) => fault.put(place, text),
-            BootCommandFault::Section(fault) => text.short(format_args!("{fault}")),
-            BootCommandFault::OptionNotCarried(name) => {
-                put_about("option not carried: --", name, text);
+            BootCommandFault::Section(fault) => {
+                text.numbered(fault.number(), format_args!("{fault}"));
+                Ok(())
             }
+            BootCommandFault::OptionNotCarried(name) => put_about("option not carried: --", name, text),
             BootCommandFault::BadFragment(word) => put_about("bad fragment ", word, text),
             BootCommandFault::BadNumber(word) => put_about("bad number ", word, text),
             BootCommandFault::BadBoardId(word) => put_about("bad board id ", word, text),
-            BootCommandFault::CheckFailed => text.word("check failed"),
+            BootCommandFault::CheckFailed => {
+                text.word("check failed");
+                Ok(())
+            }
         }
+    }
+}
+
+fn side_of_number(number: u32) -> Side
+    ensures { result ≡ boot_side_of_number number }
+{
+    match number {
+        12 => Side::Output,
+        26 | 27 | 28 => Side::Words,
+        _ => Side::Input,
     }
 }
 
 // Adds what is wrong, and the argument that it concerns, as a terminal can show it.
 #[inline(never)]
-fn put_about<O: Output>(wrong: &str, word: &str, text: &mut Text<'_, O>)
-    ensures { (told : List ℕ) × Prints O.written O.write_faults text.old text.new told }
+fn put_about<O: Output>(wrong: &str, word: &str, text: &mut Text<'_, O>) -> fmt::Result
+    ensures { (told : List ℕ) × Prints O.written O.write_faults text.old text.new told × OnOk
+        result (told ≡ about_word wrong.now word.now) }
 {
     text.word(wrong);
-    text.short(ShownPath(word));
+    text.short(ShownPath(word))
 }
 
 fn advice_of_number(number: u32) -> &'static str {

@@ -1,5 +1,6 @@
 -- Which faults concern the arguments, the number of each fault, and which of the files it concerns.
-use Rattle.std.specs.Prelude.{ℕ, ◌==◌, ◌||◌, Bool, false, Option, Some, None, if◌then◌else◌}
+use Rattle.std.specs.Prelude.{◌≡◌, ℕ, ◌==◌, ◌||◌, List, ◌++◌, Bool, false, Option, Some, None, codes, decimal}
+use Rattle.std.specs.Prelude.{if◌then◌else◌}
 use Rattle.abt_sparse.specs.Number as sparse
 use Rattle.abt_runs.specs.Number as run
 use Rattle.abt_pieces.specs.Fault as piece
@@ -10,6 +11,8 @@ use Rattle.abt_flash_faults.specs.declared.fault.Cause.TheVariants as causes
 use Rattle.abt_flash_faults.specs.declared.fault.FlashFault.{FlashFault}
 use Rattle.abt_flash_faults.specs.declared.fault.FlashFault.TheVariants as flashes
 use Rattle.sys_refusals.specs.Host.{is_not_text}
+use Rattle.sys_refusals.specs.Said.{TellsNumber, host_said}
+use Rattle.sys_refusals.specs.declared.place.FileArg.{FileArg}
 use Rattle.sys_refusals.specs.declared.told.Side.{Side}
 use Rattle.sys_refusals.specs.declared.told.Side.TheVariants as sides
 use Rattle.cmd_common_sparse.specs.declared.fault.SparseCommandFault.{SparseCommandFault}
@@ -53,3 +56,63 @@ abbrev pub side_of_number : ℕ → Side
 side_of_number n =
     if n == 12 || (n == 17 || (n == 18 || (n == 35 || n == 37))) then sides.Output
     else (if n == 15 || (n == 16 || n == 31) then sides.Words else sides.Input)
+
+-- a stopped delivery is about the file of its cause
+abbrev pub side_of_flash : FlashFault → Side
+side_of_flash (flashes.Sparse f) = side_of_number (sparse.number_of f)
+side_of_flash (flashes.Read f) = sides.Input
+side_of_flash (flashes.Write f) = sides.Output
+side_of_flash flashes.TooLarge = sides.Input
+side_of_flash flashes.SourceChanged = sides.Input
+side_of_flash (flashes.BadBlock n) = sides.Words
+side_of_flash (flashes.LimitTooSmall n) = sides.Words
+side_of_flash (flashes.PartitionTooSmall n) = sides.Output
+side_of_flash (flashes.Sync f) = sides.Output
+side_of_flash (flashes.Stopped piece cause) = side_of_cause cause
+side_of_flash (flashes.NoSuchPiece n) = sides.Words
+
+-- which of the files in use a fault is about
+abbrev pub side_of : SparseCommandFault → Side
+side_of (faults.Sparse fault) = side_of_number (sparse.number_of fault)
+side_of (faults.Run fault) = side_of_number (run.run_fault_number fault)
+side_of (faults.Piece fault) = side_of_number (piece.piece_fault_number fault)
+side_of (faults.Flash fault) = side_of_flash fault
+side_of (faults.Verify fault) = side_of_number (verify.verify_fault_number fault)
+side_of (faults.OtherBlocks image) = sides.Input
+side_of (faults.OtherCut image) = sides.Input
+side_of (faults.Host fault) = sides.Call
+
+-- the piece from which a stopped flash continues
+abbrev pub mended_of_flash : FlashFault → Option ℕ
+mended_of_flash (flashes.Sparse f) = None
+mended_of_flash (flashes.Read f) = None
+mended_of_flash (flashes.Write f) = None
+mended_of_flash flashes.TooLarge = None
+mended_of_flash flashes.SourceChanged = None
+mended_of_flash (flashes.BadBlock n) = None
+mended_of_flash (flashes.LimitTooSmall n) = None
+mended_of_flash (flashes.PartitionTooSmall n) = None
+mended_of_flash (flashes.Sync f) = None
+mended_of_flash (flashes.Stopped piece cause) = Some piece
+mended_of_flash (flashes.NoSuchPiece n) = None
+
+abbrev pub mended_from : SparseCommandFault → Option ℕ
+mended_from (faults.Sparse fault) = None
+mended_from (faults.Run fault) = None
+mended_from (faults.Piece fault) = None
+mended_from (faults.Flash fault) = mended_of_flash fault
+mended_from (faults.Verify fault) = None
+mended_from (faults.OtherBlocks image) = None
+mended_from (faults.OtherCut image) = None
+mended_from (faults.Host fault) = None
+
+-- what the first line may say: the number and a text, or exactly what is wrong
+abbrev pub says : SparseCommandFault → Option FileArg → List ℕ → Type 0
+says (faults.Sparse fault) place told = TellsNumber (sparse.number_of fault) told
+says (faults.Run fault) place told = TellsNumber (run.run_fault_number fault) told
+says (faults.Piece fault) place told = TellsNumber (piece.piece_fault_number fault) told
+says (faults.Flash fault) place told = TellsNumber (flash.flash_fault_number fault) told
+says (faults.Verify fault) place told = TellsNumber (verify.verify_fault_number fault) told
+says (faults.OtherBlocks image) place told = told ≡ codes "36 OtherBlocks image " ++ decimal image
+says (faults.OtherCut image) place told = told ≡ codes "38 OtherCut image " ++ decimal image
+says (faults.Host fault) place told = told ≡ host_said fault place

@@ -1,9 +1,10 @@
 //! Why a command of sparse images fails.
 
-ghost use Rattle.std.specs.Prelude.{◌≡◌, List, ℕ};
+ghost use Rattle.std.specs.Prelude.{◌≡◌, ◌++◌, List, ℕ, decimal};
 ghost use Rattle.sys_text.specs.Printed.{Prints};
 ghost use Rattle.cmd_common_sparse.specs.Fault.{sparse_command_fault_number, side_of_cause, side_of_number};
-ghost use Rattle.cmd_common_sparse.specs.Fault.{wrong_words};
+ghost use Rattle.cmd_common_sparse.specs.Fault.{mended_from, says, side_of, side_of_flash, wrong_words};
+ghost use Rattle.sys_refusals.specs.Said.{TellsNumber};
 ghost use Rattle.cmd_common_sparse.specs.declared.fault.SparseCommandFault.TheVariants.{Host};
 
 use abt_flash_faults::{Cause, FlashFault};
@@ -12,6 +13,7 @@ use abt_pieces::PieceFault;
 use abt_runs::RunFault;
 use abt_sparse::SparseFault;
 use abt_verify::VerifyFault;
+use std::fmt;
 use sys_refusals::{FileArg, HostFault, HostRefusal, Magic, Refusal, Side, Told};
 use sys_text::Text;
 
@@ -68,6 +70,12 @@ impl SparseCommandFault {
 impl Told for SparseCommandFault {
     ghost wrong_words = { wrong_words };
 
+    ghost side_of = { side_of };
+
+    ghost says = { says };
+
+    ghost mended_from = { mended_from };
+
     fn is_usage(&self) -> bool {
         match self {
             SparseCommandFault::Host(fault) => fault.is_usage(),
@@ -83,11 +91,14 @@ impl Told for SparseCommandFault {
 
     fn side(&self) -> Side {
         match self {
-            SparseCommandFault::Flash(FlashFault::Stopped { cause, .. }) => side_of_cause(cause),
-            _ => match self.number() {
-                Some(number) => side_of_number(number),
-                None => Side::Words,
-            },
+            SparseCommandFault::Sparse(fault) => side_of_number(fault.number()),
+            SparseCommandFault::Run(fault) => side_of_number(fault.number()),
+            SparseCommandFault::Piece(fault) => side_of_number(fault.number()),
+            SparseCommandFault::Flash(fault) => side_of_flash(fault),
+            SparseCommandFault::Verify(fault) => side_of_number(fault.number()),
+            SparseCommandFault::OtherBlocks { .. } => Side::Input,
+            SparseCommandFault::OtherCut { .. } => Side::Input,
+            SparseCommandFault::Host(_) => Side::Call,
         }
     }
 
@@ -128,21 +139,52 @@ impl Told for SparseCommandFault {
         }
     }
 
-    fn put<O: Output>(&self, place: Option<FileArg<'_>>, text: &mut Text<'_, O>) {
+    fn put<O: Output>(&self, place: Option<FileArg<'_>>, text: &mut Text<'_, O>) -> fmt::Result {
         match self {
-            SparseCommandFault::Sparse(fault) => text.short(format_args!("{fault}")),
-            SparseCommandFault::Run(fault) => text.short(format_args!("{fault}")),
-            SparseCommandFault::Piece(fault) => text.short(format_args!("{fault}")),
-            SparseCommandFault::Flash(fault) => text.short(format_args!("{fault}")),
-            SparseCommandFault::Verify(fault) => text.short(format_args!("{fault}")),
-            SparseCommandFault::OtherBlocks { image } => {
-                text.short(format_args!("36 OtherBlocks image {image}"));
-            }
-            SparseCommandFault::OtherCut { image } => {
-                text.short(format_args!("38 OtherCut image {image}"));
-            }
+            SparseCommandFault::Sparse(fault) => put_numbered(fault.number(), fault, text),
+            SparseCommandFault::Run(fault) => put_numbered(fault.number(), fault, text),
+            SparseCommandFault::Piece(fault) => put_numbered(fault.number(), fault, text),
+            SparseCommandFault::Flash(fault) => put_numbered(fault.number(), fault, text),
+            SparseCommandFault::Verify(fault) => put_numbered(fault.number(), fault, text),
+            SparseCommandFault::OtherBlocks { image } => put_image("36 OtherBlocks image ", *image, text),
+            SparseCommandFault::OtherCut { image } => put_image("38 OtherCut image ", *image, text),
             SparseCommandFault::Host(fault) => fault.put(place, text),
         }
+    }
+}
+
+// Adds a fault with a number.
+fn put_numbered<D: fmt::Display, O: Output>(number: u32, fault: &D, text: &mut Text<'_, O>) -> fmt::Result
+    ensures { (told : List ℕ) × Prints O.written O.write_faults text.old text.new told × TellsNumber number told }
+{
+    text.numbered(number, format_args!("{fault}"));
+    Ok(())
+}
+
+// Adds what is wrong with one of several images.
+fn put_image<O: Output>(wrong: &str, image: u32, text: &mut Text<'_, O>) -> fmt::Result
+    ensures { Prints O.written O.write_faults text.old text.new (wrong.now ++ decimal image) }
+{
+    text.word(wrong);
+    text.number(image as u64);
+    Ok(())
+}
+
+fn side_of_flash(fault: &FlashFault) -> Side
+    ensures { result ≡ side_of_flash fault.now }
+{
+    match fault {
+        FlashFault::Sparse(fault) => side_of_number(fault.number()),
+        FlashFault::Read(_) => Side::Input,
+        FlashFault::Write(_) => Side::Output,
+        FlashFault::TooLarge => Side::Input,
+        FlashFault::SourceChanged => Side::Input,
+        FlashFault::BadBlock(_) => Side::Words,
+        FlashFault::LimitTooSmall { .. } => Side::Words,
+        FlashFault::PartitionTooSmall { .. } => Side::Output,
+        FlashFault::Sync(_) => Side::Output,
+        FlashFault::Stopped { cause, .. } => side_of_cause(cause),
+        FlashFault::NoSuchPiece { .. } => Side::Words,
     }
 }
 

@@ -1,7 +1,8 @@
 //! The line that a command prints after its work.
 
 ghost use Rattle.std.specs.Prelude.{Some};
-ghost use Rattle.cmd_common_sparse.specs.Lines.{line_text};
+ghost use Rattle.sys_refusals.specs.Paths.{shown_place};
+ghost use Rattle.cmd_common_sparse.specs.Lines.{left_over_text, line_text};
 
 use std::fmt;
 use sys_refusals::FileArg;
@@ -61,6 +62,8 @@ impl fmt::Display for Line {
 pub struct LeftOver<'a>(pub FileArg<'a>);
 
 impl fmt::Display for LeftOver<'_> {
+    ghost output = { λ file. Some (left_over_text (shown_place file.0)) };
+
     fn fmt<W: fmt::Write>(&self, f: &mut fmt::Formatter<W>) -> fmt::Result {
         let place = self.0;
         write!(f, "abootimg: left over {place}")

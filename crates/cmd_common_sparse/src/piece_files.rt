@@ -1,7 +1,8 @@
 //! The files that arguments name: an image that is read at any position, and piece files.
 
 ghost use Rattle.std.specs.Prelude.{◌≡◌, ◌<◌, ◌+◌, ℕ, None, Some};
-ghost use Rattle.sys_refusals.specs.Paths.{numbered, path_of};
+ghost use Rattle.sys_refusals.specs.Paths.{numbered, path_of, shown_place};
+ghost use Rattle.sys_text.specs.Shown.{as_shown};
 ghost use Rattle.cmd_common_sparse.specs.ImagePath.{image_path};
 ghost use Rattle.cmd_common_sparse.specs.PieceNames.{number_in_turn};
 
@@ -57,7 +58,10 @@ impl<'a> PieceFiles<'a> {
 
     /// The prefix that all names have before their numbers.
     pub fn front(&self) -> FileArg<'a>
-        ensures { (n : ℕ) → path_of (record result { number = Some n }) ≡ numbered self.now.names.prefix.now (Some n) }
+        ensures path { (n : ℕ) → path_of (record result { number = Some n })
+            ≡ numbered self.now.names.prefix.now (Some n) }
+        ensures shown { (n : ℕ) → shown_place (record result { number = Some n })
+            ≡ numbered (as_shown self.now.names.prefix.now) (Some n) }
     {
         FileArg {
             role: "PIECE",

@@ -5,6 +5,8 @@ pub mod CutCommands
 pub mod Files
 pub mod Fronts
 pub mod Leavings
+pub mod LeftOvers
 pub mod Nexts
 pub mod Opened
+pub mod Told
 pub mod Wholes

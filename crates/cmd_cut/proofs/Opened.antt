@@ -93,7 +93,7 @@ sparse_image header long image x is o = record {
   holds = ap blocks_in o.is_image;
 }
 
-fails_by : (x : List ℕ) (f : SparseFault) (o : Outcome) → IsOutcome x o → Refuses (of_runs.Sparse f) o
+pub fails_by : (x : List ℕ) (f : SparseFault) (o : Outcome) → IsOutcome x o → Refuses (of_runs.Sparse f) o
     → (given : List (Option ℕ)) × Fails x f given
 fails_by x f (Fault g cells) is same = (cells, subst (λ e. Fails x e cells) (sym same) is)
 fails_by x f (Image h cs rest) is refused = absurd refused

@@ -25,18 +25,20 @@ use Rattle.abt_pieces.specs.declared.stage.CutterStage.{CutterStage}
 use Rattle.abt_pieces.specs.declared.stage.CutterStage.TheVariants.{Between}
 use Rattle.abt_pieces.specs.declared.fault.PieceFault.{PieceFault}
 use Rattle.abt_pieces.specs.declared.fault.PieceFault.TheVariants as of_pieces
-use Rattle.sys_refusals.specs.Paths.{numbered}
+use Rattle.sys_refusals.specs.Paths.{numbered, path_out}
+use Rattle.sys_refusals.specs.declared.place.FileArg.{FileArg}
 use Rattle.sys_refusals.specs.declared.refusal.HostFault.{HostFault}
 use Rattle.sys_refusals.specs.declared.refusal.HostFault.TheVariants as hosts
 use Rattle.sys_disk.specs.World.{World, OpenFiles, Ends, KeepsFile, SparesRest, HasFailed, HasNotFailed, ended}
 use Rattle.sys_disk.specs.World.{failing}
 use Rattle.cmd_common_sparse.specs.Blocks.{IsRawBlockSize}
-use Rattle.cmd_common_sparse.specs.Lines.{line_text}
+use Rattle.sys_disk.specs.LeftOver.{IsNextLeft}
+use Rattle.cmd_common_sparse.specs.Lines.{left_over_line, line_text}
 use Rattle.cmd_common_sparse.specs.PieceNames.{Naming, number_in_turn}
 use Rattle.cmd_common_sparse.specs.declared.fault.SparseCommandFault.{SparseCommandFault}
 use Rattle.cmd_common_sparse.specs.declared.fault.SparseCommandFault.TheVariants as faults
 use Rattle.cmd_common_sparse.specs.declared.lines.Line.TheVariants as lines
-use Rattle.sys_report.specs.Shows.{IsNoted, IsSilent, Shows, ShowsHere}
+use Rattle.sys_report.specs.Shows.{IsNoted, IsSilent, Notes, Shows, ShowsHere}
 use Rattle.sys_report.specs.declared.report.Report.{Report}
 use Rattle.cmd_cut.specs.Sparsing.{IsOutsideSparse}
 use Rattle.sys_disk.specs.Among.{GoesAmong, IsMade, KeepsMade, OnlyAmong}
@@ -131,13 +133,21 @@ ShowsPieces from_zero limit size blocks (suc n) old new =
     (next : Report) × ((p : Piece) × (ShowsPieces from_zero limit size blocks n old next
     × (NumbersOfPiece limit size blocks n p × Shows next new (piece_line (number_in_turn from_zero (suc n)) p))))
 
+-- the number of the first file of an older cut that is left: the least one after this many pieces
+abbrev pub IsFirstLeft : Naming → ℕ → World → ℕ → Type 0
+IsFirstLeft names count world n =
+    IsNextLeft (λ k. world.at (piece_path names.prefix k)) (number_in_turn names.from_zero count) (Some n)
+
 -- Then the number of pieces is printed. After it nothing goes to standard output. Nothing at all follows where no
--- file of an older cut is left.
+-- file of an older cut is left. Where one is, and pieces count from 1, a line on standard error names the first of
+-- them.
 pub record ShowsCount (names : Naming) (count : ℕ) (world : World) (old new : Report) : Type 0 where
   pub told : Report
   pub line : ShowsHere old told (line_text (lines.Pieces count) ++ (10 ∷ []))
   pub noted : IsNoted told new
   pub alone : IsNoneLeft names count world → IsSilent told new
+  pub named : names.from_zero ≡ false → (n : ℕ) → IsFirstLeft names count world n
+      → Notes told new (left_over_line names.prefix n)
 
 -- the lines of a cut
 pub record ShowsCut (names : Naming) (limit : ℕ) (world : World) (old new : Report) (size : ℕ) (blocks : List Block)
@@ -359,3 +369,33 @@ pub data RefusesCut (raw : Option ℕ) (limit : ℕ) (input : List ℕ) (names :
   opened : (from : ℕ) → old.at input ≡ Some from → StopsImage raw limit (old.holds from) fault (HasFailed held held')
       Unprinted (new ≡ old) (FirstStand names from held held' old new)
       → RefusesCut raw limit input names fault held held' old new Unprinted
+
+-- ---- which file a refusal is told of
+
+-- it is the file at this path, where `-` is standard output
+pub record IsToldAt (place : Option FileArg) (path : List ℕ) : Type 0 where
+  pub named : FileArg
+  pub is_named : place ≡ Some named
+  pub leads : path_out named ≡ path
+
+-- It is the next piece after those that are stored. `Cut n m` states that the first n of them are, and that only the
+-- files of the first m were changed.
+pub record TellsOfNext (names : Naming) (place : Option FileArg) (Cut : ℕ → ℕ → Type 0) : Type 0 where
+  pub count : ℕ
+  pub before : Cut count (count + 1)
+  pub told : IsToldAt place (path_in_turn names (count + 1))
+
+-- of the pieces of an image x
+pub record TellsOfImage (raw : Option ℕ) (limit : ℕ) (names : Naming) (x : List ℕ) (place : Option FileArg)
+    (Cut : List (List ℕ) → ℕ → ℕ → Type 0) : Type 0 where
+  pub size : ℕ
+  pub blocks : List Block
+  pub image : IsImageOfBlocks raw size blocks x
+  pub next : TellsOfNext names place (Cut (pieces limit size blocks))
+
+-- and of the image that the file at a path held
+pub record TellsOfPiece (raw : Option ℕ) (limit : ℕ) (input : List ℕ) (names : Naming) (place : Option FileArg)
+    (held held' : OpenFiles) (old new : World) : Type 0 where
+  pub from : ℕ
+  pub there : old.at input ≡ Some from
+  pub image : TellsOfImage raw limit names (old.holds from) place (FirstStand names from held held' old new)

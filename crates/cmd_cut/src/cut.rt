@@ -5,13 +5,17 @@ ghost use Rattle.sys_disk.specs.World.{HasFailed, IsReading};
 ghost use Rattle.abt_io.specs.Lent.{OnlyReads};
 ghost use Rattle.abt_pieces.specs.Cutter.{ToldCutter};
 ghost use Rattle.abt_pieces.specs.declared.stage.CutterStage.{CutterStage};
+ghost use Rattle.sys_refusals.specs.Blamed.{TellsRead};
 ghost use Rattle.sys_refusals.specs.Paths.{path_of};
+ghost use Rattle.sys_refusals.specs.declared.told.Side.{Side};
 ghost use Rattle.sys_report.specs.Shows.{CannotPrint};
 ghost use Rattle.abt_runs.specs.Sparse.{SparseOpened, SparsePlace, blocks_together, sparse_list};
 ghost use Rattle.abt_sparse.specs.View.{view};
 ghost use Rattle.cmd_cut.specs.Cutting.{CutsFile, CutsImage, CutsSoFar, IsPiecePath, IsUnbegun, IsUncutSparse};
-ghost use Rattle.cmd_cut.specs.Cutting.{LeavesCut, LeavesPieces, RefusesCut, ShowsCut, StopsImage};
+ghost use Rattle.cmd_cut.specs.Cutting.{LeavesCut, LeavesPieces, RefusesCut, ShowsCut, StopsImage, TellsOfImage};
+ghost use Rattle.cmd_cut.specs.Cutting.{TellsOfPiece};
 ghost use Rattle.cmd_cut.specs.Leaving.{BeginsCut, SparesImage};
+ghost use Rattle.cmd_common_sparse.specs.Fault.{side_of};
 ghost use Rattle.cmd_common_sparse.specs.PieceNames.{naming_of};
 
 use crate::cut_loop::cut_pieces;
@@ -72,6 +76,13 @@ pub fn cut_file<'a, D: Disk>(
     ensures refused { IsTrue D.models → IfErr result (λ refusal. RefusesCut order.entry.raw order.entry.limit
         (path_of order.entry.input) (naming_of order.entry.names) refusal.fault (D.held disk.old) (D.held disk.new)
         (D.world disk.old) (D.world disk.new) (CannotPrint report.old report.new)) }
+    // a fault of what is read is told of IN
+    ensures told_of { IfErr result (λ refusal. TellsRead (side_of refusal.fault) refusal.about.place
+        (Some order.entry.input)) }
+    // and one of what is written of the piece after those that are stored
+    ensures told_of_piece { IsTrue D.models → IfErr result (λ refusal. side_of refusal.fault ≡ Side.Output
+        → TellsOfPiece order.entry.raw order.entry.limit (path_of order.entry.input) (naming_of order.entry.names)
+        refusal.about.place (D.held disk.old) (D.held disk.new) (D.world disk.old) (D.world disk.new)) }
 {
     let source = match disk.ahead(order.input) {
         Ok(source) => source,
@@ -108,6 +119,12 @@ fn cut_raw<'a, D: Disk>(
         report.new) (D.world disk.new ≡ D.world disk.old)
         (λ ps n m. CutsSoFar (naming_of order.entry.names) ps n m (D.held disk.old) (D.held disk.new) (D.world disk.old)
         (D.world disk.new))) }
+    ensures told_of { IfErr result (λ refusal. TellsRead (side_of refusal.fault) refusal.about.place
+        (Some order.entry.input)) }
+    ensures told_of_piece { IsTrue D.models → IfErr result (λ refusal. side_of refusal.fault ≡ Side.Output
+        → TellsOfImage (Some size) order.entry.limit (naming_of order.entry.names) (D.At.content source) refusal.about.place
+        (λ ps n m. CutsSoFar (naming_of order.entry.names) ps n m (D.held disk.old) (D.held disk.new)
+        (D.world disk.old) (D.world disk.new))) }
 {
     match raw_pieces(&source, size, order.limit) {
         Ok(pieces) => cut_pieces(
@@ -147,6 +164,12 @@ fn cut_sparse<'a, D: Disk>(
         report.new) (D.world disk.new ≡ D.world disk.old)
         (λ ps n m. CutsSoFar (naming_of order.entry.names) ps n m (D.held disk.old) (D.held disk.new) (D.world disk.old)
         (D.world disk.new))) }
+    ensures told_of { IfErr result (λ refusal. TellsRead (side_of refusal.fault) refusal.about.place
+        (Some order.entry.input)) }
+    ensures told_of_piece { IsTrue D.models → IfErr result (λ refusal. side_of refusal.fault ≡ Side.Output
+        → TellsOfImage None order.entry.limit (naming_of order.entry.names) (D.At.content source) refusal.about.place
+        (λ ps n m. CutsSoFar (naming_of order.entry.names) ps n m (D.held disk.old) (D.held disk.new)
+        (D.world disk.old) (D.world disk.new))) }
 {
     let mut source = source;
     match sparse_pieces(&mut source, order.limit, w, m) {

@@ -1,12 +1,18 @@
 //! All pieces of an image, one after another.
 
-ghost use Rattle.std.specs.Prelude.{◌≡◌, ◌<◌, ◌≤◌, ◌+◌, ◌-◌, ◌^◌, ◌⊎◌, None, length, IsTrue, IfOk, IfErr, OnOk, OnErr};
+ghost use Rattle.std.specs.Prelude.{◌≡◌, ◌<◌, ◌≤◌, ◌+◌, ◌-◌, ◌^◌, ◌⊎◌, ◌++◌, ◌∷◌, [], None, length, IsTrue, IfOk};
+ghost use Rattle.std.specs.Prelude.{IfErr, OnOk, OnErr};
 ghost use Rattle.sys_disk.specs.World.{HasFailed, IsFree};
-ghost use Rattle.sys_report.specs.Shows.{CannotPrint, IsNoted, Shows, refusals};
+ghost use Rattle.sys_refusals.specs.Blamed.{TellsRead, input_of};
+ghost use Rattle.sys_refusals.specs.Paths.{shown_place};
+ghost use Rattle.sys_refusals.specs.declared.told.Side.{Side};
+ghost use Rattle.sys_report.specs.Shows.{CannotPrint, IsNoted, Notes, Shows, refusals};
+ghost use Rattle.cmd_common_sparse.specs.Fault.{side_of};
+ghost use Rattle.cmd_common_sparse.specs.Lines.{left_over_text};
 ghost use Rattle.cmd_common_sparse.specs.PieceNames.{naming_of};
 ghost use Rattle.cmd_cut.specs.Cutting.{ChangesNoFile, CutsAll, CutsSoFar, IsPiecePath, IsUnbegun};
 ghost use Rattle.cmd_cut.specs.Cutting.{LeavesPieces, OnlyLeaves, ReadyFirstPiece, ShowsCount, ShowsCut};
-ghost use Rattle.cmd_cut.specs.Cutting.{ShowsPieces, StopsCut, cut_into, piece_line};
+ghost use Rattle.cmd_cut.specs.Cutting.{ShowsPieces, StopsCut, TellsOfNext, cut_into, piece_line};
 ghost use Rattle.cmd_cut.specs.Leaving.{AreFreeInTurn, LeavesNoPart, LooksAtPieces};
 ghost use Rattle.cmd_common_sparse.specs.PieceNames.{IsPieceName};
 
@@ -59,6 +65,14 @@ pub(crate) fn cut_pieces<'a, D: Disk, B: BlockRuns + LaysPieces + Drop>(
         (λ n m. CutsSoFar (naming_of names.entry)
         (cut_into pieces.cutter.limit (B.size pieces.cutter.runs) (B.list pieces.cutter.runs (D.At.content source))) n m (D.held disk.old)
         (D.held disk.new) (D.world disk.old) (D.world disk.new))) }
+    // a fault of what is read is told of IN
+    ensures told_of { IfErr result (λ refusal. TellsRead (side_of refusal.fault) refusal.about.place
+        (Some input.entry)) }
+    // and one of what is written of the piece after those that are stored
+    ensures told_of_piece { IsTrue D.models → IfErr result (λ refusal. side_of refusal.fault ≡ Side.Output
+        → TellsOfNext (naming_of names.entry) refusal.about.place (λ n m. CutsSoFar (naming_of names.entry)
+        (cut_into pieces.cutter.limit (B.size pieces.cutter.runs) (B.list pieces.cutter.runs (D.At.content source))) n m
+        (D.held disk.old) (D.held disk.new) (D.world disk.old) (D.world disk.new))) }
 {
     match refuse_image_as_piece(disk, input.name, names) {
         Ok(()) => {}
@@ -114,7 +128,9 @@ fn tell_all<'a, D: Disk>(
 // Its text takes more of the stack than all else here, and none of it while the folder is read.
 #[inline(never)]
 fn note_left_over(report: &mut Report, front: FileArg<'_>, number: u32)
-    ensures { IsNoted report.old report.new }
+    ensures noted { IsNoted report.old report.new }
+    ensures named { Notes report.old report.new (left_over_text (shown_place (record front.entry
+        { number = Some number })) ++ (10 ∷ [])) }
 {
     report.note(LeftOver(front.numbered(number)));
 }
@@ -158,6 +174,12 @@ fn write_pieces<'a, D: Disk, B: BlockRuns + LaysPieces + Drop>(
         (D.world disk.old) (D.world disk.new))) }
     ensures clean { IsTrue D.models → OnOk result.1 ((D.held disk.new).failed + D.At.read_faults result.0
         ≡ (D.held disk.old).failed + D.At.read_faults source) }
+    ensures told_of { IfErr result.1 (λ refusal. TellsRead (side_of refusal.fault) refusal.about.place
+        (input_of sides.entry)) }
+    ensures told_of_piece { IsTrue D.models → IfErr result.1 (λ refusal. side_of refusal.fault ≡ Side.Output
+        → TellsOfNext (naming_of names.entry) refusal.about.place (λ n m. CutsSoFar (naming_of names.entry)
+        (cut_into pieces.cutter.limit (B.size pieces.cutter.runs) (B.list pieces.cutter.runs (D.At.content source))) n m
+        (D.held disk.old) (D.held disk.new) (D.world disk.old) (D.world disk.new))) }
 {
     let mut source = source;
     let mut pieces = pieces;

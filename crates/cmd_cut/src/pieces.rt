@@ -1,7 +1,9 @@
 //! Writes one piece of an image to a file of its own.
 
 ghost use Rattle.std.specs.Prelude.{◌≡◌, ◌<◌, ◌+◌, [], None, IsTrue, IfErr, IfOk, OnOk, OnErr};
+ghost use Rattle.sys_refusals.specs.Blamed.{TellsOf, input_of};
 ghost use Rattle.sys_refusals.specs.Paths.{path_out};
+ghost use Rattle.cmd_common_sparse.specs.Fault.{side_of};
 ghost use Rattle.cmd_cut.specs.Cutting.{AddsNone, AddsPiece, CutsPiece, OnlyLeaves, PutsPiece, ReadyPiece};
 ghost use Rattle.cmd_cut.specs.Cutting.{NumbersOfPiece, cut_into};
 ghost use Rattle.cmd_cut.specs.Leaving.{HoldsNoneOrPiece, KeepsOrHolds};
@@ -61,6 +63,9 @@ pub(crate) fn put_piece<'a, D: Disk, B: BlockRuns + LaysPieces + Drop>(
         ≡ (D.held disk.old).failed + D.At.read_faults source.old.device) }
     ensures cause { IsTrue D.models → OnErr result ((D.held disk.old).failed + D.At.read_faults source.old.device
         < (D.held disk.new).failed + D.At.read_faults source.new.device) }
+    // a fault of what is read is told of IN, and one of what is written of this file
+    ensures told_of { IfErr result (λ refusal. TellsOf (side_of refusal.fault) refusal.about.place
+        (input_of sides.entry) (Some place.entry)) }
 {
     let image = disk.image(place, true)?;
     repeat_first(source.progress, pieces.cutter.made, times(&image, passes));
@@ -117,6 +122,9 @@ fn put_in_file<'a, D: Disk, B: BlockRuns + LaysPieces + Drop>(
     ensures broken { IsTrue D.models → OnErr result (HoldsNoneOrPiece (cut_into pieces.old.cutter.limit
         (B.size pieces.old.cutter.runs) (B.list pieces.old.cutter.runs (D.At.content source.old.device)))
         pieces.old.cutter.made (D.held disk.old).output (D.world disk.new)) }
+    // a fault of what is read is told of IN, and one of what is written of this file
+    ensures told_of { IfErr result (λ refusal. TellsOf (side_of refusal.fault) refusal.about.place
+        (input_of sides.entry) (Some place.entry)) }
 {
     let (image, answer) = B::lay_next(&mut pieces.cutter, source, image, w, m);
     match answer {
@@ -154,6 +162,9 @@ fn put_in_stream<'a, D: Disk, B: BlockRuns + LaysPieces + Drop>(
         pieces.new.cutter.runs source.old.device source.new.device pieces.old.cutter.limit pieces.new.cutter.limit
         pieces.old.cutter.made pieces.new.cutter.made pieces.old.cutter.start pieces.new.cutter.start
         pieces.new.cutter.stage }
+    // a fault of what is read is told of IN, and one of what is written of this file
+    ensures told_of { IfErr result (λ refusal. TellsOf (side_of refusal.fault) refusal.about.place
+        (input_of sides.entry) (Some place.entry)) }
 {
     let mut onto = onto;
     let answer = write_next(&mut pieces.cutter, source, &mut onto, w, m);
@@ -166,6 +177,7 @@ fn unended<'a, D: Disk>(disk: &mut D, image: D::Image, place: FileArg<'a>) -> Sp
     ensures closed { IsTrue D.models → GivesUp (D.Image.Output.write_faults image) (D.held disk.old) (D.held disk.new)
         (D.world disk.old) (D.world disk.new) }
     ensures outside { IsOutsideSparse result.fault }
+    ensures host { result.fault ≡ SparseCommandFault.Host HostFault.Write }
 {
     let refused = HostRefusal::at(HostFault::Write, place, image.why()).begun(place);
     disk.give_up_image(image);

@@ -3,7 +3,9 @@
 ghost use Rattle.std.specs.Prelude.{◌++◌, ◌∷◌, [], IsTrue, IfErr, OnOk, OnErr};
 ghost use Rattle.sys_disk.specs.World.{IsReading};
 ghost use Rattle.sys_report.specs.Shows.{CannotPrint, ShowsBeside, Unprinted};
+ghost use Rattle.sys_refusals.specs.Blamed.{TellsOf};
 ghost use Rattle.sys_refusals.specs.Paths.{path_of, path_out};
+ghost use Rattle.cmd_common_sparse.specs.Fault.{side_of};
 ghost use Rattle.cmd_common_sparse.specs.Lines.{line_text};
 ghost use Rattle.cmd_cut.specs.Sparsing.{LeavesImage, RefusesRaw, SparsifiesFile};
 
@@ -46,6 +48,9 @@ pub fn sparse_file<'a, D: Disk>(
         (D.world disk.old) (D.world disk.new) (D.held disk.old) (D.held disk.new)
         (SparsifiesFile (path_of input.entry) (path_out output.entry) as_img2simg block (D.world disk.old)
         (D.world disk.new) (Unprinted report.old report.new)) refusal.fault) }
+    // a fault of what is read is told of IN, and one of what is written of OUT
+    ensures told_of { IfErr result (λ refusal. TellsOf (side_of refusal.fault) refusal.about.place
+        (Some input.entry) (Some output.entry)) }
 {
     let source = disk.source(input)?;
     let sides = Sides::none().reading(input, None);

@@ -2,6 +2,8 @@
 
 ghost use Rattle.std.specs.Prelude.{◌≡◌, ◌≤◌, false, IsTrue, IfErr, IfOk, OnOk};
 ghost use Rattle.sys_disk.specs.Images.{Leaves};
+ghost use Rattle.sys_refusals.specs.Blamed.{TellsOf, input_of};
+ghost use Rattle.cmd_common_sparse.specs.Fault.{side_of};
 ghost use Rattle.cmd_cut.specs.Sparsing.{IsOutsideSparse, GivesUp};
 
 use abt_io::DeviceFault;
@@ -22,6 +24,7 @@ pub(crate) fn stopped<'a, D: Disk>(
     ensures closed { IsTrue D.models → GivesUp (D.Image.Output.write_faults image) (D.held disk.old) (D.held disk.new)
         (D.world disk.old) (D.world disk.new) }
     ensures outside { IsOutsideSparse fault → IsOutsideSparse result.fault }
+    ensures told_of { TellsOf (side_of result.fault) result.about.place (input_of sides.entry) (Some output.entry) }
 {
     let mut image = image;
     let fault = first_of(image.settle(), fault);

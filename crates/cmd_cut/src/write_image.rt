@@ -1,8 +1,10 @@
 //! Writes the sparse image of a raw one to its file, and closes the file.
 
-ghost use Rattle.std.specs.Prelude.{◌≡◌, [], IsTrue, IfOk, OnErr};
+ghost use Rattle.std.specs.Prelude.{◌≡◌, [], IsTrue, IfErr, IfOk, OnErr};
 ghost use Rattle.sys_disk.specs.Images.{OfImage, is_file};
+ghost use Rattle.sys_refusals.specs.Blamed.{TellsOf, input_of};
 ghost use Rattle.sys_refusals.specs.Paths.{path_out};
+ghost use Rattle.cmd_common_sparse.specs.Fault.{side_of};
 ghost use Rattle.cmd_cut.specs.Sparsing.{LeavesNoneOrSparse, ReadyRawImage, ReadyToWrite, WritesSparseImage};
 
 use crate::engine_calls::{lay_image, write_image};
@@ -41,6 +43,9 @@ pub(crate) fn write_whole<'a, D: Disk>(
     ensures stream { IsTrue D.models → IfOk result (λ end. end.1 ≡ D.on_output (path_out output.entry)) }
     ensures broken { IsTrue D.models → IsTrue (is_file image) → OnErr result (LeavesNoneOrSparse as_img2simg blocks.size
         (D.At.content source) (D.held disk.old).output (D.world disk.new)) }
+    // a fault of what is read is told of IN, and one of what is written of OUT
+    ensures told_of { IfErr result (λ refusal. TellsOf (side_of refusal.fault) refusal.about.place
+        (input_of sides.entry) (Some output.entry)) }
 {
     match image {
         ImageTo::File(file) => write_over(
@@ -93,6 +98,9 @@ fn write_over<'a, D: Disk>(
     ensures stream { IsTrue D.models → IfOk result (λ end. end.1 ≡ D.on_output (path_out output.entry)) }
     ensures broken { IsTrue D.models → OnErr result (LeavesNoneOrSparse as_img2simg blocks.size (D.At.content source)
         (D.held disk.old).output (D.world disk.new)) }
+    // a fault of what is read is told of IN, and one of what is written of OUT
+    ensures told_of { IfErr result (λ refusal. TellsOf (side_of refusal.fault) refusal.about.place
+        (input_of sides.entry) (Some output.entry)) }
 {
     let mut carried = Carried {
         device: source,
@@ -129,6 +137,9 @@ fn write_through<'a, D: Disk>(
     ensures writes { IsTrue D.models → WritesSparseImage result (λ refusal. refusal.fault) as_img2simg blocks.size
         (D.At.content source) (D.held disk.old) (D.held disk.new) (D.world disk.old) (D.world disk.new) }
     ensures stream { IsTrue D.models → IfOk result (λ end. end.1 ≡ D.on_output (path_out output.entry)) }
+    // a fault of what is read is told of IN, and one of what is written of OUT
+    ensures told_of { IfErr result (λ refusal. TellsOf (side_of refusal.fault) refusal.about.place
+        (input_of sides.entry) (Some output.entry)) }
 {
     let mut carried = Carried {
         device: source,

@@ -1,6 +1,8 @@
 //! The command `info`: prints the values of a boot image's header, and the result of checking the image.
 
-ghost use Rattle.std.specs.Prelude.{◌≡◌, IsTrue, IfErr, OnOk};
+ghost use Rattle.std.specs.Prelude.{◌≡◌, Some, IsTrue, IfErr, OnOk};
+ghost use Rattle.sys_refusals.specs.Blamed.{TellsRead};
+ghost use Rattle.cmd_common_boot.specs.Fault.{boot_side_of};
 ghost use Rattle.sys_refusals.specs.Paths.{path_of};
 ghost use Rattle.sys_disk.specs.World.{HasFailed, IsReading};
 ghost use Rattle.sys_disk.specs.DiskCalls.{LeavesAll};
@@ -40,6 +42,9 @@ pub fn info_file<'t, 'a, D: Disk>(
         (notation_of with_hex)
         with_check (D.world disk.old) (HasFailed (D.held disk.old) (D.held disk.new)) report.old report.new
         refusal.fault) }
+    // a fault of what is read is told of IN
+    ensures told_of { IfErr result (λ refusal. TellsRead (boot_side_of refusal.fault) refusal.about.place
+        (Some input.entry)) }
 {
     let mut source = match disk.source(input) {
         Ok(source) => source,

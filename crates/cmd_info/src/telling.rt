@@ -1,6 +1,8 @@
 //! Prints the text of an image for `info`.
 
-ghost use Rattle.std.specs.Prelude.{◌≡◌, ◌<◌, ◌&&◌, IsTrue, IfErr, OnOk, OnErr};
+ghost use Rattle.std.specs.Prelude.{◌≡◌, ◌<◌, ◌&&◌, Some, IsTrue, IfErr, OnOk, OnErr};
+ghost use Rattle.sys_refusals.specs.Blamed.{TellsRead};
+ghost use Rattle.cmd_common_boot.specs.Fault.{boot_side_of};
 ghost use Rattle.sys_report.specs.Shows.{CannotPrint, ShowsHere};
 ghost use Rattle.abt_sections.specs.Check.{IsVerdict};
 ghost use Rattle.abt_sections.specs.Header.{view_of};
@@ -33,6 +35,8 @@ pub(crate) fn tell_image<'t, 'a, S: Source>(
     ensures refused { IsTrue S.models → IfErr result (λ refusal. spec.IsInfoRefusal (S.content source.old)
         (spec.notation_of with_hex) with_check (S.read_faults source.old < S.read_faults source.new) report.old
         report.new refusal.fault) }
+    ensures told_of { IfErr result (λ refusal. TellsRead (boot_side_of refusal.fault) refusal.about.place
+        (Some input.entry)) }
 {
     let told = match report_info(source, notation_of(with_hex), &mut report.out, w, m) {
         Ok(told) => told,
@@ -64,6 +68,8 @@ fn tell_check<'t, 'a, S: Source>(
     ensures refused { IfErr result (λ refusal. spec.IsCheckRefusal told.now.verdict
         (S.read_faults source.old < S.read_faults source.new) (IsTrue S.models → IsVerdict (S.content source.old)
         (view_of told.now.image.header) told.now.verdict → ⊥) (CannotPrint report.old report.new) refusal.fault) }
+    ensures told_of { IfErr result (λ refusal. TellsRead (boot_side_of refusal.fault) refusal.about.place
+        (Some input.entry)) }
 {
     let findings = match find_reasons(&told.image, told.verdict, source, w, m) {
         Ok(findings) => findings,
@@ -76,7 +82,7 @@ fn tell_check<'t, 'a, S: Source>(
     if is_good(told.verdict) {
         Ok(())
     } else {
-        Err(Refusal::of(BootCommandFault::CheckFailed))
+        Err(Sides::none().refuse(BootCommandFault::CheckFailed))
     }
 }
 
@@ -108,7 +114,8 @@ fn refused<'t, 'a>(
     report: &Report,
     fault: SectionFault,
 ) -> Refusal<'t, BootCommandFault<'a>>
-    ensures { result.fault ≡ BootCommandFault.Section fault }
+    ensures fault { result.fault ≡ BootCommandFault.Section fault }
+    ensures told_of { TellsRead (boot_side_of result.fault) result.about.place (Some input.entry) }
 {
     let printed = FileArg::new("report", "standard output");
     let sides = Sides::none().reading(input, None);

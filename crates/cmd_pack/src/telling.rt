@@ -16,7 +16,7 @@ pub(crate) fn tell_left_out(report: &mut Report, left: LeftOut)
     }
     report.progress.erase();
     let mut text = Text::new(&mut report.err);
-    text.short(LeftOutNote(left));
+    let _ = text.short(LeftOutNote(left));
     text.end_line();
     let _ = text.finish();
 }

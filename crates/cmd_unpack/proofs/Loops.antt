@@ -6,6 +6,7 @@ use Rattle.abt_headers.specs.declared.sections.SectionPlace.{SectionPlace}
 use Rattle.sys_disk.specs.World.{World, OpenFiles, Creates, Ends, ended, failing}
 use Rattle.abt_sections.specs.Header.{Header, places_of, fragment_count, fragment_of}
 use Rattle.abt_sections.specs.Layout.{part_of}
+use Rattle.cmd_common_boot.specs.declared.part_names.ImagePart.{ImagePart}
 use Rattle.cmd_common_boot.specs.declared.part_names.ImagePart.TheVariants as parts
 use Rattle.sys_disk.specs.Among.{GoesAmong, IsMade, KeepsMade}
 use Rattle.cmd_unpack.specs.Unpacking.{FragmentsDone, SectionsDone, path_of_part, section_part}
@@ -149,16 +150,18 @@ done_let_go path bytes h k n c d let_go same done =
     subst (λ w. IsMade k w path bytes) (sym same)
     (subst (λ q. IsMade q c path bytes) (sym let_go) (done_failing path bytes h n c done))
 
-pub left_later : (folder : List ℕ) (header : Header) (x : List ℕ) (h k : OpenFiles) (n : ℕ) (c d : World)
-    (Only Later : (List ℕ → Type 0) → Type 0) → ((P : List ℕ → Type 0) → Only P → Later P) → k ≡ failing n h → d ≡ c
-    → PartsLeft folder header x h c Only → PartsLeft folder header x k d Later
-left_later folder header x h k n c d Only Later more let_go same (in_sections i sections only) =
-    in_sections i (λ j under p found. done_let_go _ _ h k n c d let_go same (sections j under p found)) (more _ only)
-left_later folder header x h k n c d Only Later more let_go same (in_fragments i sections fragments only) =
-    in_fragments i (λ j under p found. done_let_go _ _ h k n c d let_go same (sections j under p found))
+pub left_later : (folder : List ℕ) (header : Header) (x : List ℕ) (Tells : ImagePart → Type 0) (h k : OpenFiles)
+    (n : ℕ) (c d : World) (Only Later : (List ℕ → Type 0) → Type 0) → ((P : List ℕ → Type 0) → Only P → Later P)
+    → k ≡ failing n h → d ≡ c → PartsLeft folder header x Tells h c Only → PartsLeft folder header x Tells k d Later
+left_later folder header x Tells h k n c d Only Later more let_go same (in_sections i tells sections only) =
+    in_sections i tells (λ j under p found. done_let_go _ _ h k n c d let_go same (sections j under p found))
+    (more _ only)
+left_later folder header x Tells h k n c d Only Later more let_go same
+    (in_fragments i tells sections fragments only) =
+    in_fragments i tells (λ j under p found. done_let_go _ _ h k n c d let_go same (sections j under p found))
     (λ j under. done_let_go _ _ h k n c d let_go same (fragments j under)) (more _ only)
-left_later folder header x h k n c d Only Later more let_go same (in_words sections fragments only) =
-    in_words (λ j under p found. done_let_go _ _ h k n c d let_go same (sections j under p found))
+left_later folder header x Tells h k n c d Only Later more let_go same (in_words tells sections fragments only) =
+    in_words tells (λ j under p found. done_let_go _ _ h k n c d let_go same (sections j under p found))
     (λ j under. done_let_go _ _ h k n c d let_go same (fragments j under)) (more _ only)
 
 -- ---- one section

@@ -1,18 +1,20 @@
 -- What a whole run leaves, after the image that it opened.
 use Rattle.std.proofs.Common.{◌≡◌, ℕ, ◌+◌, Bool, IsTrue, List, [], length, refl, sym, ◌∙◌, ap, subst, arith}
-use Rattle.std.specs.Prelude.{unwrap_or}
+use Rattle.std.specs.Prelude.{Option, unwrap_or}
 use Rattle.sys_disk.specs.World.{World, OpenFiles, OpensFile, KeepsFile, failing}
 use Rattle.abt_sections.specs.Header.{Header, view_of, places_of, fragment_count, fragment_of}
 use Rattle.abt_sections.specs.declared.image.Image.{Image}
 use Rattle.abt_sections.specs.Layout.{part_of}
 use Rattle.abt_sections.specs.Open.{HasImage, IsOpened}
+use Rattle.sys_refusals.specs.declared.place.FileArg.{FileArg}
+use Rattle.cmd_common_boot.specs.declared.fault.BootCommandFault.{BootCommandFault}
 use Rattle.cmd_common_boot.specs.declared.part_names.ImagePart.TheVariants as parts
 use Rattle.cmd_common_texts.specs.Words.{image_words, words_text}
 use Rattle.sys_disk.specs.Among.{GoesAmong, OnlyAmong, FileHolds}
 use Rattle.cmd_unpack.specs.Unpacking.{FragmentsDone, SectionsDone, WordsDone, path_of_part, section_part}
 use Rattle.cmd_unpack.specs.Unpacking.{IsPartOf, IsPartPath, PartsBegun, PartsStand, SyncsMore, SyncsParts, Unpacks}
 use Rattle.cmd_unpack.specs.Unpacking.{part_total}
-use Rattle.cmd_unpack.specs.Unpacking.{LeavesParts, PartsLeft, first_parts}
+use Rattle.cmd_unpack.specs.Unpacking.{LeavesParts, PartsLeft, TellsOfPart, first_parts}
 use Rattle.cmd_unpack.specs.Lines.{told_parts}
 use Rattle.sys_disk.proofs.Amongs.{among_behind, goes_more, goes_none, goes_then, kept_beside, stands}
 use Rattle.cmd_unpack.proofs.Loops.{left_later}
@@ -127,14 +129,16 @@ pub keeps_let_go : (P : List ℕ → Type 0) (path x : List ℕ) (h h' g h'' k :
 keeps_let_go P path x h h' g h'' k a b c d m n opens same taken goes let_go still =
     keeps_opened P path x h h' k a b d opens same (within P h' g h'' k b c d m n taken goes let_go still)
 
-pub leaves_parts : (path folder x : List ℕ) (header : Header) (h h' g h'' k : OpenFiles) (a b c d : World) (m n : ℕ)
+pub leaves_parts : (path folder x : List ℕ) (fault : BootCommandFault) (place : Option FileArg) (header : Header)
+    (h h' g h'' k : OpenFiles) (a b c d : World) (m n : ℕ)
     → h.begun ≡ [] → OpensFile a path x h h' → b ≡ a → HasImage x header → g ≡ failing m h'
-    → PartsLeft folder header x h'' c (λ named. GoesAmong named g h'' b c) → k ≡ failing n h'' → d ≡ c
-    → LeavesParts path folder h k a d
-leaves_parts path folder x header h h' g h'' k a b c d m n none opens same image taken left let_go still =
+    → PartsLeft folder header x (TellsOfPart fault place folder) h'' c (λ named. GoesAmong named g h'' b c)
+    → k ≡ failing n h'' → d ≡ c → LeavesParts path folder fault place h k a d
+leaves_parts path folder x fault place header h h' g h'' k a b c d m n none opens same image taken left let_go still =
     first_parts opens.file opens.there header (subst (λ z. HasImage z header) opens.held image)
-    (subst (λ z. PartsLeft folder header z k d (λ named. OnlyAmong named h.read k.begun a d)) opens.held
-    (left_later folder header x h'' k n c d (λ named. GoesAmong named g h'' b c)
+    (subst (λ z. PartsLeft folder header z (TellsOfPart fault place folder) k d
+    (λ named. OnlyAmong named h.read k.begun a d)) opens.held
+    (left_later folder header x (TellsOfPart fault place folder) h'' k n c d (λ named. GoesAmong named g h'' b c)
     (λ named. OnlyAmong named h.read k.begun a d)
     (λ P goes. among_behind P path x h h' k a b d none opens same
     (within P h' g h'' k b c d m n taken goes let_go still))

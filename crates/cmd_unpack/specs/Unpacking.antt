@@ -7,7 +7,11 @@ use Rattle.abt_headers.specs.Places.{section_name}
 use Rattle.abt_sections.specs.Header.{Header, places_of, fragment_count, fragment_of}
 use Rattle.abt_sections.specs.Layout.{part_of}
 use Rattle.abt_sections.specs.Open.{HasImage}
-use Rattle.sys_refusals.specs.Paths.{in_folder, numbered}
+use Rattle.sys_refusals.specs.Paths.{in_folder, numbered, path_of}
+use Rattle.sys_refusals.specs.declared.place.FileArg.{FileArg}
+use Rattle.sys_refusals.specs.declared.told.Side.TheVariants as sides
+use Rattle.cmd_common_boot.specs.Fault.{boot_side_of}
+use Rattle.cmd_common_boot.specs.declared.fault.BootCommandFault.{BootCommandFault}
 use Rattle.sys_disk.specs.World.{World, OpenFiles, IsFree}
 use Rattle.cmd_common_boot.specs.declared.part_names.ImagePart.{ImagePart}
 use Rattle.cmd_common_boot.specs.declared.part_names.ImagePart.TheVariants as parts
@@ -127,18 +131,31 @@ pub data PartsBegun (folder : List ℕ) (with_words : Bool) (h : Header) (x : Li
       → PartsBegun folder with_words h x held world
 
 -- Where not all parts are written: those before the one at fault are in their files, and `Only` holds of the names of
--- these files and of the next one.
-pub data PartsLeft (folder : List ℕ) (h : Header) (x : List ℕ) (held : OpenFiles) (world : World)
-    (Only : (List ℕ → Type 0) → Type 0) : Type 0 where
-  in_sections : (i : ℕ) → SectionsDone folder h x i held world → Only (IsFirstPath folder h (i + 1) 0 false)
-      → PartsLeft folder h x held world Only
-  in_fragments : (i : ℕ) → SectionsDone folder h x (length (places_of h)) held world
+-- these files and of the next one. `Tells` holds of the one at fault.
+pub data PartsLeft (folder : List ℕ) (h : Header) (x : List ℕ) (Tells : ImagePart → Type 0) (held : OpenFiles)
+    (world : World) (Only : (List ℕ → Type 0) → Type 0) : Type 0 where
+  in_sections : (i : ℕ) → ((p : SectionPlace) → p ≡ slice_index_or (places_of h) i p → Tells (section_part p))
+      → SectionsDone folder h x i held world → Only (IsFirstPath folder h (i + 1) 0 false)
+      → PartsLeft folder h x Tells held world Only
+  in_fragments : (i : ℕ) → Tells (parts.Fragment i) → SectionsDone folder h x (length (places_of h)) held world
       → FragmentsDone folder h x i held world → Only (IsFirstPath folder h (length (places_of h)) (i + 1) false)
-      → PartsLeft folder h x held world Only
-  in_words : SectionsDone folder h x (length (places_of h)) held world
+      → PartsLeft folder h x Tells held world Only
+  in_words : Tells parts.Words → SectionsDone folder h x (length (places_of h)) held world
       → FragmentsDone folder h x (fragment_count h) held world
       → Only (IsFirstPath folder h (length (places_of h)) (fragment_count h) true)
-      → PartsLeft folder h x held world Only
+      → PartsLeft folder h x Tells held world Only
+
+-- ---- which file a refusal is told of
+
+-- the file at this path
+pub record IsNamedAt (place : Option FileArg) (path : List ℕ) : Type 0 where
+  pub named : FileArg
+  pub is_named : place ≡ Some named
+  pub leads : path_of named ≡ path
+
+-- a fault of what is written is told of the file of this part
+abbrev pub TellsOfPart : BootCommandFault → Option FileArg → List ℕ → ImagePart → Type 0
+TellsOfPart fault place folder part = boot_side_of fault ≡ sides.Output → IsNamedAt place (path_of_part folder part)
 
 -- ---- all of it
 
@@ -180,10 +197,13 @@ pub record PartsStand (input folder : List ℕ) (with_words : Bool) (old : World
   pub image : HasImage (old.holds from) header
   pub begun : PartsBegun folder with_words header (old.holds from) held new
 
--- Nothing was changed; or the file at a path held an image, whose first parts are in their files, and only their
--- files and the next one's were created or changed.
-pub data LeavesParts (input folder : List ℕ) (held held' : OpenFiles) (old new : World) : Type 0 where
-  no_part : new ≡ old → LeavesParts input folder held held' old new
+-- Nothing was changed, for a fault of what is read or of files; or the file at a path held an image, whose first parts
+-- are in their files, and only their files and the next one's were created or changed. A fault of what is written is
+-- told of that next one.
+pub data LeavesParts (input folder : List ℕ) (fault : BootCommandFault) (place : Option FileArg)
+    (held held' : OpenFiles) (old new : World) : Type 0 where
+  no_part : new ≡ old → ¬ (boot_side_of fault ≡ sides.Output) → LeavesParts input folder fault place held held' old new
   first_parts : (from : ℕ) → old.at input ≡ Some from → (header : Header) → HasImage (old.holds from) header
-      → PartsLeft folder header (old.holds from) held' new (λ named. OnlyAmong named held.read held'.begun old new)
-      → LeavesParts input folder held held' old new
+      → PartsLeft folder header (old.holds from) (TellsOfPart fault place folder) held' new
+      (λ named. OnlyAmong named held.read held'.begun old new)
+      → LeavesParts input folder fault place held held' old new

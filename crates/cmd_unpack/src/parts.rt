@@ -1,6 +1,11 @@
 //! Writes all parts of an image, one after another.
 
-ghost use Rattle.std.specs.Prelude.{◌≡◌, ◌<◌, ◌≤◌, ◌+◌, ℕ, None, IsTrue, IfErr, OnOk, OnErr, length, map};
+ghost use Rattle.std.specs.Prelude.{◌≡◌, ◌<◌, ◌≤◌, ◌+◌, ℕ, None, Some, IsTrue, IfErr, OnOk, length, map};
+ghost use Rattle.std.specs.Prelude.{slice_index_or};
+ghost use Rattle.abt_headers.specs.declared.sections.SectionPlace.{SectionPlace};
+ghost use Rattle.sys_refusals.specs.Blamed.{TellsRead};
+ghost use Rattle.cmd_common_boot.specs.Fault.{boot_side_of};
+ghost use Rattle.cmd_common_boot.specs.declared.part_names.ImagePart.TheVariants as parts;
 ghost use Rattle.abt_sections.specs.Header.{fragment_count, places_of, view_of};
 ghost use Rattle.abt_sections.specs.Open.{IsOpened};
 ghost use Rattle.sys_disk.specs.Among.{GoesAmong};
@@ -8,7 +13,7 @@ ghost use Rattle.sys_report.specs.Shows.{CannotPrint, refusals};
 ghost use Rattle.cmd_common_boot.specs.ImageFaults.{IsRefusedOver, SomeFailed};
 ghost use Rattle.cmd_unpack.specs.Lines.{ShowsEach, told_fragments, told_parts, told_section};
 ghost use Rattle.cmd_unpack.specs.Unpacking.{FragmentsDone, IsFragmentPath, IsPartPath, IsSectionPath, PartsBegun};
-ghost use Rattle.cmd_unpack.specs.Unpacking.{PartsLeft, SectionsDone, WordsDone, part_total};
+ghost use Rattle.cmd_unpack.specs.Unpacking.{PartsLeft, SectionsDone, TellsOfPart, WordsDone, part_total};
 ghost use Rattle.cmd_unpack.specs.Writing.{WritesParts};
 
 use crate::write_part::{write_fragment, write_pack_words, write_section};
@@ -43,9 +48,10 @@ pub(crate) fn write_parts<'t, 'a, D: Disk>(
         disk.new)) }
     ensures words { IsTrue D.models → IsTrue with_words → OnOk result (WordsDone folder.now (view_of image.now.header)
         (D.At.content source.old) (D.held disk.new) (D.world disk.new)) }
-    ensures stands { IsTrue D.models → OnErr result (PartsLeft folder.now (view_of image.now.header)
-        (D.At.content source.old) (D.held disk.new) (D.world disk.new) (λ named. GoesAmong named (D.held disk.old)
-        (D.held disk.new) (D.world disk.old) (D.world disk.new))) }
+    ensures stands { IsTrue D.models → IfErr result (λ refusal. PartsLeft folder.now (view_of image.now.header)
+        (D.At.content source.old) (TellsOfPart refusal.fault refusal.about.place folder.now) (D.held disk.new)
+        (D.world disk.new) (λ named. GoesAmong named (D.held disk.old) (D.held disk.new) (D.world disk.old)
+        (D.world disk.new))) }
     ensures shown { IsTrue D.models → OnOk result ((bytes : ℕ) × ShowsEach (told_parts (D.At.content source.old)
         (view_of image.now.header) with_words bytes) report.old report.new) }
     ensures refused { IsTrue D.models → IsOpened (D.At.content source.old) image.now → IfErr result (λ refusal.
@@ -53,6 +59,8 @@ pub(crate) fn write_parts<'t, 'a, D: Disk>(
         (D.held disk.new) (D.At.read_faults source.new)) (PartsBegun folder.now with_words (view_of
         image.now.header) (D.At.content source.old) (D.held disk.new) (D.world disk.new)
         × CannotPrint report.old report.new) refusal.fault) }
+    ensures told_of { IfErr result (λ refusal. TellsRead (boot_side_of refusal.fault) refusal.about.place
+        (Some input.entry)) }
 {
     match write_sections(disk, image, source, input, folder, report, w, m) {
         Ok(()) => {}
@@ -88,10 +96,12 @@ fn write_sections<'t, 'a, D: Disk>(
     ensures done { IsTrue D.models → OnOk result (SectionsDone folder.now (view_of image.now.header)
         (D.At.content source.old) (length (places_of (view_of image.now.header))) (D.held disk.new) (D.world
         disk.new)) }
-    ensures stands { IsTrue D.models → OnErr result ((i : ℕ) × SectionsDone folder.now (view_of image.now.header)
-        (D.At.content source.old) i (D.held disk.new) (D.world disk.new) × GoesAmong (IsSectionPath folder.now
-        (view_of image.now.header) (i + 1)) (D.held disk.old) (D.held disk.new) (D.world disk.old)
-        (D.world disk.new)) }
+    ensures stands { IsTrue D.models → IfErr result (λ refusal. (i : ℕ) × ((p : SectionPlace)
+        → p ≡ slice_index_or (places_of (view_of image.now.header)) i p
+        → TellsOfPart refusal.fault refusal.about.place folder.now (parts.Section p.kind))
+        × SectionsDone folder.now (view_of image.now.header) (D.At.content source.old) i (D.held disk.new)
+        (D.world disk.new) × GoesAmong (IsSectionPath folder.now (view_of image.now.header) (i + 1)) (D.held disk.old)
+        (D.held disk.new) (D.world disk.old) (D.world disk.new)) }
     ensures shown { OnOk result (ShowsEach (map told_section (places_of (view_of image.now.header))) report.old
         report.new) }
     ensures rises { OnOk result (refusals report.old ≤ refusals report.new) }
@@ -101,6 +111,8 @@ fn write_sections<'t, 'a, D: Disk>(
         image.now.header)))
         × SectionsDone folder.now (view_of image.now.header) (D.At.content source.old) (i + 1) (D.held disk.new)
         (D.world disk.new) × CannotPrint report.old report.new) refusal.fault) }
+    ensures told_of { IfErr result (λ refusal. TellsRead (boot_side_of refusal.fault) refusal.about.place
+        (Some input.entry)) }
 {
     for i in 0..sections(image) {
         match write_section(disk, image, i, source, input, folder, report, w, m) {
@@ -128,10 +140,11 @@ fn write_fragments<'t, 'a, D: Disk>(
     ensures done { IsTrue D.models → OnOk result (FragmentsDone folder.now (view_of image.now.header)
         (D.At.content source.old) (fragment_count (view_of image.now.header)) (D.held disk.new) (D.world
         disk.new)) }
-    ensures stands { IsTrue D.models → OnErr result ((i : ℕ) × FragmentsDone folder.now (view_of image.now.header)
-        (D.At.content source.old) i (D.held disk.new) (D.world disk.new) × GoesAmong (IsFragmentPath folder.now
-        (view_of image.now.header) (i + 1)) (D.held disk.old) (D.held disk.new) (D.world disk.old)
-        (D.world disk.new)) }
+    ensures stands { IsTrue D.models → IfErr result (λ refusal. (i : ℕ)
+        × TellsOfPart refusal.fault refusal.about.place folder.now (parts.Fragment i)
+        × FragmentsDone folder.now (view_of image.now.header) (D.At.content source.old) i (D.held disk.new)
+        (D.world disk.new) × GoesAmong (IsFragmentPath folder.now (view_of image.now.header) (i + 1)) (D.held disk.old)
+        (D.held disk.new) (D.world disk.old) (D.world disk.new)) }
     ensures shown { IsTrue D.models → OnOk result (ShowsEach (told_fragments (D.At.content source.old)
         (view_of image.now.header) (fragment_count (view_of image.now.header))) report.old report.new) }
     ensures rises { IsTrue D.models → OnOk result (refusals report.old ≤ refusals report.new) }
@@ -141,6 +154,8 @@ fn write_fragments<'t, 'a, D: Disk>(
         image.now.header))
         × FragmentsDone folder.now (view_of image.now.header) (D.At.content source.old) (i + 1)
         (D.held disk.new) (D.world disk.new) × CannotPrint report.old report.new) refusal.fault) }
+    ensures told_of { IfErr result (λ refusal. TellsRead (boot_side_of refusal.fault) refusal.about.place
+        (Some input.entry)) }
 {
     for i in 0..fragments(image) {
         match write_fragment(disk, image, i, source, input, folder, report, w, m) {

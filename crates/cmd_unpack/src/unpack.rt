@@ -1,11 +1,13 @@
 //! The command `unpack`: writes each section and ramdisk fragment of an image to a file of its own.
 
-ghost use Rattle.std.specs.Prelude.{◌≡◌, IsTrue, IfErr, OnOk, OnErr, is_ok};
+ghost use Rattle.std.specs.Prelude.{◌≡◌, Some, IsTrue, IfErr, OnOk, is_ok};
+ghost use Rattle.sys_refusals.specs.Blamed.{TellsRead};
 ghost use Rattle.sys_refusals.specs.Paths.{path_of};
 ghost use Rattle.sys_disk.specs.World.{HasFailed, IsReading, unless};
 ghost use Rattle.sys_disk.specs.Among.{OnlyAmong};
 ghost use Rattle.sys_disk.specs.DiskCalls.{FailsOnly, KeepsInput};
 ghost use Rattle.sys_report.specs.Shows.{CannotPrint};
+ghost use Rattle.cmd_common_boot.specs.Fault.{boot_side_of};
 ghost use Rattle.cmd_common_boot.specs.ImageFaults.{RefusesImage};
 ghost use Rattle.cmd_unpack.specs.Lines.{ShowsEach};
 ghost use Rattle.cmd_common_boot.specs.Unpacked.{part_count};
@@ -51,9 +53,13 @@ pub fn unpack_file<'t, 'a, D: Disk>(
     // where the name of a part leads to IN's file, nothing was changed
     ensures looks { IsTrue D.models → LooksAtParts (path_of input.entry) folder.now with_words (D.world disk.old)
         (D.world disk.new) }
-    // after an Err, the parts before the one at fault are stored, and no file but theirs and its own was changed
-    ensures stands { IsTrue D.models → OnErr result (LeavesParts (path_of input.entry) folder.now (D.held disk.old)
-        (D.held disk.new) (D.world disk.old) (D.world disk.new)) }
+    // after an Err, the parts before the one at fault are stored, and no file but theirs and its own was changed; a
+    // fault of what is written is told of its file
+    ensures stands { IsTrue D.models → IfErr result (λ refusal. LeavesParts (path_of input.entry) folder.now
+        refusal.fault refusal.about.place (D.held disk.old) (D.held disk.new) (D.world disk.old) (D.world disk.new)) }
+    // and one of what is read is told of IN
+    ensures told_of { IfErr result (λ refusal. TellsRead (boot_side_of refusal.fault) refusal.about.place
+        (Some input.entry)) }
     // it fails for a fault of IN, or since a call failed; or a part is written, whose line could not be printed
     ensures refused { IsTrue D.models → IfErr result (λ refusal. RefusesImage (path_of input.entry) (D.world disk.old)
         (HasFailed (D.held disk.old) (D.held disk.new)) (PartsStand (path_of input.entry) folder.now with_words
@@ -101,7 +107,8 @@ pub fn unpack_file<'t, 'a, D: Disk>(
 
 // The fault of a file that holds no image.
 fn not_opened<'t, 'a>(input: FileArg<'t>, fault: SectionFault) -> Refusal<'t, BootCommandFault<'a>>
-    ensures { result.fault ≡ BootCommandFault.Section fault }
+    ensures fault { result.fault ≡ BootCommandFault.Section fault }
+    ensures told_of { TellsRead (boot_side_of result.fault) result.about.place (Some input.entry) }
 {
     let sides = Sides::none().reading(input, None);
     sides.refuse(BootCommandFault::Section(fault))

@@ -1,7 +1,10 @@
 //! Writes one part of an image to a file of its own.
 
 ghost use Rattle.std.specs.Prelude.{◌≡◌, ◌<◌, ◌≤◌, ◌+◌, None, Ok, Err, Bool, ℕ, true, MatchResult, IsTrue, IsOk};
-ghost use Rattle.std.specs.Prelude.{IfOk, IfErr, OnOk, length};
+ghost use Rattle.std.specs.Prelude.{IfOk, IfErr, OnOk, Some, length, slice_index_or};
+ghost use Rattle.abt_headers.specs.declared.sections.SectionPlace.{SectionPlace};
+ghost use Rattle.sys_refusals.specs.Blamed.{TellsOf, TellsRead};
+ghost use Rattle.cmd_common_boot.specs.Fault.{boot_side_of};
 ghost use Rattle.sys_disk.specs.World.{Ends, ended};
 ghost use Rattle.sys_report.specs.Shows.{CannotPrint, Shows, refusals};
 ghost use Rattle.abt_sections.specs.Header.{entry_of, fragment_count, fragment_of, places_of, view_of};
@@ -9,7 +12,8 @@ ghost use Rattle.abt_sections.specs.Open.{IsOpened};
 ghost use Rattle.sys_disk.specs.Among.{IsMade};
 ghost use Rattle.cmd_common_boot.specs.ImageFaults.{IsAnswerOf, IsRefusedOver, SomeFailed};
 ghost use Rattle.cmd_unpack.specs.Lines.{ShowsSection, told_part};
-ghost use Rattle.cmd_unpack.specs.Unpacking.{IsFragmentPath, IsSectionPath, SectionDone, WordsDone, path_of_part};
+ghost use Rattle.cmd_unpack.specs.Unpacking.{IsFragmentPath, IsSectionPath, SectionDone, TellsOfPart, WordsDone};
+ghost use Rattle.cmd_unpack.specs.Unpacking.{path_of_part};
 ghost use Rattle.cmd_unpack.specs.Writing.{EndsPart, WritesParts};
 ghost use Rattle.cmd_common_boot.specs.declared.part_names.ImagePart.TheVariants as parts;
 
@@ -49,6 +53,11 @@ pub(crate) fn write_section<'t, 'a, D: Disk>(
         (D.held disk.new) (D.At.read_faults source.new)) (SectionDone folder.now (view_of image.now.header)
         (D.At.content source.old) i (D.held disk.new) (D.world disk.new) × CannotPrint report.old report.new)
         refusal.fault) }
+    ensures told_of { IfErr result (λ refusal. TellsRead (boot_side_of refusal.fault) refusal.about.place
+        (Some input.entry)) }
+    ensures told_of_part { IfErr result (λ refusal. (p : SectionPlace)
+        → p ≡ slice_index_or (places_of (view_of image.now.header)) i p
+        → TellsOfPart refusal.fault refusal.about.place folder.now (parts.Section p.kind)) }
 {
     let part = ImagePart::Section(section(image, i).kind);
     let place = place_of(part, folder);
@@ -92,6 +101,10 @@ pub(crate) fn write_fragment<'t, 'a, D: Disk>(
         (D.held disk.new) (D.At.read_faults source.new)) (IsMade (D.held disk.new) (D.world disk.new)
         (path_of_part folder.now (parts.Fragment index)) (fragment_of (D.At.content source.old)
         (view_of image.now.header) index) × CannotPrint report.old report.new) refusal.fault) }
+    ensures told_of { IfErr result (λ refusal. TellsRead (boot_side_of refusal.fault) refusal.about.place
+        (Some input.entry)) }
+    ensures told_of_part { IfErr result (λ refusal. TellsOfPart refusal.fault refusal.about.place folder.now
+        (parts.Fragment index)) }
 {
     let part = ImagePart::Fragment(index);
     let place = place_of(part, folder);
@@ -129,6 +142,10 @@ pub(crate) fn write_pack_words<'t, 'a, D: Disk>(
         (D.held disk.new) (D.At.read_faults source.new)) (WordsDone folder.now (view_of image.now.header)
         (D.At.content source.old) (D.held disk.new) (D.world disk.new) × CannotPrint report.old report.new)
         refusal.fault) }
+    ensures told_of { IfErr result (λ refusal. TellsRead (boot_side_of refusal.fault) refusal.about.place
+        (Some input.entry)) }
+    ensures told_of_part { IfErr result (λ refusal. TellsOfPart refusal.fault refusal.about.place folder.now
+        parts.Words) }
 {
     let place = place_of(ImagePart::Words, folder);
     let onto = match disk.plain(place) {
@@ -166,6 +183,8 @@ fn finish<'t, 'a, D: Disk>(
         ((D.held disk.old).failed + D.Onto.write_faults onto < (D.held disk.new).failed)
         (Ends (D.held disk.old).output (D.Onto.written onto) (D.world disk.old) (D.world disk.new)
         × CannotPrint report.old report.new) refusal.fault) }
+    ensures told_of { IfErr result (λ refusal. TellsOf (boot_side_of refusal.fault) refusal.about.place (Some input.entry)
+        (Some place.entry)) }
 {
     let sides = Sides::none().reading(input, None);
     let (bytes, is_on_output) = match ended(disk, of_answer(answer), onto, place, sides) {

@@ -1,7 +1,8 @@
 //! The result of a call, once its output is finished.
 
-ghost use Rattle.std.specs.Prelude.{◌≡◌, IsTrue, IsOk, IfOk, IfErr, OnOk, Ok, is_ok, true};
+ghost use Rattle.std.specs.Prelude.{◌≡◌, IsTrue, IsOk, IfOk, IfErr, OnOk, Ok, Some, is_ok, true};
 ghost use Rattle.sys_disk.specs.World.{Ends, EndsOutput, SparesRest, ended};
+ghost use Rattle.sys_refusals.specs.Blamed.{TellsOf, input_of};
 ghost use Rattle.sys_refusals.specs.Paths.{path_out};
 ghost use Rattle.sys_refusals.specs.declared.refusal.HostFault.{HostFault};
 
@@ -28,6 +29,8 @@ pub fn ended<'a, D: Disk, T: Drop, F: Told + From<HostFault> + Drop>(
     ensures rest { IsTrue D.models → SparesRest (D.held disk.old).output (D.world disk.old) (D.world disk.new) }
     ensures stream { IsTrue D.models → IfOk result (λ end. end.1 ≡ D.on_output (path_out output.entry)) }
     ensures told { IfErr answer (λ fault. IfErr result (λ refusal. refusal.fault ≡ fault)) }
+    ensures told_of { IfErr answer (λ fault. IfErr result (λ refusal. TellsOf (F.side_of fault) refusal.about.place
+        (input_of sides.entry) (Some output.entry))) }
     ensures host { IsOk answer → IfErr result (λ refusal. (fault : HostFault) × F.from_gives fault refusal.fault) }
 {
     match answer {

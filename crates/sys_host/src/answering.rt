@@ -1,7 +1,9 @@
 //! The exit status of an outcome, and the message on standard error.
 
-ghost use Rattle.std.specs.Prelude.{◌≡◌, IfErr, OnOk, if◌then◌else◌};
-ghost use Rattle.sys_host.specs.Answering.{PrintsNothing};
+ghost use Rattle.std.specs.Prelude.{◌≡◌, ◌++◌, IfErr, IfOk, OnOk, if◌then◌else◌, string_bytes};
+ghost use Rattle.sys_host.specs.Answering.{Answers, IsMessage, IsSecondLine, PrintsNothing, is_of_room, mending};
+ghost use Rattle.sys_host.specs.Answering.{of_place, unfinished_text};
+ghost use Rattle.sys_report.specs.Shows.{IsNoted, NotesOne};
 
 use crate::origin::Origin;
 use std::alloc::{AllocError, Global};
@@ -11,7 +13,6 @@ use sys_file::{Kind, Opening, System};
 use sys_refusals::{FileArg, Magic, Refusal, Told};
 use sys_report::Report;
 use sys_std::OsSystem;
-use sys_text::Text;
 
 /// Done.
 pub const DONE: u8 = 0;
@@ -43,6 +44,9 @@ pub fn answer<F: Told + Drop>(
     ensures done { OnOk outcome.entry (result ≡ 0) }
     ensures quiet { OnOk outcome.entry (PrintsNothing report.old report.new) }
     ensures refused { IfErr outcome.entry (λ refusal. result ≡ (if F.wrong_words refusal.fault then 2 else 1)) }
+    ensures noted { IsNoted report.old report.new }
+    ensures told { IfErr outcome.entry (λ refusal. Answers refusal.about.is_untold report.old report.new
+        (IsMessage (F.says refusal.fault) (F.mended_from refusal.fault) how refusal.about)) }
 {
     report.progress.erase();
     let refusal = match outcome {
@@ -64,48 +68,59 @@ fn tell<F: Told, S: System>(
     how: Telling,
     system: &mut S,
     report: &mut Report,
-) {
-    let second = if how.is_verbose {
-        second_line(system, refusal).ok()
-    } else {
-        None
-    };
-    first_line(refusal, how.program, report);
-    if let Some(line) = second {
-        report.note(line.as_str());
+)
+    ensures noted { IsNoted report.old report.new }
+    ensures told { NotesOne report.old report.new (IsMessage (F.says refusal.now.fault) (F.mended_from
+        refusal.now.fault) how refusal.now.about) }
+{
+    if !how.is_verbose {
+        report.refused(how.program, &refusal.fault, refusal.about.place);
+        return;
     }
-}
-
-fn first_line<F: Told>(refusal: &Refusal<'_, F>, program: &str, report: &mut Report) {
-    let mut text = Text::new(&mut report.err);
-    text.word(program);
-    text.word(": ");
-    refusal.fault.put(refusal.about.place, &mut text);
-    text.end_line();
-    let _ = text.finish();
+    let second = second_line(system, refusal);
+    report.refused(how.program, &refusal.fault, refusal.about.place);
+    match second {
+        Ok(line) => report.note(line.as_str()),
+        Err(_) => report.lose(),
+    }
 }
 
 fn second_line<F: Told, S: System>(
     system: &mut S,
     refusal: &Refusal<'_, F>,
-) -> Result<String, AllocError> {
+) -> Result<String, AllocError>
+    ensures { IfOk result (λ line. IsSecondLine (F.mended_from refusal.now.fault) refusal.now.about
+        (string_bytes line)) }
+{
     let alloc = system.alloc();
     let about = refusal.about;
-    let why = match about.advice.or(other_image(system, refusal)) {
+    let why = match about.advice {
         Some(advice) => String::from_str(alloc, advice)?,
-        None => why(alloc, about.why, &refusal.fault)?,
+        None => match other_image(system, refusal) {
+            Some(advice) => String::from_str(alloc, advice)?,
+            None => why(alloc, about.why, &refusal.fault)?,
+        },
     };
-    let why = why.as_str();
-    let line = match about.place {
+    let line = of_place(alloc, about.place, why.as_str())?;
+    let mended = with_mending(
+        alloc,
+        line.as_str(),
+        refusal.fault.mending_piece(),
+        about.why,
+    )?;
+    with_unfinished(alloc, mended.as_str(), about.unfinished)
+}
+
+fn of_place(alloc: Global, place: Option<FileArg<'_>>, why: &str) -> Result<String, AllocError>
+    ensures { IfOk result (λ line. string_bytes line ≡ of_place place.entry why.now) }
+{
+    match place {
         Some(place) => {
             let role = place.role;
-            format!(in alloc; "  {role} {place}: {why}")?
+            format!(in alloc; "  {role} {place}: {why}")
         }
-        None => format!(in alloc; "  {why}")?,
-    };
-    let line = line.as_str();
-    let mended = with_mending(alloc, line, refusal.fault.mending_piece(), about.why)?;
-    with_unfinished(alloc, mended.as_str(), about.unfinished)
+        None => format!(in alloc; "  {why}"),
+    }
 }
 
 fn with_mending(
@@ -113,7 +128,9 @@ fn with_mending(
     line: &str,
     piece: Option<u32>,
     number: Option<i32>,
-) -> Result<String, AllocError> {
+) -> Result<String, AllocError>
+    ensures { IfOk result (λ told. string_bytes told ≡ line.now ++ mending piece (is_of_room number)) }
+{
     match piece {
         Some(piece) if is_of_room(number) => {
             format!(in alloc; "{line}; make room, then --from {piece} mends it")
@@ -125,7 +142,9 @@ fn with_mending(
 
 // Whether the number of the system's error means that there is no room: on the device, in a quota, or in a file of that
 // length.
-fn is_of_room(number: Option<i32>) -> bool {
+fn is_of_room(number: Option<i32>) -> bool
+    ensures { result ≡ is_of_room number }
+{
     matches!(number, Some(28 | 122 | 27))
 }
 
@@ -133,7 +152,9 @@ fn with_unfinished(
     alloc: Global,
     line: &str,
     output: Option<FileArg<'_>>,
-) -> Result<String, AllocError> {
+) -> Result<String, AllocError>
+    ensures { IfOk result (λ told. string_bytes told ≡ line.now ++ unfinished_text output.entry) }
+{
     match output {
         Some(place) => {
             let role = place.role;

@@ -1,2 +1,4 @@
+pub mod Blamed
 pub mod Host
 pub mod Paths
+pub mod Said

@@ -1,6 +1,7 @@
 -- The path of a file that the words name, as the system takes it.
 use Rattle.std.specs.Prelude.{ℕ, List, ◌∷◌, ◌++◌, Option, Some, None, is_none, option_map, Bool, ◌&&◌, if◌then◌else◌}
 use Rattle.std.specs.Prelude.{codes, decimal, bytes_eq}
+use Rattle.sys_text.specs.Shown.{as_shown}
 use Rattle.sys_refusals.specs.declared.place.FileArg.{FileArg}
 
 -- with its folder before it
@@ -15,6 +16,10 @@ numbered name (Some number) = name ++ (46 ∷ decimal number)
 
 abbrev pub path_of : FileArg → List ℕ
 path_of p = in_folder (option_map (λ s. s.now) p.folder) (numbered p.name.now p.number)
+
+-- the same as a terminal can show it
+abbrev pub shown_place : FileArg → List ℕ
+shown_place p = in_folder (option_map (λ s. as_shown s.now) p.folder) (numbered (as_shown p.name.now) p.number)
 
 -- the word that means standard input or standard output
 abbrev pub is_standard : FileArg → Bool

@@ -1,7 +1,7 @@
 //! A file, as the words name it.
 
-ghost use Rattle.std.specs.Prelude.{◌≡◌, IfOk, string_bytes};
-ghost use Rattle.sys_refusals.specs.Paths.{is_standard, path_in, path_of, path_out};
+ghost use Rattle.std.specs.Prelude.{◌≡◌, IfOk, Some, string_bytes};
+ghost use Rattle.sys_refusals.specs.Paths.{is_standard, path_in, path_of, path_out, shown_place};
 
 use std::alloc::{AllocError, Global};
 use std::fmt;
@@ -42,7 +42,9 @@ impl<'a> FileArg<'a> {
     }
 
     /// The same with a number after its name.
-    pub fn numbered(self, number: u32) -> FileArg<'a> {
+    pub fn numbered(self, number: u32) -> FileArg<'a>
+        ensures { result ≡ record self.entry { number = Some number } }
+    {
         FileArg {
             number: Some(number),
             ..self
@@ -95,6 +97,8 @@ impl<'a> FileArg<'a> {
 
 /// The path, as a terminal can show it.
 impl fmt::Display for FileArg<'_> {
+    ghost output = { λ place. Some (shown_place place) };
+
     #[inline(never)]
     fn fmt<W: fmt::Write>(&self, f: &mut fmt::Formatter<W>) -> fmt::Result {
         if let Some(folder) = self.folder {

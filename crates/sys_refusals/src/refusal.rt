@@ -1,6 +1,7 @@
 //! Why a command fails: the fault, the file that it is about, and the system's reason, in one value.
 
-ghost use Rattle.std.specs.Prelude.{◌≡◌};
+ghost use Rattle.std.specs.Prelude.{◌≡◌, None, Some};
+ghost use Rattle.sys_refusals.specs.Blamed.{place_on};
 
 use crate::place::FileArg;
 use crate::told::{Side, Told};
@@ -184,7 +185,11 @@ pub struct Sides<'a> {
 
 impl<'a> Sides<'a> {
     /// No file is in use.
-    pub fn none() -> Sides<'a> {
+    pub fn none() -> Sides<'a>
+        ensures input { result.input.place ≡ None }
+        ensures output { result.output.place ≡ None }
+        ensures spool { result.spool.place ≡ None }
+    {
         let nothing = At {
             place: None,
             why: None,
@@ -198,7 +203,10 @@ impl<'a> Sides<'a> {
     }
 
     /// This one is read.
-    pub fn reading(self, place: FileArg<'a>, why: Option<i32>) -> Sides<'a> {
+    pub fn reading(self, place: FileArg<'a>, why: Option<i32>) -> Sides<'a>
+        ensures place { result.input.place ≡ Some place.entry }
+        ensures others { result ≡ record self.entry { input = result.input } }
+    {
         let place = Some(place);
         Sides {
             input: At { place, why },
@@ -207,7 +215,10 @@ impl<'a> Sides<'a> {
     }
 
     /// This one is written in place.
-    pub fn writing(self, place: FileArg<'a>, why: Option<i32>) -> Sides<'a> {
+    pub fn writing(self, place: FileArg<'a>, why: Option<i32>) -> Sides<'a>
+        ensures place { result.output.place ≡ Some place.entry }
+        ensures others { result ≡ record self.entry { output = result.output } }
+    {
         let place = Some(place);
         Sides {
             output: At { place, why },
@@ -216,7 +227,10 @@ impl<'a> Sides<'a> {
     }
 
     /// The report is written.
-    pub fn printing(self, why: Option<i32>) -> Sides<'a> {
+    pub fn printing(self, why: Option<i32>) -> Sides<'a>
+        ensures place { result.output.place ≡ None }
+        ensures others { result ≡ record self.entry { output = result.output } }
+    {
         Sides {
             output: At { place: None, why },
             ..self
@@ -224,7 +238,10 @@ impl<'a> Sides<'a> {
     }
 
     /// Pieces go through this one.
-    pub fn through(self, place: FileArg<'a>, why: Option<i32>) -> Sides<'a> {
+    pub fn through(self, place: FileArg<'a>, why: Option<i32>) -> Sides<'a>
+        ensures place { result.spool.place ≡ Some place.entry }
+        ensures others { result ≡ record self.entry { spool = result.spool } }
+    {
         let place = Some(place);
         Sides {
             spool: At { place, why },
@@ -233,7 +250,10 @@ impl<'a> Sides<'a> {
     }
 
     /// This one is written, and isn't complete.
-    pub fn begun(self, place: FileArg<'a>, why: Option<i32>) -> Sides<'a> {
+    pub fn begun(self, place: FileArg<'a>, why: Option<i32>) -> Sides<'a>
+        ensures place { result.output.place ≡ Some place.entry }
+        ensures others { result ≡ record self.entry { output = result.output; unfinished = result.unfinished } }
+    {
         let place = Some(place);
         Sides {
             output: At { place, why },
@@ -245,13 +265,15 @@ impl<'a> Sides<'a> {
     /// The error for this fault. The fault says which of these files it is about.
     #[inline(never)]
     pub fn refuse<F: Told>(self, fault: F) -> Refusal<'a, F>
-        ensures { result.fault ≡ fault }
+        ensures fault { result.fault ≡ fault }
+        ensures place { result.about.place ≡ place_on self.entry (F.side_of fault) }
     {
         let At { place, why } = match fault.side() {
             Side::Input => self.input,
             Side::Output => self.output,
             Side::Spool => self.spool,
             Side::Words => Sides::none().input,
+            Side::Call => Sides::none().input,
         };
         let about = About {
             place,

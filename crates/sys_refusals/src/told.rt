@@ -1,12 +1,16 @@
 //! The message about a fault.
 
-ghost use Rattle.std.specs.Prelude.{◌≡◌, Bool, List, ℕ};
+ghost use Rattle.std.specs.Prelude.{◌≡◌, Bool, List, OnOk, Option, ℕ};
 ghost use Rattle.sys_refusals.specs.Host.{is_not_text};
+ghost use Rattle.sys_refusals.specs.Said.{host_said, host_words, names_its_file};
+ghost use Rattle.sys_refusals.specs.declared.place.FileArg.{FileArg};
+ghost use Rattle.sys_refusals.specs.declared.told.Side.{Side};
 ghost use Rattle.sys_text.specs.Printed.{Prints};
 
 use crate::place::FileArg;
 use crate::refusal::HostFault;
 use abt_io::Output;
+use std::fmt;
 use sys_text::Text;
 
 /// Which of the files in use a fault is about.
@@ -20,6 +24,8 @@ pub enum Side {
     Spool,
     /// The words.
     Words,
+    /// The file of the call that failed, which the refusal names by itself.
+    Call,
 }
 
 /// The kinds of images that begin with a magic.
@@ -36,12 +42,22 @@ pub trait Told {
     /// The words are wrong, rather than what they name.
     ghost wrong_words: { Self → Bool };
 
+    /// Which of the files in use it is about.
+    ghost side_of: { Self → Side };
+
+    /// What the first line may say of it, beside this file.
+    ghost says: { Self → Option FileArg → List ℕ → Type 0 };
+
+    /// The piece from which a stopped flash continues.
+    ghost mended_from: { Self → Option ℕ };
+
     /// Whether the words are wrong, rather than what they name.
     fn is_usage(&self) -> bool
         ensures { result ≡ wrong_words self.now };
 
     /// Which of the files in use it is about.
-    fn side(&self) -> Side;
+    fn side(&self) -> Side
+        ensures { result ≡ side_of self.now };
 
     /// Whether a device or the opening of a file failed, so that the system gives the reason.
     fn is_of_a_device(&self) -> bool;
@@ -53,11 +69,13 @@ pub trait Told {
     fn missing_magic(&self) -> Option<Magic>;
 
     /// The piece from which a stopped flash continues.
-    fn mending_piece(&self) -> Option<u32>;
+    fn mending_piece(&self) -> Option<u32>
+        ensures { result ≡ mended_from self.now };
 
-    /// Adds what the first line says of it, after `abootimg: `.
-    fn put<O: Output>(&self, place: Option<FileArg<'_>>, text: &mut Text<'_, O>)
-        ensures { (told : List ℕ) × Prints O.written O.write_faults text.old text.new told };
+    /// Adds what the first line says of it, after `abootimg: `. An Err is that of a text that is shown.
+    fn put<O: Output>(&self, place: Option<FileArg<'_>>, text: &mut Text<'_, O>) -> fmt::Result
+        ensures { (told : List ℕ) × Prints O.written O.write_faults text.old text.new told × OnOk
+            result (says self.now place.entry told) };
 }
 
 impl HostFault {
@@ -112,19 +130,27 @@ impl HostFault {
         }
     }
 
-    /// Adds what the first line says of it.
-    pub fn put<O: Output>(self, place: Option<FileArg<'_>>, text: &mut Text<'_, O>)
-        ensures { (told : List ℕ) × Prints O.written O.write_faults text.old text.new told }
+    /// Adds what the first line says of it. An Err is that of the file's name.
+    pub fn put<O: Output>(self, place: Option<FileArg<'_>>, text: &mut Text<'_, O>) -> fmt::Result
+        ensures { (told : List ℕ) × Prints O.written O.write_faults text.old text.new told × OnOk
+            result (told ≡ host_said self place.entry) }
     {
         text.word(self.wrong());
-        if let Some(place) = place
-            && self.names_its_file()
-        {
-            text.short(place);
+        match place {
+            Some(place) => {
+                if self.names_its_file() {
+                    text.short(place)
+                } else {
+                    Ok(())
+                }
+            }
+            None => Ok(()),
         }
     }
 
-    fn wrong(self) -> &'static str {
+    fn wrong(self) -> &'static str
+        ensures { result.now ≡ host_words self }
+    {
         match self {
             HostFault::CannotOpen => "cannot open ",
             HostFault::NoFolder => "cannot open ",
@@ -139,7 +165,9 @@ impl HostFault {
         }
     }
 
-    fn names_its_file(self) -> bool {
+    fn names_its_file(self) -> bool
+        ensures { result ≡ names_its_file self }
+    {
         match self {
             HostFault::CannotOpen => true,
             HostFault::NoFolder => true,

@@ -1,5 +1,5 @@
 -- What a report shows.
-use Rattle.std.specs.Prelude.{◌≡◌, ◌<◌, ◌+◌, ◌||◌, ℕ, List, ◌++◌, Bool, IsTrue, true, false}
+use Rattle.std.specs.Prelude.{◌≡◌, ◌<◌, ◌+◌, ◌||◌, ◌⊎◌, ℕ, List, [], ◌∷◌, ◌++◌, Bool, IsTrue, true, false, codes}
 use Rattle.sys_report.specs.declared.report.Report.{Report}
 
 -- these bytes more were written to one stream, and none to the other: of standard output and of standard error what was
@@ -34,6 +34,24 @@ IsNoted old new =
 -- nor to standard error
 abbrev pub IsSilent : Report → Report → Type 0
 IsSilent old new = IsNoted old new × (new.err.log.state.bytes ≡ old.err.log.state.bytes)
+
+-- these bytes more were written to standard error, and nothing is counted; or they could not be, which is counted
+abbrev pub Notes : Report → Report → List ℕ → Type 0
+Notes old new told =
+    ((new.err.log.state.bytes ≡ old.err.log.state.bytes ++ told) × (new.unshown.number ≡ old.unshown.number))
+    ⊎ (old.unshown.number < new.unshown.number)
+
+-- the same of one of these texts
+abbrev pub NotesOne : Report → Report → (List ℕ → Type 0) → Type 0
+NotesOne old new IsText =
+    ((told : List ℕ) × IsText told × (new.err.log.state.bytes ≡ old.err.log.state.bytes ++ told)
+        × (new.unshown.number ≡ old.unshown.number))
+    ⊎ (old.unshown.number < new.unshown.number)
+
+-- a line: the program's name, a colon and a space, and what is said of a fault
+abbrev pub IsFirstLine : List ℕ → (List ℕ → Type 0) → List ℕ → Type 0
+IsFirstLine program Says line =
+    (told : List ℕ) × Says told × (line ≡ program ++ (codes ": " ++ (told ++ (10 ∷ []))))
 
 -- how often a line failed: in standard output, in standard error, or because it is no text of a line
 abbrev pub refusals : Report → ℕ

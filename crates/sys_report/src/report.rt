@@ -1,8 +1,9 @@
 //! What a command prints.
 
-ghost use Rattle.std.specs.Prelude.{◌≡◌, ◌≤◌, OnOk, OnErr, IfSome};
+ghost use Rattle.std.specs.Prelude.{◌≡◌, ◌<◌, ◌≤◌, OnOk, OnErr, IfSome};
 ghost use Rattle.std.specs.Fmt.{with_newline};
-ghost use Rattle.sys_report.specs.Shows.{CannotPrint, IsNoted, ShowsBeside, ShowsHere, refusals};
+ghost use Rattle.sys_report.specs.Shows.{CannotPrint, IsFirstLine, IsNoted, IsSilent, Notes, NotesOne, ShowsBeside};
+ghost use Rattle.sys_report.specs.Shows.{ShowsHere, refusals};
 
 use crate::progress::Progress;
 use crate::standard_output::StandardOutput;
@@ -12,8 +13,8 @@ use std::fmt;
 use std::fmt::Write;
 use std::rt::Stderr;
 use sys_readers::ToWrite;
-use sys_refusals::{FileArg, HostFault, HostRefusal};
-use sys_text::print_line;
+use sys_refusals::{FileArg, HostFault, HostRefusal, Told};
+use sys_text::{Text, print_line};
 
 // The most bytes of a line. A line of numbers and names has at most a fifth of it.
 const LINE: usize = 512;
@@ -26,7 +27,7 @@ pub struct Report {
     pub progress: Progress,
     // Whether data went to standard output: then no line does.
     is_data_on_output: bool,
-    // Lines that are not text, or are longer than any line that a command prints.
+    // Lines that are not text, or are longer than any line that a command prints; and notes that could not be written.
     unshown: Tally,
 }
 
@@ -94,13 +95,43 @@ impl Report {
         }
     }
 
-    /// Prints a line to standard error. No contract depends on it.
+    /// Prints a line to standard error. No result depends on it.
     #[inline(never)]
     pub fn note<D: fmt::Display + Drop>(&mut self, line: D)
-        ensures { IsNoted self.old self.new }
+        ensures noted { IsNoted self.old self.new }
+        ensures told { IfSome (with_newline (D.output line)) (Notes self.old self.new) }
     {
         self.progress.erase();
-        let _ = print_line(&mut self.err, line);
+        match print_line(&mut self.err, line) {
+            Ok(()) => {}
+            Err(_) => self.unshown.add(1),
+        }
+    }
+
+    /// Prints the first line about a fault to standard error, with the name of the program before it.
+    #[inline(never)]
+    pub fn refused<F: Told>(&mut self, program: &str, fault: &F, place: Option<FileArg<'_>>)
+        ensures noted { IsNoted self.old self.new }
+        ensures told { NotesOne self.old self.new (IsFirstLine program.now (F.says fault.now place.entry)) }
+    {
+        self.progress.erase();
+        let mut text = Text::new(&mut self.err);
+        text.word(program);
+        text.word(": ");
+        let said = fault.put(place, &mut text);
+        text.end_line();
+        let sent = text.finish();
+        if said.is_err() || sent.is_err() {
+            self.unshown.add(1);
+        }
+    }
+
+    /// Counts a line for which there is no memory.
+    pub fn lose(&mut self)
+        ensures noted { IsSilent self.old self.new }
+        ensures counted { self.old.unshown.number < self.new.unshown.number }
+    {
+        self.unshown.add(1);
     }
 
     /// Whether standard output is a terminal, so that each line of a text is awaited.

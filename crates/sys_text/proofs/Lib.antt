@@ -1,2 +1,4 @@
 pub mod Calls
+pub mod Holding
+pub mod Letters
 pub mod Printing

@@ -1,7 +1,7 @@
 //! A small buffer for text.
 
 ghost use Rattle.std.specs.Prelude.{◌≡◌, ◌≤◌, ◌-◌, ◌++◌, [], length, take, min};
-ghost use Rattle.sys_text.specs.Shown.{text_in};
+ghost use Rattle.sys_text.specs.Shown.{HoldsMore, text_in};
 
 use std::fmt;
 
@@ -64,6 +64,8 @@ impl TextBuffer {
 
 /// Keeps what has room.
 impl fmt::Write for TextBuffer {
+    ghost write_str_gives = { λ s text t. HoldsMore s.bytes s.used text t.bytes t.used };
+
     fn write_str(&mut self, s: &str) -> fmt::Result {
         self.put(s.as_bytes());
         Ok(())

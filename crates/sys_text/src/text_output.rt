@@ -160,14 +160,30 @@ impl<'a, O: Output> Text<'a, O> {
         }
     }
 
-    /// Adds a value whose text has at most 8,192 bytes. The text is collected first, so that no write depends on it.
+    /// Adds the text of a value, or its first 8,192 bytes. The text is collected first, so that no write depends on it. An
+    /// Err is the value's own.
     #[inline(never)]
-    pub fn short<D: fmt::Display + Drop>(&mut self, shown: D)
-        ensures { (told : List ℕ) × Prints O.written O.write_faults self.old self.new told }
+    pub fn short<D: fmt::Display + Drop>(&mut self, shown: D) -> fmt::Result
+        ensures { (told : List ℕ) × Prints O.written O.write_faults self.old self.new told × OnOk
+            result (IfSome (D.output shown) (λ text. told ≡ take 8192 text)) }
+    {
+        let mut held = TextBuffer::new();
+        let is_whole = held.write(shown);
+        self.put(held.all());
+        is_whole
+    }
+
+    /// Adds a number, and then the text of a value without its own number, which is at its beginning.
+    #[inline(never)]
+    pub fn numbered<D: fmt::Display + Drop>(&mut self, number: u32, shown: D)
+        ensures { (rest : List ℕ) × Prints O.written O.write_faults self.old self.new (decimal number ++ rest) }
     {
         let mut held = TextBuffer::new();
         let _ = held.write(shown);
-        self.put(held.all());
+        self.number(number as u64);
+        let text = held.all();
+        let from = digits_of(text);
+        self.put(&text[from..]);
     }
 
     // Sends the buffer if it holds enough.
@@ -203,6 +219,18 @@ impl<O: Output> fmt::Write for Text<'_, O> {
             Some(_) => Err(fmt::Error),
         }
     }
+}
+
+// How many digits a text begins with.
+fn digits_of(text: &[u8]) -> usize
+    ensures { result ≤ length text.now }
+{
+    for (i, byte) in text.iter().enumerate() {
+        if !byte.is_ascii_digit() {
+            return i;
+        }
+    }
+    text.len()
 }
 
 /// Prints a line at once.

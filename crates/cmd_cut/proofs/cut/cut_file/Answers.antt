@@ -6,6 +6,7 @@ use Rattle.sys_disk.proofs.Amongs.{among_none}
 use Rattle.cmd_cut.proofs.Wholes.{cuts_file_as, cuts_shown, leaves_cut, refuses_file_as, refuses_unopened}
 use Rattle.cmd_cut.specs.Leaving.{unchanged}
 use Rattle.cmd_cut.proofs.Leavings.{spares_file_as}
+use Rattle.cmd_cut.proofs.Told.{host_output, reads_host, told_file_as}
 use Rattle.cmd_cut.proofs.cut.cut_file.Goals as goal
 
 pub returns-in-Err-clause-refused : goal.returns-in-Err-clause-refused
@@ -72,3 +73,25 @@ pub returns-in-None-clause-spares : goal.returns-in-None-clause-spares
 returns-in-None-clause-spares g c = λ t.
     spares_file_as c.args.order.raw _ _ _ _ _ _ _ _ _ _ _ _ c.in-None.is (c.in-Ok.ensures.opened t)
     (c.in-Ok.ensures.world t) (c.cut_sparse.ensures.begins t)
+
+-- the file that a refusal is told of
+
+pub returns-in-Err-clause-told_of : goal.returns-in-Err-clause-told_of
+returns-in-Err-clause-told_of g c = reads_host _ c.in-Err.refusal.fault _ _ c.into.ensures
+
+pub returns-in-Err-clause-told_of_piece : goal.returns-in-Err-clause-told_of_piece
+returns-in-Err-clause-told_of_piece g c = λ t on. absurd (host_output _ c.in-Err.refusal.fault c.into.ensures on)
+
+pub returns-in-Some-clause-told_of_piece : goal.returns-in-Some-clause-told_of_piece
+returns-in-Some-clause-told_of_piece g c = λ t.
+    if_err c.cut_raw.result _ _ (λ e why on.
+    told_file_as c.args.order.raw _ _ _ _ _ _ _ _ _ _ _ _ c.in-Some.is (c.requires.first t).begun
+    (c.in-Ok.ensures.opened t) (c.in-Ok.ensures.world t) (why on))
+    (c.cut_raw.ensures.told_of_piece t)
+
+pub returns-in-None-clause-told_of_piece : goal.returns-in-None-clause-told_of_piece
+returns-in-None-clause-told_of_piece g c = λ t.
+    if_err c.cut_sparse.result _ _ (λ e why on.
+    told_file_as c.args.order.raw _ _ _ _ _ _ _ _ _ _ _ _ c.in-None.is (c.requires.first t).begun
+    (c.in-Ok.ensures.opened t) (c.in-Ok.ensures.world t) (why on))
+    (c.cut_sparse.ensures.told_of_piece t)

@@ -5,6 +5,8 @@ use Rattle.cmd_cut.specs.Cutting.{IsPiecePath, ShowsCount, untold}
 use Rattle.cmd_cut.proofs.Wholes.{cuts_between, failing_more, left_between, left_failed, stops_between, stops_host}
 use Rattle.cmd_cut.specs.Leaving.{looked, unlooked}
 use Rattle.cmd_cut.proofs.Leavings.{no_part_between, no_part_same}
+use Rattle.sys_refusals.proofs.Blames.{reads_of_input}
+use Rattle.cmd_cut.proofs.Told.{host_output, reads_host, told_between}
 use Rattle.cmd_cut.proofs.cut_loop.cut_pieces.Goals as goal
 
 -- counts that rose after others have risen since they began
@@ -129,3 +131,31 @@ returns-in-Err-tell_all-clause-spares g c = λ t. (
   no_part_between g.D.Disk.is_over _ _ _ _ _ _ (c.refuse_image_as_piece.ensures.keeps t).world
       ((c.tell_all.ensures.keeps t).world ∙ c.let_go_source.ensures.world t) (c.write_pieces-source.ensures.whole t),
 )
+
+-- the file that a refusal is told of
+
+pub returns-in-Err-clause-told_of : goal.returns-in-Err-clause-told_of
+returns-in-Err-clause-told_of g c = reads_host _ c.in-Err.refusal.fault _ _ c.into.ensures
+
+pub returns-in-Err-clause-told_of_piece : goal.returns-in-Err-clause-told_of_piece
+returns-in-Err-clause-told_of_piece g c = λ t on.
+    absurd (host_output _ c.in-Err.refusal.fault c.into.ensures on)
+
+pub returns-in-Err-answer-clause-told_of : goal.returns-in-Err-answer-clause-told_of
+returns-in-Err-answer-clause-told_of g c =
+    reads_of_input _ _ _ _ c.reading-sides.ensures.place
+    (rw c.in-Err-answer.is at c.write_pieces-source.ensures.told_of)
+
+pub returns-in-Err-answer-clause-told_of_piece : goal.returns-in-Err-answer-clause-told_of_piece
+returns-in-Err-answer-clause-told_of_piece g c = λ t on.
+    told_between (naming_of c.args.names) _ _ _ _ _ _ _ _ _ _ _ (c.in-Ok.ensures.held t)
+    (c.refuse_image_as_piece.ensures.keeps t).world (c.let_go_source.ensures.held t) (c.let_go_source.ensures.world t)
+    ((rw c.in-Err-answer.is at (c.write_pieces-source.ensures.told_of_piece t)) on)
+
+pub returns-in-Err-tell_all-clause-told_of : goal.returns-in-Err-tell_all-clause-told_of
+returns-in-Err-tell_all-clause-told_of g c =
+    reads_host _ c.in-Err-tell_all.refusal.fault _ _ c.into-in-Err-tell_all.ensures
+
+pub returns-in-Err-tell_all-clause-told_of_piece : goal.returns-in-Err-tell_all-clause-told_of_piece
+returns-in-Err-tell_all-clause-told_of_piece g c = λ t on.
+    absurd (host_output _ c.in-Err-tell_all.refusal.fault c.into-in-Err-tell_all.ensures on)

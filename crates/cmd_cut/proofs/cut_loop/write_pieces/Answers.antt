@@ -11,6 +11,7 @@ use Rattle.cmd_cut.proofs.Nexts.{not_done}
 use Rattle.cmd_cut.proofs.CutCommands.{all_made, countable, cuts_more, cuts_none, cuts_left, cuts_stop}
 use Rattle.cmd_cut.proofs.CutCommands.{now_done, path_behind, stands_more, still_between}
 use Rattle.cmd_cut.proofs.Leavings.{no_part_stop, no_part_yet}
+use Rattle.cmd_cut.proofs.Told.{host_output, reads_host}
 use Rattle.cmd_cut.proofs.cut_loop.write_pieces.Goals as goal
 
 next_of : (n : ℕ) → suc n ≡ n + 1
@@ -256,3 +257,40 @@ returns-in-Err-print_piece-clause-whole g c = λ t all f.
     no_part_yet _ _ _ _ _ _ _ (cuts_more (naming_of c.args.names) _ cutter.made _ _ _ _ _ _ _ path (i.cuts t)
     (rw (i.runs, i.limit, i.kept (g.met.D.Disk.source_told t)) at (o.adds t))
     (c.put_piece-answer.ensures.left t).only) f
+
+-- the file that a refusal is told of
+
+pub returns-in-Err-clause-told_of : goal.returns-in-Err-clause-told_of
+returns-in-Err-clause-told_of g c = c.in-Err.ensures.told_of.reads
+
+pub returns-in-Err-clause-told_of_piece : goal.returns-in-Err-clause-told_of_piece
+returns-in-Err-clause-told_of_piece g c = λ t on.
+    let i = c.pieces.invariant in
+    let cutter = c.pieces.pieces.cutter in
+    let is : cutter.stage ≡ Between = still_between _ i.stands.where_is (sym c.more.ensures ∙ c.if-not-more.false) in
+    let left : cutter.made ≤ cutter.start.block = cutter.sound.left (ap has_more is) in
+    let few = countable (g.B.BlockRuns.count c.args.pieces.cutter.runs) cutter.made cutter.start.block cutter.stage
+    i.stands is left (omega arith) in
+    let one = c.next-place.ensures.counted (omega (arith, few, i.counted)) in
+    let behind : c.next-place.new.self.count ≡ cutter.made + 1 = omega (arith, one, i.counted) in
+    let path : path_out c.next-place.result ≡ path_in_turn (naming_of c.args.names) (cutter.made + 1)
+    = path_behind c.next-place.result c.args.names _ _ _ (cutter.made + 1) c.next-place.ensures.folder
+    c.next-place.ensures.number c.next-place.ensures.name c.next-place.ensures.begins i.named behind in
+    record {
+      count = cutter.made;
+      before = cuts_stop (naming_of c.args.names) _ cutter.made _ _ _ _ _ _ _ path (i.cuts t)
+          (c.in-Err.ensures.keeps t) (c.in-Err.ensures.left t).only;
+      told = record {
+        named = c.next-place.result;
+        is_named = c.in-Err.ensures.told_of.written on;
+        leads = path;
+      };
+    }
+
+pub returns-in-Err-print_piece-clause-told_of : goal.returns-in-Err-print_piece-clause-told_of
+returns-in-Err-print_piece-clause-told_of g c =
+    reads_host _ c.in-Err-print_piece.refusal.fault _ _ c.into.ensures
+
+pub returns-in-Err-print_piece-clause-told_of_piece : goal.returns-in-Err-print_piece-clause-told_of_piece
+returns-in-Err-print_piece-clause-told_of_piece g c = λ t on.
+    absurd (host_output _ c.in-Err-print_piece.refusal.fault c.into.ensures on)

@@ -1,6 +1,7 @@
 use Rattle.std.proofs.Common.{rules}
 use Rattle.cmd_cut.proofs.Beside.{beside_answer, holds_piece, told_of}
 use Rattle.cmd_cut.proofs.Counted.{answered}
+use Rattle.cmd_cut.proofs.Told.{tells_end}
 use Rattle.cmd_cut.proofs.pieces.put_in_stream.Goals as goal
 
 pub returns : goal.returns
@@ -25,4 +26,6 @@ returns g c =
         content = cuts.content;
         told = cuts.told;
       };
+      told_of = tells_end (λ r. r.fault) (λ r. r.about.place) c.write_next-answer.result c.ended.result _ _
+          c.ended.ensures.told c.ended.ensures.told_of c.ended.ensures.host;
     }

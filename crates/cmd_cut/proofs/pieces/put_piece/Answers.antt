@@ -7,6 +7,7 @@ use Rattle.sys_refusals.specs.Paths.{path_out}
 use Rattle.sys_disk.proofs.Amongs.{goes_refused}
 use Rattle.cmd_cut.proofs.Fronts.{any_err}
 use Rattle.cmd_cut.proofs.Leavings.{holds_emptied, holds_left}
+use Rattle.cmd_cut.proofs.Told.{tells_given}
 use Rattle.cmd_cut.proofs.pieces.put_piece.Goals as goal
 
 pub returns-in_err-image-clause-left : goal.returns-in_err-image-clause-left
@@ -105,3 +106,7 @@ returns-in-File-clause-broken g c = λ t over.
 pub returns-in-Stream-clause-broken : goal.returns-in-Stream-clause-broken
 returns-in-Stream-clause-broken g c = λ t over.
     absurd (false≢true (rw c.in-Stream.is at (c.in_ok-image.ensures.kind t) ∙ over))
+
+pub returns-in_err-image-clause-told_of : goal.returns-in_err-image-clause-told_of
+returns-in_err-image-clause-told_of g c =
+    tells_given (λ r. r.fault) (λ r. r.about.place) c.from_residual.result _ _ _ c.from_residual.ensures.1

@@ -1,4 +1,4 @@
-use Rattle.std.proofs.Common.{◌∙◌, ap, inr, rules}
+use Rattle.std.proofs.Common.{◌∙◌, ap, sym, inr, rules}
 use Rattle.sys_disk.specs.World.{untouched}
 use Rattle.sys_refusals.specs.Paths.{path_of, path_out}
 use Rattle.sys_disk.proofs.Worlds.{only_written, only_behind, kept_behind, synced_behind}
@@ -6,6 +6,9 @@ use Rattle.cmd_cut.proofs.Files.{left_unbegun, left_whole, none_open, part_same,
 use Rattle.cmd_cut.proofs.Files.{no_blocks, refuses, refuses_host, sparsifies}
 use Rattle.sys_report.proofs.Beside.{beside}
 use Rattle.cmd_cut.proofs.Counted.{clean_behind, failed_behind}
+use Rattle.cmd_common_sparse.specs.Fault.{side_of}
+use Rattle.cmd_cut.proofs.Told.{run_side, tells_given, tells_host, tells_read}
+use Rattle.sys_refusals.proofs.Blames.{told_of_input}
 use Rattle.cmd_cut.proofs.sparse.sparse_file.Goals as goal
 
 -- IN cannot be opened
@@ -32,7 +35,7 @@ returns-in-Err-clause-refused g c = λ t.
     no_blocks _ _ _ _ _ _ (g.D.Disk.held c.args.disk.now) (g.D.Disk.held c.source.new.self) _ _ _ _ _
     (c.in_ok-source.ensures.opened t) (c.in_ok-source.ensures.world t)
     (g.met.D.At.Source.sized c.in_ok-source.source (g.met.D.Disk.source_told t)) c.in-Err.ensures.refused
-    c.refuse.ensures
+    c.refuse.ensures.fault
 
 -- OUT cannot be opened
 
@@ -113,3 +116,29 @@ returns-in-Ok-printed-clause-done g c = λ t.
     (c.in-Ok-write_whole.ensures.writes t).holds
     (beside c.args.report.now c.printed.new.report _ _ _ (c.in-Ok-write_whole.ensures.stream t)
     c.in-Ok-printed.ensures.shown)
+
+-- the file that a refusal is told of
+
+pub returns-in_err-source-clause-told_of : goal.returns-in_err-source-clause-told_of
+returns-in_err-source-clause-told_of g c =
+    tells_given (λ r. r.fault) (λ r. r.about.place) c.from_residual.result _ _ _ c.from_residual.ensures.1
+
+pub returns-in-Err-clause-told_of : goal.returns-in-Err-clause-told_of
+returns-in-Err-clause-told_of g c = record {
+  reads = tells_read c.reading-sides.result _ _ _ _ c.refuse.ensures.place c.refuse.ensures.fault
+      c.reading-sides.ensures.place;
+  written = λ on. absurd (run_side c.in-Err.fault _ _ c.in-Err.ensures.refused
+      (sym (ap side_of c.refuse.ensures.fault) ∙ on));
+}
+
+pub returns-in_err-image-clause-told_of : goal.returns-in_err-image-clause-told_of
+returns-in_err-image-clause-told_of g c =
+    tells_given (λ r. r.fault) (λ r. r.about.place) c.from_residual-in_err-image.result _ _ _
+    c.from_residual-in_err-image.ensures.1
+
+pub returns-in-Err-write_whole-clause-told_of : goal.returns-in-Err-write_whole-clause-told_of
+returns-in-Err-write_whole-clause-told_of g c =
+    told_of_input _ _ _ _ _ c.reading-sides.ensures.place c.in-Err-write_whole.ensures.told_of
+
+pub returns-in-Err-printed-clause-told_of : goal.returns-in-Err-printed-clause-told_of
+returns-in-Err-printed-clause-told_of g c = tells_host _ c.in-Err-printed.refusal.fault _ _ _ c.into.ensures

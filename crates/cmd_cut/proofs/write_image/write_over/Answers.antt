@@ -1,6 +1,7 @@
 use Rattle.std.proofs.Common.{arith, rules}
 use Rattle.cmd_cut.proofs.Answered.{holds, left_whole, left_broken}
 use Rattle.cmd_cut.proofs.Counted.{closes_done, closes_given_up, closes_undone}
+use Rattle.cmd_cut.proofs.Told.{tells_host}
 use Rattle.cmd_cut.proofs.write_image.write_over.Goals as goal
 
 pub returns-in-Err-finish_image-clause-broken : goal.returns-in-Err-finish_image-clause-broken
@@ -52,3 +53,11 @@ returns-in-Ok-finish_image-clause-writes g c = λ t.
           (c.in-Ok-finish_image.ensures.rest t);
       outside = tt;
     }
+
+-- the file that a refusal is told of
+
+pub returns-in-Err-finish_image-clause-told_of : goal.returns-in-Err-finish_image-clause-told_of
+returns-in-Err-finish_image-clause-told_of g c = tells_host _ c.in-Err-finish_image.refusal.fault _ _ _ c.into.ensures
+
+pub returns-in-Err-clause-told_of : goal.returns-in-Err-clause-told_of
+returns-in-Err-clause-told_of g c = c.stopped.ensures.told_of

@@ -1,6 +1,7 @@
 use Rattle.std.proofs.Common.{rules}
 use Rattle.cmd_cut.proofs.Answered.{holds_end}
 use Rattle.cmd_cut.proofs.Counted.{answered, closes_answer}
+use Rattle.cmd_cut.proofs.Told.{tells_end}
 use Rattle.cmd_cut.proofs.write_image.write_through.Goals as goal
 
 pub returns : goal.returns
@@ -20,4 +21,6 @@ returns g c = record {
         outside = search rules;
       };
   stream = λ t. c.ended.ensures.stream t;
+  told_of = tells_end (λ r. r.fault) (λ r. r.about.place) c.write_image-answer.result c.ended.result _ _
+      c.ended.ensures.told c.ended.ensures.told_of c.ended.ensures.host;
 }

@@ -9,7 +9,7 @@ returns-in_err-source-clause-refused g c = λ t.
 
 pub returns-in-Err-clause-refused : goal.returns-in-Err-clause-refused
 returns-in-Err-clause-refused g c = λ t.
-    told_so c.in-Err.fault c.refuse.result.fault _ _ _ _ c.refuse.ensures
+    told_so c.in-Err.fault c.refuse.result.fault _ _ _ _ c.refuse.ensures.fault
     (not_opened c.in-Err.fault _ _ _ _ _ _ _ _ (c.in_ok-source.ensures.opened t) (c.in_ok-source.ensures.clean t)
     (c.let_go_source.ensures.held t) (c.in-Err.ensures.refused (g.met.D.Disk.source_told t)))
 

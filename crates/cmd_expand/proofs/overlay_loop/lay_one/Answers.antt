@@ -44,7 +44,7 @@ returns-in-Err-clause-broken g c = λ t.
     let content : g.D.At.Source.content c.new.result.source ≡ g.D.At.Source.content c.args.one.source
     = ap g.D.At.Source.content c.new.ensures.source ∙ c.forget.ensures.content told in
     breaks_at c.flash_one-answer.result c.in-Err.fault c.refuse.result.fault _ _ _ _ _
-    (sym (c.in-Err.ensures.whole (c.shorter.ensures told))) c.refuse.ensures content
+    (sym (c.in-Err.ensures.whole (c.shorter.ensures told))) c.refuse.ensures.fault content
     (c.flash_one-answer.ensures.holds told (g.met.D.Disk.part_told t))
 
 pub returns-in-Err-clause-alone : goal.returns-in-Err-clause-alone
@@ -64,7 +64,7 @@ returns-in-Err-clause-refused g c = λ t blocks block sized image.
     blamed_behind c.flash_one-answer.result c.in-Err.fault c.refuse.result.fault (g.D.Disk.held c.args.disk.now)
     (g.D.Disk.held c.let_go_source.new.self) (g.D.At.Source.read_faults c.args.one.source) _
     (g.D.InPlace.Partition.put_faults c.args.onto.now) (g.D.InPlace.Partition.put_faults c.flash_one-answer.new.onto)
-    (sym (c.in-Err.ensures.whole (c.shorter.ensures told))) c.refuse.ensures (c.let_go_source.ensures.held t)
+    (sym (c.in-Err.ensures.whole (c.shorter.ensures told))) c.refuse.ensures.fault (c.let_go_source.ensures.held t)
     (subst (λ k. IfErr c.flash_one-answer.result (λ f. IsNotFlashed f
     (g.D.InPlace.Partition.put_faults c.args.onto.now +
     k)

@@ -72,7 +72,7 @@ returns-in_err-through-clause-leaves g c = λ t. record {
 
 pub returns-in-Err-clause-refused : goal.returns-in-Err-clause-refused
 returns-in-Err-clause-refused g c = λ t.
-    rw c.refuse.ensures (refuses_uncuttable _ c.in-Err.fault c.args.raw c.args.limit _ _ _ _ _ _ _ _ _
+    rw c.refuse.ensures.fault (refuses_uncuttable _ c.in-Err.fault c.args.raw c.args.limit _ _ _ _ _ _ _ _ _
     (c.in_ok-onto.ensures.world t ∙ c.in_ok-source.ensures.world t)
     (λ P so. of_file _ _ _ _ _ P (c.in_ok-source.ensures.opened t) so) (c.in-Err.ensures (g.met.D.Disk.source_told t)))
 

@@ -6,7 +6,7 @@ pub returns-in-Err-clause-refused : goal.returns-in-Err-clause-refused
 returns-in-Err-clause-refused g c = λ t.
     let r = c.in_ok-source.ensures.opened t in
     let o = c.in_ok-against.ensures.opened t in
-    verify_raw_refusal _ _ c.in-Err.fault _ c.args.size _ _ _ _ _ _ _ c.refuse.ensures
+    verify_raw_refusal _ _ c.in-Err.fault _ c.args.size _ _ _ _ _ _ _ c.refuse.ensures.fault
     (rose_two _ _ _ _ _ _ _ _ _ _ _ _ _ r.taken o.taken (c.unchanged_behind-end.ensures.held t)
     (c.let_go_source.ensures.held t)
     (c.let_go_source-2.ensures.held t) (c.in_ok-source.ensures.clean t) (c.in_ok-against.ensures.clean t))

@@ -1,5 +1,6 @@
 use Rattle.std.proofs.Common.{◌∙◌, ap}
 use Rattle.cmd_info.proofs.Told.{begun_same, none_failed, refuses, refuses_host, tells_file}
+use Rattle.cmd_common_boot.proofs.Sides.{reads_host}
 use Rattle.cmd_info.proofs.info.info_file.Goals as goal
 
 -- IN could not be opened
@@ -44,3 +45,8 @@ returns-in-Err-tell_image-clause-refused g c = λ t.
     refuses _ _ _ _ _ _ _ _ _ _ _ _ _ (c.in-Ok.ensures.opened t) (c.in-Ok.ensures.clean t)
     (c.let_go_source-in-Err-tell_image.ensures.held t)
     (c.in-Err-tell_image.ensures.refused (g.met.D.Disk.source_told t))
+
+-- the file that a refusal is told of
+
+pub returns-in-Err-clause-told_of : goal.returns-in-Err-clause-told_of
+returns-in-Err-clause-told_of g c = reads_host _ c.in-Err.refusal.fault _ _ c.into.ensures

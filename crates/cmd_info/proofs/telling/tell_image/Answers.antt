@@ -8,7 +8,7 @@ use Rattle.cmd_info.proofs.telling.tell_image.Goals as goal
 pub returns-in-Err-clause-refused : goal.returns-in-Err-clause-refused
 returns-in-Err-clause-refused g c = λ t.
     info_told _ _ _ _ c.args.report.now (record c.args.report.now { out = c.report_info.new.out }) _ c.in-Err.fault
-    c.refused.ensures
+    c.refused.ensures.fault
     (informed c.in-Err.fault _ _ _ _ c.args.report.now
     (record c.args.report.now { out = c.report_info.new.out }) (c.in-Err.ensures.refused t)
     c.in-Err.ensures.leaves.failed)
@@ -46,3 +46,8 @@ returns-in-Err-tell_check-clause-refused g c = λ t.
     (cannot_behind c.args.report.now (record c.args.report.now { out = c.report_info.new.out })
     c.tell_check.new.report c.in-Ok.ensures.leaves.clean refl refl)
     c.in-Err-tell_check.ensures.refused
+
+-- the file that a refusal is told of
+
+pub returns-in-Err-clause-told_of : goal.returns-in-Err-clause-told_of
+returns-in-Err-clause-told_of g c = c.refused.ensures.told_of

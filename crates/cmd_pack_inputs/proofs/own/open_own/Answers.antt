@@ -24,7 +24,7 @@ pub returns-in-Err-open-clause-refused : goal.returns-in-Err-open-clause-refused
 returns-in-Err-open-clause-refused g c = λ t.
     let told = g.met.D.Disk.source_told t in
     refuses_file _ _ _ _ _ _ _ _ _ _ (c.in-Ok.ensures.opened t)
-    (section_refused _ _ ⊥ _ _ c.refuse.ensures
+    (section_refused _ _ ⊥ _ _ c.refuse.ensures.fault
     (opened c.in-Err-open.fault (g.D.At.Source.content c.in-Ok.source) _ _ _ c.in-Err-open.ensures.reads.cause
     (c.in-Err-open.ensures.opens told)))
     (λ failed. open_failed _ _ _ _ _ _ _ _ (c.in-Ok.ensures.opened t) (c.in-Ok.ensures.clean t)

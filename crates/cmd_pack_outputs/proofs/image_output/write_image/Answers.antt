@@ -18,7 +18,7 @@ returns-in-Err-clause-left g c = λ t.
 pub returns-in-Err-clause-refused : goal.returns-in-Err-clause-refused
 returns-in-Err-clause-refused g c = λ t.
     judged_stops _ _ _ _ _ _ c.in-Err.why _ (c.in-Err.ensures.refused (g.met.D.Disk.source_told t))
-    (c.refuse.ensures ∙ c.counted-fault.ensures.told) (c.counted-fault.ensures.fails.held t)
+    (c.refuse.ensures.fault ∙ c.counted-fault.ensures.told) (c.counted-fault.ensures.fails.held t)
     (c.counted-fault.ensures.fails.world t)
 
 -- what the writing asks for

@@ -18,7 +18,7 @@ returns-in-Err-clause-writes g c = λ t. stop_more (λ p named. of_section named
 pub returns-in-Err-clause-stands : goal.returns-in-Err-clause-stands
 returns-in-Err-clause-stands g c = λ t.
     let s = c.in-Err.ensures.stands t in
-    in_sections s.0 s.1 (goes_section _ _ _ _ _ _ _ _ _ s.2)
+    in_sections s.0 s.1 s.2 (goes_section _ _ _ _ _ _ _ _ _ s.3)
 
 pub returns-in-Err-clause-refused : goal.returns-in-Err-clause-refused
 returns-in-Err-clause-refused g c = λ t opened.
@@ -34,14 +34,14 @@ returns-in-Err-write_fragments-clause-writes g c = λ t.
 pub returns-in-Err-write_fragments-clause-stands : goal.returns-in-Err-write_fragments-clause-stands
 returns-in-Err-write_fragments-clause-stands g c = λ t.
     let s = c.in-Err-write_fragments.ensures.stands t in
-    in_fragments s.0
+    in_fragments s.0 s.1
     (sections_later _ _ _ _ _ _ _ _ (c.in-Err-write_fragments.ensures.writes t).keeps (c.in-Ok.ensures.done t))
     (subst (λ x. FragmentsDone c.args.folder.now (view_of c.args.image.now.header) x s.0
     (g.D.Disk.held c.write_fragments.new.disk) (g.D.Disk.world c.write_fragments.new.disk))
     (c.in-Ok.ensures.writes t).content
-    s.1)
+    s.2)
     (goes_then _ _ _ _ _ _ _ (goes_section _ _ _ _ _ _ _ _ _ (c.in-Ok.ensures.writes t).only)
-    (goes_fragment _ _ _ _ _ _ _ _ _ s.2))
+    (goes_fragment _ _ _ _ _ _ _ _ _ s.3))
 
 pub returns-in-Err-write_fragments-clause-refused : goal.returns-in-Err-write_fragments-clause-refused
 returns-in-Err-write_fragments-clause-refused g c = λ t opened.
@@ -117,7 +117,7 @@ returns-in-Err-write_pack_words-clause-writes g c = λ t.
 
 pub returns-in-Err-write_pack_words-clause-stands : goal.returns-in-Err-write_pack_words-clause-stands
 returns-in-Err-write_pack_words-clause-stands g c = λ t.
-    in_words
+    in_words c.in-Err-write_pack_words.ensures.told_of_part
     (sections_later _ _ _ _ _ _ _ _
     (keeps_then _ _ _ _ _ _ (c.in-Ok-write_fragments.ensures.writes t).keeps
     (c.in-Err-write_pack_words.ensures.writes t).keeps)

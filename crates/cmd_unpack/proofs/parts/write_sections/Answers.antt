@@ -38,6 +38,7 @@ returns-in-Err-clause-stands g c = λ t.
     let e = c.in-Err.ensures.writes t in
     let under : c.loop-i.i ≤ c.loop-i.i + 1 = omega arith in (
       c.loop-i.i,
+      c.in-Err.ensures.told_of_part,
       sections_later _ _ _ _ _ _ _ _ e.keeps i.1,
       goes_then _ _ _ _ _ _ _ (goes_more _ _ _ _ _ _ (section_under under) i.0.only) e.only,
     )

@@ -12,6 +12,8 @@ use Rattle.cmd_unpack.proofs.Looks.{looks}
 use Rattle.cmd_unpack.proofs.Loops.{begun_later}
 use Rattle.cmd_unpack.proofs.Wholes.{has_as, keeps_let_go, keeps_same, leaves_parts, only_let_go, only_opened}
 use Rattle.cmd_unpack.proofs.Wholes.{parts_stand, syncs_parts, twice, unpacks}
+use Rattle.cmd_common_boot.proofs.Sides.{host_output, reads_host}
+use Rattle.cmd_unpack.proofs.Told.{open_side}
 use Rattle.cmd_unpack.proofs.unpack.unpack_file.Goals as goal
 
 -- IN could not be opened
@@ -31,11 +33,14 @@ returns-in-Err-clause-refused g c = λ t.
     (source_failed _ _ (c.in-Err.ensures.kept t))
 
 pub returns-in-Err-clause-stands : goal.returns-in-Err-clause-stands
-returns-in-Err-clause-stands g c = λ t. no_part (c.in-Err.ensures.world t)
+returns-in-Err-clause-stands g c = λ t.
+    no_part (c.in-Err.ensures.world t) (host_output _ c.in-Err.refusal.fault c.into.ensures)
 
 -- it is no image
 pub returns-in-Err-open-clause-stands : goal.returns-in-Err-open-clause-stands
-returns-in-Err-open-clause-stands g c = λ t. no_part (c.let_go_source.ensures.world t ∙ c.in-Ok.ensures.world t)
+returns-in-Err-open-clause-stands g c = λ t.
+    no_part (c.let_go_source.ensures.world t ∙ c.in-Ok.ensures.world t)
+    (open_side c.in-Err-open.fault _ _ _ _ c.not_opened.ensures.fault c.in-Err-open.ensures.reads.cause)
 
 pub returns-in-Err-open-clause-only : goal.returns-in-Err-open-clause-only
 returns-in-Err-open-clause-only g c = λ t.
@@ -53,7 +58,7 @@ pub returns-in-Err-open-clause-refused : goal.returns-in-Err-open-clause-refused
 returns-in-Err-open-clause-refused g c = λ t.
     let told = g.met.D.Disk.source_told t in
     refuses_file _ _ _ _ _ _ _ _ _ _ (c.in-Ok.ensures.opened t)
-    (section_refused _ _ ⊥ _ _ c.not_opened.ensures
+    (section_refused _ _ ⊥ _ _ c.not_opened.ensures.fault
     (opened c.in-Err-open.fault (g.D.At.Source.content c.in-Ok.device) _ _ _ c.in-Err-open.ensures.reads.cause
     (c.in-Err-open.ensures.opens told)))
     (λ failed. open_failed _ _ _ _ _ _ _ _ (c.in-Ok.ensures.opened t) (c.in-Ok.ensures.clean t)
@@ -65,6 +70,7 @@ pub returns-in-Err-refuse_taken-clause-stands : goal.returns-in-Err-refuse_taken
 returns-in-Err-refuse_taken-clause-stands g c = λ t.
     no_part (c.let_go_source-in-Err-refuse_taken.ensures.world t ∙ c.in-Err-refuse_taken.ensures.fails.world t
     ∙ c.in-Ok.ensures.world t)
+    (host_output _ c.in-Err-refuse_taken.refusal.fault c.into-in-Err-refuse_taken.ensures)
 
 pub returns-in-Err-refuse_taken-clause-only : goal.returns-in-Err-refuse_taken-clause-only
 returns-in-Err-refuse_taken-clause-only g c = λ t.
@@ -153,7 +159,7 @@ pub returns-in-Err-write_parts-clause-stands : goal.returns-in-Err-write_parts-c
 returns-in-Err-write_parts-clause-stands g c = λ t.
     let told = g.met.D.Disk.source_told t in
     let same = c.in-Ok-open.ensures.reads.only.content told in
-    leaves_parts _ _ _ _ _ _ _ _ _ _ _ _ _ _ _ (c.requires.first t).begun
+    leaves_parts _ _ _ _ _ _ _ _ _ _ _ _ _ _ _ _ _ (c.requires.first t).begun
     (opens_as _ _ _ _ _ _ same (c.in-Ok.ensures.opened t))
     (c.in-Ok-refuse_taken.ensures.fails.world t ∙ c.in-Ok.ensures.world t)
     (has_as _ _ c.in-Ok-open.image same (c.in-Ok-open.ensures.opens told)) (c.in-Ok-refuse_taken.ensures.fails.held t)
@@ -204,3 +210,15 @@ returns-in-Err-write_parts-clause-looks g c = λ t.
     let same = c.in-Ok-open.ensures.reads.only.content told in
     looks _ _ _ _ _ _ _ _ _ _ (opens_as _ _ _ _ _ _ same (c.in-Ok.ensures.opened t)) (c.in-Ok.ensures.world t)
     (has_as _ _ c.in-Ok-open.image same (c.in-Ok-open.ensures.opens told)) (c.in-Ok-refuse_taken.ensures.free t)
+
+-- ---- the file that a refusal is told of
+
+pub returns-in-Err-clause-told_of : goal.returns-in-Err-clause-told_of
+returns-in-Err-clause-told_of g c = reads_host _ c.in-Err.refusal.fault _ _ c.into.ensures
+
+pub returns-in-Err-open-clause-told_of : goal.returns-in-Err-open-clause-told_of
+returns-in-Err-open-clause-told_of g c = c.not_opened.ensures.told_of
+
+pub returns-in-Err-refuse_taken-clause-told_of : goal.returns-in-Err-refuse_taken-clause-told_of
+returns-in-Err-refuse_taken-clause-told_of g c =
+    reads_host _ c.in-Err-refuse_taken.refusal.fault _ _ c.into-in-Err-refuse_taken.ensures

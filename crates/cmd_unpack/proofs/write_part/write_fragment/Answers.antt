@@ -4,6 +4,7 @@ use Rattle.cmd_unpack.proofs.Counts.{copy_failed, end_failed, none_created}
 use Rattle.cmd_common_boot.specs.declared.part_names.ImagePart.TheVariants as parts
 use Rattle.cmd_unpack.proofs.Loops.{fragment_named, part_done}
 use Rattle.cmd_unpack.proofs.Shown.{shown_part}
+use Rattle.cmd_common_boot.proofs.Sides.{host_output, reads_host}
 use Rattle.cmd_unpack.proofs.UnpackSteps.{part_broken, part_refused, part_written}
 use Rattle.cmd_unpack.proofs.write_part.write_fragment.Goals as goal
 
@@ -60,3 +61,21 @@ returns-in-Err-finish-clause-refused g c = λ t opened.
           (c.in-Ok.ensures.created t) (c.in-Err-finish.ensures.closed t).2 ends.0,
       ends.1,
     ))
+
+-- the file that a refusal is told of
+
+pub returns-in-Err-clause-told_of : goal.returns-in-Err-clause-told_of
+returns-in-Err-clause-told_of g c = reads_host _ c.in-Err.refusal.fault _ _ c.into.ensures
+
+pub returns-in-Err-clause-told_of_part : goal.returns-in-Err-clause-told_of_part
+returns-in-Err-clause-told_of_part g c = λ on. absurd (host_output _ c.in-Err.refusal.fault c.into.ensures on)
+
+pub returns-in-Err-finish-clause-told_of : goal.returns-in-Err-finish-clause-told_of
+returns-in-Err-finish-clause-told_of g c = c.in-Err-finish.ensures.told_of.reads
+
+pub returns-in-Err-finish-clause-told_of_part : goal.returns-in-Err-finish-clause-told_of_part
+returns-in-Err-finish-clause-told_of_part g c = λ on. record {
+  named = c.place_of-place.result;
+  is_named = c.in-Err-finish.ensures.told_of.written on;
+  leads = c.place_of-place.ensures;
+}

@@ -6,6 +6,7 @@ use Rattle.cmd_unpack.specs.Lines.{told_part}
 use Rattle.cmd_unpack.specs.Unpacking.{section_part}
 use Rattle.cmd_unpack.proofs.Loops.{part_done, same_path, same_section, section_named}
 use Rattle.cmd_unpack.proofs.Shown.{shown_part}
+use Rattle.cmd_common_boot.proofs.Sides.{host_output, reads_host}
 use Rattle.cmd_unpack.proofs.UnpackSteps.{part_broken, part_refused, part_written}
 use Rattle.cmd_unpack.proofs.write_part.write_section.Goals as goal
 
@@ -71,3 +72,22 @@ returns-in-Err-finish-clause-refused g c = λ t opened.
           (c.in-Ok.ensures.created t) (c.in-Err-finish.ensures.closed t).2 ends.0,
       ends.1,
     ))
+
+-- the file that a refusal is told of
+
+pub returns-in-Err-clause-told_of : goal.returns-in-Err-clause-told_of
+returns-in-Err-clause-told_of g c = reads_host _ c.in-Err.refusal.fault _ _ c.into.ensures
+
+pub returns-in-Err-clause-told_of_part : goal.returns-in-Err-clause-told_of_part
+returns-in-Err-clause-told_of_part g c = λ p found on. absurd (host_output _ c.in-Err.refusal.fault c.into.ensures on)
+
+pub returns-in-Err-finish-clause-told_of : goal.returns-in-Err-finish-clause-told_of
+returns-in-Err-finish-clause-told_of g c = c.in-Err-finish.ensures.told_of.reads
+
+pub returns-in-Err-finish-clause-told_of_part : goal.returns-in-Err-finish-clause-told_of_part
+returns-in-Err-finish-clause-told_of_part g c = λ p found on. record {
+  named = c.place_of-place.result;
+  is_named = c.in-Err-finish.ensures.told_of.written on;
+  leads = c.place_of-place.ensures ∙ same_path _ _ c.args.i c.section.result p c.requires.there
+      c.section.ensures.value found;
+}
