@@ -23,35 +23,36 @@ loop-i-preserved g c = λ t.
       rises_then c.args.report.now c.loop-i.report c.write_fragment.new.report i.3 c.in-Ok.ensures.rises,
     )
 
-pub returns-in-Err-clause-writes : goal.returns-in-Err-clause-writes
-returns-in-Err-clause-writes g c = λ t.
-    stop_then (parts_more refl fragment_any (c.loop-i.invariant t).0)
-    (stop_more fragment_any (c.in-Err.ensures.writes t))
-
--- those before it are stored
-pub returns-in-Err-clause-stands : goal.returns-in-Err-clause-stands
-returns-in-Err-clause-stands g c = λ t.
-    let i = c.loop-i.invariant t in
-    let e = c.in-Err.ensures.writes t in
-    let under : c.loop-i.i ≤ c.loop-i.i + 1 = omega arith in (
-      c.loop-i.i,
-      c.in-Err.ensures.told_of_part,
-      fragments_later _ _ _ _ _ _ _ _ e.keeps i.1,
-      goes_then _ _ _ _ _ _ _ (goes_more _ _ _ _ _ _ (fragment_under under) i.0.only) e.only,
-    )
-
-pub returns-in-Err-clause-refused : goal.returns-in-Err-clause-refused
-returns-in-Err-clause-refused g c = λ t opened.
-    let i = c.loop-i.invariant t in
-    refused_more _ _ _ _ _ _ c.in-Err.refusal.fault i.0.content
-    (c.in-Err.ensures.refused t (subst (λ x. IsOpened x c.args.image.now) (sym i.0.content) opened))
-    (λ failed. some_then _ _ _ _ _ _ i.0.clean failed)
-    (λ stands. (
-      c.loop-i.i,
-      search (rules, arith),
-      fragments_more _ _ _ _ _ _ _ _ _ i.0.content (c.in-Err.ensures.writes t).keeps i.1 stands.0,
-      cannot_behind c.args.report.now c.loop-i.report c.write_fragment.new.report i.3 stands.1,
-    ))
+pub returns-in-Err : goal.returns-in-Err
+returns-in-Err g c = record {
+  writes = λ t.
+      stop_then (parts_more refl fragment_any (c.loop-i.invariant t).0)
+      (stop_more fragment_any (c.in-Err.ensures.writes t));
+  done = λ t. tt;
+  stands = λ t.
+      let i = c.loop-i.invariant t in
+      let e = c.in-Err.ensures.writes t in
+      let under : c.loop-i.i ≤ c.loop-i.i + 1 = omega arith in (
+        c.loop-i.i,
+        c.in-Err.ensures.told_of_part,
+        fragments_later _ _ _ _ _ _ _ _ e.keeps i.1,
+        goes_then _ _ _ _ _ _ _ (goes_more _ _ _ _ _ _ (fragment_under under) i.0.only) e.only,
+      );
+  shown = λ t. tt;
+  rises = λ t. tt;
+  refused = λ t opened.
+      let i = c.loop-i.invariant t in
+      refused_more _ _ _ _ _ _ c.in-Err.refusal.fault i.0.content
+      (c.in-Err.ensures.refused t (subst (λ x. IsOpened x c.args.image.now) (sym i.0.content) opened))
+      (λ failed. some_then _ _ _ _ _ _ i.0.clean failed)
+      (λ stands. (
+        c.loop-i.i,
+        search (rules, arith),
+        fragments_more _ _ _ _ _ _ _ _ _ i.0.content (c.in-Err.ensures.writes t).keeps i.1 stands.0,
+        cannot_behind c.args.report.now c.loop-i.report c.write_fragment.new.report i.3 stands.1,
+      ));
+  told_of = c.in-Err.ensures.told_of;
+}
 
 pub returns-clause-done : goal.returns-clause-done
 returns-clause-done g c = λ t k below.

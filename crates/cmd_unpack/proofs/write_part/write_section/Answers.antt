@@ -10,84 +10,82 @@ use Rattle.cmd_common_boot.proofs.Sides.{host_output, reads_host}
 use Rattle.cmd_unpack.proofs.UnpackSteps.{part_broken, part_refused, part_written}
 use Rattle.cmd_unpack.proofs.write_part.write_section.Goals as goal
 
-pub returns-in-Err-clause-writes : goal.returns-in-Err-clause-writes
-returns-in-Err-clause-writes g c = λ t.
-    part_refused (section_named _ _ c.args.i c.section.result _ c.requires.there c.section.ensures.value
-    c.place_of-place.ensures) (c.requires.one t)
-    (c.in-Err.ensures.kept t) (c.in-Err.ensures.only t) (c.in-Err.ensures.begun t)
+pub returns-in-Err : goal.returns-in-Err
+returns-in-Err g c = record {
+  writes = λ t.
+      part_refused (section_named _ _ c.args.i c.section.result _ c.requires.there c.section.ensures.value
+      c.place_of-place.ensures) (c.requires.one t)
+      (c.in-Err.ensures.kept t) (c.in-Err.ensures.only t) (c.in-Err.ensures.begun t);
+  done = λ t. tt;
+  shown = tt;
+  rises = tt;
+  refused = λ t opened. host_refused _ _ _ _ _ c.into.ensures (none_created _ _ _ (c.in-Err.ensures.kept t));
+  told_of = reads_host _ c.in-Err.refusal.fault _ _ c.into.ensures;
+  told_of_part = λ p found on. absurd (host_output _ c.in-Err.refusal.fault c.into.ensures on);
+}
 
-pub returns-in-Err-clause-refused : goal.returns-in-Err-clause-refused
-returns-in-Err-clause-refused g c = λ t opened.
-    host_refused _ _ _ _ _ c.into.ensures (none_created _ _ _ (c.in-Err.ensures.kept t))
-
-pub returns-in-Ok-finish-clause-writes : goal.returns-in-Ok-finish-clause-writes
-returns-in-Ok-finish-clause-writes g c = λ t.
-    let copies = c.copy_section-onto.ensures.copies c.section.result c.section.ensures.value in
+pub returns-in-Ok-finish : goal.returns-in-Ok-finish
+returns-in-Ok-finish g c =
     let done = c.in-Ok-finish.ensures.done in
-    part_written (section_named _ _ c.args.i c.section.result _ c.requires.there c.section.ensures.value
-    c.place_of-place.ensures)
-    (c.in-Ok.ensures.created t) (c.in-Ok-finish.ensures.ends.rest t) _ _ (c.in-Ok-finish.ensures.clean t)
-    (ok_gives _ _ done (copies.content (g.met.D.Disk.source_told t))) (c.in-Ok.ensures.clean t)
-    (ok_gives _ _ done copies.clean)
-
-pub returns-in-Ok-finish-clause-done : goal.returns-in-Ok-finish-clause-done
-returns-in-Ok-finish-clause-done g c = λ t p found.
-    part_done _ _ _ _ _ true _ _ _ _ _ _ _ (c.place_of-place.ensures ∙ same_path _ _ c.args.i c.section.result p
-    c.requires.there c.section.ensures.value found)
-    c.in-Ok.ensures.empty
-    (ok_gives _ _ c.in-Ok-finish.ensures.done ((c.copy_section-onto.ensures.copies p found).written
-    (g.met.D.Disk.source_told t)))
-    (c.in-Ok.ensures.created t) (c.in-Ok-finish.ensures.clean t) (c.in-Ok-finish.ensures.ends.ended t)
-
-pub returns-in-Ok-finish-clause-shown : goal.returns-in-Ok-finish-clause-shown
-returns-in-Ok-finish-clause-shown g c = λ p found.
-    subst (λ part. Shows c.args.report.now c.finish.new.report (told_part part p.size))
-    (ap section_part (same_section _ c.args.i c.section.result p c.requires.there c.section.ensures.value found))
-    (shown_part _ c.args.report.now c.finish.new.report (section_part c.section.result) p.size
-    c.in-Ok-finish.ensures.done c.in-Ok-finish.ensures.shown
-    (c.copy_section-onto.ensures.count p found))
-
-pub returns-in-Err-finish-clause-writes : goal.returns-in-Err-finish-clause-writes
-returns-in-Err-finish-clause-writes g c = λ t.
-    part_broken (section_named _ _ c.args.i c.section.result _ c.requires.there c.section.ensures.value
-    c.place_of-place.ensures)
-    (c.in-Ok.ensures.created t) (c.in-Err-finish.ensures.ends.rest t) (c.in-Err-finish.ensures.closed t)
-
-pub returns-in-Err-finish-clause-refused : goal.returns-in-Err-finish-clause-refused
-returns-in-Err-finish-clause-refused g c = λ t opened.
-    let copies = c.copy_section-onto.ensures.copies c.section.result c.section.ensures.value in
-    let told = g.met.D.Disk.source_told t in
-    told_so _ (g.D.At.Source.content c.args.source.now) _ _ _ _ _ _ (c.in-Err-finish.ensures.told t)
-    (copies.refused told opened)
-    (λ done failed. end_failed _ _ _ _ _ _ _ _ _ _ (c.in-Ok.ensures.created t) (c.in-Ok.ensures.clean t)
-    (ok_gives _ _ done copies.clean) failed)
-    (λ failed. copy_failed _ _ _ _ _ _ _ _ _ _ (c.in-Ok.ensures.created t) (c.in-Ok.ensures.clean t)
-    (c.in-Err-finish.ensures.counts t) failed)
-    (λ done ends. (
-      λ p found. part_done _ _ _ _ _ (c.in-Err-finish.ensures.closed t).0 _ _ _ _ _ _ _
-          (c.place_of-place.ensures ∙ same_path _ _ c.args.i c.section.result p c.requires.there c.section.ensures.value
-          found)
+    record {
+      writes = λ t.
+          let copies = c.copy_section-onto.ensures.copies c.section.result c.section.ensures.value in
+          part_written (section_named _ _ c.args.i c.section.result _ c.requires.there c.section.ensures.value
+          c.place_of-place.ensures)
+          (c.in-Ok.ensures.created t) (c.in-Ok-finish.ensures.ends.rest t) _ _ (c.in-Ok-finish.ensures.clean t)
+          (ok_gives _ _ done (copies.content (g.met.D.Disk.source_told t))) (c.in-Ok.ensures.clean t)
+          (ok_gives _ _ done copies.clean);
+      done = λ t p found.
+          part_done _ _ _ _ _ true _ _ _ _ _ _ _ (c.place_of-place.ensures ∙ same_path _ _ c.args.i c.section.result p
+          c.requires.there c.section.ensures.value found)
           c.in-Ok.ensures.empty
           (ok_gives _ _ done ((c.copy_section-onto.ensures.copies p found).written (g.met.D.Disk.source_told t)))
-          (c.in-Ok.ensures.created t) (c.in-Err-finish.ensures.closed t).2 ends.0,
-      ends.1,
-    ))
+          (c.in-Ok.ensures.created t) (c.in-Ok-finish.ensures.clean t) (c.in-Ok-finish.ensures.ends.ended t);
+      shown = λ p found.
+          subst (λ part. Shows c.args.report.now c.finish.new.report (told_part part p.size))
+          (ap section_part (same_section _ c.args.i c.section.result p c.requires.there c.section.ensures.value found))
+          (shown_part _ c.args.report.now c.finish.new.report (section_part c.section.result) p.size
+          done c.in-Ok-finish.ensures.shown
+          (c.copy_section-onto.ensures.count p found));
+      rises = c.in-Ok-finish.ensures.rises;
+      refused = λ t opened. tt;
+      told_of = tt;
+      told_of_part = tt;
+    }
 
--- the file that a refusal is told of
-
-pub returns-in-Err-clause-told_of : goal.returns-in-Err-clause-told_of
-returns-in-Err-clause-told_of g c = reads_host _ c.in-Err.refusal.fault _ _ c.into.ensures
-
-pub returns-in-Err-clause-told_of_part : goal.returns-in-Err-clause-told_of_part
-returns-in-Err-clause-told_of_part g c = λ p found on. absurd (host_output _ c.in-Err.refusal.fault c.into.ensures on)
-
-pub returns-in-Err-finish-clause-told_of : goal.returns-in-Err-finish-clause-told_of
-returns-in-Err-finish-clause-told_of g c = c.in-Err-finish.ensures.told_of.reads
-
-pub returns-in-Err-finish-clause-told_of_part : goal.returns-in-Err-finish-clause-told_of_part
-returns-in-Err-finish-clause-told_of_part g c = λ p found on. record {
-  named = c.place_of-place.result;
-  is_named = c.in-Err-finish.ensures.told_of.written on;
-  leads = c.place_of-place.ensures ∙ same_path _ _ c.args.i c.section.result p c.requires.there
-      c.section.ensures.value found;
-}
+pub returns-in-Err-finish : goal.returns-in-Err-finish
+returns-in-Err-finish g c =
+    let copies = c.copy_section-onto.ensures.copies c.section.result c.section.ensures.value in
+    record {
+      writes = λ t.
+          part_broken (section_named _ _ c.args.i c.section.result _ c.requires.there c.section.ensures.value
+          c.place_of-place.ensures)
+          (c.in-Ok.ensures.created t) (c.in-Err-finish.ensures.ends.rest t) (c.in-Err-finish.ensures.closed t);
+      done = λ t. tt;
+      shown = tt;
+      rises = tt;
+      refused = λ t opened.
+          let told = g.met.D.Disk.source_told t in
+          told_so _ (g.D.At.Source.content c.args.source.now) _ _ _ _ _ _ (c.in-Err-finish.ensures.told t)
+          (copies.refused told opened)
+          (λ done failed. end_failed _ _ _ _ _ _ _ _ _ _ (c.in-Ok.ensures.created t) (c.in-Ok.ensures.clean t)
+          (ok_gives _ _ done copies.clean) failed)
+          (λ failed. copy_failed _ _ _ _ _ _ _ _ _ _ (c.in-Ok.ensures.created t) (c.in-Ok.ensures.clean t)
+          (c.in-Err-finish.ensures.counts t) failed)
+          (λ done ends. (
+            λ p found. part_done _ _ _ _ _ (c.in-Err-finish.ensures.closed t).0 _ _ _ _ _ _ _
+                (c.place_of-place.ensures ∙ same_path _ _ c.args.i c.section.result p c.requires.there
+                c.section.ensures.value found)
+                c.in-Ok.ensures.empty
+                (ok_gives _ _ done ((c.copy_section-onto.ensures.copies p found).written (g.met.D.Disk.source_told t)))
+                (c.in-Ok.ensures.created t) (c.in-Err-finish.ensures.closed t).2 ends.0,
+            ends.1,
+          ));
+      told_of = c.in-Err-finish.ensures.told_of.reads;
+      told_of_part = λ p found on. record {
+        named = c.place_of-place.result;
+        is_named = c.in-Err-finish.ensures.told_of.written on;
+        leads = c.place_of-place.ensures ∙ same_path _ _ c.args.i c.section.result p c.requires.there
+            c.section.ensures.value found;
+      };
+    }
