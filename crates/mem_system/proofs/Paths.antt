@@ -1,6 +1,7 @@
 -- The name of a file in its folder, and the paths of a system.
 use Rattle.std.proofs.Common.{◌≡◌, ◌≢◌, ◌⊎◌, inl, inr, ℕ, zero, suc, ◌<◌, List, [], ◌∷◌, ◌++◌, length, get_or}
-use Rattle.std.proofs.Common.{drop, ◌+◌, Option, Some, None, true, false, Bool, sym, ◌∙◌, ap, subst, refl, arith, Contains, codes}
+use Rattle.std.proofs.Common.{drop, ◌+◌, Option, Some, None, true, false, Bool, sym, ◌∙◌, ap, subst, refl, arith}
+use Rattle.std.proofs.Common.{Contains, codes}
 use Rattle.std.specs.Prelude.{◌==◌, cond, bytes_eq, string_bytes, map}
 use Rattle.std.proofs.lemmas.Bool.{cond-true, cond-false, cases_Bool, eq-eqb, ne_eqb}
 use Rattle.std.proofs.lemmas.List.{drop_more, get_or-map, length-map}
@@ -12,7 +13,7 @@ use Rattle.mem_files.specs.declared.stored.MemoryFile.{MemoryFile}
 use Rattle.mem_files.specs.declared.stored.MemoryPath.{MemoryPath}
 use Rattle.mem_files.proofs.Paths.{leads_more, leads_new}
 use Rattle.mem_system.specs.Names.{behind_slash, name_in, names_of}
-use Rattle.mem_system.specs.Table.{MayLead, held_in}
+use Rattle.mem_system.specs.Table.{MayLead, stored_in}
 
 abbrev pub HasNoSlash : List ℕ → Type 0
 HasNoSlash name = (i : ℕ) → i < length name → get_or name i 0 ≢ 47
@@ -111,6 +112,6 @@ next_of text xs i x now below is same =
 
 -- an empty file more: the first is empty still
 pub first_empty : (files files' : List MemoryFile) (file : MemoryFile) → files' ≡ files ++ (file ∷ [])
-    → file.bytes.items ≡ [] → held_in files 0 ≡ [] → held_in files' 0 ≡ []
-first_empty [] files' file more empty quiet = ap (λ l. held_in l 0) more ∙ empty
-first_empty (f ∷ fs) files' file more empty quiet = ap (λ l. held_in l 0) more ∙ quiet
+    → file.bytes.items ≡ [] → stored_in files 0 ≡ [] → stored_in files' 0 ≡ []
+first_empty [] files' file more empty quiet = ap (λ l. stored_in l 0) more ∙ empty
+first_empty (f ∷ fs) files' file more empty quiet = ap (λ l. stored_in l 0) more ∙ quiet

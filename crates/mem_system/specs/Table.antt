@@ -4,8 +4,8 @@ use Rattle.mem_files.specs.Stored.{contents}
 use Rattle.mem_files.specs.declared.stored.MemoryFile.{MemoryFile}
 
 -- what the file of a number holds
-abbrev pub held_in : List MemoryFile → ℕ → List ℕ
-held_in files n = get_or (contents files) n []
+abbrev pub stored_in : List MemoryFile → ℕ → List ℕ
+stored_in files n = get_or (contents files) n []
 
 -- every path that leads to a file leads there still
 abbrev pub MayLead : (List ℕ → Option ℕ) → (List ℕ → Option ℕ) → Type 0

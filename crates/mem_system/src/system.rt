@@ -6,7 +6,7 @@ ghost use Rattle.std.specs.IoError.{error_kind};
 ghost use Rattle.sys_file.specs.System.{IsJustOpened};
 ghost use Rattle.sys_file.specs.declared.stat.Kind.{Kind};
 ghost use Rattle.mem_files.specs.Stored.{leads};
-ghost use Rattle.mem_system.specs.Table.{held_in};
+ghost use Rattle.mem_system.specs.Table.{stored_in};
 
 use crate::calls::Calls;
 use crate::copied_file::CopiedFile;
@@ -45,7 +45,7 @@ impl MemorySystem {
 
     // The file of this number, as one that was just opened.
     fn opened(&self, number: u64) -> io::Result<CopiedFile>
-        ensures content { IfOk result (λ f. f.file.bytes.items ≡ held_in self.now.table.files.items number) }
+        ensures content { IfOk result (λ f. f.file.bytes.items ≡ stored_in self.now.table.files.items number) }
         ensures number { IfOk result (λ f. f.number ≡ number) }
         ensures fresh { IfOk result (IsJustOpened true ⟦<CopiedFile as SystemFile>⟧.place
             ⟦<CopiedFile as SystemFile>⟧.past) }
@@ -112,7 +112,7 @@ impl System for MemorySystem {
 
     ghost at = { λ s. leads s.table.paths.items };
 
-    ghost holds = { λ s. held_in s.table.files.items };
+    ghost holds = { λ s. stored_in s.table.files.items };
 
     ghost stdin = { 0 };
 
@@ -148,7 +148,7 @@ impl System for MemorySystem {
             return Err(io::Error::from(ErrorKind::StorageFull));
         };
         let file = self.opened(number)?;
-        match self.table.create(path, number) {
+        match self.table.lead(path, number) {
             Ok(()) => Ok(file),
             Err(_) => Err(io::Error::from(ErrorKind::OutOfMemory)),
         }

@@ -17,7 +17,7 @@ ghost use Rattle.std.specs.Prelude.{
 };
 ghost use Rattle.sys_file.specs.System.{ClosesFile, HasStreams};
 ghost use Rattle.mem_files.specs.Stored.{leads};
-ghost use Rattle.mem_system.specs.Table.{MayLead, held_in};
+ghost use Rattle.mem_system.specs.Table.{MayLead, stored_in};
 
 use mem_files::{MemoryFile, MemoryPath, file_at};
 use std::alloc::{AllocError, Global};
@@ -41,7 +41,7 @@ pub struct Table {
     pub ghost streams: { HasStreams 0 1 (leads paths.items) },
     pub ghost room: { length files.items ≡ 64 },
     // Nothing is ever written to standard input.
-    pub ghost quiet: { held_in files.items 0 ≡ [] },
+    pub ghost quiet: { stored_in files.items 0 ≡ [] },
 }
 
 impl Table {
@@ -69,7 +69,7 @@ impl Table {
 
     /// The content of a file. None, if there is no memory for a copy, or no such file.
     pub fn copy_of(&self, file: u64) -> Option<Vec<u8>>
-        ensures bytes { IfSome result (λ bytes. bytes.items ≡ held_in self.now.files.items file) }
+        ensures bytes { IfSome result (λ bytes. bytes.items ≡ stored_in self.now.files.items file) }
         ensures below { IfSome result (λ _. file < 64) }
     {
         let stored = self.files.as_slice().get(file as usize)?;
@@ -84,25 +84,25 @@ impl Table {
         }
     }
 
-    /// A file that is created at a path that led nowhere has the next number.
-    pub fn create(&mut self, path: &str, file: u64) -> Result<(), AllocError>
-        requires { leads self.old.paths.items path.now ≡ None }
-        ensures there { OnOk result (leads self.new.paths.items path.now ≡ Some file) }
-        ensures others { MayLead (leads self.old.paths.items) (leads self.new.paths.items) }
-        ensures kept { OnErr result (leads self.new.paths.items ≡ leads self.old.paths.items) }
-        ensures files { self.new.files ≡ self.old.files }
-    {
-        self.lead(path, file)?;
-        self.used = self.used.saturating_add(1);
-        Ok(())
-    }
-
     /// The number that a file gets which is created. None, if there are as many files as there can be.
     pub fn next_number(&self) -> Option<u64> {
         if self.used < self.files.len() as u64 {
             return Some(self.used);
         }
         None
+    }
+
+    /// A path leads to a file that holds these bytes. Files are counted from 0, the streams left out. Two paths with one
+    /// number lead to one file. Fails if the path leads to a file already, or if there are as many files as there can be.
+    pub fn add(&mut self, path: &str, number: u64, bytes: &[u8]) -> Result<(), AllocError> {
+        let bytes = Vec::from_slice(self.alloc, bytes)?;
+        let file = number.saturating_add(2);
+        if file >= FILES as u64 || self.number_at(path).is_some() {
+            return Err(AllocError);
+        }
+        self.lead(path, file)?;
+        self.store(file, bytes);
+        Ok(())
     }
 
     /// A path that led nowhere leads to this file.
@@ -116,6 +116,7 @@ impl Table {
         let Ok(name) = String::from_str(self.alloc, path) else {
             return Err(AllocError);
         };
+        self.used = self.used.max(file.saturating_add(1));
         push(&mut self.paths, name, file)
     }
 
@@ -124,7 +125,7 @@ impl Table {
         requires below { file < 64 }
         requires quiet { file ≡ 0 → bytes.items ≡ [] }
         ensures { ClosesFile file bytes.items (leads self.old.paths.items) (leads self.new.paths.items)
-            (held_in self.old.files.items) (held_in self.new.files.items) }
+            (stored_in self.old.files.items) (stored_in self.new.files.items) }
     {
         self.files[file as usize] = MemoryFile { bytes };
     }
