@@ -49,7 +49,7 @@ COLUMNS = 120
 
 # The crates of each family, and how many hundreds of lines of src/, specs/ and proofs/ they have at most.
 FAMILIES = {
-    "devices": "abt_io sys_readers sys_file sys_devices sys_outputs mem_devices mem_files",
+    "devices": "abt_io sys_readers sys_file sys_devices sys_outputs mem_devices",
     "definitions and reading": "abt_sparse abt_chunks abt_runs",
     "writing": "abt_pieces abt_sparsify abt_placed",
     "flashing and verifying": "abt_flash_faults abt_flash abt_verify",
@@ -61,14 +61,14 @@ FAMILIES = {
     "commands over boot images":
         "cmd_common_boot cmd_unpack cmd_unpack_aosp cmd_info cmd_pack_inputs cmd_pack_outputs cmd_pack cmd_boot_dispatch",
     "laws": "law_sparse law_sections law_engine law_boot law_pack law_program",
-    "memory": "mem_disk mem_commands",
+    "memory": "mem_files mem_system mem_disk mem_commands",
     "for programs in C": "abt_c",
     "tests and benchmark":
-        "mem_test_data test_devices test_sparse test_verify test_flash test_boot test_boot_disk test_buffers test_ahead "
-        "test_spool test_disk speed",
+        "mem_test_data mem_test_commands test_devices test_sparse test_verify test_flash test_boot test_boot_disk test_buffers test_ahead "
+        "test_spool test_disk test_system speed",
 }
 LINES = {
-    "devices": 103,
+    "devices": 101,
     "definitions and reading": 177,
     "writing": 182,
     "flashing and verifying": 139,
@@ -78,9 +78,9 @@ LINES = {
     "commands over sparse images": 152,
     "commands over boot images": 145,
     "laws": 62,
-    "memory": 30,
+    "memory": 40,
     "for programs in C": 25,
-    "tests and benchmark": 105,
+    "tests and benchmark": 107,
 }
 
 FUNCTION = re.compile(r"\s*(?:pub(?:\(\w+\))? )?(?:const )?(?:unsafe )?(?:extern \"C\" )?(?:final )?fn (\w+)")

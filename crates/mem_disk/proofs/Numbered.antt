@@ -14,10 +14,10 @@ use Rattle.std.proofs.lemmas.Fmt.{decimal_injective, decimal-digits_value, first
 use Rattle.std.proofs.lemmas.Str.Parse.{numerals_by_value, tells_digits}
 use Rattle.std.specs.Str.Parse.{digits_value, without_leading_plus, IsNumeral, ParsesUnsigned}
 use Rattle.sys_disk.specs.LeftOver.{IsNextLeft}
-use Rattle.mem_disk.specs.Memory.{leads}
-use Rattle.mem_disk.proofs.Files.{leads_none}
+use Rattle.mem_files.specs.Stored.{leads}
+use Rattle.mem_files.proofs.Paths.{leads_none}
 use Rattle.sys_numbered_names.specs.Lesser.{lesser_of}
-use Rattle.mem_disk.specs.declared.disk.MemoryPath.{MemoryPath}
+use Rattle.mem_files.specs.declared.stored.MemoryPath.{MemoryPath}
 
 -- the path of this number
 abbrev pub with_number : List ℕ → ℕ → List ℕ

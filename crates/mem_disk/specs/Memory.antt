@@ -5,20 +5,11 @@ use Rattle.std.specs.Prelude.{codes}
 use Rattle.sys_disk.specs.Images.{HoldsSame}
 use Rattle.sys_disk.specs.World.{World, OpenFiles, MayWrite, Spares, SparesInUse, OpensFile, Creates, OnlyAt, failing}
 use Rattle.mem_disk.specs.declared.disk.MemoryDisk.{MemoryDisk}
-use Rattle.mem_disk.specs.declared.disk.MemoryFile.{MemoryFile}
-use Rattle.mem_disk.specs.declared.disk.MemoryPath.{MemoryPath}
+use Rattle.mem_files.specs.Stored.{contents, leads}
+use Rattle.mem_files.specs.declared.stored.MemoryFile.{MemoryFile}
+use Rattle.mem_files.specs.declared.stored.MemoryPath.{MemoryPath}
 use Rattle.mem_disk.specs.declared.failures.Failures.{Failures}
 
--- the file that this path leads to: the first that is listed of this name
-unfoldable pub leads : List MemoryPath → List ℕ → Option ℕ
-leads [] path = None
-leads (p ∷ ps) path = cond (bytes_eq path (string_bytes p.name)) (Some p.file) (leads ps path)
-
--- what each file holds, by its number
-abbrev pub contents : List MemoryFile → List (List ℕ)
-contents files = map (λ f. f.bytes.items) files
-
--- its files, and what was opened
 abbrev pub world_of_files : List MemoryPath → List MemoryFile → World
 world_of_files paths files = record { at = leads paths; holds = λ f. get_or (contents files) f [] }
 

@@ -3,9 +3,11 @@
 ghost use Rattle.std.specs.Prelude.{◌≡◌, [], Some, None, string_bytes, IsTrue, IfOk, OnErr, Contains, false};
 ghost use Rattle.sys_disk.specs.Images.{HoldsSame, Leaves};
 ghost use Rattle.sys_disk.specs.World.{OnlyAt, Spares, Ends, SparesRest, ended};
-ghost use Rattle.mem_disk.specs.Memory.{leads, world_of, held_of, Starts, Fills, RefusesAt, OpensOutput};
+ghost use Rattle.mem_disk.specs.Memory.{world_of, held_of, Starts, Fills, RefusesAt, OpensOutput};
+ghost use Rattle.mem_files.specs.Stored.{leads};
 
-use crate::disk::{MemoryDisk, MemoryFile, MemoryPath};
+use crate::disk::MemoryDisk;
+use mem_files::{MemoryFile, MemoryPath};
 use sys_refusals::HostFault;
 
 impl MemoryDisk {

@@ -2,25 +2,14 @@
 
 ghost use Rattle.std.specs.Prelude.{◌≡◌, [], None, false, IfOk, Contains, get_or, IsTrue};
 ghost use Rattle.sys_disk.specs.World.{MayWrite};
-ghost use Rattle.mem_disk.specs.Memory.{contents, leads, held_of, CountsFailed};
+ghost use Rattle.mem_disk.specs.Memory.{held_of, CountsFailed};
+ghost use Rattle.mem_files.specs.Stored.{contents, leads};
 
 use crate::{Failures, Faults};
 use abt_io::Tally;
+use mem_files::{MemoryFile, MemoryPath, file_at};
 use std::alloc::{AllocError, Global};
 use sys_refusals::HostRefusal;
-
-/// A file of such a disk.
-#[derive(Drop)]
-pub struct MemoryFile {
-    pub bytes: Vec<u8>,
-}
-
-/// A path, and the number of the file that it leads to, counted from 0. Two paths may lead to one file.
-#[derive(Drop)]
-pub struct MemoryPath {
-    pub name: String,
-    pub file: u64,
-}
 
 /// Files in memory, and the paths that lead to them.
 #[derive(Drop)]
@@ -82,7 +71,7 @@ impl MemoryDisk {
     pub fn file_at(&self, path: &str) -> Option<u64>
         ensures { result ≡ leads self.now.paths.items path.now }
     {
-        found(self.paths.as_slice(), path)
+        file_at(self.paths.as_slice(), path)
     }
 
     /// The content of a file.
@@ -127,16 +116,4 @@ impl MemoryDisk {
     {
         self.failed.add_all(failures);
     }
-}
-
-// The first path of this name.
-fn found(paths: &[MemoryPath], name: &str) -> Option<u64>
-    ensures { result ≡ leads paths.now name.now }
-{
-    for path in paths {
-        if name == path.name.as_str() {
-            return Some(path.file);
-        }
-    }
-    None
 }

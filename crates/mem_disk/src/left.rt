@@ -2,7 +2,8 @@
 
 ghost use Rattle.std.specs.Prelude.{◌≡◌, ◌∷◌, ◌++◌, IfOk, IfErr, decimal};
 ghost use Rattle.sys_disk.specs.LeftOver.{IsNextLeft, path_with};
-ghost use Rattle.mem_disk.specs.Memory.{leads, world_of};
+ghost use Rattle.mem_disk.specs.Memory.{world_of};
+ghost use Rattle.mem_files.specs.Stored.{leads};
 
 use crate::{MemoryDisk, MemoryPath};
 use std::alloc::AllocError;

@@ -35,10 +35,11 @@ mod source;
 mod spool;
 
 pub use countdown::{Countdown, Faults};
-pub use disk::{MemoryDisk, MemoryFile, MemoryPath};
+pub use disk::MemoryDisk;
 pub use failures::Failures;
 pub use image::MemoryImage;
 pub use input::MemoryInput;
+pub use mem_files::{MemoryFile, MemoryPath};
 pub use output::MemoryOutput;
 pub use partition::MemoryPartition;
 pub use source::MemorySource;

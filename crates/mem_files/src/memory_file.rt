@@ -3,6 +3,7 @@
 ghost use Rattle.std.specs.Prelude.{◌≡◌, ◌≤◌, ◌+◌, ◌-◌, ◌++◌, IsTrue, false, true, length, take, replicate};
 ghost use Rattle.abt_io.specs.Bytes.{AreBytes};
 ghost use Rattle.abt_io.specs.Moment.{put_at};
+ghost use Rattle.sys_file.specs.System.{IsJustOpened};
 
 use abt_io::{History, are_bytes, put_part, read_part};
 use std::io;
@@ -23,7 +24,9 @@ pub struct OpenMemoryFile {
 impl OpenMemoryFile {
     /// These bytes.
     pub fn new(bytes: Vec<u8>, left: u64) -> OpenMemoryFile
-        ensures { result.bytes ≡ bytes }
+        ensures bytes { result.bytes ≡ bytes }
+        ensures fresh { IsJustOpened true ⟦<OpenMemoryFile as SystemFile>⟧.place ⟦<OpenMemoryFile as SystemFile>⟧.past
+            result }
     {
         are_bytes(bytes.as_slice());
         OpenMemoryFile {

@@ -1,11 +1,12 @@
 //! The command `expand`.
 
-use crate::made::{Listed, disk, holds};
+use crate::made::{disk, holds};
 use abt_io::{Meter, Window};
 use abt_sparse::SparseFault;
 use cmd_common_sparse::SparseCommandFault;
 use cmd_expand::{expand_one, expand_several};
 use mem_disk::{Countdown, Faults, MemoryDisk};
+use mem_test_commands::Listed;
 use mem_test_data::vectors::{FIRST_OF_THREE, SECOND_OF_THREE, THREE_KINDS};
 use sys_refusals::{FileArg, HostFault};
 use sys_report::Report;

@@ -1,36 +1,9 @@
 //! What each command leaves where something fails, and where its output is IN's file.
 
-use crate::commands::{Before, Command, run};
+use crate::commands::run;
 use crate::made::holds;
 use mem_disk::{Countdown, Faults};
-use mem_test_data::vectors::{NO_GAP, THREE_KINDS};
-
-const DOTS: &[u8] = b"..............";
-
-const FLASHED: &[u8] = b"ABCD\x04\x03\x02\x01......";
-
-const RAW: &[u8] = b"a raw one";
-
-const FLASHED_RAW: &[u8] = b"a raw one\0\0\0..";
-
-/// A command, and files that suit it.
-type Row = (Command, Before);
-
-const ROWS: [Row; 13] = [
-    (Command::Expand, (&THREE_KINDS, DOTS)),
-    (Command::ExpandSeveral, (&THREE_KINDS, DOTS)),
-    (Command::Sparse, (b"a raw 12", DOTS)),
-    (Command::Cut, (&NO_GAP, DOTS)),
-    (Command::CutRaw, (RAW, DOTS)),
-    (Command::Flash, (&THREE_KINDS, DOTS)),
-    (Command::FlashRaw, (RAW, DOTS)),
-    (Command::FlashPieces, (&NO_GAP, DOTS)),
-    (Command::FlashFromSecond, (&NO_GAP, DOTS)),
-    (Command::FlashRawPieces, (RAW, DOTS)),
-    (Command::Verify, (&THREE_KINDS, FLASHED)),
-    (Command::VerifyRaw, (RAW, FLASHED_RAW)),
-    (Command::List, (&THREE_KINDS, DOTS)),
-];
+use mem_test_commands::{Command, CommandRow, ROWS};
 
 /// Which of the calls fails.
 #[derive(Clone, Copy, Drop)]
@@ -64,7 +37,7 @@ const CALLS: u64 = 200;
 /// Fails each call, read or write of a command, each in a run of its own, and returns how many there are. Each such
 /// run fails, and its disk has counted a failure. Returns `None` where a run fails without a cause, succeeds after a
 /// failure, or changes IN.
-fn counted(rt: HostRuntime, row: Row, kind: Kind) -> Option<u64> {
+fn counted(rt: HostRuntime, row: CommandRow, kind: Kind) -> Option<u64> {
     for number in 1..CALLS {
         let Ok((is_done, disk)) = run(rt, row.0, "out", row.1, faults(kind, number)) else {
             return None;

@@ -1,8 +1,9 @@
 //! What each command leaves, of valid files and of invalid ones.
 
-use crate::commands::{Before, Command, run};
+use crate::commands::run;
 use crate::made::holds;
 use mem_disk::Faults;
+use mem_test_commands::{Before, Command};
 use mem_test_data::vectors::{
     FIRST_OF_THREE, NO_GAP, SECOND_OF_THREE, THIRD_OF_THREE, THREE_KINDS, WORDS,
 };

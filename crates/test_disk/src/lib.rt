@@ -9,7 +9,7 @@
 //! | file | content |
 //! |---|---|
 //! | `made.rt` | a disk of given paths and files, and what it holds |
-//! | `commands.rt` | the commands, as one call |
+//! | `commands.rt` | a command over such a disk |
 //! | `leaving.rt` | what each command leaves, of valid files and of invalid ones |
 //! | `failing.rt` | what each command leaves where something fails, and where its output is IN's file |
 //! | `expanding.rt` | the faults of `expand` |

@@ -5,10 +5,8 @@ ghost use Rattle.mem_disk.specs.Memory.{held_of};
 ghost use Rattle.sys_disk.specs.World.{IsReading};
 
 use mem_disk::{Faults, MemoryDisk, MemoryFile, MemoryPath};
+use mem_test_commands::Listed;
 use std::alloc::Global;
-
-/// A path, and the number of the file that it leads to.
-pub(crate) type Listed = (&'static str, u64);
 
 /// A disk on which nothing is open. None, where there is no memory for it.
 pub(crate) fn disk(

@@ -6,10 +6,11 @@ ghost use Rattle.mem_disk.specs.Memory.{held_of};
 ghost use Rattle.sys_disk.specs.World.{IsReading};
 
 use crate::made;
-use crate::made::{Listed, holds};
+use crate::made::holds;
 use abt_io::{Meter, Window};
 use cmd_cut::sparse_file;
 use mem_disk::{Countdown, Faults, MemoryDisk};
+use mem_test_commands::Listed;
 use std::alloc::Global;
 use sys_refusals::FileArg;
 use sys_report::Report;

@@ -1,5 +1,6 @@
 use Rattle.std.proofs.Common.{arith}
-use Rattle.mem_disk.proofs.Files.{holds_new, spares_set}
+use Rattle.mem_files.proofs.Paths.{holds_new}
+use Rattle.mem_disk.proofs.Files.{spares_set}
 use Rattle.mem_disk.proofs.disk.MemoryDisk.lay.Goals as goal
 
 pub returns-then-file-len-clause-holds : goal.returns-then-file-len-clause-holds

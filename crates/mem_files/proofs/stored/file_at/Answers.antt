@@ -1,5 +1,5 @@
-use Rattle.mem_disk.proofs.Files.{found_here, found_behind, found_nowhere}
-use Rattle.mem_disk.proofs.disk.found.Goals as goal
+use Rattle.mem_files.proofs.Paths.{found_here, found_behind, found_nowhere}
+use Rattle.mem_files.proofs.stored.file_at.Goals as goal
 
 pub returns-then-eq : goal.returns-then-eq
 returns-then-eq c = found_here _ _ _ _ _ _ c.loop-path-test.true c.path-item.is c.loop-path.invariant c.eq.ensures

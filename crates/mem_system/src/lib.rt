@@ -1,0 +1,23 @@
+//! A system in memory, which models its files. The program's own disk runs over it as over the files of the operating
+//! system. So each clause of that disk binds there. Any call that may fail can be made to.
+//!
+//! | file | has |
+//! |---|---|
+//! | `system.rt` | its files, the paths that lead to them, and the calls of a system |
+//! | `table.rt` | which file a path leads to, and what each file holds |
+//! | `copied_file.rt` | one open file |
+//! | `names.rt` | the names of a folder |
+//! | `calls.rt` | which call fails |
+#![tactic(auto)]
+
+mod calls;
+mod copied_file;
+mod names;
+mod system;
+mod table;
+
+pub use calls::Calls;
+pub use copied_file::CopiedFile;
+pub use names::MemoryNames;
+pub use system::MemorySystem;
+pub use table::Table;
