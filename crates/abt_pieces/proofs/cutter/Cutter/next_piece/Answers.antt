@@ -169,8 +169,8 @@ returns-in-Ok-End g c =
     let o = c.in-Ok-End.ensures.stepped in
     let is = c.in-Ok-End.field-0-is in
     let end = rw is at c.in-Ok-End.ensures.end in
-    let none = elim i.fresh as λ _. (c.args.self.now.stage ≡ Done) × (c.step.new.output ≡ c.args.output.now)
-    × (c.step.new.source ≡ c.args.source.now) × (c.step.new.self ≡ c.args.self.now) [
+    let none : (c.args.self.now.stage ≡ Done) × (c.step.new.output ≡ c.args.output.now)
+    × (c.step.new.source ≡ c.args.source.now) × (c.step.new.self ≡ c.args.self.now) = elim i.fresh [
       | inl h ↦ absurd (false≢true (sym (ap is_begun end.0) ∙ h.0))
       | inr h ↦ (sym h.3 ∙ end.0, end.1 ∙ h.1, end.2 ∙ h.2, end.3 ∙ h.0)
     ] in
