@@ -120,3 +120,26 @@ last_ends {r = r} {s = s} {o = o} {a = a} {b = b} {y = y} {z = z} {p = p} {q = q
     second_move (Write f) n n' r r' w0 w w' C D le low h x = omega (arith, x, low)
     second_move SourceChanged n n' r r' w0 w w' C D le low h x = h x
     second_move e n n' r r' w0 w w' C D le low h x = absurd x
+
+-- a source was moved, and the output alone is written to after it
+pub moves_written : {X Y : Type 0} {x : X} {r : Result Y SectionFault} {A B : Type 0} {s : sources.Ghosts A}
+    {o : outputs.Ghosts B} {a z : A} {p q t : B} {C : Type 0} (D : Type 0) → MovesUnless {X = X} (Ok x) s a z o p q C
+    → WritesAlone r o q t → MovesUnless r s a z o p t D
+moves_written {r = r} {s = s} {o = o} {a = a} {z = z} {p = p} {q = q} {t = t} D k e = record {
+  reads = record {
+    content = k.reads.content;
+    size = k.reads.size;
+    frame = k.reads.frame;
+    faults = k.reads.faults;
+    clean = on_ok r k.reads.clean;
+  };
+  writes = writes_then k.writes e.only;
+  cause = if_err_then r (λ g. written_last g (s.read_faults a) (s.read_faults z) (o.write_faults p) (o.write_faults q)
+      (o.write_faults t) k.writes.faults) e.cause;
+}
+  where
+    written_last : (e : SectionFault) (r r' w0 w w' : ℕ) → w0 ≤ w → MoveCause e 0 0 w w' ⊥ → MoveCause e r r' w0 w' D
+    written_last (Read f) r r' w0 w w' le x = absurd (omega (arith, x))
+    written_last (Write f) r r' w0 w w' le x = omega (arith, x, le)
+    written_last SourceChanged r r' w0 w w' le x = absurd x
+    written_last e r r' w0 w w' le x = absurd x
