@@ -1,8 +1,8 @@
 -- What calls leave that are refused after others, or that others follow: sources that are read beside one another.
-use Rattle.std.proofs.Common.{ℕ, ◌+◌, ◌<◌, ◌≤◌, List, length, get_or, set, Ok, Err, Result, arith}
+use Rattle.std.proofs.Common.{ℕ, ◌+◌, ◌<◌, ◌≤◌, List, length, get_or, set, Ok, Err, Result, arith, subst, sym}
 use Rattle.std.proofs.Math.Nat.{le_refl}
 use Rattle.abt_io.specs.Lent.{OnlyReads, OnlyReadsAll, OnlyWrites}
-use Rattle.abt_io.proofs.Lent.{reads_none, writes_then}
+use Rattle.abt_io.proofs.Lent.{reads_err, reads_none, writes_none, writes_then}
 use Rattle.abt_io.specs.declared.device.Source as sources
 use Rattle.abt_io.specs.declared.device.Output as outputs
 use Rattle.abt_sections.specs.declared.fault.SectionFault.{SectionFault}
@@ -11,7 +11,7 @@ use Rattle.abt_sections.specs.Cause.{MoveCause, full_handed, total}
 use Rattle.abt_sections.specs.Moves.{MovesAllUnless, MovesMoreUnless, MovesUnless, ReadsAllUnless, WritesAlone}
 use Rattle.abt_sections.specs.Reads.{ReadsUnless}
 use Rattle.abt_sections.proofs.Causes.{if_err_then, move_on, on_ok, part_move}
-use Rattle.abt_sections.proofs.PackExits.{all_read, beside_move}
+use Rattle.abt_sections.proofs.PackExits.{all_read, beside_move, read_moves}
 use Rattle.abt_sections.proofs.Parts.{all_part}
 
 -- one of several is refused
@@ -143,3 +143,12 @@ moves_written {r = r} {s = s} {o = o} {a = a} {z = z} {p = p} {q = q} {t = t} D 
     written_last (Write f) r r' w0 w w' le x = omega (arith, x, le)
     written_last SourceChanged r r' w0 w w' le x = absurd x
     written_last e r r' w0 w w' le x = absurd x
+
+-- nothing is written where reading is refused
+pub reads_alone : {X Y : Type 0} {f : SectionFault} {A B : Type 0} {s : sources.Ghosts A} (o : outputs.Ghosts B)
+    {a z : A} (p : B) {C : Type 0} → ReadsUnless {X = X} (Err f) s a z C → MovesUnless {X = Y} (Err f) s a z o p p C
+reads_alone {Y = Y} {f = f} {s = s} o {a = a} {z = z} p {C = C} e = record {
+  reads = reads_err f e.only;
+  writes = subst (λ (n : ℕ). OnlyWrites {X = Y} (Err f) n o p p) (sym e.failed) (writes_none (Err f) o p);
+  cause = read_moves f (s.read_faults a) (s.read_faults z) (o.write_faults p) C e.cause;
+}

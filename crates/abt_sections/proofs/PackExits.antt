@@ -135,6 +135,12 @@ moves_behind {f = f} {s = s} {o = o} {a = a} {b = b} {z = z} {p = p} {q = q} {C 
           (le_refl _) h e.cause;
     }
 
+pub read_moves : (e : SectionFault) (r r' w : ℕ) (C : Type 0) → MoveCause e r r' 0 0 C → MoveCause e r r' w w C
+read_moves (Read f) r r' w C x = x
+read_moves (Write f) r r' w C x = absurd (omega (arith, x))
+read_moves SourceChanged r r' w C x = x
+read_moves e r r' w C x = absurd x
+
 -- nothing is written where reading is refused
 pub moves_nothing : {X Y : Type 0} {f : SectionFault} {A B : Type 0} {s : sources.Ghosts A} (o : outputs.Ghosts B)
     {a z : List A} (p : B) {C : Type 0} → ReadsAllUnless {X = X} (Err f) s a z C
@@ -153,12 +159,6 @@ moves_nothing {Y = Y} {f = f} {s = s} o {a = a} {z = z} p {C = C} e =
       writes = subst (λ (n : ℕ). OnlyWrites {X = Y} (Err f) n o p p) (sym e.failed) (writes_none (Err f) o p);
       cause = read_moves f (t a) (t z) w C e.cause;
     }
-  where
-    read_moves : (e : SectionFault) (r r' w : ℕ) (C : Type 0) → MoveCause e r r' 0 0 C → MoveCause e r r' w w C
-    read_moves (Read f) r r' w C x = x
-    read_moves (Write f) r r' w C x = absurd (omega (arith, x))
-    read_moves SourceChanged r r' w C x = x
-    read_moves e r r' w C x = absurd x
 
 -- all was moved, and then the output alone failed
 pub moves_broken : {X Y : Type 0} {x : X} {f : SectionFault} {A B : Type 0} {s : sources.Ghosts A}
