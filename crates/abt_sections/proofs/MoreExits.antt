@@ -2,7 +2,7 @@
 use Rattle.std.proofs.Common.{ℕ, ◌+◌, ◌<◌, ◌≤◌, List, length, get_or, set, Ok, Err, Result, arith, subst, sym}
 use Rattle.std.proofs.Math.Nat.{le_refl}
 use Rattle.abt_io.specs.Lent.{OnlyReads, OnlyReadsAll, OnlyWrites}
-use Rattle.abt_io.proofs.Lent.{reads_err, reads_none, writes_none, writes_then}
+use Rattle.abt_io.proofs.Lent.{reads_err, reads_none, writes_err, writes_none, writes_then}
 use Rattle.abt_io.specs.declared.device.Source as sources
 use Rattle.abt_io.specs.declared.device.Output as outputs
 use Rattle.abt_sections.specs.declared.fault.SectionFault.{SectionFault}
@@ -151,4 +151,46 @@ reads_alone {Y = Y} {f = f} {s = s} o {a = a} {z = z} p {C = C} e = record {
   reads = reads_err f e.only;
   writes = subst (λ (n : ℕ). OnlyWrites {X = Y} (Err f) n o p p) (sym e.failed) (writes_none (Err f) o p);
   cause = read_moves f (s.read_faults a) (s.read_faults z) (o.write_faults p) C e.cause;
+}
+
+-- parts that are not read, where the output alone failed
+pub writes_alone_all : {X : Type 0} {f : SectionFault} {A B : Type 0} (s : sources.Ghosts A) {o : outputs.Ghosts B}
+    (a : List A) {p q : B} (D : Type 0) → WritesAlone {X = X} (Err f) o p q
+    → MovesAllUnless {X = X} (Err f) s a a o p q D
+writes_alone_all {f = f} s {o = o} a {p = p} {q = q} D e = record {
+  reads = all_read (Err f) s a;
+  writes = e.only;
+  cause = written_alone f (total s.read_faults a) (o.write_faults p) (o.write_faults p) (o.write_faults q) D (le_refl _)
+      e.cause;
+}
+
+-- parts that are moved after an output that was written to
+pub all_after_writes : {X Y : Type 0} {x : X} {r : Result Y SectionFault} {A B : Type 0} {s : sources.Ghosts A}
+    {o : outputs.Ghosts B} {a z : List A} {p q t : B} {C D : Type 0} → OnlyWrites {E = SectionFault} (Ok x) 0 o p q
+    → MovesAllUnless r s a z o q t C → (C → D) → MovesAllUnless r s a z o p t D
+all_after_writes {r = r} {s = s} {o = o} {a = a} {z = z} {p = p} {q = q} {t = t} {C = C} {D = D} k e h =
+    let n = total s.read_faults a in
+    let n' = total s.read_faults z in
+    let w = o.write_faults in
+    record {
+      reads = e.reads;
+      writes = writes_then k e.writes;
+      cause = if_err_then r (λ g. move_on g n n n' n' (w p) (w q) (w t) (w t) C D (le_refl _) (le_refl _) k.faults
+          (le_refl _) h) e.cause;
+    }
+
+-- what was refused stays so, whatever would have been returned
+pub all_moved_err : {X Y : Type 0} {f : SectionFault} {A B : Type 0} {s : sources.Ghosts A} {o : outputs.Ghosts B}
+    {a z : List A} {p q : B} {C : Type 0} → MovesAllUnless {X = X} (Err f) s a z o p q C
+    → MovesAllUnless {X = Y} (Err f) s a z o p q C
+all_moved_err {f = f} e = record {
+  reads = record {
+    content = e.reads.content;
+    size = e.reads.size;
+    frame = e.reads.frame;
+    faults = e.reads.faults;
+    clean = tt;
+  };
+  writes = writes_err f e.writes;
+  cause = e.cause;
 }
