@@ -299,6 +299,13 @@ still_passes w g none old new grows = rw none (let z : begins w.gatherer ≤ beg
 pub entry_most : (c : Cursor) → entry c ≤ 16
 entry_most c = elim (cases_Bool (c.used == 0)) [ inl e ↦ rw e (omega arith) | inr e ↦ rw e (omega arith) ]
 
+-- what was counted before a part that begins inside a chunk has that chunk's header left over
+pub entry_held : (at : Cursor) (a b : ℕ) → a ≤ b + 16 → (0 < at.used → a ≤ b) → a + entry at ≤ b + 16
+entry_held at a b more inside = elim (cases_Bool (at.used == 0)) [
+  | inl e ↦ rw e (omega (arith, more))
+  | inr e ↦ let some : 0 < at.used = omega (arith, eqb-false at.used 0 e) in rw e (omega (arith, inside some))
+]
+
 pub entry_none : (c : Cursor) → c.used ≡ 0 → entry c ≡ 0
 entry_none c e = rw e refl
 

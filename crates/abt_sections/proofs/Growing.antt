@@ -51,6 +51,9 @@ grows_on a b c first then le =
     ∙ take-append-le (length a) b (drop (length b) c) le
     ∙ first
 
+pub grows_by : (a b x : List ℕ) → b ≡ a ++ x → Grows a b
+grows_by a b x e = ap (take (length a)) e ∙ take_at a x (length a) refl
+
 -- one part more of what a source has
 pub written_next : (a b c s s' : List ℕ) (at n : ℕ) → s' ≡ s → b ≡ a ++ take at s → c ≡ b ++ take n (drop at s')
     → c ≡ a ++ take (at + n) s

@@ -75,3 +75,13 @@ pub concat_at : (all : List (List ℕ)) (b : List ℕ) (i : ℕ) → take (i + 1
 concat_at all b i next =
     ap (λ (l : List ℕ). l ++ concat (drop (i + 1) all)) (concat_next all b i next)
     ∙ concat_front all (i + 1)
+
+-- how many bytes the last two of four parts take
+pub last_two : (page : ℕ) (sizes : List ℕ) → length sizes ≡ 4
+    → laid_size page (drop 2 sizes) ≡ pages (get_or sizes 2 0) page * page + pages (get_or sizes 3 0) page * page
+last_two page [] long = absurd (omega (arith, long))
+last_two page (a ∷ []) long = absurd (omega (arith, long))
+last_two page (a ∷ b ∷ []) long = absurd (omega (arith, long))
+last_two page (a ∷ b ∷ c ∷ []) long = absurd (omega (arith, long))
+last_two page (a ∷ b ∷ c ∷ d ∷ []) long = omega arith
+last_two page (a ∷ b ∷ c ∷ d ∷ e ∷ sizes) long = absurd (omega (arith, long))

@@ -16,6 +16,8 @@ pub mod Laying
 pub mod Layouts
 pub mod Magic
 pub mod Moves
+pub mod MoreExits
+pub mod PackExits
 pub mod Padding
 pub mod Parts
 pub mod Placing

@@ -1,8 +1,10 @@
-use Rattle.std.proofs.Common.{arith, ap, ◌+◌, ◌∙◌, refl, ◌≡◌, inr}
+use Rattle.std.proofs.Common.{arith, ap, ◌+◌, ◌-◌, ◌∙◌, ◌<◌, refl, sym, ◌≡◌, inl, inr}
+use Rattle.std.proofs.lemmas.Bool.{false≢true}
 use Rattle.abt_io.proofs.Lent.{reads_none, reads_ok, reads_then}
 use Rattle.abt_pieces.proofs.Fronts.{as_many, max_most}
 use Rattle.abt_pieces.proofs.Planning.{first_piece}
-use Rattle.abt_pieces.proofs.Counts.{begin_bytes, words_most, words_on}
+use Rattle.abt_pieces.proofs.Counts.{begin_bytes, entry_held, words_most, words_on}
+use Rattle.abt_pieces.specs.declared.segment_tail.Tail.TheVariants as tails
 use Rattle.abt_pieces.specs.declared.plan.Planner.{Planner}
 use Rattle.abt_pieces.proofs.plan.plan_piece.Goals as goal
 
@@ -35,6 +37,60 @@ loop-m-init g c =
       calls = omega arith;
       turns = rw e.at (omega arith);
     }
+
+pub step-requires : goal.step-requires
+step-requires g c =
+    let i = c.loop-m.invariant in
+    record {
+      ready = record {
+        sound = record { first = refl; within = i.sound.within; room = i.sound.room; even = i.sound.even };
+        opened = λ models. rw (i.reads.content models) (c.requires.told models).0;
+        told = λ models. rw (i.reads.content models) (i.told models);
+      };
+    }
+
+-- the plan goes on
+pub loop-m-preserved : goal.loop-m-preserved
+loop-m-preserved g c =
+    let e = c.in_ok-step.ensures in
+    let i = c.loop-m.invariant in
+    let on = e.goes_on c.if-not-branch.true in
+    let p = c.loop-m.planner in
+    let runs = c.args.runs.now in
+    let stuck : 0 < p.at.used → (p.tail ≡ tails.Raw) × (c.args.limit - p.weight < g.R.BlockRuns.size runs) → ⊥ =
+    λ used r. false≢true (sym c.if-not-branch.true ∙ e.stuck used r.0 r.1) in
+    let charged = entry_held p.at (g.S.Source.given c.loop-m.source + g.R.BlockRuns.charge runs c.args.from)
+    (g.S.Source.given c.args.source.now + g.R.BlockRuns.charge runs p.at) i.charged
+    (λ used. elim (i.inside used) [ inl r ↦ absurd (stuck used r) | inr le ↦ le ]) in
+    let taken = entry_held p.at (p.contents.bytes + g.R.BlockRuns.taken runs c.args.from)
+    (40 + g.R.BlockRuns.taken runs p.at) i.taken
+    (λ used. elim (i.inside_taken used) [ inl r ↦ absurd (stuck used r) | inr le ↦ le ]) in
+    let costs = e.costs in
+    let calls = costs.calls in
+    let turns = costs.turns in
+    let tick = c.tick.ensures in
+    record {
+      reads = reads_ok tt (reads_then i.reads e.source.reads);
+      sound = record {
+        first = e.sound.first ∙ i.sound.first;
+        within = e.sound.within;
+        room = e.sound.room;
+        even = e.sound.even;
+      };
+      told = λ models. rw (i.reads.content models) at (e.told models);
+      charged = omega (arith, on.charged, charged);
+      inside = λ used. inl (on.inside used);
+      taken = omega (arith, on.takes, taken);
+      inside_taken = λ used. inl (on.inside used);
+      given = omega (arith, i.given, costs.given);
+      received = omega (arith, i.received, costs.received, costs.one_step.steps, tick.steps);
+      most = omega (arith, i.most, costs.one_step.greatest, costs.received, tick.greatest);
+      calls = omega (arith, calls, i.calls, i.given, on.fetched);
+      turns = omega (arith, i.turns, turns, on.words, on.fetched, i.given, tick.turns);
+    }
+
+pub loop-m-smaller : goal.loop-m-smaller
+loop-m-smaller g c = (c.in_ok-step.ensures.goes_on c.if-not-branch.true).on
 
 -- the plan goes no further
 pub returns : goal.returns

@@ -1,10 +1,53 @@
-use Rattle.std.proofs.Common.{rules, ℕ, List, length, ap, ◌∙◌}
-use Rattle.abt_io.proofs.Lent.{reads_then}
+use Rattle.std.proofs.Common.{ℕ, List, length, ap, sym, refl, ◌∙◌, Ok}
+use Rattle.abt_io.proofs.Lent.{reads_none, reads_ok, reads_then}
 use Rattle.abt_sections.specs.Header.{view_of, places_of}
 use Rattle.abt_sections.specs.Open.{beyond}
 use Rattle.abt_sections.proofs.Refusals.{reads_on}
 use Rattle.abt_sections.proofs.Verdicts.{verdict_is}
 use Rattle.abt_sections.proofs.checking.compare.Goals as goal
+
+-- the source isn't as long as the image was
+pub returns-then-not-is_as_long : goal.returns-then-not-is_as_long
+returns-then-not-is_as_long g c =
+    let s = g.S.Source in
+    let source = c.args.source.now in
+    record {
+      found = record {
+        reads = record {
+          only = reads_none _ s source;
+          cause = λ models opened. c.if-not-is_as_long.ensures (g.met.S.Source.sized source models ∙ sym opened.length);
+          failed = refl;
+        };
+        value = λ models. tt;
+      };
+      offset = tt;
+      changed = λ other. (refl, refl);
+    }
+
+pub returns-in-Err : goal.returns-in-Err
+returns-in-Err g c = record {
+  found = record {
+    reads = reads_on (reads_none {X = Unit {0}} {E = Unit {0}} (Ok tt) g.S.Source c.args.source.now)
+        c.in-Err.ensures.found.reads (λ changed models. absurd (changed models));
+    value = λ models. tt;
+  };
+  offset = tt;
+  changed = λ other. absurd (other c.if-not-is_as_long.ensures);
+}
+
+pub returns-in-Err-id_holds : goal.returns-in-Err-id_holds
+returns-in-Err-id_holds g c =
+    let ps = places_of (view_of c.args.image.now.header) in
+    let e = c.in-Ok.ensures.found.reads.only in
+    record {
+      found = record {
+        reads = reads_on e c.in-Err-id_holds.ensures.reads (λ changed models opened. changed models
+            (ap (λ (l : List ℕ). beyond ps (length l)) (e.content models) ∙ opened.has.there));
+        value = λ models. tt;
+      };
+      offset = tt;
+      changed = λ other. absurd (other c.if-not-is_as_long.ensures);
+    }
 
 pub returns-in-Err-fragments_fill-clause-found : goal.returns-in-Err-fragments_fill-clause-found
 returns-in-Err-fragments_fill-clause-found g c =
@@ -13,12 +56,17 @@ returns-in-Err-fragments_fill-clause-found g c =
     record {
       reads = reads_on e c.in-Err-fragments_fill.ensures.reads (λ changed models opened. changed models
           (ap (λ (l : List ℕ). beyond ps (length l)) (e.content models) ∙ opened.has.there));
-      value = search rules;
+      value = λ models. tt;
     }
 
 pub returns-clause-found : goal.returns-clause-found
 returns-clause-found g c = record {
-  reads = search rules;
+  reads = record {
+    only = reads_ok _ (reads_then (reads_then c.in-Ok.ensures.found.reads.only c.in-Ok-id_holds.ensures.reads.only)
+        c.in-Ok-fragments_fill.ensures.reads.only);
+    cause = tt;
+    failed = refl;
+  };
   value = λ models.
       let same = c.in-Ok.ensures.found.reads.only.content models in
       let then = c.in-Ok-id_holds.ensures.reads.only.content models in

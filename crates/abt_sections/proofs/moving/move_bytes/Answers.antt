@@ -2,6 +2,8 @@ use Rattle.std.proofs.Common.{arith, ap, length}
 use Rattle.abt_io.proofs.Lent.{reads_then, writes_then}
 use Rattle.abt_sections.proofs.Digests.{hashed_front}
 use Rattle.abt_sections.proofs.Growing.{grows_on, written_next}
+use Rattle.abt_sections.proofs.MoreExits.{moves_after}
+use Rattle.abt_sections.proofs.Refusals.{moves_on}
 use Rattle.abt_sections.proofs.moving.move_bytes.Goals as goal
 
 pub loop-at-preserved : goal.loop-at-preserved
@@ -24,3 +26,19 @@ loop-at-preserved g c =
       all = omega (arith, e.bytes.all, i.all);
       writes = writes_then i.writes e.moves.writes;
     }
+
+pub returns-in-Err-clause-bytes : goal.returns-in-Err-clause-bytes
+returns-in-Err-clause-bytes g c =
+    let i = c.loop-at.invariant in
+    let e = c.in-Err.ensures.bytes in
+    record {
+      grown = grows_on _ _ _ i.grown e.grown (omega (arith, i.all));
+      most = omega (arith, i.all, e.most, c.next_ask-ask.ensures.within);
+      all = tt;
+    }
+
+pub returns-in-Err-clause-moves : goal.returns-in-Err-clause-moves
+returns-in-Err-clause-moves g c =
+    let i = c.loop-at.invariant in
+    moves_after i.writes (moves_on i.reads c.in-Err.ensures.moves (λ changed models there. changed models (λ some. omega
+    (arith, there, c.next_ask-ask.ensures.within, ap length (i.reads.content models))))) (λ changed. changed)

@@ -1,4 +1,7 @@
-use Rattle.std.proofs.Common.{inr, nat_lt, map, refl}
+use Rattle.std.proofs.Common.{◌≡◌, inr, nat_lt, map, refl, arith}
+use Rattle.std.specs.Prelude.{IsTrue}
+use Rattle.abt_sections.specs.Fields.{filled}
+use Rattle.abt_sections.proofs.MoreExits.{all_after_writes, all_moved_err, writes_alone_all}
 use Rattle.abt_sections.proofs.Digests.{wanted_id}
 use Rattle.abt_sections.proofs.Magic.{opens_as_nothing}
 use Rattle.abt_sections.proofs.Placing.{no_magic_yet, page_stands}
@@ -15,3 +18,31 @@ pub returns-in-Err-move_parts-clause-broken : goal.returns-in-Err-move_parts-cla
 returns-in-Err-move_parts-clause-broken g c =
     inr (opens_as_nothing _ (no_magic_yet _ (page_stands (g.O.Output.written c.args.output.now) _ c.args.page
     c.requires.some (rw c.in-Ok.ensures.written at c.in-Err-move_parts.ensures.bytes.grown))))
+
+-- no page of zeros is written
+pub returns-in-Err : goal.returns-in-Err
+returns-in-Err g c =
+    let s = g.S.Source in
+    let ps = c.args.parts.now in
+    let e = c.in-Err.ensures in
+    record {
+      parts = record {
+        moves = all_moved_err
+            (writes_alone_all s ps (IsTrue s.models → c.args.sizes.now ≡ filled 5 (map s.size ps) → ⊥) e.writes);
+        written = λ models. tt;
+        lasting = tt;
+      };
+      once = omega arith;
+      id = λ models. tt;
+      zeros = tt;
+      broken = e.broken;
+      bytes = record { grown = e.bytes.grown; most = omega (arith, e.bytes.most); all = tt };
+    }
+
+pub returns-in-Err-move_parts-clause-parts : goal.returns-in-Err-move_parts-clause-parts
+returns-in-Err-move_parts-clause-parts g c = record {
+  moves = all_moved_err
+      (all_after_writes c.in-Ok.ensures.writes.only c.in-Err-move_parts.ensures.parts.moves (λ changed. changed));
+  written = λ models. tt;
+  lasting = tt;
+}

@@ -1,7 +1,12 @@
-use Rattle.std.proofs.Common.{rules, arith, ap, sym, ◌∙◌, ◌≡◌, ◌+◌, ◌++◌, ℕ, List, inl}
+use Rattle.std.proofs.Common.{rules, arith, ap, sym, ◌∙◌, ◌≡◌, ◌+◌, ◌++◌, ℕ, List, inl, inr}
+use Rattle.std.proofs.lemmas.Bool.{false≢true}
+use Rattle.abt_pieces.specs.Cutter.{is_begun}
 use Rattle.abt_io.proofs.Lent.{reads_err, reads_ok, reads_then, writes_err, writes_ok}
 use Rattle.abt_io.proofs.Lent.{writes_then}
-use Rattle.abt_pieces.specs.declared.stage.CutterStage.TheVariants.{Between}
+use Rattle.abt_pieces.specs.declared.stage.CutterStage.TheVariants.{Between, Done}
+use Rattle.abt_pieces.specs.declared.stage.CutterStage.{CutterStage}
+use Rattle.abt_pieces.specs.declared.stage.CutterStage.TheVariants as stages
+use Rattle.abt_pieces.specs.declared.fault.PieceFault.{PieceFault}
 use Rattle.abt_pieces.proofs.Fronts.{front_join, rest_join, not_full}
 use Rattle.abt_pieces.proofs.Stepping.{whole_front, piece_came}
 use Rattle.abt_pieces.proofs.Joining.{steps_join, greatest_join, counted_join, within_join, long_join, calls_join}
@@ -13,6 +18,24 @@ use Rattle.abt_pieces.specs.SpentStage.{all_passes}
 use Rattle.abt_pieces.proofs.SpendingStages.{stage_joins}
 use Rattle.abt_pieces.proofs.Failures.{full_at_fresh, full_at_ok, still_refused, writes_as}
 use Rattle.abt_pieces.proofs.cutter.Cutter.next_piece.Goals as goal
+
+done_unfailed : (st : CutterStage) (f : PieceFault) → st ≡ Done → st ≡ stages.Failed f → ⊥
+done_unfailed st f done failed = absurd cc
+
+pub step-requires : goal.step-requires
+step-requires g c =
+    let i = c.steps.invariant in
+    record {
+      ready = record {
+        opened = λ models. rw (i.runs, i.reads.content models) (c.requires.ready.opened models);
+        told = λ models. rw (i.runs, i.reads.content models) (i.told models);
+      };
+    }
+
+pub steps-smaller : goal.steps-smaller
+steps-smaller g c =
+    let on = rw c.in-Ok-More.field-0-is at c.in-Ok-More.ensures.stepped.goes_on in
+    rw on.same_place (rw c.steps.invariant.runs at on.left)
 
 pub steps-preserved : goal.steps-preserved
 steps-preserved g c =
@@ -134,6 +157,43 @@ returns-in-Ok-Piece g c =
             end = λ over. let y = z.end over in omega
                 (arith, y, i.given, e.costs.given);
           };
+      full = λ h says. absurd (not_full says);
+      cause = tt;
+    }
+
+-- there is no piece more
+pub returns-in-Ok-End : goal.returns-in-Ok-End
+returns-in-Ok-End g c =
+    let i = c.steps.invariant in
+    let e = c.step.ensures.stepped in
+    let o = c.in-Ok-End.ensures.stepped in
+    let is = c.in-Ok-End.field-0-is in
+    let end = rw is at c.in-Ok-End.ensures.end in
+    let none : (c.args.self.now.stage ≡ Done) × (c.step.new.output ≡ c.args.output.now)
+    × (c.step.new.source ≡ c.args.source.now) × (c.step.new.self ≡ c.args.self.now) = elim i.fresh [
+      | inl h ↦ absurd (false≢true (sym (ap is_begun end.0) ∙ h.0))
+      | inr h ↦ (sym h.3 ∙ end.0, end.1 ∙ h.1, end.2 ∙ h.2, end.3 ∙ h.0)
+    ] in
+    record {
+      left = record {
+        cutter = record { same_image = e.same.0 ∙ i.runs; same_limit = e.same.1 ∙ i.limit; unbegun = rw is at o.begun };
+        reads = reads_ok _ (reads_then i.reads o.reads);
+        told = λ models. rw (i.runs, i.reads.content models) at (e.told models);
+        refused = tt;
+      };
+      writes = writes_as (sym (full_at_ok c.args.self.now.stage))
+          (writes_ok _ (writes_then i.writes (writes_as (full_at_ok _) o.writes)));
+      within = within_join _ _ _ _ _ i.writes.least e.costs.grown (rw i.limit at e.within) i.counted;
+      front = λ models. front_join _ _ _ _ _ i.writes.least e.costs.grown (i.front models) (i.rest models)
+          (rw (i.runs, i.reads.content models, i.limit, i.start) at (e.front models));
+      made = tt;
+      laid = λ models. tt;
+      none = none;
+      after_last = λ d. (tt, tt);
+      again = λ f failed. absurd (done_unfailed _ f none.0 failed);
+      costs = costs_join _ _ _ _ _ _ _ _ _ _ (rw i.runs at e.costs) i.given i.writes.least i.steps i.greatest i.calls
+          i.write_calls i.turns c.tick.ensures.steps c.tick.ensures.greatest c.tick.ensures.turns;
+      spent = λ models. tt;
       full = λ h says. absurd (not_full says);
       cause = tt;
     }

@@ -1,4 +1,5 @@
-use Rattle.std.proofs.Common.{arith, sym, ◌∙◌, ◌≡◌, ap, refl}
+use Rattle.std.proofs.Common.{arith, sym, ◌∙◌, ◌≡◌, ◌+◌, ◌-◌, ◌*◌, ◌<◌, ap, refl, inl, inr}
+use Rattle.std.proofs.lemmas.Bool.{false≢true}
 use Rattle.abt_io.proofs.Lent.{reads_err, reads_none, reads_ok, reads_then}
 use Rattle.abt_runs.specs.declared.part.Cursor.{Cursor}
 use Rattle.abt_pieces.specs.Fault.{full_in_cut}
@@ -8,11 +9,100 @@ use Rattle.abt_pieces.specs.declared.stage.CutterStage.TheVariants.{Failed}
 use Rattle.abt_pieces.proofs.Fronts.{not_told, run_causes, run_not_full}
 use Rattle.abt_pieces.proofs.Planning.{first_piece}
 use Rattle.abt_pieces.proofs.Cutting.{moves}
-use Rattle.abt_pieces.proofs.Counts.{words_top}
+use Rattle.abt_pieces.proofs.Counts.{entry_held, words_top}
+use Rattle.abt_pieces.specs.declared.segment_tail.Tail.TheVariants as tails
 use Rattle.abt_pieces.proofs.Stepping.{planned_some, plan_covers}
 use Rattle.abt_pieces.proofs.SpendingStages.{plan_ends}
 use Rattle.abt_pieces.proofs.WriterSteps.{part_words}
 use Rattle.abt_pieces.proofs.cutter.Cutter.plan.Goals as goal
+
+pub step-requires : goal.step-requires
+step-requires g c =
+    let r = c.requires.ready in
+    record {
+      ready = record {
+        sound = record { first = refl; within = r.sound.within; room = r.sound.room; even = r.sound.even };
+        opened = r.opened;
+        told = r.planned;
+      };
+    }
+
+-- the plan goes on
+pub returns-in-Ok-false : goal.returns-in-Ok-false
+returns-in-Ok-false g c =
+    let a = c.step.ensures in
+    let e = c.in-Ok-false.ensures in
+    let test = c.in-Ok-false.field-0-test in
+    let on = e.goes_on test in
+    let ready = c.requires.ready in
+    let from = c.args.from in
+    let start = c.args.self.now.start in
+    let r = c.args.self.now.runs in
+    let charge = g.R.BlockRuns.charge r in
+    let size = g.R.BlockRuns.size r in
+    let stuck : 0 < from.at.used → (from.tail ≡ tails.Raw) × (c.args.self.now.limit - from.weight < size) → ⊥ =
+    λ used h. false≢true (sym test ∙ e.stuck used h.0 h.1) in
+    let taken = entry_held from.at (from.contents.bytes + g.R.BlockRuns.taken r start)
+    (40 + g.R.BlockRuns.taken r from.at) ready.taken.most (λ used. ready.taken.inside used (stuck used)) in
+    let p = g.met.R.BlockRuns.padded r from.at in
+    let top = words_top _ _ _ _ p.0 p.1 in
+    let turns = a.costs.turns in
+    record {
+      keeps = record { runs = refl; rest = (refl, refl, refl); refused = tt };
+      source = record { reads = reads_ok _ e.source.reads; cause = tt };
+      goes_on = record {
+        begun = (refl, refl);
+        sound = record {
+          first = e.sound.first ∙ ready.sound.first;
+          within = e.sound.within;
+          room = e.sound.room;
+          even = e.sound.even;
+        };
+        comes = λ t h. h;
+        left = omega (arith, on.on);
+        taken = record {
+          most = omega (arith, on.takes, taken);
+          inside = λ used little. absurd (little (on.inside used));
+        };
+        paid = omega (arith, on.fetched);
+        words = omega (arith, turns, on.words);
+      };
+      told = λ models. e.told models;
+      coming = λ models. refl;
+      spends = λ t h.
+          let charged = entry_held from.at t
+          (charge from.at + (2 * charge start + g.R.BlockRuns.copied r start)) h.most
+          (λ used. elim (h.inside used) [ inl z ↦ absurd (stuck used z) | inr le ↦ le ]) in
+          record {
+            low = omega (arith, h.low);
+            copies = omega (arith, h.copies, e.onward);
+            most = omega (arith, on.charged, charged, a.costs.given);
+            inside = λ used. inl (on.inside used);
+          };
+      costs = part_words a.costs (omega (arith, top));
+      unwritten = refl;
+    }
+
+pub invariant_of-self : goal.invariant_of-self
+invariant_of-self g c =
+    let s = c.args.self.now.sound in
+    let ready = c.requires.ready in
+    let rest = c.in-Ok-true.ensures.rests c.in-Ok-true.field-0-test in
+    let o = c.in-Ok.ensures in
+    let f : c.step.new.self.first ≡ c.args.self.now.start.block = c.step.ensures.sound.first ∙ ready.sound.first in
+    record {
+      sound = record {
+        granted = s.granted;
+        within = s.within;
+        few = s.few;
+        left = λ more. ready.few;
+        stage = rw f at o.sound;
+        taken =
+            let next = ap (g.R.BlockRuns.taken c.args.self.now.runs) o.next.0 in
+            let bytes = ap (λ (p : Planner). p.contents.bytes) rest.still in
+            omega (arith, next, bytes, o.longer, rest.rests.1, ready.taken.most);
+      };
+    }
 
 -- the piece is planned
 pub returns-in-Ok : goal.returns-in-Ok

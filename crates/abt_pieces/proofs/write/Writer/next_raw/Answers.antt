@@ -1,7 +1,9 @@
 use Rattle.std.proofs.Common.{arith, sym, ap, ◌∙◌, ◌≡◌, ◌<◌, Some, None, refl, ◌-◌, Option, IsTrue}
-use Rattle.abt_io.proofs.Lent.{reads_none, reads_ok, reads_then}
+use Rattle.abt_io.proofs.Lent.{reads_err, reads_none, reads_ok, reads_then}
 use Rattle.abt_runs.specs.declared.part.Cursor.{Cursor}
-use Rattle.abt_pieces.proofs.Fronts.{not_told}
+use Rattle.abt_pieces.specs.Fault.{full_in_cut}
+use Rattle.abt_pieces.specs.declared.fault.PieceFault.{PieceFault}
+use Rattle.abt_pieces.proofs.Fronts.{not_told, run_causes, run_not_full}
 use Rattle.abt_pieces.proofs.Going.{is_copying, some_of, next_sound, next_writer, write_copies, goes_on, next_keeps}
 use Rattle.abt_pieces.proofs.Going.{raw_known}
 use Rattle.abt_pieces.proofs.Counts.{segment_words, segment_top, writer_passes, next_paid}
@@ -152,3 +154,48 @@ next_raw-requires-clause-raw g c models =
     raw_known _ _ _ _ _ _ _ c.args.self.now c.args.copying c.requires.copies.is c.requires.copies.ready.sound
     (sym (g.met.R.BlockRuns.long c.args.runs.now _ (c.requires.copies.ready.opened models)))
     (c.requires.copies.ready.told models)
+
+pub next_raw-requires-clause-asks : goal.next_raw-requires-clause-asks
+next_raw-requires-clause-asks g c =
+    let copies = c.requires.copies in
+    let h = is_copying _ _ _ _ c.args.self.now c.args.copying copies.is copies.ready.sound in
+    let on = goes_on _ _ _ _ _ _ _ c.args.copying h c.requires.whole copies.remains in
+    record {
+      some = omega (arith, on);
+      within = h.next;
+      told = λ models.
+          let t = rw copies.is at (copies.ready.told models).copies in (copies.ready.opened models, t.next);
+    }
+
+pub next_raw-requires-clause-inside : goal.next_raw-requires-clause-inside
+next_raw-requires-clause-inside g c =
+    let copies = c.requires.copies in
+    let h = is_copying _ _ _ _ c.args.self.now c.args.copying copies.is copies.ready.sound in
+    omega (arith, h.until, h.past, copies.ready.sound.gathering.past)
+
+-- the source has failed
+pub returns-in-Err : goal.returns-in-Err
+returns-in-Err g c =
+    let n = c.next_raw.ensures.part in
+    let copies = c.requires.copies in
+    let self = c.args.self.now in
+    let h = is_copying _ _ _ _ self c.args.copying copies.is copies.ready.sound in
+    let low : c.args.copying.next.block < self.past =
+    let z = goes_on _ _ _ _ _ _ _ c.args.copying h c.requires.whole copies.remains in omega (arith, z, h.past) in
+    let p = g.met.R.BlockRuns.padded c.args.runs.now c.args.copying.next in
+    let top = segment_top _ (g.R.BlockRuns.one c.args.runs.now) (g.R.BlockRuns.count c.args.runs.now)
+    c.args.copying.next.block self.past p.0 p.1 low in
+    record {
+      source = record {
+        reads = reads_err _ c.in-Err.ensures.part.source.reads;
+        cause = run_causes _ _ _ _ _ _ _ c.run_fault.ensures c.in-Err.ensures.part.source.cause;
+      };
+      told = λ models. tt;
+      segment = (refl, refl, refl);
+      bytes = refl;
+      rest = λ models. tt;
+      goes_on = tt;
+      spends = λ models d within place is fresh s t spent. tt;
+      costs = part_words n.costs top;
+      unwritten = ap (λ (f : PieceFault). full_in_cut f) c.run_fault.ensures ∙ run_not_full c.in-Err.fault;
+    }
