@@ -1,4 +1,4 @@
-use Rattle.std.proofs.Common.{◌≡◌, ◌≤◌, suc, ◌+◌, [], ◌++◌, subst, refl, ap, ◌∙◌, arith, rules}
+use Rattle.std.proofs.Common.{◌≡◌, ◌≤◌, suc, ◌+◌, [], ◌++◌, IsTrue, subst, refl, ap, ◌∙◌, arith, rules}
 use Rattle.abt_sections.specs.Header.{entry_of, fragment_count, view_of}
 use Rattle.cmd_common_texts.specs.Info.{fragment_lines, fragment_text, line}
 use Rattle.sys_text.specs.Printed.{Prints}
@@ -76,3 +76,28 @@ returns-in-Err-is_whole-clause-leaves g c = record {
   reads = omega (arith, c.loop-i.invariant.faults, c.in-Ok.ensures.reads.only.clean);
   refused = search rules;
 }
+
+pub returns : goal.returns
+returns g c =
+    let x = g.S.Source.content c.args.source.now in
+    let h = view_of c.args.image.now.header in
+    let n = fragment_count h in
+    let o = c.args.notation in
+    let i = c.loop-i.invariant in
+    let end : c.loop-i.i ≡ n = search (rules, arith) in
+    let all : IsTrue g.S.Source.models → Prints g.O.Output.written g.O.Output.write_faults c.args.text.now
+    c.loop-i.text (fragment_lines o x h n)
+    = λ models. subst
+        (λ k. Prints g.O.Output.written g.O.Output.write_faults c.args.text.now c.loop-i.text (fragment_lines o x h k))
+        end (i.lines models).1 in
+    record {
+      leaves = record {
+        content = λ models. (i.lines models).0;
+        prints = i.prints;
+        told = tt;
+        reads = i.faults;
+        refused = λ models opened. tt;
+      };
+      lines = all;
+      begun = λ models. front_of_fragments o x h n n (omega arith) (all models);
+    }

@@ -1,4 +1,5 @@
-use Rattle.std.proofs.Common.{◌≡◌, ◌<◌, Some, None, rules, arith}
+use Rattle.std.proofs.Common.{◌≡◌, ◌<◌, ℕ, List, ◌∷◌, ◌++◌, Some, None, rules, arith, ap, ◌∙◌}
+use Rattle.std.proofs.lemmas.Str.Pattern.{split_parts}
 use Rattle.cmd_common_fields.proofs.Boards.{cut_fragment, cut_place}
 use Rattle.cmd_common_fields.proofs.OsWords.{same_word, some_is, none_is}
 use Rattle.cmd_common_fields.proofs.board_word.BoardWord.new.Goals as goal
@@ -70,3 +71,22 @@ returns-else-board-lt16-clause-accepts c = λ b p v.
     (omega (arith, v.place))) in
     let low : b.place < 16 = v.place in
     absurd (search (rules, arith, is_place, low))
+
+pub returns-then-board-lt16-clause-value : goal.returns-then-board-lt16-clause-value
+returns-then-board-lt16-clause-value c =
+    let front = c.in_ok-fragment in
+    let back = c.in_ok-place in
+    let f = split_parts 58 c.args.word.now (Some (front.fragment, front.rest)) front.ensures.cases (omega arith) in
+    let p = split_parts 61 front.rest.now (Some (back.place, back.value)) back.ensures.cases (omega arith) in
+    (
+      record {
+        fragment = front.fragment.now;
+        place = back.place.now;
+        number = back.value.now;
+        parts = f.0 ∙ ap (λ (r : List ℕ). front.fragment.now ++ (58 ∷ r)) p.0;
+        is_fragment = c.in_ok-number.ensures.value;
+        is_place = c.in_ok-number-2.ensures.value;
+        is_number = c.in_ok-number-3.ensures.value;
+      },
+      record { fragment = search rules; place = c.if-board-lt16.true; number = search rules },
+    )

@@ -1,4 +1,4 @@
-use Rattle.std.proofs.Common.{◌≤◌, ◌++◌, List, ℕ, length, take, sym, ap, ◌∙◌, subst, arith, append-nil}
+use Rattle.std.proofs.Common.{◌≤◌, ◌++◌, List, ℕ, length, take, refl, sym, ap, ◌∙◌, subst, arith, rules, append-nil}
 use Rattle.std.proofs.Common.{length-append, length-take}
 use Rattle.std.proofs.lemmas.List.{take-take, length-take-le}
 use Rattle.abt_io.specs.Bytes.{AreBytes}
@@ -49,3 +49,91 @@ invariant_of-self-in-Err-clause-whole g c = c.in-Err.ensures.taken ∙ append-ni
 pub invariant_of-self-in-Err-clause-holds : goal.invariant_of-self-in-Err-clause-holds
 invariant_of-self-in-Err-clause-holds g c = λ models. holds_on _ _ _ c.in-Err.ensures.grows
     (c.args.self.now.holds models)
+
+pub returns-then-is_empty : goal.returns-then-is_empty
+returns-then-is_empty g c = record {
+  wrote = record {
+    within = omega arith;
+    progress = search rules;
+    written = sym (append-nil c.args.self.now.log.state.bytes);
+    frame = refl;
+    calls = c.add.ensures;
+    faults = omega arith;
+    cause = tt;
+    clean = refl;
+    full_faults = omega arith;
+    full = search rules;
+    still_full = search rules;
+  };
+}
+
+pub returns-then-used-self : goal.returns-then-used-self
+returns-then-used-self g c = record {
+  wrote = record {
+    within = omega arith;
+    progress = tt;
+    written = sym (append-nil c.args.self.now.log.state.bytes);
+    frame = refl;
+    calls = c.add.ensures;
+    faults = omega arith;
+    cause = omega arith;
+    clean = tt;
+    full_faults = c.add-then-used-self-2.ensures;
+    full = search rules;
+    still_full = search rules;
+  };
+}
+
+pub returns-then-most-self : goal.returns-then-most-self
+returns-then-most-self g c = record {
+  wrote = record {
+    within = omega arith;
+    progress = tt;
+    written = sym (append-nil c.args.self.now.log.state.bytes);
+    frame = refl;
+    calls = c.add.ensures;
+    faults = omega arith;
+    cause = omega arith;
+    clean = tt;
+    full_faults = omega arith;
+    full = search rules;
+    still_full = search rules;
+  };
+}
+
+pub returns-in-Ok : goal.returns-in-Ok
+returns-in-Ok g c =
+    let most = length-take c.min-most.result c.args.bytes.now in
+    let takes = c.in-Ok.ensures.takes in
+    record {
+      wrote = record {
+        within = omega (arith, takes.within, most);
+        progress = λ some. takes.progress (omega (arith, most, some));
+        written = ap (λ (l : Logged). l.bytes) c.append.ensures;
+        frame = search rules;
+        calls = c.add.ensures;
+        faults = omega arith;
+        cause = tt;
+        clean = refl;
+        full_faults = omega arith;
+        full = search rules;
+        still_full = search rules;
+      };
+    }
+
+pub returns-in-Err : goal.returns-in-Err
+returns-in-Err g c = record {
+  wrote = record {
+    within = omega arith;
+    progress = tt;
+    written = sym (append-nil c.args.self.now.log.state.bytes);
+    frame = refl;
+    calls = c.add.ensures;
+    faults = omega arith;
+    cause = omega arith;
+    clean = tt;
+    full_faults = omega arith;
+    full = search rules;
+    still_full = search rules;
+  };
+}

@@ -1,6 +1,6 @@
-use Rattle.std.proofs.Common.{◌≡◌, ◌≤◌, ◌+◌, length, take, sym, subst, arith}
+use Rattle.std.proofs.Common.{◌≡◌, ◌≤◌, ◌+◌, length, take, refl, sym, ap, subst, arith, rules}
 use Rattle.std.proofs.lemmas.List.{length-take-le}
-use Rattle.abt_io.proofs.Overs.{length_put}
+use Rattle.abt_io.proofs.Overs.{length_put, put_none}
 use Rattle.abt_io.specs.Bytes.{AreBytes}
 use Rattle.abt_io.specs.Frame.{Logged}
 use Rattle.sys_file.proofs.Bytes.{bytes_of_put}
@@ -44,3 +44,51 @@ invariant_of-self-in-Ok-clause-told g c =
 
 pub invariant_of-self-in-Ok-clause-holds : goal.invariant_of-self-in-Ok-clause-holds
 invariant_of-self-in-Ok-clause-holds g c = λ models. c.forget.ensures _
+
+pub returns-then-at-cleared : goal.returns-then-at-cleared
+returns-then-at-cleared g c = record {
+  wrote = record {
+    within = omega arith;
+    progress = tt;
+    written = sym (put_none c.args.self.now.log.state.bytes c.args.at);
+    frame = refl;
+    calls = c.add.ensures;
+    faults = omega arith;
+    cause = omega arith;
+    clean = tt;
+    full_faults = refl;
+    failed = refl;
+  };
+}
+
+pub returns-in-Ok : goal.returns-in-Ok
+returns-in-Ok g c = record {
+  wrote = record {
+    within = c.in-Ok.ensures.takes.within;
+    progress = c.in-Ok.ensures.takes.progress;
+    written = ap (λ (l : Logged). l.bytes) c.put.ensures;
+    frame = search rules;
+    calls = c.add.ensures;
+    faults = omega arith;
+    cause = tt;
+    clean = refl;
+    full_faults = refl;
+    failed = tt;
+  };
+}
+
+pub returns-in-Err : goal.returns-in-Err
+returns-in-Err g c = record {
+  wrote = record {
+    within = omega arith;
+    progress = tt;
+    written = sym (put_none c.args.self.now.log.state.bytes c.args.at);
+    frame = refl;
+    calls = c.add.ensures;
+    faults = omega arith;
+    cause = omega arith;
+    clean = tt;
+    full_faults = refl;
+    failed = refl;
+  };
+}
