@@ -73,7 +73,7 @@ LINES = {
     "writing": 182,
     "flashing and verifying": 139,
     "boot images": 227,
-    "system": 96,
+    "system": 103,
     "words": 133,
     "commands over sparse images": 152,
     "commands over boot images": 145,

@@ -60,6 +60,14 @@ unopened_for of_runs.TooLarge got F G b x p p' go is = is
 unopened_for of_runs.SourceChanged got F G b x p p' go is = is
 unopened_for (of_runs.BadBlock n) got F G b x p p' go is = is
 
+not_there_for : (f : VerifyFault) (F G : Type 0) (x p : List ℕ) → (F → G) → IsNotThere F f x p → IsNotThere G f x p
+not_there_for (verifies.Sparse f) F G x p go is = is
+not_there_for (verifies.Differs n) F G x p go is = is
+not_there_for (verifies.Read d) F G x p go is = go is
+not_there_for (verifies.PartitionRead d) F G x p go is = go is
+not_there_for verifies.SourceChanged F G x p go is = absurd is
+not_there_for (verifies.BadBlock n) F G x p go is = absurd is
+
 not_there_raw_for : (f : VerifyFault) (F G : Type 0) (b : ℕ) (x p : List ℕ) → (F → G) → IsNotThereRaw F f b x p
     → IsNotThereRaw G f b x p
 not_there_raw_for (verifies.Sparse f) F G b x p go is = absurd is
@@ -140,6 +148,27 @@ refuses_raw untold (Ok n) e got F b input path x p p' a c h h' told host unclose
 refuses_raw untold (Err f) e got F b input path x p p' a c h h' told host unclosed closed go with_files lays =
     subst (λ (z : SparseCommandFault). RefusesFlashRaw z b input path a c h h' untold) (sym told)
     (raw_own untold f got F b input path x p p' a c h h' closed go with_files lays)
+
+refuses_verify : (untold : List ℕ → Type 0) (f : SparseCommandFault) (F : Type 0) (input path x p : List ℕ) (a : World)
+    (h h' : OpenFiles) → (F → HasFailed h h') → ((P : List ℕ → List ℕ → Type 0) → P x p → OfBoth input path a P)
+    → Finds F (Err f) x p → RefusesVerify f input path a h h' untold
+refuses_verify untold (faults.Verify f) F input path x p a h h' go with_files finds =
+    with_files (IsNotThere (HasFailed h h') f) (not_there_for f F (HasFailed h h') x p go finds)
+refuses_verify untold (faults.Flash f) F input path x p a h h' go with_files finds = absurd finds
+refuses_verify untold (faults.Sparse f) F input path x p a h h' go with_files finds = absurd finds
+refuses_verify untold (faults.Run f) F input path x p a h h' go with_files finds = absurd finds
+refuses_verify untold (faults.Piece f) F input path x p a h h' go with_files finds = absurd finds
+refuses_verify untold (faults.OtherBlocks image) F input path x p a h h' go with_files finds = absurd finds
+refuses_verify untold (faults.OtherCut image) F input path x p a h h' go with_files finds = absurd finds
+refuses_verify untold (faults.Host f) F input path x p a h h' go with_files finds = absurd finds
+
+pub verify_refusal : (untold : List ℕ → Type 0) (e f : SparseCommandFault) (F : Type 0) (input path x p : List ℕ)
+    (a : World) (h h' : OpenFiles) → e ≡ f → (F → HasFailed h h')
+    → ((P : List ℕ → List ℕ → Type 0) → P x p → OfBoth input path a P) → Finds F (Err f) x p
+    → RefusesVerify e input path a h h' untold
+verify_refusal untold e f F input path x p a h h' is go with_files finds =
+    subst (λ (z : SparseCommandFault). RefusesVerify z input path a h h' untold) (sym is)
+    (refuses_verify untold f F input path x p a h h' go with_files finds)
 
 pub refuses_verify_raw : (untold : List ℕ → Type 0) (f : SparseCommandFault) (F : Type 0) (b : ℕ)
     (input path x p : List ℕ) (a : World)
