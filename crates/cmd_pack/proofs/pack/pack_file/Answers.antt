@@ -1,5 +1,6 @@
 use Rattle.std.proofs.Common.{ap, refl, sym, subst, ◌∙◌}
 use Rattle.std.specs.List.{All}
+use Rattle.std.specs.Prelude.{IsTrue}
 use Rattle.sys_report.specs.Shows.{Unprinted}
 use Rattle.sys_disk.specs.World.{World}
 use Rattle.cmd_common_boot.specs.Carried.{IsTaken}
@@ -59,68 +60,83 @@ returns-in-Err-contents_of g c = record {
 -- it is not written
 
 pub returns-in-Err-write_image : goal.returns-in-Err-write_image
-returns-in-Err-write_image g c = record {
-  done = λ t. tt;
-  left = λ t.
-      left_behind _ _ _ _ g.D.Disk.is_over (IsPackedBy c.args.command.now (g.D.Disk.world c.args.disk.now))
-      (packed_image (content_of g.D.At.Source.content) c.in-Ok-contents_of.contents) (g.D.Disk.world c.args.disk.now)
-      (g.D.Disk.world c.contents_of.new.disk) (g.D.Disk.world c.write_image.new.disk) _ _ _ c.output_at-output.ensures
-      (c.in-Ok-contents_of.ensures.fills.keeps t).world (c.in-Ok-contents_of.ensures.fills.opened t)
-      (λ x e. packed_by (content_of g.D.At.Source.content) c.args.command.now (g.D.Disk.world c.args.disk.now) _
-      c.in-Ok-contents_of.contents x (c.in-Ok.ensures.known refl)
-      (given_kind _ _ _ _ _ c.in-Ok.ensures.kind c.in-Ok.ensures.given)
-      (c.in-Ok-contents_of.ensures.fills.kind ∙ c.in-Ok.ensures.kind) (c.in-Ok-contents_of.ensures.asked t)
-      c.in-Ok-contents_of.ensures.alone e)
-      (c.in-Err-write_image.ensures.left t);
-  inputs = λ t.
-      keeps_given c.args.command.now _ _ _ _ _ _ (c.in-Ok-contents_of.ensures.fills.keeps t).world
-      (opens_kind _ _ _ _ _ _ c.in-Ok.ensures.kind (c.in-Ok-contents_of.ensures.fills.opened t))
-      (c.in-Err-write_image.ensures.left t).others;
-  refused = λ t.
-      refuses_writing (content_of g.D.At.Source.content) c.args.command.now _ _ _ _ _ _ _ c.in-Ok-contents_of.contents
-      _ _ _ (c.in-Ok-contents_of.ensures.fills.keeps t).world
-      (opens_kind _ _ _ _ _ _ c.in-Ok.ensures.kind (c.in-Ok-contents_of.ensures.fills.opened t))
-      (given_kind _ _ _ _ _ c.in-Ok.ensures.kind c.in-Ok.ensures.given)
-      (c.in-Ok-contents_of.ensures.fills.kind ∙ c.in-Ok.ensures.kind) (c.in-Ok-contents_of.ensures.asked t)
-      (packs c.args.command.now _ _ _ _ _ _ _ (Unprinted c.args.report.now c.write_image.new.report)
-      c.output_at-output.ensures
-      (c.in-Ok-contents_of.ensures.fills.keeps t).world
-      (opens_kind _ _ _ _ _ _ c.in-Ok.ensures.kind (c.in-Ok-contents_of.ensures.fills.opened t))
-      (packed_by (content_of g.D.At.Source.content) c.args.command.now _ _ c.in-Ok-contents_of.contents _
-      (c.in-Ok.ensures.known refl) (given_kind _ _ _ _ _ c.in-Ok.ensures.kind c.in-Ok.ensures.given)
-      (c.in-Ok-contents_of.ensures.fills.kind ∙ c.in-Ok.ensures.kind) (c.in-Ok-contents_of.ensures.asked t)
-      c.in-Ok-contents_of.ensures.alone refl))
-      (c.in-Err-write_image.ensures.refused t);
-}
+returns-in-Err-write_image g c =
+    let opens = λ (t : IsTrue g.D.Disk.models).
+    opens_kind _ _ _ _ _ _ c.in-Ok.ensures.kind (c.in-Ok-contents_of.ensures.fills.opened t) in
+    let said = given_kind _ _ _ _ _ c.in-Ok.ensures.kind c.in-Ok.ensures.given in
+    let kind = c.in-Ok-contents_of.ensures.fills.kind ∙ c.in-Ok.ensures.kind in
+    record {
+      done = λ t. tt;
+      left = λ t.
+          left_behind _ _ _ _ g.D.Disk.is_over (IsPackedBy c.args.command.now (g.D.Disk.world c.args.disk.now))
+          (packed_image (content_of g.D.At.Source.content) c.in-Ok-contents_of.contents)
+          (g.D.Disk.world c.args.disk.now)
+          (g.D.Disk.world c.contents_of.new.disk) (g.D.Disk.world c.write_image.new.disk)
+          (g.D.Disk.held c.args.disk.now) (g.D.Disk.held c.contents_of.new.disk) (g.D.Disk.held c.write_image.new.disk)
+          c.output_at-output.ensures
+          (c.in-Ok-contents_of.ensures.fills.keeps t).world (c.in-Ok-contents_of.ensures.fills.opened t)
+          (λ x e. packed_by (content_of g.D.At.Source.content) c.args.command.now (g.D.Disk.world c.args.disk.now) _
+          c.in-Ok-contents_of.contents x (c.in-Ok.ensures.known refl)
+          said kind (c.in-Ok-contents_of.ensures.asked t)
+          c.in-Ok-contents_of.ensures.alone e)
+          (c.in-Err-write_image.ensures.left t);
+      inputs = λ t.
+          keeps_given c.args.command.now _ _ _ _ _ _ (c.in-Ok-contents_of.ensures.fills.keeps t).world
+          (opens t)
+          (c.in-Err-write_image.ensures.left t).others;
+      refused = λ t.
+          refuses_writing (content_of g.D.At.Source.content) c.args.command.now _ _ _ _ _ _ _
+          c.in-Ok-contents_of.contents
+          _ _ _ (c.in-Ok-contents_of.ensures.fills.keeps t).world
+          (opens t)
+          said kind (c.in-Ok-contents_of.ensures.asked t)
+          (packs c.args.command.now _ _ _ _ _ _ _ (Unprinted c.args.report.now c.write_image.new.report)
+          c.output_at-output.ensures
+          (c.in-Ok-contents_of.ensures.fills.keeps t).world
+          (opens t)
+          (packed_by (content_of g.D.At.Source.content) c.args.command.now _ _ c.in-Ok-contents_of.contents _
+          (c.in-Ok.ensures.known refl) said
+          kind (c.in-Ok-contents_of.ensures.asked t)
+          c.in-Ok-contents_of.ensures.alone refl))
+          (c.in-Err-write_image.ensures.refused t);
+    }
 
 -- all is done
 
 pub returns-in-Ok-write_image : goal.returns-in-Ok-write_image
-returns-in-Ok-write_image g c = record {
-  done = λ t.
-      packs c.args.command.now _ _ _ _ _ _ _ _ c.output_at-output.ensures
-      (c.in-Ok-contents_of.ensures.fills.keeps t).world
-      (opens_kind _ _ _ _ _ _ c.in-Ok.ensures.kind (c.in-Ok-contents_of.ensures.fills.opened t))
-      (packed_by (content_of g.D.At.Source.content) c.args.command.now _ _ c.in-Ok-contents_of.contents _
-      (c.in-Ok.ensures.known refl) (given_kind _ _ _ _ _ c.in-Ok.ensures.kind c.in-Ok.ensures.given)
-      (c.in-Ok-contents_of.ensures.fills.kind ∙ c.in-Ok.ensures.kind) (c.in-Ok-contents_of.ensures.asked t)
-      c.in-Ok-contents_of.ensures.alone refl)
-      (lays_beside g.D.Disk.on_output _ _ _ _ _ _ c.args.report.now c.write_image.new.report c.output_at-output.ensures
-      (c.in-Ok-write_image.ensures.done t));
-  left = λ t.
-      left_behind _ _ _ _ g.D.Disk.is_over (IsPackedBy c.args.command.now (g.D.Disk.world c.args.disk.now))
-      (packed_image (content_of g.D.At.Source.content) c.in-Ok-contents_of.contents) (g.D.Disk.world c.args.disk.now)
-      (g.D.Disk.world c.contents_of.new.disk) (g.D.Disk.world c.write_image.new.disk) _ _ _ c.output_at-output.ensures
-      (c.in-Ok-contents_of.ensures.fills.keeps t).world (c.in-Ok-contents_of.ensures.fills.opened t)
-      (λ x e. packed_by (content_of g.D.At.Source.content) c.args.command.now (g.D.Disk.world c.args.disk.now) _
-      c.in-Ok-contents_of.contents x (c.in-Ok.ensures.known refl)
-      (given_kind _ _ _ _ _ c.in-Ok.ensures.kind c.in-Ok.ensures.given)
-      (c.in-Ok-contents_of.ensures.fills.kind ∙ c.in-Ok.ensures.kind) (c.in-Ok-contents_of.ensures.asked t)
-      c.in-Ok-contents_of.ensures.alone e)
-      (c.in-Ok-write_image.ensures.left t);
-  inputs = λ t.
-      keeps_given c.args.command.now _ _ _ _ _ _ (c.in-Ok-contents_of.ensures.fills.keeps t).world
-      (opens_kind _ _ _ _ _ _ c.in-Ok.ensures.kind (c.in-Ok-contents_of.ensures.fills.opened t))
-      (c.in-Ok-write_image.ensures.left t).others;
-  refused = λ t. tt;
-}
+returns-in-Ok-write_image g c =
+    let opens = λ (t : IsTrue g.D.Disk.models).
+    opens_kind _ _ _ _ _ _ c.in-Ok.ensures.kind (c.in-Ok-contents_of.ensures.fills.opened t) in
+    let said = given_kind _ _ _ _ _ c.in-Ok.ensures.kind c.in-Ok.ensures.given in
+    let kind = c.in-Ok-contents_of.ensures.fills.kind ∙ c.in-Ok.ensures.kind in
+    record {
+      done = λ t.
+          packs c.args.command.now _ _ _ _ _ _ _ _ c.output_at-output.ensures
+          (c.in-Ok-contents_of.ensures.fills.keeps t).world
+          (opens t)
+          (packed_by (content_of g.D.At.Source.content) c.args.command.now _ _ c.in-Ok-contents_of.contents _
+          (c.in-Ok.ensures.known refl) said
+          kind (c.in-Ok-contents_of.ensures.asked t)
+          c.in-Ok-contents_of.ensures.alone refl)
+          (lays_beside g.D.Disk.on_output _ _ _ _ _ _ c.args.report.now c.write_image.new.report
+          c.output_at-output.ensures
+          (c.in-Ok-write_image.ensures.done t));
+      left = λ t.
+          left_behind _ _ _ _ g.D.Disk.is_over (IsPackedBy c.args.command.now (g.D.Disk.world c.args.disk.now))
+          (packed_image (content_of g.D.At.Source.content) c.in-Ok-contents_of.contents)
+          (g.D.Disk.world c.args.disk.now)
+          (g.D.Disk.world c.contents_of.new.disk) (g.D.Disk.world c.write_image.new.disk)
+          (g.D.Disk.held c.args.disk.now) (g.D.Disk.held c.contents_of.new.disk) (g.D.Disk.held c.write_image.new.disk)
+          c.output_at-output.ensures
+          (c.in-Ok-contents_of.ensures.fills.keeps t).world (c.in-Ok-contents_of.ensures.fills.opened t)
+          (λ x e. packed_by (content_of g.D.At.Source.content) c.args.command.now (g.D.Disk.world c.args.disk.now) _
+          c.in-Ok-contents_of.contents x (c.in-Ok.ensures.known refl)
+          said kind (c.in-Ok-contents_of.ensures.asked t)
+          c.in-Ok-contents_of.ensures.alone e)
+          (c.in-Ok-write_image.ensures.left t);
+      inputs = λ t.
+          keeps_given c.args.command.now _ _ _ _ _ _ (c.in-Ok-contents_of.ensures.fills.keeps t).world
+          (opens t)
+          (c.in-Ok-write_image.ensures.left t).others;
+      refused = λ t. tt;
+    }

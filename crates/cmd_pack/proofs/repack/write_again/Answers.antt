@@ -1,4 +1,5 @@
 use Rattle.std.proofs.Common.{◌∙◌, refl}
+use Rattle.std.specs.Prelude.{IsTrue}
 use Rattle.sys_refusals.specs.Paths.{output_path}
 use Rattle.sys_report.specs.Shows.{ShowsBeside, Unprinted}
 use Rattle.cmd_pack_outputs.specs.Contents.{packing_of}
@@ -42,65 +43,48 @@ write_image-requires-clause-one g c = λ t.
 
 -- it is written
 pub returns-in-Ok-write_image : goal.returns-in-Ok-write_image
-returns-in-Ok-write_image g c = record {
-  done = λ t.
-      packs_again c.args.command.now _ _ _ _ _ _ _ _
-      (ready c.args.command.now _ _ _ _ _ _ c.args.kind _ _ _ (packing_of (content_of g.D.At.Source.content)
-      c.in-Ok-contents_of.contents) _ c.requires.own.kind c.in-Ok-contents_of.ensures.fills.kind
-      (c.in-Ok-contents_of.ensures.fills.keeps t).world (c.in-Ok-contents_of.ensures.fills.opened t)
-      c.own_fields-own_fields.ensures
-      c.in-Ok.ensures.given (c.in-Ok-contents_of.ensures.asked t) (c.in-Ok-contents_of.ensures.behind t)) _ _
-      (ShowsBeside (g.D.Disk.on_output (output_path c.args.command.now.output.now)) c.args.report.now
-      c.write_image.new.report) c.output_at-output.ensures
-      (lays_beside g.D.Disk.on_output _ _ _ _ _ _ c.args.report.now c.write_image.new.report c.output_at-output.ensures
-      (c.in-Ok-write_image.ensures.done t));
-  left = λ t.
-      left_again c.args.command.now _ _ _ _ _ _ _ _
-      (ready c.args.command.now _ _ _ _ _ _ c.args.kind _ _ _ (packing_of (content_of g.D.At.Source.content)
-      c.in-Ok-contents_of.contents) _ c.requires.own.kind c.in-Ok-contents_of.ensures.fills.kind
-      (c.in-Ok-contents_of.ensures.fills.keeps t).world (c.in-Ok-contents_of.ensures.fills.opened t)
-      c.own_fields-own_fields.ensures
-      c.in-Ok.ensures.given (c.in-Ok-contents_of.ensures.asked t) (c.in-Ok-contents_of.ensures.behind t))
-      _ (g.D.Disk.world c.write_image.new.disk) (g.D.Disk.held c.write_image.new.disk) _ g.D.Disk.is_over
-      c.output_at-output.ensures (c.in-Ok-write_image.ensures.left t);
-  given = λ t.
-      keeps_again c.args.command.now _ _ _ _ _ _ _ _
-      (ready c.args.command.now _ _ _ _ _ _ c.args.kind _ _ _ (packing_of (content_of g.D.At.Source.content)
-      c.in-Ok-contents_of.contents) _ c.requires.own.kind c.in-Ok-contents_of.ensures.fills.kind
-      (c.in-Ok-contents_of.ensures.fills.keeps t).world (c.in-Ok-contents_of.ensures.fills.opened t)
-      c.own_fields-own_fields.ensures
-      c.in-Ok.ensures.given (c.in-Ok-contents_of.ensures.asked t) (c.in-Ok-contents_of.ensures.behind t)) _ _
-      (c.in-Ok-write_image.ensures.left t).others;
-  refused = λ t. tt;
-}
+returns-in-Ok-write_image g c =
+    let hand = λ (t : IsTrue g.D.Disk.models). ready c.args.command.now _ _ _ _ _ _ c.args.kind _ _ _
+    (packing_of (content_of g.D.At.Source.content) c.in-Ok-contents_of.contents) _ c.requires.own.kind
+    c.in-Ok-contents_of.ensures.fills.kind (c.in-Ok-contents_of.ensures.fills.keeps t).world
+    (c.in-Ok-contents_of.ensures.fills.opened t) c.own_fields-own_fields.ensures c.in-Ok.ensures.given
+    (c.in-Ok-contents_of.ensures.asked t) (c.in-Ok-contents_of.ensures.behind t) in
+    record {
+      done = λ t.
+          packs_again c.args.command.now _ _ _ _ _ _ _ _ (hand t) _ _
+          (ShowsBeside (g.D.Disk.on_output (output_path c.args.command.now.output.now)) c.args.report.now
+          c.write_image.new.report) c.output_at-output.ensures
+          (lays_beside g.D.Disk.on_output _ _ _ _ _ _ c.args.report.now c.write_image.new.report
+          c.output_at-output.ensures
+          (c.in-Ok-write_image.ensures.done t));
+      left = λ t.
+          left_again c.args.command.now _ _ _ _ _ _ _ _ (hand t) _
+          (g.D.Disk.world c.write_image.new.disk) (g.D.Disk.held c.write_image.new.disk) _ g.D.Disk.is_over
+          c.output_at-output.ensures (c.in-Ok-write_image.ensures.left t);
+      given = λ t.
+          keeps_again c.args.command.now _ _ _ _ _ _ _ _ (hand t) _ _
+          (c.in-Ok-write_image.ensures.left t).others;
+      refused = λ t. tt;
+    }
 
 pub returns-in-Err-write_image : goal.returns-in-Err-write_image
-returns-in-Err-write_image g c = record {
-  done = λ t. tt;
-  left = λ t.
-      left_again c.args.command.now _ _ _ _ _ _ _ _
-      (ready c.args.command.now _ _ _ _ _ _ c.args.kind _ _ _ (packing_of (content_of g.D.At.Source.content)
-      c.in-Ok-contents_of.contents) _ c.requires.own.kind c.in-Ok-contents_of.ensures.fills.kind
-      (c.in-Ok-contents_of.ensures.fills.keeps t).world (c.in-Ok-contents_of.ensures.fills.opened t)
-      c.own_fields-own_fields.ensures
-      c.in-Ok.ensures.given (c.in-Ok-contents_of.ensures.asked t) (c.in-Ok-contents_of.ensures.behind t))
-      _ (g.D.Disk.world c.write_image.new.disk) (g.D.Disk.held c.write_image.new.disk) _ g.D.Disk.is_over
-      c.output_at-output.ensures (c.in-Err-write_image.ensures.left t);
-  given = λ t.
-      keeps_again c.args.command.now _ _ _ _ _ _ _ _
-      (ready c.args.command.now _ _ _ _ _ _ c.args.kind _ _ _ (packing_of (content_of g.D.At.Source.content)
-      c.in-Ok-contents_of.contents) _ c.requires.own.kind c.in-Ok-contents_of.ensures.fills.kind
-      (c.in-Ok-contents_of.ensures.fills.keeps t).world (c.in-Ok-contents_of.ensures.fills.opened t)
-      c.own_fields-own_fields.ensures
-      c.in-Ok.ensures.given (c.in-Ok-contents_of.ensures.asked t) (c.in-Ok-contents_of.ensures.behind t)) _ _
-      (c.in-Err-write_image.ensures.left t).others;
-  refused = λ t.
-      writing_stops c.args.command.now _ _ _ _ _ _ _ _
-      (ready c.args.command.now _ _ _ _ _ _ c.args.kind _ _ _ (packing_of (content_of g.D.At.Source.content)
-      c.in-Ok-contents_of.contents) _ c.requires.own.kind c.in-Ok-contents_of.ensures.fills.kind
-      (c.in-Ok-contents_of.ensures.fills.keeps t).world (c.in-Ok-contents_of.ensures.fills.opened t)
-      c.own_fields-own_fields.ensures
-      c.in-Ok.ensures.given (c.in-Ok-contents_of.ensures.asked t) (c.in-Ok-contents_of.ensures.behind t)) _ _ _
-      (Unprinted c.args.report.now c.write_image.new.report) _ c.output_at-output.ensures
-      (c.in-Err-write_image.ensures.refused t);
-}
+returns-in-Err-write_image g c =
+    let hand = λ (t : IsTrue g.D.Disk.models). ready c.args.command.now _ _ _ _ _ _ c.args.kind _ _ _
+    (packing_of (content_of g.D.At.Source.content) c.in-Ok-contents_of.contents) _ c.requires.own.kind
+    c.in-Ok-contents_of.ensures.fills.kind (c.in-Ok-contents_of.ensures.fills.keeps t).world
+    (c.in-Ok-contents_of.ensures.fills.opened t) c.own_fields-own_fields.ensures c.in-Ok.ensures.given
+    (c.in-Ok-contents_of.ensures.asked t) (c.in-Ok-contents_of.ensures.behind t) in
+    record {
+      done = λ t. tt;
+      left = λ t.
+          left_again c.args.command.now _ _ _ _ _ _ _ _ (hand t) _
+          (g.D.Disk.world c.write_image.new.disk) (g.D.Disk.held c.write_image.new.disk) _ g.D.Disk.is_over
+          c.output_at-output.ensures (c.in-Err-write_image.ensures.left t);
+      given = λ t.
+          keeps_again c.args.command.now _ _ _ _ _ _ _ _ (hand t) _ _
+          (c.in-Err-write_image.ensures.left t).others;
+      refused = λ t.
+          writing_stops c.args.command.now _ _ _ _ _ _ _ _ (hand t) _ _ _
+          (Unprinted c.args.report.now c.write_image.new.report) _ c.output_at-output.ensures
+          (c.in-Err-write_image.ensures.refused t);
+    }
