@@ -12,25 +12,58 @@ use Rattle.cmd_pack.proofs.pack.contents_of.Goals as goal
 
 -- a part is not opened
 
-pub returns-in-Err-clause-refused : goal.returns-in-Err-clause-refused
-returns-in-Err-clause-refused g c = λ t.
-    filling_stops _ _ _ _ _ _ _ _ (c.in-Err.ensures.opens.refused t) c.into.ensures (λ p is. of_part is)
+pub returns-in-Err : goal.returns-in-Err
+returns-in-Err g c = record {
+  asked = λ t. tt;
+  alone = tt;
+  fills = record {
+    kind = tt;
+    nothing = tt;
+    unread = λ t. tt;
+    opened = λ t. tt;
+    keeps = c.in-Err.ensures.opens.keeps;
+  };
+  refused = λ t.
+      filling_stops _ _ _ _ _ _ _ _ (c.in-Err.ensures.opens.refused t) c.into.ensures (λ p is. of_part is);
+}
 
 -- a fragment is not
 
-pub returns-in-Err-open_fragments-clause-refused : goal.returns-in-Err-open_fragments-clause-refused
-returns-in-Err-open_fragments-clause-refused g c = λ t.
-    fragments_stop _ _ _ _ _ _ _ _ _ _ (c.in-Ok.ensures.opens.opened t)
-    (c.in-Err-open_fragments.ensures.opens.refused t)
-    c.into-in-Err-open_fragments.ensures
+pub returns-in-Err-open_fragments : goal.returns-in-Err-open_fragments
+returns-in-Err-open_fragments g c = record {
+  asked = λ t. tt;
+  alone = tt;
+  fills = record {
+    kind = tt;
+    nothing = tt;
+    unread = λ t. tt;
+    opened = λ t. tt;
+    keeps = λ t. only_then (c.in-Ok.ensures.opens.keeps t) (c.in-Err-open_fragments.ensures.opens.keeps t);
+  };
+  refused = λ t.
+      fragments_stop _ _ _ _ _ _ _ _ _ _ (c.in-Ok.ensures.opens.opened t)
+      (c.in-Err-open_fragments.ensures.opens.refused t)
+      c.into-in-Err-open_fragments.ensures;
+}
 
 -- a board id is wrong
 
-pub returns-clause-refused : goal.returns-clause-refused
-returns-clause-refused g c = λ t.
-    board_stops _ _ _ _ _ _ _ _ c.in-Err-with_board_ids.ensures.refused
-    (ap (map (λ (word : Bor (List ℕ)). word.now)) c.as_slice.ensures.value)
-    (fragments_counted _ _ _ _ (c.in-Ok-open_fragments.ensures.fragments t))
+pub returns : goal.returns
+returns g c = record {
+  asked = λ t. tt;
+  alone = tt;
+  fills = record {
+    kind = tt;
+    nothing = tt;
+    unread = λ t. tt;
+    opened = λ t. tt;
+    keeps = λ t. only_then (c.in-Ok.ensures.opens.keeps t) (c.in-Ok-open_fragments.ensures.opens.keeps t);
+  };
+  refused = λ t.
+      board_stops _ _ _ _ _ _ _ _ c.in-Err-with_board_ids.ensures.refused
+      (ap (map (λ (word : Bor (List ℕ)). word.now)) c.as_slice.ensures.value)
+      (fragments_counted _ _ _ _ (c.in-Ok-open_fragments.ensures.fragments t));
+}
 
 -- all is there
 

@@ -11,53 +11,56 @@ use Rattle.cmd_pack_outputs.proofs.Closes.{left_unopened}
 use Rattle.cmd_pack.proofs.repack.pack_again.Goals as goal
 
 -- the words are wrong, or the image could not be read
-pub returns-in-Err-clause-given : goal.returns-in-Err-clause-given
-returns-in-Err-clause-given g c = λ t.
-    stays_kept c.args.command.now _ _ _ (c.counted-fault.ensures.fails.world t)
-
-pub returns-in-Err-clause-left : goal.returns-in-Err-clause-left
-returns-in-Err-clause-left g c = λ t.
-    left_unopened _ _ _ _ _ _ _ _
-    (ap (λ k. k.output) (c.counted-fault.ensures.fails.held t) ∙ (c.requires.first t).output)
-    (c.counted-fault.ensures.fails.world t)
-
-pub returns-in-Err-clause-refused : goal.returns-in-Err-clause-refused
-returns-in-Err-clause-refused g c = λ t.
-    judging_refuses c.args.command.now _ _ _ _ _ _ _ _ _ _ c.in-Err.why _ (c.counted-fault.ensures.fails.world t)
-    c.of_header-kind.ensures (c.of_own.ensures ∙ c.counted-fault.ensures.told) (c.counted-fault.ensures.fails.held t)
-    c.in-Err.ensures.reads.faults
-    (c.in-Err.ensures.refused (g.met.D.Disk.source_told t) (c.requires.opened (g.met.D.Disk.source_told t)))
+pub returns-in-Err : goal.returns-in-Err
+returns-in-Err g c = record {
+  done = λ t. tt;
+  clean = λ t. tt;
+  left = λ t.
+      left_unopened _ _ _ _ _ _ _ _
+      (ap (λ k. k.output) (c.counted-fault.ensures.fails.held t) ∙ (c.requires.first t).output)
+      (c.counted-fault.ensures.fails.world t);
+  given = λ t.
+      stays_kept c.args.command.now _ _ _ (c.counted-fault.ensures.fails.world t);
+  refused = λ t.
+      judging_refuses c.args.command.now _ _ _ _ _ _ _ _ _ _ c.in-Err.why _ (c.counted-fault.ensures.fails.world t)
+      c.of_header-kind.ensures (c.of_own.ensures ∙ c.counted-fault.ensures.told) (c.counted-fault.ensures.fails.held t)
+      c.in-Err.ensures.reads.faults
+      (c.in-Err.ensures.refused (g.met.D.Disk.source_told t) (c.requires.opened (g.met.D.Disk.source_told t)));
+}
 
 -- it is packed
-pub returns-in-Ok-write_again-clause-done : goal.returns-in-Ok-write_again-clause-done
-returns-in-Ok-write_again-clause-done g c = λ t.
-    content_done c.args.command.now _ _ _ _ _ _
-    (ShowsBeside (g.D.Disk.on_output (output_path c.args.command.now.output.now)) c.args.report.now
-    c.write_again.new.report)
-    (c.in-Ok.ensures.reads.content (g.met.D.Disk.source_told t)) (c.in-Ok-write_again.ensures.done t)
-
-pub returns-in-Ok-write_again-clause-clean : goal.returns-in-Ok-write_again-clause-clean
-returns-in-Ok-write_again-clause-clean g c = λ t.
-    nothing_more _ _ _ _ (c.in-Ok-write_again.ensures.left t).clean c.in-Ok.ensures.reads.clean
-
-pub returns-in-Ok-write_again-clause-left : goal.returns-in-Ok-write_again-clause-left
-returns-in-Ok-write_again-clause-left g c = λ t.
-    content_left _ c.args.command.now _ _ (view_of c.args.own.now.image.header) (g.D.Disk.world c.args.disk.now)
-    (output_path c.args.command.now.output.now) _ _ _ _ _ (c.in-Ok.ensures.reads.content (g.met.D.Disk.source_told t))
-    (left_told _ (c.in-Ok-write_again.ensures.left t))
+pub returns-in-Ok-write_again : goal.returns-in-Ok-write_again
+returns-in-Ok-write_again g c = record {
+  done = λ t.
+      content_done c.args.command.now _ _ _ _ _ _
+      (ShowsBeside (g.D.Disk.on_output (output_path c.args.command.now.output.now)) c.args.report.now
+      c.write_again.new.report)
+      (c.in-Ok.ensures.reads.content (g.met.D.Disk.source_told t)) (c.in-Ok-write_again.ensures.done t);
+  clean = λ t.
+      nothing_more _ _ _ _ (c.in-Ok-write_again.ensures.left t).clean c.in-Ok.ensures.reads.clean;
+  left = λ t.
+      content_left _ c.args.command.now _ _ (view_of c.args.own.now.image.header) (g.D.Disk.world c.args.disk.now)
+      (output_path c.args.command.now.output.now) _ _ _ _ _ (c.in-Ok.ensures.reads.content (g.met.D.Disk.source_told t))
+      (left_told _ (c.in-Ok-write_again.ensures.left t));
+  given = (c.in-Ok-write_again.ensures.given);
+  refused = λ t. tt;
+}
 
 -- it is not
-pub returns-clause-left : goal.returns-clause-left
-returns-clause-left g c = λ t.
-    content_left _ c.args.command.now _ _ (view_of c.args.own.now.image.header) (g.D.Disk.world c.args.disk.now)
-    (output_path c.args.command.now.output.now) _ _ _ _ _ (c.in-Ok.ensures.reads.content (g.met.D.Disk.source_told t))
-    (left_refused _ (c.in-Err-write_again.ensures.left t))
-
-pub returns-clause-refused : goal.returns-clause-refused
-returns-clause-refused g c = λ t.
-    content_refused c.args.command.now _ _ _ _ _ _ _ _ (Unprinted c.args.report.now c.write_again.new.report) _
-    (c.in-Ok.ensures.reads.content (g.met.D.Disk.source_told t)) (c.in-Err-write_again.ensures.refused t)
-    (λ failed. calls_failed _ _ _ _ c.in-Ok.ensures.reads.clean failed)
+pub returns : goal.returns
+returns g c = record {
+  done = λ t. tt;
+  clean = λ t. tt;
+  left = λ t.
+      content_left _ c.args.command.now _ _ (view_of c.args.own.now.image.header) (g.D.Disk.world c.args.disk.now)
+      (output_path c.args.command.now.output.now) _ _ _ _ _ (c.in-Ok.ensures.reads.content (g.met.D.Disk.source_told t))
+      (left_refused _ (c.in-Err-write_again.ensures.left t));
+  given = c.in-Err-write_again.ensures.given;
+  refused = λ t.
+      content_refused c.args.command.now _ _ _ _ _ _ _ _ (Unprinted c.args.report.now c.write_again.new.report) _
+      (c.in-Ok.ensures.reads.content (g.met.D.Disk.source_told t)) (c.in-Err-write_again.ensures.refused t)
+      (λ failed. calls_failed _ _ _ _ c.in-Ok.ensures.reads.clean failed);
+}
 
 pub write_again-requires-clause-own : goal.write_again-requires-clause-own
 write_again-requires-clause-own g c =

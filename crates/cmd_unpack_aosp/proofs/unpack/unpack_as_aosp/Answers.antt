@@ -1,4 +1,4 @@
-use Rattle.std.proofs.Common.{◌∙◌, sym, subst, inl}
+use Rattle.std.proofs.Common.{◌∙◌, sym, subst, inl, refl}
 use Rattle.sys_refusals.specs.Paths.{path_of}
 use Rattle.sys_disk.proofs.Amongs.{among_none}
 use Rattle.cmd_common_boot.proofs.Causes.{host_image, open_failed, opened, opened_as, opens_as, refuses_file}
@@ -11,125 +11,125 @@ use Rattle.cmd_unpack_aosp.proofs.Files.{only_files, taken_refused, unpack_refus
 use Rattle.cmd_unpack_aosp.proofs.unpack.unpack_as_aosp.Goals as goal
 
 -- IN could not be opened
-pub returns-in-Err-clause-only : goal.returns-in-Err-clause-only
-returns-in-Err-clause-only g c = λ t.
-    among_none _ _ _ _ _ 1 (c.requires.first t).begun (c.in-Err.ensures.kept t) (c.in-Err.ensures.world t)
-
-pub returns-in-Err-clause-keeps : goal.returns-in-Err-clause-keeps
-returns-in-Err-clause-keeps g c = record {
-  input = λ t. keeps_same _ _ _ (c.in-Err.ensures.world t);
-  clean = λ t. tt;
+pub returns-in-Err : goal.returns-in-Err
+returns-in-Err g c = record {
+  done = λ t. tt;
+  only = λ t.
+      among_none _ _ _ _ _ 1 (c.requires.first t).begun (c.in-Err.ensures.kept t) (c.in-Err.ensures.world t);
+  keeps = record {
+    input = λ t. keeps_same _ _ _ (c.in-Err.ensures.world t);
+    clean = λ t. tt;
+  };
+  refused = λ t.
+      inl (host_image (path_of c.args.input) (g.D.Disk.world c.args.disk.now) _ _ _ _ c.into.ensures
+      (source_failed _ _ (c.in-Err.ensures.kept t)));
+  quiet = refl;
 }
-
-pub returns-in-Err-clause-refused : goal.returns-in-Err-clause-refused
-returns-in-Err-clause-refused g c = λ t.
-    inl (host_image (path_of c.args.input) (g.D.Disk.world c.args.disk.now) _ _ _ _ c.into.ensures
-    (source_failed _ _ (c.in-Err.ensures.kept t)))
 
 -- it is no image
-pub returns-in-Err-open-clause-only : goal.returns-in-Err-open-clause-only
-returns-in-Err-open-clause-only g c = λ t.
-    only_opened _ _ _ _ _ _ _ _ _ (c.requires.first t).begun (c.in-Ok.ensures.opened t)
-    (c.let_go_source.ensures.world t ∙ c.in-Ok.ensures.world t) (c.let_go_source.ensures.held t)
-
-pub returns-in-Err-open-clause-keeps : goal.returns-in-Err-open-clause-keeps
-returns-in-Err-open-clause-keeps g c = record {
-  input = λ t.
-      keeps_same _ _ _ (c.let_go_source.ensures.world t ∙ c.in-Ok.ensures.world t);
-  clean = λ t. tt;
+pub returns-in-Err-open : goal.returns-in-Err-open
+returns-in-Err-open g c = record {
+  done = λ t. tt;
+  only = λ t.
+      only_opened _ _ _ _ _ _ _ _ _ (c.requires.first t).begun (c.in-Ok.ensures.opened t)
+      (c.let_go_source.ensures.world t ∙ c.in-Ok.ensures.world t) (c.let_go_source.ensures.held t);
+  keeps = record {
+    input = λ t.
+        keeps_same _ _ _ (c.let_go_source.ensures.world t ∙ c.in-Ok.ensures.world t);
+    clean = λ t. tt;
+  };
+  refused = λ t.
+      let told = g.met.D.Disk.source_told t in
+      inl (refuses_file _ _ _ _ _ _ _ _ _ _ (c.in-Ok.ensures.opened t)
+      (section_refused _ _ ⊥ _ _ c.refused_in.ensures
+      (opened c.in-Err-open.fault (g.D.At.Source.content c.in-Ok.device) _ _ _ c.in-Err-open.ensures.reads.cause
+      (c.in-Err-open.ensures.opens told)))
+      (λ failed. open_failed _ _ _ _ _ _ _ _ (c.in-Ok.ensures.opened t) (c.in-Ok.ensures.clean t)
+      (c.let_go_source.ensures.held t) failed)
+      (λ none. absurd none));
+  quiet = refl;
 }
-
-pub returns-in-Err-open-clause-refused : goal.returns-in-Err-open-clause-refused
-returns-in-Err-open-clause-refused g c = λ t.
-    let told = g.met.D.Disk.source_told t in
-    inl (refuses_file _ _ _ _ _ _ _ _ _ _ (c.in-Ok.ensures.opened t)
-    (section_refused _ _ ⊥ _ _ c.refused_in.ensures
-    (opened c.in-Err-open.fault (g.D.At.Source.content c.in-Ok.device) _ _ _ c.in-Err-open.ensures.reads.cause
-    (c.in-Err-open.ensures.opens told)))
-    (λ failed. open_failed _ _ _ _ _ _ _ _ (c.in-Ok.ensures.opened t) (c.in-Ok.ensures.clean t)
-    (c.let_go_source.ensures.held t) failed)
-    (λ none. absurd none))
 
 -- it is one of the files, or a fragment has no name
-pub returns-in-Err-refuse_taken-clause-only : goal.returns-in-Err-refuse_taken-clause-only
-returns-in-Err-refuse_taken-clause-only g c = λ t.
-    only_opened _ _ _ _ _ _ _ _ _ (c.requires.first t).begun (c.in-Ok.ensures.opened t)
-    (c.let_go_source-in-Err-refuse_taken.ensures.world t ∙ c.in-Err-refuse_taken.ensures.world t
-    ∙ c.in-Ok.ensures.world
-    t)
-    (twice _ _ _ _ _ (c.in-Err-refuse_taken.ensures.held t).1 (c.let_go_source-in-Err-refuse_taken.ensures.held t))
-
-pub returns-in-Err-refuse_taken-clause-keeps : goal.returns-in-Err-refuse_taken-clause-keeps
-returns-in-Err-refuse_taken-clause-keeps g c = record {
-  input = λ t.
-      keeps_same _ _ _ (c.let_go_source-in-Err-refuse_taken.ensures.world t ∙ c.in-Err-refuse_taken.ensures.world t
-      ∙ c.in-Ok.ensures.world t);
-  clean = λ t. tt;
+pub returns-in-Err-refuse_taken : goal.returns-in-Err-refuse_taken
+returns-in-Err-refuse_taken g c = record {
+  done = λ t. tt;
+  only = λ t.
+      only_opened _ _ _ _ _ _ _ _ _ (c.requires.first t).begun (c.in-Ok.ensures.opened t)
+      (c.let_go_source-in-Err-refuse_taken.ensures.world t ∙ c.in-Err-refuse_taken.ensures.world t
+      ∙ c.in-Ok.ensures.world
+      t)
+      (twice _ _ _ _ _ (c.in-Err-refuse_taken.ensures.held t).1 (c.let_go_source-in-Err-refuse_taken.ensures.held t));
+  keeps = record {
+    input = λ t.
+        keeps_same _ _ _ (c.let_go_source-in-Err-refuse_taken.ensures.world t ∙ c.in-Err-refuse_taken.ensures.world t
+        ∙ c.in-Ok.ensures.world t);
+    clean = λ t. tt;
+  };
+  refused = λ t.
+      taken_refused _ _ _ _ _ _ _ _ _ (c.in-Ok.ensures.opened t) (c.let_go_source-in-Err-refuse_taken.ensures.held t)
+      (c.in-Err-refuse_taken.ensures.refused t);
+  quiet = refl;
 }
 
-pub returns-in-Err-refuse_taken-clause-refused : goal.returns-in-Err-refuse_taken-clause-refused
-returns-in-Err-refuse_taken-clause-refused g c = λ t.
-    taken_refused _ _ _ _ _ _ _ _ _ (c.in-Ok.ensures.opened t) (c.let_go_source-in-Err-refuse_taken.ensures.held t)
-    (c.in-Err-refuse_taken.ensures.refused t)
-
 -- all parts are written
-pub returns-in-Ok-write_files-clause-done : goal.returns-in-Ok-write_files-clause-done
-returns-in-Ok-write_files-clause-done g c = λ t.
-    let told = g.met.D.Disk.source_told t in
-    let same = c.in-Ok-open.ensures.reads.only.content told in
-    subst (λ w. UnpacksAsAosp (path_of c.args.input) c.args.folder.now (g.D.Disk.world c.args.disk.now) w)
-    (sym (c.let_go_source-in-Ok-write_files.ensures.world t))
-    (unpacks_all _ _ _ _ _ _ _ _ _ (opens_as _ _ _ _ _ _ same (c.in-Ok.ensures.opened t))
-    (has_as _ _ c.in-Ok-open.image same (c.in-Ok-open.ensures.opens told))
-    (c.in-Ok-write_files.ensures.done t))
-
-pub returns-in-Ok-write_files-clause-only : goal.returns-in-Ok-write_files-clause-only
-returns-in-Ok-write_files-clause-only g c = λ t.
-    let told = g.met.D.Disk.source_told t in
-    only_files _ _ _ _ _ _ _ _ _ _ _ _ _ _ _ (c.requires.first t).begun (c.in-Ok.ensures.opened t)
-    (c.in-Ok-refuse_taken.ensures.world t ∙ c.in-Ok.ensures.world t) (c.in-Ok-open.ensures.opens told).has
-    (c.in-Ok-refuse_taken.ensures.clean t) (c.in-Ok-write_files.ensures.writes t).1.only
-    (c.let_go_source-in-Ok-write_files.ensures.held t) (c.let_go_source-in-Ok-write_files.ensures.world t)
-
-pub returns-in-Ok-write_files-clause-keeps : goal.returns-in-Ok-write_files-clause-keeps
-returns-in-Ok-write_files-clause-keeps g c = record {
-  input = λ t.
-      keeps_let_go _ _ _ _ _ _ _ _ _ _ _ _ _ _ (c.in-Ok.ensures.opened t)
-      (c.in-Ok-refuse_taken.ensures.world t ∙ c.in-Ok.ensures.world t)
+pub returns-in-Ok-write_files : goal.returns-in-Ok-write_files
+returns-in-Ok-write_files g c = record {
+  done = λ t.
+      let told = g.met.D.Disk.source_told t in
+      let same = c.in-Ok-open.ensures.reads.only.content told in
+      subst (λ w. UnpacksAsAosp (path_of c.args.input) c.args.folder.now (g.D.Disk.world c.args.disk.now) w)
+      (sym (c.let_go_source-in-Ok-write_files.ensures.world t))
+      (unpacks_all _ _ _ _ _ _ _ _ _ (opens_as _ _ _ _ _ _ same (c.in-Ok.ensures.opened t))
+      (has_as _ _ c.in-Ok-open.image same (c.in-Ok-open.ensures.opens told))
+      (c.in-Ok-write_files.ensures.done t));
+  only = λ t.
+      let told = g.met.D.Disk.source_told t in
+      only_files _ _ _ _ _ _ _ _ _ _ _ _ _ _ _ (c.requires.first t).begun (c.in-Ok.ensures.opened t)
+      (c.in-Ok-refuse_taken.ensures.world t ∙ c.in-Ok.ensures.world t) (c.in-Ok-open.ensures.opens told).has
       (c.in-Ok-refuse_taken.ensures.clean t) (c.in-Ok-write_files.ensures.writes t).1.only
       (c.let_go_source-in-Ok-write_files.ensures.held t) (c.let_go_source-in-Ok-write_files.ensures.world t);
-  clean = λ t.
-      clean_within _ _ _ _ _ _ _ _ _ _ _ (c.in-Ok.ensures.opened t) (c.in-Ok.ensures.clean t)
-      c.in-Ok-open.ensures.reads.only.clean
-      (c.in-Ok-refuse_taken.ensures.clean t) (c.in-Ok-write_files.ensures.writes t).1.clean
-      (c.let_go_source-in-Ok-write_files.ensures.held t);
+  keeps = record {
+    input = λ t.
+        keeps_let_go _ _ _ _ _ _ _ _ _ _ _ _ _ _ (c.in-Ok.ensures.opened t)
+        (c.in-Ok-refuse_taken.ensures.world t ∙ c.in-Ok.ensures.world t)
+        (c.in-Ok-refuse_taken.ensures.clean t) (c.in-Ok-write_files.ensures.writes t).1.only
+        (c.let_go_source-in-Ok-write_files.ensures.held t) (c.let_go_source-in-Ok-write_files.ensures.world t);
+    clean = λ t.
+        clean_within _ _ _ _ _ _ _ _ _ _ _ (c.in-Ok.ensures.opened t) (c.in-Ok.ensures.clean t)
+        c.in-Ok-open.ensures.reads.only.clean
+        (c.in-Ok-refuse_taken.ensures.clean t) (c.in-Ok-write_files.ensures.writes t).1.clean
+        (c.let_go_source-in-Ok-write_files.ensures.held t);
+  };
+  refused = λ t. tt;
+  quiet = refl;
 }
 
 -- one failed
-pub returns-in-Err-write_files-clause-only : goal.returns-in-Err-write_files-clause-only
-returns-in-Err-write_files-clause-only g c = λ t.
-    let told = g.met.D.Disk.source_told t in
-    only_files _ _ _ _ _ _ _ _ _ _ _ _ _ _ _ (c.requires.first t).begun (c.in-Ok.ensures.opened t)
-    (c.in-Ok-refuse_taken.ensures.world t ∙ c.in-Ok.ensures.world t) (c.in-Ok-open.ensures.opens told).has
-    (c.in-Ok-refuse_taken.ensures.clean t) (c.in-Err-write_files.ensures.writes t).1.only
-    (c.let_go_source-in-Err-write_files.ensures.held t) (c.let_go_source-in-Err-write_files.ensures.world t)
-
-pub returns-in-Err-write_files-clause-keeps : goal.returns-in-Err-write_files-clause-keeps
-returns-in-Err-write_files-clause-keeps g c = record {
-  input = λ t.
-      keeps_let_go _ _ _ _ _ _ _ _ _ _ _ _ _ _ (c.in-Ok.ensures.opened t)
-      (c.in-Ok-refuse_taken.ensures.world t ∙ c.in-Ok.ensures.world t)
+pub returns-in-Err-write_files : goal.returns-in-Err-write_files
+returns-in-Err-write_files g c = record {
+  done = λ t. tt;
+  only = λ t.
+      let told = g.met.D.Disk.source_told t in
+      only_files _ _ _ _ _ _ _ _ _ _ _ _ _ _ _ (c.requires.first t).begun (c.in-Ok.ensures.opened t)
+      (c.in-Ok-refuse_taken.ensures.world t ∙ c.in-Ok.ensures.world t) (c.in-Ok-open.ensures.opens told).has
       (c.in-Ok-refuse_taken.ensures.clean t) (c.in-Err-write_files.ensures.writes t).1.only
       (c.let_go_source-in-Err-write_files.ensures.held t) (c.let_go_source-in-Err-write_files.ensures.world t);
-  clean = λ t. tt;
+  keeps = record {
+    input = λ t.
+        keeps_let_go _ _ _ _ _ _ _ _ _ _ _ _ _ _ (c.in-Ok.ensures.opened t)
+        (c.in-Ok-refuse_taken.ensures.world t ∙ c.in-Ok.ensures.world t)
+        (c.in-Ok-refuse_taken.ensures.clean t) (c.in-Err-write_files.ensures.writes t).1.only
+        (c.let_go_source-in-Err-write_files.ensures.held t) (c.let_go_source-in-Err-write_files.ensures.world t);
+    clean = λ t. tt;
+  };
+  refused = λ t.
+      let told = g.met.D.Disk.source_told t in
+      let same = c.in-Ok-open.ensures.reads.only.content told in
+      unpack_refused _ _ _ _ _ _ _ _ (opens_as _ _ _ _ _ _ same (c.in-Ok.ensures.opened t))
+      (c.in-Err-write_files.ensures.refused t (opened_as _ _ c.in-Ok-open.image same (c.in-Ok-open.ensures.opens told)))
+      (λ failed. failed_within _ _ _ _ _ _ _ _ _ _ _ (c.in-Ok.ensures.opened t) (c.in-Ok.ensures.clean t)
+      c.in-Ok-open.ensures.reads.only.clean (c.in-Ok-refuse_taken.ensures.clean t) failed
+      (c.let_go_source-in-Err-write_files.ensures.held t));
+  quiet = refl;
 }
-
-pub returns-in-Err-write_files-clause-refused : goal.returns-in-Err-write_files-clause-refused
-returns-in-Err-write_files-clause-refused g c = λ t.
-    let told = g.met.D.Disk.source_told t in
-    let same = c.in-Ok-open.ensures.reads.only.content told in
-    unpack_refused _ _ _ _ _ _ _ _ (opens_as _ _ _ _ _ _ same (c.in-Ok.ensures.opened t))
-    (c.in-Err-write_files.ensures.refused t (opened_as _ _ c.in-Ok-open.image same (c.in-Ok-open.ensures.opens told)))
-    (λ failed. failed_within _ _ _ _ _ _ _ _ _ _ _ (c.in-Ok.ensures.opened t) (c.in-Ok.ensures.clean t)
-    c.in-Ok-open.ensures.reads.only.clean (c.in-Ok-refuse_taken.ensures.clean t) failed
-    (c.let_go_source-in-Err-write_files.ensures.held t))

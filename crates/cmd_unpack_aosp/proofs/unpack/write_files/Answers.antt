@@ -17,22 +17,24 @@ loop-i-preserved g c = λ t.
       files_more _ _ _ _ _ _ _ _ _ i.0.1.content e.keeps i.1 (c.in-Ok.ensures.done t),
     )
 
-pub returns-in-Err-clause-writes : goal.returns-in-Err-clause-writes
-returns-in-Err-clause-writes g c = λ t. (
-  0,
-  stop_then (parts_more refl path_any (c.loop-i.invariant t).0.1) (stop_more path_any
-      (c.in-Err.ensures.writes t).1),
-)
+pub returns-in-Err : goal.returns-in-Err
+returns-in-Err g c = record {
+  writes = λ t. (
+    0,
+    stop_then (parts_more refl path_any (c.loop-i.invariant t).0.1) (stop_more path_any
+        (c.in-Err.ensures.writes t).1),
+  );
+  done = λ t. tt;
+  refused = λ t opened.
+      let i = c.loop-i.invariant t in
+      part_more _ _ _ _ c.in-Err.refusal.fault i.0.1.content
+      (c.in-Err.ensures.refused t (subst (λ x. IsOpened x c.args.image.now) (sym i.0.1.content) opened))
+      (λ failed. some_then _ _ _ _ _ _ i.0.1.clean failed);
+}
 
-pub returns-in-Err-clause-refused : goal.returns-in-Err-clause-refused
-returns-in-Err-clause-refused g c = λ t opened.
-    let i = c.loop-i.invariant t in
-    part_more _ _ _ _ c.in-Err.refusal.fault i.0.1.content
-    (c.in-Err.ensures.refused t (subst (λ x. IsOpened x c.args.image.now) (sym i.0.1.content) opened))
-    (λ failed. some_then _ _ _ _ _ _ i.0.1.clean failed)
-
-pub returns-clause-done : goal.returns-clause-done
-returns-clause-done g c = λ t k below. (c.loop-i.invariant t).1 k (search (rules, arith))
-
-pub returns-clause-writes : goal.returns-clause-writes
-returns-clause-writes g c = λ t. ((c.loop-i.invariant t).0.0, parts_more refl path_any (c.loop-i.invariant t).0.1)
+pub returns : goal.returns
+returns g c = record {
+  writes = λ t. ((c.loop-i.invariant t).0.0, parts_more refl path_any (c.loop-i.invariant t).0.1);
+  done = λ t k below. (c.loop-i.invariant t).1 k (search (rules, arith));
+  refused = λ t opened. tt;
+}

@@ -10,80 +10,84 @@ use Rattle.cmd_unpack_aosp.proofs.Files.{file_done, file_named, in_count, no_fil
 use Rattle.cmd_unpack_aosp.proofs.write_part.write_section.Goals as goal
 
 -- it has no file
-pub returns-in-None-clause-writes : goal.returns-in-None-clause-writes
-returns-in-None-clause-writes g c = λ t. (0, parts_more refl (λ p named. named) (parts_none (c.requires.one t)))
-
-pub returns-in-None-clause-done : goal.returns-in-None-clause-done
-returns-in-None-clause-done g c = λ t.
-    no_file c.args.folder.now (view_of c.args.image.now.header) (g.D.At.Source.content c.args.source.now) c.args.i
-    (g.D.Disk.held c.args.disk.now) (g.D.Disk.world c.args.disk.now)
-    (section_name_at _ c.args.i c.section.result c.requires.there c.section.ensures.value
-    ∙ ap (λ b. name_of_section b c.section.result) (sym c.has_table.ensures) ∙ sym c.section_file.ensures
-    ∙ ap (option_map (λ n. n.now)) c.in-None.is)
+pub returns-in-None : goal.returns-in-None
+returns-in-None g c = record {
+  writes = λ t. (0, parts_more refl (λ p named. named) (parts_none (c.requires.one t)));
+  done = λ t.
+      no_file c.args.folder.now (view_of c.args.image.now.header) (g.D.At.Source.content c.args.source.now) c.args.i
+      (g.D.Disk.held c.args.disk.now) (g.D.Disk.world c.args.disk.now)
+      (section_name_at _ c.args.i c.section.result c.requires.there c.section.ensures.value
+      ∙ ap (λ b. name_of_section b c.section.result) (sym c.has_table.ensures) ∙ sym c.section_file.ensures
+      ∙ ap (option_map (λ n. n.now)) c.in-None.is);
+  refused = λ t opened. tt;
+}
 
 -- it could not be created
-pub returns-in-Err-clause-writes : goal.returns-in-Err-clause-writes
-returns-in-Err-clause-writes g c = λ t. (
-  0,
-  part_refused (file_named _ _ c.args.i c.in-Some.name.now _ (in_count _ c.args.i c.requires.there)
-      (section_name_at _ c.args.i c.section.result c.requires.there
-      c.section.ensures.value ∙ ap (λ b. name_of_section b c.section.result) (sym c.has_table.ensures)
-      ∙ sym c.section_file.ensures ∙ ap (option_map (λ n. n.now)) c.in-Some.is)
-      c.place_in-place.ensures) (c.requires.one t)
-      (c.in-Err.ensures.kept t) (c.in-Err.ensures.only t) (c.in-Err.ensures.begun t),
-)
-
-pub returns-in-Err-clause-refused : goal.returns-in-Err-clause-refused
-returns-in-Err-clause-refused g c = λ t opened.
-    inl (host_refused _ _ _ _ _ c.into.ensures (none_created _ _ _ (c.in-Err.ensures.kept t)))
+pub returns-in-Err : goal.returns-in-Err
+returns-in-Err g c = record {
+  writes = λ t. (
+    0,
+    part_refused (file_named _ _ c.args.i c.in-Some.name.now _ (in_count _ c.args.i c.requires.there)
+        (section_name_at _ c.args.i c.section.result c.requires.there
+        c.section.ensures.value ∙ ap (λ b. name_of_section b c.section.result) (sym c.has_table.ensures)
+        ∙ sym c.section_file.ensures ∙ ap (option_map (λ n. n.now)) c.in-Some.is)
+        c.place_in-place.ensures) (c.requires.one t)
+        (c.in-Err.ensures.kept t) (c.in-Err.ensures.only t) (c.in-Err.ensures.begun t),
+  );
+  done = λ t. tt;
+  refused = λ t opened.
+      inl (host_refused _ _ _ _ _ c.into.ensures (none_created _ _ _ (c.in-Err.ensures.kept t)));
+}
 
 -- it was written
-pub returns-in-Ok-finish-clause-writes : goal.returns-in-Ok-finish-clause-writes
-returns-in-Ok-finish-clause-writes g c = λ t.
-    let copies = c.copy_section-onto.ensures.copies c.section.result c.section.ensures.value in
-    let done = c.in-Ok-finish.ensures.done in (
-      1,
-      part_written (file_named _ _ c.args.i c.in-Some.name.now _ (in_count _ c.args.i c.requires.there)
-          (section_name_at _ c.args.i c.section.result c.requires.there
-          c.section.ensures.value ∙ ap (λ b. name_of_section b c.section.result) (sym c.has_table.ensures)
-          ∙ sym c.section_file.ensures ∙ ap (option_map (λ n. n.now)) c.in-Some.is)
-          c.place_in-place.ensures)
-          (c.in-Ok.ensures.created t) (c.in-Ok-finish.ensures.ends.rest t) _ _ (c.in-Ok-finish.ensures.clean t)
-          (ok_gives _ _ done (copies.content (g.met.D.Disk.source_told t))) (c.in-Ok.ensures.clean t)
-          (ok_gives _ _ done copies.clean),
-    )
-
-pub returns-in-Ok-finish-clause-done : goal.returns-in-Ok-finish-clause-done
-returns-in-Ok-finish-clause-done g c = λ t.
-    let copies = c.copy_section-onto.ensures.copies c.section.result c.section.ensures.value in
-    file_done _ _ _ c.args.i _ _ c.in-Some.name.now _ (section_name_at _ c.args.i c.section.result c.requires.there
-    c.section.ensures.value ∙ ap (λ b. name_of_section b c.section.result) (sym c.has_table.ensures)
-    ∙ sym c.section_file.ensures ∙ ap (option_map (λ n. n.now)) c.in-Some.is)
-    (section_bytes_at _ _ c.args.i c.section.result c.requires.there c.section.ensures.value)
-    (part_done _ _ _ _ _ true _ _ _ _ _ _ _ c.place_in-place.ensures c.in-Ok.ensures.empty
-    (ok_gives _ _ c.in-Ok-finish.ensures.done (copies.written (g.met.D.Disk.source_told t)))
-    (c.in-Ok.ensures.created t) (c.in-Ok-finish.ensures.clean t) (c.in-Ok-finish.ensures.ends.ended t))
-
--- or not
-pub returns-in-Err-finish-clause-writes : goal.returns-in-Err-finish-clause-writes
-returns-in-Err-finish-clause-writes g c = λ t. (
-  0,
-  part_broken (file_named _ _ c.args.i c.in-Some.name.now _ (in_count _ c.args.i c.requires.there)
-      (section_name_at _ c.args.i c.section.result c.requires.there
+pub returns-in-Ok-finish : goal.returns-in-Ok-finish
+returns-in-Ok-finish g c = record {
+  writes = λ t.
+      let copies = c.copy_section-onto.ensures.copies c.section.result c.section.ensures.value in
+      let done = c.in-Ok-finish.ensures.done in (
+        1,
+        part_written (file_named _ _ c.args.i c.in-Some.name.now _ (in_count _ c.args.i c.requires.there)
+            (section_name_at _ c.args.i c.section.result c.requires.there
+            c.section.ensures.value ∙ ap (λ b. name_of_section b c.section.result) (sym c.has_table.ensures)
+            ∙ sym c.section_file.ensures ∙ ap (option_map (λ n. n.now)) c.in-Some.is)
+            c.place_in-place.ensures)
+            (c.in-Ok.ensures.created t) (c.in-Ok-finish.ensures.ends.rest t) _ _ (c.in-Ok-finish.ensures.clean t)
+            (ok_gives _ _ done (copies.content (g.met.D.Disk.source_told t))) (c.in-Ok.ensures.clean t)
+            (ok_gives _ _ done copies.clean),
+      );
+  done = λ t.
+      let copies = c.copy_section-onto.ensures.copies c.section.result c.section.ensures.value in
+      file_done _ _ _ c.args.i _ _ c.in-Some.name.now _ (section_name_at _ c.args.i c.section.result c.requires.there
       c.section.ensures.value ∙ ap (λ b. name_of_section b c.section.result) (sym c.has_table.ensures)
       ∙ sym c.section_file.ensures ∙ ap (option_map (λ n. n.now)) c.in-Some.is)
-      c.place_in-place.ensures)
-      (c.in-Ok.ensures.created t) (c.in-Err-finish.ensures.ends.rest t) (c.in-Err-finish.ensures.closed t),
-)
+      (section_bytes_at _ _ c.args.i c.section.result c.requires.there c.section.ensures.value)
+      (part_done _ _ _ _ _ true _ _ _ _ _ _ _ c.place_in-place.ensures c.in-Ok.ensures.empty
+      (ok_gives _ _ c.in-Ok-finish.ensures.done (copies.written (g.met.D.Disk.source_told t)))
+      (c.in-Ok.ensures.created t) (c.in-Ok-finish.ensures.clean t) (c.in-Ok-finish.ensures.ends.ended t));
+  refused = λ t opened. tt;
+}
 
-pub returns-in-Err-finish-clause-refused : goal.returns-in-Err-finish-clause-refused
-returns-in-Err-finish-clause-refused g c = λ t opened.
-    let copies = c.copy_section-onto.ensures.copies c.section.result c.section.ensures.value in
-    let told = g.met.D.Disk.source_told t in
-    inl (told_so _ (g.D.At.Source.content c.args.source.now) _ _ _ _ _ _ (c.in-Err-finish.ensures.told t)
-    (copies.refused told opened)
-    (λ done failed. end_failed _ _ _ _ _ _ _ _ _ _ (c.in-Ok.ensures.created t) (c.in-Ok.ensures.clean t)
-    (ok_gives _ _ done copies.clean) failed)
-    (λ failed. copy_failed _ _ _ _ _ _ _ _ _ _ (c.in-Ok.ensures.created t) (c.in-Ok.ensures.clean t)
-    (c.in-Err-finish.ensures.counts t) failed)
-    (λ done none. none))
+-- or not
+pub returns-in-Err-finish : goal.returns-in-Err-finish
+returns-in-Err-finish g c = record {
+  writes = λ t. (
+    0,
+    part_broken (file_named _ _ c.args.i c.in-Some.name.now _ (in_count _ c.args.i c.requires.there)
+        (section_name_at _ c.args.i c.section.result c.requires.there
+        c.section.ensures.value ∙ ap (λ b. name_of_section b c.section.result) (sym c.has_table.ensures)
+        ∙ sym c.section_file.ensures ∙ ap (option_map (λ n. n.now)) c.in-Some.is)
+        c.place_in-place.ensures)
+        (c.in-Ok.ensures.created t) (c.in-Err-finish.ensures.ends.rest t) (c.in-Err-finish.ensures.closed t),
+  );
+  done = λ t. tt;
+  refused = λ t opened.
+      let copies = c.copy_section-onto.ensures.copies c.section.result c.section.ensures.value in
+      let told = g.met.D.Disk.source_told t in
+      inl (told_so _ (g.D.At.Source.content c.args.source.now) _ _ _ _ _ _ (c.in-Err-finish.ensures.told t)
+      (copies.refused told opened)
+      (λ done failed. end_failed _ _ _ _ _ _ _ _ _ _ (c.in-Ok.ensures.created t) (c.in-Ok.ensures.clean t)
+      (ok_gives _ _ done copies.clean) failed)
+      (λ failed. copy_failed _ _ _ _ _ _ _ _ _ _ (c.in-Ok.ensures.created t) (c.in-Ok.ensures.clean t)
+      (c.in-Err-finish.ensures.counts t) failed)
+      (λ done none. none));
+}
