@@ -56,6 +56,8 @@ returns-clause-part g c =
         most = omega (arith, e.bytes.all, p.most);
         all = on_ok_then r (λ all. omega (arith, e.bytes.all, all)) p.all;
       };
-      lasting = on_ok r (omega (arith, c.length.ensures.size, c.if-length-size.false),
-          omega (arith, c.length-last.ensures.size, c.if-last-size.false));
+      lasting = on_ok r (
+        omega (arith, c.length.ensures.size, c.if-length-size.false),
+        omega (arith, c.length-last.ensures.size, c.if-last-size.false),
+      );
     }
