@@ -11,7 +11,7 @@ use Rattle.abt_io.specs.declared.copying.CopyFault.{CopyFault}
 use Rattle.abt_io.specs.declared.copying.CopyFault.TheVariants as copies
 use Rattle.abt_sections.specs.declared.fault.SectionFault.{SectionFault}
 use Rattle.abt_sections.specs.declared.fault.SectionFault.TheVariants.{Read, Write, SourceChanged}
-use Rattle.abt_sections.specs.Cause.{MoveCause, copy_fault, full_handed, full_in_section_fault, total}
+use Rattle.abt_sections.specs.Cause.{MoveCause, copy_fault, full_in_section_fault, total}
 use Rattle.abt_sections.specs.Moves.{MovesAllUnless, MovesMoreUnless, MovesUnless, ReadsAllUnless, WritesAlone}
 use Rattle.abt_sections.specs.Reads.{ReadsUnless}
 use Rattle.abt_sections.proofs.Causes.{if_err_then, move_on, on_ok, part_move}

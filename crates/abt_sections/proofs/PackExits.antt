@@ -1,6 +1,6 @@
 -- The exits of packing a boot image, from what the calls say that refuse there.
-use Rattle.std.proofs.Common.{◌≡◌, ℕ, ◌+◌, ◌-◌, ◌++◌, ◌<◌, ◌≤◌, List, length, map, take, append-nil, refl, sym, ap, subst}
-use Rattle.std.proofs.Common.{◌∙◌, arith}
+use Rattle.std.proofs.Common.{◌≡◌, ℕ, ◌+◌, ◌-◌, ◌++◌, ◌≤◌, List, length, map, take, append-nil, refl, sym, ap}
+use Rattle.std.proofs.Common.{subst, ◌∙◌, arith}
 use Rattle.std.proofs.lemmas.List.{take_all}
 use Rattle.std.proofs.Common.{Option, Some, None, Result, Ok, Err, Bool}
 use Rattle.std.specs.Prelude.{IsTrue, IfErr, IfOk, OnOk}

@@ -49,7 +49,8 @@ returns-clause-part g c =
       written = λ models.
           let long : length x ≡ c.args.size = omega (arith, c.length.ensures.told models, c.if-length-size.false) in
           ok_padded r _ _ _ x c.args.size c.args.page long (e.written models
-          ∙ ap (λ (l : List ℕ). g.O.Output.written c.args.output.now ++ l) (take_all c.args.size x (omega (arith, long))))
+          ∙ ap (λ (l : List ℕ). g.O.Output.written c.args.output.now ++ l)
+          (take_all c.args.size x (omega (arith, long))))
           p.appends.written;
       bytes = record {
         grown = grows_on _ _ _ e.bytes.grown (grows_by _ _ _ p.appends.front) (omega (arith, e.bytes.all));
