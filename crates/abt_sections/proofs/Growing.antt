@@ -1,7 +1,7 @@
 -- What an output was given, write after write.
 use Rattle.std.proofs.Common.{◌≡◌, ℕ, ◌+◌, ◌-◌, ◌≤◌, List, ◌++◌, length, take, refl, sym, ap, ◌∙◌, append_assoc, arith}
 use Rattle.std.proofs.Common.{length-append, length-take, drop, take-append-drop}
-use Rattle.std.proofs.lemmas.List.{take-append-le, take_at, drop_at}
+use Rattle.std.proofs.lemmas.List.{take-append-le, take_all, take_at, drop_at}
 use Rattle.std.proofs.Math.Seq.{take-append-add}
 use Rattle.abt_io.proofs.Parts.{take_plus}
 use Rattle.abt_sections.specs.Grown.{AppendsFront, Grows}
@@ -50,6 +50,11 @@ grows_on a b c first then le =
     ∙ ap (λ (l : List ℕ). take (length a) (l ++ drop (length b) c)) then
     ∙ take-append-le (length a) b (drop (length b) c) le
     ∙ first
+
+-- all of x came
+pub begins_all : (a b x : List ℕ) → b ≡ a ++ x → AppendsFront a b x
+begins_all a b x e = e ∙ ap (λ (l : List ℕ). a ++ l)
+    (sym (take_all (length b - length a) x (omega (arith, ap length e, length-append a x))))
 
 pub grows_by : (a b x : List ℕ) → b ≡ a ++ x → Grows a b
 grows_by a b x e = ap (take (length a)) e ∙ take_at a x (length a) refl

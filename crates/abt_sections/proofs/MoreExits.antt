@@ -1,13 +1,17 @@
 -- What calls leave that are refused after others, or that others follow: sources that are read beside one another.
 use Rattle.std.proofs.Common.{ℕ, ◌+◌, ◌<◌, ◌≤◌, List, length, get_or, set, Ok, Err, Result, arith, subst, sym}
+use Rattle.std.proofs.Common.{◌≡◌, ◌∙◌, ap, refl}
 use Rattle.std.proofs.Math.Nat.{le_refl}
 use Rattle.abt_io.specs.Lent.{OnlyReads, OnlyReadsAll, OnlyWrites}
 use Rattle.abt_io.proofs.Lent.{reads_err, reads_none, writes_err, writes_none, writes_then}
 use Rattle.abt_io.specs.declared.device.Source as sources
 use Rattle.abt_io.specs.declared.device.Output as outputs
+use Rattle.abt_io.specs.Cause.{CopyCause, full_in_copy}
+use Rattle.abt_io.specs.declared.copying.CopyFault.{CopyFault}
+use Rattle.abt_io.specs.declared.copying.CopyFault.TheVariants as copies
 use Rattle.abt_sections.specs.declared.fault.SectionFault.{SectionFault}
 use Rattle.abt_sections.specs.declared.fault.SectionFault.TheVariants.{Read, Write, SourceChanged}
-use Rattle.abt_sections.specs.Cause.{MoveCause, full_handed, total}
+use Rattle.abt_sections.specs.Cause.{MoveCause, copy_fault, full_in_section_fault, total}
 use Rattle.abt_sections.specs.Moves.{MovesAllUnless, MovesMoreUnless, MovesUnless, ReadsAllUnless, WritesAlone}
 use Rattle.abt_sections.specs.Reads.{ReadsUnless}
 use Rattle.abt_sections.proofs.Causes.{if_err_then, move_on, on_ok, part_move}
@@ -194,3 +198,32 @@ all_moved_err {f = f} e = record {
   writes = writes_err f e.writes;
   cause = e.cause;
 }
+
+-- a copy is refused
+pub copy_refused : {X Y : Type 0} {A B : Type 0} {s : sources.Ghosts A} {o : outputs.Ghosts B} {a z : A} {p t : B}
+    {C D : Type 0} (k : CopyFault) → OnlyReads {X = X} (Err k) s a z
+    → OnlyWrites {X = X} (Err k) (full_in_copy k) o p t
+    → CopyCause k C (s.read_faults a) (s.read_faults z) (o.write_faults p) (o.write_faults t) → (C → D)
+    → MovesUnless {X = Y} (Err (copy_fault k)) s a z o p t D
+copy_refused {s = s} {o = o} {a = a} {z = z} {p = p} {t = t} {C = C} {D = D} k d e cause h = record {
+  reads = reads_err (copy_fault k) d;
+  writes = record {
+    least = e.least;
+    frame = e.frame;
+    faults = e.faults;
+    clean = tt;
+    full_faults = e.full_faults ∙ ap (λ (n : ℕ). o.full_faults p + n) (sym (copy_full k));
+  };
+  cause = copy_moves k (s.read_faults a) (s.read_faults z) (o.write_faults p) (o.write_faults t) h cause;
+}
+  where
+    copy_full : (k : CopyFault) → full_in_section_fault (copy_fault k) ≡ full_in_copy k
+    copy_full (copies.Read f) = refl
+    copy_full (copies.Write f) = refl
+    copy_full copies.Changed = refl
+
+    copy_moves : (k : CopyFault) (r r' w w' : ℕ) → (C → D) → CopyCause k C r r' w w'
+        → MoveCause (copy_fault k) r r' w w' D
+    copy_moves (copies.Read f) r r' w w' h x = x
+    copy_moves (copies.Write f) r r' w w' h x = x
+    copy_moves copies.Changed r r' w w' h x = h x

@@ -1,6 +1,6 @@
 -- The exits of packing a boot image, from what the calls say that refuse there.
-use Rattle.std.proofs.Common.{◌≡◌, ℕ, ◌+◌, ◌-◌, ◌++◌, ◌<◌, ◌≤◌, List, length, map, take, append-nil, refl, sym, ap, subst}
-use Rattle.std.proofs.Common.{◌∙◌, arith}
+use Rattle.std.proofs.Common.{◌≡◌, ℕ, ◌+◌, ◌-◌, ◌++◌, ◌≤◌, List, length, map, take, append-nil, refl, sym, ap}
+use Rattle.std.proofs.Common.{subst, ◌∙◌, arith}
 use Rattle.std.proofs.lemmas.List.{take_all}
 use Rattle.std.proofs.Common.{Option, Some, None, Result, Ok, Err, Bool}
 use Rattle.std.specs.Prelude.{IsTrue, IfErr, IfOk, OnOk}
@@ -220,25 +220,25 @@ pub packs_refused : {X : Type 0} {f : SectionFault} {A B : Type 0} {s : sources.
     → AppendsBoot r s a a' o b b' is_ended fields
 packs_refused {f = f} {s = s} {a = a} {a' = a'} {o = o} {b = b} {b' = b'} {C = C} is_ended fields r is none moves never
     most =
-        let t = total s.read_faults in
-        let w = o.write_faults in
-        subst (λ (q : Result Packed SectionFault). AppendsBoot q s a a' o b b' is_ended fields) (sym is) (record {
-          reads = record {
-            content = moves.reads.content;
-            size = moves.reads.size;
-            frame = moves.reads.frame;
-            faults = moves.reads.faults;
-            clean = tt;
-          };
-          writes = writes_err f moves.writes;
-          refused = not_refused (pack_boot_refusal fields (map s.size a))
-              (λ h. (◌≡◌ {A = Result Packed SectionFault} (Err f) (Err h)) × (b' ≡ b)) none;
-          written = λ models. tt;
-          most = most;
-          packed = tt;
-          lasting = tt;
-          cause = pack_moves (pack_boot_refusal fields (map s.size a)) f (t a) (t a') (w b) (w b')
-              (IsTrue s.models → ⊥) none
-              (move_on f (t a) (t a) (t a') (t a') (w b) (w b) (w b') (w b') C (IsTrue s.models → ⊥) (le_refl _)
-              (le_refl _) (le_refl _) (le_refl _) never moves.cause);
-        })
+    let t = total s.read_faults in
+    let w = o.write_faults in
+    subst (λ (q : Result Packed SectionFault). AppendsBoot q s a a' o b b' is_ended fields) (sym is) (record {
+      reads = record {
+        content = moves.reads.content;
+        size = moves.reads.size;
+        frame = moves.reads.frame;
+        faults = moves.reads.faults;
+        clean = tt;
+      };
+      writes = writes_err f moves.writes;
+      refused = not_refused (pack_boot_refusal fields (map s.size a))
+          (λ h. (◌≡◌ {A = Result Packed SectionFault} (Err f) (Err h)) × (b' ≡ b)) none;
+      written = λ models. tt;
+      most = most;
+      packed = tt;
+      lasting = tt;
+      cause = pack_moves (pack_boot_refusal fields (map s.size a)) f (t a) (t a') (w b) (w b')
+          (IsTrue s.models → ⊥) none
+          (move_on f (t a) (t a) (t a') (t a') (w b) (w b) (w b') (w b') C (IsTrue s.models → ⊥) (le_refl _)
+          (le_refl _) (le_refl _) (le_refl _) never moves.cause);
+    })

@@ -1,7 +1,7 @@
 -- Devices that are borrowed one after another, out of a slice.
-use Rattle.std.proofs.Common.{◌≡◌, ℕ, zero, suc, ◌+◌, ◌<◌, List, [], ◌∷◌, ◌++◌, length, take, map, get_or, set}
+use Rattle.std.proofs.Common.{◌≡◌, ℕ, zero, suc, ◌+◌, ◌<◌, ◌≤◌, List, [], ◌∷◌, ◌++◌, length, take, map, get_or, set}
 use Rattle.std.proofs.Common.{refl, sym, ap, ◌∙◌, arith, replicate, ◌-◌, Result, Ok}
-use Rattle.std.proofs.lemmas.List.{length-map, map-set, set-get_or, take_more, take_more_set, get_or_default}
+use Rattle.std.proofs.lemmas.List.{length-map, map-set, set-get_or, take_all, take_more, take_more_set, get_or_default}
 use Rattle.std.proofs.lemmas.List.{get_or_append_left}
 use Rattle.std.proofs.lemmas.List.Sums.{sum_by-set}
 use Rattle.abt_io.specs.Lent.{OnlyReads, OnlyReadsAll}
@@ -58,6 +58,12 @@ sizes_next f ps i s' sizes h k before here =
     ∙ ap (λ (l : List ℕ). l ++ (f s' ∷ [])) before
     ∙ ap (λ (n : ℕ). take i sizes ++ (n ∷ [])) here
     ∙ sym (take_more sizes i 0 k)
+
+-- and of all
+pub sizes_all : {S : Type 0} (f : S → ℕ) (ps : List S) (sizes : List ℕ) (i n : ℕ) → length ps ≤ i → i ≡ n
+    → take i (map f ps) ≡ take i sizes → map f ps ≡ take n sizes
+sizes_all f ps sizes i n over is before =
+    sym (take_all i (map f ps) (omega (arith, over, length-map ps f))) ∙ before ∙ ap (λ (k : ℕ). take k sizes) is
 
 -- one of them was read, after all of them were
 pub all_part : {X Y E F : Type 0} {y : Y} {r : Result X E} {A : Type 0} (s : sources.Ghosts A) (ps0 ps : List A)

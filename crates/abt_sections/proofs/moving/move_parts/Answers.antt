@@ -8,7 +8,8 @@ use Rattle.abt_sections.proofs.Growing.{grows_on}
 use Rattle.abt_sections.proofs.Growing as growing
 use Rattle.abt_sections.proofs.Layouts.{laid_next, laid_less, sum_next, sum_less}
 use Rattle.abt_sections.proofs.Moves.{moves_part}
-use Rattle.abt_sections.proofs.Parts.{all_part, next_part, part_size, sizes_next}
+use Rattle.abt_sections.proofs.Parts.{all_part, next_part, part_size, sizes_all, sizes_next}
+use Rattle.std.proofs.lemmas.List.{length-map, take_all}
 use Rattle.abt_sections.proofs.moving.move_parts.Goals as goal
 
 pub returns-in-Err-clause-once : goal.returns-in-Err-clause-once
@@ -75,3 +76,23 @@ loop-i-preserved g c =
       lasting = sizes_next s.size ps i new sizes (omega arith) (omega arith) v.lasting e.part.lasting.1;
       writes = writes_then v.writes e.part.moves.writes;
     }
+
+pub returns-clause-parts : goal.returns-clause-parts
+returns-clause-parts g c =
+    let s = g.S.Source in
+    let v = c.loop-i.invariant in
+    let ps = c.args.parts.now in
+    let i = c.loop-i.i in
+    let all = map s.content ps in
+    record {
+      moves = record { reads = v.reads; writes = v.writes; cause = tt };
+      written = λ models. rw (take_all i all (omega (arith, length-map ps s.content))) at (v.written models);
+      lasting = sizes_all s.size c.loop-i.parts c.args.sizes.now i (length ps) (omega arith) (omega arith) v.lasting;
+    }
+
+pub returns-clause-hashed : goal.returns-clause-hashed
+returns-clause-hashed g c = λ wanted models none.
+    let ps = c.args.parts.now in
+    let content = g.S.Source.content in
+    rw (take_all c.loop-i.i (map content ps) (omega (arith, length-map ps content)))
+    at (c.loop-i.invariant.hashed wanted models none)

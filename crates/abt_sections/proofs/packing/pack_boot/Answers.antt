@@ -3,8 +3,8 @@ use Rattle.std.proofs.lemmas.Result.{err_from_is_err_and}
 use Rattle.abt_io.proofs.Lent.{writes_ok}
 use Rattle.abt_sections.specs.declared.fault.SectionFault.{SectionFault}
 use Rattle.abt_sections.specs.Refusal.{boot_names, or_else, pack_boot_refusal, size_refusal}
-use Rattle.abt_sections.proofs.PackExits.{all_after, begins_none, moves_behind, moves_nothing, not_refused, packs_nothing}
-use Rattle.abt_sections.proofs.PackExits.{packs_refused}
+use Rattle.abt_sections.proofs.PackExits.{all_after, begins_none, moves_behind, moves_nothing, not_refused}
+use Rattle.abt_sections.proofs.PackExits.{packs_nothing, packs_refused}
 use Rattle.std.proofs.lemmas.List.{length-map}
 use Rattle.std.specs.Prelude.{IsTrue}
 use Rattle.abt_sections.specs.Fields.{cmd_common_fields, filled}
@@ -94,8 +94,8 @@ returns-in_err-id g c =
     let p = err_from_is_err_and r.result r.ensures.1 in
     let is = p.1 ∙ ap (λ (e : SectionFault). Err e) p.2 in
     record {
-      packs = packs_refused {X = Unit {0}} c.args.spec.now.is_front_ended (cmd_common_fields c.args.spec.now) r.result is
-          (taken g at) (moves_nothing g.O.Output c.args.output.now c.in_err-id.ensures.reads)
+      packs = packs_refused {X = Unit {0}} c.args.spec.now.is_front_ended (cmd_common_fields c.args.spec.now) r.result
+          is (taken g at) (moves_nothing g.O.Output c.args.output.now c.in_err-id.ensures.reads)
           (λ changed models. changed models c.in_ok-sizes.ensures.value.1) (omega arith);
       front = λ models. begins_none _ _;
     }
@@ -121,7 +121,8 @@ returns-in_err-write_image-clause-packs g c =
     let size = sized g at.After-boot_header_for-header (length c.id_for.new.parts) (omega (arith, long)) in
     let e = c.in_err-write_image.ensures in
     let k = c.in_ok-id.ensures.reads.only in
-    packs_refused c.args.spec.now.is_front_ended (cmd_common_fields c.args.spec.now) r.result is (taken g at.In_ok-sizes)
+    packs_refused c.args.spec.now.is_front_ended (cmd_common_fields c.args.spec.now) r.result is
+    (taken g at.In_ok-sizes)
     (moves_behind k e.parts.moves (λ changed models. changed models (c.in_ok-sizes.ensures.value.1
     ∙ ap (λ (l : List ℕ). filled 5 l) (sym (k.size models)))))
     (λ never. never) (omega (arith, size, e.bytes.most))

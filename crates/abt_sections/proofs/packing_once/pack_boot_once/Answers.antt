@@ -1,4 +1,5 @@
-use Rattle.std.proofs.Common.{◌≡◌, ◌+◌, inl, inr, ℕ, List, ap, ◌∙◌, map, length, take, arith, refl, sum, Option, None, Err}
+use Rattle.std.proofs.Common.{◌≡◌, ◌+◌, inl, inr, ℕ, List, ap, ◌∙◌, map, length, take, arith, refl, sum, Option, None}
+use Rattle.std.proofs.Common.{Err}
 use Rattle.std.proofs.lemmas.Result.{err_from_is_err_and}
 use Rattle.abt_io.proofs.Lent.{writes_ok, writes_then}
 use Rattle.abt_sections.specs.declared.fault.SectionFault.{SectionFault}

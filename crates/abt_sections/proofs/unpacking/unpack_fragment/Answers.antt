@@ -3,6 +3,8 @@ use Rattle.abt_headers.specs.declared.entry.RamdiskEntry.{RamdiskEntry}
 use Rattle.abt_sections.specs.Header.{view_of, entry_of, ramdisk_at, ramdisk_size, IsWithin}
 use Rattle.abt_sections.proofs.Causes.{on_ok, on_ok_then}
 use Rattle.abt_sections.proofs.Growing.{begins_is}
+use Rattle.abt_sections.proofs.MoreExits.{reads_alone}
+use Rattle.abt_sections.proofs.PackExits.{begins_none}
 use Rattle.abt_sections.proofs.Refusals.{moves_on}
 use Rattle.abt_sections.proofs.Tables.{ramdisk_there, part_within, fragment_is}
 use Rattle.abt_sections.proofs.unpacking.unpack_fragment.Goals as goal
@@ -46,3 +48,15 @@ returns-clause-moves g c =
       c.fragment_at-at.ensures.value,
       ap length (e.reads.only.content models),
     )))
+
+pub returns-in-Err-clause-moves : goal.returns-in-Err-clause-moves
+returns-in-Err-clause-moves g c = reads_alone g.O.Output c.args.output.now c.in-Err.ensures.reads
+
+pub returns-in-Err-clause-front : goal.returns-in-Err-clause-front
+returns-in-Err-clause-front g c = λ models. begins_none _ _
+
+pub returns-clause-within : goal.returns-clause-within
+returns-clause-within g c = λ models.
+    let h = view_of c.args.image.now.header in
+    on_ok c.copy_part.result
+    (subst (λ (q : RamdiskEntry). IsWithin h q) (c.in-Ok.ensures.entry models) c.in-Ok.ensures.within)

@@ -17,8 +17,8 @@ use Rattle.std.proofs.lemmas.Result.{err_from_is_err_and}
 use Rattle.abt_io.proofs.Lent.{reads_err, reads_none, reads_ok, reads_then, writes_err, writes_ok, writes_then}
 use Rattle.abt_sections.specs.Cause.{PackCause}
 use Rattle.abt_sections.proofs.PackExits.{all_err, all_kept, all_ok, all_read, begins_none, beside_move, if_err}
-use Rattle.abt_sections.proofs.PackExits.{if_refused, not_if_ok, not_ok, not_refused, one_err, refused_before, wrote_err}
-use Rattle.abt_sections.proofs.PackExits.{wrote_nothing}
+use Rattle.abt_sections.proofs.PackExits.{if_refused, not_if_ok, not_ok, not_refused, one_err, refused_before}
+use Rattle.abt_sections.proofs.PackExits.{wrote_err, wrote_nothing}
 use Rattle.abt_sections.proofs.Causes.{third_move, pack_moves}
 use Rattle.abt_sections.proofs.Growing.{begins_then, begins_stop, begins_is, then_all}
 use Rattle.abt_sections.proofs.Sizing.{sizes_are}

@@ -1,8 +1,11 @@
 use Rattle.std.proofs.Common.{rules, ◌+◌, ◌++◌, ℕ, List, arith, ap, sym, ◌∙◌, length-set, map, get_or, take, drop}
 use Rattle.std.specs.List.{concat}
+use Rattle.std.proofs.Common.{◌≡◌}
+use Rattle.std.specs.Prelude.{IsTrue}
+use Rattle.std.proofs.lemmas.List.{length-map, take_all}
 use Rattle.std.proofs.lemmas.List.Sums.{sum_by_more, sum_by_more_le}
 use Rattle.abt_io.proofs.Lent.{writes_then}
-use Rattle.abt_sections.proofs.Growing.{begins_then, begins_stop, begins_is, then_all}
+use Rattle.abt_sections.proofs.Growing.{begins_all, begins_then, begins_stop, begins_is, then_all}
 use Rattle.abt_sections.proofs.Layouts.{concat_next, concat_at}
 use Rattle.abt_sections.proofs.Moves.{moves_part}
 use Rattle.abt_sections.proofs.Parts.{all_part, kept, next_part, part_same}
@@ -62,4 +65,20 @@ returns-in-Err-clause-ramdisks g c =
           begins_is _ _ _ _ (concat_at all b i next)
           (begins_stop _ _ (concat (take i all) ++ b) (concat (drop (i + 1) all))
           (begins_then _ _ _ (concat (take i all)) b (v.written models) (e.front models) e.part.moves.writes.least));
+    }
+
+pub returns-clause-ramdisks : goal.returns-clause-ramdisks
+returns-clause-ramdisks g c =
+    let s = g.S.Source in
+    let v = c.loop-i.invariant in
+    let ps = c.args.ramdisks.now in
+    let all = map s.content ps in
+    let w = g.O.Output.written in
+    let written : IsTrue s.models → w c.loop-i.output ≡ w c.args.output.now ++ concat all = λ models.
+    rw (take_all c.loop-i.i all (omega (arith, length-map ps s.content))) at (v.written models) in
+    record {
+      moves = record { reads = v.reads; writes = v.writes; cause = tt };
+      lasting = v.lasting;
+      written = written;
+      front = λ models. begins_all (w c.args.output.now) (w c.loop-i.output) (concat all) (written models);
     }

@@ -8,7 +8,8 @@ use Rattle.abt_sections.proofs.Growing.{begins_then, begins_stop, begins_is}
 use Rattle.abt_sections.proofs.Growing as growing
 use Rattle.abt_sections.proofs.Layouts.{laid_next, laid_at, laid_less}
 use Rattle.abt_sections.proofs.Moves.{moves_part}
-use Rattle.abt_sections.proofs.Parts.{all_part, next_part, part_size, sizes_next}
+use Rattle.abt_sections.proofs.Parts.{all_part, next_part, part_size, sizes_all, sizes_next}
+use Rattle.std.proofs.lemmas.List.{length-map, take_all}
 use Rattle.abt_sections.proofs.write_padded.write_parts.Goals as goal
 
 pub returns-in-Err-clause-front : goal.returns-in-Err-clause-front
@@ -74,4 +75,17 @@ loop-i-preserved g c =
       all = omega (arith, v.all, e.part.bytes.all, sum_by_more p c.args.sizes.now i 0 (omega arith));
       writes = writes_then v.writes e.part.moves.writes;
       lasting = sizes_next s.size ps i new c.args.sizes.now (omega arith) (omega arith) v.lasting e.part.lasting.1;
+    }
+
+pub returns-clause-parts : goal.returns-clause-parts
+returns-clause-parts g c =
+    let s = g.S.Source in
+    let v = c.loop-i.invariant in
+    let ps = c.args.parts.now in
+    let i = c.loop-i.i in
+    let all = map s.content ps in
+    record {
+      moves = record { reads = v.reads; writes = v.writes; cause = tt };
+      written = λ models. rw (take_all i all (omega (arith, length-map ps s.content))) at (v.written models);
+      lasting = sizes_all s.size c.loop-i.parts c.args.sizes.now i (length ps) (omega arith) (omega arith) v.lasting;
     }

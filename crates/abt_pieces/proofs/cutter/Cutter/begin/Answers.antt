@@ -1,5 +1,5 @@
 use Rattle.std.proofs.Common.{◌≡◌, ℕ, ◌+◌, ◌-◌, ◌*◌, ◌/◌, ◌%◌, ◌^◌, ◌<◌, ◌≤◌, ◌++◌, inl, inr, nat_lt, arith, refl}
-use Rattle.std.proofs.Common.{sym, ap, ◌∙◌, length, take}
+use Rattle.std.proofs.Common.{ap, ◌∙◌, length, take}
 use Rattle.std.proofs.lemmas.Bool.{cases_Bool, false≢true, ltb-true, ltb-false}
 use Rattle.abt_io.proofs.Lent.{writes_ok}
 use Rattle.abt_runs.specs.declared.part.Cursor.{Cursor}

@@ -1,4 +1,4 @@
-use Rattle.std.proofs.Common.{arith, sym, ◌∙◌, ◌≡◌, ◌<◌, ◌≤◌, ◌+◌, ◌-◌, length, refl, IsTrue}
+use Rattle.std.proofs.Common.{arith, sym, ℕ, ◌∙◌, ◌≡◌, ◌<◌, ◌≤◌, ◌+◌, ◌-◌, length, min, refl, IsTrue}
 use Rattle.std.proofs.lemmas.List.{take-append-drop}
 use Rattle.abt_io.proofs.Lent.{reads_err, reads_none, reads_ok, reads_then, writes_err, writes_ok}
 use Rattle.abt_pieces.proofs.Fronts.{wrote_front, wrote_rest, wrote_part, nothing_more, as_many, no_more, no_more_than}
@@ -11,6 +11,16 @@ use Rattle.abt_pieces.proofs.Image.{copy_leads}
 use Rattle.abt_pieces.proofs.WriterSteps.{none_written, run_never_full}
 use Rattle.abt_pieces.specs.Write.{silent_write}
 use Rattle.abt_pieces.proofs.write.Writer.copy_bytes.Goals as goal
+
+-- what came is within what was asked for: the part, the chunk and the window
+asked_fits : (count out part ask least done size left : ℕ) → count ≤ out → out ≡ part → part ≡ ask - 0
+    → ask ≡ min least 65536 → least ≡ min (size - done) left → done < size
+    → (done + count ≤ size) × (count ≤ left) × (count ≤ 65536)
+asked_fits count out part ask least done size left a b d e f more = (omega arith, omega arith, omega arith)
+
+asked_some : (out part ask least done size left : ℕ) → out ≡ part → part ≡ ask - 0 → ask ≡ min least 65536
+    → least ≡ min (size - done) left → done < size → 0 < left → 0 < out
+asked_some out part ask least done size left b d e f more some = omega arith
 
 -- the source has failed
 pub returns-in-Err : goal.returns-in-Err
@@ -59,19 +69,13 @@ returns-in-Err-write_out g c =
     let o = c.write_out.ensures in
     let f = c.in-Err-write_out.ensures in
     let long : length c.part.result.now ≡ c.in-Ok.count = omega (arith, c.part.ensures.long) in
-    let fits : c.args.copying.done + c.in-Ok.count ≤ c.args.copying.size = omega
-    (arith, e.within, c.copy.auto.out, c.part_mut.ensures.long, c.min-ask.ensures, c.min.ensures, c.requires.more)
-    in
-    let left : c.in-Ok.count ≤ c.args.copying.left = omega
-    (arith, e.within, c.copy.auto.out, c.part_mut.ensures.long, c.min-ask.ensures, c.min.ensures) in
-    let window : c.in-Ok.count ≤ 65536 = omega (
-      arith,
-      e.within,
-      c.copy.auto.out,
-      c.part_mut.ensures.long,
-      c.min-ask.ensures,
-      c.min.ensures,
-    ) in
+    let copying = c.args.copying in
+    let asked = asked_fits c.in-Ok.count (length c.copy.new.out) (length c.part_mut.result.now) c.min-ask.result
+    c.min.result copying.done copying.size copying.left e.within c.copy.auto.out c.part_mut.ensures.long
+    c.min-ask.ensures c.min.ensures c.requires.more in
+    let fits : copying.done + c.in-Ok.count ≤ copying.size = asked.0 in
+    let left : c.in-Ok.count ≤ copying.left = asked.1 in
+    let window : c.in-Ok.count ≤ 65536 = asked.2 in
     let h = is_copying _ _ _ _ c.args.self.now c.args.copying c.requires.copies.is c.requires.copies.ready.sound in
     let most = writer_most (g.R.BlockRuns.one c.args.runs.now) (g.R.BlockRuns.count c.args.runs.now) c.args.self.now in
     record {
@@ -124,28 +128,16 @@ returns g c =
     let w = c.in_default.ensures in
     let self = c.args.self.now in
     let long : length c.part.result.now ≡ c.in-Ok.count = omega (arith, c.part.ensures.long) in
-    let fits : c.args.copying.done + c.in-Ok.count ≤ c.args.copying.size = omega
-    (arith, e.within, c.copy.auto.out, c.part_mut.ensures.long, c.min-ask.ensures, c.min.ensures, c.requires.more)
-    in
-    let left : c.in-Ok.count ≤ c.args.copying.left = omega
-    (arith, e.within, c.copy.auto.out, c.part_mut.ensures.long, c.min-ask.ensures, c.min.ensures) in
-    let window : c.in-Ok.count ≤ 65536 = omega (
-      arith,
-      e.within,
-      c.copy.auto.out,
-      c.part_mut.ensures.long,
-      c.min-ask.ensures,
-      c.min.ensures,
-    ) in
-    let some = e.some (omega (
-      arith,
-      c.copy.auto.out,
-      c.part_mut.ensures.long,
-      c.min-ask.ensures,
-      c.min.ensures,
-      c.requires.more,
-      c.requires.copies.remains,
-    )) in
+    let copying = c.args.copying in
+    let asked = asked_fits c.in-Ok.count (length c.copy.new.out) (length c.part_mut.result.now) c.min-ask.result
+    c.min.result copying.done copying.size copying.left e.within c.copy.auto.out c.part_mut.ensures.long
+    c.min-ask.ensures c.min.ensures c.requires.more in
+    let fits : copying.done + c.in-Ok.count ≤ copying.size = asked.0 in
+    let left : c.in-Ok.count ≤ copying.left = asked.1 in
+    let window : c.in-Ok.count ≤ 65536 = asked.2 in
+    let some = e.some (asked_some (length c.copy.new.out) (length c.part_mut.result.now) c.min-ask.result c.min.result
+    copying.done copying.size copying.left c.copy.auto.out c.part_mut.ensures.long c.min-ask.ensures c.min.ensures
+    c.requires.more c.requires.copies.remains) in
     let h = is_copying _ _ _ _ self c.args.copying c.requires.copies.is c.requires.copies.ready.sound in
     let all : length (g.O.Output.written c.write_out.new.output) ≡ length (g.O.Output.written c.args.output.now) +
     c.in-Ok.count = omega (arith, w.all, long) in
