@@ -1,5 +1,5 @@
 -- The history of a file, as that of a partition: both count as many syncs.
-use Rattle.std.proofs.Common.{◌≡◌, ℕ, List, Result, sym, ap, subst, ◌∙◌}
+use Rattle.std.proofs.Common.{◌≡◌, ℕ, List, Result, ap, subst, ◌∙◌}
 use Rattle.abt_io.specs.Moment.{Past}
 use Rattle.sys_file.specs.Past.{LaysWithin, SettlesFile}
 use Rattle.sys_devices.specs.Past.{past_of}
