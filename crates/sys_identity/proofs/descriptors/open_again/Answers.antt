@@ -1,4 +1,4 @@
-use Rattle.std.proofs.Common.{rules, ◌≡◌, ℕ, List, IsTrue, Result, Ok, Err, IfOk, IsSome, Option, Some, None, refl, sym}
+use Rattle.std.proofs.Common.{rules, ◌≡◌, ℕ, List, Result, Ok, Err, IfOk, IsSome, Option, Some, None, refl, sym}
 use Rattle.std.proofs.Common.{ap, ◌∙◌}
 use Rattle.sys_file.specs.System.{KeepsFiles}
 use Rattle.sys_identity.proofs.descriptors.open_again.Goals as goal
