@@ -1,6 +1,6 @@
 -- What a file was given that may have holes, and what stands in it.
-use Rattle.std.proofs.Common.{◌≡◌, ℕ, ◌+◌, ◌-◌, ◌≤◌, ◌<◌, List, [], ◌∷◌, ◌++◌, length, take, drop, replicate}
-use Rattle.std.proofs.Common.{Bool, Result, Ok, Err, OnOk, is_err, false, refl, sym, ◌∙◌, ap, arith, true≢false}
+use Rattle.std.proofs.Common.{◌≡◌, ℕ, ◌+◌, ◌-◌, ◌<◌, List, [], ◌∷◌, ◌++◌, length, take, drop, replicate}
+use Rattle.std.proofs.Common.{Result, Ok, Err, OnOk, is_err, false, refl, sym, ◌∙◌, ap, arith, true≢false}
 use Rattle.std.specs.Int.Bits.{bit_or}
 use Rattle.std.proofs.lemmas.Nat.{le_or_l, le_or_r}
 use Rattle.std.proofs.lemmas.List.{take_all, take_at, take_more, replicate-append-replicate}
@@ -29,7 +29,8 @@ unless_err (Ok x) e p = p
 unless_err (Err x) e p = absurd (true≢false e)
 
 -- bytes that are written behind what stands at the front
-pub begins_put : (s c new x : List ℕ) (at : ℕ) → Begins s c → length s ≡ at → new ≡ put_at c at x → Begins (s ++ x) new
+pub begins_put : (s c new x : List ℕ) (at : ℕ) → Begins s c → length s ≡ at → new ≡ put_at c at x
+    → Begins (s ++ x) new
 begins_put s c new x at h long written =
     let front : take at c ≡ s = ap (λ (k : ℕ). take k c) (sym long) ∙ h in
     ap (take (length (s ++ x))) (written ∙ ap (λ (l : List ℕ). (l ++ x) ++ drop (at + length x) c) front)
@@ -41,5 +42,6 @@ pub grown : (s c new : List ℕ) (used n : ℕ) → Begins s c → length s ≡ 
 grown s c new used n h long all set =
     let same : c ≡ s = sym (take_all (length s) c (omega (arith, long, all))) ∙ h in
     let zeros : used + n - length c ≡ n = omega (arith, all) in
-    set ∙ ap (λ (l : List ℕ). l ++ replicate (used + n - length c) 0) (take_all (used + n) c (omega (arith, all)) ∙ same)
+    let whole : take (used + n) c ≡ s = take_all (used + n) c (omega (arith, all)) ∙ same in
+    set ∙ ap (λ (l : List ℕ). l ++ replicate (used + n - length c) 0) whole
     ∙ ap (λ (k : ℕ). s ++ replicate k 0) zeros

@@ -88,8 +88,8 @@ returns g c =
     let all : IsTrue g.S.Source.models → Prints g.O.Output.written g.O.Output.write_faults c.args.text.now
     c.loop-i.text (fragment_lines o x h n)
     = λ models. subst
-        (λ k. Prints g.O.Output.written g.O.Output.write_faults c.args.text.now c.loop-i.text (fragment_lines o x h k))
-        end (i.lines models).1 in
+    (λ k. Prints g.O.Output.written g.O.Output.write_faults c.args.text.now c.loop-i.text (fragment_lines o x h k))
+    end (i.lines models).1 in
     record {
       leaves = record {
         content = λ models. (i.lines models).0;

@@ -1,8 +1,9 @@
-use Rattle.std.proofs.Common.{rules, ◌≡◌, ℕ, List, IsTrue, Result, Ok, Err, IfOk, IsSome, Option, Some, None, refl, sym}
+use Rattle.std.proofs.Common.{rules, ◌≡◌, ℕ, List, Result, Ok, Err, IfOk, IsSome, Option, Some, None, refl, sym}
 use Rattle.std.proofs.Common.{ap, ◌∙◌}
 use Rattle.sys_file.specs.System.{KeepsFiles}
 use Rattle.sys_identity.proofs.descriptors.open_again.Goals as goal
-use Rattle.sys_identity.proofs.descriptors.open_again.Goals.{in-Some+in-Err+in-Ok-1, in-Some+in-Err+in-Err-1, in_default}
+use Rattle.sys_identity.proofs.descriptors.open_again.Goals.{in-Some+in-Err+in-Ok-1, in-Some+in-Err+in-Err-1}
+use Rattle.sys_identity.proofs.descriptors.open_again.Goals.{in_default}
 
 -- what was opened at a path that leads to a file is that file
 opened : {E F : Type 0} (which : F → ℕ) (stands : F → List ℕ) (holds holds' : ℕ → List ℕ) (led file : Option ℕ) (n : ℕ)

@@ -77,8 +77,7 @@ returns-then-board-lt16-clause-value c =
     let front = c.in_ok-fragment in
     let back = c.in_ok-place in
     let f = split_parts 58 c.args.word.now (Some (front.fragment, front.rest)) front.ensures.cases (omega arith) in
-    let p = split_parts 61 front.rest.now (Some (back.place, back.value)) back.ensures.cases (omega arith) in
-    (
+    let p = split_parts 61 front.rest.now (Some (back.place, back.value)) back.ensures.cases (omega arith) in (
       record {
         fragment = front.fragment.now;
         place = back.place.now;

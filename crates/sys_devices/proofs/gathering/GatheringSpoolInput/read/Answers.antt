@@ -43,8 +43,8 @@ returns-in-Ok g c =
     let reads = c.in-Ok.ensures.reads in
     let both = length-append out behind in
     let left = length-drop c.min-ask.result c.args.out.now in
-    let all : length since ≡ b.used = sym (ap length s.whole) ∙ length-append b.sent.state.bytes b.held.items ∙ b.place in
     let content : length (b.sent.state.bytes ++ b.held.items) ≡ length since = ap length s.whole in
+    let all : length since ≡ b.used = sym content ∙ length-append b.sent.state.bytes b.held.items ∙ b.place in
     record {
       passed = record {
         within = omega (arith, reads.within, both);

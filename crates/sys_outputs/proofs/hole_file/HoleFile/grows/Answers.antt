@@ -1,4 +1,4 @@
-use Rattle.std.proofs.Common.{◌≡◌, ◌≤◌, ◌+◌, ◌-◌, ◌++◌, List, ℕ, length, take, replicate, refl, sym, ap, ◌∙◌, arith}
+use Rattle.std.proofs.Common.{◌≡◌, ◌≤◌, ◌+◌, ◌-◌, ◌++◌, List, ℕ, length, take, replicate, sym, ap, ◌∙◌, arith}
 use Rattle.std.proofs.Common.{length-append, true≢false}
 use Rattle.std.proofs.Math.ListN.{length-take}
 use Rattle.std.proofs.lemmas.Bool.{false≢true}
@@ -37,7 +37,9 @@ invariant_of-self-2 g c =
     let logged : c.append_zeros.new.self.state.bytes ≡ given ++ replicate n 0
     = ap (λ (l : Logged). l.bytes) c.append_zeros.ensures in
     record {
-      place = omega (arith, ap length logged, length-append given (replicate n 0), length-replicate {A = ℕ} n 0, h.place);
+      place =
+          let both = length-append given (replicate n 0) in
+          omega (arith, ap length logged, both, length-replicate {A = ℕ} n 0, h.place);
       reaches = λ models.
           let set = unless_err c.set_len.result (sym c.if-is_err-2.ensures.value) (c.set_len.ensures.sets.set models) in
           let both = length-append (take (h.used + n) stands) (replicate (h.used + n - length stands) 0) in
