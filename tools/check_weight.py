@@ -74,7 +74,7 @@ LINES = {
     "flashing and verifying": 139,
     "boot images": 227,
     "system": 96,
-    "words": 133,
+    "words": 134,
     "commands over sparse images": 144,
     "commands over boot images": 141,
     "laws": 62,
