@@ -17,4 +17,4 @@ pub none_asked : (on_output : List ℕ → Bool) (found : Result Order WordsFaul
     → IfErr found (λ fault. status ≡ 2 → AskForNone all)
 none_asked on_output (Ok order) all world held report world' held' report' status none ends = tt
 none_asked on_output (Err fault) all world held report world' held' report' status none ends =
-    λ two. none (ends.3 two)
+    λ two. none (ends.1.1.1 two)
