@@ -15,10 +15,14 @@ with_entries-requires-clause-there g c = λ told.
     (lies_there x h c.in-Some.place (c.requires.opened told).has.there c.in-Some.ensures.value at.1)
     (omega arith))
 
-pub returns-in-Some-clause-bytes : goal.returns-in-Some-clause-bytes
-returns-in-Some-clause-bytes g c = λ t.
-    let x = g.D.At.Source.content c.args.own.now.source in
-    let h = view_of c.args.own.now.image.header in
-    subst (λ k. IfOk c.with_entries.result (λ all. map (content_of g.D.At.Source.content) all.sources.items
-    ≡ map (bytes_behind x k) c.args.entries.now)) (ramdisk_place h c.in-Some.place c.in-Some.ensures.value).0
-    (c.with_entries.ensures.bytes t)
+pub returns-in-Some : goal.returns-in-Some
+returns-in-Some g c = record {
+  specs = λ t. c.with_entries.ensures.specs;
+  bytes = λ t.
+      let x = g.D.At.Source.content c.args.own.now.source in
+      let h = view_of c.args.own.now.image.header in
+      subst (λ k. IfOk c.with_entries.result (λ all. map (content_of g.D.At.Source.content) all.sources.items
+      ≡ map (bytes_behind x k) c.args.entries.now)) (ramdisk_place h c.in-Some.place c.in-Some.ensures.value).0
+      (c.with_entries.ensures.bytes t);
+  opens = c.with_entries.ensures.opens;
+}

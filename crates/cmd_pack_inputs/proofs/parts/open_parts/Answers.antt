@@ -41,30 +41,38 @@ loop-row-preserved g c = (
       ),
 )
 
-pub returns-in-Err-clause-opens : goal.returns-in-Err-clause-opens
-returns-in-Err-clause-opens g c = record {
-  unread = λ t. tt;
-  opened = λ t. tt;
-  refused = λ t.
-      row_stops (g.D.Disk.world c.args.disk.now) c.args.texts.now.options.items c.rows_of-rows.result.now
-      c.loop-row.row-index _ _ _ _ _ c.in-Err.refusal.fault c.loop-row-test.true c.rows_of-rows.ensures.options
-      c.rows_of-rows.ensures.sections (c.loop-row.invariant.1 t).2 (c.in-Err.ensures.opens.refused t);
-  keeps = λ t. let i = c.loop-row.invariant.1 t in only_then (only_more i.2 i.3) (c.in-Err.ensures.opens.keeps t);
+pub returns-in-Err : goal.returns-in-Err
+returns-in-Err g c = record {
+  counted = tt;
+  parts = λ t. tt;
+  opens = record {
+    unread = λ t. tt;
+    opened = λ t. tt;
+    refused = λ t.
+        row_stops (g.D.Disk.world c.args.disk.now) c.args.texts.now.options.items c.rows_of-rows.result.now
+        c.loop-row.row-index _ _ _ _ _ c.in-Err.refusal.fault c.loop-row-test.true c.rows_of-rows.ensures.options
+        c.rows_of-rows.ensures.sections (c.loop-row.invariant.1 t).2 (c.in-Err.ensures.opens.refused t);
+    keeps = λ t. let i = c.loop-row.invariant.1 t in only_then (only_more i.2 i.3) (c.in-Err.ensures.opens.keeps t);
+  };
 }
 
-pub returns-in-Err-push-clause-opens : goal.returns-in-Err-push-clause-opens
-returns-in-Err-push-clause-opens g c = record {
-  unread = λ t. tt;
-  opened = λ t. tt;
-  refused = λ t.
-      row_stops (g.D.Disk.world c.args.disk.now) c.args.texts.now.options.items c.rows_of-rows.result.now
-      c.loop-row.row-index _ _ _ _ _ c.memory.result.fault c.loop-row-test.true c.rows_of-rows.ensures.options
-      c.rows_of-rows.ensures.sections (c.loop-row.invariant.1 t).2
-      (stops_lacking _ _ _ _ _ c.memory.result.fault (c.in-Ok.ensures.opens.opened t) c.memory.ensures
-      (c.no_memory.ensures.held t));
-  keeps = λ t.
-      let i = c.loop-row.invariant.1 t in
-      only_then (only_then (only_more i.2 i.3) (c.in-Ok.ensures.opens.keeps t)) (only_failing c.no_memory.ensures t);
+pub returns-in-Err-push : goal.returns-in-Err-push
+returns-in-Err-push g c = record {
+  counted = tt;
+  parts = λ t. tt;
+  opens = record {
+    unread = λ t. tt;
+    opened = λ t. tt;
+    refused = λ t.
+        row_stops (g.D.Disk.world c.args.disk.now) c.args.texts.now.options.items c.rows_of-rows.result.now
+        c.loop-row.row-index _ _ _ _ _ c.memory.result.fault c.loop-row-test.true c.rows_of-rows.ensures.options
+        c.rows_of-rows.ensures.sections (c.loop-row.invariant.1 t).2
+        (stops_lacking _ _ _ _ _ c.memory.result.fault (c.in-Ok.ensures.opens.opened t) c.memory.ensures
+        (c.no_memory.ensures.held t));
+    keeps = λ t.
+        let i = c.loop-row.invariant.1 t in
+        only_then (only_then (only_more i.2 i.3) (c.in-Ok.ensures.opens.keeps t)) (only_failing c.no_memory.ensures t);
+  };
 }
 
 pub returns-clause-parts : goal.returns-clause-parts

@@ -28,28 +28,33 @@ loop-fragment-preserved g c = λ t.
       (c.with_file.ensures.opens.keeps t).world ∙ i.3,
     )
 
-pub returns-in-Err-clause-opens : goal.returns-in-Err-clause-opens
-returns-in-Err-clause-opens g c = record {
-  unread = λ t. tt;
-  opened = λ t. tt;
-  refused = λ t.
-      file_stops _ c.args.texts.now.fragments.items c.deref-fragment-items.result.now c.loop-fragment.fragment-index
-      c.fragment-item.result _ _ _ c.in-Err.refusal.fault c.deref-fragment-items.ensures.value c.loop-fragment-test.true
-      c.fragment-item.is (c.loop-fragment.invariant t).2 (c.in-Err.ensures.opens.refused t);
-  keeps = λ t. let i = c.loop-fragment.invariant t in only_then (only_more i.2 i.3) (c.in-Err.ensures.opens.keeps t);
+pub returns-in-Err : goal.returns-in-Err
+returns-in-Err g c = record {
+  fragments = λ t. tt;
+  opens = record {
+    unread = λ t. tt;
+    opened = λ t. tt;
+    refused = λ t.
+        file_stops _ c.args.texts.now.fragments.items c.deref-fragment-items.result.now c.loop-fragment.fragment-index
+        c.fragment-item.result _ _ _ c.in-Err.refusal.fault c.deref-fragment-items.ensures.value
+        c.loop-fragment-test.true
+        c.fragment-item.is (c.loop-fragment.invariant t).2 (c.in-Err.ensures.opens.refused t);
+    keeps = λ t. let i = c.loop-fragment.invariant t in only_then (only_more i.2 i.3) (c.in-Err.ensures.opens.keeps t);
+  };
 }
 
-pub returns-clause-fragments : goal.returns-clause-fragments
-returns-clause-fragments g c = λ t.
-    fragments_all _ c.args.texts.now.fragments.items c.deref-fragment-items.result.now c.loop-fragment.fragment-index
-    _ _ c.deref-fragment-items.ensures.value c.loop-fragment-test.false (c.loop-fragment.invariant t).0
-
-pub returns-clause-opens : goal.returns-clause-opens
-returns-clause-opens g c = record {
-  unread = λ t. (c.loop-fragment.invariant t).1;
-  opened = λ t.
-      files_all _ c.args.texts.now.fragments.items c.deref-fragment-items.result.now c.loop-fragment.fragment-index _ _
-      c.deref-fragment-items.ensures.value c.loop-fragment-test.false (c.loop-fragment.invariant t).2;
-  refused = λ t. tt;
-  keeps = λ t. let i = c.loop-fragment.invariant t in only_more i.2 i.3;
+pub returns : goal.returns
+returns g c = record {
+  fragments = λ t.
+      fragments_all _ c.args.texts.now.fragments.items c.deref-fragment-items.result.now c.loop-fragment.fragment-index
+      _ _ c.deref-fragment-items.ensures.value c.loop-fragment-test.false (c.loop-fragment.invariant t).0;
+  opens = record {
+    unread = λ t. (c.loop-fragment.invariant t).1;
+    opened = λ t.
+        files_all _ c.args.texts.now.fragments.items c.deref-fragment-items.result.now c.loop-fragment.fragment-index _
+        _
+        c.deref-fragment-items.ensures.value c.loop-fragment-test.false (c.loop-fragment.invariant t).2;
+    refused = λ t. tt;
+    keeps = λ t. let i = c.loop-fragment.invariant t in only_more i.2 i.3;
+  };
 }
