@@ -29,6 +29,7 @@ cuts_as input limit names raw a w h r p is = record {
       line = is.shown.count_told.line;
       noted = is.shown.count_told.noted;
       alone = is.shown.count_told.alone;
+      named = is.shown.count_told.named;
     };
   };
 }
