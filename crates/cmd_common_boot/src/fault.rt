@@ -153,7 +153,11 @@ impl Told for BootCommandFault<'_> {
                 text.numbered(fault.number(), format_args!("{fault}"));
                 Ok(())
             }
-            BootCommandFault::OptionNotCarried(name) => put_about("option not carried: --", name, text),
+            BootCommandFault::OptionNotCarried(name) => put_about(
+                "option not carried: --",
+                name,
+                text,
+            ),
             BootCommandFault::BadFragment(word) => put_about("bad fragment ", word, text),
             BootCommandFault::BadNumber(word) => put_about("bad number ", word, text),
             BootCommandFault::BadBoardId(word) => put_about("bad board id ", word, text),

@@ -146,7 +146,11 @@ impl Told for SparseCommandFault {
             SparseCommandFault::Piece(fault) => put_numbered(fault.number(), fault, text),
             SparseCommandFault::Flash(fault) => put_numbered(fault.number(), fault, text),
             SparseCommandFault::Verify(fault) => put_numbered(fault.number(), fault, text),
-            SparseCommandFault::OtherBlocks { image } => put_image("36 OtherBlocks image ", *image, text),
+            SparseCommandFault::OtherBlocks { image } => put_image(
+                "36 OtherBlocks image ",
+                *image,
+                text,
+            ),
             SparseCommandFault::OtherCut { image } => put_image("38 OtherCut image ", *image, text),
             SparseCommandFault::Host(fault) => fault.put(place, text),
         }
@@ -154,7 +158,11 @@ impl Told for SparseCommandFault {
 }
 
 // Adds a fault with a number.
-fn put_numbered<D: fmt::Display, O: Output>(number: u32, fault: &D, text: &mut Text<'_, O>) -> fmt::Result
+fn put_numbered<D: fmt::Display, O: Output>(
+    number: u32,
+    fault: &D,
+    text: &mut Text<'_, O>,
+) -> fmt::Result
     ensures { (told : List ℕ) × Prints O.written O.write_faults text.old text.new told × TellsNumber number told }
 {
     text.numbered(number, format_args!("{fault}"));

@@ -45,7 +45,7 @@ Notes old new told =
 abbrev pub NotesOne : Report → Report → (List ℕ → Type 0) → Type 0
 NotesOne old new IsText =
     ((told : List ℕ) × IsText told × (new.err.log.state.bytes ≡ old.err.log.state.bytes ++ told)
-        × (new.unshown.number ≡ old.unshown.number))
+    × (new.unshown.number ≡ old.unshown.number))
     ⊎ (old.unshown.number < new.unshown.number)
 
 -- a line: the program's name, a colon and a space, and what is said of a fault
