@@ -78,7 +78,7 @@ LINES = {
     "words": 134,
     "commands over sparse images": 152,
     "commands over boot images": 145,
-    "laws": 62,
+    "laws": 83,
     "memory": 40,
     "for programs in C": 25,
     "tests and benchmark": 107,

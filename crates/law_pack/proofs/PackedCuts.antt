@@ -15,18 +15,18 @@ own = numerals_by_value _ (search rules)
 
 -- ---- one cut
 
-abbrev Lacks : ℕ → List ℕ → Type 0
+abbrev pub Lacks : ℕ → List ℕ → Type 0
 Lacks mark x = (i : ℕ) → i < length x → slice_index x i ≢ mark
 
 lacks_low : (mark : ℕ) (word : List ℕ) (n : ℕ) → mark < 48 → IsNumberWord word n → Lacks mark word
 lacks_low mark word n low w = not_in_digits own word mark w.digits
     (λ (q : IsInRange 48 57 mark). omega (arith, q.0, low))
 
-lacks_high : (mark : ℕ) (word : List ℕ) (n : ℕ) → 57 < mark → IsNumberWord word n → Lacks mark word
+pub lacks_high : (mark : ℕ) (word : List ℕ) (n : ℕ) → 57 < mark → IsNumberWord word n → Lacks mark word
 lacks_high mark word n high w = not_in_digits own word mark w.digits
     (λ (q : IsInRange 48 57 mark). omega (arith, q.1, high))
 
-cut_once : (mark : ℕ) (a a' b b' : List ℕ) → Lacks mark a → Lacks mark a' → a ++ (mark ∷ b) ≡ a' ++ (mark ∷ b')
+pub cut_once : (mark : ℕ) (a a' b b' : List ℕ) → Lacks mark a → Lacks mark a' → a ++ (mark ∷ b) ≡ a' ++ (mark ∷ b')
     → (a ≡ a') × (b ≡ b')
 cut_once mark [] [] b b' h k e = (refl, ap (drop 1) e)
 cut_once mark [] (c ∷ a') b b' h k e = absurd (k 0 (omega arith) (sym (ap (λ l. slice_index l 0) e)))

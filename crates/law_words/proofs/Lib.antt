@@ -1,0 +1,12 @@
+pub mod Asking
+pub mod Back
+pub mod Command
+pub mod Due
+pub mod Expanded
+pub mod FragmentOnce
+pub mod Numbers
+pub mod Options
+pub mod Ordered
+pub mod PackWords
+pub mod Reading
+pub mod Values
