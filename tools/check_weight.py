@@ -61,7 +61,7 @@ FAMILIES = {
     "commands over sparse images": "cmd_common_listing cmd_common_sparse cmd_flash cmd_expand cmd_cut cmd_sparse_dispatch",
     "commands over boot images":
         "cmd_common_boot cmd_unpack cmd_unpack_aosp cmd_info cmd_pack_inputs cmd_pack_outputs cmd_pack cmd_boot_dispatch",
-    "laws": "law_sparse law_sections law_engine law_boot law_pack law_program",
+    "laws": "law_sparse law_sections law_engine law_boot law_pack law_words law_program",
     "memory": "mem_files mem_system mem_disk mem_commands",
     "for programs in C": "abt_c",
     "tests and benchmark":
