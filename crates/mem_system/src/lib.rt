@@ -1,5 +1,5 @@
 //! A system in memory, which models its files. The program's own disk runs over it as over the files of the operating
-//! system. So each clause of that disk binds there. Any call that may fail can be made to.
+//! system. So each clause of that disk binds there. Openings and calls of opened files can fail.
 //!
 //! | file | has |
 //! |---|---|

@@ -5,7 +5,7 @@
 //! |---|---|
 //! | `commands.rt` | a command over that disk, and what its files hold |
 //! | `same.rt` | each command leaves what it leaves over a disk in memory |
-//! | `failing.rt` | each call of the system fails in turn |
+//! | `failing.rt` | openings and calls of opened files fail in turn |
 #![tactic(auto)]
 
 #[cfg(test)]
