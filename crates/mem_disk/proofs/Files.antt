@@ -1,23 +1,21 @@
 -- What paths lead to and files hold after one of them was written, or made.
-use Rattle.std.proofs.Common.{arith, zero, suc, drop, ◌+◌, ◌≡◌, ◌≢◌, ℕ, ◌<◌, ◌≤◌, List, [], ◌∷◌, ◌++◌, Option, Some}
-use Rattle.std.proofs.Common.{None, Err, refl, sym, ◌∙◌, ap, subst}
-use Rattle.std.specs.Prelude.{Contains, get_or, set, length, cond, bytes_eq, string_bytes, Bool, true, false}
-use Rattle.std.specs.Prelude.{◌&&◌, if◌then◌else◌}
-use Rattle.std.proofs.lemmas.List.{map-set, map-append, get_or-set_same, get_or-set_other, drop_all}
-use Rattle.std.proofs.lemmas.List.{length-map}
-use Rattle.std.proofs.Math.Seq.{drop-cons}
-use Rattle.std.proofs.lemmas.Option.{none-some}
-use Rattle.std.proofs.lemmas.Bool.{cond-true, cond-false}
-use Rattle.std.proofs.lemmas.Slice.Eq.{bytes_eq-Decides}
-use Rattle.mem_disk.specs.Memory.{world_of_files, world_of, held_of, Untouched, RefusesAt}
+use Rattle.std.proofs.Common.{zero, suc, ◌+◌, ◌≡◌, ℕ, ◌<◌, List, [], ◌∷◌, ◌++◌, Option, Some, None, Err, refl, sym, ◌∙◌}
+use Rattle.std.proofs.Common.{ap, subst}
+use Rattle.std.specs.Prelude.{Contains, get_or, set, length, string_bytes, true, false}
+use Rattle.std.proofs.lemmas.List.{map-append}
+use Rattle.mem_disk.specs.Memory.{world_of_files, world_of, held_of, Untouched, RefusesAt, CountsMore}
 use Rattle.mem_files.specs.Stored.{contents, leads}
 use Rattle.mem_files.proofs.Paths.{leads_more, leads_new, holds_other, holds_new}
-use Rattle.mem_disk.specs.Memory.{CountsFailed}
 use Rattle.sys_disk.specs.DiskCalls.{CreatesOutput, LetsGo}
 use Rattle.sys_disk.specs.Images.{HoldsSame}
 use Rattle.sys_disk.specs.World.{World, MayWrite, Spares, SparesInUse, Ends, SparesRest, OnlyAt, untouched, in_output}
-use Rattle.sys_disk.specs.World.{OpenFiles, KeepsBegun, ended, failing}
+use Rattle.sys_disk.specs.World.{OpenFiles, KeepsBegun, ended, counting}
+use Rattle.sys_disk.specs.Counts.{Counts, call_of, no_counts}
+use Rattle.sys_disk.proofs.Failings.{is_some_failure}
 use Rattle.sys_disk.proofs.Worlds.{spared_if_may}
+use Rattle.sys_refusals.specs.declared.refusal.HostFault.{HostFault}
+use Rattle.sys_refusals.specs.declared.refusal.HostRefusal.{HostRefusal}
+use Rattle.mem_disk.proofs.Sums.{swapped, swapped_over}
 use Rattle.mem_disk.specs.declared.disk.MemoryDisk.{MemoryDisk}
 use Rattle.mem_files.specs.declared.stored.MemoryFile.{MemoryFile}
 use Rattle.mem_files.specs.declared.stored.MemoryPath.{MemoryPath}
@@ -135,14 +133,14 @@ pub guarded_then : (path : List ℕ) (a b : MemoryDisk) (c : World) → c ≡ wo
 guarded_then path a b c e at used refused = e ∙ at.guarded used refused
 
 -- and the refusal is counted
-pub creates_path : {A F : Type 0} (e : F) (path : List ℕ) (written : A → List ℕ) (faults : A → ℕ) (a b c : MemoryDisk)
-    → RefusesAt path a b → CountsFailed 1 b c
+pub creates_path : {A : Type 0} (e : HostRefusal) (path : List ℕ) (written : A → List ℕ) (faults : A → ℕ)
+    (a b c : MemoryDisk) → RefusesAt path a b → CountsMore (call_of e.fault) b c
     → CreatesOutput true (Err e) path written faults (held_of a) (held_of c) (world_of a) (world_of c)
 creates_path e path written faults a b c refused counted = record {
   empty = tt;
   clean = λ _. tt;
   created = λ _. tt;
-  kept = λ _. counted.held ∙ ap (failing 1) refused.kept;
+  kept = λ _. counted.held ∙ ap (counting (call_of e.fault)) refused.kept;
   only = λ _. only_then a.read.items path (world_of a) (world_of b) (world_of c) counted.world refused.only;
   begun = λ _. begun_then a.begun.items (world_of a) (world_of b) (world_of c) counted.world refused.same;
   guarded = λ _. guarded_then path a b (world_of c) counted.world refused;
@@ -150,30 +148,31 @@ creates_path e path written faults a b c refused counted = record {
 
 -- ---- an output that is given up
 
--- with this many failures before, and this many after
-ended_behind : (n m : ℕ) (h : OpenFiles) → failing m (ended false 0 (failing n h)) ≡ ended false (m + n) h
-ended_behind n m h = ap (λ (k : ℕ). record h { output = None; syncs = h.syncs + 0; failed = k })
-    (let z : h.failed + n + 0 + m ≡ h.failed + (m + n) = omega arith in z)
+abbrev with_counts : OpenFiles → Counts → OpenFiles
+with_counts h n = record h { output = None; syncs = h.syncs + 0; counts = n }
 
 -- its file was there
-pub lets_go_put : (n : ℕ) (bytes : List ℕ) (h h' h'' : OpenFiles) (a b c : World) → h' ≡ failing n h → b ≡ a
-    → h'' ≡ ended false 0 h' → SparesRest h'.output b c → Ends h'.output bytes b c → LetsGo bytes n h h'' a c
+pub lets_go_put : (n : Counts) (bytes : List ℕ) (h h' h'' : OpenFiles) (a b c : World) → h' ≡ counting n h → b ≡ a
+    → h'' ≡ ended false no_counts h' → SparesRest h'.output b c → Ends h'.output bytes b c → LetsGo bytes n h h'' a c
 lets_go_put n bytes h h' h'' a b c counted same closed rest ends = record {
-  more = 0;
-  closed = closed ∙ ap (ended false 0) counted ∙ (let z : ended false 0 (failing n h) ≡ ended false (0 + n) h =
-      ap (λ (k : ℕ). record h { output = None; syncs = h.syncs + 0; failed = k })
-      (let y : h.failed + n + 0 ≡ h.failed + (0 + n) = omega arith in y) in z);
+  more = no_counts;
+  unread = refl;
+  closed = closed ∙ ap (ended false no_counts) counted ∙ ap (with_counts h) (swapped h.counts n no_counts);
   rest = subst (λ w. SparesRest h.output w c) same (subst (λ (k : OpenFiles). SparesRest k.output b c) counted rest);
   left = λ none. subst (λ w. Ends h.output bytes w c) same
       (subst (λ (k : OpenFiles). Ends k.output bytes b c) counted ends);
 }
 
 -- it was not
-pub lets_go_lost : (n : ℕ) (bytes : List ℕ) (h h' h'' h3 : OpenFiles) (a b c : World) → h' ≡ failing n h → b ≡ a
-    → h'' ≡ ended false 0 h' → h3 ≡ failing 1 h'' → SparesRest h'.output b c → LetsGo bytes n h h3 a c
-lets_go_lost n bytes h h' h'' h3 a b c counted same closed lost rest = record {
-  more = 1;
-  closed = lost ∙ ap (failing 1) (closed ∙ ap (ended false 0) counted) ∙ ended_behind n 1 h;
-  rest = subst (λ w. SparesRest h.output w c) same (subst (λ (k : OpenFiles). SparesRest k.output b c) counted rest);
-  left = λ none. absurd (omega (arith, none));
+pub lets_go_lost : (n : Counts) (f : HostFault) (bytes : List ℕ) (h h' h'' h3 : OpenFiles) (a b c d : World)
+    → h' ≡ counting n h → b ≡ a → h'' ≡ ended false no_counts h' → h3 ≡ counting (call_of f) h'' → d ≡ c
+    → SparesRest h'.output b c → LetsGo bytes n h h3 a d
+lets_go_lost n f bytes h h' h'' h3 a b c d counted same closed lost after rest = record {
+  more = call_of f;
+  unread = refl;
+  closed = lost ∙ ap (counting (call_of f)) (closed ∙ ap (ended false no_counts) counted)
+      ∙ ap (with_counts h) (swapped_over h.counts n (call_of f));
+  rest = subst (λ w. SparesRest h.output a w) (sym after) (subst (λ w. SparesRest h.output w c) same
+      (subst (λ (k : OpenFiles). SparesRest k.output b c) counted rest));
+  left = λ none. absurd (is_some_failure f n.failed none);
 }

@@ -1,13 +1,11 @@
 -- What an image leaves in its file.
-use Rattle.std.proofs.Common.{inl, ◌≡◌, ℕ, ◌<◌, List, [], ◌∷◌, ◌++◌, Option, Some, sym, ◌∙◌, ap, subst}
-use Rattle.std.specs.Prelude.{get_or, set, length}
-use Rattle.sys_disk.specs.Images.{Leaves, HoldsSame, EmptiesAt}
+use Rattle.std.proofs.Common.{inl, ◌≡◌, ℕ, ◌<◌, List, Option, Some, sym, subst}
+use Rattle.std.specs.Prelude.{set, length}
+use Rattle.sys_disk.specs.Images.{Leaves, EmptiesAt}
 use Rattle.mem_disk.specs.Memory.{world_of_files}
-use Rattle.mem_files.specs.Stored.{contents}
 use Rattle.sys_disk.specs.World.{World}
 use Rattle.mem_files.specs.declared.stored.MemoryFile.{MemoryFile}
 use Rattle.mem_files.specs.declared.stored.MemoryPath.{MemoryPath}
-use Rattle.mem_disk.proofs.Files.{holds_more}
 use Rattle.mem_files.proofs.Paths.{holds_new}
 
 -- the output that is open holds what was put into it

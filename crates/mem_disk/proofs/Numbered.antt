@@ -1,18 +1,12 @@
 -- The least number that a file has, of those that paths lead to.
-use Rattle.std.proofs.Common.{arith, ◌≡◌, ◌≢◌, ℕ, ◌<◌, ◌≤◌, ◌+◌, ◌^◌, List, [], ◌∷◌, ◌++◌, Option, Some, None, refl}
-use Rattle.std.proofs.Common.{sym}
-use Rattle.std.proofs.Common.{◌∙◌, ap, subst, Bool, true, false, IsTrue, IfSome, IfOk, Result, Ok, Err, OkIff, cond}
-use Rattle.std.proofs.Common.{nat_lt}
-use Rattle.std.proofs.Common.{if◌then◌else◌, ◌&&◌, length, get_or, drop, is_some, slice_index, ◌==◌, decimal}
-use Rattle.std.proofs.Common.{string_bytes}
-use Rattle.std.proofs.Common.{bytes_eq, take, Decides, ltb-true, ltb-false, ne_eqb}
+use Rattle.std.proofs.Common.{arith, ◌≡◌, ◌≢◌, ℕ, ◌<◌, ◌+◌, ◌^◌, List, [], ◌∷◌, ◌++◌, Option, Some, None, refl, sym}
+use Rattle.std.proofs.Common.{◌∙◌, ap, subst, Bool, true, false, IfSome, cond, nat_lt, if◌then◌else◌, ◌&&◌, length}
+use Rattle.std.proofs.Common.{get_or, drop, decimal, string_bytes, bytes_eq, take, Decides, ltb-true, ltb-false}
 use Rattle.std.proofs.lemmas.List.{append_cancel_left, take_all, take_more}
 use Rattle.std.proofs.lemmas.Option.{none-some}
 use Rattle.std.proofs.lemmas.Bool.{cond-true}
 use Rattle.std.proofs.lemmas.Slice.Eq.{bytes_eq-Decides}
-use Rattle.std.proofs.lemmas.Fmt.{decimal_injective, decimal-digits_value, first_decimal, parse-decimal}
-use Rattle.std.proofs.lemmas.Str.Parse.{numerals_by_value, tells_digits}
-use Rattle.std.specs.Str.Parse.{digits_value, without_leading_plus, IsNumeral, ParsesUnsigned}
+use Rattle.std.proofs.lemmas.Fmt.{decimal_injective}
 use Rattle.sys_disk.specs.LeftOver.{IsNextLeft}
 use Rattle.mem_files.specs.Stored.{leads}
 use Rattle.mem_files.proofs.Paths.{leads_none}

@@ -1,3 +1,4 @@
 pub mod Made
 pub mod Memory
 pub mod Spooled
+pub mod Stored

@@ -1,9 +1,9 @@
 -- The files of a disk in memory.
-use Rattle.std.specs.Prelude.{◌≡◌, ℕ, ◌<◌, ◌≤◌, ◌-◌, List, [], ◌∷◌, Option, Some, None, Contains, cond}
-use Rattle.std.specs.Prelude.{bytes_eq, string_bytes, map, get_or, Result, IfOk, OnOk, OnErr, length, take, drop, Bool}
-use Rattle.std.specs.Prelude.{codes}
+use Rattle.std.specs.Prelude.{◌≡◌, ℕ, ◌<◌, ◌≤◌, ◌-◌, List, [], ◌∷◌, Some, Contains, bytes_eq, get_or, Result, IfOk}
+use Rattle.std.specs.Prelude.{OnOk, OnErr, length, take, drop, Bool, codes}
 use Rattle.sys_disk.specs.Images.{HoldsSame}
-use Rattle.sys_disk.specs.World.{World, OpenFiles, MayWrite, Spares, SparesInUse, OpensFile, Creates, OnlyAt, failing}
+use Rattle.sys_disk.specs.Counts.{Counts}
+use Rattle.sys_disk.specs.World.{World, OpenFiles, MayWrite, Spares, SparesInUse, OpensFile, Creates, OnlyAt, counting}
 use Rattle.mem_disk.specs.declared.disk.MemoryDisk.{MemoryDisk}
 use Rattle.mem_files.specs.Stored.{contents, leads}
 use Rattle.mem_files.specs.declared.stored.MemoryFile.{MemoryFile}
@@ -32,7 +32,7 @@ held_of d = record {
   syncs = d.syncs.number;
   in_use = is_in_use;
   allows_mounted = d.allows_mounted;
-  failed = d.failed.tally.number;
+  counts = d.counted.counts;
 }
 
 -- this file more is written, as an output or in any other way
@@ -55,9 +55,9 @@ pub record Untouched (old new : MemoryDisk) : Type 0 where
   pub held : held_of new ≡ held_of old
   pub world : world_of new ≡ world_of old
 
--- n calls more have failed, and no file has changed
-pub record CountsFailed (n : ℕ) (old new : MemoryDisk) : Type 0 where
-  pub held : held_of new ≡ failing n (held_of old)
+-- this much more is counted, and no file has changed
+pub record CountsMore (n : Counts) (old new : MemoryDisk) : Type 0 where
+  pub held : held_of new ≡ counting n (held_of old)
   pub world : world_of new ≡ world_of old
 
 -- this file is begun, and holds these bytes: it is none that is read or was begun, and all others are as before
@@ -75,11 +75,12 @@ pub record OpensOnly {X E : Type 0} (r : Result X E) (old new : MemoryDisk) : Ty
   pub kept : OnErr r (held_of new ≡ held_of old)
   pub world : world_of new ≡ world_of old
 
--- the same where what is opened is the file at this path, and has not failed yet
+-- the same where what is opened is the file at this path, which was not read yet, and has not failed
 pub record OpensMemory {A E : Type 0} (r : Result A E) (path : List ℕ) (its_bytes : A → List ℕ)
-    (its_failed : A → Failures) (old new : MemoryDisk) : Type 0 where
+    (its_given : A → ℕ) (its_failed : A → Failures) (old new : MemoryDisk) : Type 0 where
   pub opened : IfOk r (λ a. OpensFile (world_of old) path (its_bytes a) (held_of old) (held_of new))
   pub clean : IfOk r (λ a. (its_failed a).tally.number ≡ 0)
+  pub unread : IfOk r (λ a. its_given a ≡ 0)
   pub kept : OnErr r (held_of new ≡ held_of old)
   pub world : world_of new ≡ world_of old
 

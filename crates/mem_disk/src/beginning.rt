@@ -1,6 +1,7 @@
 //! How a disk in memory creates a file, or empties it, and closes one.
 
 ghost use Rattle.std.specs.Prelude.{◌≡◌, [], Some, None, string_bytes, IsTrue, IfOk, OnErr, Contains, false};
+ghost use Rattle.sys_disk.specs.Counts.{no_counts};
 ghost use Rattle.sys_disk.specs.Images.{HoldsSame, Leaves};
 ghost use Rattle.sys_disk.specs.World.{OnlyAt, Spares, Ends, SparesRest, ended};
 ghost use Rattle.mem_disk.specs.Memory.{world_of, held_of, Starts, Fills, RefusesAt, OpensOutput};
@@ -99,7 +100,7 @@ impl MemoryDisk {
     // Puts these bytes into the open output, which is closed. Returns whether it existed.
     pub(crate) fn put(&mut self, bytes: Vec<u8>) -> bool
         ensures ended { IsTrue result → Ends self.old.output bytes.items (world_of self.old) (world_of self.new) }
-        ensures closed { held_of self.new ≡ ended false 0 (held_of self.old) }
+        ensures closed { held_of self.new ≡ ended false no_counts (held_of self.old) }
         ensures rest { SparesRest self.old.output (world_of self.old) (world_of self.new) }
         ensures left { Leaves self.old.output bytes.items (world_of self.new) }
     {

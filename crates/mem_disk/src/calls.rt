@@ -8,6 +8,7 @@ use crate::image::torn;
 use crate::{
     MemoryDisk, MemoryImage, MemoryInput, MemoryOutput, MemoryPartition, MemorySource, MemorySpool,
 };
+use abt_io::Tally;
 use std::alloc::AllocError;
 use sys_disk::{Disk, ImageTo, NoMemory};
 use sys_refusals::{FileArg, HostFault, HostRefusal};
@@ -83,11 +84,11 @@ impl Disk for MemoryDisk {
     }
 
     fn let_go(&mut self, from: MemoryInput) {
-        self.add_failures(&from.failed);
+        self.add_read(&from.count, &from.failed);
     }
 
     fn let_go_source(&mut self, at: MemorySource) {
-        self.add_failures(&at.failed);
+        self.add_read(&at.count, &at.failed);
     }
 
     fn partition<'a>(&mut self, place: FileArg<'a>) -> Result<MemoryPartition, HostRefusal<'a>> {
@@ -107,8 +108,7 @@ impl Disk for MemoryDisk {
 
     fn unchanged<'a>(&mut self) -> Result<(), HostRefusal<'a>> {
         if self.faults.calls.is_over() {
-            self.failed.add();
-            return Err(HostRefusal::of(HostFault::Changed, None));
+            return Err(self.refused(HostRefusal::of(HostFault::Changed, None)));
         }
         Ok(())
     }
@@ -120,8 +120,7 @@ impl Disk for MemoryDisk {
     ) -> Result<bool, HostRefusal<'a>> {
         self.put_back(part);
         if self.faults.calls.is_over() {
-            self.failed.add();
-            return Err(HostRefusal::at(HostFault::Write, place, None));
+            return Err(self.refused(HostRefusal::at(HostFault::Write, place, None)));
         }
         Ok(false)
     }
@@ -155,13 +154,12 @@ impl Disk for MemoryDisk {
         through: MemorySpool,
         place: FileArg<'a>,
     ) -> Result<bool, HostRefusal<'a>> {
-        self.add_failures(&through.write_failures);
-        self.add_failures(&through.read_failures);
-        self.add_failures(&through.clear_failures);
+        self.add_read(&Tally::new(), &through.read_failures);
+        self.add_written(&through.write_failures);
+        self.add_written(&through.clear_failures);
         let is_there = self.put_through(through.bytes);
         if !is_there || self.faults.calls.is_over() {
-            self.failed.add();
-            return Err(HostRefusal::at(HostFault::Write, place, None));
+            return Err(self.refused(HostRefusal::at(HostFault::Write, place, None)));
         }
         Ok(false)
     }
@@ -169,10 +167,7 @@ impl Disk for MemoryDisk {
     fn is_there<'a>(&mut self, place: FileArg<'a>) -> Result<bool, HostRefusal<'a>> {
         match place.path(self.alloc) {
             Ok(path) => Ok(self.file_at(path.as_str()).is_some()),
-            Err(_) => {
-                self.failed.add();
-                Err(HostRefusal::memory())
-            }
+            Err(_) => Err(self.refused(HostRefusal::memory())),
         }
     }
 
@@ -180,14 +175,14 @@ impl Disk for MemoryDisk {
         match self.next_left(place, behind) {
             Ok(left) => Ok(left),
             Err(error) => {
-                self.failed.add();
+                self.refused(HostRefusal::memory());
                 Err(error)
             }
         }
     }
 
     fn no_memory(&mut self, _refused: NoMemory) {
-        self.failed.add();
+        self.refused(HostRefusal::memory());
     }
 
     fn refuse_taken<'a>(&mut self, place: FileArg<'a>) -> Result<(), HostRefusal<'a>> {
@@ -216,11 +211,10 @@ impl Disk for MemoryDisk {
         onto: MemoryOutput,
         place: FileArg<'a>,
     ) -> Result<bool, HostRefusal<'a>> {
-        self.add_failures(&onto.failed);
+        self.add_written(&onto.failed);
         let is_there = self.put(onto.bytes);
         if !is_there || self.faults.calls.is_over() {
-            self.failed.add();
-            return Err(HostRefusal::at(HostFault::Write, place, None).begun(place));
+            return Err(self.refused(HostRefusal::at(HostFault::Write, place, None).begun(place)));
         }
         if self.is_synced {
             self.syncs.add(1);
@@ -229,11 +223,11 @@ impl Disk for MemoryDisk {
     }
 
     fn give_up(&mut self, onto: MemoryOutput) {
-        self.add_failures(&onto.failed);
+        self.add_written(&onto.failed);
         if self.put(onto.bytes) {
             return;
         }
-        self.failed.add();
+        self.refused(HostRefusal::of(HostFault::Write, None));
     }
 
     fn image<'a>(
@@ -252,7 +246,7 @@ impl Disk for MemoryDisk {
         image: MemoryImage,
         place: FileArg<'a>,
     ) -> Result<bool, HostRefusal<'a>> {
-        self.add_failures(&image.failed);
+        self.add_written(&image.failed);
         let is_over = self.faults.calls.is_over();
         let bytes = if is_over {
             torn(image.bytes)
@@ -260,8 +254,7 @@ impl Disk for MemoryDisk {
             image.bytes
         };
         if !self.put(bytes) || is_over {
-            self.failed.add();
-            return Err(HostRefusal::at(HostFault::Write, place, None).begun(place));
+            return Err(self.refused(HostRefusal::at(HostFault::Write, place, None).begun(place)));
         }
         let is_synced = self.is_synced;
         if is_synced {
@@ -271,7 +264,7 @@ impl Disk for MemoryDisk {
     }
 
     fn give_up_image(&mut self, image: MemoryImage) {
-        self.add_failures(&image.failed);
+        self.add_written(&image.failed);
         self.put(image.bytes);
     }
 }

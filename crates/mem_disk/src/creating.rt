@@ -1,6 +1,6 @@
 //! How a disk in memory creates an output, and which path it rejects before that.
 
-ghost use Rattle.std.specs.Prelude.{◌≡◌, [], None, IfOk, OnOk, OnErr, Contains};
+ghost use Rattle.std.specs.Prelude.{◌≡◌, [], None, IfOk, OnOk, OnErr};
 ghost use Rattle.sys_refusals.specs.Paths.{path_of, path_out};
 ghost use Rattle.sys_disk.specs.Images.{is_file, is_over, OfImage, EmptiesAt};
 ghost use Rattle.sys_disk.specs.World.{IsFree};
@@ -19,17 +19,9 @@ impl MemoryDisk {
         let Ok(path) = place.path(self.alloc) else {
             return Err(HostRefusal::memory());
         };
-        match self.file_at(path.as_str()) {
-            Some(file) => self.refuse_file(file, place),
-            None => Ok(()),
-        }
-    }
-
-    // Fails for a file that is read, or that was begun.
-    fn refuse_file<'a>(&self, file: u64, place: FileArg<'a>) -> Result<(), HostRefusal<'a>>
-        ensures read { OnOk result (¬ Contains self.now.read.items file) }
-        ensures begun { OnOk result (¬ Contains self.now.begun.items file) }
-    {
+        let Some(file) = self.file_at(path.as_str()) else {
+            return Ok(());
+        };
         if self.is_taken(file) {
             return Err(HostRefusal::at(HostFault::SameFile, place, None));
         }

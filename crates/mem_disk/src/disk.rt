@@ -1,11 +1,12 @@
 //! A disk in memory, which models its files.
 
 ghost use Rattle.std.specs.Prelude.{◌≡◌, [], None, false, IfOk, Contains, get_or, IsTrue};
+ghost use Rattle.sys_disk.specs.Counts.{call_of, reads, writes};
 ghost use Rattle.sys_disk.specs.World.{MayWrite};
-ghost use Rattle.mem_disk.specs.Memory.{held_of, CountsFailed};
+ghost use Rattle.mem_disk.specs.Memory.{held_of, CountsMore};
 ghost use Rattle.mem_files.specs.Stored.{contents, leads};
 
-use crate::{Failures, Faults};
+use crate::{Counted, Failures, Faults};
 use abt_io::Tally;
 use mem_files::{MemoryFile, MemoryPath, file_at};
 use std::alloc::{AllocError, Global};
@@ -28,8 +29,10 @@ pub struct MemoryDisk {
     pub(crate) syncs: Tally,
     /// Whether the device at `/dev/in-use` may be written.
     pub allows_mounted: bool,
-    /// How often a call failed, or a device failed that was given back.
-    pub failed: Failures,
+    /// What contracts count.
+    pub(crate) counted: Counted,
+    /// How often a call failed, or a device failed that was given back, as far as the number goes.
+    pub failed: u64,
 }
 
 impl MemoryDisk {
@@ -63,7 +66,8 @@ impl MemoryDisk {
             is_synced,
             syncs: Tally::new(),
             allows_mounted: false,
-            failed: Failures::none(),
+            counted: Counted::new(),
+            failed: 0,
         }
     }
 
@@ -104,16 +108,27 @@ impl MemoryDisk {
 
     // Counts a failed call.
     pub(crate) fn refused<'a>(&mut self, refusal: HostRefusal<'a>) -> HostRefusal<'a>
-        ensures { CountsFailed 1 self.old self.new }
+        ensures same { result ≡ refusal.entry }
+        ensures counts { CountsMore (call_of result.fault) self.old self.new }
     {
-        self.failed.add();
+        self.counted.call(&refusal.fault);
+        self.failed = self.failed.saturating_add(1);
         refusal
     }
 
-    // Counts how often a device that is given back has failed.
-    pub(crate) fn add_failures(&mut self, failures: &Failures)
-        ensures { CountsFailed failures.now.tally.number self.old self.new }
+    // Counts what a device gave that was read, and how often it failed.
+    pub(crate) fn add_read(&mut self, given: &Tally, failures: &Failures)
+        ensures { CountsMore (reads given.now.number failures.now.tally.number) self.old self.new }
     {
-        self.failed.add_all(failures);
+        self.counted.read(given, &failures.tally);
+        self.failed = self.failed.saturating_add(failures.seen);
+    }
+
+    // Counts how often a device failed that was written.
+    pub(crate) fn add_written(&mut self, failures: &Failures)
+        ensures { CountsMore (writes failures.now.tally.number) self.old self.new }
+    {
+        self.counted.written(&failures.tally);
+        self.failed = self.failed.saturating_add(failures.seen);
     }
 }

@@ -30,17 +30,4 @@ impl Failures {
         self.tally.add(1);
         self.seen = self.seen.saturating_add(1);
     }
-
-    /// As often more as something else has.
-    pub fn add_all(&mut self, more: &Failures)
-        ensures { self.new.tally.number ≡ self.old.tally.number + more.now.tally.number }
-    {
-        add_tally(&mut self.tally, &more.tally);
-        self.seen = self.seen.saturating_add(more.seen);
-    }
 }
-
-// Adds what another has counted.
-fn add_tally(_tally: &mut Tally, _more: &Tally)
-    ensures { _tally.new.number ≡ _tally.old.number + _more.now.number }
-{}

@@ -3,8 +3,9 @@
 ghost use Rattle.std.specs.Prelude.{◌≡◌, true, drop};
 ghost use Rattle.abt_io.specs.Bytes.{AreBytes};
 ghost use Rattle.abt_io.specs.BytesLaws.{bytes_of_drop};
-ghost use Rattle.mem_disk.specs.Memory.{CopiesFrom, IsUnused};
+ghost use Rattle.mem_disk.specs.Memory.{IsUnused};
 
+use crate::source::copied_from;
 use crate::{Countdown, Failures};
 use abt_io::{DeviceFault, Input, Tally, are_bytes};
 use sys_disk::{Measured, Reasons};
@@ -25,6 +26,7 @@ impl MemoryInput {
     /// These bytes, where a read may fail.
     pub fn new(bytes: Vec<u8>, faults: Countdown) -> MemoryInput
         ensures position { result.position ≡ 0 }
+        ensures unread { result.count.number ≡ 0 }
         ensures unused { IsUnused bytes result.bytes result.failed }
     {
         are_bytes(bytes.as_slice());
@@ -58,23 +60,11 @@ impl Input for MemoryInput {
             self.failed.add();
             return Err(DeviceFault::Failed);
         }
-        let n = copied(self.bytes.as_slice(), self.position, out);
+        let n = copied_from(self.bytes.as_slice(), self.position as u64, out);
         self.position += n;
         self.count.add(n as u64);
         Ok(n)
     }
-}
-
-// Copies bytes from an offset on, as many as there are and have room.
-pub(crate) fn copied(bytes: &[u8], at: usize, out: &mut [u8]) -> usize
-    ensures { CopiesFrom at bytes.now result out.new }
-{
-    if at >= bytes.len() {
-        return 0;
-    }
-    let n = out.len().min(bytes.len() - at);
-    out[..n].copy_from_slice(&bytes[at..at + n]);
-    n
 }
 
 impl Reasons for MemoryInput {

@@ -14,12 +14,13 @@
 //! | `output.rt`, `image.rt` | its outputs: written from the beginning on, and overwritten |
 //! | `partition.rt`, `spool.rt` | a file that is written in place, and one that pieces go through |
 //! | `left.rt` | which numbered files it has left |
-//! | `failures.rt`, `countdown.rt` | how often something has failed, and which call fails |
+//! | `counted.rt`, `failures.rt`, `countdown.rt` | what it counts, how often a device has failed, and which call fails |
 #![tactic(auto)]
 
 mod beginning;
 mod calls;
 mod countdown;
+mod counted;
 mod creating;
 mod disk;
 mod failures;
@@ -35,6 +36,7 @@ mod source;
 mod spool;
 
 pub use countdown::{Countdown, Faults};
+pub use counted::Counted;
 pub use disk::MemoryDisk;
 pub use failures::Failures;
 pub use image::MemoryImage;

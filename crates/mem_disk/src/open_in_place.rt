@@ -1,8 +1,9 @@
 //! How a disk in memory opens a file to be written in place, and closes it.
 
-ghost use Rattle.std.specs.Prelude.{◌≡◌, None, IfOk, length, replicate, if◌then◌else◌};
+ghost use Rattle.std.specs.Prelude.{◌≡◌, None, IfOk, length, replicate};
 ghost use Rattle.abt_io.specs.Moment.{no_past};
 ghost use Rattle.sys_refusals.specs.Paths.{path_of};
+ghost use Rattle.sys_disk.specs.Counts.{writes};
 ghost use Rattle.sys_disk.specs.InPlace.{OpensPart, IsAsLong, closed_part};
 ghost use Rattle.sys_disk.specs.World.{Spares, Ends, SparesRest};
 ghost use Rattle.mem_disk.specs.Made.{MakesMemory};
@@ -82,12 +83,13 @@ impl MemoryDisk {
         requires { IsAsLong self.old.part part.bytes.items (world_of self.old) }
         ensures ended { Ends self.old.part part.bytes.items (world_of self.old) (world_of self.new) }
         ensures paths { (world_of self.new).at ≡ (world_of self.old).at }
-        ensures closed { held_of self.new ≡ closed_part part.history.past part.failed.tally.number
+        ensures closed { held_of self.new ≡ closed_part part.history.past (writes part.failed.tally.number)
             (held_of self.old) }
         ensures rest { SparesRest self.old.part (world_of self.old) (world_of self.new) }
     {
-        self.syncs.add(once(part.is_stable));
-        self.failed.add_all(&part.failed);
+        self.syncs.add(part.is_stable as u64);
+        self.counted.written(&part.failed.tally);
+        self.failed = self.failed.saturating_add(part.failed.seen);
         match self.part.take() {
             Some(file) => self.lay(file, part.bytes),
             None => {}
@@ -106,12 +108,6 @@ impl MemoryDisk {
             self.files[file as usize] = MemoryFile { bytes };
         }
     }
-}
-
-fn once(is_so: bool) -> u64
-    ensures { result ≡ (if is_so then 1 else 0) }
-{
-    if is_so { 1 } else { 0 }
 }
 
 // This many zeros.

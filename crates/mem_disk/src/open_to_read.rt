@@ -18,8 +18,8 @@ impl MemoryDisk {
         place: FileArg<'a>,
     ) -> Result<MemoryInput, HostRefusal<'a>>
         ensures position { IfOk result (λ from. from.position ≡ 0) }
-        ensures opens { OpensMemory result (path_in place.entry) (λ from. from.bytes.items) (λ from. from.failed) self.old
-            self.new }
+        ensures opens { OpensMemory result (path_in place.entry) (λ from. from.bytes.items)
+            (λ from. from.count.number) (λ from. from.failed) self.old self.new }
     {
         if self.faults.calls.is_over() {
             return Err(HostRefusal::at(HostFault::CannotOpen, place, None));
@@ -44,7 +44,8 @@ impl MemoryDisk {
         &mut self,
         place: FileArg<'a>,
     ) -> Result<MemorySource, HostRefusal<'a>>
-        ensures { OpensMemory result (path_of place.entry) (λ at. at.bytes.items) (λ at. at.failed) self.old self.new }
+        ensures { OpensMemory result (path_of place.entry) (λ at. at.bytes.items) (λ at. at.count.number)
+            (λ at. at.failed) self.old self.new }
     {
         if self.faults.calls.is_over() {
             return Err(HostRefusal::at(HostFault::CannotOpen, place, None));

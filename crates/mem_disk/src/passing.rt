@@ -3,6 +3,7 @@
 ghost use Rattle.std.specs.Prelude.{◌≡◌, None, IsTrue, IfOk, OnOk, OnErr};
 ghost use Rattle.abt_io.specs.Frame.{nothing_logged};
 ghost use Rattle.sys_refusals.specs.Paths.{path_of};
+ghost use Rattle.sys_disk.specs.Counts.{no_counts};
 ghost use Rattle.sys_disk.specs.Spools.{OpensSpool, closed_spool};
 ghost use Rattle.sys_disk.specs.World.{Ends, SparesRest};
 ghost use Rattle.mem_disk.specs.Memory.{world_of, held_of, RefusesAt};
@@ -48,7 +49,7 @@ impl MemoryDisk {
     // Puts these bytes into the file that pieces go through, which is closed. Returns whether it existed.
     pub(crate) fn put_through(&mut self, bytes: Vec<u8>) -> bool
         ensures ended { IsTrue result → Ends self.old.spool bytes.items (world_of self.old) (world_of self.new) }
-        ensures closed { held_of self.new ≡ closed_spool 0 (held_of self.old) }
+        ensures closed { held_of self.new ≡ closed_spool no_counts (held_of self.old) }
         ensures rest { SparesRest self.old.spool (world_of self.old) (world_of self.new) }
     {
         let Some(file) = self.spool.take() else {

@@ -1,6 +1,6 @@
 //! An input of a disk in memory that is read at any offset.
 
-ghost use Rattle.std.specs.Prelude.{true, refl, length};
+ghost use Rattle.std.specs.Prelude.{◌≡◌, true, refl, length};
 ghost use Rattle.abt_io.specs.Bytes.{AreBytes};
 ghost use Rattle.mem_disk.specs.Memory.{CopiesFrom, IsUnused};
 
@@ -14,7 +14,7 @@ pub struct MemorySource {
     pub bytes: Vec<u8>,
     faults: Countdown,
     calls: Tally,
-    count: Tally,
+    pub count: Tally,
     pub failed: Failures,
     pub ghost told: { AreBytes bytes.items },
 }
@@ -22,6 +22,7 @@ pub struct MemorySource {
 impl MemorySource {
     /// These bytes, where a read may fail.
     pub fn new(bytes: Vec<u8>, faults: Countdown) -> MemorySource
+        ensures unread { result.count.number ≡ 0 }
         ensures unused { IsUnused bytes result.bytes result.failed }
     {
         are_bytes(bytes.as_slice());

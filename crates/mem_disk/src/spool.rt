@@ -7,8 +7,8 @@ ghost use Rattle.abt_io.specs.Frame.{last_cut, nothing_logged};
 ghost use Rattle.abt_io.specs.Held.{held_is};
 ghost use Rattle.mem_disk.specs.Spooled.{filled_as_spool};
 
-use crate::input::copied;
 use crate::partition::put_part;
+use crate::source::copied_from;
 use crate::{Countdown, Failures};
 use abt_io::{DeviceFault, Input, Log, Output, Overwrite, Spool, Tally, are_bytes};
 
@@ -107,7 +107,7 @@ impl Input for MemorySpool {
             return Err(DeviceFault::Failed);
         }
         let seen = self.seen;
-        let n = copied(self.bytes.as_slice(), seen, out);
+        let n = copied_from(self.bytes.as_slice(), seen as u64, out);
         self.given.add(n as u64);
         self.seen = seen.saturating_add(n);
         Ok(n)

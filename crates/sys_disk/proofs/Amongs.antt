@@ -4,14 +4,15 @@ use Rattle.std.specs.Prelude.{Contains}
 use Rattle.std.proofs.lemmas.Bool.{cases_eq}
 use Rattle.std.proofs.lemmas.List.Elements.{Contains-append_left, Contains-append_right, Contains-append_cases}
 use Rattle.std.proofs.lemmas.List.Elements.{Contains-push, Contains-push_cases}
+use Rattle.sys_disk.specs.Counts.{Counts}
 use Rattle.sys_disk.specs.World.{World, OpenFiles, OpensFile, Creates, OnlyAt, untouched, in_output, Spares, Ends}
-use Rattle.sys_disk.specs.World.{KeepsBegun, SparesRest, ended, failing}
+use Rattle.sys_disk.specs.World.{KeepsBegun, SparesRest, ended, counting}
 use Rattle.sys_disk.proofs.Worlds.{spares_trans}
 use Rattle.sys_disk.specs.Among.{FileHolds, IsAmong, OnlyAmong, GoesAmong, KeepsMade, IsMade}
 
 -- ---- that nothing else was changed
 
-pub goes_none : (P : List ℕ → Type 0) (h h' : OpenFiles) (a b : World) (n : ℕ) → h' ≡ failing n h → b ≡ a
+pub goes_none : (P : List ℕ → Type 0) (h h' : OpenFiles) (a b : World) (n : Counts) → h' ≡ counting n h → b ≡ a
     → GoesAmong P h h' a b
 goes_none P h h' a b n same_held same = record {
   read = ap (λ k. k.read) same_held;
@@ -85,8 +86,8 @@ file_or P read path file old new f named there free spares (inl same) =
     inr (one_among P read path file new f named there free same)
 
 -- of an opening that was refused
-pub goes_refused : (P : List ℕ → Type 0) (path : List ℕ) (h h' : OpenFiles) (a b : World) (n : ℕ) → P path
-    → h' ≡ failing n h → OnlyAt h.read path a b → GoesAmong P h h' a b
+pub goes_refused : (P : List ℕ → Type 0) (path : List ℕ) (h h' : OpenFiles) (a b : World) (n : Counts) → P path
+    → h' ≡ counting n h → OnlyAt h.read path a b → GoesAmong P h h' a b
 goes_refused P path h h' a b n named same_held (untouched same) = goes_none P h h' a b n same_held same
 goes_refused P path h h' a b n named same_held (in_output file there free spares) = record {
   read = ap (λ k. k.read) same_held;
@@ -112,13 +113,13 @@ first_or file f files listed = elim (Contains-append_cases (file ∷ []) files f
   | inr rest ↦ inl rest
 ]
 
-begun_now : (path : List ℕ) (h h' h'' : OpenFiles) (b : Bool) (n : ℕ) (old new : World)
+begun_now : (path : List ℕ) (h h' h'' : OpenFiles) (b : Bool) (n : Counts) (old new : World)
     (made : Creates path h h' old new)
     → h'' ≡ ended b n h' → h''.begun ≡ made.file ∷ h.begun
 begun_now path h h' h'' b n old new made closed = ap (λ k. k.begun) closed ∙ ap (λ k. k.begun) made.begins
 
 -- an output that was created, and then brought to its end or let go
-pub goes_written : (P : List ℕ → Type 0) (path : List ℕ) (b : Bool) (n : ℕ) (h h' h'' : OpenFiles) (u v w : World)
+pub goes_written : (P : List ℕ → Type 0) (path : List ℕ) (b : Bool) (n : Counts) (h h' h'' : OpenFiles) (u v w : World)
     → P path
     → Creates path h h' u v → h'' ≡ ended b n h' → SparesRest h'.output v w → GoesAmong P h h'' u w
 goes_written P path b n h h' h'' u v w named made closed rest =
@@ -136,8 +137,8 @@ goes_written P path b n h h' h'' u v w named made closed rest =
           ];
     }
 
-pub keeps_written : (path : List ℕ) (b : Bool) (n : ℕ) (h h' h'' : OpenFiles) (u v w : World) → Creates path h h' u v
-    → h'' ≡ ended b n h' → SparesRest h'.output v w → KeepsMade h h'' u w
+pub keeps_written : (path : List ℕ) (b : Bool) (n : Counts) (h h' h'' : OpenFiles) (u v w : World)
+    → Creates path h h' u v → h'' ≡ ended b n h' → SparesRest h'.output v w → KeepsMade h h'' u w
 keeps_written path b n h h' h'' u v w made closed rest =
     let after = spared path h h' u v w made rest in
     let both = spares_trans made.file u v w made.spares after in
@@ -149,7 +150,7 @@ keeps_written path b n h h' h'' u v w made closed rest =
           (Contains-append_right (made.file ∷ []) h.begun f listed);
     }
 
-pub made_written : (path bytes : List ℕ) (b : Bool) (n : ℕ) (h h' h'' : OpenFiles) (u v w : World)
+pub made_written : (path bytes : List ℕ) (b : Bool) (n : Counts) (h h' h'' : OpenFiles) (u v w : World)
     → Creates path h h' u v
     → h'' ≡ ended b n h' → Ends h'.output bytes v w → IsMade h'' w path bytes
 made_written path bytes b n h h' h'' u v w made closed ends =
@@ -165,7 +166,7 @@ made_written path bytes b n h h' h'' u v w made closed ends =
 
 -- ---- what is done stays done
 
-pub keeps_none : (h h' : OpenFiles) (a b : World) (n : ℕ) → h.output ≡ None → h' ≡ failing n h → b ≡ a
+pub keeps_none : (h h' : OpenFiles) (a b : World) (n : Counts) → h.output ≡ None → h' ≡ counting n h → b ≡ a
     → KeepsMade h h' a b
 keeps_none h h' a b n closed same_held same = record {
   closed = ap (λ k. k.output) same_held ∙ closed;
@@ -180,7 +181,7 @@ leads_kept read path a b (untouched same) p f there = subst (λ w. w.at p ≡ So
 leads_kept read path a b (in_output file at free spares) p f there = spares.paths p f there
 
 -- where an opening was refused
-pub keeps_refused : (path : List ℕ) (h h' : OpenFiles) (a b : World) (n : ℕ) → h.output ≡ None → h' ≡ failing n h
+pub keeps_refused : (path : List ℕ) (h h' : OpenFiles) (a b : World) (n : Counts) → h.output ≡ None → h' ≡ counting n h
     → OnlyAt h.read path a b → KeepsBegun h.begun a b → KeepsMade h h' a b
 keeps_refused path h h' a b n closed same_held only begun = record {
   closed = ap (λ k. k.output) same_held ∙ closed;
@@ -248,9 +249,8 @@ among_behind P path bytes h h' h'' a b c none opens same goes = record {
           (Contains-append_left h.read (opens.file ∷ []) f listed));
     }
 
-pub among_none : (P : List ℕ → Type 0) (h h' : OpenFiles) (a b : World) (n : ℕ) → h.begun ≡ [] → h' ≡ failing n h → b
-    ≡ a
-    → OnlyAmong P h.read h'.begun a b
+pub among_none : (P : List ℕ → Type 0) (h h' : OpenFiles) (a b : World) (n : Counts) → h.begun ≡ []
+    → h' ≡ counting n h → b ≡ a → OnlyAmong P h.read h'.begun a b
 among_none P h h' a b n none same_held same = record {
   leads = λ p f there. subst (λ w. w.at p ≡ Some f) (sym same) there;
   files = λ f. inl (ap (λ w. w.holds f) same);

@@ -1,3 +1,4 @@
 pub mod Amongs
 pub mod Closings
+pub mod Failings
 pub mod Worlds

@@ -3,6 +3,7 @@ use Rattle.std.proofs.Common.{◌≡◌, ◌≢◌, ℕ, ◌+◌, List, [], ◌�
 use Rattle.std.specs.Prelude.{Contains, unwrap_or, true, if◌then◌else◌}
 use Rattle.std.proofs.lemmas.Bool.{true≢false}
 use Rattle.std.proofs.lemmas.List.Elements.{Contains-append_left, Contains-push}
+use Rattle.sys_disk.specs.Counts.{Counts}
 use Rattle.sys_disk.specs.World.{World, OpenFiles, Spares, OpensFile, Creates, OnlyAt, untouched, in_output, Ends}
 use Rattle.sys_disk.specs.World.{MayWrite, SparesInUse, SparesRest, KeepsFile, ended}
 
@@ -56,7 +57,8 @@ kept_behind path input bytes h h' a b c opened same only =
 -- an input and an output were opened, and the output brought to its end: it was synced if outputs are
 pub synced_behind : (path input bytes : List ℕ) (h h' h'' new : OpenFiles) (w a b : World)
     → OpensFile w input bytes h h'
-    → Creates path h' h'' a b → (n : ℕ) → new ≡ ended true n h'' → new.syncs ≡ h.syncs + (if h.is_synced then 1 else 0)
+    → Creates path h' h'' a b → (n : Counts) → new ≡ ended true n h''
+    → new.syncs ≡ h.syncs + (if h.is_synced then 1 else 0)
 synced_behind path input bytes h h' h'' new w a b opened made n done =
     ap (λ k. k.syncs) done ∙ ap (λ k. k.syncs + (if k.is_synced then 1 else 0)) made.begins
     ∙ ap (λ k. k.syncs + (if k.is_synced then 1 else 0)) opened.taken

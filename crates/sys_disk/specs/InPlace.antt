@@ -2,7 +2,8 @@
 use Rattle.std.specs.Prelude.{◌≡◌, ℕ, ◌+◌, List, [], ◌∷◌, length, Option, Some, None, Bool, false, Contains, nat_lt}
 use Rattle.std.specs.Prelude.{◌<◌, IsTrue, if◌then◌else◌, replicate}
 use Rattle.abt_io.specs.Moment.{Past}
-use Rattle.sys_disk.specs.World.{World, OpenFiles, MayWrite, Spares, failing}
+use Rattle.sys_disk.specs.Counts.{Counts, HasNone, added}
+use Rattle.sys_disk.specs.World.{World, OpenFiles, MayWrite, Spares, counting}
 
 -- this file more is written, in place
 abbrev pub in_place : ℕ → OpenFiles → OpenFiles
@@ -28,20 +29,20 @@ abbrev pub is_settled : Past → Bool
 is_settled past = is_settled_in past.pending past.synced
 
 -- it is closed, and has failed this often; one sync more, if it was synced after its last byte
-abbrev pub closed_part : Past → ℕ → OpenFiles → OpenFiles
+abbrev pub closed_part : Past → Counts → OpenFiles → OpenFiles
 closed_part past failures h = record h {
   part = None;
   syncs = h.syncs + (if is_settled past then 1 else 0);
-  failed = h.failed + failures;
+  counts = added h.counts failures;
 }
 
 -- The file that was written in place is closed, and this is the result of the call that wrote it. The result is Ok only
--- if nothing failed at the end. If the call had done its work, the result is an error only if something has failed.
-pub record ClosesPart (is_written is_done : Bool) (past : Past) (failures : ℕ) (old new : OpenFiles) : Type 0 where
-  pub more : ℕ
-  pub closed : new ≡ failing more (closed_part past failures old)
-  pub clean : IsTrue is_done → more ≡ 0
-  pub cause : IsTrue is_written → is_done ≡ false → 0 < more
+-- if nothing failed at the end. No input is closed there.
+pub record ClosesPart (is_done : Bool) (past : Past) (failures : Counts) (old new : OpenFiles) : Type 0 where
+  pub more : Counts
+  pub closed : new ≡ counting more (closed_part past failures old)
+  pub clean : IsTrue is_done → HasNone more
+  pub unread : more.given ≡ 0
 
 -- the file at this path, which may be written, was created or emptied, and is this many zeros, to be written in place:
 -- none that is read or was begun, and all others are as before

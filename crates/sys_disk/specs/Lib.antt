@@ -1,4 +1,5 @@
 pub mod Among
+pub mod Counts
 pub mod DiskCalls
 pub mod Images
 pub mod InPlace

@@ -1,6 +1,7 @@
 -- The file that pieces go through: it is created or emptied, written, read again and cleared, and closed.
 use Rattle.std.specs.Prelude.{◌≡◌, ℕ, ◌+◌, List, ◌∷◌, length, drop, Some, None, Contains, Bool}
 use Rattle.abt_io.specs.Frame.{last_cut}
+use Rattle.sys_disk.specs.Counts.{Counts, added}
 use Rattle.sys_disk.specs.World.{World, OpenFiles, MayWrite, Spares}
 
 -- pieces go through this file from now on, which keeps its pages or does not
@@ -8,8 +9,8 @@ abbrev pub through : Bool → ℕ → OpenFiles → OpenFiles
 through keeping file h = record h { begun = file ∷ h.begun; spool = Some file; keeps = keeping }
 
 -- it is closed, and has failed this often
-abbrev pub closed_spool : ℕ → OpenFiles → OpenFiles
-closed_spool failures h = record h { spool = None; failed = h.failed + failures }
+abbrev pub closed_spool : Counts → OpenFiles → OpenFiles
+closed_spool failures h = record h { spool = None; counts = added h.counts failures }
 
 -- the file at this path, which may be written, was created or emptied, and pieces go through it: none that is read or
 -- was begun, and all others are as before; it keeps its pages, or does not

@@ -1,6 +1,7 @@
 -- The files of a disk, which of them are open, and how the calls of a run change them.
 use Rattle.std.specs.Prelude.{◌≡◌, ◌≢◌, ◌<◌, ℕ, ◌+◌, List, [], ◌∷◌, ◌++◌, Option, Some, None, Bool, true, false}
 use Rattle.std.specs.Prelude.{Contains, IsTrue, ◌&&◌, if◌then◌else◌}
+use Rattle.sys_disk.specs.Counts.{Cause, Counts, HasNone, added}
 
 -- which file each path leads to, by a number, and what each file holds
 pub record World : Type 0 where
@@ -10,7 +11,7 @@ pub record World : Type 0 where
 -- What was opened: the files that are read; those that were created or opened to be written, the newest first; the open
 -- output, the file that is written in place, and the one that pieces go through, and if it keeps its pages; if outputs
 -- are synced at their end, and how often one was; which paths lead to devices in use, mounted or as swap, and if these
--- may be written; how often a call failed, or a device failed that was given back, or memory was refused.
+-- may be written; and what is counted.
 pub record OpenFiles : Type 0 where
   pub read : List ℕ
   pub begun : List ℕ
@@ -22,7 +23,7 @@ pub record OpenFiles : Type 0 where
   pub syncs : ℕ
   pub in_use : List ℕ → Bool
   pub allows_mounted : Bool
-  pub failed : ℕ
+  pub counts : Counts
 
 -- this path may be written: it leads to no device that is in use, or such devices may be written
 abbrev pub MayWrite : List ℕ → OpenFiles → Type 0
@@ -37,22 +38,17 @@ pub record IsReading (h : OpenFiles) : Type 0 where
   pub begun : h.begun ≡ []
   pub output : h.output ≡ None
 
--- 1 where a call failed
-abbrev pub unless : Bool → ℕ
-unless true = 0
-unless false = 1
+-- this much more is counted
+abbrev pub counting : Counts → OpenFiles → OpenFiles
+counting n h = record h { counts = added h.counts n }
 
--- a call failed, or a device failed, or memory was refused, this many times more
-abbrev pub failing : ℕ → OpenFiles → OpenFiles
-failing n h = record h { failed = h.failed + n }
-
--- in this run a call failed, or a device failed, or memory was refused
-abbrev pub HasFailed : OpenFiles → OpenFiles → Type 0
-HasFailed old new = old.failed < new.failed
+-- in this run this has failed: a call with this fault, or a device that was read, or one that was written
+abbrev pub HasFailed : Cause → OpenFiles → OpenFiles → Type 0
+HasFailed cause old new = old.counts.failed cause < new.counts.failed cause
 
 -- no call failed, no device did, and no memory was refused
 abbrev pub HasNotFailed : OpenFiles → OpenFiles → Type 0
-HasNotFailed old new = new.failed ≡ old.failed
+HasNotFailed old new = (cause : Cause) → new.counts.failed cause ≡ old.counts.failed cause
 
 -- this file more is read
 abbrev pub reading : ℕ → OpenFiles → OpenFiles
@@ -63,19 +59,18 @@ abbrev pub creating : ℕ → OpenFiles → OpenFiles
 creating file h = record h { begun = file ∷ h.begun; output = Some file }
 
 -- the output that was open is closed, and synced if it was finished and outputs are synced; this much has failed
-abbrev pub ended : Bool → ℕ → OpenFiles → OpenFiles
+abbrev pub ended : Bool → Counts → OpenFiles → OpenFiles
 ended is_done failures h = record h {
   output = None;
   syncs = h.syncs + (if is_done && h.is_synced then 1 else 0);
-  failed = h.failed + failures;
+  counts = added h.counts failures;
 }
 
--- the output that was open is closed: it was finished exactly if nothing has failed
+-- the output that was open is closed: nothing has failed if it was finished
 pub record ClosesOutput (is_done : Bool) (old new : OpenFiles) : Type 0 where
-  pub failures : ℕ
+  pub failures : Counts
   pub closed : new ≡ ended is_done failures old
-  pub clean : IsTrue is_done → failures ≡ 0
-  pub cause : is_done ≡ false → 0 < failures
+  pub clean : IsTrue is_done → HasNone failures
 
 -- every path leads where it led, and no file but this one holds anything else
 pub record Spares (file : ℕ) (old new : World) : Type 0 where
@@ -115,16 +110,16 @@ abbrev pub Ends : Option ℕ → List ℕ → World → World → Type 0
 Ends None bytes old new = Unit {0}
 Ends (Some file) bytes old new = (new.holds file ≡ bytes) × Spares file old new
 
--- The output that was open is closed, and this is the result of the call that wrote it. `more` calls have failed at its
--- end: none where the result is Ok, and some where the call had done its work and the result is an error. If none has,
--- and no write had, the file holds all that the output took.
-pub record EndsOutput (is_written is_done : Bool) (bytes : List ℕ) (failures : ℕ) (held held' : OpenFiles)
+-- The output that was open is closed, and this is the result of the call that wrote it. `more` has failed at its end:
+-- nothing where the result is Ok, and that reads nothing. If nothing has, and no write had, the file holds all that the
+-- output took.
+pub record EndsOutput (is_done : Bool) (bytes : List ℕ) (failures : Counts) (held held' : OpenFiles)
     (old new : World) : Type 0 where
-  pub more : ℕ
-  pub closed : held' ≡ ended is_done (more + failures) held
-  pub clean : IsTrue is_done → more ≡ 0
-  pub cause : IsTrue is_written → is_done ≡ false → 0 < more
-  pub left : more + failures ≡ 0 → Ends held.output bytes old new
+  pub more : Counts
+  pub unread : more.given ≡ 0
+  pub closed : held' ≡ ended is_done (added more failures) held
+  pub clean : IsTrue is_done → HasNone more
+  pub left : HasNone (added more failures) → Ends held.output bytes old new
 
 -- all files but this one are as before
 abbrev pub SparesRest : Option ℕ → World → World → Type 0

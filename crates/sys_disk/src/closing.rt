@@ -2,7 +2,8 @@
 
 ghost use Rattle.std.specs.Prelude.{◌≡◌, IsTrue, IsOk, IfOk, IfErr, Ok, is_ok};
 ghost use Rattle.sys_disk.specs.InPlace.{ClosesPart, IsAsLong};
-ghost use Rattle.sys_disk.specs.World.{Ends, SparesRest};
+ghost use Rattle.sys_disk.specs.Counts.{call, writes};
+ghost use Rattle.sys_disk.specs.World.{Ends, HasFailed, SparesRest};
 ghost use Rattle.sys_refusals.specs.Paths.{path_of};
 ghost use Rattle.sys_refusals.specs.declared.refusal.HostFault.{HostFault};
 
@@ -21,12 +22,13 @@ pub fn closed<'a, D: Disk, T: Drop, F: Told + From<HostFault> + Drop>(
     requires long { IsTrue D.models → IsAsLong (D.held disk.old).part (D.InPlace.content part) (D.world disk.old) }
     ensures done { IfOk result (λ end. answer ≡ Ok end.0) }
     ensures told { IfErr answer (λ fault. IfErr result (λ refusal. refusal.fault ≡ fault)) }
-    ensures host { IsOk answer → IfErr result (λ refusal. (fault : HostFault) × F.from_gives fault refusal.fault) }
+    ensures host { IsOk answer → IfErr result (λ refusal. (fault : HostFault) × F.from_gives fault refusal.fault
+        × (IsTrue D.models → HasFailed (call fault) (D.held disk.old) (D.held disk.new))) }
     ensures ended { IsTrue D.models → Ends (D.held disk.old).part (D.InPlace.content part) (D.world disk.old)
         (D.world disk.new) }
     ensures paths { IsTrue D.models → (D.world disk.new).at ≡ (D.world disk.old).at }
-    ensures closed { IsTrue D.models → ClosesPart (is_ok answer) (is_ok result) (D.InPlace.past part)
-        (D.InPlace.put_faults part) (D.held disk.old) (D.held disk.new) }
+    ensures closed { IsTrue D.models → ClosesPart (is_ok result) (D.InPlace.past part)
+        (writes (D.InPlace.put_faults part)) (D.held disk.old) (D.held disk.new) }
     ensures rest { IsTrue D.models → SparesRest (D.held disk.old).part (D.world disk.old) (D.world disk.new) }
     ensures stream { IsTrue D.models → IfOk result (λ end. end.1 ≡ D.on_output (path_of place.entry)) }
 {

@@ -10,7 +10,8 @@ ghost use Rattle.sys_disk.specs.InPlace.{IsAsLong, closed_part};
 ghost use Rattle.sys_disk.specs.LeftOver.{IsNextLeft, path_with};
 ghost use Rattle.sys_disk.specs.Spools.{closed_spool, behind_clear};
 ghost use Rattle.sys_disk.specs.World.{World, OpenFiles, OpensFile, Creates, OnlyAt, Ends, SparesRest, ended};
-ghost use Rattle.sys_disk.specs.World.{KeepsBegun, SparesInUse, failing, unless};
+ghost use Rattle.sys_disk.specs.Counts.{added, call_of, failure_of, faults_through, memory_of, reads, writes};
+ghost use Rattle.sys_disk.specs.World.{KeepsBegun, SparesInUse, counting};
 
 use crate::{ImageTo, Lasting, Late, NoMemory};
 use abt_io::{Input, Output, Overwrite, Partition, Source, Spool};
@@ -74,20 +75,20 @@ pub trait Disk {
     /// Opens what is read forward. `-` is standard input.
     fn input<'a>(&mut self, place: FileArg<'a>) -> Result<Self::From, HostRefusal<'a>>
         requires first { IsTrue models → (held self.old).begun ≡ [] }
-        ensures { OpensToRead models result (path_in place.entry) Self.From.remaining Self.From.read_faults
-            (held self.old) (held self.new) (world self.old) (world self.new) };
+        ensures { OpensToRead models result (path_in place.entry) Self.From.remaining Self.From.given
+            Self.From.read_faults (held self.old) (held self.new) (world self.old) (world self.new) };
 
     /// Opens what is read at any offset. `-` is a file of that name.
     fn source<'a>(&mut self, place: FileArg<'a>) -> Result<Self::At, HostRefusal<'a>>
         requires first { IsTrue models → (held self.old).begun ≡ [] }
-        ensures { OpensToRead models result (path_of place.entry) Self.At.content Self.At.read_faults
+        ensures { OpensToRead models result (path_of place.entry) Self.At.content Self.At.given Self.At.read_faults
             (held self.old) (held self.new) (world self.old) (world self.new) };
 
     /// Opens the same. Small reads may be served from earlier reads, so the caller must ask whether the file has become
     /// shorter.
     fn ahead<'a>(&mut self, place: FileArg<'a>) -> Result<Self::At, HostRefusal<'a>>
         requires first { IsTrue models → (held self.old).begun ≡ [] }
-        ensures { OpensToRead models result (path_of place.entry) Self.At.content Self.At.read_faults
+        ensures { OpensToRead models result (path_of place.entry) Self.At.content Self.At.given Self.At.read_faults
             (held self.old) (held self.new) (world self.old) (world self.new) };
 
     /// Opens a source once more, to be read beside the first.
@@ -95,7 +96,7 @@ pub trait Disk {
         ensures content { IsTrue Self.At.models → IfOk result
             (λ again. Self.At.content again ≡ Self.At.content at.now) }
         ensures clean { IsTrue models → IfOk result (λ again. Self.At.read_faults again ≡ 0) }
-        ensures held { IsTrue models → held self.new ≡ failing (unless (is_ok result)) (held self.old) }
+        ensures held { IsTrue models → held self.new ≡ counting (failure_of result) (held self.old) }
         ensures world { IsTrue models → world self.new ≡ world self.old };
 
     /// The text of a file, which is UTF-8 and at most 1 MiB. `-` is standard input.
@@ -103,18 +104,19 @@ pub trait Disk {
         requires first { IsTrue models → (held self.old).begun ≡ [] }
         ensures opened { IsTrue models → IfOk result (λ text. OpensFile (world self.old) (path_in place.entry)
             (string_bytes text) (held self.old) (held self.new)) }
-        ensures kept { IsTrue models → OnErr result (held self.new ≡ failing 1 (held self.old)) }
+        ensures kept { IsTrue models → IfErr result (λ refusal. held self.new ≡ counting (call_of refusal.fault)
+            (held self.old)) }
         ensures world { IsTrue models → world self.new ≡ world self.old };
 
-    /// Closes what was read forward.
+    /// Closes what was read forward. What it gave and how often it failed is counted.
     fn let_go(&mut self, from: Self::From)
-        ensures { FailsOnly models (Self.From.read_faults from) (held self.old) (held self.new) (world self.old)
-            (world self.new) };
+        ensures { FailsOnly models (reads (Self.From.given from) (Self.From.read_faults from)) (held self.old)
+            (held self.new) (world self.old) (world self.new) };
 
-    /// Closes what was read at any offset.
+    /// Closes what was read at any offset. The same is counted.
     fn let_go_source(&mut self, at: Self::At)
-        ensures { FailsOnly models (Self.At.read_faults at) (held self.old) (held self.new) (world self.old)
-            (world self.new) };
+        ensures { FailsOnly models (reads (Self.At.given at) (Self.At.read_faults at)) (held self.old)
+            (held self.new) (world self.old) (world self.new) };
 
     /// Opens an existing file, to be written in place.
     fn partition<'a>(&mut self, place: FileArg<'a>) -> Result<Self::InPlace, HostRefusal<'a>>
@@ -132,7 +134,7 @@ pub trait Disk {
     /// another length, or another time of modification. Work that writes nothing asks this at its end. What closes or
     /// finishes an output asks it too.
     fn unchanged<'a>(&mut self) -> Result<(), HostRefusal<'a>>
-        ensures { FailsOnly models (unless (is_ok result)) (held self.old) (held self.new) (world self.old)
+        ensures { FailsOnly models (failure_of result) (held self.old) (held self.new) (world self.old)
             (world self.new) };
 
     /// Closes the file that is open in place. It holds what the partition holds, and is as long as it was. Returns
@@ -146,8 +148,8 @@ pub trait Disk {
         ensures ended { IsTrue models → Ends (held self.old).part (Self.InPlace.content part) (world self.old)
             (world self.new) }
         ensures paths { IsTrue models → (world self.new).at ≡ (world self.old).at }
-        ensures closed { IsTrue models → held self.new ≡ failing (unless (is_ok result)) (closed_part
-            (Self.InPlace.past part) (Self.InPlace.put_faults part) (held self.old)) }
+        ensures closed { IsTrue models → held self.new ≡ counting (failure_of result) (closed_part
+            (Self.InPlace.past part) (writes (Self.InPlace.put_faults part)) (held self.old)) }
         ensures rest { IsTrue models → SparesRest (held self.old).part (world self.old) (world self.new) }
         ensures stream { IsTrue models → IfOk result (λ is. is ≡ on_output (path_of place.entry)) };
 
@@ -187,19 +189,20 @@ pub trait Disk {
         place: FileArg<'a>,
     ) -> Result<bool, HostRefusal<'a>>
         ensures long { IsTrue models → IfOk result (λ is_changed. is_changed ≡ false) }
+        ensures fault { IfErr result (λ refusal. refusal.fault ≡ HostFault.Write) }
         ensures ended { IsTrue models → OnOk result (Ends (held self.old).spool (behind_clear
             (Self.Through.Spool.cuts through) (Self.Through.Output.written through)) (world self.old)
             (world self.new)) }
-        ensures closed { IsTrue models → held self.new ≡ closed_spool (unless (is_ok result)
-            + (Self.Through.Output.write_faults through + (Self.Through.Input.read_faults through
-            + Self.Through.Spool.clear_faults through))) (held self.old) }
+        ensures closed { IsTrue models → held self.new ≡ closed_spool (added (failure_of result) (faults_through
+            (Self.Through.Input.read_faults through) (Self.Through.Output.write_faults through)
+            (Self.Through.Spool.clear_faults through))) (held self.old) }
         ensures rest { IsTrue models → SparesRest (held self.old).spool (world self.old) (world self.new) };
 
     /// Whether a file exists.
     fn is_there<'a>(&mut self, place: FileArg<'a>) -> Result<bool, HostRefusal<'a>>
         ensures there { IsTrue models → IfOk result (λ is. is ≡ is_some ((world self.old).at (path_of place.entry))) }
         ensures memory { IfErr result (λ refusal. refusal.fault ≡ HostFault.Memory) }
-        ensures fails { FailsOnly models (unless (is_ok result)) (held self.old) (held self.new) (world self.old)
+        ensures fails { FailsOnly models (failure_of result) (held self.old) (held self.new) (world self.old)
             (world self.new) };
 
     /// The least number above this one at which a file exists, with that number after the name of this place. A system
@@ -207,12 +210,13 @@ pub trait Disk {
     fn left_over(&mut self, place: FileArg<'_>, behind: u32) -> Result<Option<u32>, AllocError>
         ensures left { IsTrue models → IfOk result (IsNextLeft (λ n. (world self.old).at (path_with place.entry n))
             behind) }
-        ensures fails { FailsOnly models (unless (is_ok result)) (held self.old) (held self.new) (world self.old)
+        ensures fails { FailsOnly models (memory_of result) (held self.old) (held self.new) (world self.old)
             (world self.new) };
 
     /// Counts a refusal of memory, as the failure of a call.
     fn no_memory(&mut self, refused: NoMemory)
-        ensures { FailsOnly models 1 (held self.old) (held self.new) (world self.old) (world self.new) };
+        ensures { FailsOnly models (call_of HostFault.Memory) (held self.old) (held self.new) (world self.old)
+            (world self.new) };
 
     /// Fails if a path that is going to be written leads to a file that is read, or that was begun.
     fn refuse_taken<'a>(&mut self, place: FileArg<'a>) -> Result<(), HostRefusal<'a>>
@@ -246,7 +250,8 @@ pub trait Disk {
         ensures kind { IsTrue models → IfOk result (λ image. is_file image ≡ is_over (path_out place.entry)) }
         ensures created { IsTrue models → OnOk result (Creates (path_out place.entry) (held self.old) (held self.new)
             (world self.old) (world self.new)) }
-        ensures kept { IsTrue models → OnErr result (held self.new ≡ failing 1 (held self.old)) }
+        ensures kept { IsTrue models → IfErr result (λ refusal. held self.new ≡ counting (call_of refusal.fault)
+            (held self.old)) }
         ensures only { IsTrue models → OnErr result (OnlyAt (held self.old).read (path_out place.entry)
             (world self.old) (world self.new)) }
         ensures begun { IsTrue models → OnErr result (KeepsBegun (held self.old).begun (world self.old)
@@ -260,12 +265,12 @@ pub trait Disk {
     /// where standard output goes.
     fn finish<'a>(&mut self, onto: Self::Onto, place: FileArg<'a>) -> Result<bool, HostRefusal<'a>>
         ensures { FinishesOutput models result (on_output (path_out place.entry)) (Self.Onto.written onto)
-            (Self.Onto.write_faults onto) (held self.old) (held self.new) (world self.old) (world self.new) };
+            (writes (Self.Onto.write_faults onto)) (held self.old) (held self.new) (world self.old) (world self.new) };
 
     /// Closes the open output after the work before has failed. Its file holds what it took, unless a write failed, or
     /// the close did.
     fn give_up(&mut self, onto: Self::Onto)
-        ensures { IsTrue models → LetsGo (Self.Onto.written onto) (Self.Onto.write_faults onto) (held self.old)
+        ensures { IsTrue models → LetsGo (Self.Onto.written onto) (writes (Self.Onto.write_faults onto)) (held self.old)
             (held self.new) (world self.old) (world self.new) };
 
     /// Finishes the open image, as `finish` does. If that fails, its file holds all of it anyway, or has no magic at
@@ -280,14 +285,14 @@ pub trait Disk {
         ensures left { IsTrue models → OnErr result (Leaves (held self.old).output (Self.Image.Output.written image)
             (world self.new)) }
         ensures closed { IsTrue models → held self.new ≡ ended (is_ok result)
-            (unless (is_ok result) + Self.Image.Output.write_faults image) (held self.old) }
+            (added (failure_of result) (writes (Self.Image.Output.write_faults image))) (held self.old) }
         ensures rest { IsTrue models → SparesRest (held self.old).output (world self.old) (world self.new) }
         ensures stream { IsTrue models → IfOk result (λ is. is ≡ on_output (path_out place.entry)) };
 
     /// Closes the open image after the work before has failed. Its file holds what was written, or has no magic at its
     /// beginning.
     fn give_up_image(&mut self, image: Self::Image)
-        ensures { LetsImageGo models (Self.Image.Output.written image) (Self.Image.Output.write_faults image)
+        ensures { LetsImageGo models (Self.Image.Output.written image) (writes (Self.Image.Output.write_faults image))
             (held self.old) (held self.new) (world self.old) (world self.new) };
 
     /// The inputs that it opens model their content.

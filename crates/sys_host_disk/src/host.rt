@@ -5,6 +5,7 @@ ghost use Rattle.std.specs.Prelude.{option_map, IsOk};
 ghost use Rattle.abt_io.specs.Frame.{nothing_logged};
 ghost use Rattle.std.proofs.lemmas.Bool.{false≢true};
 ghost use Rattle.sys_devices.specs.Writes.{LeavesNoMagic, since_cut};
+ghost use Rattle.sys_disk.specs.Counts.{no_counts};
 ghost use Rattle.sys_disk.specs.Images.{HasNoFront, OfImage};
 ghost use Rattle.sys_disk.specs.LeftOver.{IsNextLeft, path_with};
 ghost use Rattle.sys_file.specs.System.{ClosesFile, KeepsFiles};
@@ -116,7 +117,7 @@ impl<S: System + Drop> Disk for Host<S> {
       syncs = 0;
       in_use = λ _. false;
       allows_mounted = false;
-      failed = 0;
+      counts = no_counts;
     } };
 
     ghost is_over = { λ _. false };

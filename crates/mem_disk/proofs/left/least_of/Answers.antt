@@ -1,4 +1,4 @@
-use Rattle.mem_disk.proofs.Numbered.{left_all, left_next, none_left}
+use Rattle.mem_disk.proofs.Numbered.{left_next, none_left}
 use Rattle.mem_disk.proofs.left.least_of.Goals as goal
 
 pub loop-path-init : goal.loop-path-init

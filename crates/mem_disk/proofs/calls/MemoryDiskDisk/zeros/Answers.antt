@@ -10,9 +10,9 @@ returns-in-Err c = record {
   past = λ _. tt;
   clean = λ _. tt;
   kept = λ _. search rules;
-  only = λ _. only_then _ _ _ _ _ c.refused.ensures.world c.in-Err.ensures.refused.only;
+  only = λ _. only_then _ _ _ _ _ c.refused.ensures.counts.world c.in-Err.ensures.refused.only;
   begun = λ _. begun_then _ (world_of c.args.self.now) (world_of c.zeros_at.new.self)
-      (world_of c.refused.new.self) c.refused.ensures.world c.in-Err.ensures.refused.same;
+      (world_of c.refused.new.self) c.refused.ensures.counts.world c.in-Err.ensures.refused.same;
   guarded = λ _. guarded_then _ c.args.self.now c.zeros_at.new.self (world_of c.refused.new.self)
-      c.refused.ensures.world c.in-Err.ensures.refused;
+      c.refused.ensures.counts.world c.in-Err.ensures.refused;
 }
