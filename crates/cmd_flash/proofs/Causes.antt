@@ -21,7 +21,7 @@ use Rattle.abt_verify.specs.declared.stage.Verified.{Verified}
 use Rattle.abt_verify.specs.declared.fault.VerifyFault.TheVariants as verifies
 use Rattle.std.proofs.lemmas.Bool.{true≢false}
 use Rattle.cmd_common_listing.specs.Listed.{ReadTold, WriteTold}
-use Rattle.cmd_flash.specs.Files.{HoldsBut}
+use Rattle.cmd_flash.specs.Files.{DeviceFailed, HoldsBut}
 use Rattle.cmd_flash.specs.Flashing.{IsFlashedWhole, IsUnflashed}
 use Rattle.cmd_flash.specs.Listing.{IsUnlisted}
 use Rattle.cmd_flash.specs.Verifying.{IsNotThere, IsNotThereRaw}
@@ -44,7 +44,7 @@ whole e size taken taken' x rest p p' long found holds = (
 pub unflashed : (f : FlashFault) (size taken taken' r r' t t' got : ℕ) (x rest p p' : List ℕ) → size ≡ length p
     → Flashes (Err f) size taken taken' x rest → Holds (Err f) got p p' x
     → HoldsBut (writes (given (outcome (take got x)))) p p'
-    → FlashCause f r r' t t' → IsUnflashed (r + t < r' + t') got f x p p'
+    → FlashCause f r r' t t' → IsUnflashed (DeviceFailed r r' t t') got f x p p'
 unflashed (flashes.Sparse f) size taken taken' r r' t t' got x rest p p' long found holds kept cause =
     record { given = found.given; fails = found.fails; holds = holds }
 unflashed (flashes.PartitionTooSmall need) size taken taken' r r' t t' got x rest p p' long found holds kept
@@ -57,17 +57,11 @@ unflashed (flashes.PartitionTooSmall need) size taken taken' r r' t t' got x res
       kept = holds;
     }
 unflashed (flashes.Read d) size taken taken' r r' t t' got x rest p p' long found holds kept cause =
-    let more = cause.0 in
-    let same = cause.2 in
-    (omega (arith, more, same), record { others = kept; front = holds })
+    (cause.0, record { others = kept; front = holds })
 unflashed (flashes.Write d) size taken taken' r r' t t' got x rest p p' long found holds kept cause =
-    let more = cause.0 in
-    let same = cause.2 in
-    (omega (arith, more, same), record { others = kept; front = holds })
+    (cause.0, record { others = kept; front = holds })
 unflashed (flashes.Sync d) size taken taken' r r' t t' got x rest p p' long found holds kept cause =
-    let more = cause.0 in
-    let same = cause.2 in
-    (omega (arith, more, same), whole found.0 size taken taken' x rest p p' long found.1 holds)
+    (cause.0, whole found.0 size taken taken' x rest p p' long found.1 holds)
 unflashed flashes.TooLarge size taken taken' r r' t t' got x rest p p' long found holds kept cause =
     absurd cause
 unflashed flashes.SourceChanged size taken taken' r r' t t' got x rest p p' long found holds kept cause =

@@ -1,28 +1,31 @@
 -- What opening an input, a partition and a file for pieces, and closing them, leave together.
-use Rattle.std.proofs.Common.{◌≡◌, ◌≢◌, ℕ, ◌+◌, ◌<◌, ◌≤◌, arith, List, [], ◌∷◌, ◌++◌, Bool, true, false, length, Option}
-use Rattle.std.proofs.Common.{None, Some, refl, sym, ◌∙◌, ap, subst}
-use Rattle.std.specs.Prelude.{Result, Ok, Err, Contains, if◌then◌else◌, unwrap_or}
+use Rattle.std.proofs.Common.{◌≡◌, ◌≢◌, ℕ, ◌+◌, ◌≤◌, arith, List, [], ◌∷◌, ◌++◌, Bool, true, length, Option}
+use Rattle.std.proofs.Common.{None, Some, sym, ◌∙◌, ap, subst}
+use Rattle.std.specs.Prelude.{Contains, if◌then◌else◌, unwrap_or}
 use Rattle.std.proofs.lemmas.List.Elements.{Contains-append_left, Contains-push}
 use Rattle.abt_io.specs.Moment.{Past}
+use Rattle.sys_disk.specs.Counts.{Cause, Counts}
 use Rattle.sys_disk.specs.InPlace.{ClosesPart, OpensPart, IsAsLong, in_place, is_settled}
 use Rattle.sys_disk.specs.Spools.{OpensSpool, closed_spool, through}
 use Rattle.sys_disk.specs.World.{World, OpenFiles, Spares, OpensFile, OnlyAt, untouched, in_output, Ends, SparesRest}
-use Rattle.sys_disk.specs.World.{KeepsFile, MayWrite, SparesInUse, failing, reading}
+use Rattle.sys_disk.specs.World.{KeepsFile, MayWrite, SparesInUse, counting, reading}
 use Rattle.sys_disk.proofs.Closings.{apart_from}
 use Rattle.sys_disk.proofs.Worlds.{apart, may_behind, spared_behind, spared_if_may, spares_trans}
 use Rattle.cmd_flash.specs.InPieces.{Across, SparesBoth}
 use Rattle.cmd_flash.specs.Through.{ClosesSpool}
 
 -- all three were closed
-pub record Crossed (input path spool x p p' : List ℕ) (old new : World) (h h3 h4 h' : OpenFiles) (faults : ℕ)
+pub record Crossed (input path spool x p p' : List ℕ) (old new : World) (h h3 h4 h5 h' : OpenFiles) (n k m : Counts)
     (past : Past)
     : Type 1 where
   pub across : (P : List ℕ → List ℕ → List ℕ → Type 0) → P x p p' → Across input path spool old new P
   pub others : SparesBoth path spool h old new
   pub kept : KeepsFile input old new
-  pub began : h3.failed ≡ h.failed
-  pub grew : h3.failed ≤ h4.failed
-  pub failed : h'.failed ≡ h4.failed + faults
+  pub began : (cause : Cause) → h3.counts.failed cause ≡ h.counts.failed cause
+  pub grew : (cause : Cause) → h3.counts.failed cause ≤ h4.counts.failed cause
+  pub behind : (cause : Cause) → h5.counts.failed cause ≡ h4.counts.failed cause + n.failed cause
+  pub failed : (cause : Cause) → h'.counts.failed cause
+      ≡ h4.counts.failed cause + (n.failed cause + k.failed cause + m.failed cause)
   pub synced : is_settled past ≡ true → h'.syncs ≡ h.syncs + 1
   pub closed : h'.part ≡ None
   pub keeps : h'.keeps ≡ h3.keeps
@@ -38,9 +41,9 @@ apart_third h' h'' f s o fresh same =
     (subst (λ (z : ℕ). Contains (z ∷ h'.begun) s) (sym same)
     (Contains-append_left (s ∷ []) h'.begun s (Contains-push [] s))))
 
-part_then : (b : Bool) (h' h'' h3 h4 h5 : OpenFiles) (f s m n : ℕ) → h'' ≡ in_place f h' → h3 ≡ through b s h'' → h4
-    ≡ closed_spool m h3
-    → h5 ≡ failing n h4 → h5.part ≡ Some f
+part_then : (b : Bool) (h' h'' h3 h4 h5 : OpenFiles) (f s : ℕ) (m n : Counts) → h'' ≡ in_place f h'
+    → h3 ≡ through b s h'' → h4 ≡ closed_spool m h3
+    → h5 ≡ counting n h4 → h5.part ≡ Some f
 part_then b h' h'' h3 h4 h5 f s m n o t c l =
     ap (λ (q : OpenFiles). q.part) l ∙ ap (λ (q : OpenFiles). q.part) c ∙ ap (λ (q : OpenFiles). q.part) t
     ∙ ap (λ (q : OpenFiles). q.part) o
@@ -62,9 +65,9 @@ spared spool a a' a'' a3 a4 a5 h'' h3 same same' s rest last =
 
 -- the partition is returned with its length unchanged
 pub as_long_across : {k : Bool} (input path spool x p p' : List ℕ) (a a' a'' a3 a4 a5 : World)
-    (h h' h'' h3 h4 h5 : OpenFiles) (n : ℕ)
+    (h h' h'' h3 h4 h5 : OpenFiles) (n : Counts)
     → OpensFile a input x h h' → a' ≡ a → OpensPart a' path p h' h'' → a'' ≡ a' → OpensSpool k spool h'' h3 a'' a3
-    → ClosesSpool h3 h4 → SparesRest h3.spool a3 a4 → h5 ≡ failing n h4 → a5 ≡ a4 → length p' ≡ length p
+    → ClosesSpool h3 h4 → SparesRest h3.spool a3 a4 → h5 ≡ counting n h4 → a5 ≡ a4 → length p' ≡ length p
     → IsAsLong h5.part p' a5
 as_long_across input path spool x p p' a a' a'' a3 a4 a5 h h' h'' h3 h4 h5 n r same o same' s cs rest l last long =
     let opened : OpensPart a path p h' h'' = subst (λ (w : World). OpensPart w path p h' h'') same o in
@@ -74,24 +77,29 @@ as_long_across input path spool x p p' a a' a'' a3 a4 a5 h h' h'' h3 h4 h5 n r s
     (long ∙ ap length opened.held ∙ ap length (sym (one.files opened.file
     (apart_third h' h'' opened.file s.file opened.taken s.fresh))))
 
-failed_then : (h4 h5 h6 : OpenFiles) (n k : ℕ) (past : Past) (w d : Bool) → h5 ≡ failing n h4
-    → (c : ClosesPart w d past k h5 h6) → h6.failed ≡ h4.failed + (n + k + c.more)
-failed_then h4 h5 h6 n k past w d l c =
-    let one : h5.failed ≡ h4.failed + n = ap (λ (q : OpenFiles). q.failed) l in
-    let two : h6.failed ≡ h5.failed + k + c.more = ap (λ (q : OpenFiles). q.failed) c.closed in
+failed_then : (h4 h5 h6 : OpenFiles) (n k : Counts) (past : Past) (d : Bool) (cause : Cause) → h5 ≡ counting n h4
+    → (c : ClosesPart d past k h5 h6)
+    → h6.counts.failed cause ≡ h4.counts.failed cause + (n.failed cause + k.failed cause + c.more.failed cause)
+failed_then h4 h5 h6 n k past d cause l c =
+    let one : h5.counts.failed cause ≡ h4.counts.failed cause + n.failed cause =
+    ap (λ (q : OpenFiles). q.counts.failed cause) l in
+    let two : h6.counts.failed cause ≡ h5.counts.failed cause + k.failed cause + c.more.failed cause =
+    ap (λ (q : OpenFiles). q.counts.failed cause) c.closed in
     omega (arith, one, two)
 
-grown : (h3 h4 : OpenFiles) → ClosesSpool h3 h4 → h3.failed ≤ h4.failed
-grown h3 h4 c = let one : h4.failed ≡ h3.failed + c.failures = ap (λ (q : OpenFiles). q.failed) c.closed in omega
-    (arith, one)
+grown : (h3 h4 : OpenFiles) (cause : Cause) → ClosesSpool h3 h4 → h3.counts.failed cause ≤ h4.counts.failed cause
+grown h3 h4 cause c =
+    let one : h4.counts.failed cause ≡ h3.counts.failed cause + c.failures.failed cause =
+    ap (λ (q : OpenFiles). q.counts.failed cause) c.closed in
+    omega (arith, one)
 
 pub crossed : {b : Bool} (input path spool x p p' : List ℕ) (a a' a'' a3 a4 a5 c : World)
-    (h h' h'' h3 h4 h5 h6 : OpenFiles) (n k : ℕ)
-    (past : Past) (w d : Bool) → OpensFile a input x h h' → a' ≡ a → OpensPart a' path p h' h'' → a'' ≡ a'
-    → OpensSpool b spool h'' h3 a'' a3 → ClosesSpool h3 h4 → SparesRest h3.spool a3 a4 → h5 ≡ failing n h4 → a5 ≡ a4
-    → Ends h5.part p' a5 c → c.at ≡ a5.at → (q : ClosesPart w d past k h5 h6)
-    → Crossed input path spool x p p' a c h h3 h4 h6 (n + k + q.more) past
-crossed input path spool x p p' a a' a'' a3 a4 a5 c h h' h'' h3 h4 h5 h6 n k past w d r same o same' s cs rest l last
+    (h h' h'' h3 h4 h5 h6 : OpenFiles) (n k : Counts)
+    (past : Past) (d : Bool) → OpensFile a input x h h' → a' ≡ a → OpensPart a' path p h' h'' → a'' ≡ a'
+    → OpensSpool b spool h'' h3 a'' a3 → ClosesSpool h3 h4 → SparesRest h3.spool a3 a4 → h5 ≡ counting n h4 → a5 ≡ a4
+    → Ends h5.part p' a5 c → c.at ≡ a5.at → (q : ClosesPart d past k h5 h6)
+    → Crossed input path spool x p p' a c h h3 h4 h5 h6 n k q.more past
+crossed input path spool x p p' a a' a'' a3 a4 a5 c h h' h'' h3 h4 h5 h6 n k past d r same o same' s cs rest l last
     ends
     paths closed =
     let opened : OpensPart a path p h' h'' = subst (λ (w : World). OpensPart w path p h' h'') same o in
@@ -131,10 +139,12 @@ crossed input path spool x p p' a a' a'' a3 a4 a5 c h h' h'' h3 h4 h5 h6 n k pas
       kept = λ f there.
           let is : r.file ≡ f = ap (λ q. unwrap_or q 0) (sym r.there ∙ there) in
           after.1.files f (λ e. two (is ∙ e)) ∙ one.files f (λ e. three (is ∙ e));
-      began = ap (λ (q : OpenFiles). q.failed) s.begins ∙ ap (λ (q : OpenFiles). q.failed) opened.taken
-          ∙ ap (λ (q : OpenFiles). q.failed) r.taken;
-      grew = grown h3 h4 cs;
-      failed = failed_then h4 h5 h6 n k past w d l closed;
+      began = λ cause. ap (λ (q : OpenFiles). q.counts.failed cause) s.begins
+          ∙ ap (λ (q : OpenFiles). q.counts.failed cause) opened.taken
+          ∙ ap (λ (q : OpenFiles). q.counts.failed cause) r.taken;
+      grew = λ cause. grown h3 h4 cause cs;
+      behind = λ cause. ap (λ (q : OpenFiles). q.counts.failed cause) l;
+      failed = λ cause. failed_then h4 h5 h6 n k past d cause l closed;
       synced = λ settled. ap (λ (q : OpenFiles). q.syncs) closed.closed
           ∙ ap (λ (t : Bool). h5.syncs + (if t then 1 else 0)) settled
           ∙ ap (λ (q : OpenFiles). q.syncs + 1) l ∙ ap (λ (q : OpenFiles). q.syncs + 1) cs.closed

@@ -1,6 +1,6 @@
 -- What the engine says of a delivery, in the words of the command; and what a file that was not closed adds to it.
-use Rattle.std.proofs.Common.{◌≡◌, ◌≢◌, ◌<◌, ◌+◌, ◌-◌, ℕ, List, [], Bool, true, false, length, Option, Some, None, refl}
-use Rattle.std.proofs.Common.{sym, ◌∙◌, ap, subst, arith}
+use Rattle.std.proofs.Common.{◌≡◌, ◌<◌, ◌+◌, ℕ, List, [], Bool, true, length, Option, Some, None, refl}
+use Rattle.std.proofs.Common.{sym, ◌∙◌, ap, subst, arith, inl}
 use Rattle.std.specs.Prelude.{Result, Ok, Err, OnOk, IfErr, unwrap_or, slice_index}
 use Rattle.abt_io.specs.declared.device.DeviceFault.{DeviceFault}
 use Rattle.std.proofs.lemmas.Bool.{true≢false}
@@ -19,7 +19,9 @@ use Rattle.abt_flash.specs.Devices.{Counts, PartitionState}
 use Rattle.abt_flash.specs.Raw.{IsAllowed, RawRefused, raw_image}
 use Rattle.abt_flash.specs.Sparse.{Fits, SparseRefused, sparse_image}
 use Rattle.abt_flash.proofs.Mended.{leaves_same}
-use Rattle.cmd_flash.specs.InPieces.{DeliversPieces, IsEarly, IsRefused, IsUndelivered, IsWhole, image_as}
+use Rattle.sys_disk.specs.Counts as runs
+use Rattle.cmd_flash.specs.Files.{DeviceFailed}
+use Rattle.cmd_flash.specs.InPieces.{DeliversPieces, IsEarly, IsRefused, IsUndelivered, IsWhole, StoppedBy, image_as}
 
 -- ---- what is stored
 
@@ -40,18 +42,22 @@ leaves_now limit b l p done past content none stands = λ q may.
 
 -- ---- what the engine returns
 
-abbrev faults_in : Counts → ℕ
+abbrev pub faults_in : Counts → ℕ
 faults_in c = c.read_faults + c.put_faults + (c.write_faults + c.spool_faults)
 
+abbrev pub RoseIn : Counts → Counts → runs.Cause → Type 0
+RoseIn a z cause = faults_in a ≡ 0 → DeviceFailed (a.read_faults + a.spool_faults) (z.read_faults + z.spool_faults)
+    (a.put_faults + a.write_faults) (z.put_faults + z.write_faults) cause
+
 -- a device has failed that had not
-rose : (c : Cause) (a z : Counts) → StopsFor c true true a z → faults_in a ≡ 0 → 0 < faults_in z
-rose (causes.Read d) a z stops none = let more = stops.0 in omega (arith, more)
-rose (causes.Write d) a z stops none = let more = stops.0 in omega (arith, more)
-rose (causes.Sync d) a z stops none = let more = stops.0 in omega (arith, more)
-rose (causes.SpoolWrite d) a z stops none = let more = stops.0 in omega (arith, more)
-rose (causes.SpoolRead d) a z stops none = let more = stops.0 in omega (arith, more)
-rose causes.SourceChanged a z stops none = absurd (true≢false stops)
-rose causes.SpoolChanged a z stops none = absurd (stops refl)
+rose : (c : Cause) (a z : Counts) → StopsFor c true true a z → StoppedBy (RoseIn a z) c
+rose (causes.Read d) a z stops = λ none. let more = stops.0 in omega (arith, more, none)
+rose (causes.Write d) a z stops = λ none. let more = stops.0 in omega (arith, more, none)
+rose (causes.Sync d) a z stops = λ none. let more = stops.0 in omega (arith, more, none)
+rose (causes.SpoolWrite d) a z stops = inl (λ none. let more = stops.0 in omega (arith, more, none))
+rose (causes.SpoolRead d) a z stops = λ none. let more = stops.0 in omega (arith, more, none)
+rose causes.SourceChanged a z stops = absurd (true≢false stops)
+rose causes.SpoolChanged a z stops = absurd (stops refl)
 
 -- of a stop: the image is whole, and which piece and why
 whole_then : (raw : Option ℕ) (j : ℕ) (c : Cause) (x : List ℕ) (limit room before : ℕ) (a z : Counts)
@@ -61,9 +67,9 @@ whole_then None j c x limit room before a z refused = (refused.2 refl, refused.0
 whole_then (Some size) j c x limit room before a z refused = (refused.0, refused.1, refused.2)
 
 read_rose : (raw : Option ℕ) (d : DeviceFault) (x : List ℕ) (limit room before : ℕ) (a z : Counts)
-    → IsRefused raw (flashes.Read d) x limit room before a z → faults_in a ≡ 0 → 0 < faults_in z
-read_rose None d x limit room before a z refused none = let more = refused.0 in omega (arith, more)
-read_rose (Some size) d x limit room before a z refused none = let more = refused.1 in omega (arith, more)
+    → IsRefused raw (flashes.Read d) x limit room before a z → RoseIn a z runs.reading
+read_rose None d x limit room before a z refused = λ none. let more = refused.0 in omega (arith, more, none)
+read_rose (Some size) d x limit room before a z refused = λ none. let more = refused.1 in omega (arith, more, none)
 
 -- what the engine's clauses say of a delivery over p, of which nothing was pending
 pub record Answered (raw : Option ℕ) (limit before : ℕ) (r : Result Delivered FlashFault) (x : List ℕ)
@@ -85,7 +91,7 @@ early_of raw limit before fault x old new a z refused kept =
 undelivered : (raw : Option ℕ) (limit before : ℕ) (fault : FlashFault) (x : List ℕ) (old new : PartitionState) (a z :
     Counts)
     → old.past.pending ≡ [] → Answered raw limit before (Err fault) x old new a z
-    → IsUndelivered (faults_in a ≡ 0 → 0 < faults_in z) raw fault limit before x old.content new.content
+    → IsUndelivered (RoseIn a z) raw fault limit before x old.content new.content
 undelivered raw limit before (flashes.Stopped j c) x old new a z none o =
     let whole = whole_then raw j c x limit (length old.content) before a z o.refused in
     let b = (image_as raw x).size in
@@ -123,7 +129,7 @@ undelivered raw limit before (flashes.NoSuchPiece k) x old new a z none o =
 pub delivers : (raw : Option ℕ) (limit before : ℕ) (r : Result Delivered FlashFault) (x : List ℕ) (old new :
     PartitionState)
     (a z : Counts) → old.past.pending ≡ [] → Answered raw limit before r x old new a z
-    → DeliversPieces (faults_in a ≡ 0 → 0 < faults_in z) raw r limit before x old.content new.content
+    → DeliversPieces (RoseIn a z) raw r limit before x old.content new.content
 delivers raw limit before (Ok d) x old new a z none o = record {
   whole = o.granted;
   counts = o.counted;

@@ -1,10 +1,9 @@
 -- Bytes that overwrite the beginning of others, one part after another.
-use Rattle.std.proofs.Common.{◌≡◌, ℕ, ◌+◌, ◌-◌, ◌≤◌, List, [], ◌++◌, length, take, drop, refl, sym, ◌∙◌, ap, arith}
-use Rattle.std.proofs.Common.{replicate, length-drop}
-use Rattle.std.proofs.lemmas.List.{length-take-le, take_all}
+use Rattle.std.proofs.Common.{◌≡◌, ℕ, ◌+◌, ◌-◌, ◌≤◌, List, ◌++◌, length, take, drop, sym, ◌∙◌, ap, arith}
+use Rattle.std.proofs.Common.{replicate}
+use Rattle.std.proofs.lemmas.List.{length-take-le}
 use Rattle.abt_io.specs.Moment.{put_at}
 use Rattle.abt_io.proofs.Moments.{put_then}
-use Rattle.abt_io.proofs.Overs.{put_none}
 use Rattle.abt_io.proofs.Parts.{take_plus}
 use Rattle.abt_sparse.specs.Block.{filled_to}
 

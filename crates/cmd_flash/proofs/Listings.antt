@@ -3,13 +3,12 @@ use Rattle.std.proofs.Common.{◌≡◌, ℕ, ◌<◌, List, [], ◌++◌, sym, 
 use Rattle.std.specs.Prelude.{Option, Some, Result, Ok, Err, OnOk, IfErr, unwrap_or, flat_map}
 use Rattle.abt_io.specs.Bytes.{AreBytes}
 use Rattle.abt_sparse.specs.declared.fault.SparseFault.{SparseFault}
-use Rattle.abt_sparse.specs.declared.fault.SparseFault.TheVariants as of_sparse
 use Rattle.abt_sparse.specs.Chunk.{Header, Chunk}
 use Rattle.abt_sparse.specs.Fails.{Fails, IsOutcome, Spells, no_image, bad_header, cut_header, bad_chunk, too_few}
 use Rattle.abt_sparse.specs.Reading.{Outcome, Image, Fault, outcome}
 use Rattle.abt_sparse.proofs.Exactly.{is_so}
 use Rattle.abt_chunks.specs.declared.progress.ChunkInfo.{ChunkInfo}
-use Rattle.abt_chunks.specs.Listing.{Listing, infos, listing_of}
+use Rattle.abt_chunks.specs.Listing.{infos, listing_of}
 use Rattle.abt_chunks.specs.Expanding.{UnlessExpandingDevice}
 use Rattle.abt_chunks.proofs.Finishing.{unless_map}
 use Rattle.abt_chunks.proofs.ListingLaws.{listings_right}

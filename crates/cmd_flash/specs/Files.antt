@@ -1,5 +1,7 @@
 -- What holds of the files that a command was given.
-use Rattle.std.specs.Prelude.{◌≡◌, ◌≢◌, ◌⊎◌, ℕ, Bool, false, List, [], length, slice_get, Some, None, Result, OnOk}
+use Rattle.std.specs.Prelude.{◌≡◌, ◌≢◌, ◌<◌, ◌⊎◌, ℕ, Bool, false, List, [], length, slice_get, Some, None, Result, OnOk}
+use Rattle.sys_refusals.specs.declared.refusal.HostFault.{HostFault}
+use Rattle.sys_disk.specs.Counts.{Cause, call, reading, writing}
 use Rattle.sys_disk.specs.World.{World, OpenFiles, KeepsFile, Spares, SparesInUse, HasFailed, HasNotFailed}
 use Rattle.sys_disk.specs.InPlace.{SparesOthers}
 
@@ -59,8 +61,18 @@ pub record HoldsBut (touched : ℕ → Bool) (p p' : List ℕ) : Type 0 where
 abbrev pub OnClosed : OpenFiles → Type 0 → Type 0
 OnClosed held P = (held.part ≡ None) × P
 
--- A call of the disk has failed before the work at PARTITION, which holds what it held; or after it, and all of it is
--- done.
-abbrev pub FailsAround : List ℕ → World → World → OpenFiles → OpenFiles → Type 0 → Type 0
-FailsAround partition old new held held' Done =
-    HasFailed held held' × (KeepsFile partition old new ⊎ OnClosed held' Done)
+-- A call of the disk has failed with this fault before the work at PARTITION, which holds what it held; or after it,
+-- and all of it is done.
+abbrev pub FailsAround : HostFault → List ℕ → World → World → OpenFiles → OpenFiles → Type 0 → Type 0
+FailsAround f partition old new held held' Done =
+    HasFailed (call f) held held' × (KeepsFile partition old new ⊎ OnClosed held' Done)
+
+-- a device that is read has failed, or one that is written: how often each of them had failed, and has failed now
+abbrev pub DeviceFailed : ℕ → ℕ → ℕ → ℕ → Cause → Type 0
+DeviceFailed read read' put put' (call f) = ⊥
+DeviceFailed read read' put put' reading = read < read'
+DeviceFailed read read' put put' writing = put < put'
+
+-- neither of them has
+abbrev pub NeitherFailed : ℕ → ℕ → ℕ → ℕ → Type 0
+NeitherFailed read read' put put' = (read' ≡ read) × (put' ≡ put)

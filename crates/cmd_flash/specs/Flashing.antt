@@ -13,6 +13,7 @@ use Rattle.abt_flash.specs.Flashing.{IsLaidSoFar}
 use Rattle.abt_flash.specs.Laying.{writes}
 use Rattle.abt_flash_faults.specs.declared.fault.FlashFault.{FlashFault}
 use Rattle.abt_flash_faults.specs.declared.fault.FlashFault.TheVariants as flashes
+use Rattle.sys_disk.specs.Counts.{Cause, reading, writing}
 use Rattle.sys_disk.specs.World.{World, OpenFiles, HasFailed}
 use Rattle.cmd_common_sparse.specs.declared.fault.SparseCommandFault.{SparseCommandFault}
 use Rattle.cmd_common_sparse.specs.declared.fault.SparseCommandFault.TheVariants as faults
@@ -61,17 +62,19 @@ IsFlashedWhole x p p' = (blocks : ℕ) × IsFlashed blocks x p p'
 -- Why it is not flashed, where so many bytes of x were read: the first fault of x, no room, or the fault of a device
 -- where one has failed. After a failed sync everything is written. After a failed read or write what was read is; a
 -- write may have left up to a window of anything behind that.
-abbrev pub IsUnflashed : Type 0 → ℕ → FlashFault → List ℕ → List ℕ → List ℕ → Type 0
+abbrev pub IsUnflashed : (Cause → Type 0) → ℕ → FlashFault → List ℕ → List ℕ → List ℕ → Type 0
 IsUnflashed failed got (flashes.Sparse f) x p p' = IsFlashedUpTo f x p p'
 IsUnflashed failed got (flashes.PartitionTooSmall need) x p p' = HasNoRoom need x p p'
-IsUnflashed failed got (flashes.Read d) x p p' = failed × IsFlashedInPart 0 got x p p'
-IsUnflashed failed got (flashes.Write d) x p p' = failed × IsFlashedInPart 65536 got x p p'
-IsUnflashed failed got (flashes.Sync d) x p p' = failed × IsFlashedWhole x p p'
+IsUnflashed failed got (flashes.Read d) x p p' = failed reading × IsFlashedInPart 0 got x p p'
+IsUnflashed failed got (flashes.Write d) x p p' = failed writing × IsFlashedInPart 65536 got x p p'
+IsUnflashed failed got (flashes.Sync d) x p p' = failed writing × IsFlashedWhole x p p'
 IsUnflashed failed got f x p p' = ⊥
 
--- the same, whatever number of bytes was read
-abbrev pub IsUnflashedThen : Type 0 → FlashFault → List ℕ → List ℕ → List ℕ → Type 0
-IsUnflashedThen failed f x p p' = (got : ℕ) × IsUnflashed failed got f x p p'
+-- the same of a run, which has counted how many bytes of x were read
+abbrev pub IsUnflashedThen : OpenFiles → OpenFiles → FlashFault → List ℕ → List ℕ → List ℕ → Type 0
+IsUnflashedThen held held' f x p p' =
+    (got : ℕ) × (held'.counts.given ≡ held.counts.given + got)
+    × IsUnflashed (λ cause. HasFailed cause held held') got f x p p'
 
 -- the partition keeps its length; after an Ok it was synced once, after its last byte
 pub record SyncsOnce {X F : Type 0} (r : Result X F) {C : Type 0} (s : sources.Ghosts C) (p : partitions.Ghosts C)
@@ -100,14 +103,14 @@ FlashesUntold input partition old new held held' untold =
 abbrev pub RefusesFlash : SparseCommandFault → List ℕ → List ℕ → World → World → OpenFiles → OpenFiles
     → (List ℕ → Type 0) → Type 0
 RefusesFlash (faults.Flash f) input partition old new held held' untold =
-    OnClosed held' (Between input partition old new (IsUnflashedThen (HasFailed held held') f))
+    OnClosed held' (Between input partition old new (IsUnflashedThen held held' f))
 RefusesFlash (faults.Host f) input partition old new held held' untold =
-    FailsAround partition old new held held' (Between input partition old new IsFlashedWhole)
+    FailsAround f partition old new held held' (Between input partition old new IsFlashedWhole)
     ⊎ FlashesUntold input partition old new held held' untold
 RefusesFlash f input partition old new held held' untold = ⊥
 
 -- what the call returns of x, of which it read so many bytes, over a partition that held p and then holds p'
-abbrev pub Lays : Type 0 → ℕ → Result ℕ SparseCommandFault → List ℕ → List ℕ → List ℕ → Type 0
+abbrev pub Lays : (Cause → Type 0) → ℕ → Result ℕ SparseCommandFault → List ℕ → List ℕ → List ℕ → Type 0
 Lays failed got (Ok n) x p p' = IsFlashed n x p p'
 Lays failed got (Err (faults.Flash f)) x p p' = IsUnflashed failed got f x p p'
 Lays failed got (Err f) x p p' = ⊥

@@ -9,6 +9,7 @@ use Rattle.abt_runs.specs.declared.part.RunFault.TheVariants as of_runs
 use Rattle.abt_flash.specs.Raw.{IsFilled}
 use Rattle.abt_flash_faults.specs.declared.fault.FlashFault.{FlashFault}
 use Rattle.abt_flash_faults.specs.declared.fault.FlashFault.TheVariants as flashes
+use Rattle.sys_disk.specs.Counts.{Cause, reading, writing}
 use Rattle.sys_disk.specs.World.{World, OpenFiles, HasFailed}
 use Rattle.cmd_common_sparse.specs.declared.fault.SparseCommandFault.{SparseCommandFault}
 use Rattle.cmd_common_sparse.specs.declared.fault.SparseCommandFault.TheVariants as faults
@@ -47,30 +48,32 @@ pub record IsLaidInPart (torn got : ℕ) (x p p' : List ℕ) : Type 0 where
   pub holds : HoldsBut (in_range laid torn) (put_at p 0 (take laid x)) p'
 
 -- it has no such blocks, or too many, and nothing was written; or it could not be read
-abbrev pub IsUnopened : Type 0 → ℕ → RunFault → ℕ → List ℕ → List ℕ → List ℕ → Type 0
-IsUnopened failed got (of_runs.Read d) b x p p' = failed × IsLaidInPart 0 got x p p'
+abbrev pub IsUnopened : (Cause → Type 0) → ℕ → RunFault → ℕ → List ℕ → List ℕ → List ℕ → Type 0
+IsUnopened failed got (of_runs.Read d) b x p p' = failed reading × IsLaidInPart 0 got x p p'
 IsUnopened failed got f b x p p' = RefusedRaw f b (length x) × (p' ≡ p)
 
 -- There is no room, or a device has failed: writing a window, or syncing all.
-abbrev pub IsUnlaid : Type 0 → ℕ → FlashFault → ℕ → List ℕ → List ℕ → List ℕ → Type 0
+abbrev pub IsUnlaid : (Cause → Type 0) → ℕ → FlashFault → ℕ → List ℕ → List ℕ → List ℕ → Type 0
 IsUnlaid failed got (flashes.PartitionTooSmall need) b x p p' = HasNoRoomRaw need b x p p'
-IsUnlaid failed got (flashes.Write d) b x p p' = failed × IsLaidInPart 65536 got x p p'
-IsUnlaid failed got (flashes.Sync d) b x p p' = failed × IsFlashedWholeRaw b x p p'
+IsUnlaid failed got (flashes.Write d) b x p p' = failed writing × IsLaidInPart 65536 got x p p'
+IsUnlaid failed got (flashes.Sync d) b x p p' = failed writing × IsFlashedWholeRaw b x p p'
 IsUnlaid failed got f b x p p' = ⊥
 
 -- what the call returns of x, of which it read so many bytes, over a partition that held p and then holds p'
-abbrev pub IsUnflashedRaw : Type 0 → ℕ → SparseCommandFault → ℕ → List ℕ → List ℕ → List ℕ → Type 0
+abbrev pub IsUnflashedRaw : (Cause → Type 0) → ℕ → SparseCommandFault → ℕ → List ℕ → List ℕ → List ℕ → Type 0
 IsUnflashedRaw failed got (faults.Run f) b x p p' = IsUnopened failed got f b x p p'
 IsUnflashedRaw failed got (faults.Flash f) b x p p' = IsUnlaid failed got f b x p p'
 IsUnflashedRaw failed got f b x p p' = ⊥
 
-abbrev pub LaysRaw : Type 0 → ℕ → Result ℕ SparseCommandFault → ℕ → List ℕ → List ℕ → List ℕ → Type 0
+abbrev pub LaysRaw : (Cause → Type 0) → ℕ → Result ℕ SparseCommandFault → ℕ → List ℕ → List ℕ → List ℕ → Type 0
 LaysRaw failed got (Ok n) b x p p' = IsFlashedRaw n b x p p'
 LaysRaw failed got (Err f) b x p p' = IsUnflashedRaw failed got f b x p p'
 
--- why it is not flashed, whatever number of bytes was read
-abbrev pub IsUnflashedRawThen : Type 0 → SparseCommandFault → ℕ → List ℕ → List ℕ → List ℕ → Type 0
-IsUnflashedRawThen failed f b x p p' = (got : ℕ) × IsUnflashedRaw failed got f b x p p'
+-- why it is not flashed in a run, which has counted how many bytes of x were read
+abbrev pub IsUnflashedRawThen : OpenFiles → OpenFiles → SparseCommandFault → ℕ → List ℕ → List ℕ → List ℕ → Type 0
+IsUnflashedRawThen held held' f b x p p' =
+    (got : ℕ) × (held'.counts.given ≡ held.counts.given + got)
+    × IsUnflashedRaw (λ cause. HasFailed cause held held') got f b x p p'
 
 -- ---- of files
 
@@ -92,7 +95,7 @@ FlashesRawUntold size input partition old new held held' untold =
 abbrev pub RefusesFlashRaw : SparseCommandFault → ℕ → List ℕ → List ℕ → World → World → OpenFiles → OpenFiles
     → (List ℕ → Type 0) → Type 0
 RefusesFlashRaw (faults.Host f) size input partition old new held held' untold =
-    FailsAround partition old new held held' (Between input partition old new (IsFlashedWholeRaw size))
+    FailsAround f partition old new held held' (Between input partition old new (IsFlashedWholeRaw size))
     ⊎ FlashesRawUntold size input partition old new held held' untold
 RefusesFlashRaw f size input partition old new held held' untold =
-    OnClosed held' (Between input partition old new (IsUnflashedRawThen (HasFailed held held') f size))
+    OnClosed held' (Between input partition old new (IsUnflashedRawThen held held' f size))

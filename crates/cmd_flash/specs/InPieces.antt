@@ -1,6 +1,6 @@
 -- What the command `flash` in pieces leaves of files, and what it prints.
 use Rattle.std.specs.Prelude.{◌≡◌, ◌≢◌, ℕ, ◌+◌, ◌-◌, ◌≤◌, ◌<◌, ◌⊎◌, List, [], ◌∷◌, ◌++◌, length, Option, Some, None}
-use Rattle.std.specs.Prelude.{Bool, true, IsTrue, Result, Ok, Err, OnOk, IfOk, is_some}
+use Rattle.std.specs.Prelude.{true, IsTrue, Result, Ok, Err, OnOk, IfOk, is_some}
 use Rattle.abt_io.specs.declared.device.Source as sources
 use Rattle.abt_io.specs.declared.device.Partition as partitions
 use Rattle.abt_sparse.specs.Block.{cells, over}
@@ -12,6 +12,10 @@ use Rattle.abt_flash.specs.Delivering.{ImageBlocks, blocks_behind, blocks_in_fir
 use Rattle.abt_flash.specs.Devices.{Counts}
 use Rattle.abt_flash.specs.Raw.{IsAllowed, RawRefused, raw_image}
 use Rattle.abt_flash.specs.Sparse.{Fits, SparseRefused, sparse_image}
+use Rattle.abt_flash_faults.specs.declared.fault.Cause.{Cause}
+use Rattle.abt_flash_faults.specs.declared.fault.Cause.TheVariants as causes
+use Rattle.sys_refusals.specs.declared.refusal.HostFault.TheVariants as hosts
+use Rattle.sys_disk.specs.Counts as runs
 use Rattle.sys_disk.specs.World.{World, OpenFiles, SparesInUse, HasFailed}
 use Rattle.cmd_common_sparse.specs.Blocks.{RefusedCut}
 use Rattle.cmd_common_sparse.specs.declared.fault.SparseCommandFault.{SparseCommandFault}
@@ -60,6 +64,17 @@ pub record IsDelivered (raw : Option ℕ) (limit before n : ℕ) (x p p' : List 
 abbrev pub IsDeliveredWhole : Option ℕ → ℕ → ℕ → List ℕ → List ℕ → List ℕ → Type 0
 IsDeliveredWhole raw limit before x p p' = (pieces : ℕ) × IsDelivered raw limit before pieces x p p'
 
+-- What has failed where a piece was stopped for this: a device that was read or written, or the call that closes the
+-- file that pieces went through. A source and a spool that are modelled do not change.
+abbrev pub StoppedBy : (runs.Cause → Type 0) → Cause → Type 0
+StoppedBy failed (causes.Read d) = failed runs.reading
+StoppedBy failed (causes.Write d) = failed runs.writing
+StoppedBy failed (causes.Sync d) = failed runs.writing
+StoppedBy failed (causes.SpoolRead d) = failed runs.reading
+StoppedBy failed (causes.SpoolWrite d) = failed runs.writing ⊎ failed (runs.call hosts.Write)
+StoppedBy failed causes.SourceChanged = ⊥
+StoppedBy failed causes.SpoolChanged = ⊥
+
 -- a device has failed in piece j of an image that fits; the pieces before it are stored, where the earlier ones were
 pub record IsStopped (failed : Type 0) (raw : Option ℕ) (limit before j : ℕ) (x p p' : List ℕ) : Type 0 where
   pub whole : IsWhole raw x limit (length p)
@@ -78,13 +93,15 @@ pub record IsEarly (raw : Option ℕ) (fault : FlashFault) (limit before : ℕ) 
 
 -- why it is not delivered: it was stopped in a piece; or nothing was written, because a device has failed, or because
 -- of x, the limit, no room, or no such piece, as the engine defines it
-abbrev pub IsUndelivered : Type 0 → Option ℕ → FlashFault → ℕ → ℕ → List ℕ → List ℕ → List ℕ → Type 0
-IsUndelivered failed raw (flashes.Stopped j cause) limit before x p p' = IsStopped failed raw limit before j x p p'
-IsUndelivered failed raw (flashes.Read d) limit before x p p' = failed × (p' ≡ p)
+abbrev pub IsUndelivered : (runs.Cause → Type 0) → Option ℕ → FlashFault → ℕ → ℕ → List ℕ → List ℕ → List ℕ → Type 0
+IsUndelivered failed raw (flashes.Stopped j cause) limit before x p p' =
+    IsStopped (StoppedBy failed cause) raw limit before j x p p'
+IsUndelivered failed raw (flashes.Read d) limit before x p p' = failed runs.reading × (p' ≡ p)
 IsUndelivered failed raw fault limit before x p p' = IsEarly raw fault limit before x p p'
 
 -- what the call returns of x
-abbrev pub DeliversPieces : Type 0 → Option ℕ → Result Delivered FlashFault → ℕ → ℕ → List ℕ → List ℕ → List ℕ → Type 0
+abbrev pub DeliversPieces : (runs.Cause → Type 0) → Option ℕ → Result Delivered FlashFault → ℕ → ℕ → List ℕ → List ℕ
+    → List ℕ → Type 0
 DeliversPieces failed raw (Ok d) limit before x p p' = IsDelivered raw limit before d.pieces x p p'
 DeliversPieces failed raw (Err fault) limit before x p p' = IsUndelivered failed raw fault limit before x p p'
 
@@ -147,9 +164,11 @@ IsUncuttable raw fault limit x = (size : ℕ) × (raw ≡ Some size) × RefusedC
 abbrev pub RefusesPieces : SparseCommandFault → Option ℕ → ℕ → ℕ → List ℕ → List ℕ → List ℕ → World → World → OpenFiles
     → OpenFiles → (List ℕ → Type 0) → Type 0
 RefusesPieces (faults.Flash f) raw limit before input partition spool old new held held' untold =
-    OnClosed held' (Across input partition spool old new (IsUndelivered (HasFailed held held') raw f limit before))
+    OnClosed held' (Across input partition spool old new
+    (IsUndelivered (λ cause. HasFailed cause held held') raw f limit before))
 RefusesPieces (faults.Host f) raw limit before input partition spool old new held held' untold =
-    FailsAround partition old new held held' (Across input partition spool old new (IsDeliveredWhole raw limit before))
+    FailsAround f partition old new held held'
+    (Across input partition spool old new (IsDeliveredWhole raw limit before))
     ⊎ FlashesPiecesUntold raw limit before input partition spool old new held held' untold
 RefusesPieces fault raw limit before input partition spool old new held held' untold =
     OfFile input old (IsUncuttable raw fault limit) × (new ≡ old)

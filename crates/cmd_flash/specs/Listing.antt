@@ -6,6 +6,7 @@ use Rattle.abt_sparse.specs.Chunk.{Header, Chunk}
 use Rattle.abt_sparse.specs.Fails.{Fails, Spells}
 use Rattle.abt_chunks.specs.Listing.{infos}
 use Rattle.cmd_common_listing.specs.Listed.{chunk_line, header_line}
+use Rattle.sys_disk.specs.Counts.{call, reading}
 use Rattle.sys_disk.specs.World.{World, OpenFiles, HasFailed}
 use Rattle.cmd_common_sparse.specs.declared.fault.SparseCommandFault.{SparseCommandFault}
 use Rattle.cmd_common_sparse.specs.declared.fault.SparseCommandFault.TheVariants as faults
@@ -29,6 +30,6 @@ IsUnlisted unread unprinted f x = (given : List (Option ℕ)) × Fails x f given
 -- call of the disk, so that the report counts it
 abbrev pub RefusesList : SparseCommandFault → List ℕ → World → OpenFiles → OpenFiles → Type 0 → Type 0
 RefusesList (faults.Sparse f) input world held held' unprinted =
-    OfFile input world (IsUnlisted (HasFailed held held') unprinted f)
-RefusesList (faults.Host f) input world held held' unprinted = HasFailed held held'
+    OfFile input world (IsUnlisted (HasFailed reading held held') unprinted f)
+RefusesList (faults.Host f) input world held held' unprinted = HasFailed (call f) held held'
 RefusesList f input world held held' unprinted = ⊥

@@ -10,6 +10,7 @@ use Rattle.abt_verify.specs.Standing.{FirstDiffers, Stands, held_in}
 use Rattle.abt_verify.specs.Verifying.{Different, RefusedVerify}
 use Rattle.abt_verify.specs.declared.fault.VerifyFault.{VerifyFault}
 use Rattle.abt_verify.specs.declared.fault.VerifyFault.TheVariants as verifies
+use Rattle.sys_disk.specs.Counts.{call, reading}
 use Rattle.sys_disk.specs.World.{World, OpenFiles, HasFailed}
 use Rattle.cmd_common_sparse.specs.declared.fault.SparseCommandFault.{SparseCommandFault}
 use Rattle.cmd_common_sparse.specs.declared.fault.SparseCommandFault.TheVariants as faults
@@ -82,16 +83,16 @@ pub record VerifiesRawFile (size : ℕ) (input partition : List ℕ) (world : Wo
 abbrev pub RefusesVerify : SparseCommandFault → List ℕ → List ℕ → World → OpenFiles → OpenFiles → (List ℕ → Type 0)
     → Type 0
 RefusesVerify (faults.Verify f) input partition world held held' untold =
-    OfBoth input partition world (IsNotThere (HasFailed held held') f)
+    OfBoth input partition world (IsNotThere (HasFailed reading held held') f)
 RefusesVerify (faults.Host f) input partition world held held' untold =
-    HasFailed held held' ⊎ VerifiesFile input partition world untold
+    HasFailed (call f) held held' ⊎ VerifiesFile input partition world untold
 RefusesVerify f input partition world held held' untold = ⊥
 
 abbrev pub RefusesVerifyRaw : SparseCommandFault → ℕ → List ℕ → List ℕ → World → OpenFiles → OpenFiles
     → (List ℕ → Type 0)
     → Type 0
 RefusesVerifyRaw (faults.Verify f) size input partition world held held' untold =
-    OfBoth input partition world (IsNotThereRaw (HasFailed held held') f size)
+    OfBoth input partition world (IsNotThereRaw (HasFailed reading held held') f size)
 RefusesVerifyRaw (faults.Host f) size input partition world held held' untold =
-    HasFailed held held' ⊎ VerifiesRawFile size input partition world untold
+    HasFailed (call f) held held' ⊎ VerifiesRawFile size input partition world untold
 RefusesVerifyRaw f size input partition world held held' untold = ⊥

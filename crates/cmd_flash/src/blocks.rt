@@ -1,7 +1,8 @@
 //! Writes each block of a raw image to a partition.
 
-ghost use Rattle.std.specs.Prelude.{◌≡◌, ◌≤◌, ◌<◌, ◌+◌, ◌-◌, ◌*◌, IsTrue, OnOk, IfOk};
+ghost use Rattle.std.specs.Prelude.{◌≡◌, ◌≤◌, ◌-◌, ◌*◌, IsTrue, OnOk, IfOk};
 ghost use Rattle.abt_flash.specs.Raw.{IsFilled};
+ghost use Rattle.cmd_flash.specs.Files.{DeviceFailed, NeitherFailed};
 ghost use Rattle.cmd_flash.specs.Flashing.{SyncsOnce};
 ghost use Rattle.cmd_flash.specs.FlashingRaw.{LaysRaw};
 ghost use Rattle.cmd_flash.specs.Laying.{MovesOnce, unlaid};
@@ -29,11 +30,12 @@ pub(crate) fn flash_blocks<S: Source, P: Partition>(
         source.old source.new onto.old onto.new) }
     // what the partition holds, or why not
     ensures lays { IsTrue S.models → IsTrue P.models → LaysRaw
-        (S.read_faults source.old + P.put_faults onto.old < S.read_faults source.new + P.put_faults onto.new)
+        (DeviceFailed (S.read_faults source.old) (S.read_faults source.new) (P.put_faults onto.old)
+        (P.put_faults onto.new))
         (S.given source.new - S.given source.old) result size (S.content source.old) (P.content onto.old)
         (P.content onto.new) }
-    ensures clean { OnOk result
-        (S.read_faults source.new + P.put_faults onto.new ≡ S.read_faults source.old + P.put_faults onto.old) }
+    ensures clean { OnOk result (NeitherFailed (S.read_faults source.old) (S.read_faults source.new)
+        (P.put_faults onto.old) (P.put_faults onto.new)) }
     ensures syncs { SyncsOnce result P.Source P.Partition.own onto.old onto.new }
 {
     let runs = match RawRuns::open(source, size) {

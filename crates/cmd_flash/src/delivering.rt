@@ -1,6 +1,7 @@
 //! Writes the pieces of an image to a partition, by one call of the engine.
 
-ghost use Rattle.std.specs.Prelude.{◌≡◌, ◌≤◌, ◌<◌, ◌+◌, ◌-◌, [], IsTrue, OnOk};
+ghost use Rattle.std.specs.Prelude.{◌≡◌, ◌≤◌, ◌+◌, ◌-◌, [], IsTrue, OnOk};
+ghost use Rattle.cmd_flash.specs.Files.{DeviceFailed, NeitherFailed};
 ghost use Rattle.cmd_flash.specs.InPieces.{DeliversPieces, SyncsPieces};
 
 use abt_flash::{Delivered, resume, resume_raw_at};
@@ -24,14 +25,19 @@ pub(crate) fn delivered<S: Source, L: Spool + Overwrite, P: Partition>(
     // what the partition holds, or why not: a device's fault where one has failed of devices that had not yet
     ensures delivers { IsTrue S.models → IsTrue L.models → IsTrue P.models → (P.past onto.old).pending ≡ []
         → DeliversPieces
-        (S.read_faults source.old.device + P.put_faults onto.old + (L.write_faults spool.old + (L.read_faults spool.old
-        + L.clear_faults spool.old)) ≡ 0 → 0 < S.read_faults source.new.device + P.put_faults onto.new
-        + (L.write_faults spool.new + (L.read_faults spool.new + L.clear_faults spool.new)))
+        (λ cause. S.read_faults source.old.device + P.put_faults onto.old + (L.write_faults spool.old
+        + (L.read_faults spool.old + L.clear_faults spool.old)) ≡ 0 → DeviceFailed
+        (S.read_faults source.old.device + L.read_faults spool.old)
+        (S.read_faults source.new.device + L.read_faults spool.new)
+        (P.put_faults onto.old + (L.write_faults spool.old + L.clear_faults spool.old))
+        (P.put_faults onto.new + (L.write_faults spool.new + L.clear_faults spool.new)) cause)
         raw result limit (from - 1) (S.content source.old.device) (P.content onto.old) (P.content onto.new) }
     ensures syncs { SyncsPieces result P.Source P.Partition.own onto.old onto.new }
-    ensures clean { OnOk result (S.read_faults source.new.device + P.put_faults onto.new + (L.write_faults spool.new
-        + (L.read_faults spool.new + L.clear_faults spool.new)) ≡ S.read_faults source.old.device
-        + P.put_faults onto.old + (L.write_faults spool.old + (L.read_faults spool.old + L.clear_faults spool.old))) }
+    ensures clean { OnOk result (NeitherFailed
+        (S.read_faults source.old.device + L.read_faults spool.old)
+        (S.read_faults source.new.device + L.read_faults spool.new)
+        (P.put_faults onto.old + (L.write_faults spool.old + L.clear_faults spool.old))
+        (P.put_faults onto.new + (L.write_faults spool.new + L.clear_faults spool.new))) }
 {
     match raw {
         Some(size) => resume_raw_at(source, size, limit, from, spool, onto, w, m),

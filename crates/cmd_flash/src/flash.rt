@@ -1,10 +1,10 @@
 //! The command `flash` of a sparse image that is written straight to a partition.
 
-ghost use Rattle.std.specs.Prelude.{◌≡◌, ◌+◌, ◌-◌, ◌<◌, IsTrue, OnOk, IfErr};
+ghost use Rattle.std.specs.Prelude.{◌-◌, IsTrue, OnOk, IfErr};
 ghost use Rattle.sys_refusals.specs.Paths.{path_in, path_of};
 ghost use Rattle.sys_report.specs.Shows.{ShowsBeside, Unprinted};
 ghost use Rattle.sys_disk.specs.DiskCalls.{HasNoPart};
-ghost use Rattle.cmd_flash.specs.Files.{LeavesOthers, SparesAround};
+ghost use Rattle.cmd_flash.specs.Files.{DeviceFailed, LeavesOthers, NeitherFailed, SparesAround};
 ghost use Rattle.cmd_flash.specs.Flashing.{FlashesFile, Lays, RefusesFlash, SyncsOnce};
 
 use abt_flash::flash;
@@ -70,11 +70,12 @@ fn flashed<I: Input, P: Partition>(
     m: &mut Meter,
 ) -> Result<u32, SparseCommandFault>
     ensures lays { IsTrue I.models → IsTrue P.models → Lays
-        (I.read_faults from.old.device + P.put_faults onto.old < I.read_faults from.new.device + P.put_faults onto.new)
+        (DeviceFailed (I.read_faults from.old.device) (I.read_faults from.new.device) (P.put_faults onto.old)
+        (P.put_faults onto.new))
         (I.given from.new.device - I.given from.old.device) result (I.remaining from.old.device)
         (P.content onto.old) (P.content onto.new) }
-    ensures clean { OnOk result (I.read_faults from.new.device + P.put_faults onto.new
-        ≡ I.read_faults from.old.device + P.put_faults onto.old) }
+    ensures clean { OnOk result (NeitherFailed (I.read_faults from.old.device) (I.read_faults from.new.device)
+        (P.put_faults onto.old) (P.put_faults onto.new)) }
     ensures syncs { SyncsOnce result P.Source P.Partition.own onto.old onto.new }
 {
     match flash(from, onto, w, m) {

@@ -1,11 +1,11 @@
 //! Writes the pieces of an image to a partition, through a file that is closed after them.
 
-ghost use Rattle.std.specs.Prelude.{◌≡◌, ◌≤◌, ◌<◌, ◌+◌, ◌-◌, [], IfErr, IfOk, IsTrue, OnErr, OnOk, Some, None, false};
+ghost use Rattle.std.specs.Prelude.{◌≡◌, ◌≤◌, ◌+◌, ◌-◌, [], IfErr, IfOk, IsTrue, OnErr, OnOk, Some, None, false};
 ghost use Rattle.sys_disk.specs.World.{SparesRest};
 ghost use Rattle.abt_io.specs.declared.device.DeviceFault.{DeviceFault};
 ghost use Rattle.abt_flash_faults.specs.declared.fault.Cause.{Cause};
 ghost use Rattle.cmd_flash.specs.InPieces.{DeliversPieces, SyncsPieces};
-ghost use Rattle.cmd_flash.specs.Through.{ClosesSpool, told};
+ghost use Rattle.cmd_flash.specs.Through.{ClosesSpool, HasFailedWith, HasNotFailedWith, told};
 
 use crate::delivering::delivered;
 use abt_flash::Delivered;
@@ -32,16 +32,16 @@ pub(crate) fn delivered_through<'a, D: Disk>(
     requires capacity { limit ≤ D.Through.Spool.size through }
     // what the partition holds, or why not: a device's fault where one has failed of devices that had not yet
     ensures delivers { IsTrue D.models → (D.InPlace.past onto.old).pending ≡ [] → DeliversPieces
-        (D.At.read_faults source.old.device + D.InPlace.put_faults onto.old + (D.Through.Output.write_faults through
-        + (D.Through.Input.read_faults through + D.Through.Spool.clear_faults through)) ≡ 0
-        → (D.held disk.old).failed < (D.held disk.new).failed + (D.At.read_faults source.new.device
-        + D.InPlace.put_faults onto.new)) raw result.0 limit (from - 1) (D.At.content source.old.device)
-        (D.InPlace.content onto.old) (D.InPlace.content onto.new) }
+        (λ cause. D.At.read_faults source.old.device + D.InPlace.put_faults onto.old
+        + (D.Through.Output.write_faults through + (D.Through.Input.read_faults through
+        + D.Through.Spool.clear_faults through)) ≡ 0 → HasFailedWith (D.At.read_faults source.new.device)
+        (D.InPlace.put_faults onto.new) (D.held disk.old) (D.held disk.new) cause) raw result.0 limit (from - 1)
+        (D.At.content source.old.device) (D.InPlace.content onto.old) (D.InPlace.content onto.new) }
     ensures syncs { SyncsPieces result.0 D.InPlace.Source D.InPlace.Partition.own onto.old onto.new }
     ensures clean { IsTrue D.models → OnOk result.0 (D.At.read_faults source.old.device + D.InPlace.put_faults onto.old
         + (D.Through.Output.write_faults through + (D.Through.Input.read_faults through
-        + D.Through.Spool.clear_faults through)) ≡ 0 → (D.held disk.new).failed + (D.At.read_faults source.new.device
-        + D.InPlace.put_faults onto.new) ≡ (D.held disk.old).failed) }
+        + D.Through.Spool.clear_faults through)) ≡ 0 → HasNotFailedWith (D.At.read_faults source.new.device)
+        (D.InPlace.put_faults onto.new) (D.held disk.old) (D.held disk.new)) }
     // and of the disk
     ensures closed { IsTrue D.models → ClosesSpool (D.held disk.old) (D.held disk.new) }
     ensures rest { IsTrue D.models → SparesRest (D.held disk.old).spool (D.world disk.old) (D.world disk.new) }

@@ -1,10 +1,10 @@
 //! The command `verify`: whether a partition holds an image.
 
-ghost use Rattle.std.specs.Prelude.{◌≡◌, ◌<◌, ◌+◌, [], IsTrue, OnOk, IfErr, is_ok};
+ghost use Rattle.std.specs.Prelude.{◌≡◌, ◌<◌, ◌+◌, [], IsTrue, OnOk, IfErr};
 ghost use Rattle.sys_refusals.specs.Paths.{path_in, path_of};
 ghost use Rattle.sys_report.specs.Shows.{ShowsHere, Unprinted};
 ghost use Rattle.sys_disk.specs.DiskCalls.{FailsOnly, LeavesAll};
-ghost use Rattle.sys_disk.specs.World.{unless};
+ghost use Rattle.sys_disk.specs.Counts.{failure_of};
 ghost use Rattle.cmd_flash.specs.Verifying.{Finds, FindsRaw, RefusesVerify, RefusesVerifyRaw, VerifiesFile};
 ghost use Rattle.cmd_flash.specs.Verifying.{VerifiesRawFile};
 
@@ -115,7 +115,7 @@ fn unchanged_behind<'a, D: Disk>(
     disk: &mut D,
     answer: &Result<u64, SparseCommandFault>,
 ) -> Result<(), HostRefusal<'a>>
-    ensures { FailsOnly D.models (unless (is_ok result)) (D.held disk.old) (D.held disk.new) (D.world disk.old)
+    ensures { FailsOnly D.models (failure_of result) (D.held disk.old) (D.held disk.new) (D.world disk.old)
         (D.world disk.new) }
 {
     match answer {

@@ -1,5 +1,5 @@
 use Rattle.std.proofs.Common.{ap, ◌-◌, Some, None}
-use Rattle.cmd_flash.proofs.Closed.{delivers_for, sums_same}
+use Rattle.cmd_flash.proofs.Closed.{in_order}
 use Rattle.cmd_flash.proofs.Deliveries.{answered_raw, answered_sparse, delivers}
 use Rattle.cmd_flash.proofs.delivering.delivered.Goals as goal
 
@@ -12,8 +12,8 @@ returns-in-Some-clause-delivers g c = λ s l p none.
     (λ same. ap g.P.Source.content same.1) e.allowed e.refused e.image.delivers.early
     (e.image.delivers.counted s) e.image.partition
     (e.image.mends s l p) in
-    rw c.in-Some.is (delivers_for _ _ (Some c.in-Some.size) c.resume_raw_at.result c.args.limit (c.args.from - 1) _ _ _
-    (sums_same _ _ _ _ _ _ _ _ _ _) (delivers (Some c.in-Some.size) c.args.limit (c.args.from - 1)
+    rw c.in-Some.is (in_order _ _ _ _ _ _ _ _ _ _ (Some c.in-Some.size) c.resume_raw_at.result c.args.limit
+    (c.args.from - 1) _ _ _ (delivers (Some c.in-Some.size) c.args.limit (c.args.from - 1)
     c.resume_raw_at.result
     _ _ _ _ _ none all))
 
@@ -23,5 +23,5 @@ returns-in-None-clause-delivers g c = λ s l p none.
     let all = answered_sparse c.args.limit (c.args.from - 1) _ c.resume.result _ _ _ _ _ _ _ _ _ s l p
     (g.met.P.Source.sized c.args.onto.now p) (λ same. ap g.P.Source.content same.1) (e.granted s) e.refused
     e.image.delivers.early (e.image.delivers.counted s) e.image.partition (e.image.mends s l p) in
-    rw c.in-None.is (delivers_for _ _ None c.resume.result c.args.limit (c.args.from - 1) _ _ _
-    (sums_same _ _ _ _ _ _ _ _ _ _) (delivers None c.args.limit (c.args.from - 1) c.resume.result _ _ _ _ _ none all))
+    rw c.in-None.is (in_order _ _ _ _ _ _ _ _ _ _ None c.resume.result c.args.limit (c.args.from - 1) _ _ _
+    (delivers None c.args.limit (c.args.from - 1) c.resume.result _ _ _ _ _ none all))

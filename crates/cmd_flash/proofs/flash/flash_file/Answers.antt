@@ -1,13 +1,13 @@
-use Rattle.std.proofs.Common.{rules, arith, ap, refl, ◌≡◌, length}
+use Rattle.std.proofs.Common.{rules, arith, refl}
 use Rattle.sys_report.proofs.Beside.{beside}
 use Rattle.cmd_flash.specs.Flashing.{IsFlashed}
-use Rattle.cmd_flash.proofs.Refusals.{flash_untold, handed_on, is_flashed, on_ok, refuses_flash}
-use Rattle.cmd_flash.proofs.Written.{as_long, ran, ran_clean, ran_failed, ran_unclosed, settled_once}
+use Rattle.cmd_flash.proofs.Refusals.{flash_untold, handed_on, host_late, is_flashed, on_ok, refuses_flash}
+use Rattle.cmd_flash.proofs.Written.{as_long, ran, ran_clean, ran_failed, ran_given, settled_once}
 use Rattle.cmd_flash.proofs.flash.flash_file.Goals as goal
 
 pub returns-in-Err-clause-leaves : goal.returns-in-Err-clause-leaves
 returns-in-Err-clause-leaves g c = λ t.
-    let all = ran _ _ _ _ _ _ _ _ _ _ _ _ _ _ _ _ _ (g.D.InPlace.Partition.past c.flashed-answer.new.onto) _ _
+    let all = ran _ _ _ _ _ _ _ _ _ _ _ _ _ _ _ _ _ (g.D.InPlace.Partition.past c.flashed-answer.new.onto) _
     (c.in_ok-from.ensures.opened t) (c.in_ok-from.ensures.world t)
     (c.in_ok-onto.ensures.opened t) (c.in_ok-onto.ensures.world t) (c.let_go.ensures.held t) (c.let_go.ensures.world t)
     (c.closed.ensures.ended t) (c.closed.ensures.paths t) (c.in-Err.ensures.closed t) in
@@ -20,7 +20,7 @@ returns-in-Err-clause-leaves g c = λ t.
 
 pub returns-in_err-line_beside-clause-leaves : goal.returns-in_err-line_beside-clause-leaves
 returns-in_err-line_beside-clause-leaves g c = λ t.
-    let all = ran _ _ _ _ _ _ _ _ _ _ _ _ _ _ _ _ _ (g.D.InPlace.Partition.past c.flashed-answer.new.onto) _ _
+    let all = ran _ _ _ _ _ _ _ _ _ _ _ _ _ _ _ _ _ (g.D.InPlace.Partition.past c.flashed-answer.new.onto) _
     (c.in_ok-from.ensures.opened t) (c.in_ok-from.ensures.world t)
     (c.in_ok-onto.ensures.opened t) (c.in_ok-onto.ensures.world t) (c.let_go.ensures.held t) (c.let_go.ensures.world t)
     (c.closed.ensures.ended t) (c.closed.ensures.paths t) (c.in-Ok.ensures.closed t) in
@@ -33,14 +33,15 @@ returns-in_err-line_beside-clause-leaves g c = λ t.
 
 pub returns-clause-leaves : goal.returns-clause-leaves
 returns-clause-leaves g c = λ t.
-    let all = ran _ _ _ _ _ _ _ _ _ _ _ _ _ _ _ _ _ (g.D.InPlace.Partition.past c.flashed-answer.new.onto) _ _
+    let all = ran _ _ _ _ _ _ _ _ _ _ _ _ _ _ _ _ _ (g.D.InPlace.Partition.past c.flashed-answer.new.onto) _
     (c.in_ok-from.ensures.opened t) (c.in_ok-from.ensures.world t)
     (c.in_ok-onto.ensures.opened t) (c.in_ok-onto.ensures.world t) (c.let_go.ensures.held t) (c.let_go.ensures.world t)
     (c.closed.ensures.ended t) (c.closed.ensures.paths t) (c.in-Ok.ensures.closed t) in
     record {
       others = all.others;
       input = all.kept;
-      clean = ran_clean _ _ _ _ _ _ _ _ _ _ _ _ _ _ _ all (c.in_ok-from.ensures.clean t) (c.in_ok-onto.ensures.clean t)
+      clean = ran_clean _ _ _ _ _ _ _ _ _ _ _ _ _ _ _ _ _ all (c.in_ok-from.ensures.clean t)
+          (c.in_ok-onto.ensures.clean t)
           (on_ok c.flashed-answer.result c.in-Ok.end.0 _ c.in-Ok.ensures.done c.flashed-answer.ensures.clean)
           ((c.in-Ok.ensures.closed t).clean refl);
       closed = all.closed;
@@ -48,14 +49,14 @@ returns-clause-leaves g c = λ t.
 
 pub returns-in-Err-clause-refused : goal.returns-in-Err-clause-refused
 returns-in-Err-clause-refused g c = λ t.
-    let all = ran _ _ _ _ _ _ _ _ _ _ _ _ _ _ _ _ _ (g.D.InPlace.Partition.past c.flashed-answer.new.onto) _ _
+    let all = ran _ _ _ _ _ _ _ _ _ _ _ _ _ _ _ _ _ (g.D.InPlace.Partition.past c.flashed-answer.new.onto) _
     (c.in_ok-from.ensures.opened t) (c.in_ok-from.ensures.world t)
     (c.in_ok-onto.ensures.opened t) (c.in_ok-onto.ensures.world t) (c.let_go.ensures.held t) (c.let_go.ensures.world t)
     (c.closed.ensures.ended t) (c.closed.ensures.paths t) (c.in-Err.ensures.closed t) in
-    refuses_flash _ c.flashed-answer.result c.in-Err.refusal.fault _ _ _ _ _ _ _ _ _ _ _ c.in-Err.ensures.told
-    c.in-Err.ensures.host (λ ok. ran_unclosed _ _ _ _ _ _ _ _ _ _ _ _ all ((c.in-Err.ensures.closed t).cause ok refl))
-    all.closed
-    (ran_failed _ _ _ _ _ _ _ _ _ _ _ _ _ _ _ all (c.in_ok-from.ensures.clean t) (c.in_ok-onto.ensures.clean t))
+    refuses_flash _ c.flashed-answer.result c.in-Err.refusal.fault _ _ _ _ _ _ _ _ _ _ _ _ _ _ c.in-Err.ensures.told
+    (host_late _ _ _ _ _ _ _ _ _ _ _ _ _ _ _ _ _ all t c.in-Err.ensures.host)
+    all.closed (ran_given _ _ _ _ _ _ _ _ _ _ _ _ _ _ _ _ all (c.in_ok-from.ensures.unread t))
+    (ran_failed _ _ _ _ _ _ _ _ _ _ _ _ _ _ _ _ _ all (c.in_ok-from.ensures.clean t) (c.in_ok-onto.ensures.clean t))
     all.with_files
     (c.flashed-answer.ensures.lays (g.met.D.Disk.told t) (g.met.D.Disk.part_told t))
 
@@ -63,14 +64,14 @@ pub returns-clause-done : goal.returns-clause-done
 returns-clause-done g c = λ t.
     let f = c.flashed-answer.ensures in
     let done = c.in-Ok.ensures.done in
-    let all = ran _ _ _ _ _ _ _ _ _ _ _ _ _ _ _ _ _ (g.D.InPlace.Partition.past c.flashed-answer.new.onto) _ _
+    let all = ran _ _ _ _ _ _ _ _ _ _ _ _ _ _ _ _ _ (g.D.InPlace.Partition.past c.flashed-answer.new.onto) _
     (c.in_ok-from.ensures.opened t) (c.in_ok-from.ensures.world t)
     (c.in_ok-onto.ensures.opened t) (c.in_ok-onto.ensures.world t) (c.let_go.ensures.held t) (c.let_go.ensures.world t)
     (c.closed.ensures.ended t) (c.closed.ensures.paths t) (c.in-Ok.ensures.closed t) in
     record {
       blocks = c.in-Ok.end.0;
       flashed = all.with_files (IsFlashed c.in-Ok.end.0)
-          (is_flashed c.flashed-answer.result c.in-Ok.end.0 _ _ _ _ _ done
+          (is_flashed c.flashed-answer.result c.in-Ok.end.0 _ _ _ _ _ _ _ _ done
           (f.lays (g.met.D.Disk.told t) (g.met.D.Disk.part_told t)));
       synced = all.synced (settled_once (g.D.InPlace.Partition.past c.in_ok-onto.onto)
           (g.D.InPlace.Partition.past c.flashed-answer.new.onto) (c.in_ok-onto.ensures.past t)
@@ -84,7 +85,7 @@ pub returns-in_err-line_beside-clause-refused : goal.returns-in_err-line_beside-
 returns-in_err-line_beside-clause-refused g c = λ t.
     let f = c.flashed-answer.ensures in
     let done = c.in-Ok.ensures.done in
-    let all = ran _ _ _ _ _ _ _ _ _ _ _ _ _ _ _ _ _ (g.D.InPlace.Partition.past c.flashed-answer.new.onto) _ _
+    let all = ran _ _ _ _ _ _ _ _ _ _ _ _ _ _ _ _ _ (g.D.InPlace.Partition.past c.flashed-answer.new.onto) _
     (c.in_ok-from.ensures.opened t) (c.in_ok-from.ensures.world t)
     (c.in_ok-onto.ensures.opened t) (c.in_ok-onto.ensures.world t) (c.let_go.ensures.held t) (c.let_go.ensures.world t)
     (c.closed.ensures.ended t) (c.closed.ensures.paths t) (c.in-Ok.ensures.closed t) in
@@ -92,7 +93,7 @@ returns-in_err-line_beside-clause-refused g c = λ t.
     (λ r made. flash_untold _ r.fault _ _ _ _ _ _ _ made all.closed (record {
       blocks = c.in-Ok.end.0;
       flashed = all.with_files (IsFlashed c.in-Ok.end.0)
-          (is_flashed c.flashed-answer.result c.in-Ok.end.0 _ _ _ _ _ done
+          (is_flashed c.flashed-answer.result c.in-Ok.end.0 _ _ _ _ _ _ _ _ done
           (f.lays (g.met.D.Disk.told t) (g.met.D.Disk.part_told t)));
       synced = all.synced (settled_once (g.D.InPlace.Partition.past c.in_ok-onto.onto)
           (g.D.InPlace.Partition.past c.flashed-answer.new.onto) (c.in_ok-onto.ensures.past t)

@@ -1,13 +1,9 @@
-use Rattle.std.proofs.Common.{arith}
 use Rattle.cmd_flash.proofs.Causes.{unflashed}
 use Rattle.cmd_flash.proofs.flash.flashed.Goals as goal
 
 pub returns-in-Ok-clause-clean : goal.returns-in-Ok-clause-clean
 returns-in-Ok-clause-clean g c =
-    let e = c.in-Ok.ensures.cause in
-    let one = e.0 in
-    let two = e.1 in
-    omega (arith, one, two)
+    c.in-Ok.ensures.cause
 
 pub returns-in-Err-clause-lays : goal.returns-in-Err-clause-lays
 returns-in-Err-clause-lays g c = λ t u.

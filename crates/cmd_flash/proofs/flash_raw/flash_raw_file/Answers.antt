@@ -1,13 +1,13 @@
-use Rattle.std.proofs.Common.{rules, arith, ap, refl, ◌≡◌, length}
+use Rattle.std.proofs.Common.{rules, arith, refl}
 use Rattle.sys_report.proofs.Beside.{beside}
 use Rattle.cmd_flash.specs.FlashingRaw.{IsFlashedRaw}
-use Rattle.cmd_flash.proofs.Refusals.{raw_untold, handed_on, is_flashed_raw, on_ok, refuses_raw}
-use Rattle.cmd_flash.proofs.Written.{as_long, ran, ran_clean, ran_failed, ran_unclosed, settled_once}
+use Rattle.cmd_flash.proofs.Refusals.{raw_untold, handed_on, host_late, is_flashed_raw, on_ok, refuses_raw}
+use Rattle.cmd_flash.proofs.Written.{as_long, ran, ran_clean, ran_failed, ran_given, settled_once}
 use Rattle.cmd_flash.proofs.flash_raw.flash_raw_file.Goals as goal
 
 pub returns-in-Err-clause-leaves : goal.returns-in-Err-clause-leaves
 returns-in-Err-clause-leaves g c = λ t.
-    let all = ran _ _ _ _ _ _ _ _ _ _ _ _ _ _ _ _ _ (g.D.InPlace.Partition.past c.flash_blocks-answer.new.onto) _ _
+    let all = ran _ _ _ _ _ _ _ _ _ _ _ _ _ _ _ _ _ (g.D.InPlace.Partition.past c.flash_blocks-answer.new.onto) _
     (c.in_ok-source.ensures.opened t) (c.in_ok-source.ensures.world t)
     (c.in_ok-onto.ensures.opened t) (c.in_ok-onto.ensures.world t) (c.let_go_source.ensures.held t)
     (c.let_go_source.ensures.world t)
@@ -21,7 +21,7 @@ returns-in-Err-clause-leaves g c = λ t.
 
 pub returns-in_err-line_beside-clause-leaves : goal.returns-in_err-line_beside-clause-leaves
 returns-in_err-line_beside-clause-leaves g c = λ t.
-    let all = ran _ _ _ _ _ _ _ _ _ _ _ _ _ _ _ _ _ (g.D.InPlace.Partition.past c.flash_blocks-answer.new.onto) _ _
+    let all = ran _ _ _ _ _ _ _ _ _ _ _ _ _ _ _ _ _ (g.D.InPlace.Partition.past c.flash_blocks-answer.new.onto) _
     (c.in_ok-source.ensures.opened t) (c.in_ok-source.ensures.world t)
     (c.in_ok-onto.ensures.opened t) (c.in_ok-onto.ensures.world t) (c.let_go_source.ensures.held t)
     (c.let_go_source.ensures.world t)
@@ -35,7 +35,7 @@ returns-in_err-line_beside-clause-leaves g c = λ t.
 
 pub returns-clause-leaves : goal.returns-clause-leaves
 returns-clause-leaves g c = λ t.
-    let all = ran _ _ _ _ _ _ _ _ _ _ _ _ _ _ _ _ _ (g.D.InPlace.Partition.past c.flash_blocks-answer.new.onto) _ _
+    let all = ran _ _ _ _ _ _ _ _ _ _ _ _ _ _ _ _ _ (g.D.InPlace.Partition.past c.flash_blocks-answer.new.onto) _
     (c.in_ok-source.ensures.opened t) (c.in_ok-source.ensures.world t)
     (c.in_ok-onto.ensures.opened t) (c.in_ok-onto.ensures.world t) (c.let_go_source.ensures.held t)
     (c.let_go_source.ensures.world t)
@@ -43,7 +43,7 @@ returns-clause-leaves g c = λ t.
     record {
       others = all.others;
       input = all.kept;
-      clean = ran_clean _ _ _ _ _ _ _ _ _ _ _ _ _ _ _ all (c.in_ok-source.ensures.clean t)
+      clean = ran_clean _ _ _ _ _ _ _ _ _ _ _ _ _ _ _ _ _ all (c.in_ok-source.ensures.clean t)
           (c.in_ok-onto.ensures.clean t)
           (on_ok c.flash_blocks-answer.result c.in-Ok.end.0 _ c.in-Ok.ensures.done
           c.flash_blocks-answer.ensures.clean) ((c.in-Ok.ensures.closed t).clean refl);
@@ -52,16 +52,16 @@ returns-clause-leaves g c = λ t.
 
 pub returns-in-Err-clause-refused : goal.returns-in-Err-clause-refused
 returns-in-Err-clause-refused g c = λ t.
-    let all = ran _ _ _ _ _ _ _ _ _ _ _ _ _ _ _ _ _ (g.D.InPlace.Partition.past c.flash_blocks-answer.new.onto) _ _
+    let all = ran _ _ _ _ _ _ _ _ _ _ _ _ _ _ _ _ _ (g.D.InPlace.Partition.past c.flash_blocks-answer.new.onto) _
     (c.in_ok-source.ensures.opened t) (c.in_ok-source.ensures.world t)
     (c.in_ok-onto.ensures.opened t) (c.in_ok-onto.ensures.world t) (c.let_go_source.ensures.held t)
     (c.let_go_source.ensures.world t)
     (c.closed.ensures.ended t) (c.closed.ensures.paths t) (c.in-Err.ensures.closed t) in
-    refuses_raw _ c.flash_blocks-answer.result c.in-Err.refusal.fault _ _ c.args.size _ _ _ _ _ _ _ _ _
+    refuses_raw _ c.flash_blocks-answer.result c.in-Err.refusal.fault _ _ _ _ _ c.args.size _ _ _ _ _ _ _ _ _
     c.in-Err.ensures.told
-    c.in-Err.ensures.host (λ ok. ran_unclosed _ _ _ _ _ _ _ _ _ _ _ _ all ((c.in-Err.ensures.closed t).cause ok refl))
-    all.closed
-    (ran_failed _ _ _ _ _ _ _ _ _ _ _ _ _ _ _ all (c.in_ok-source.ensures.clean t) (c.in_ok-onto.ensures.clean t))
+    (host_late _ _ _ _ _ _ _ _ _ _ _ _ _ _ _ _ _ all t c.in-Err.ensures.host)
+    all.closed (ran_given _ _ _ _ _ _ _ _ _ _ _ _ _ _ _ _ all (c.in_ok-source.ensures.unread t))
+    (ran_failed _ _ _ _ _ _ _ _ _ _ _ _ _ _ _ _ _ all (c.in_ok-source.ensures.clean t) (c.in_ok-onto.ensures.clean t))
     all.with_files
     (c.flash_blocks-answer.ensures.lays (g.met.D.Disk.source_told t) (g.met.D.Disk.part_told t))
 
@@ -69,7 +69,7 @@ pub returns-clause-done : goal.returns-clause-done
 returns-clause-done g c = λ t.
     let f = c.flash_blocks-answer.ensures in
     let done = c.in-Ok.ensures.done in
-    let all = ran _ _ _ _ _ _ _ _ _ _ _ _ _ _ _ _ _ (g.D.InPlace.Partition.past c.flash_blocks-answer.new.onto) _ _
+    let all = ran _ _ _ _ _ _ _ _ _ _ _ _ _ _ _ _ _ (g.D.InPlace.Partition.past c.flash_blocks-answer.new.onto) _
     (c.in_ok-source.ensures.opened t) (c.in_ok-source.ensures.world t)
     (c.in_ok-onto.ensures.opened t) (c.in_ok-onto.ensures.world t) (c.let_go_source.ensures.held t)
     (c.let_go_source.ensures.world t)
@@ -77,7 +77,7 @@ returns-clause-done g c = λ t.
     record {
       blocks = c.in-Ok.end.0;
       flashed = all.with_files (IsFlashedRaw c.in-Ok.end.0 c.args.size)
-          (is_flashed_raw c.flash_blocks-answer.result c.in-Ok.end.0 c.args.size _ _ _ _ _ done
+          (is_flashed_raw c.flash_blocks-answer.result c.in-Ok.end.0 c.args.size _ _ _ _ _ _ _ _ done
           (f.lays (g.met.D.Disk.source_told t) (g.met.D.Disk.part_told t)));
       synced = all.synced (settled_once (g.D.InPlace.Partition.past c.in_ok-onto.onto)
           (g.D.InPlace.Partition.past c.flash_blocks-answer.new.onto) (c.in_ok-onto.ensures.past t)
@@ -91,7 +91,7 @@ pub returns-in_err-line_beside-clause-refused : goal.returns-in_err-line_beside-
 returns-in_err-line_beside-clause-refused g c = λ t.
     let f = c.flash_blocks-answer.ensures in
     let done = c.in-Ok.ensures.done in
-    let all = ran _ _ _ _ _ _ _ _ _ _ _ _ _ _ _ _ _ (g.D.InPlace.Partition.past c.flash_blocks-answer.new.onto) _ _
+    let all = ran _ _ _ _ _ _ _ _ _ _ _ _ _ _ _ _ _ (g.D.InPlace.Partition.past c.flash_blocks-answer.new.onto) _
     (c.in_ok-source.ensures.opened t) (c.in_ok-source.ensures.world t)
     (c.in_ok-onto.ensures.opened t) (c.in_ok-onto.ensures.world t) (c.let_go_source.ensures.held t)
     (c.let_go_source.ensures.world t)
@@ -100,7 +100,7 @@ returns-in_err-line_beside-clause-refused g c = λ t.
     (λ r made. raw_untold _ r.fault _ c.args.size _ _ _ _ _ _ made all.closed (record {
       blocks = c.in-Ok.end.0;
       flashed = all.with_files (IsFlashedRaw c.in-Ok.end.0 c.args.size)
-          (is_flashed_raw c.flash_blocks-answer.result c.in-Ok.end.0 c.args.size _ _ _ _ _ done
+          (is_flashed_raw c.flash_blocks-answer.result c.in-Ok.end.0 c.args.size _ _ _ _ _ _ _ _ done
           (f.lays (g.met.D.Disk.source_told t) (g.met.D.Disk.part_told t)));
       synced = all.synced (settled_once (g.D.InPlace.Partition.past c.in_ok-onto.onto)
           (g.D.InPlace.Partition.past c.flash_blocks-answer.new.onto) (c.in_ok-onto.ensures.past t)

@@ -1,4 +1,4 @@
-use Rattle.std.proofs.Common.{arith, ◌∙◌, ◌≡◌, ◌≤◌, length}
+use Rattle.std.proofs.Common.{arith, ◌∙◌, ◌≤◌, length}
 use Rattle.cmd_flash.proofs.Laid.{laid_filled}
 use Rattle.cmd_flash.proofs.flash_source.lay_filled.Goals as goal
 

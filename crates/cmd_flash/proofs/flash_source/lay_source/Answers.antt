@@ -1,4 +1,4 @@
-use Rattle.std.proofs.Common.{arith, ◌∙◌, ◌≡◌, ◌≤◌, length, refl, ap, sym}
+use Rattle.std.proofs.Common.{arith, ◌∙◌, ◌≡◌, ◌≤◌, length, refl}
 use Rattle.cmd_flash.proofs.Laid.{laid_more}
 use Rattle.cmd_flash.proofs.flash_source.lay_source.Goals as goal
 
@@ -10,7 +10,8 @@ loop-at-preserved g c =
       within = omega (arith, e.some, c.min-ask.ensures);
       size = e.lays.size ∙ i.size;
       synced = e.lays.synced ∙ i.synced;
-      clean = e.lays.clean ∙ i.clean;
+      read = e.lays.clean.0 ∙ i.read;
+      put = e.lays.clean.1 ∙ i.put;
       given = omega (arith, i.given, e.moves.given);
       taken = omega (arith, i.taken, e.moves.taken);
       content = λ t. e.content t ∙ i.content t;
@@ -29,14 +30,14 @@ returns-in-Err-clause-lays g c =
     record {
       synced = e.synced ∙ i.synced;
       size = e.size ∙ i.size;
-      refused = rw i.clean at e.refused;
+      refused = rw (i.read, i.put) at e.refused;
       clean = tt;
     }
 
 pub returns-clause-lays : goal.returns-clause-lays
 returns-clause-lays g c =
     let i = c.loop-at.invariant in
-    record { synced = i.synced; size = i.size; refused = tt; clean = i.clean }
+    record { synced = i.synced; size = i.size; refused = tt; clean = (i.read, i.put) }
 
 pub returns-clause-moves : goal.returns-clause-moves
 returns-clause-moves g c =

@@ -1,4 +1,4 @@
-use Rattle.std.proofs.Common.{◌-◌, ◌+◌, ◌≡◌, ◌≤◌, length, take}
+use Rattle.std.proofs.Common.{◌-◌, ◌+◌, ◌≡◌, ◌≤◌, take}
 use Rattle.std.specs.Prelude.{IsTrue}
 use Rattle.abt_io.specs.Moment.{put_at}
 use Rattle.cmd_flash.proofs.flash_source.lay_source.Given as goal
@@ -8,8 +8,8 @@ invariant-loop-at g l = record {
   within : l.at ≤ l.held;
   size : g.P.Source.size l.onto ≡ g.P.Source.size l.fn.onto;
   synced : (g.P.Partition.past l.onto).synced ≡ (g.P.Partition.past l.fn.onto).synced;
-  clean : g.S.Source.read_faults l.source + g.P.Partition.put_faults l.onto
-      ≡ g.S.Source.read_faults l.fn.source + g.P.Partition.put_faults l.fn.onto;
+  read : g.S.Source.read_faults l.source ≡ g.S.Source.read_faults l.fn.source;
+  put : g.P.Partition.put_faults l.onto ≡ g.P.Partition.put_faults l.fn.onto;
   given : g.S.Source.given l.source ≡ g.S.Source.given l.fn.source + l.at;
   taken : g.P.Partition.taken l.onto ≡ g.P.Partition.taken l.fn.onto + l.at;
   content : IsTrue g.S.Source.models → g.S.Source.content l.source ≡ g.S.Source.content l.fn.source;

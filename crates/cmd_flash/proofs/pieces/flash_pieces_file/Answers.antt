@@ -13,7 +13,7 @@ use Rattle.cmd_flash.proofs.pieces.flash_pieces_file.Goals as goal
 pub returns-in-Err-closed-clause-leaves : goal.returns-in-Err-closed-clause-leaves
 returns-in-Err-closed-clause-leaves g c = λ t.
     let all = crossed _ _ _ _ _ _ _ _ _ _ _ _ _ _ _ _ _ _ _ _ _ _
-    (g.D.InPlace.Partition.past c.delivered_through-answer.new.onto) _ _ (c.in_ok-source.ensures.opened t)
+    (g.D.InPlace.Partition.past c.delivered_through-answer.new.onto) _ (c.in_ok-source.ensures.opened t)
     (c.in_ok-source.ensures.world t) (c.in_ok-onto.ensures.opened t) (c.in_ok-onto.ensures.world t)
     (c.in_ok-through.ensures.opened t) (c.delivered_through-answer.ensures.closed t)
     (c.delivered_through-answer.ensures.rest t) (c.let_go_source.ensures.held t) (c.let_go_source.ensures.world t)
@@ -28,7 +28,7 @@ returns-in-Err-closed-clause-leaves g c = λ t.
 pub returns-in_err-line_beside-clause-leaves : goal.returns-in_err-line_beside-clause-leaves
 returns-in_err-line_beside-clause-leaves g c = λ t.
     let all = crossed _ _ _ _ _ _ _ _ _ _ _ _ _ _ _ _ _ _ _ _ _ _
-    (g.D.InPlace.Partition.past c.delivered_through-answer.new.onto) _ _ (c.in_ok-source.ensures.opened t)
+    (g.D.InPlace.Partition.past c.delivered_through-answer.new.onto) _ (c.in_ok-source.ensures.opened t)
     (c.in_ok-source.ensures.world t) (c.in_ok-onto.ensures.opened t) (c.in_ok-onto.ensures.world t)
     (c.in_ok-through.ensures.opened t) (c.delivered_through-answer.ensures.closed t)
     (c.delivered_through-answer.ensures.rest t) (c.let_go_source.ensures.held t) (c.let_go_source.ensures.world t)
@@ -43,7 +43,7 @@ returns-in_err-line_beside-clause-leaves g c = λ t.
 pub returns-clause-leaves : goal.returns-clause-leaves
 returns-clause-leaves g c = λ t.
     let all = crossed _ _ _ _ _ _ _ _ _ _ _ _ _ _ _ _ _ _ _ _ _ _
-    (g.D.InPlace.Partition.past c.delivered_through-answer.new.onto) _ _ (c.in_ok-source.ensures.opened t)
+    (g.D.InPlace.Partition.past c.delivered_through-answer.new.onto) _ (c.in_ok-source.ensures.opened t)
     (c.in_ok-source.ensures.world t) (c.in_ok-onto.ensures.opened t) (c.in_ok-onto.ensures.world t)
     (c.in_ok-through.ensures.opened t) (c.delivered_through-answer.ensures.closed t)
     (c.delivered_through-answer.ensures.rest t) (c.let_go_source.ensures.held t) (c.let_go_source.ensures.world t)
@@ -51,7 +51,7 @@ returns-clause-leaves g c = λ t.
     record {
       others = all.others;
       input = all.kept;
-      clean = clean_across c.delivered_through-answer.result.0 c.in-Ok.end.0 _ _ _ _ _ _ _ _ _ _ _ _ _ _ _ _ _ all
+      clean = clean_across c.delivered_through-answer.result.0 c.in-Ok.end.0 _ _ _ _ _ _ _ _ _ _ _ _ _ _ _ _ _ _ _ all
           (sym c.counted.ensures ∙ c.in-Ok.ensures.done)
           (none_of _ _ _ (c.in_ok-source.ensures.clean t) (c.in_ok-onto.ensures.clean t)
           (c.in_ok-through.ensures.clean t))
@@ -81,15 +81,14 @@ returns-in-Err-closed-clause-refused g c = λ t.
     let most = c.max-from.ensures in
     let same : c.max-from.result - 1 ≡ max 1 c.args.from - 1 = omega (arith, most) in
     let all = crossed _ _ _ _ _ _ _ _ _ _ _ _ _ _ _ _ _ _ _ _ _ _
-    (g.D.InPlace.Partition.past c.delivered_through-answer.new.onto) _ _ (c.in_ok-source.ensures.opened t)
+    (g.D.InPlace.Partition.past c.delivered_through-answer.new.onto) _ (c.in_ok-source.ensures.opened t)
     (c.in_ok-source.ensures.world t) (c.in_ok-onto.ensures.opened t) (c.in_ok-onto.ensures.world t)
     (c.in_ok-through.ensures.opened t) (c.delivered_through-answer.ensures.closed t)
     (c.delivered_through-answer.ensures.rest t) (c.let_go_source.ensures.held t) (c.let_go_source.ensures.world t)
     (c.closed.ensures.ended t) (c.closed.ensures.paths t) (c.in-Err-closed.ensures.closed t) in
-    refuses_across _ c.counted.result c.delivered_through-answer.result.0 c.in-Err-closed.refusal.fault _ _ _ _
+    refuses_across _ c.counted.result c.delivered_through-answer.result.0 c.in-Err-closed.refusal.fault _ _ _ _ _ _
     c.args.raw c.args.limit _ _
-    _ _ _ _ _ _ _ _ _ _ _ _ _ all c.counted.ensures c.in-Err-closed.ensures.told c.in-Err-closed.ensures.host
-    (λ ok. (c.in-Err-closed.ensures.closed t).cause ok refl)
+    _ _ _ _ _ _ _ _ _ _ _ _ _ _ all c.counted.ensures c.in-Err-closed.ensures.told t c.in-Err-closed.ensures.host
     (none_of _ _ _ (c.in_ok-source.ensures.clean t) (c.in_ok-onto.ensures.clean t) (c.in_ok-through.ensures.clean t))
     same (c.delivered_through-answer.ensures.delivers t (ap (λ (q : Past). q.pending) (c.in_ok-onto.ensures.past t)))
 
@@ -99,13 +98,13 @@ returns-clause-done g c = λ t.
     let same : c.max-from.result - 1 ≡ max 1 c.args.from - 1 = omega (arith, most) in
     let d = c.delivered_through-answer.ensures in
     let all = crossed _ _ _ _ _ _ _ _ _ _ _ _ _ _ _ _ _ _ _ _ _ _
-    (g.D.InPlace.Partition.past c.delivered_through-answer.new.onto) _ _ (c.in_ok-source.ensures.opened t)
+    (g.D.InPlace.Partition.past c.delivered_through-answer.new.onto) _ (c.in_ok-source.ensures.opened t)
     (c.in_ok-source.ensures.world t) (c.in_ok-onto.ensures.opened t) (c.in_ok-onto.ensures.world t)
     (c.in_ok-through.ensures.opened t) (c.delivered_through-answer.ensures.closed t)
     (c.delivered_through-answer.ensures.rest t) (c.let_go_source.ensures.held t) (c.let_go_source.ensures.world t)
     (c.closed.ensures.ended t) (c.closed.ensures.paths t) (c.in-Ok.ensures.closed t) in
-    done_across c.delivered_through-answer.result.0 c.in-Ok.end.0 _ c.args.raw c.args.limit _ _ _ _ _ _ _ _ _ _ _ _ _
-    _ _
+    done_across c.delivered_through-answer.result.0 c.in-Ok.end.0 _ _ _ c.args.raw c.args.limit _ _ _ _ _ _ _ _ _ _
+    _ _ _ _ _ _ _ _
     (g.D.InPlace.Partition.past c.in_ok-onto.onto) (g.D.InPlace.Partition.past c.delivered_through-answer.new.onto) _
     all
     (sym c.counted.ensures ∙ c.in-Ok.ensures.done) (c.in_ok-onto.ensures.past t) d.syncs.some
@@ -120,7 +119,7 @@ returns-in_err-line_beside-clause-refused g c = λ t.
     let same : c.max-from.result - 1 ≡ max 1 c.args.from - 1 = omega (arith, most) in
     let d = c.delivered_through-answer.ensures in
     let all = crossed _ _ _ _ _ _ _ _ _ _ _ _ _ _ _ _ _ _ _ _ _ _
-    (g.D.InPlace.Partition.past c.delivered_through-answer.new.onto) _ _ (c.in_ok-source.ensures.opened t)
+    (g.D.InPlace.Partition.past c.delivered_through-answer.new.onto) _ (c.in_ok-source.ensures.opened t)
     (c.in_ok-source.ensures.world t) (c.in_ok-onto.ensures.opened t) (c.in_ok-onto.ensures.world t)
     (c.in_ok-through.ensures.opened t) (c.delivered_through-answer.ensures.closed t)
     (c.delivered_through-answer.ensures.rest t) (c.let_go_source.ensures.held t) (c.let_go_source.ensures.world t)
@@ -128,9 +127,9 @@ returns-in_err-line_beside-clause-refused g c = λ t.
     handed_on c.from_residual-in_err-line_beside.result _ _
     (λ r made. pieces_untold _ r.fault _ c.args.raw c.args.limit _
     _ _ _ _ _ _ _ made all.closed
-    (done_across c.delivered_through-answer.result.0 c.in-Ok.end.0 _ c.args.raw c.args.limit _ _ _
+    (done_across c.delivered_through-answer.result.0 c.in-Ok.end.0 _ _ _ c.args.raw c.args.limit _ _ _
     _ _
-    _ _ _ _ _ _ _ _ _ _
+    _ _ _ _ _ _ _ _ _ _ _ _ _
     (g.D.InPlace.Partition.past c.in_ok-onto.onto) (g.D.InPlace.Partition.past c.delivered_through-answer.new.onto) _
     all
     (sym c.counted.ensures ∙ c.in-Ok.ensures.done) (c.in_ok-onto.ensures.past t) d.syncs.some

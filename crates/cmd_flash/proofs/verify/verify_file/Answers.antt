@@ -7,7 +7,7 @@ returns-in-Err-clause-refused g c = λ t.
     let r = c.in_ok-from.ensures.opened t in
     let o = c.in_ok-against.ensures.opened t in
     verify_refusal _ _ c.in-Err.fault _ _ _ _ _ _ _ _ c.refuse.ensures.fault
-    (rose_two _ _ _ _ _ _ _ _ _ _ _ _ _ r.taken o.taken (c.unchanged_behind-end.ensures.held t)
+    (rose_two _ _ _ _ _ _ _ _ _ _ _ _ _ _ _ r.taken o.taken (c.unchanged_behind-end.ensures.held t)
     (c.let_go.ensures.held t) (c.let_go_source.ensures.held t) (c.in_ok-from.ensures.clean t)
     (c.in_ok-against.ensures.clean t))
     (λ P so. of_both _ _ _ _ _ _ _ _ _ P r (c.in_ok-from.ensures.world t) o so)
