@@ -1,5 +1,5 @@
 -- What opening, creating and ending leave together.
-use Rattle.std.proofs.Common.{inl, inr, arith, ◌≡◌, ◌<◌, ℕ, ◌+◌, Bool, true, false, List, [], ◌∷◌, ◌++◌}
+use Rattle.std.proofs.Common.{inl, inr, arith, ◌≡◌, ◌<◌, ℕ, ◌+◌, ◌-◌, Bool, true, List, [], ◌∷◌, ◌++◌}
 use Rattle.std.proofs.Common.{refl, sym, ◌∙◌, ap, subst, None}
 use Rattle.std.specs.Prelude.{Result, Ok, Err, IsOk, IfErr, OnOk, IsErrAnd, is_ok, if◌then◌else◌}
 use Rattle.std.proofs.lemmas.Bool.{false≢true}
@@ -15,29 +15,34 @@ use Rattle.abt_chunks.specs.Whole.{Expansion, Refusal}
 use Rattle.sys_disk.specs.World.{World, OpenFiles, Spares, OpensFile, Creates, Ends, SparesRest, HasFailed}
 use Rattle.sys_disk.specs.World.{HasNotFailed}
 use Rattle.sys_disk.specs.Among.{FileHolds}
-use Rattle.sys_disk.specs.World.{OnlyAt, SparesInUse, failing, ended}
+use Rattle.sys_disk.specs.World.{OnlyAt, SparesInUse, counting, ended}
+use Rattle.sys_disk.specs.Counts.{Cause, call, reading, writing, Counts, HasNone, added, call_of, calls, reads, writes}
+use Rattle.sys_disk.specs.Counts.{of_reading, of_writing}
+use Rattle.sys_disk.proofs.Failings.{counts_one}
 use Rattle.sys_disk.proofs.Worlds.{apart, kept_behind, only_behind, spared_behind, spared_if_may, spares_trans}
+use Rattle.sys_refusals.specs.declared.refusal.HostFault.{HostFault}
 use Rattle.cmd_common_sparse.specs.declared.lines.Line.TheVariants as lines
 use Rattle.cmd_common_sparse.specs.Lines.{line_text}
 use Rattle.cmd_common_sparse.specs.declared.fault.SparseCommandFault.{SparseCommandFault}
 use Rattle.cmd_common_sparse.specs.declared.fault.SparseCommandFault.TheVariants as faults
 use Rattle.cmd_expand.specs.Expanding.{Blames, ExpandsFile, ExpandingSays, LeavesExpanded, RefusesFile, HasFault}
-use Rattle.cmd_expand.specs.Expanding.{BlamesDevice, FromHost, LeavesFront, OfDevice, WritesRead}
+use Rattle.cmd_expand.specs.Expanding.{BlamesDevice, FromCall, FromHost, HasFailedToReadOnce, LeavesFront, OfDevice}
+use Rattle.cmd_expand.specs.Expanding.{WritesRead}
 
 -- ---- what was read is closed before the output is completed
 
-pub rest_behind : (n : ℕ) (h h' : OpenFiles) (a b c : World) → h' ≡ failing n h → b ≡ a → SparesRest h'.output b c
+pub rest_behind : (n : Counts) (h h' : OpenFiles) (a b c : World) → h' ≡ counting n h → b ≡ a → SparesRest h'.output b c
     → SparesRest h.output a c
 rest_behind n h h' a b c gone same rest =
     subst (λ w. SparesRest h.output w c) same (subst (λ k. SparesRest k.output b c) gone rest)
 
-pub ends_behind : (bytes : List ℕ) (n : ℕ) (h h' : OpenFiles) (a b c : World) → h' ≡ failing n h → b ≡ a
+pub ends_behind : (bytes : List ℕ) (n : Counts) (h h' : OpenFiles) (a b c : World) → h' ≡ counting n h → b ≡ a
     → Ends h'.output bytes b c → Ends h.output bytes a c
 ends_behind bytes n h h' a b c gone same ends =
     subst (λ w. Ends h.output bytes w c) same (subst (λ k. Ends k.output bytes b c) gone ends)
 
-pub synced_once : (input path bytes : List ℕ) (h h1 h2 h3 h4 : OpenFiles) (w a b : World) (r n : ℕ)
-    → OpensFile w input bytes h h1 → Creates path h1 h2 a b → h3 ≡ failing r h2 → h4 ≡ ended true n h3
+pub synced_once : (input path bytes : List ℕ) (h h1 h2 h3 h4 : OpenFiles) (w a b : World) (r n : Counts)
+    → OpensFile w input bytes h h1 → Creates path h1 h2 a b → h3 ≡ counting r h2 → h4 ≡ ended true n h3
     → h4.syncs ≡ h.syncs + (if h.is_synced then 1 else 0)
 synced_once input path bytes h h1 h2 h3 h4 w a b r n opened made gone closed =
     ap (λ k. k.syncs) closed ∙ ap (λ k. k.syncs + (if k.is_synced then 1 else 0)) gone
@@ -88,29 +93,116 @@ leaves_expanded r input path bytes h h1 k a a1 c opened same only guarded closed
 
 -- ---- what has failed
 
+pub no_reading : (cause : Cause) → of_reading 0 cause ≡ 0
+no_reading (call f) = refl
+no_reading reading = refl
+no_reading writing = refl
+
+pub no_writing : (cause : Cause) → of_writing 0 cause ≡ 0
+no_writing (call f) = refl
+no_writing reading = refl
+no_writing writing = refl
+
 -- an input and an output were opened; then both were closed; this much has failed since
-pub failed_behind : (input path bytes : List ℕ) (h h1 h2 h3 h4 : OpenFiles) (w a b : World) (r n : ℕ) (done : Bool)
-    → OpensFile w input bytes h h1 → Creates path h1 h2 a b → h3 ≡ failing r h2 → h4 ≡ ended done n h3
-    → h4.failed ≡ h.failed + (r + n)
-failed_behind input path bytes h h1 h2 h3 h4 w a b r n done opened made gone closed =
-    let first : h1.failed ≡ h.failed = ap (λ k. k.failed) opened.taken in
-    let second : h2.failed ≡ h1.failed = ap (λ k. k.failed) made.begins in
-    let third : h3.failed ≡ h2.failed + r = ap (λ k. k.failed) gone in
-    let last : h4.failed ≡ h3.failed + n = ap (λ k. k.failed) closed in
+pub failed_behind : (input path bytes : List ℕ) (h h1 h2 h3 h4 : OpenFiles) (w a b : World) (r n : Counts) (done : Bool)
+    → OpensFile w input bytes h h1 → Creates path h1 h2 a b → h3 ≡ counting r h2 → h4 ≡ ended done n h3
+    → (cause : Cause) → h4.counts.failed cause ≡ h.counts.failed cause + (r.failed cause + n.failed cause)
+failed_behind input path bytes h h1 h2 h3 h4 w a b r n done opened made gone closed cause =
+    let first : h1.counts.failed cause ≡ h.counts.failed cause
+    = ap (λ (k : OpenFiles). k.counts.failed cause) opened.taken in
+    let second : h2.counts.failed cause ≡ h1.counts.failed cause
+    = ap (λ (k : OpenFiles). k.counts.failed cause) made.begins in
+    let third : h3.counts.failed cause ≡ h2.counts.failed cause + r.failed cause
+    = ap (λ (k : OpenFiles). k.counts.failed cause) gone in
+    let last : h4.counts.failed cause ≡ h3.counts.failed cause + n.failed cause
+    = ap (λ (k : OpenFiles). k.counts.failed cause) closed in
     omega (arith, first, second, third, last)
 
+-- and as many bytes were read as the input has given
+pub given_behind : (input path bytes : List ℕ) (h h1 h2 h3 h4 : OpenFiles) (w a b : World) (given given' r n : ℕ)
+    (more : Counts) (done : Bool) → OpensFile w input bytes h h1 → Creates path h1 h2 a b
+    → h3 ≡ counting (reads given' r) h2 → h4 ≡ ended done (added more (writes n)) h3 → more.given ≡ 0 → given ≡ 0
+    → h4.counts.given ≡ h.counts.given + (given' - given)
+given_behind input path bytes h h1 h2 h3 h4 w a b given given' r n more done opened made gone closed unread fresh =
+    let first : h1.counts.given ≡ h.counts.given = ap (λ (k : OpenFiles). k.counts.given) opened.taken in
+    let second : h2.counts.given ≡ h1.counts.given = ap (λ (k : OpenFiles). k.counts.given) made.begins in
+    let third : h3.counts.given ≡ h2.counts.given + given' = ap (λ (k : OpenFiles). k.counts.given) gone in
+    let last : h4.counts.given ≡ h3.counts.given + (more.given + 0) = ap (λ (k : OpenFiles). k.counts.given) closed in
+    omega (arith, first, second, third, last, unread, fresh)
+
+-- a call has failed once the input was closed
+pub failed_since : (input path bytes : List ℕ) (h h1 h2 h3 k : OpenFiles) (w a b : World) (given r : ℕ) (f : HostFault)
+    → OpensFile w input bytes h h1 → Creates path h1 h2 a b → h3 ≡ counting (reads given r) h2
+    → HasFailed (call f) h3 k → HasFailed (call f) h k
+failed_since input path bytes h h1 h2 h3 k w a b given r f opened made gone failed =
+    let first : h1.counts.failed (call f) ≡ h.counts.failed (call f)
+    = ap (λ (q : OpenFiles). q.counts.failed (call f)) opened.taken in
+    let second : h2.counts.failed (call f) ≡ h1.counts.failed (call f)
+    = ap (λ (q : OpenFiles). q.counts.failed (call f)) made.begins in
+    let third : h3.counts.failed (call f) ≡ h2.counts.failed (call f) + 0
+    = ap (λ (q : OpenFiles). q.counts.failed (call f)) gone in
+    omega (arith, first, second, third, failed)
+
 -- a fault of what IN's file holds, or a device failed and its count rose
-pub of_image : (f : SparseFault) (risen failed : Type 0) (P Q : Type 0) → (risen → failed) → (P → Q)
-    → OfDevice f risen (Unit {0}) → UnlessExpandingDevice f P → OfDevice f failed Q
-of_image (of_sparse.Read d) risen failed P Q up go rose is = up rose
-of_image (of_sparse.Write d) risen failed P Q up go rose is = up rose
+pub of_image : (f : SparseFault) (risen failed : Cause → Type 0) (P Q : Type 0)
+    → ((cause : Cause) → risen cause → failed cause) → (P → Q) → OfDevice f risen (Unit {0})
+    → UnlessExpandingDevice f P → OfDevice f failed Q
+of_image (of_sparse.Read d) risen failed P Q up go rose is = up reading rose
+of_image (of_sparse.Write d) risen failed P Q up go rose is = up writing rose
 of_image f risen failed P Q up go rose is = go is
 
+-- the devices' counts of this cause rose
+abbrev pub HasRisen : ℕ → ℕ → ℕ → ℕ → Cause → Type 0
+HasRisen r r' w w' cause = of_reading r cause + of_writing w cause < of_reading r' cause + of_writing w' cause
+
 -- a device's count rose, and no other's
-rose_of : (f : SparseFault) (r r' w w' : ℕ) → BlamesDevice f r r' w w' → OfDevice f (r + w < r' + w') (Unit {0})
-rose_of (of_sparse.Read d) r r' w w' blames = omega (arith, blames.0, blames.1)
-rose_of (of_sparse.Write d) r r' w w' blames = omega (arith, blames.0, blames.1)
+rose_of : (f : SparseFault) (r r' w w' : ℕ) → BlamesDevice f r r' w w' → OfDevice f (HasRisen r r' w w') (Unit {0})
+rose_of (of_sparse.Read d) r r' w w' blames = let z : r + 0 < r' + 0 = omega (arith, blames.0) in z
+rose_of (of_sparse.Write d) r r' w w' blames = let z : 0 + w < 0 + w' = omega (arith, blames.1) in z
 rose_of f r r' w w' blames = tt
+
+-- this much has failed in a run: what was read has so often, and more at its end than the output, which has so often
+abbrev pub HasCounted : OpenFiles → OpenFiles → ℕ → Counts → ℕ → Type 0
+HasCounted h k r more w = (cause : Cause) → k.counts.failed cause
+    ≡ h.counts.failed cause + (of_reading r cause + (more.failed cause + of_writing w cause))
+
+-- where one read has failed and nothing else has, the end of the output has not, and no write
+only_read : (h k : OpenFiles) (r w : ℕ) (more : Counts) → 0 < r → HasFailedToReadOnce h k → HasCounted h k r more w
+    → HasNone (added more (writes w))
+only_read h k r w more some one count (call f) =
+    let a : k.counts.failed (call f) ≡ h.counts.failed (call f) + 0 = one (call f) in
+    let b : k.counts.failed (call f) ≡ h.counts.failed (call f) + (0 + (more.failed (call f) + 0)) = count (call f) in
+    let z : more.failed (call f) + 0 ≡ 0 = omega (arith, a, b) in
+    z
+only_read h k r w more some one count reading =
+    let a : k.counts.failed reading ≡ h.counts.failed reading + 1 = one reading in
+    let b : k.counts.failed reading ≡ h.counts.failed reading + (r + (more.failed reading + 0)) = count reading in
+    let z : more.failed reading + 0 ≡ 0 = omega (arith, a, b, some) in
+    z
+only_read h k r w more some one count writing =
+    let a : k.counts.failed writing ≡ h.counts.failed writing + 0 = one writing in
+    let b : k.counts.failed writing ≡ h.counts.failed writing + (0 + (more.failed writing + w)) = count writing in
+    let z : more.failed writing + w ≡ 0 = omega (arith, a, b) in
+    z
+
+-- where nothing has failed, neither has
+nothing_more : (h k : OpenFiles) (r w : ℕ) (more : Counts) → HasNotFailed h k → HasCounted h k r more w
+    → HasNone (added more (writes w))
+nothing_more h k r w more none count cause =
+    let a : k.counts.failed cause ≡ h.counts.failed cause = none cause in
+    let b : k.counts.failed cause
+    ≡ h.counts.failed cause + (of_reading r cause + (more.failed cause + of_writing w cause)) = count cause in
+    let z : more.failed cause + of_writing w cause ≡ 0 = omega (arith, a, b) in
+    z
+
+has_failed : (cause : Cause) (h k : OpenFiles) (r r' w w' : ℕ) (more : Counts) → HasCounted h k r' more w'
+    → HasRisen r r' w w' cause → HasFailed cause h k
+has_failed cause h k r r' w w' more count rose =
+    let b : k.counts.failed cause
+    ≡ h.counts.failed cause + (of_reading r' cause + (more.failed cause + of_writing w' cause)) = count cause in
+    let u : of_reading r cause + of_writing w cause < of_reading r' cause + of_writing w' cause = rose in
+    let z : h.counts.failed cause < k.counts.failed cause = omega (arith, b, u) in
+    z
 
 -- an output that was created, and holds these bytes
 pub holds_left : (path bytes : List ℕ) (h h' : OpenFiles) (a b c : World) → Creates path h h' a b
@@ -121,72 +213,73 @@ holds_left path bytes h h' a b c made ends =
     record { file = made.file; there = after.1.paths path made.file made.there; holds = after.0 }
 
 -- what a fault of IN leaves of an output that was empty
-front_of : (f : SparseFault) (input path x old new : List ℕ) (h h1 k : OpenFiles) (a c : World)
-    (r0 r w w' more read : ℕ) → OpensFile a input x h h1 → r0 ≡ 0 → w ≡ 0 → k.failed ≡ h.failed + (r + (more + w'))
+front_of : (f : SparseFault) (input path x old new : List ℕ) (h h1 k : OpenFiles) (a c : World) (r0 r w w' : ℕ)
+    (more : Counts) (read : ℕ) → OpensFile a input x h h1 → r0 ≡ 0 → HasCounted h k r more w'
     → UnlessExpandingDevice f (Refusal f old new x) → BlamesDevice f r0 r w w' → old ≡ [] → WritesRead read x old new
-    → (more + w' ≡ 0 → FileHolds c path new) → LeavesFront f input path a c h k
-front_of (of_sparse.Read d) input path x old new h h1 k a c r0 r w w' more read opened first none count is blames empty
-    begun left = λ one. record {
+    → k.counts.given ≡ h.counts.given + read → (HasNone (added more (writes w')) → FileHolds c path new)
+    → LeavesFront f input path a c h k
+front_of (of_sparse.Read d) input path x old new h h1 k a c r0 r w w' more read opened first count is blames empty
+    begun came left = λ one. record {
       from = opened.file;
       there = opened.there;
       read = read;
+      counted = came;
       front = new;
       written = subst (λ z. WritesRead read (a.holds opened.file) z new) empty
           (subst (λ z. WritesRead read z old new) opened.held begun);
-      holds = left (omega (arith, one, count, blames.0, first));
+      holds = left (only_read h k r w' more (omega (arith, blames.0, first)) one count);
     }
-front_of (of_sparse.Write d) input path x old new h h1 k a c r0 r w w' more read opened first none count is blames
-    empty begun left = tt
-front_of f input path x old new h h1 k a c r0 r w w' more read opened first none count is blames empty begun left =
+front_of (of_sparse.Write d) input path x old new h h1 k a c r0 r w w' more read opened first count is blames
+    empty begun came left = tt
+front_of f input path x old new h h1 k a c r0 r w w' more read opened first count is blames empty begun came left =
     λ clean. record {
       from = opened.file;
       there = opened.there;
       given = is.given;
       fails = subst (λ z. Fails z f is.given) opened.held is.fails;
       holds = subst (λ z. FileHolds c path z) (is.written ∙ ap (λ z. z ++ laid is.given) empty)
-          (left (omega (arith, clean, count)));
+          (left (nothing_more h k r w' more clean count));
     }
 
 own : (untold : List ℕ → Type 0) (input path x old new : List ℕ) (h h1 k : OpenFiles) (a c : World)
-    (f : SparseCommandFault) (r0 r w w' more read : ℕ)
-    → OpensFile a input x h h1 → r0 ≡ 0 → w ≡ 0 → k.failed ≡ h.failed + (r + (more + w'))
+    (f : SparseCommandFault) (r0 r w w' : ℕ) (more : Counts) (read : ℕ)
+    → OpensFile a input x h h1 → r0 ≡ 0 → HasCounted h k r more w'
     → ExpandingSays (Err f) x old new → Blames (Err f) r0 r w w' → old ≡ [] → WritesRead read x old new
-    → (more + w' ≡ 0 → FileHolds c path new) → RefusesFile f input path a c h k untold
-own untold input path x old new h h1 k a c (faults.Sparse f) r0 r w w' more read opened first none count says blames
-    empty begun left = (
-      of_image f (r0 + w < r + w') (HasFailed h k) (Refusal f old new x) (HasFault input a f)
-          (λ rose. omega (arith, first, none, count, rose))
+    → k.counts.given ≡ h.counts.given + read → (HasNone (added more (writes w')) → FileHolds c path new)
+    → RefusesFile f input path a c h k untold
+own untold input path x old new h h1 k a c (faults.Sparse f) r0 r w w' more read opened first count says blames
+    empty begun came left = (
+      of_image f (HasRisen r0 r w w') (λ cause. HasFailed cause h k) (Refusal f old new x) (HasFault input a f)
+          (λ cause rose. has_failed cause h k r0 r w w' more count rose)
           (λ refusal. record {
             file = opened.file;
             there = opened.there;
             given = refusal.given;
             fails = subst (λ z. Fails z f refusal.given) opened.held refusal.fails;
           }) (rose_of f r0 r w w' blames) says,
-      front_of f input path x old new h h1 k a c r0 r w w' more read opened first none count says blames empty begun
+      front_of f input path x old new h h1 k a c r0 r w w' more read opened first count says blames empty begun came
           left,
     )
-own untold input path x old new h h1 k a c (faults.Run f) r0 r w w' more read opened first none count says blames
-    empty begun left = absurd says
-own untold input path x old new h h1 k a c (faults.Piece f) r0 r w w' more read opened first none count says blames
-    empty begun left = absurd says
-own untold input path x old new h h1 k a c (faults.Flash f) r0 r w w' more read opened first none count says blames
-    empty begun left = absurd says
-own untold input path x old new h h1 k a c (faults.Verify f) r0 r w w' more read opened first none count says blames
-    empty begun left = absurd says
-own untold input path x old new h h1 k a c (faults.OtherBlocks f) r0 r w w' more read opened first none count says
-    blames empty begun left = absurd says
-own untold input path x old new h h1 k a c (faults.OtherCut f) r0 r w w' more read opened first none count says blames
-    empty begun left = absurd says
-own untold input path x old new h h1 k a c (faults.Host f) r0 r w w' more read opened first none count says blames
-    empty begun left = absurd says
+own untold input path x old new h h1 k a c (faults.Run f) r0 r w w' more read opened first count says blames
+    empty begun came left = absurd says
+own untold input path x old new h h1 k a c (faults.Piece f) r0 r w w' more read opened first count says blames
+    empty begun came left = absurd says
+own untold input path x old new h h1 k a c (faults.Flash f) r0 r w w' more read opened first count says blames
+    empty begun came left = absurd says
+own untold input path x old new h h1 k a c (faults.Verify f) r0 r w w' more read opened first count says blames
+    empty begun came left = absurd says
+own untold input path x old new h h1 k a c (faults.OtherBlocks f) r0 r w w' more read opened first count says blames
+    empty begun came left = absurd says
+own untold input path x old new h h1 k a c (faults.OtherCut f) r0 r w w' more read opened first count says blames
+    empty begun came left = absurd says
+own untold input path x old new h h1 k a c (faults.Host f) r0 r w w' more read opened first count says blames
+    empty begun came left = absurd says
 
--- a fault of files, after which something has failed
+-- a fault of files, of a call that has failed
 pub of_failed : (untold : List ℕ → Type 0) (input path : List ℕ) (a c : World) (h k : OpenFiles)
-    (r : SparseCommandFault)
-    → FromHost r → HasFailed h k
-    → RefusesFile r input path a c h k untold
-of_failed untold input path a c h k r made failed =
-    subst (λ f. RefusesFile f input path a c h k untold) (sym made.1) (inl failed)
+    (r : SparseCommandFault) → FromCall r h k → RefusesFile r input path a c h k untold
+of_failed untold input path a c h k r made =
+    subst (λ f. RefusesFile f input path a c h k untold) (sym made.1) (inl made.2)
 
 -- or all was done, but the line could not be printed
 pub of_unprinted : (untold : List ℕ → Type 0) (input path : List ℕ) (a c : World) (h k : OpenFiles)
@@ -198,40 +291,47 @@ of_unprinted untold input path a c h k r made done =
 -- the call failed, or the end of the output did
 pub refuses : (untold : List ℕ → Type 0) (input path x old new : List ℕ) (h h1 k : OpenFiles) (a c : World)
     (answer : Result Expanded SparseCommandFault) (told : SparseCommandFault)
-    (r0 r w w' more read : ℕ) → OpensFile a input x h h1 → r0 ≡ 0 → w ≡ 0
-    → k.failed ≡ h.failed + (r + (more + w')) → (IsOk answer → 0 < more) → ExpandingSays answer x old new
-    → Blames answer r0 r w w' → (IsOk answer → FromHost told) → IfErr answer (λ f. told ≡ f)
-    → old ≡ [] → WritesRead read x old new → (more + w' ≡ 0 → FileHolds c path new)
-    → RefusesFile told input path a c h k untold
-refuses untold input path x old new h h1 k a c (Ok e) told r0 r w w' more read opened first none count late says blames
-    files is empty begun left =
-    of_failed untold input path a c h k told (files refl) (omega (arith, count, late refl))
-refuses untold input path x old new h h1 k a c (Err f) told r0 r w w' more read opened first none count late says blames
-    files is empty begun left =
+    (r0 r w w' : ℕ) (more : Counts) (read : ℕ) → OpensFile a input x h h1 → r0 ≡ 0
+    → HasCounted h k r more w' → ExpandingSays answer x old new → Blames answer r0 r w w'
+    → (IsOk answer → FromCall told h k) → IfErr answer (λ f. told ≡ f)
+    → old ≡ [] → WritesRead read x old new
+    → k.counts.given ≡ h.counts.given + read
+    → (HasNone (added more (writes w')) → FileHolds c path new) → RefusesFile told input path a c h k untold
+refuses untold input path x old new h h1 k a c (Ok e) told r0 r w w' more read opened first count says blames files is
+    empty begun came left = of_failed untold input path a c h k told (files refl)
+refuses untold input path x old new h h1 k a c (Err f) told r0 r w w' more read opened first count says blames files is
+    empty begun came left =
     subst (λ q. RefusesFile q input path a c h k untold) (sym is)
-    (own untold input path x old new h h1 k a c f r0 r w w' more read opened first none count says blames empty begun
+    (own untold input path x old new h h1 k a c f r0 r w w' more read opened first count says blames empty begun came
     left)
 
 -- it was done, and then nothing has failed
-pub clean_behind : (answer : Result Expanded SparseCommandFault) (e : Expanded) (h k : OpenFiles) (r0 r w w' more : ℕ)
-    → answer ≡ Ok e → Blames answer r0 r w w' → r0 ≡ 0 → w ≡ 0 → more ≡ 0
-    → k.failed ≡ h.failed + (r + (more + w')) → HasNotFailed h k
-clean_behind (Ok x) e h k r0 r w w' more is blames first none clean count =
-    omega (arith, blames.0, blames.1, first, none, clean, count)
-clean_behind (Err f) e h k r0 r w w' more is blames first none clean count = absurd (false≢true (ap is_ok is))
+pub clean_behind : (answer : Result Expanded SparseCommandFault) (e : Expanded) (h k : OpenFiles) (r0 r w w' : ℕ)
+    (more : Counts) → answer ≡ Ok e → Blames answer r0 r w w' → r0 ≡ 0 → w ≡ 0 → HasNone more
+    → HasCounted h k r more w' → HasNotFailed h k
+clean_behind (Ok x) e h k r0 r w w' more is blames first none clean count cause =
+    let a : of_reading r cause ≡ 0 = ap (λ n. of_reading n cause) (blames.0 ∙ first) ∙ no_reading cause in
+    let b : of_writing w' cause ≡ 0 = ap (λ n. of_writing n cause) (blames.1 ∙ none) ∙ no_writing cause in
+    let z : more.failed cause ≡ 0 = clean cause in
+    let all : k.counts.failed cause
+    ≡ h.counts.failed cause + (of_reading r cause + (more.failed cause + of_writing w' cause)) = count cause in
+    omega (arith, a, b, z, all)
+clean_behind (Err f) e h k r0 r w w' more is blames first none clean count cause = absurd (false≢true (ap is_ok is))
 
 -- a call failed
-pub failed_first : (h k : OpenFiles) → k ≡ failing 1 h → HasFailed h k
-failed_first h k refused =
-    let up : k.failed ≡ h.failed + 1 = ap (λ q. q.failed) refused in
-    omega (arith, up)
+pub failed_first : (f : HostFault) (h k : OpenFiles) → k ≡ counting (call_of f) h → HasFailed (call f) h k
+failed_first f h k refused =
+    let up : k.counts.failed (call f) ≡ h.counts.failed (call f) + calls f (call f)
+    = ap (λ (q : OpenFiles). q.counts.failed (call f)) refused in
+    let one = counts_one f in
+    omega (arith, up, one)
 
-pub failed_second : (input bytes : List ℕ) (w : World) (h h1 k : OpenFiles) → OpensFile w input bytes h h1 → k
-    ≡ failing 1 h1
-    → HasFailed h k
-failed_second input bytes w h h1 k opened refused =
-    let first : h1.failed ≡ h.failed = ap (λ q. q.failed) opened.taken in
-    let up : k.failed ≡ h1.failed + 1 = ap (λ q. q.failed) refused in
+pub failed_second : (input bytes : List ℕ) (w : World) (f : HostFault) (h h1 k : OpenFiles)
+    → OpensFile w input bytes h h1 → k ≡ counting (call_of f) h1 → HasFailed (call f) h k
+failed_second input bytes w f h h1 k opened refused =
+    let first : h1.counts.failed (call f) ≡ h.counts.failed (call f)
+    = ap (λ (q : OpenFiles). q.counts.failed (call f)) opened.taken in
+    let up : h1.counts.failed (call f) < k.counts.failed (call f) = failed_first f h1 k refused in
     omega (arith, first, up)
 
 -- what `?` returns is made of a fault of files

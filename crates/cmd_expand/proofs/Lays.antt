@@ -1,5 +1,5 @@
 -- What writing images one after another leaves, and why it stops.
-use Rattle.std.proofs.Common.{arith, ◌≡◌, ℕ, suc, ◌+◌, ◌*◌, List, [], ◌∷◌, ◌++◌, length, drop, Bool, append_assoc}
+use Rattle.std.proofs.Common.{arith, ◌≡◌, ◌≤◌, ℕ, suc, ◌+◌, ◌*◌, List, [], ◌∷◌, ◌++◌, length, drop, Bool, append_assoc}
 use Rattle.std.proofs.Common.{true, false, Option, refl, sym, ◌∙◌, ap, subst}
 use Rattle.std.specs.Prelude.{Result, Ok, Err, IfErr, OnOk, is_ok, if◌then◌else◌}
 use Rattle.std.proofs.lemmas.Bool.{false≢true}
@@ -14,10 +14,12 @@ use Rattle.abt_flash_faults.specs.declared.fault.FlashFault.TheVariants as flash
 use Rattle.abt_flash.specs.declared.stage.Flashed.{Flashed}
 use Rattle.abt_flash_faults.specs.Fault.{FlashCause, FlashingRises}
 use Rattle.abt_flash.specs.Flashing.{Flashes, Holds}
-use Rattle.sys_disk.specs.World.{OpenFiles, failing}
+use Rattle.sys_disk.specs.World.{OpenFiles, HasNotFailed, counting}
+use Rattle.sys_disk.specs.Counts.{Cause, Counts, of_reading, reading, reads, writing}
 use Rattle.cmd_common_sparse.specs.declared.fault.SparseCommandFault.{SparseCommandFault}
 use Rattle.cmd_common_sparse.specs.declared.fault.SparseCommandFault.TheVariants as faults
 use Rattle.cmd_expand.specs.Overlaying.{IsImageOf}
+use Rattle.cmd_expand.proofs.Files.{no_reading}
 use Rattle.cmd_expand.specs.Steps.{AreLaidBefore, BreaksAmong, BreaksAt, FailsAlone, IsNotFlashed, IsNotLaid}
 
 -- ---- one image
@@ -45,19 +47,16 @@ no_fault x n b f given image fails =
     ∙ failed_is x f given fails))
 
 not_flashed : (f : FlashFault) (n b size taken taken' r r' p p' : ℕ) (x rest : List ℕ) → IsImageOf n b x → size ≡ n * b
-    → Flashes (Err f) size taken taken' x rest → FlashCause f r r' p p' → IsNotFlashed f (p + r) (p' + r')
+    → Flashes (Err f) size taken taken' x rest → FlashCause f r r' p p' → IsNotFlashed f r r' p p'
 not_flashed (flashes.Sparse f) n b size taken taken' r r' p p' x rest image sized says cause =
     absurd (no_fault x n b f says.given image says.fails)
 not_flashed (flashes.PartitionTooSmall need) n b size taken taken' r r' p p' x rest image sized says cause =
     let all : says.header.total_blks * says.header.blk_sz ≡ n * b
     = counts x n b says.header says.behind image says.spelled in
     absurd (omega (arith, sized, all, says.needs, says.short))
-not_flashed (flashes.Read d) n b size taken taken' r r' p p' x rest image sized says cause =
-    omega (arith, cause.0, cause.2)
-not_flashed (flashes.Write d) n b size taken taken' r r' p p' x rest image sized says cause =
-    omega (arith, cause.0, cause.2)
-not_flashed (flashes.Sync d) n b size taken taken' r r' p p' x rest image sized says cause =
-    omega (arith, cause.0, cause.2)
+not_flashed (flashes.Read d) n b size taken taken' r r' p p' x rest image sized says cause = cause.0
+not_flashed (flashes.Write d) n b size taken taken' r r' p p' x rest image sized says cause = cause.0
+not_flashed (flashes.Sync d) n b size taken taken' r r' p p' x rest image sized says cause = cause.0
 not_flashed flashes.TooLarge n b size taken taken' r r' p p' x rest image sized says cause = absurd cause
 not_flashed flashes.SourceChanged n b size taken taken' r r' p p' x rest image sized says cause = absurd cause
 not_flashed (flashes.BadBlock k) n b size taken taken' r r' p p' x rest image sized says cause = absurd cause
@@ -67,47 +66,68 @@ not_flashed (flashes.NoSuchPiece k) n b size taken taken' r r' p p' x rest image
 
 pub answer_blames : (a : Result Flashed FlashFault) (n b size taken taken' r r' p p' : ℕ) (x rest : List ℕ)
     → Flashes a size taken taken' x rest → FlashingRises a r r' p p' → size ≡ n * b → IsImageOf n b x
-    → IfErr a (λ f. IsNotFlashed f (p + r) (p' + r'))
+    → IfErr a (λ f. IsNotFlashed f r r' p p')
 answer_blames (Ok e) n b size taken taken' r r' p p' x rest says cause sized image = tt
 answer_blames (Err f) n b size taken taken' r r' p p' x rest says cause sized image =
     not_flashed f n b size taken taken' r r' p p' x rest image sized says cause
 
-raised : (f : FlashFault) (n n' m : ℕ) → IsNotFlashed f n n' → IsNotFlashed f (m + n) (m + n')
-raised (flashes.Read d) n n' m is = omega (arith, is)
-raised (flashes.Write d) n n' m is = omega (arith, is)
-raised (flashes.Sync d) n n' m is = omega (arith, is)
-raised (flashes.Sparse f) n n' m is = absurd is
-raised (flashes.PartitionTooSmall k) n n' m is = absurd is
-raised flashes.TooLarge n n' m is = absurd is
-raised flashes.SourceChanged n n' m is = absurd is
-raised (flashes.BadBlock k) n n' m is = absurd is
-raised (flashes.LimitTooSmall k) n n' m is = absurd is
-raised (flashes.Stopped j c) n n' m is = absurd is
-raised (flashes.NoSuchPiece k) n n' m is = absurd is
+raised : (f : FlashFault) (r r' p p' m n : ℕ) → IsNotFlashed f r r' p p'
+    → IsNotFlashed f (m + r) (m + r') (n + p) (n + p')
+raised (flashes.Read d) r r' p p' m n is = omega (arith, is)
+raised (flashes.Write d) r r' p p' m n is = omega (arith, is)
+raised (flashes.Sync d) r r' p p' m n is = omega (arith, is)
+raised (flashes.Sparse f) r r' p p' m n is = absurd is
+raised (flashes.PartitionTooSmall k) r r' p p' m n is = absurd is
+raised flashes.TooLarge r r' p p' m n is = absurd is
+raised flashes.SourceChanged r r' p p' m n is = absurd is
+raised (flashes.BadBlock k) r r' p p' m n is = absurd is
+raised (flashes.LimitTooSmall k) r r' p p' m n is = absurd is
+raised (flashes.Stopped j c) r r' p p' m n is = absurd is
+raised (flashes.NoSuchPiece k) r r' p p' m n is = absurd is
 
 -- ---- what is closed
 
-pub let_go_fails : (h h' : OpenFiles) (r : ℕ) → h' ≡ failing r h → FailsAlone h h'
-let_go_fails h h' r gone =
-    let up : h'.failed ≡ h.failed + r = ap (λ k. k.failed) gone in
-    record { same = gone ∙ ap (λ n. record h { failed = n }) (sym up); grown = omega (arith, up) }
+abbrev pub counted_so : Counts → OpenFiles → OpenFiles
+counted_so n h = record h { counts = n }
+
+pub let_go_fails : (h h' : OpenFiles) (n : Counts) → h' ≡ counting n h → FailsAlone h h'
+let_go_fails h h' n gone = record {
+  same = gone ∙ ap (λ m. counted_so m h) (sym (ap (λ (k : OpenFiles). k.counts) gone));
+  grown = λ cause.
+      let up : h'.counts.failed cause ≡ h.counts.failed cause + n.failed cause
+      = ap (λ (k : OpenFiles). k.counts.failed cause) gone in
+      omega (arith, up);
+  read =
+      let up : h'.counts.given ≡ h.counts.given + n.given = ap (λ (k : OpenFiles). k.counts.given) gone in
+      omega (arith, up);
+}
 
 pub fails_none : (h h' : OpenFiles) → h' ≡ h → FailsAlone h h'
-fails_none h h' same =
-    let even : h'.failed ≡ h.failed = ap (λ k. k.failed) same in
-    record { same = same ∙ ap (λ n. record h { failed = n }) (sym even); grown = omega (arith, even) }
-
-abbrev pub failed_so : ℕ → OpenFiles → OpenFiles
-failed_so n h = record h { failed = n }
+fails_none h h' same = record {
+  same = same ∙ ap (λ m. counted_so m h) (sym (ap (λ (k : OpenFiles). k.counts) same));
+  grown = λ cause.
+      let even : h'.counts.failed cause ≡ h.counts.failed cause
+      = ap (λ (k : OpenFiles). k.counts.failed cause) same in
+      omega (arith, even);
+  read =
+      let even : h'.counts.given ≡ h.counts.given = ap (λ (k : OpenFiles). k.counts.given) same in
+      omega (arith, even);
+}
 
 pub fails_then : (h h1 h2 : OpenFiles) → FailsAlone h h1 → FailsAlone h1 h2 → FailsAlone h h2
 fails_then h h1 h2 first then_more = record {
-  same = then_more.same ∙ ap (failed_so h2.failed) first.same;
-  grown = omega (arith, first.grown, then_more.grown);
+  same = then_more.same ∙ ap (counted_so h2.counts) first.same;
+  grown = λ cause.
+      let a : h.counts.failed cause ≤ h1.counts.failed cause = first.grown cause in
+      let b : h1.counts.failed cause ≤ h2.counts.failed cause = then_more.grown cause in
+      omega (arith, a, b);
+  read = omega (arith, first.read, then_more.read);
 }
 
-pub laid_as : (f : SparseCommandFault) (n m n' : ℕ) → n ≡ m → IsNotLaid f n n' → IsNotLaid f m n'
-laid_as f n m n' same is = subst (λ k. IsNotLaid f k n') same is
+pub laid_as : (f : SparseCommandFault) (r s r' p q p' : ℕ) → r ≡ s → p ≡ q → IsNotLaid f r r' p p'
+    → IsNotLaid f s r' q p'
+laid_as f r s r' p q p' same alike is =
+    subst (λ k. IsNotLaid f k r' q p') same (subst (λ k. IsNotLaid f r r' k p') alike is)
 
 -- ---- one image after another
 
@@ -171,24 +191,52 @@ synced_if (Ok e) n n' is = is
 synced_if (Err f) n n' is = tt
 
 -- it was closed, and nothing has failed
-pub even_behind : (h h' : OpenFiles) (r r' p p' : ℕ) → h' ≡ failing r' h → r' ≡ r → p' ≡ p
-    → h'.failed + p' ≡ h.failed + p + r
-even_behind h h' r r' p p' gone same even =
-    let up : h'.failed ≡ h.failed + r' = ap (λ k. k.failed) gone in
-    omega (arith, up, same, even)
+pub even_behind : (h h' : OpenFiles) (given r r' : ℕ) → h' ≡ counting (reads given r') h → r' ≡ r → (cause : Cause)
+    → h'.counts.failed cause ≡ h.counts.failed cause + of_reading r cause
+even_behind h h' given r r' gone same cause =
+    ap (λ (k : OpenFiles). k.counts.failed cause) gone ∙ ap (λ n. h.counts.failed cause + of_reading n cause) same
+
+-- nothing had failed before an image that had not failed, and nothing has since
+pub even_then : (h h1 h2 : OpenFiles) (r : ℕ) → HasNotFailed h h1
+    → ((cause : Cause) → h2.counts.failed cause ≡ h1.counts.failed cause + of_reading r cause) → r ≡ 0
+    → HasNotFailed h h2
+even_then h h1 h2 r first own none cause =
+    let before : h1.counts.failed cause ≡ h.counts.failed cause = first cause in
+    let even : of_reading r cause ≡ 0 = ap (λ n. of_reading n cause) none ∙ no_reading cause in
+    let since : h2.counts.failed cause ≡ h1.counts.failed cause + of_reading r cause = own cause in
+    omega (arith, before, even, since)
+
+pub even_read : (h h1 : OpenFiles) (r : ℕ) → HasNotFailed h h1 → r ≡ 0
+    → h1.counts.failed reading + r ≡ h.counts.failed reading
+even_read h h1 r first none =
+    let before : h1.counts.failed reading ≡ h.counts.failed reading = first reading in
+    omega (arith, before, none)
+
+pub even_written : (h h1 : OpenFiles) (p p1 : ℕ) → HasNotFailed h h1 → p1 ≡ p
+    → h1.counts.failed writing + p1 ≡ h.counts.failed writing + p
+even_written h h1 p p1 first same =
+    let before : h1.counts.failed writing ≡ h.counts.failed writing = first writing in
+    omega (arith, before, same)
 
 -- it was closed, and something had failed
 pub blamed_behind : (a : Result Flashed FlashFault) (f : FlashFault) (told : SparseCommandFault) (h h' : OpenFiles)
-    (r r' p p' : ℕ) → a ≡ Err f → told ≡ faults.Flash f → h' ≡ failing r' h
-    → IfErr a (λ g. IsNotFlashed g (p + r) (p' + r')) → IsNotLaid told (h.failed + p + r) (h'.failed + p')
-blamed_behind a f told h h' r r' p p' is named gone why =
-    let so : IsNotFlashed f (p + r) (p' + r') = subst (λ q. IfErr q (λ g. IsNotFlashed g (p + r) (p' + r'))) is why in
-    let up : h'.failed ≡ h.failed + r' = ap (λ k. k.failed) gone in
-    let before : h.failed + (p + r) ≡ h.failed + p + r = omega arith in
-    let after : h.failed + (p' + r') ≡ h'.failed + p' = omega (arith, up) in
-    subst (λ q. IsNotLaid q (h.failed + p + r) (h'.failed + p')) (sym named)
-    (subst (λ k. IsNotFlashed f (h.failed + p + r) k) after (subst (λ k. IsNotFlashed f k (h.failed + (p' + r'))) before
-    (raised f (p + r) (p' + r') h.failed so)))
+    (given r r' p p' : ℕ) → a ≡ Err f → told ≡ faults.Flash f → h' ≡ counting (reads given r') h
+    → IfErr a (λ g. IsNotFlashed g r r' p p')
+    → IsNotLaid told (h.counts.failed reading + r) (h'.counts.failed reading)
+    (h.counts.failed writing + p) (h'.counts.failed writing + p')
+blamed_behind a f told h h' given r r' p p' is named gone why =
+    let so : IsNotFlashed f r r' p p' = subst (λ q. IfErr q (λ g. IsNotFlashed g r r' p p')) is why in
+    let up : h'.counts.failed reading ≡ h.counts.failed reading + r'
+    = ap (λ (k : OpenFiles). k.counts.failed reading) gone in
+    let even : h'.counts.failed writing ≡ h.counts.failed writing + 0
+    = ap (λ (k : OpenFiles). k.counts.failed writing) gone in
+    let after : h.counts.failed writing + p' ≡ h'.counts.failed writing + p' = omega (arith, even) in
+    let front = h.counts.failed reading + r in
+    let begun = h.counts.failed writing + p in
+    subst (λ q. IsNotLaid q front (h'.counts.failed reading) begun (h'.counts.failed writing + p')) (sym named)
+    (subst (λ k. IsNotFlashed f front k begun (h'.counts.failed writing + p')) (sym up)
+    (subst (λ k. IsNotFlashed f front (h.counts.failed reading + r') begun k) after
+    (raised f r r' p p' (h.counts.failed reading) (h.counts.failed writing) so)))
 
 -- a queue that gives nothing has nothing
 pub nothing_left : {X : Type 0} (xs ys : List X) → xs ≡ ys → ys ≡ drop 1 xs → xs ≡ []

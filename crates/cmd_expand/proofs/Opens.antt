@@ -1,11 +1,11 @@
 -- What opening images one after another leaves, and why it stops.
-use Rattle.std.proofs.Common.{inl, inr, arith, ◌≡◌, ℕ, suc, ◌+◌, ◌<◌, ◌≤◌, List, [], ◌∷◌, ◌++◌, length, map}
+use Rattle.std.proofs.Common.{arith, ◌≡◌, ℕ, suc, ◌+◌, ◌<◌, ◌≤◌, List, [], ◌∷◌, ◌++◌, length, map}
 use Rattle.std.proofs.Common.{min, take, drop, get_or, true, false, Option, Some, None, refl, sym, ◌∙◌, ap, subst}
 use Rattle.std.specs.Prelude.{◌==◌, ◌&&◌}
 use Rattle.std.specs.Prelude.{unwrap_or, Bool}
 use Rattle.std.specs.List.{AllByRecursion, list_any}
-use Rattle.std.proofs.lemmas.Bool.{false≢true, and_parts, eqb-true, eq-eqb}
-use Rattle.std.proofs.lemmas.List.{map-append, append_assoc, append-nil, length-map, length-append, take_all}
+use Rattle.std.proofs.lemmas.Bool.{false≢true, eq-eqb}
+use Rattle.std.proofs.lemmas.List.{map-append, append_assoc, append-nil, length-map, take_all}
 use Rattle.abt_io.specs.Bytes.{AreBytes}
 use Rattle.abt_sparse.specs.declared.fault.SparseFault.{SparseFault}
 use Rattle.abt_sparse.specs.declared.header.SparseHeader.{SparseHeader}
@@ -19,12 +19,13 @@ use Rattle.abt_runs.specs.declared.stage.OpeningStage.TheVariants as stages
 use Rattle.abt_runs.specs.Part.{RunCaused}
 use Rattle.abt_runs.specs.Sparse.{SparseOpened, sparse_list}
 use Rattle.abt_runs.specs.Verdict.{CausedAt, Refuses}
-use Rattle.sys_disk.specs.World.{World, OpenFiles, OpensFile, HasFailed, failing, reading}
+use Rattle.sys_disk.specs.World.{World, OpenFiles, OpensFile, HasFailed, counting, reading}
+use Rattle.sys_disk.specs.Counts as causes
+use Rattle.sys_disk.specs.Counts.{Cause, call, call_of, reads}
 use Rattle.sys_refusals.specs.declared.refusal.HostFault.{HostFault}
 use Rattle.cmd_common_sparse.specs.declared.fault.SparseCommandFault.{SparseCommandFault}
 use Rattle.cmd_common_sparse.specs.declared.fault.SparseCommandFault.TheVariants as faults
 use Rattle.cmd_expand.specs.declared.open_images.Shape.{Shape}
-use Rattle.cmd_expand.specs.Expanding.{FromHost}
 use Rattle.cmd_expand.specs.declared.cut_of.CutPiece.{CutPiece}
 use Rattle.cmd_expand.specs.CutOf.{IsOtherCut, NextPiece, Said, TellsPiece, TellsPieces, is_of_other_cut}
 use Rattle.cmd_expand.specs.Overlaying.{AreImages, AreInTurn, FileGives, GivesBlock, HasOtherBlocks, HasOtherCut}
@@ -32,8 +33,9 @@ use Rattle.cmd_expand.specs.Overlaying.{IsImageOf, StandsBehind}
 use Rattle.cmd_expand.specs.Steps.{AreOpened, OpensNext, IsShapeOf, is_same_shape}
 use Rattle.cmd_expand.specs.Steps.{IsNotAllOpened, IsNotNext, IsNotOpened, IsNotRead, IsOtherShape}
 use Rattle.cmd_expand.proofs.GivenSpans.{gives_said, piece_alike, said_gives}
+use Rattle.cmd_expand.proofs.Files.{failed_first, failed_second}
 use Rattle.cmd_expand.proofs.Turns.{among_apart, among_turned, told_more, turn_more}
-use Rattle.cmd_expand.proofs.Lists.{all_push, as_many, lead_more, paths_around, paths_long, paths_more}
+use Rattle.cmd_expand.proofs.Lists.{as_many, lead_more, paths_around, paths_long, paths_more}
 
 -- ---- one image
 
@@ -62,28 +64,31 @@ not_read of_runs.SourceChanged x r r' Same bytes refuses cause = absurd refuses
 not_read (of_runs.BadBlock n) x r r' Same bytes refuses cause = absurd cause
 
 -- it was opened, and closed where its shape was not found
-pub not_opened : (f : SparseCommandFault) (path x : List ℕ) (a : World) (h h1 h2 : OpenFiles) (r r' : ℕ)
-    → OpensFile a path x h h1 → r ≡ 0 → h2 ≡ failing r' h1 → IsNotRead f x r r' → IsNotOpened f path a h h2
-not_opened (faults.Run (of_runs.Sparse f)) path x a h h1 h2 r r' opened none gone is = record {
+pub not_opened : (f : SparseCommandFault) (path x : List ℕ) (a : World) (h h1 h2 : OpenFiles)
+    (r r' given : ℕ) → OpensFile a path x h h1 → r ≡ 0 → h2 ≡ counting (reads given r') h1 → IsNotRead f x r r'
+    → IsNotOpened f path a h h2
+not_opened (faults.Run (of_runs.Sparse f)) path x a h h1 h2 r r' given opened none gone is = record {
   file = opened.file;
   there = opened.there;
   given = is.0;
   fails = subst (λ z. Fails z f is.0) opened.held is.1;
 }
-not_opened (faults.Run (of_runs.Read d)) path x a h h1 h2 r r' opened none gone is =
-    let first : h1.failed ≡ h.failed = ap (λ k. k.failed) opened.taken in
-    let last : h2.failed ≡ h1.failed + r' = ap (λ k. k.failed) gone in
+not_opened (faults.Run (of_runs.Read d)) path x a h h1 h2 r r' given opened none gone is =
+    let first : h1.counts.failed causes.reading ≡ h.counts.failed causes.reading
+    = ap (λ (k : OpenFiles). k.counts.failed causes.reading) opened.taken in
+    let last : h2.counts.failed causes.reading ≡ h1.counts.failed causes.reading + r'
+    = ap (λ (k : OpenFiles). k.counts.failed causes.reading) gone in
     omega (arith, first, last, none, is)
-not_opened (faults.Run of_runs.TooLarge) path x a h h1 h2 r r' opened none gone is = absurd is
-not_opened (faults.Run of_runs.SourceChanged) path x a h h1 h2 r r' opened none gone is = absurd is
-not_opened (faults.Run (of_runs.BadBlock n)) path x a h h1 h2 r r' opened none gone is = absurd is
-not_opened (faults.Sparse f) path x a h h1 h2 r r' opened none gone is = absurd is
-not_opened (faults.Piece f) path x a h h1 h2 r r' opened none gone is = absurd is
-not_opened (faults.Flash f) path x a h h1 h2 r r' opened none gone is = absurd is
-not_opened (faults.Verify f) path x a h h1 h2 r r' opened none gone is = absurd is
-not_opened (faults.OtherBlocks n) path x a h h1 h2 r r' opened none gone is = absurd is
-not_opened (faults.OtherCut n) path x a h h1 h2 r r' opened none gone is = absurd is
-not_opened (faults.Host f) path x a h h1 h2 r r' opened none gone is = absurd is
+not_opened (faults.Run of_runs.TooLarge) path x a h h1 h2 r r' given opened none gone is = absurd is
+not_opened (faults.Run of_runs.SourceChanged) path x a h h1 h2 r r' given opened none gone is = absurd is
+not_opened (faults.Run (of_runs.BadBlock n)) path x a h h1 h2 r r' given opened none gone is = absurd is
+not_opened (faults.Sparse f) path x a h h1 h2 r r' given opened none gone is = absurd is
+not_opened (faults.Piece f) path x a h h1 h2 r r' given opened none gone is = absurd is
+not_opened (faults.Flash f) path x a h h1 h2 r r' given opened none gone is = absurd is
+not_opened (faults.Verify f) path x a h h1 h2 r r' given opened none gone is = absurd is
+not_opened (faults.OtherBlocks n) path x a h h1 h2 r r' given opened none gone is = absurd is
+not_opened (faults.OtherCut n) path x a h h1 h2 r r' given opened none gone is = absurd is
+not_opened (faults.Host f) path x a h h1 h2 r r' given opened none gone is = absurd is
 
 -- the blocks that the file at its path gives are those of its bytes
 file_gives : (path x : List ℕ) (a : World) (h h' : OpenFiles) (n : ℕ) → OpensFile a path x h h' → GivesBlock x n
@@ -129,12 +134,10 @@ pub told_so : (f g : SparseCommandFault) (path : List ℕ) (a : World) (h k : Op
 told_so f g path a h k same is = subst (λ q. IsNotOpened q path a h k) (sym same) is
 
 -- it could not be opened
-pub refused_once : (f : SparseCommandFault) (path : List ℕ) (a : World) (h h' : OpenFiles) → FromHost f → h'
-    ≡ failing 1 h
-    → IsNotOpened f path a h h'
-refused_once f path a h h' host refused =
-    let up : h'.failed ≡ h.failed + 1 = ap (λ k. k.failed) refused in
-    subst (λ g. IsNotOpened g path a h h') (sym host.1) (omega (arith, up))
+pub refused_once : (f : SparseCommandFault) (host : HostFault) (path : List ℕ) (a : World) (h h' : OpenFiles)
+    → f ≡ faults.Host host → h' ≡ counting (call_of host) h → IsNotOpened f path a h h'
+refused_once f host path a h h' made refused =
+    subst (λ g. IsNotOpened g path a h h') (sym made) (failed_first host h h' refused)
 
 -- ---- the next image
 
@@ -168,11 +171,9 @@ next_other told shape pieces own number path x a h h' k is opened image differs 
 -- it was opened, and then memory was refused
 pub next_lacking : (told : SparseCommandFault) (m : HostFault) (shape : Option Shape) (pieces : List (Option CutPiece))
     (number : ℕ) (path x : List ℕ) (a : World) (h h' k : OpenFiles) → told ≡ faults.Host m → OpensFile a path x h h'
-    → k ≡ failing 1 h' → IsNotNext told shape pieces number path a h k
+    → k ≡ counting (call_of m) h' → IsNotNext told shape pieces number path a h k
 next_lacking told m shape pieces number path x a h h' k is opened now =
-    let up : k.failed ≡ h'.failed + 1 = ap (λ q. q.failed) now in
-    let stays : h'.failed ≡ h.failed = ap (λ q. q.failed) opened.taken in
-    subst (λ f. IsNotNext f shape pieces number path a h k) (sym is) (omega (arith, up, stays))
+    subst (λ f. IsNotNext f shape pieces number path a h k) (sym is) (failed_second path x a m h h' k opened now)
 
 pub next_cut : (told : SparseCommandFault) (shape : Option Shape) (pieces : List (Option CutPiece))
     (own : Option CutPiece) (number : ℕ) (path : List ℕ) (a : World) (h k : OpenFiles) → told ≡ faults.OtherCut number
@@ -230,10 +231,11 @@ are_images (Some s) a paths xs h h' all is = record {
   images = subst (λ l. AllByRecursion (IsImageOf s.blocks s.block) l) all.bytes is.1;
 }
 
-still : (a : World) (paths xs : List (List ℕ)) (h h1 h2 : OpenFiles) → AreOpened a paths xs h h1 → HasFailed h1 h2
-    → HasFailed h h2
-still a paths xs h h1 h2 all failed =
-    let same : h1.failed ≡ h.failed = ap (λ k. k.failed) all.taken in
+still : (cause : Cause) (a : World) (paths xs : List (List ℕ)) (h h1 h2 : OpenFiles) → AreOpened a paths xs h h1
+    → HasFailed cause h1 h2 → HasFailed cause h h2
+still cause a paths xs h h1 h2 all failed =
+    let same : h1.counts.failed cause ≡ h.counts.failed cause
+    = ap (λ (k : OpenFiles). k.counts.failed cause) all.taken in
     omega (arith, same, failed)
 
 stands : (shape : Option Shape) (a : World) (inputs before behind xs : List (List ℕ)) (path : List ℕ) (h h' : OpenFiles)
@@ -310,7 +312,7 @@ not_all (faults.Run (of_runs.Sparse f)) shape pieces a inputs before behind xs p
     }
 not_all (faults.Run (of_runs.Read d)) shape pieces a inputs before behind xs path number h h1 h2 all is told among
     counted why =
-    still a before xs h h1 h2 all why
+    still causes.reading a before xs h h1 h2 all why
 not_all (faults.Run of_runs.TooLarge) shape pieces a inputs before behind xs path number h h1 h2 all is told among
     counted why =
     absurd why
@@ -327,7 +329,7 @@ not_all (faults.OtherCut n) shape pieces a inputs before behind xs path number h
     other_cut shape pieces a inputs before behind xs path n h h1 all is told among (why.0 ∙ counted) why.1
 not_all (faults.Host f) shape pieces a inputs before behind xs path number h h1 h2 all is told among
     counted why =
-    still a before xs h h1 h2 all why
+    still (call f) a before xs h h1 h2 all why
 not_all (faults.Sparse f) shape pieces a inputs before behind xs path number h h1 h2 all is told among
     counted why = absurd why
 not_all (faults.Piece f) shape pieces a inputs before behind xs path number h h1 h2 all is told among

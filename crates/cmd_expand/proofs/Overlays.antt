@@ -1,5 +1,5 @@
 -- What opening, writing and closing leave together.
-use Rattle.std.proofs.Common.{inl, inr, arith, ◌⊎◌, ◌≡◌, ℕ, suc, ◌+◌, ◌*◌, ◌<◌, List, [], ◌∷◌, ◌++◌, length}
+use Rattle.std.proofs.Common.{inl, inr, arith, ◌⊎◌, ◌≡◌, ◌≤◌, ℕ, suc, ◌+◌, ◌*◌, ◌<◌, List, [], ◌∷◌, ◌++◌, length}
 use Rattle.std.proofs.Common.{replicate, map, Option, Some, None, refl, sym, ◌∙◌, ap, subst}
 use Rattle.std.specs.Prelude.{Contains, if◌then◌else◌, nat_lt, Result, Err, OnOk}
 use Rattle.std.specs.List.{AllByRecursion}
@@ -13,14 +13,18 @@ use Rattle.abt_flash.specs.Flashing.{Holds}
 use Rattle.abt_flash_faults.specs.declared.fault.FlashFault.TheVariants as flashes
 use Rattle.sys_disk.specs.InPlace.{IsAsLong, MakesZeros, closed_part, is_settled, is_settled_in}
 use Rattle.sys_disk.specs.World.{World, OpenFiles, Spares, Ends, OnlyAt, in_output, KeepsFile, HasFailed, HasNotFailed}
-use Rattle.sys_disk.specs.World.{SparesInUse, failing}
+use Rattle.sys_disk.specs.World.{SparesInUse, counting}
+use Rattle.sys_disk.specs.Counts.{Cause, call, call_of, calls, Counts, HasNone, of_writing, reading, writes, writing}
+use Rattle.sys_disk.proofs.Failings.{counts_one}
+use Rattle.sys_refusals.specs.declared.refusal.HostFault.{HostFault}
 use Rattle.sys_disk.proofs.Worlds.{spared_if_may, spares_trans}
 use Rattle.cmd_common_sparse.specs.declared.fault.SparseCommandFault.{SparseCommandFault}
 use Rattle.cmd_common_sparse.specs.declared.fault.SparseCommandFault.TheVariants as faults
 use Rattle.cmd_common_sparse.specs.declared.lines.Line.TheVariants as lines
 use Rattle.cmd_common_sparse.specs.Lines.{line_text}
 use Rattle.cmd_expand.specs.declared.open_images.Shape.{Shape}
-use Rattle.cmd_expand.specs.Expanding.{FromHost}
+use Rattle.cmd_expand.specs.Expanding.{FromCall, FromHost}
+use Rattle.cmd_expand.proofs.Files.{failed_first, no_writing}
 use Rattle.cmd_expand.specs.Overlaying.{AreImages, AreInTurn, IsImageOf, LeavesOverlaid, OverlaysFiles}
 use Rattle.cmd_expand.specs.Overlaying.{OverlaysInPart, RefusesOverlay, once_if_any}
 use Rattle.cmd_expand.specs.Steps.{AreOpened, BreaksAmong, FailsAlone, IsNotAllOpened, IsNotLaid, IsShapeOf}
@@ -29,33 +33,67 @@ use Rattle.cmd_expand.proofs.Lists.{as_many, each_read, fewer_read, keeps_read, 
 
 -- ---- counts of what has failed
 
--- all was opened, zeros were made, images were written, and the output is closed; this much has failed since
-pub failed_in_all : (a a1 b : World) (inputs xs : List (List ℕ)) (output : List ℕ) (n m u : ℕ) (past : Past)
-    (h h1 h2 h3 h4 : OpenFiles) → AreOpened a inputs xs h h1 → MakesZeros n output h1 h2 a1 b
-    → h4 ≡ failing u (closed_part past m h3) → (h2.failed ≡ h.failed) × (h4.failed ≡ h3.failed + m + u)
-failed_in_all a a1 b inputs xs output n m u past h h1 h2 h3 h4 all made closed =
-    (ap (λ k. k.failed) made.begins ∙ ap (λ k. k.failed) all.taken, ap (λ k. k.failed) closed)
+-- all was opened, zeros were made, images were written, and the output is closed; this much has failed before and since
+pub record CountsInAll (h h2 h3 h4 : OpenFiles) (m : ℕ) (u : Counts) : Type 0 where
+  pub before : (cause : Cause) → h2.counts.failed cause ≡ h.counts.failed cause
+  pub since : (cause : Cause) → h4.counts.failed cause
+      ≡ h3.counts.failed cause + of_writing m cause + u.failed cause
 
-pub failed_zeros : (a : World) (inputs xs : List (List ℕ)) (h h1 k : OpenFiles) → AreOpened a inputs xs h h1
-    → k ≡ failing 1 h1 → HasFailed h k
-failed_zeros a inputs xs h h1 k all refused =
-    let first : h1.failed ≡ h.failed = ap (λ q. q.failed) all.taken in
-    let up : k.failed ≡ h1.failed + 1 = ap (λ q. q.failed) refused in
+pub counts_in_all : (a a1 b : World) (inputs xs : List (List ℕ)) (output : List ℕ) (n m : ℕ) (u : Counts) (past : Past)
+    (h h1 h2 h3 h4 : OpenFiles) → AreOpened a inputs xs h h1 → MakesZeros n output h1 h2 a1 b
+    → h4 ≡ counting u (closed_part past (writes m) h3) → CountsInAll h h2 h3 h4 m u
+counts_in_all a a1 b inputs xs output n m u past h h1 h2 h3 h4 all made closed = record {
+  before = λ cause. ap (λ (k : OpenFiles). k.counts.failed cause) made.begins
+      ∙ ap (λ (k : OpenFiles). k.counts.failed cause) all.taken;
+  since = λ cause. ap (λ (k : OpenFiles). k.counts.failed cause) closed;
+}
+
+pub failed_zeros : (a : World) (inputs xs : List (List ℕ)) (f : HostFault) (h h1 k : OpenFiles)
+    → AreOpened a inputs xs h h1 → k ≡ counting (call_of f) h1 → HasFailed (call f) h k
+failed_zeros a inputs xs f h h1 k all refused =
+    let first : h1.counts.failed (call f) ≡ h.counts.failed (call f)
+    = ap (λ (q : OpenFiles). q.counts.failed (call f)) all.taken in
+    let up : h1.counts.failed (call f) < k.counts.failed (call f) = failed_first f h1 k refused in
     omega (arith, first, up)
 
-pub failed_laying : (h h2 h3 h4 : OpenFiles) (p p' u : ℕ) → (h2.failed ≡ h.failed) × (h4.failed ≡ h3.failed + p' + u)
-    → p ≡ 0 → h2.failed + p < h3.failed + p' → HasFailed h h4
-failed_laying h h2 h3 h4 p p' u counts none rose = omega (arith, counts.0, counts.1, none, rose)
+-- a read failed
+pub failed_reading : (h h2 h3 h4 : OpenFiles) (m : ℕ) (u : Counts) → CountsInAll h h2 h3 h4 m u
+    → h2.counts.failed reading < h3.counts.failed reading → HasFailed reading h h4
+failed_reading h h2 h3 h4 m u counts rose =
+    let before : h2.counts.failed reading ≡ h.counts.failed reading = counts.before reading in
+    let since : h4.counts.failed reading ≡ h3.counts.failed reading + 0 + u.failed reading = counts.since reading in
+    omega (arith, before, since, rose)
+
+-- a write or a sync did
+pub failed_writing : (h h2 h3 h4 : OpenFiles) (p p' : ℕ) (u : Counts) → CountsInAll h h2 h3 h4 p' u → p ≡ 0
+    → h2.counts.failed writing + p < h3.counts.failed writing + p' → HasFailed writing h h4
+failed_writing h h2 h3 h4 p p' u counts none rose =
+    let before : h2.counts.failed writing ≡ h.counts.failed writing = counts.before writing in
+    let since : h4.counts.failed writing ≡ h3.counts.failed writing + p' + u.failed writing = counts.since writing in
+    omega (arith, before, since, none, rose)
 
 -- closing failed
-pub failed_closing : (h h2 h3 h4 : OpenFiles) (p p' u : ℕ) → (h2.failed ≡ h.failed) × (h4.failed ≡ h3.failed + p' + u)
-    → p ≡ 0 → h3.failed + p' ≡ h2.failed + p → u ≡ 1 → HasFailed h h4
-failed_closing h h2 h3 h4 p p' u counts none same one = omega (arith, counts.0, counts.1, none, same, one)
+pub failed_closing : (f : HostFault) (h h2 h3 h4 : OpenFiles) (m : ℕ) → CountsInAll h h2 h3 h4 m (call_of f)
+    → FailsAlone h2 h3 → HasFailed (call f) h h4
+failed_closing f h h2 h3 h4 m counts alone =
+    let before : h2.counts.failed (call f) ≡ h.counts.failed (call f) = counts.before (call f) in
+    let since : h4.counts.failed (call f) ≡ h3.counts.failed (call f) + 0 + calls f (call f)
+    = counts.since (call f) in
+    let grown : h2.counts.failed (call f) ≤ h3.counts.failed (call f) = alone.grown (call f) in
+    let one = counts_one f in
+    omega (arith, before, since, grown, one)
 
 -- nothing has failed
-pub clean_closing : (h h2 h3 h4 : OpenFiles) (p p' u : ℕ) → (h2.failed ≡ h.failed) × (h4.failed ≡ h3.failed + p' + u)
-    → p ≡ 0 → h3.failed + p' ≡ h2.failed + p → u ≡ 0 → HasNotFailed h h4
-clean_closing h h2 h3 h4 p p' u counts none same zero = omega (arith, counts.0, counts.1, none, same, zero)
+pub clean_closing : (h h2 h3 h4 : OpenFiles) (p p' : ℕ) (u : Counts) → CountsInAll h h2 h3 h4 p' u → p ≡ 0
+    → HasNotFailed h2 h3 → p' ≡ p → HasNone u → HasNotFailed h h4
+clean_closing h h2 h3 h4 p p' u counts none clean same zero cause =
+    let before : h2.counts.failed cause ≡ h.counts.failed cause = counts.before cause in
+    let since : h4.counts.failed cause ≡ h3.counts.failed cause + of_writing p' cause + u.failed cause
+    = counts.since cause in
+    let even : h3.counts.failed cause ≡ h2.counts.failed cause = clean cause in
+    let late : u.failed cause ≡ 0 = zero cause in
+    let written : of_writing p' cause ≡ 0 = ap (λ n. of_writing n cause) (same ∙ none) ∙ no_writing cause in
+    omega (arith, before, since, even, late, written)
 
 -- ---- what the output holds
 
@@ -195,11 +233,12 @@ once (x ∷ xs) =
     let more : 0 < suc (length xs) = omega arith in
     ap (λ b. if b then 1 else 0) (lt-ltb 0 (suc (length xs)) more)
 
-pub synced : (a a1 b : World) (inputs xs : List (List ℕ)) (output : List ℕ) (n m k u : ℕ) (past past' : Past)
+pub synced : (a a1 b : World) (inputs xs : List (List ℕ)) (output : List ℕ) (n k : ℕ) (m u : Counts)
+    (past past' : Past)
     (h h1 h2 h3 h4 : OpenFiles) → AreOpened a inputs xs h h1 → MakesZeros n output h1 h2 a1 b → FailsAlone h2 h3
-    → h4 ≡ failing u (closed_part past' m h3) → past ≡ no_past → past'.pending ≡ [] → past'.synced ≡ past.synced + k
+    → h4 ≡ counting u (closed_part past' m h3) → past ≡ no_past → past'.pending ≡ [] → past'.synced ≡ past.synced + k
     → length xs ≡ k → h4.syncs ≡ h.syncs + once_if_any inputs
-synced a a1 b inputs xs output n m k u past past' h h1 h2 h3 h4 all made alone closed fresh empty counted items =
+synced a a1 b inputs xs output n k m u past past' h h1 h2 h3 h4 all made alone closed fresh empty counted items =
     let none : past.synced ≡ 0 = ap (λ q. q.synced) fresh in
     let long : length xs ≡ length inputs = as_long_as a inputs xs h h1 all in
     let many : past'.synced ≡ length inputs
@@ -277,33 +316,51 @@ breaks_over f shape e a a1 b b' c inputs xs output y z h h1 h2 h3 whole all is m
 
 pub from_laying : (untold : List ℕ → Type 0) (f : SparseCommandFault) (inputs : List (List ℕ)) (output : List ℕ)
     (a c : World) (h k : OpenFiles)
-    (n n' : ℕ) → (n < n' → HasFailed h k) → BreaksOver f inputs output a c → IsNotLaid f n n'
-    → RefusesOverlay f inputs output a c h k untold
-from_laying untold (faults.Flash (flashes.Read d)) inputs output a c h k n n' up part why = (up why, part)
-from_laying untold (faults.Flash (flashes.Write d)) inputs output a c h k n n' up part why = (up why, part)
-from_laying untold (faults.Flash (flashes.Sync d)) inputs output a c h k n n' up part why = (up why, part)
-from_laying untold (faults.Flash (flashes.Sparse f)) inputs output a c h k n n' up part why = absurd why
-from_laying untold (faults.Flash (flashes.PartitionTooSmall m)) inputs output a c h k n n' up part why = absurd why
-from_laying untold (faults.Flash flashes.TooLarge) inputs output a c h k n n' up part why = absurd why
-from_laying untold (faults.Flash flashes.SourceChanged) inputs output a c h k n n' up part why = absurd why
-from_laying untold (faults.Flash (flashes.BadBlock m)) inputs output a c h k n n' up part why = absurd why
-from_laying untold (faults.Flash (flashes.LimitTooSmall m)) inputs output a c h k n n' up part why = absurd why
-from_laying untold (faults.Flash (flashes.Stopped j m)) inputs output a c h k n n' up part why = absurd why
-from_laying untold (faults.Flash (flashes.NoSuchPiece m)) inputs output a c h k n n' up part why = absurd why
-from_laying untold (faults.Run f) inputs output a c h k n n' up part why = absurd why
-from_laying untold (faults.Sparse f) inputs output a c h k n n' up part why = absurd why
-from_laying untold (faults.Piece f) inputs output a c h k n n' up part why = absurd why
-from_laying untold (faults.Verify f) inputs output a c h k n n' up part why = absurd why
-from_laying untold (faults.OtherBlocks m) inputs output a c h k n n' up part why = absurd why
-from_laying untold (faults.OtherCut m) inputs output a c h k n n' up part why = absurd why
-from_laying untold (faults.Host f) inputs output a c h k n n' up part why = absurd why
+    (r r' p p' : ℕ) → (r < r' → HasFailed reading h k) → (p < p' → HasFailed writing h k)
+    → BreaksOver f inputs output a c → IsNotLaid f r r' p p' → RefusesOverlay f inputs output a c h k untold
+from_laying untold (faults.Flash (flashes.Read d)) inputs output a c h k r r' p p' read written part why =
+    (read why, part)
+from_laying untold (faults.Flash (flashes.Write d)) inputs output a c h k r r' p p' read written part why =
+    (written why, part)
+from_laying untold (faults.Flash (flashes.Sync d)) inputs output a c h k r r' p p' read written part why =
+    (written why, part)
+from_laying untold (faults.Flash (flashes.Sparse f)) inputs output a c h k r r' p p' read written part why =
+    absurd why
+from_laying untold (faults.Flash (flashes.PartitionTooSmall m)) inputs output a c h k r r' p p' read written part why =
+    absurd why
+from_laying untold (faults.Flash flashes.TooLarge) inputs output a c h k r r' p p' read written part why =
+    absurd why
+from_laying untold (faults.Flash flashes.SourceChanged) inputs output a c h k r r' p p' read written part why =
+    absurd why
+from_laying untold (faults.Flash (flashes.BadBlock m)) inputs output a c h k r r' p p' read written part why =
+    absurd why
+from_laying untold (faults.Flash (flashes.LimitTooSmall m)) inputs output a c h k r r' p p' read written part why =
+    absurd why
+from_laying untold (faults.Flash (flashes.Stopped j m)) inputs output a c h k r r' p p' read written part why =
+    absurd why
+from_laying untold (faults.Flash (flashes.NoSuchPiece m)) inputs output a c h k r r' p p' read written part why =
+    absurd why
+from_laying untold (faults.Run f) inputs output a c h k r r' p p' read written part why =
+    absurd why
+from_laying untold (faults.Sparse f) inputs output a c h k r r' p p' read written part why =
+    absurd why
+from_laying untold (faults.Piece f) inputs output a c h k r r' p p' read written part why =
+    absurd why
+from_laying untold (faults.Verify f) inputs output a c h k r r' p p' read written part why =
+    absurd why
+from_laying untold (faults.OtherBlocks m) inputs output a c h k r r' p p' read written part why =
+    absurd why
+from_laying untold (faults.OtherCut m) inputs output a c h k r r' p p' read written part why =
+    absurd why
+from_laying untold (faults.Host f) inputs output a c h k r r' p p' read written part why =
+    absurd why
 
--- a fault of files, after which something has failed, or all is done
+-- a fault of files, of a call that has failed, or after all was done
 pub from_files : (untold : List ℕ → Type 0) (f : SparseCommandFault) (inputs : List (List ℕ)) (output : List ℕ)
     (a c : World) (h k : OpenFiles)
-    → FromHost f → HasFailed h k ⊎ OverlaysFiles inputs output a c untold
+    → FromCall f h k ⊎ (FromHost f × OverlaysFiles inputs output a c untold)
     → RefusesOverlay f inputs output a c h k untold
-from_files untold f inputs output a c h k host (inl failed) =
-    subst (λ g. RefusesOverlay g inputs output a c h k untold) (sym host.1) (inl failed)
-from_files untold f inputs output a c h k host (inr done) =
-    subst (λ g. RefusesOverlay g inputs output a c h k untold) (sym host.1) (inr done)
+from_files untold f inputs output a c h k (inl host) =
+    subst (λ g. RefusesOverlay g inputs output a c h k untold) (sym host.1) (inl host.2)
+from_files untold f inputs output a c h k (inr host) =
+    subst (λ g. RefusesOverlay g inputs output a c h k untold) (sym host.0.1) (inr host.1)

@@ -10,6 +10,7 @@ use Rattle.abt_chunks.specs.declared.progress.Expanded.{Expanded}
 use Rattle.abt_chunks.specs.Expanding.{UnlessExpandingDevice}
 use Rattle.abt_chunks.specs.Whole.{AlmostWhole, Begun, Expansion, Refusal}
 use Rattle.sys_disk.specs.Among.{FileHolds}
+use Rattle.sys_disk.specs.Counts.{Cause, call, of_reading, reading, writing}
 use Rattle.sys_disk.specs.World.{World, OpenFiles, KeepsFile, OnlyAt, Spares, SparesInUse, HasFailed, HasNotFailed}
 use Rattle.sys_refusals.specs.declared.refusal.HostFault.{HostFault}
 use Rattle.cmd_common_sparse.specs.declared.fault.SparseCommandFault.{SparseCommandFault}
@@ -33,6 +34,10 @@ ExpandingSays (Err (faults.Host f)) x old new = ⊥
 abbrev pub FromHost : SparseCommandFault → Type 0
 FromHost f = (host : HostFault) × (f ≡ faults.Host host)
 
+-- the same, of a call that has failed with it
+abbrev pub FromCall : SparseCommandFault → OpenFiles → OpenFiles → Type 0
+FromCall f held held' = (host : HostFault) × (f ≡ faults.Host host) × HasFailed (call host) held held'
+
 -- what the file at this path holds has this fault
 pub record HasFault (path : List ℕ) (world : World) (f : SparseFault) : Type 0 where
   pub file : ℕ
@@ -40,10 +45,10 @@ pub record HasFault (path : List ℕ) (world : World) (f : SparseFault) : Type 0
   pub given : List (Option ℕ)
   pub fails : Fails (world.holds file) f given
 
--- where a device failed, so much is so, and of any other fault so much
-abbrev pub OfDevice : SparseFault → Type 0 → Type 0 → Type 0
-OfDevice (of_sparse.Read d) failed P = failed
-OfDevice (of_sparse.Write d) failed P = failed
+-- where a device failed, its cause has failed, and of any other fault so much is so
+abbrev pub OfDevice : SparseFault → (Cause → Type 0) → Type 0 → Type 0
+OfDevice (of_sparse.Read d) failed P = failed reading
+OfDevice (of_sparse.Write d) failed P = failed writing
 OfDevice f failed P = P
 
 -- how often devices failed: the input's faults went from r to r', the output's from w to w'
@@ -98,20 +103,25 @@ pub record WritesRead (read : ℕ) (x old new : List ℕ) : Type 0 where
   pub begun : Begun old new (take read x)
   pub least : AlmostWhole old new (take (read - 1) x)
 
--- the file at the other path holds what the first bytes give of the file at the one, some number of which was read
-pub record HoldsBegun (input output : List ℕ) (old new : World) : Type 0 where
+-- one read of a device has failed, and nothing else has
+abbrev pub HasFailedToReadOnce : OpenFiles → OpenFiles → Type 0
+HasFailedToReadOnce old new = (cause : Cause) → new.counts.failed cause ≡ old.counts.failed cause + of_reading 1 cause
+
+-- the file at the other path holds what the first bytes give of the file at the one, as many as were read in this run
+pub record HoldsBegun (input output : List ℕ) (held held' : OpenFiles) (old new : World) : Type 0 where
   pub from : ℕ
   pub there : old.at input ≡ Some from
   pub read : ℕ
+  pub counted : held'.counts.given ≡ held.counts.given + read
   pub front : List ℕ
   pub written : WritesRead read (old.holds from) [] front
   pub holds : FileHolds new output front
 
--- What OUT's file holds after a fault of IN, where no other call has failed: what comes before the fault; or, where IN
+-- What OUT's file holds after a fault of IN, where nothing else has failed: what comes before the fault; or, where IN
 -- could not be read, what was read, but for less than a window.
 abbrev pub LeavesFront : SparseFault → List ℕ → List ℕ → World → World → OpenFiles → OpenFiles → Type 0
 LeavesFront (of_sparse.Read d) input output old new held held' =
-    held'.failed ≡ held.failed + 1 → HoldsBegun input output old new
+    HasFailedToReadOnce held held' → HoldsBegun input output held held' old new
 LeavesFront (of_sparse.Write d) input output old new held held' = Unit {0}
 LeavesFront f input output old new held held' = HasNotFailed held held' → HoldsUpTo input output f old new
 
@@ -119,7 +129,8 @@ LeavesFront f input output old new held held' = HasNotFailed held held' → Hold
 abbrev pub RefusesFile : SparseCommandFault → List ℕ → List ℕ → World → World → OpenFiles → OpenFiles
     → (List ℕ → Type 0) → Type 0
 RefusesFile (faults.Sparse f) input output old new held held' untold =
-    OfDevice f (HasFailed held held') (HasFault input old f) × LeavesFront f input output old new held held'
+    OfDevice f (λ cause. HasFailed cause held held') (HasFault input old f)
+    × LeavesFront f input output old new held held'
 RefusesFile (faults.Host f) input output old new held held' untold =
-    HasFailed held held' ⊎ ExpandsFile input output old new untold
+    HasFailed (call f) held held' ⊎ ExpandsFile input output old new untold
 RefusesFile f input output old new held held' untold = ⊥

@@ -13,6 +13,7 @@ use Rattle.abt_flash_faults.specs.declared.fault.FlashFault.{FlashFault}
 use Rattle.abt_flash_faults.specs.declared.fault.FlashFault.TheVariants as flashes
 use Rattle.sys_disk.specs.World.{World, OpenFiles, IsReading, KeepsFile, OnlyAt, Spares, SparesInUse, HasFailed}
 use Rattle.sys_disk.specs.World.{HasNotFailed}
+use Rattle.sys_disk.specs.Counts.{call, reading, writing}
 use Rattle.cmd_common_sparse.specs.declared.fault.SparseCommandFault.{SparseCommandFault}
 use Rattle.cmd_common_sparse.specs.declared.fault.SparseCommandFault.TheVariants as faults
 use Rattle.cmd_common_sparse.specs.declared.lines.Line.TheVariants as lines
@@ -196,15 +197,15 @@ pub record HasOtherCut (inputs : List (List ℕ)) (world : World) (image : ℕ) 
 abbrev pub RefusesOverlay : SparseCommandFault → List (List ℕ) → List ℕ → World → World → OpenFiles → OpenFiles
     → (List ℕ → Type 0) → Type 0
 RefusesOverlay (faults.Run (of_runs.Sparse f)) inputs output old new held held' untold = HasFirstFault inputs old f
-RefusesOverlay (faults.Run (of_runs.Read d)) inputs output old new held held' untold = HasFailed held held'
+RefusesOverlay (faults.Run (of_runs.Read d)) inputs output old new held held' untold = HasFailed reading held held'
 RefusesOverlay (faults.OtherBlocks image) inputs output old new held held' untold = HasOtherBlocks inputs old image
 RefusesOverlay (faults.OtherCut image) inputs output old new held held' untold = HasOtherCut inputs old image
 RefusesOverlay (faults.Flash (flashes.Read d)) inputs output old new held held' untold =
-    HasFailed held held' × OverlaysInPart (flashes.Read d) inputs output old new
+    HasFailed reading held held' × OverlaysInPart (flashes.Read d) inputs output old new
 RefusesOverlay (faults.Flash (flashes.Write d)) inputs output old new held held' untold =
-    HasFailed held held' × OverlaysInPart (flashes.Write d) inputs output old new
+    HasFailed writing held held' × OverlaysInPart (flashes.Write d) inputs output old new
 RefusesOverlay (faults.Flash (flashes.Sync d)) inputs output old new held held' untold =
-    HasFailed held held' × OverlaysInPart (flashes.Sync d) inputs output old new
+    HasFailed writing held held' × OverlaysInPart (flashes.Sync d) inputs output old new
 RefusesOverlay (faults.Host f) inputs output old new held held' untold =
-    HasFailed held held' ⊎ OverlaysFiles inputs output old new untold
+    HasFailed (call f) held held' ⊎ OverlaysFiles inputs output old new untold
 RefusesOverlay f inputs output old new held held' untold = ⊥

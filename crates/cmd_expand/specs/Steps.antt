@@ -10,6 +10,7 @@ use Rattle.abt_flash.specs.Flashing.{Holds}
 use Rattle.abt_flash_faults.specs.declared.fault.FlashFault.{FlashFault}
 use Rattle.abt_flash_faults.specs.declared.fault.FlashFault.TheVariants as flashes
 use Rattle.sys_disk.specs.World.{World, OpenFiles, OpensFile, HasFailed}
+use Rattle.sys_disk.specs.Counts.{Cause, call, reading}
 use Rattle.cmd_common_sparse.specs.declared.fault.SparseCommandFault.{SparseCommandFault}
 use Rattle.cmd_common_sparse.specs.declared.fault.SparseCommandFault.TheVariants as faults
 use Rattle.cmd_expand.specs.declared.open_images.Shape.{Shape}
@@ -52,8 +53,8 @@ IsShapeOf (Some s) xs = (0 < length xs) × AllByRecursion (IsImageOf s.blocks s.
 -- why an image is not opened
 abbrev pub IsNotOpened : SparseCommandFault → List ℕ → World → OpenFiles → OpenFiles → Type 0
 IsNotOpened (faults.Run (of_runs.Sparse f)) path world held held' = HasFault path world f
-IsNotOpened (faults.Run (of_runs.Read d)) path world held held' = HasFailed held held'
-IsNotOpened (faults.Host f) path world held held' = HasFailed held held'
+IsNotOpened (faults.Run (of_runs.Read d)) path world held held' = HasFailed reading held held'
+IsNotOpened (faults.Host f) path world held held' = HasFailed (call f) held held'
 IsNotOpened f path world held held' = ⊥
 
 -- what an image of this length would expand to, where there is one
@@ -78,20 +79,20 @@ abbrev pub IsNotNext : SparseCommandFault → Option Shape → List (Option CutP
     → OpenFiles
     → Type 0
 IsNotNext (faults.Run (of_runs.Sparse f)) shape pieces number path world held held' = HasFault path world f
-IsNotNext (faults.Run (of_runs.Read d)) shape pieces number path world held held' = HasFailed held held'
+IsNotNext (faults.Run (of_runs.Read d)) shape pieces number path world held held' = HasFailed reading held held'
 IsNotNext (faults.OtherBlocks n) shape pieces number path world held held' =
     (n ≡ number) × IsOtherShape shape path world
 IsNotNext (faults.OtherCut n) shape pieces number path world held held' = (n ≡ number) × IsOtherCut pieces path world
-IsNotNext (faults.Host f) shape pieces number path world held held' = HasFailed held held'
+IsNotNext (faults.Host f) shape pieces number path world held held' = HasFailed (call f) held held'
 IsNotNext f shape pieces number path world held held' = ⊥
 
 -- why they are not all opened
 abbrev pub IsNotAllOpened : SparseCommandFault → List (List ℕ) → World → OpenFiles → OpenFiles → Type 0
 IsNotAllOpened (faults.Run (of_runs.Sparse f)) inputs world held held' = HasFirstFault inputs world f
-IsNotAllOpened (faults.Run (of_runs.Read d)) inputs world held held' = HasFailed held held'
+IsNotAllOpened (faults.Run (of_runs.Read d)) inputs world held held' = HasFailed reading held held'
 IsNotAllOpened (faults.OtherBlocks n) inputs world held held' = HasOtherBlocks inputs world n
 IsNotAllOpened (faults.OtherCut n) inputs world held held' = HasOtherCut inputs world n
-IsNotAllOpened (faults.Host f) inputs world held held' = HasFailed held held'
+IsNotAllOpened (faults.Host f) inputs world held held' = HasFailed (call f) held held'
 IsNotAllOpened f inputs world held held' = ⊥
 
 -- no file has changed, and none more is written in place
@@ -101,16 +102,17 @@ pub record OpensAlone (held held' : OpenFiles) (old new : World) : Type 0 where
 
 -- ---- writing
 
--- why an image is not flashed: a device failed, and the count of what failed rose
-abbrev pub IsNotFlashed : FlashFault → ℕ → ℕ → Type 0
-IsNotFlashed (flashes.Read d) n n' = n < n'
-IsNotFlashed (flashes.Write d) n n' = n < n'
-IsNotFlashed (flashes.Sync d) n n' = n < n'
-IsNotFlashed f n n' = ⊥
+-- why an image is not flashed: a device failed, whose count rose; that of what is read went from r to r', of what is
+-- written from w to w'
+abbrev pub IsNotFlashed : FlashFault → ℕ → ℕ → ℕ → ℕ → Type 0
+IsNotFlashed (flashes.Read d) r r' w w' = r < r'
+IsNotFlashed (flashes.Write d) r r' w w' = w < w'
+IsNotFlashed (flashes.Sync d) r r' w w' = w < w'
+IsNotFlashed f r r' w w' = ⊥
 
-abbrev pub IsNotLaid : SparseCommandFault → ℕ → ℕ → Type 0
-IsNotLaid (faults.Flash f) n n' = IsNotFlashed f n n'
-IsNotLaid f n n' = ⊥
+abbrev pub IsNotLaid : SparseCommandFault → ℕ → ℕ → ℕ → ℕ → Type 0
+IsNotLaid (faults.Flash f) r r' w w' = IsNotFlashed f r r' w w'
+IsNotLaid f r r' w w' = ⊥
 
 -- what flashing x over p leaves, where it was refused for this once some number of its bytes was read
 abbrev pub BreaksAt : SparseCommandFault → List ℕ → List ℕ → List ℕ → Type 0
@@ -131,12 +133,13 @@ pub record AreLaidBefore (left images : List (List ℕ)) (p p' : List ℕ) : Typ
   pub among : images ≡ before ++ left
   pub laid : p' ≡ flashed_in_turn p before
 
--- the count of failures may be greater, and nothing else has changed
+-- more may be counted, and nothing else has changed
 pub record FailsAlone (held held' : OpenFiles) : Type 0 where
-  pub same : held' ≡ record held { failed = held'.failed }
-  pub grown : held.failed ≤ held'.failed
+  pub same : held' ≡ record held { counts = held'.counts }
+  pub grown : (cause : Cause) → held.counts.failed cause ≤ held'.counts.failed cause
+  pub read : held.counts.given ≤ held'.counts.given
 
--- The file that is overwritten keeps its length, and of the disk only the count of failures has changed.
+-- The file that is overwritten keeps its length, and of the disk only what is counted has changed.
 pub record LaysAlone (models : Bool) (long long' : ℕ) (before after : OpenFiles) (old new : World) : Type 0 where
   pub size : long' ≡ long
   pub world : IsTrue models → new ≡ old

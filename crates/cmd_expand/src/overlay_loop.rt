@@ -6,6 +6,8 @@ ghost use Rattle.std.specs.List.{AllByRecursion};
 ghost use Rattle.abt_flash_faults.specs.Fault.{FlashingRises};
 ghost use Rattle.abt_flash.specs.Flashing.{Holds};
 ghost use Rattle.abt_sparse.specs.Pieces.{flashed, flashed_in_turn};
+ghost use Rattle.sys_disk.specs.Counts.{Cause, of_reading, reading, writing};
+ghost use Rattle.sys_disk.specs.World.{HasNotFailed};
 ghost use Rattle.cmd_expand.specs.Overlaying.{IsImageOf};
 ghost use Rattle.cmd_expand.specs.Steps.{BreaksAmong, BreaksAt, IsNotFlashed, IsNotLaid, LaysAlone};
 
@@ -41,18 +43,20 @@ pub(crate) fn lay_all<'a, D: Disk>(
         ≡ (D.InPlace.past onto.old).synced + length kept.entry.items) }
     ensures settled { IsTrue D.models → (D.InPlace.past onto.old).pending ≡ [] →
         OnOk result ((D.InPlace.past onto.new).pending ≡ []) }
-    // of the disk only the count of failures has changed, and nothing has failed where all images were written
+    // of the disk only what is counted has changed, and nothing has failed where all images were written
     ensures alone { LaysAlone D.models (D.InPlace.size onto.old) (D.InPlace.size onto.new) (D.held disk.old)
         (D.held disk.new)
         (D.world disk.old) (D.world disk.new) }
     ensures clean { IsTrue D.models → AllByRecursion (λ one. D.At.read_faults one.source ≡ 0) kept.entry.items →
-        OnOk result ((D.held disk.new).failed + D.InPlace.put_faults onto.new
-        ≡ (D.held disk.old).failed + D.InPlace.put_faults onto.old) }
+        OnOk result (HasNotFailed (D.held disk.old) (D.held disk.new)
+        × (D.InPlace.put_faults onto.new ≡ D.InPlace.put_faults onto.old)) }
     ensures refused { IsTrue D.models → (blocks : ℕ) → (block : ℕ) → D.InPlace.size onto.old ≡ blocks * block →
         AllByRecursion (IsImageOf blocks block) (map (λ one. D.At.content one.source) kept.entry.items) →
         AllByRecursion (λ one. D.At.read_faults one.source ≡ 0) kept.entry.items →
-        IfErr result (λ refusal. IsNotLaid refusal.fault ((D.held disk.old).failed + D.InPlace.put_faults onto.old)
-        ((D.held disk.new).failed + D.InPlace.put_faults onto.new)) }
+        IfErr result (λ refusal. IsNotLaid refusal.fault
+        ((D.held disk.old).counts.failed reading) ((D.held disk.new).counts.failed reading)
+        ((D.held disk.old).counts.failed writing + D.InPlace.put_faults onto.old)
+        ((D.held disk.new).counts.failed writing + D.InPlace.put_faults onto.new)) }
 {
     let mut kept = kept;
     'images: loop {
@@ -88,13 +92,16 @@ fn lay_one<'a, D: Disk>(
     ensures alone { LaysAlone D.models (D.InPlace.size onto.old) (D.InPlace.size onto.new) (D.held disk.old)
         (D.held disk.new)
         (D.world disk.old) (D.world disk.new) }
-    ensures clean { IsTrue D.models → OnOk result ((D.held disk.new).failed + D.InPlace.put_faults onto.new
-        ≡ (D.held disk.old).failed + D.InPlace.put_faults onto.old + D.At.read_faults one.entry.source) }
+    ensures clean { IsTrue D.models → OnOk result (((cause : Cause) → (D.held disk.new).counts.failed cause
+        ≡ (D.held disk.old).counts.failed cause + of_reading (D.At.read_faults one.entry.source) cause)
+        × (D.InPlace.put_faults onto.new ≡ D.InPlace.put_faults onto.old)) }
     ensures refused { IsTrue D.models → (blocks : ℕ) → (block : ℕ) → D.InPlace.size onto.old ≡ blocks * block →
         IsImageOf blocks block (D.At.content one.entry.source) →
         IfErr result (λ refusal. IsNotLaid refusal.fault
-        ((D.held disk.old).failed + D.InPlace.put_faults onto.old + D.At.read_faults one.entry.source)
-        ((D.held disk.new).failed + D.InPlace.put_faults onto.new)) }
+        ((D.held disk.old).counts.failed reading + D.At.read_faults one.entry.source)
+        ((D.held disk.new).counts.failed reading)
+        ((D.held disk.old).counts.failed writing + D.InPlace.put_faults onto.old)
+        ((D.held disk.new).counts.failed writing + D.InPlace.put_faults onto.new)) }
 {
     let OpenedImage { source, place, .. } = one;
     let mut source = source;
@@ -153,8 +160,8 @@ fn flash_one<S: Source, P: Partition>(
         (P.put_faults onto.old) (P.put_faults onto.new) }
     ensures refused { IsTrue S.models → (blocks : ℕ) → (block : ℕ) → P.size onto.old ≡ blocks * block →
         IsImageOf blocks block (S.content from.old.device.source) → IfErr result (λ fault. IsNotFlashed fault
-        (P.put_faults onto.old + S.read_faults from.old.device.source)
-        (P.put_faults onto.new + S.read_faults from.new.device.source)) }
+        (S.read_faults from.old.device.source) (S.read_faults from.new.device.source)
+        (P.put_faults onto.old) (P.put_faults onto.new)) }
 {
     flash(from, onto, w, m)
 }

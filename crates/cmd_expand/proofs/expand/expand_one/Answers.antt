@@ -1,16 +1,17 @@
-use Rattle.std.proofs.Common.{rules, refl, ◌+◌, true, false, Ok, subst}
+use Rattle.std.proofs.Common.{rules, refl, true, false, Ok, subst}
 use Rattle.sys_disk.proofs.Worlds.{only_written}
 use Rattle.sys_report.proofs.Beside.{beside}
 use Rattle.cmd_expand.specs.Expanding.{ExpandingSays}
+use Rattle.sys_disk.specs.Counts.{added, reads, writes}
 use Rattle.cmd_expand.proofs.Files.{clean_behind, ends_behind, expands, failed_behind, failed_first, failed_second}
-use Rattle.cmd_expand.proofs.Files.{handed_on, holds_left, leaves_expanded, of_failed, of_unprinted, refuses}
-use Rattle.cmd_expand.proofs.Files.{rest_behind, spared_created, synced_once}
+use Rattle.cmd_expand.proofs.Files.{failed_since, given_behind, handed_on, holds_left, leaves_expanded, of_failed}
+use Rattle.cmd_expand.proofs.Files.{of_unprinted, refuses, rest_behind, spared_created, synced_once}
 use Rattle.cmd_expand.proofs.expand.expand_one.Goals as goal
 
 pub returns-in_err-from-clause-refused : goal.returns-in_err-from-clause-refused
 returns-in_err-from-clause-refused g c = λ t.
     handed_on c.from_residual.result _ _
-    (λ r made. of_failed _ _ _ _ _ _ _ r.fault (_, made) (failed_first _ _ (c.in_err-from.ensures.kept t)))
+    (λ r made. of_failed _ _ _ _ _ _ _ r.fault (_, made, failed_first _ _ _ (c.in_err-from.ensures.kept t)))
     c.from_residual.ensures.1
 
 pub returns-in_err-onto-clause-leaves : goal.returns-in_err-onto-clause-leaves
@@ -22,8 +23,11 @@ returns-in_err-onto-clause-leaves g c = λ t.
 pub returns-in_err-onto-clause-refused : goal.returns-in_err-onto-clause-refused
 returns-in_err-onto-clause-refused g c = λ t.
     handed_on c.from_residual-in_err-onto.result _ _
-    (λ r made. of_failed _ _ _ _ _ _ _ r.fault (_, made)
-    (failed_second _ _ _ _ _ _ (c.in_ok-from.ensures.opened t) (c.in_err-onto.ensures.kept t)))
+    (λ r made. of_failed _ _ _ _ _ _ _ r.fault (
+      _,
+      made,
+      failed_second _ _ _ _ _ _ _ (c.in_ok-from.ensures.opened t) (c.in_err-onto.ensures.kept t),
+    ))
     c.from_residual-in_err-onto.ensures.1
 
 pub returns-in-Err-clause-leaves : goal.returns-in-Err-clause-leaves
@@ -54,8 +58,9 @@ returns-in-Ok-printed-clause-leaves g c = λ t.
     (g.D.Onto.Output.write_faults c.expanded-answer.new.onto) (c.in-Ok.ensures.closed t).more c.in-Ok.ensures.done
     c.expanded-answer.ensures.blames (c.in_ok-from.ensures.clean t) (c.in_ok-onto.ensures.clean t)
     ((c.in-Ok.ensures.closed t).clean refl)
-    (failed_behind _ _ _ _ _ _ _ _ _ _ _ (g.D.From.Input.read_faults c.expanded-answer.new.from.device)
-    ((c.in-Ok.ensures.closed t).more + (g.D.Onto.Output.write_faults c.expanded-answer.new.onto)) true
+    (failed_behind _ _ _ _ _ _ _ _ _ _ _ (reads (g.D.From.Input.given c.expanded-answer.new.from.device)
+    (g.D.From.Input.read_faults c.expanded-answer.new.from.device))
+    (added (c.in-Ok.ensures.closed t).more (writes (g.D.Onto.Output.write_faults c.expanded-answer.new.onto))) true
     (c.in_ok-from.ensures.opened t) (c.in_ok-onto.ensures.created t) (c.let_go.ensures.held t)
     (c.in-Ok.ensures.closed t).closed))
 
@@ -64,16 +69,25 @@ returns-in-Err-clause-refused g c = λ t.
     refuses _ _ _ _ _ _ (g.D.Disk.held c.args.disk.now) _ (g.D.Disk.held c.ended.new.disk) _ _ c.expanded-answer.result
     c.in-Err.refusal.fault _ (g.D.From.Input.read_faults c.expanded-answer.new.from.device) _
     (g.D.Onto.Output.write_faults c.expanded-answer.new.onto) (c.in-Err.ensures.closed t).more
-    _ (c.in_ok-from.ensures.opened t)
-    (c.in_ok-from.ensures.clean t) (c.in_ok-onto.ensures.clean t)
-    (failed_behind _ _ _ _ _ _ _ _ _ _ _ (g.D.From.Input.read_faults c.expanded-answer.new.from.device)
-    ((c.in-Err.ensures.closed t).more + (g.D.Onto.Output.write_faults c.expanded-answer.new.onto)) false
+    _ (c.in_ok-from.ensures.opened t) (c.in_ok-from.ensures.clean t)
+    (failed_behind _ _ _ _ _ _ _ _ _ _ _ (reads (g.D.From.Input.given c.expanded-answer.new.from.device)
+    (g.D.From.Input.read_faults c.expanded-answer.new.from.device))
+    (added (c.in-Err.ensures.closed t).more (writes (g.D.Onto.Output.write_faults c.expanded-answer.new.onto))) false
     (c.in_ok-from.ensures.opened t) (c.in_ok-onto.ensures.created t) (c.let_go.ensures.held t)
     (c.in-Err.ensures.closed t).closed)
-    (λ ok. (c.in-Err.ensures.closed t).cause ok refl)
     (c.expanded-answer.ensures.says (g.met.D.Disk.told t)) c.expanded-answer.ensures.blames
-    c.in-Err.ensures.host c.in-Err.ensures.told c.in_ok-onto.ensures.empty
+    (λ ok. let told = c.in-Err.ensures.host ok in (
+      told.0,
+      told.1,
+      failed_since _ _ _ _ _ _ _ (g.D.Disk.held c.ended.new.disk) _ _ _ _ _ told.0
+          (c.in_ok-from.ensures.opened t)
+          (c.in_ok-onto.ensures.created t) (c.let_go.ensures.held t) (told.2 t),
+    ))
+    c.in-Err.ensures.told c.in_ok-onto.ensures.empty
     (c.expanded-answer.ensures.begun (g.met.D.Disk.told t))
+    (given_behind _ _ _ _ _ _ _ _ _ _ _ _ _ _ _ _ false (c.in_ok-from.ensures.opened t)
+    (c.in_ok-onto.ensures.created t) (c.let_go.ensures.held t) (c.in-Err.ensures.closed t).closed
+    (c.in-Err.ensures.closed t).unread (c.in_ok-from.ensures.unread t))
     (λ none. holds_left _ _ _ _ _ _ _ (c.in_ok-onto.ensures.created t) (ends_behind _ _ _ _ _ _ _
     (c.let_go.ensures.held t) (c.let_go.ensures.world t) ((c.in-Err.ensures.closed t).left none)))
 

@@ -2,8 +2,10 @@ use Rattle.std.proofs.Common.{rules, inl, inr, ◌∙◌, refl, sym, ap}
 use Rattle.std.proofs.lemmas.List.{length-map}
 use Rattle.sys_report.proofs.Beside.{beside}
 use Rattle.cmd_expand.proofs.Files.{handed_on}
-use Rattle.cmd_expand.proofs.Overlays.{as_long, breaks_over, clean_closing, failed_closing, failed_in_all}
-use Rattle.cmd_expand.proofs.Overlays.{failed_laying, failed_zeros, from_files, from_laying}
+use Rattle.sys_disk.specs.Counts.{no_counts}
+use Rattle.cmd_common_sparse.specs.declared.fault.SparseCommandFault.TheVariants as faults
+use Rattle.cmd_expand.proofs.Overlays.{as_long, breaks_over, clean_closing, counts_in_all, failed_closing}
+use Rattle.cmd_expand.proofs.Overlays.{failed_reading, failed_writing, failed_zeros, from_files, from_laying}
 use Rattle.cmd_expand.proofs.Overlays.{from_opening, lands, leaves_overlaid, overlays, sized, synced}
 use Rattle.cmd_expand.proofs.Overlays.{spared_made, zeros_long}
 use Rattle.cmd_expand.proofs.Lists.{keeps_all_same}
@@ -30,8 +32,8 @@ returns-in_err-zeros-clause-leaves g c = λ t.
 pub returns-in_err-zeros-clause-refused : goal.returns-in_err-zeros-clause-refused
 returns-in_err-zeros-clause-refused g c = λ t.
     handed_on c.from_residual.result _ _
-    (λ r made. from_files _ r.fault _ _ _ _ _ _ (_, made)
-    (inl (failed_zeros _ _ _ _ _ _ (c.in-Ok.ensures.opened t) (c.in_err-zeros.ensures.kept t))))
+    (λ r made. from_files _ r.fault _ _ _ _ _ _
+    (inl (_, made, failed_zeros _ _ _ _ _ _ _ (c.in-Ok.ensures.opened t) (c.in_err-zeros.ensures.kept t))))
     c.from_residual.ensures.1
 
 pub close-end-requires : goal.close-end-requires
@@ -63,11 +65,10 @@ returns-in-Err-answer-clause-refused g c = λ t.
     let h3 = g.D.Disk.held c.lay_all-answer.new.disk in
     let h4 = g.D.Disk.held c.close-end.new.self in
     let failures = g.D.InPlace.Partition.put_faults c.lay_all-answer.new.onto in
-    let counts = failed_in_all _ _ _ _ _ _ _ failures _ (g.D.InPlace.Partition.past c.lay_all-answer.new.onto) h _ h2
-    h3 h4
-    opened (c.in_ok-zeros.ensures.made t) (c.close-end.ensures.closed t) in
-    from_laying _ c.in-Err-answer.refusal.fault _ _ _ _ h h4 _ _
-    (failed_laying h h2 h3 h4 _ failures _ counts (c.in_ok-zeros.ensures.clean t))
+    let counts = counts_in_all _ _ _ _ _ _ _ failures _ (g.D.InPlace.Partition.past c.lay_all-answer.new.onto) h _ h2
+    h3 h4 opened (c.in_ok-zeros.ensures.made t) (c.close-end.ensures.closed t) in
+    from_laying _ c.in-Err-answer.refusal.fault _ _ _ _ h h4 _ _ _ _ (failed_reading h h2 h3 h4 failures _ counts)
+    (failed_writing h h2 h3 h4 _ failures _ counts (c.in_ok-zeros.ensures.clean t))
     (breaks_over c.in-Err-answer.refusal.fault _ _ _ _ _ _ _ _ _ _ _ _ _ _ _ _ c.whole_of-blocks.ensures opened
     (c.in-Ok.ensures.shape t) (c.in_ok-zeros.ensures.made t) (c.open_all.ensures.alone t).world
     (c.in_ok-zeros.ensures.zeros t) (c.in-Err-answer.ensures.broken t) (c.lay_all-answer.ensures.alone.world t)
@@ -90,12 +91,13 @@ returns-in-Err-end-clause-refused g c = λ t.
     let h3 = g.D.Disk.held c.lay_all-answer.new.disk in
     let h4 = g.D.Disk.held c.close-end.new.self in
     let failures = g.D.InPlace.Partition.put_faults c.lay_all-answer.new.onto in
-    let counts = failed_in_all _ _ _ _ _ _ _ failures _ (g.D.InPlace.Partition.past c.lay_all-answer.new.onto) h _ h2
-    h3 h4
-    opened (c.in_ok-zeros.ensures.made t) (c.in-Err-end.ensures.closed t) in
-    from_files _ c.into.result.fault _ _ _ _ _ _ (_, c.into.ensures) (inl
-    (failed_closing h h2 h3 h4 _ failures _ counts (c.in_ok-zeros.ensures.clean t)
-    (c.in-Ok-answer.ensures.clean t (c.in-Ok.ensures.clean t)) refl))
+    let counts = counts_in_all _ _ _ _ _ _ _ failures _ (g.D.InPlace.Partition.past c.lay_all-answer.new.onto) h _ h2
+    h3 h4 opened (c.in_ok-zeros.ensures.made t) (c.in-Err-end.ensures.closed t) in
+    from_files _ c.into.result.fault _ _ _ _ _ _ (inl (
+      _,
+      c.into.ensures ∙ ap faults.Host c.begun.ensures,
+      failed_closing _ h h2 h3 h4 failures counts (c.lay_all-answer.ensures.alone.held t),
+    ))
 
 pub returns-in-Err-printed-clause-leaves : goal.returns-in-Err-printed-clause-leaves
 returns-in-Err-printed-clause-leaves g c = λ t.
@@ -107,12 +109,15 @@ returns-in-Err-printed-clause-leaves g c = λ t.
 
 pub returns-in-Err-printed-clause-refused : goal.returns-in-Err-printed-clause-refused
 returns-in-Err-printed-clause-refused g c = λ t.
-    from_files _ c.into-in-Err-printed.result.fault _ _ _ _ _ _ (_, c.into-in-Err-printed.ensures) (inr
-    (overlays _ _ _ _ _ _ _ _ _ _ _ _ _ _ _ _ _ c.whole_of-blocks.ensures (c.in-Ok.ensures.opened t)
-    (c.in-Ok.ensures.shape t) (c.in-Ok.ensures.turn t) (c.in_ok-zeros.ensures.made t) (c.open_all.ensures.alone t).world
-    (c.in_ok-zeros.ensures.zeros t)
-    (c.in-Ok-answer.ensures.laid t) (c.lay_all-answer.ensures.alone.world t) (c.lay_all-answer.ensures.alone.held t)
-    (c.close-end.ensures.ended t) (c.close-end.ensures.paths t) c.in-Err-printed.ensures.refused))
+    from_files _ c.into-in-Err-printed.result.fault _ _ _ _ _ _ (inr (
+      (_, c.into-in-Err-printed.ensures),
+      overlays _ _ _ _ _ _ _ _ _ _ _ _ _ _ _ _ _ c.whole_of-blocks.ensures (c.in-Ok.ensures.opened t)
+          (c.in-Ok.ensures.shape t) (c.in-Ok.ensures.turn t) (c.in_ok-zeros.ensures.made t)
+          (c.open_all.ensures.alone t).world (c.in_ok-zeros.ensures.zeros t)
+          (c.in-Ok-answer.ensures.laid t) (c.lay_all-answer.ensures.alone.world t)
+          (c.lay_all-answer.ensures.alone.held t)
+          (c.close-end.ensures.ended t) (c.close-end.ensures.paths t) c.in-Err-printed.ensures.refused,
+    ))
 
 pub returns-in-Ok-printed-clause-leaves : goal.returns-in-Ok-printed-clause-leaves
 returns-in-Ok-printed-clause-leaves g c = λ t.
@@ -122,15 +127,15 @@ returns-in-Ok-printed-clause-leaves g c = λ t.
     let h3 = g.D.Disk.held c.lay_all-answer.new.disk in
     let h4 = g.D.Disk.held c.close-end.new.self in
     let failures = g.D.InPlace.Partition.put_faults c.lay_all-answer.new.onto in
-    let counts = failed_in_all _ _ _ _ _ _ _ failures _ (g.D.InPlace.Partition.past c.lay_all-answer.new.onto) h _ h2
-    h3 h4
-    opened (c.in_ok-zeros.ensures.made t) (c.in-Ok-end.ensures.closed t) in
+    let counts = counts_in_all _ _ _ _ _ _ _ failures _ (g.D.InPlace.Partition.past c.lay_all-answer.new.onto) h _ h2
+    h3 h4 opened (c.in_ok-zeros.ensures.made t) (c.in-Ok-end.ensures.closed t) in
+    let laid = c.in-Ok-answer.ensures.clean t (c.in-Ok.ensures.clean t) in
     leaves_overlaid _ _ _ _ _ _ _ _ _ _ (c.in-Ok.ensures.opened t) refl (lands _ _ _ _ _ _ _ _ _ _ _
     (c.in_ok-zeros.ensures.made t) (c.open_all.ensures.alone t).world
     (c.lay_all-answer.ensures.alone.world t) (c.lay_all-answer.ensures.alone.held t) (c.close-end.ensures.ended t)
     (c.close-end.ensures.paths t)) (spared_made _ _ _ _ _ _ _ _ (c.in_ok-zeros.ensures.made t))
-    (search rules) (clean_closing h h2 h3 h4 _ failures _ counts (c.in_ok-zeros.ensures.clean t)
-    (c.in-Ok-answer.ensures.clean t (c.in-Ok.ensures.clean t)) refl)
+    (search rules) (clean_closing h h2 h3 h4 _ failures no_counts counts (c.in_ok-zeros.ensures.clean t) laid.0 laid.1
+    (λ cause. refl))
 
 pub returns-in-Ok-printed-clause-synced : goal.returns-in-Ok-printed-clause-synced
 returns-in-Ok-printed-clause-synced g c = λ t.

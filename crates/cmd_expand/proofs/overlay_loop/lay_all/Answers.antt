@@ -2,8 +2,8 @@ use Rattle.std.proofs.Common.{◌≡◌, length, map, sym, ◌∙◌, ap, subst,
 use Rattle.std.specs.List.{AllByRecursion}
 use Rattle.abt_sparse.specs.Pieces.{flashed_in_turn}
 use Rattle.cmd_expand.specs.Overlaying.{IsImageOf}
-use Rattle.cmd_expand.proofs.Lays.{breaks_among, fails_none, fails_then, laid_as, laid_more, laid_next, laid_none}
-use Rattle.cmd_expand.proofs.Lays.{nothing_left}
+use Rattle.cmd_expand.proofs.Lays.{breaks_among, even_read, even_then, even_written, fails_none, fails_then, laid_as}
+use Rattle.cmd_expand.proofs.Lays.{laid_more, laid_next, laid_none, nothing_left}
 use Rattle.cmd_expand.proofs.overlay_loop.lay_all.Goals as goal
 
 pub images-init : goal.images-init
@@ -15,7 +15,7 @@ images-init g c = record {
   settled = λ t e. e;
   world = λ t. refl;
   held = λ t. fails_none _ _ refl;
-  clean = λ t all. (all, refl);
+  clean = λ t all. (all, λ cause. refl, refl);
   images = λ t n b all. all;
 }
 
@@ -37,7 +37,12 @@ images-preserved g c =
       clean = λ t all.
           let all_now = i.clean t all in
           let s = subst (λ q. AllByRecursion (λ one. g.D.At.Source.read_faults one.source ≡ 0) q) items all_now.0 in
-          (s.1, omega (arith, c.in-Ok.ensures.clean t, all_now.1, s.0));
+          let own = c.in-Ok.ensures.clean t in (
+            s.1,
+            even_then (g.D.Disk.held c.args.disk.now) (g.D.Disk.held c.images.disk)
+                (g.D.Disk.held c.lay_one.new.disk) _ all_now.1 own.0 s.0,
+            own.1 ∙ all_now.2,
+          );
       images = λ t n b all.
           (subst (λ q. AllByRecursion (IsImageOf n b) (map (λ one. g.D.At.Source.content one.source) q)) items
           (i.images t n b all)).1;
@@ -54,7 +59,10 @@ returns-in-Err-clause-refused g c = λ t n b sized images clean.
     let s = subst (λ q. AllByRecursion (λ one. g.D.At.Source.read_faults one.source ≡ 0) q) items all_now.0 in
     let image = (subst (λ q. AllByRecursion (IsImageOf n b) (map (λ one. g.D.At.Source.content one.source) q)) items
     (i.images t n b images)).0 in
-    laid_as c.in-Err.refusal.fault _ _ _ (omega (arith, all_now.1, s.0))
+    let h = g.D.Disk.held c.args.disk.now in
+    let h1 = g.D.Disk.held c.images.disk in
+    laid_as c.in-Err.refusal.fault _ _ _ _ _ _ (even_read h h1 _ all_now.1 s.0)
+    (even_written h h1 _ _ all_now.1 all_now.2)
     (c.in-Err.ensures.refused t n b (i.size ∙ sized) image)
 
 pub returns-in-Err-clause-broken : goal.returns-in-Err-clause-broken

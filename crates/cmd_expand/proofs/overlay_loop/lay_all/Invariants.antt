@@ -2,6 +2,7 @@ use Rattle.std.proofs.Common.{◌≡◌, ℕ, ◌+◌, [], length, map}
 use Rattle.std.specs.Prelude.{IsTrue}
 use Rattle.std.specs.List.{AllByRecursion}
 use Rattle.abt_sparse.specs.Pieces.{flashed_in_turn}
+use Rattle.sys_disk.specs.World.{HasNotFailed}
 use Rattle.cmd_expand.specs.Overlaying.{IsImageOf}
 use Rattle.cmd_expand.specs.Steps.{AreLaidBefore, FailsAlone}
 use Rattle.cmd_expand.proofs.overlay_loop.lay_all.Given as goal
@@ -27,8 +28,8 @@ invariant-images g l = record {
   held : IsTrue g.D.Disk.models → FailsAlone (g.D.Disk.held l.initial.disk) (g.D.Disk.held l.disk);
   clean : IsTrue g.D.Disk.models → AllByRecursion (λ one. g.D.At.Source.read_faults one.source ≡ 0) l.initial.kept.items
       → AllByRecursion (λ one. g.D.At.Source.read_faults one.source ≡ 0) l.kept.items
-      × ((g.D.Disk.held l.disk).failed + g.D.InPlace.Partition.put_faults l.onto
-      ≡ (g.D.Disk.held l.initial.disk).failed + g.D.InPlace.Partition.put_faults l.initial.onto);
+      × HasNotFailed (g.D.Disk.held l.initial.disk) (g.D.Disk.held l.disk)
+      × (g.D.InPlace.Partition.put_faults l.onto ≡ g.D.InPlace.Partition.put_faults l.initial.onto);
   images : IsTrue g.D.Disk.models → (blocks block : ℕ)
       → AllByRecursion (IsImageOf blocks block) (map (λ one. g.D.At.Source.content one.source) l.initial.kept.items)
       → AllByRecursion (IsImageOf blocks block) (map (λ one. g.D.At.Source.content one.source) l.kept.items);

@@ -1,4 +1,4 @@
-use Rattle.std.proofs.Common.{◌≡◌, ◌+◌, sym, ◌∙◌, ap, subst}
+use Rattle.std.proofs.Common.{◌≡◌, sym, ◌∙◌, ap, subst}
 use Rattle.std.specs.Prelude.{IfErr}
 use Rattle.abt_sparse.specs.Pieces.{flashed}
 use Rattle.cmd_expand.specs.Overlaying.{IsImageOf}
@@ -32,11 +32,12 @@ returns-in-Ok-clause-alone g c = record {
 pub returns-in-Ok-clause-clean : goal.returns-in-Ok-clause-clean
 returns-in-Ok-clause-clean g c = λ t.
     let even = done_even c.flash_one-answer.result c.in-Ok.field-0 _ _ _ _ c.in-Ok.ensures.done
-    c.flash_one-answer.ensures.cause in
-    even_behind (g.D.Disk.held c.args.disk.now) (g.D.Disk.held c.let_go_source.new.self)
-    (g.D.At.Source.read_faults c.args.one.source) _ (g.D.InPlace.Partition.put_faults c.args.onto.now)
-    (g.D.InPlace.Partition.put_faults c.flash_one-answer.new.onto) (c.let_go_source.ensures.held t)
-    (even.0 ∙ ap g.D.At.Source.read_faults c.new.ensures.source ∙ c.forget.ensures.faults) even.1
+    c.flash_one-answer.ensures.cause in (
+      even_behind (g.D.Disk.held c.args.disk.now) (g.D.Disk.held c.let_go_source.new.self) _
+          (g.D.At.Source.read_faults c.args.one.source) _ (c.let_go_source.ensures.held t)
+          (even.0 ∙ ap g.D.At.Source.read_faults c.new.ensures.source ∙ c.forget.ensures.faults),
+      even.1,
+    )
 
 pub returns-in-Err-clause-broken : goal.returns-in-Err-clause-broken
 returns-in-Err-clause-broken g c = λ t.
@@ -62,12 +63,11 @@ returns-in-Err-clause-refused g c = λ t blocks block sized image.
     let content : g.D.At.Source.content c.new.result.source ≡ g.D.At.Source.content c.args.one.source
     = ap g.D.At.Source.content c.new.ensures.source ∙ c.forget.ensures.content told in
     blamed_behind c.flash_one-answer.result c.in-Err.fault c.refuse.result.fault (g.D.Disk.held c.args.disk.now)
-    (g.D.Disk.held c.let_go_source.new.self) (g.D.At.Source.read_faults c.args.one.source) _
+    (g.D.Disk.held c.let_go_source.new.self) _ (g.D.At.Source.read_faults c.args.one.source) _
     (g.D.InPlace.Partition.put_faults c.args.onto.now) (g.D.InPlace.Partition.put_faults c.flash_one-answer.new.onto)
     (sym (c.in-Err.ensures.whole (c.shorter.ensures told))) c.refuse.ensures.fault (c.let_go_source.ensures.held t)
-    (subst (λ k. IfErr c.flash_one-answer.result (λ f. IsNotFlashed f
-    (g.D.InPlace.Partition.put_faults c.args.onto.now +
-    k)
-    (g.D.InPlace.Partition.put_faults c.flash_one-answer.new.onto
-    + g.D.At.Source.read_faults c.flash_one-answer.new.from.device.source))) same
+    (subst (λ k. IfErr c.flash_one-answer.result (λ f. IsNotFlashed f k
+    (g.D.At.Source.read_faults c.flash_one-answer.new.from.device.source)
+    (g.D.InPlace.Partition.put_faults c.args.onto.now)
+    (g.D.InPlace.Partition.put_faults c.flash_one-answer.new.onto))) same
     (c.flash_one-answer.ensures.refused told blocks block sized (subst (IsImageOf blocks block) (sym content) image)))
