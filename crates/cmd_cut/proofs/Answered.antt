@@ -14,7 +14,8 @@ use Rattle.abt_placed.proofs.Refusing.{refused, unfinished_by}
 use Rattle.sys_disk.specs.Images.{HasNoFront, Leaves}
 use Rattle.sys_disk.specs.World.{World, Ends}
 use Rattle.cmd_common_sparse.specs.Blocks.{IsRawBlockSize, most_of}
-use Rattle.cmd_cut.specs.Sparsing.{HoldsNoSparse, IsOfPieceDevices, IsWritten, HoldsWritten, LeavesNoneOrSparse}
+use Rattle.cmd_cut.specs.Sparsing.{DevicesFail, HoldsNoSparse, IsOfPieceDevices, IsWritten, HoldsWritten}
+use Rattle.cmd_cut.specs.Sparsing.{LeavesNoneOrSparse}
 
 -- nothing stood there before
 pub broken : (old new : List ℕ) → old ≡ [] → (new ≡ old) ⊎ IsNoImage (drop (length old) new) → HoldsNoSparse new
@@ -35,11 +36,11 @@ written u size most x old new a empty is counts more whole =
           ∙ ap (λ r. spelling size r (raw_list u size x)) is;
     }
 
--- the block size is one that the image has
+-- the block size is one that the image has, so the device failed that the fault is of
 pub outside : (e : PieceFault) (b long : ℕ) (models : Bool) (r r' w w' : ℕ) → IsTrue models → IsRawBlockSize b
-    → long ≤ (2 ^ 32 - 1) * b → SparsifyCause e b long models r r' w w' → IsOfPieceDevices e
-outside (pieces.Read f) b long models r r' w w' t sized few cause = tt
-outside (pieces.Write f) b long models r r' w w' t sized few cause = tt
+    → long ≤ (2 ^ 32 - 1) * b → SparsifyCause e b long models r r' w w' → IsOfPieceDevices (DevicesFail r r' w w') e
+outside (pieces.Read f) b long models r r' w w' t sized few cause = cause.0
+outside (pieces.Write f) b long models r r' w w' t sized few cause = cause
 outside pieces.SourceChanged b long models r r' w w' t sized few cause = absurd (false≢true (sym cause ∙ t))
 outside pieces.TooLarge b long models r r' w w' t sized few cause = absurd (omega (arith, few, cause.1))
 outside (pieces.BadBlock n) b long models r r' w w' t sized few cause = absurd (cause.1 sized)

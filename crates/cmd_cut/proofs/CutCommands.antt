@@ -16,8 +16,8 @@ use Rattle.sys_refusals.specs.Paths.{path_out, path_of, is_standard, numbered, i
 use Rattle.sys_refusals.specs.declared.place.FileArg.{FileArg}
 use Rattle.cmd_common_sparse.specs.PieceNames.{Naming, naming_of, number_in_turn}
 use Rattle.cmd_common_sparse.specs.declared.piece_files.PieceNaming.{PieceNaming}
-use Rattle.sys_disk.specs.World.{World, OpenFiles}
-use Rattle.cmd_cut.specs.Cutting.{AddsNone, AddsPiece, AreApart, CutsSoFar, IsFirstPiecePath, IsPiecePath}
+use Rattle.sys_disk.specs.World.{World, OpenFiles, MayWrite}
+use Rattle.cmd_cut.specs.Cutting.{AddsNone, AddsPiece, AreApart, CutsSoFar, IsFirstPiecePath, MayWritePiece}
 use Rattle.cmd_cut.specs.Cutting.{PieceStands, OnlyLeaves, PiecesStand, path_in_turn, piece_path}
 use Rattle.sys_disk.specs.Among.{GoesAmong, IsMade, KeepsMade}
 use Rattle.sys_disk.proofs.Amongs.{made_later, goes_more, goes_still, goes_then}
@@ -27,7 +27,8 @@ use Rattle.sys_disk.proofs.Amongs.{made_later, goes_more, goes_still, goes_then}
 pub cuts_none : (names : Naming) (ps : List (List ℕ)) (m : ℕ) (h : OpenFiles) (a : World) → h.output ≡ None
     → CutsSoFar names ps 0 m h h a a
 cuts_none names ps m h a closed = record {
-  goes = goes_still (IsFirstPiecePath names m) h a;
+  goes = goes_still (IsFirstPiecePath names m h) h a;
+  may = λ p may. may;
   stand = λ j below. absurd (omega (arith, below));
   apart = λ i j f first next at. absurd (omega (arith, next));
   closed = closed;
@@ -87,20 +88,26 @@ apart_later names ps n h h' a b keeps stand apart = λ i j f first next at at'.
 
 -- of which the files are
 one_more : (names : Naming) (n : ℕ) (path : List ℕ) (h h' h'' : OpenFiles) (a b c : World)
-    → path ≡ path_in_turn names (n + 1) → GoesAmong (IsFirstPiecePath names n) h h' a b
-    → GoesAmong (λ p. p ≡ path) h' h'' b c → GoesAmong (IsFirstPiecePath names (n + 1)) h h'' a c
-one_more names n path h h' h'' a b c is_path first next =
-    goes_then (IsFirstPiecePath names (n + 1)) h h' h'' a b c
-    (goes_more (IsFirstPiecePath names n) (IsFirstPiecePath names (n + 1)) h h' a b
-    (λ p is. record { index = is.index; below = omega (arith, is.below); is_path = is.is_path }) first)
-    (goes_more (λ p. p ≡ path) (IsFirstPiecePath names (n + 1)) h' h'' b c
-    (λ p same. record { index = n; below = omega arith; is_path = same ∙ is_path }) next)
+    → path ≡ path_in_turn names (n + 1) → GoesAmong (IsFirstPiecePath names n h) h h' a b
+    → ((p : List ℕ) → MayWrite p h' → MayWrite p h) → GoesAmong (λ p. (p ≡ path) × MayWrite p h') h' h'' b c
+    → GoesAmong (IsFirstPiecePath names (n + 1) h) h h'' a c
+one_more names n path h h' h'' a b c is_path first may next =
+    goes_then (IsFirstPiecePath names (n + 1) h) h h' h'' a b c
+    (goes_more (IsFirstPiecePath names n h) (IsFirstPiecePath names (n + 1) h) h h' a b
+    (λ p is. record {
+      allowed = is.allowed;
+      index = is.index;
+      below = omega (arith, is.below);
+      is_path = is.is_path;
+    }) first)
+    (goes_more (λ p. (p ≡ path) × MayWrite p h') (IsFirstPiecePath names (n + 1) h) h' h'' b c
+    (λ p is. record { allowed = may p is.1; index = n; below = omega arith; is_path = is.0 ∙ is_path }) next)
 
 pub cuts_left : (names : Naming) (ps : List (List ℕ)) (n m : ℕ) (h h' : OpenFiles) (a b : World)
-    → CutsSoFar names ps n m h h' a b → OnlyLeaves (IsPiecePath names.prefix) h h' a b
+    → CutsSoFar names ps n m h h' a b → OnlyLeaves (MayWritePiece names.prefix h) h h' a b
 cuts_left names ps n m h h' a b cuts = record {
-  only = goes_more (IsFirstPiecePath names m) (IsPiecePath names.prefix) h h' a b
-      (λ p is. (number_in_turn names.from_zero (is.index + 1), is.is_path)) cuts.goes;
+  only = goes_more (IsFirstPiecePath names m h) (MayWritePiece names.prefix h) h h' a b
+      (λ p is. ((number_in_turn names.from_zero (is.index + 1), is.is_path), is.allowed)) cuts.goes;
   closed = cuts.closed;
 }
 
@@ -111,9 +118,10 @@ synced_more false s s' s'' n first next = omega (arith, first, next)
 
 pub cuts_more : (names : Naming) (ps : List (List ℕ)) (n : ℕ) (path : List ℕ) (h h' h'' : OpenFiles) (a b c : World)
     → path ≡ path_in_turn names (n + 1) → CutsSoFar names ps n n h h' a b → AddsPiece ps n path h' h'' b c
-    → GoesAmong (λ p. p ≡ path) h' h'' b c → CutsSoFar names ps (n + 1) (n + 1) h h'' a c
+    → GoesAmong (λ p. (p ≡ path) × MayWrite p h') h' h'' b c → CutsSoFar names ps (n + 1) (n + 1) h h'' a c
 cuts_more names ps n path h h' h'' a b c is_path cuts adds goes = record {
-  goes = one_more names n path h h' h'' a b c is_path cuts.goes goes;
+  goes = one_more names n path h h' h'' a b c is_path cuts.goes cuts.may goes;
+  may = λ p may. cuts.may p (adds.may p may);
   stand = below_more (λ j. PieceStands names ps j h'' c) n (stands_later names ps n h' h'' b c adds.keeps cuts.stand)
       (record {
         bytes = adds.bytes;
@@ -131,9 +139,10 @@ cuts_more names ps n path h h' h'' a b c is_path cuts adds goes = record {
 -- it could not be written
 pub cuts_stop : (names : Naming) (ps : List (List ℕ)) (n : ℕ) (path : List ℕ) (h h' h'' : OpenFiles) (a b c : World)
     → path ≡ path_in_turn names (n + 1) → CutsSoFar names ps n n h h' a b → AddsNone h' h'' b c
-    → GoesAmong (λ p. p ≡ path) h' h'' b c → CutsSoFar names ps n (n + 1) h h'' a c
+    → GoesAmong (λ p. (p ≡ path) × MayWrite p h') h' h'' b c → CutsSoFar names ps n (n + 1) h h'' a c
 cuts_stop names ps n path h h' h'' a b c is_path cuts none goes = record {
-  goes = one_more names n path h h' h'' a b c is_path cuts.goes goes;
+  goes = one_more names n path h h' h'' a b c is_path cuts.goes cuts.may goes;
+  may = λ p may. cuts.may p (none.may p may);
   stand = stands_later names ps n h' h'' b c none.keeps cuts.stand;
   apart = apart_later names ps n h' h'' b c none.keeps cuts.stand cuts.apart;
   closed = none.keeps.closed;

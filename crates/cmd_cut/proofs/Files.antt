@@ -5,10 +5,12 @@ use Rattle.std.specs.Prelude.{unwrap_or, if◌then◌else◌, OnOk, Result, Err}
 use Rattle.abt_runs.specs.declared.part.RunFault.{RunFault}
 use Rattle.abt_runs.specs.Raw.{RefusedRaw}
 use Rattle.abt_sparsify.specs.declared.count.Written.{Written}
+use Rattle.sys_disk.specs.Counts.{call}
 use Rattle.sys_disk.specs.Images.{EmptiesAt}
 use Rattle.sys_disk.specs.World.{World, OpenFiles, Spares, OpensFile, Creates, untouched, SparesRest}
-use Rattle.sys_disk.specs.World.{ClosesOutput, HasFailed, HasNotFailed}
-use Rattle.sys_disk.proofs.Worlds.{apart, kept_behind, only_behind, only_written, spares_trans}
+use Rattle.sys_disk.specs.World.{ClosesOutput, HasFailed, HasNotFailed, SparesInUse}
+use Rattle.sys_disk.proofs.Worlds.{apart, kept_behind, may_behind, only_behind, only_written, spared_if_may}
+use Rattle.sys_disk.proofs.Worlds.{spares_trans}
 use Rattle.sys_refusals.specs.declared.refusal.HostFault.{HostFault}
 use Rattle.cmd_common_sparse.specs.Blocks.{IsRawBlockSize}
 use Rattle.cmd_common_sparse.specs.Lines.{line_text}
@@ -97,11 +99,18 @@ pub left_unbegun : {X F : Type 0} (e : F) (input output : List ℕ) (u : Bool) (
 left_unbegun e input output u size over h h' a c none same = record {
   synced = tt;
   others = untouched same;
+  guarded = λ used refused. same;
   input = λ f there. ap (λ w. w.holds f) same;
   closed = none;
   whole = λ o. part_same input output u size a c same;
   clean = tt;
 }
+
+-- a path at which an output was created may be written
+pub spared_created : (path input bytes : List ℕ) (h h' h'' : OpenFiles) (a b c u v : World)
+    → OpensFile a input bytes h h' → Creates path h' h'' b c → SparesInUse path h u v
+spared_created path input bytes h h' h'' a b c u v opened made =
+    spared_if_may path h u v (may_behind path input bytes h h' a opened made.allowed)
 
 -- it was written, whatever was printed of it then
 pub left_whole : {X F : Type 0} (r : Result X F) (input output bytes : List ℕ) (u : Bool) (size n : ℕ) (x : Written)
@@ -115,6 +124,7 @@ left_whole r input output bytes u size n x over h h' h'' h''' a b c d sized open
     record {
       synced = synced;
       others = only_behind _ _ _ _ _ _ _ _ opened same (only_written _ _ _ _ _ _ made rest);
+      guarded = spared_created output input bytes h h' h'' a b c a d opened made;
       input = kept_behind _ _ _ _ _ _ _ _ opened same (only_written _ _ _ _ _ _ made rest);
       closed = ap (λ k. k.output) closes.closed;
       whole = λ o. part_whole input output bytes u size n x h h' h'' a b c d sized opened made has;
@@ -135,19 +145,19 @@ no_blocks path bytes size long h h' k k' a b f told Done opened same is refused 
     })
 
 pub refuses : (path : List ℕ) (size : ℕ) (a b : World) (h h' : OpenFiles) (Done : Type 0) (f : SparseCommandFault)
-    → IsOutsideSparse f → HasFailed h h' → RefusesRaw path size a b h h' Done f
-refuses path size a b h h' Done (faults.Sparse f) is failed = absurd is
-refuses path size a b h h' Done (faults.Run f) is failed = absurd is
-refuses path size a b h h' Done (faults.Piece f) is failed = (is, failed)
-refuses path size a b h h' Done (faults.Flash f) is failed = absurd is
-refuses path size a b h h' Done (faults.Verify f) is failed = absurd is
-refuses path size a b h h' Done (faults.OtherBlocks image) is failed = absurd is
-refuses path size a b h h' Done (faults.OtherCut image) is failed = absurd is
-refuses path size a b h h' Done (faults.Host f) is failed = inl failed
+    → IsOutsideSparse (λ cause. HasFailed cause h h') f → RefusesRaw path size a b h h' Done f
+refuses path size a b h h' Done (faults.Sparse f) is = absurd is
+refuses path size a b h h' Done (faults.Run f) is = absurd is
+refuses path size a b h h' Done (faults.Piece f) is = is
+refuses path size a b h h' Done (faults.Flash f) is = absurd is
+refuses path size a b h h' Done (faults.Verify f) is = absurd is
+refuses path size a b h h' Done (faults.OtherBlocks image) is = absurd is
+refuses path size a b h h' Done (faults.OtherCut image) is = absurd is
+refuses path size a b h h' Done (faults.Host f) is = inl is
 
--- a call of the disk failed, or only the line
+-- a call of the disk returned the fault, or only the line could not be printed
 pub refuses_host : (path : List ℕ) (size : ℕ) (a b : World) (h h' : OpenFiles) (Done : Type 0) (f : SparseCommandFault)
-    (k : HostFault) → f ≡ faults.Host k → HasFailed h h' ⊎ Done → RefusesRaw path size a b h h' Done f
+    (k : HostFault) → f ≡ faults.Host k → HasFailed (call k) h h' ⊎ Done → RefusesRaw path size a b h h' Done f
 refuses_host path size a b h h' Done f k told why =
     subst (λ e. RefusesRaw path size a b h h' Done e) (sym told) why
 

@@ -8,7 +8,7 @@ use Rattle.abt_sparse.specs.Block.{Block}
 use Rattle.abt_sparse.specs.Pieces.{pieces}
 use Rattle.sys_disk.specs.Among.{GoesAmong}
 use Rattle.sys_disk.specs.Images.{EmptiesAt, Leaves}
-use Rattle.sys_disk.specs.World.{World, OpenFiles, OpensFile, Creates, IsFree, SparesRest, Spares, failing}
+use Rattle.sys_disk.specs.World.{World, OpenFiles, OpensFile, Creates, IsFree, MayWrite, SparesRest, Spares}
 use Rattle.cmd_common_sparse.specs.PieceNames.{Naming}
 use Rattle.cmd_cut.specs.Cutting.{AddsNone, CutsSoFar, IsImageOfBlocks, path_in_turn}
 use Rattle.cmd_cut.specs.Leaving.{AreFreeInTurn, AreThere, BeginsCut, HoldsNoPartOfPiece, HoldsNoneOrPiece}
@@ -85,13 +85,14 @@ later names ps a b c f leads same (whole j at has) =
 -- the next piece could not be written
 pub no_part_stop : (names : Naming) (ps : List (List ℕ)) (n : ℕ) (path : List ℕ) (h h' h'' : OpenFiles) (a b c : World)
     → path ≡ path_in_turn names (n + 1) → CutsSoFar names ps n n h h' a b → AddsNone h' h'' b c
-    → GoesAmong (λ p. p ≡ path) h' h'' b c → KeepsOrHolds ps n path b c → (f : ℕ) → HoldsNoPartOfPiece names ps a c f
+    → GoesAmong (λ p. (p ≡ path) × MayWrite p h') h' h'' b c → KeepsOrHolds ps n path b c → (f : ℕ)
+    → HoldsNoPartOfPiece names ps a c f
 no_part_stop names ps n path h h' h'' a b c is_path cuts none goes broken f =
     let before : HoldsNoPartOfPiece names ps a b f = no_part_yet names ps n h h' a b cuts f in
     elim (goes.files f) [
       | inl same ↦ later names ps a b c f none.keeps.leads same before
       | inr there ↦
-          let at : c.at path ≡ Some f = subst (λ p. c.at p ≡ Some f) there.is_named there.there in
+          let at : c.at path ≡ Some f = subst (λ p. c.at p ≡ Some f) there.is_named.0 there.there in
           elim (broken f at) [
             | inl same ↦ later names ps a b c f none.keeps.leads same before
             | inr (inl none_there) ↦ no_image none_there
@@ -110,9 +111,6 @@ no_part_between over names ps a a1 b c first last leaves =
     (subst (λ (w : World). LeavesNoPart over names ps a1 w) (sym last) leaves)
 
 -- ---- the look
-
-pub none_failed : (h : OpenFiles) → failing 0 h ≡ h
-none_failed h = ap (λ (n : ℕ). record h { failed = n }) (omega arith)
 
 pub free_more : (names : Naming) (n : ℕ) (path : List ℕ) (held : OpenFiles) (w : World)
     → path ≡ path_in_turn names (n + 1) → AreFreeInTurn names n held w → IsFree path held w

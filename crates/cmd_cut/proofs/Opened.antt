@@ -11,6 +11,7 @@ use Rattle.abt_runs.specs.Raw.{RefusedRaw}
 use Rattle.abt_runs.specs.Sparse.{SparseOpened, blocks_in, sparse_list}
 use Rattle.abt_runs.specs.Verdict.{Refuses}
 use Rattle.abt_runs.specs.declared.part.RunFault.TheVariants as of_runs
+use Rattle.sys_disk.specs.Counts.{Cause, reading}
 use Rattle.sys_disk.specs.World.{World, OpenFiles}
 use Rattle.cmd_common_sparse.specs.Blocks.{IsRawBlockSize, RefusedCut}
 use Rattle.cmd_common_sparse.specs.PieceNames.{Naming}
@@ -44,8 +45,8 @@ cut_of (Ok y) raw size size' limit limit' l l' names x h h' a b shows image gran
 
 pub stop_of : (Unprinted : Type 0) (fault : SparseCommandFault) (raw : Option ℕ) (size size' limit limit' : ℕ)
     (l l' : List Block)
-    (names : Naming) (x : List ℕ) (h h' : OpenFiles) (a b : World) (Failed Same : Type 0) → IsImageOfBlocks raw size l x
-    → size' ≡ size → limit' ≡ limit → l' ≡ l
+    (names : Naming) (x : List ℕ) (h h' : OpenFiles) (a b : World) (Failed : Cause → Type 0) (Same : Type 0)
+    → IsImageOfBlocks raw size l x → size' ≡ size → limit' ≡ limit → l' ≡ l
     → StopsCut fault Failed Unprinted (λ n m. CutsSoFar names (pieces limit' size' l') n m h h' a b)
     → StopsImage raw limit x fault Failed Unprinted Same (λ ps n m. CutsSoFar names ps n m h h' a b)
 stop_of Unprinted fault raw size size' limit limit' l l' names x h h' a b Failed Same image sized limited listed why =
@@ -62,7 +63,7 @@ pub raw_image : (size : ℕ) (x : List ℕ) → IsRawBlockSize size → IsImageO
 raw_image size x sized = (refl, sized, refl)
 
 pub raw_uncut : (Unprinted : Type 0) (fault told : SparseCommandFault) (size long limit : ℕ) (x : List ℕ)
-    (Failed Same : Type 0)
+    (Failed : Cause → Type 0) (Same : Type 0)
     (Cut : List (List ℕ) → ℕ → ℕ → Type 0) → told ≡ fault → long ≡ length x → RefusedCut fault size long limit → Same
     → StopsImage (Some size) limit x told Failed Unprinted Same Cut
 raw_uncut Unprinted (faults.Run f) told size long limit x Failed Same Cut is sized why same =
@@ -99,13 +100,13 @@ fails_by x f (Fault g cells) is same = (cells, subst (λ e. Fails x e cells) (sy
 fails_by x f (Image h cs rest) is refused = absurd refused
 
 pub sparse_uncut : (Unprinted : Type 0) (fault told : SparseCommandFault) (limit : ℕ) (x : List ℕ) (r r' : ℕ)
-    (Failed Same : Type 0)
+    (Failed : Cause → Type 0) (Same : Type 0)
     (Cut : List (List ℕ) → ℕ → ℕ → Type 0) → IsOutcome x (outcome x) → told ≡ fault → IsUncutSparse fault limit x r r'
-    → (r < r' → Failed) → Same → StopsImage None limit x told Failed Unprinted Same Cut
+    → (r < r' → Failed reading) → Same → StopsImage None limit x told Failed Unprinted Same Cut
 sparse_uncut Unprinted (faults.Run (of_runs.Sparse f)) told limit x r r' Failed Same Cut all is why fails same =
     no_cut (of_runs.Sparse f) is (fails_by x f (outcome x) all why) same
 sparse_uncut Unprinted (faults.Run (of_runs.Read d)) told limit x r r' Failed Same Cut all is why fails same =
-    unread (of_runs.Read d) is (fails why) same
+    unread d is (fails why) same
 sparse_uncut Unprinted (faults.Run of_runs.TooLarge) told limit x r r' Failed Same Cut all is why fails same = absurd
     why
 sparse_uncut Unprinted (faults.Run of_runs.SourceChanged) told limit x r r' Failed Same Cut all is why fails same =

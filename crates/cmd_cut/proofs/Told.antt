@@ -20,7 +20,8 @@ use Rattle.sys_refusals.specs.declared.refusal.HostFault.{HostFault}
 use Rattle.sys_refusals.specs.declared.refusal.Sides.{Sides}
 use Rattle.sys_refusals.specs.declared.told.Side.TheVariants as sides
 use Rattle.sys_refusals.proofs.Blames.{call≢output, input≢output, reads_call, tells_call, tells_refused, words≢output}
-use Rattle.sys_disk.specs.World.{World, OpenFiles, OpensFile, failing}
+use Rattle.sys_disk.specs.Counts.{Counts}
+use Rattle.sys_disk.specs.World.{World, OpenFiles, OpensFile, counting}
 use Rattle.cmd_common_sparse.specs.Blocks.{RefusedCut}
 use Rattle.cmd_common_sparse.specs.Fault.{side_of, side_of_number}
 use Rattle.cmd_common_sparse.specs.PieceNames.{Naming}
@@ -140,8 +141,8 @@ sparse_side (faults.Host f) told limit x r r' all same why at = absurd why
 
 -- ---- of the next piece
 
-pub told_between : (names : Naming) (ps : List (List ℕ)) (place : Option FileArg) (r : ℕ)
-    (h h1 h2 h3 : OpenFiles) (a a1 b c : World) → h1 ≡ h → a1 ≡ a → h3 ≡ failing r h2 → c ≡ b
+pub told_between : (names : Naming) (ps : List (List ℕ)) (place : Option FileArg) (r : Counts)
+    (h h1 h2 h3 : OpenFiles) (a a1 b c : World) → h1 ≡ h → a1 ≡ a → h3 ≡ counting r h2 → c ≡ b
     → TellsOfNext names place (λ n m. CutsSoFar names ps n m h1 h2 a1 b)
     → TellsOfNext names place (λ n m. CutsSoFar names ps n m h h3 a c)
 told_between names ps place r h h1 h2 h3 a a1 b c held world later same next = record {

@@ -10,22 +10,24 @@ use Rattle.sys_report.specs.Shows.{IsSilent}
 use Rattle.sys_report.specs.declared.report.Report.{Report}
 use Rattle.sys_refusals.specs.declared.refusal.HostFault.{HostFault}
 use Rattle.sys_refusals.specs.declared.refusal.HostFault.TheVariants as hosts
-use Rattle.sys_disk.specs.World.{World, OpenFiles, OpensFile, KeepsFile, HasFailed, HasNotFailed, failing}
+use Rattle.sys_disk.specs.Counts.{Cause, Counts, added, call, call_of, of_reading, reading, reads}
+use Rattle.sys_disk.specs.World.{World, OpenFiles, OpensFile, KeepsFile, HasFailed, HasNotFailed, MayWrite, counting}
 use Rattle.cmd_common_sparse.specs.PieceNames.{Naming}
 use Rattle.cmd_common_sparse.specs.declared.fault.SparseCommandFault.{SparseCommandFault}
 use Rattle.cmd_common_sparse.specs.declared.fault.SparseCommandFault.TheVariants as faults
-use Rattle.cmd_cut.specs.Sparsing.{IsOutsideSparse}
-use Rattle.cmd_cut.specs.Cutting.{AreApart, CutsFile, CutsImage, CutsSoFar, FirstStand, IsImageOfBlocks}
-use Rattle.cmd_cut.specs.Cutting.{IsFirstPiecePath, IsPiecePath, LeavesCut, LeavesPieces, OnlyFails, OnlyLeaves}
+use Rattle.cmd_cut.specs.Cutting.{AreApart, CutsFile, CutsImage, CutsSoFar, FailsBeside, FirstStand, IsImageOfBlocks}
+use Rattle.cmd_cut.specs.Cutting.{IsFirstPiecePath, IsPiecePath, LeavesCut, LeavesPieces, MayWritePiece}
+use Rattle.cmd_cut.specs.Cutting.{OnlyFails, OnlyLeaves}
 use Rattle.cmd_cut.specs.Cutting.{RefusesCut, StopsCut, StopsImage, failed, no_cut, no_room, not_begun, opened}
 use Rattle.cmd_cut.specs.Cutting.{ShowsCut, ShowsPieces, path_in_turn, stopped, unopened, unread, untold}
 use Rattle.sys_disk.specs.Among.{GoesAmong, IsMade}
+use Rattle.cmd_cut.proofs.Counted.{call_failed, counting_behind, outside_cut_more}
 use Rattle.cmd_cut.proofs.CutCommands.{cuts_none}
-use Rattle.sys_disk.proofs.Amongs.{goes_none, goes_then, kept_beside, among_behind}
+use Rattle.sys_disk.proofs.Amongs.{goes_more, goes_none, goes_then, kept_beside, among_behind}
 
 -- ---- after what was read is closed
 
-made_past : (h h' : OpenFiles) (a b : World) (path bytes : List ℕ) (n : ℕ) → h' ≡ failing n h → b ≡ a
+made_past : (h h' : OpenFiles) (a b : World) (path bytes : List ℕ) (n : Counts) → h' ≡ counting n h → b ≡ a
     → IsMade h a path bytes → IsMade h' b path bytes
 made_past h h' a b path bytes n later same made = record {
   file = made.file;
@@ -34,11 +36,12 @@ made_past h h' a b path bytes n later same made = record {
   listed = subst (λ k. Contains k.begun made.file) (sym later) made.listed;
 }
 
-pub cuts_past : (names : Naming) (ps : List (List ℕ)) (n m r : ℕ) (h h' h'' : OpenFiles) (a b c : World)
-    → h'' ≡ failing r h' → c ≡ b → CutsSoFar names ps n m h h' a b → CutsSoFar names ps n m h h'' a c
+pub cuts_past : (names : Naming) (ps : List (List ℕ)) (n m : ℕ) (r : Counts) (h h' h'' : OpenFiles) (a b c : World)
+    → h'' ≡ counting r h' → c ≡ b → CutsSoFar names ps n m h h' a b → CutsSoFar names ps n m h h'' a c
 cuts_past names ps n m r h h' h'' a b c later same cuts = record {
-  goes = goes_then (IsFirstPiecePath names m) h h' h'' a b c cuts.goes
-      (goes_none (IsFirstPiecePath names m) h' h'' b c r later same);
+  goes = goes_then (IsFirstPiecePath names m h) h h' h'' a b c cuts.goes
+      (goes_none (IsFirstPiecePath names m h) h' h'' b c r later same);
+  may = λ p may. cuts.may p (subst (MayWrite p) later may);
   stand = λ j below.
       let s = cuts.stand j below in
       record {
@@ -55,10 +58,10 @@ cuts_past names ps n m r h h' h'' a b c later same cuts = record {
 -- a call of the disk failed, before the first piece
 pub stops_host : (Unprinted : Type 0) (fault : SparseCommandFault) (k : HostFault) (names : Naming)
     (ps : List (List ℕ)) (h h' : OpenFiles) (a b : World) → h.output ≡ None → OnlyFails h h' → b ≡ a
-    → fault ≡ faults.Host k → HasFailed h h'
-    → StopsCut fault (HasFailed h h') Unprinted (λ n m. CutsSoFar names ps n m h h' a b)
+    → fault ≡ faults.Host k → HasFailed (call k) h h'
+    → StopsCut fault (λ cause. HasFailed cause h h') Unprinted (λ n m. CutsSoFar names ps n m h h' a b)
 stops_host Unprinted fault k names ps h h' a b closed fails same told why =
-    not_begun (subst IsOutsideSparse (sym told) tt) why
+    not_begun k told why
     (cuts_past names ps 0 0 fails.failures h h h' a a b fails.same same (cuts_none names ps 0 h a closed))
 
 -- a cause that holds of less holds of more
@@ -93,7 +96,13 @@ first_stand names path bytes ps n m h h' h'' a b c none o same cuts = record {
   beside = beside_read names ps n m o.file h' h'' b c (ap (λ k. k.begun) o.taken ∙ none)
       (subst (λ k. Contains k.read o.file) (sym o.taken) (Contains-push h.read o.file)) cuts;
   synced = cuts.synced ∙ ap (λ k. k.syncs + n * (if k.is_synced then 1 else 0)) o.taken;
-  only = among_behind (IsFirstPiecePath names m) path bytes h h' h'' a b c none o same cuts.goes;
+  only = among_behind (IsFirstPiecePath names m h) path bytes h h' h'' a b c none o same
+      (goes_more (IsFirstPiecePath names m h') (IsFirstPiecePath names m h) h' h'' b c (λ p is. record {
+        allowed = subst (MayWrite p) o.taken is.allowed;
+        index = is.index;
+        below = is.below;
+        is_path = is.is_path;
+      }) cuts.goes);
 }
 
 pub cuts_file : (raw : Option ℕ) (limit : ℕ) (input : List ℕ) (names : Naming) (bytes : List ℕ)
@@ -115,32 +124,42 @@ cuts_file raw limit input names bytes h h' h'' a b c shows none o same i = recor
   shown = i.all.shown;
 }
 
+-- what failed after the opening of the image failed in the run
+since_opened : (path bytes : List ℕ) (h h' h'' : OpenFiles) (a : World) → OpensFile a path bytes h h'
+    → (cause : Cause) → HasFailed cause h' h'' → HasFailed cause h h''
+since_opened path bytes h h' h'' a o cause more =
+    let first : h'.counts.failed cause ≡ h.counts.failed cause = ap (λ k. k.counts.failed cause) o.taken in
+    omega (arith, first, more)
+
 stops_file : (Unprinted : Type 0) (fault : SparseCommandFault) (names : Naming) (path bytes : List ℕ) (ps : List
     (List ℕ)) (h h' h'' : OpenFiles)
     (a b c : World) → h.begun ≡ [] → (o : OpensFile a path bytes h h') → b ≡ a
-    → StopsCut fault (HasFailed h' h'') Unprinted (λ n m. CutsSoFar names ps n m h' h'' b c)
-    → StopsCut fault (HasFailed h h'') Unprinted (FirstStand names o.file h h'' a c ps)
-stops_file Unprinted fault names path bytes ps h h' h'' a b c none o same (failed outside more n cuts) =
-    failed outside (omega (arith, more, ap (λ k. k.failed) o.taken)) n
+    → StopsCut fault (λ cause. HasFailed cause h' h'') Unprinted (λ n m. CutsSoFar names ps n m h' h'' b c)
+    → StopsCut fault (λ cause. HasFailed cause h h'') Unprinted (FirstStand names o.file h h'' a c ps)
+stops_file Unprinted fault names path bytes ps h h' h'' a b c none o same (failed outside n cuts) =
+    failed (outside_cut_more (λ q. HasFailed q h' h'') (λ q. HasFailed q h h'')
+    (since_opened path bytes h h' h'' a o) fault outside) n
     (first_stand names path bytes ps n (n + 1) h h' h'' a b c none o same cuts)
 stops_file Unprinted fault names path bytes ps h h' h'' a b c none o same (untold f told why n some cuts) =
-    untold f told (wider Unprinted (HasFailed h' h'') (HasFailed h h'') (f ≡ hosts.Memory)
-    (λ more. omega (arith, more, ap (λ k. k.failed) o.taken)) why) n some
+    untold f told (wider Unprinted (HasFailed (call hosts.Memory) h' h'') (HasFailed (call hosts.Memory) h h'')
+    (f ≡ hosts.Memory) (since_opened path bytes h h' h'' a o (call hosts.Memory)) why) n some
     (first_stand names path bytes ps n n h h' h'' a b c none o same cuts)
-stops_file Unprinted fault names path bytes ps h h' h'' a b c none o same (not_begun outside more cuts) =
-    not_begun outside (omega (arith, more, ap (λ k. k.failed) o.taken))
+stops_file Unprinted fault names path bytes ps h h' h'' a b c none o same (not_begun f told more cuts) =
+    not_begun f told (since_opened path bytes h h' h'' a o (call f) more)
     (first_stand names path bytes ps 0 0 h h' h'' a b c none o same cuts)
 
 image_file : (Unprinted : Type 0) (raw : Option ℕ) (limit : ℕ) (x : List ℕ) (fault : SparseCommandFault)
     (names : Naming)
     (path bytes : List ℕ) (h h' h'' : OpenFiles) (a b c : World) → h.begun ≡ [] → (o : OpensFile a path bytes h h')
     → b ≡ a
-    → StopsImage raw limit x fault (HasFailed h' h'') Unprinted (c ≡ b) (λ ps n m. CutsSoFar names ps n m h' h'' b c)
-    → StopsImage raw limit x fault (HasFailed h h'') Unprinted (c ≡ a) (FirstStand names o.file h h'' a c)
+    → StopsImage raw limit x fault (λ cause. HasFailed cause h' h'') Unprinted (c ≡ b)
+    (λ ps n m. CutsSoFar names ps n m h' h'' b c)
+    → StopsImage raw limit x fault (λ cause. HasFailed cause h h'') Unprinted (c ≡ a)
+    (FirstStand names o.file h h'' a c)
 image_file Unprinted raw limit x fault names path bytes h h' h'' a b c none o same (no_cut f told why still) =
     no_cut f told why (still ∙ same)
 image_file Unprinted raw limit x fault names path bytes h h' h'' a b c none o same (unread f told more still) =
-    unread f told (omega (arith, more, ap (λ k. k.failed) o.taken)) (still ∙ same)
+    unread f told (since_opened path bytes h h' h'' a o reading more) (still ∙ same)
 image_file Unprinted raw limit x fault names path bytes h h' h'' a b c none o same
     (no_room size blocks told short still) =
     no_room size blocks told short (still ∙ same)
@@ -151,12 +170,12 @@ image_file Unprinted raw limit x fault names path bytes h h' h'' a b c none o sa
 pub refuses_file : (Unprinted : Type 0) (raw : Option ℕ) (limit : ℕ) (input : List ℕ) (names : Naming) (bytes : List ℕ)
     (fault : SparseCommandFault) (h h' h'' : OpenFiles) (a b c : World) → h.begun ≡ [] → OpensFile a input bytes h h'
     → b ≡ a
-    → StopsImage raw limit bytes fault (HasFailed h' h'') Unprinted (c ≡ b)
+    → StopsImage raw limit bytes fault (λ cause. HasFailed cause h' h'') Unprinted (c ≡ b)
     (λ ps n m. CutsSoFar names ps n m h' h'' b c)
     → RefusesCut raw limit input names fault h h'' a c Unprinted
 refuses_file Unprinted raw limit input names bytes fault h h' h'' a b c none o same why =
     opened o.file o.there
-    (subst (λ x. StopsImage raw limit x fault (HasFailed h h'') Unprinted (c ≡ a)
+    (subst (λ x. StopsImage raw limit x fault (λ cause. HasFailed cause h h'') Unprinted (c ≡ a)
     (FirstStand names o.file h h'' a c)) o.held
     (image_file Unprinted raw limit bytes fault names input bytes h h' h'' a b c none o same why))
 
@@ -169,7 +188,9 @@ keeps_input prefix path bytes h h' h'' a b c o same goes = λ f there.
 clean_file : (path bytes : List ℕ) (h h' h'' : OpenFiles) (a : World) → OpensFile a path bytes h h'
     → HasNotFailed h' h''
     → HasNotFailed h h''
-clean_file path bytes h h' h'' a o clean = omega (arith, clean, ap (λ k. k.failed) o.taken)
+clean_file path bytes h h' h'' a o clean cause =
+    let first : h'.counts.failed cause ≡ h.counts.failed cause = ap (λ k. k.counts.failed cause) o.taken in
+    clean cause ∙ first
 
 clean_file_as : {X F : Type 0} (r : Result X F) (path bytes : List ℕ) (h h' h'' : OpenFiles) (a : World)
     → OpensFile a path bytes h h' → OnOk r (HasNotFailed h' h'') → OnOk r (HasNotFailed h h'')
@@ -177,11 +198,16 @@ clean_file_as (Ok x) path bytes h h' h'' a o clean = clean_file path bytes h h' 
 clean_file_as (Err e) path bytes h h' h'' a o clean = tt
 
 pub leaves_cut : {X F : Type 0} (r : Result X F) (prefix path bytes : List ℕ) (h h' h'' : OpenFiles) (a b c : World)
-    → h.begun ≡ [] → OpensFile a path bytes h h' → b ≡ a → LeavesPieces r (IsPiecePath prefix) h' h'' b c
+    → h.begun ≡ [] → OpensFile a path bytes h h' → b ≡ a → LeavesPieces r (MayWritePiece prefix h') h' h'' b c
     → LeavesCut r path prefix h h'' a c
 leaves_cut r prefix path bytes h h' h'' a b c none o same leaves = record {
-  only = among_behind (IsPiecePath prefix) path bytes h h' h'' a b c none o same leaves.left.only;
-  input = keeps_input prefix path bytes h h' h'' a b c o same leaves.left.only;
+  only = among_behind (IsPiecePath prefix) path bytes h h' h'' a b c none o same
+      (goes_more (MayWritePiece prefix h') (IsPiecePath prefix) h' h'' b c (λ p is. is.0) leaves.left.only);
+  guarded = among_behind (MayWritePiece prefix h) path bytes h h' h'' a b c none o same
+      (goes_more (MayWritePiece prefix h') (MayWritePiece prefix h) h' h'' b c
+      (λ p is. (is.0, subst (MayWrite p) o.taken is.1)) leaves.left.only);
+  input = keeps_input prefix path bytes h h' h'' a b c o same
+      (goes_more (MayWritePiece prefix h') (IsPiecePath prefix) h' h'' b c (λ p is. is.0) leaves.left.only);
   closed = leaves.left.closed;
   clean = clean_file_as r path bytes h h' h'' a o leaves.clean;
 }
@@ -189,10 +215,10 @@ leaves_cut r prefix path bytes h h' h'' a b c none o same leaves = record {
 -- the image could not be opened
 pub refuses_unopened : (Unprinted : Type 0) (raw : Option ℕ) (limit : ℕ) (input : List ℕ) (names : Naming)
     (fault : SparseCommandFault)
-    (k : HostFault) (h h' : OpenFiles) (a c : World) → fault ≡ faults.Host k → h' ≡ failing 1 h → c ≡ a
+    (k : HostFault) (h h' : OpenFiles) (a c : World) → fault ≡ faults.Host k → h' ≡ counting (call_of k) h → c ≡ a
     → RefusesCut raw limit input names fault h h' a c Unprinted
 refuses_unopened Unprinted raw limit input names fault k h h' a c told now same =
-    unopened k told (omega (arith, ap (λ q. q.failed) now)) same
+    unopened k told (call_failed k h h' now) same
 
 -- ---- of calls that may fail
 
@@ -205,47 +231,54 @@ left_failed P h h' a b none fails same = record {
   closed = ap (λ k. k.output) fails.same ∙ none;
 }
 
-pub left_between : (P : List ℕ → Type 0) (r : ℕ) (h h1 h2 h3 : OpenFiles) (a a1 b c : World) → h1 ≡ h → a1 ≡ a
-    → OnlyLeaves P h1 h2 a1 b → h3 ≡ failing r h2 → c ≡ b → OnlyLeaves P h h3 a c
+pub left_between : (P : OpenFiles → List ℕ → Type 0) (r : Counts) (h h1 h2 h3 : OpenFiles) (a a1 b c : World)
+    → h1 ≡ h → a1 ≡ a → OnlyLeaves (P h1) h1 h2 a1 b → h3 ≡ counting r h2 → c ≡ b → OnlyLeaves (P h) h h3 a c
 left_between P r h h1 h2 h3 a a1 b c held world left later same = record {
-  only = goes_then P h h2 h3 a b c (subst (λ (k : OpenFiles). GoesAmong P k h2 a b) held
-      (subst (λ (w : World). GoesAmong P h1 h2 w b) world left.only)) (goes_none P h2 h3 b c r later same);
+  only = goes_then (P h) h h2 h3 a b c (subst (λ (k : OpenFiles). GoesAmong (P k) k h2 a b) held
+      (subst (λ (w : World). GoesAmong (P h1) h1 h2 w b) world left.only)) (goes_none (P h) h2 h3 b c r later same);
   closed = ap (λ k. k.output) later ∙ left.closed;
 }
 
-pub cuts_between : (names : Naming) (ps : List (List ℕ)) (n m r : ℕ) (h h1 h2 h3 : OpenFiles) (a a1 b c : World) → h1
-    ≡ h
-    → a1 ≡ a → CutsSoFar names ps n m h1 h2 a1 b → h3 ≡ failing r h2 → c ≡ b → CutsSoFar names ps n m h h3 a c
+pub cuts_between : (names : Naming) (ps : List (List ℕ)) (n m : ℕ) (r : Counts) (h h1 h2 h3 : OpenFiles)
+    (a a1 b c : World) → h1 ≡ h → a1 ≡ a → CutsSoFar names ps n m h1 h2 a1 b → h3 ≡ counting r h2 → c ≡ b
+    → CutsSoFar names ps n m h h3 a c
 cuts_between names ps n m r h h1 h2 h3 a a1 b c held world cuts later same =
     cuts_past names ps n m r h h2 h3 a b c later same
     (subst (λ (k : OpenFiles). CutsSoFar names ps n m k h2 a b) held
     (subst (λ (w : World). CutsSoFar names ps n m h1 h2 w b) world cuts))
 
-pub stops_between : (Unprinted : Type 0) (fault : SparseCommandFault) (names : Naming) (ps : List (List ℕ)) (r r' : ℕ)
-    (h h1 h2 h3 : OpenFiles)
-    (a a1 b c : World) → h1 ≡ h → a1 ≡ a → r ≡ 0
-    → StopsCut fault (h1.failed + r < h2.failed + r') Unprinted (λ n m. CutsSoFar names ps n m h1 h2 a1 b)
-    → h3 ≡ failing r' h2
-    → c ≡ b
-    → StopsCut fault (HasFailed h h3) Unprinted (λ n m. CutsSoFar names ps n m h h3 a c)
-stops_between Unprinted fault names ps r r' h h1 h2 h3 a a1 b c held world none
-    (failed outside more n cuts) later same =
-    failed outside (omega (arith, none, more, ap (λ k. k.failed) held, ap (λ k. k.failed) later)) n
-    (cuts_between names ps n (n + 1) r' h h1 h2 h3 a a1 b c held world cuts later same)
-stops_between Unprinted fault names ps r r' h h1 h2 h3 a a1 b c held world none
-    (untold f told why n some cuts) later same =
-    untold f told (wider Unprinted (h1.failed + r < h2.failed + r') (HasFailed h h3) (f ≡ hosts.Memory)
-    (λ more. omega (arith, none, more, ap (λ k. k.failed) held, ap (λ k. k.failed) later)) why) n some
-    (cuts_between names ps n n r' h h1 h2 h3 a a1 b c held world cuts later same)
-stops_between Unprinted fault names ps r r' h h1 h2 h3 a a1 b c held world none
-    (not_begun outside more cuts) later same =
-    not_begun outside (omega (arith, none, more, ap (λ k. k.failed) held, ap (λ k. k.failed) later))
-    (cuts_between names ps 0 0 r' h h1 h2 h3 a a1 b c held world cuts later same)
+-- what failed beside what is read is counted when that is closed
+since_read : (g r r' : ℕ) (h h1 h2 h3 : OpenFiles) → h1 ≡ h → r ≡ 0 → h3 ≡ counting (reads g r') h2 → (cause : Cause)
+    → FailsBeside r r' h1 h2 cause → HasFailed cause h h3
+since_read g r r' h h1 h2 h3 held none later cause more =
+    let first : h1.counts.failed cause ≡ h.counts.failed cause = ap (λ k. k.counts.failed cause) held in
+    let last : h3.counts.failed cause ≡ h2.counts.failed cause + of_reading r' cause
+    = ap (λ k. k.counts.failed cause) later in
+    omega (arith, first, last, more)
 
--- more calls failed after others
-pub failing_more : (n k : ℕ) (h h' h'' : OpenFiles) → h' ≡ failing n h → h'' ≡ failing k h' → h'' ≡ failing (n + k) h
-failing_more n k h h' h'' first later =
-    later ∙ ap (λ (g : OpenFiles). failing k g) first ∙ ap (λ (m : ℕ). record h { failed = m }) (omega arith)
+pub stops_between : (Unprinted : Type 0) (fault : SparseCommandFault) (names : Naming) (ps : List (List ℕ))
+    (g r r' : ℕ) (h h1 h2 h3 : OpenFiles) (a a1 b c : World) → h1 ≡ h → a1 ≡ a → r ≡ 0
+    → StopsCut fault (FailsBeside r r' h1 h2) Unprinted (λ n m. CutsSoFar names ps n m h1 h2 a1 b)
+    → h3 ≡ counting (reads g r') h2 → c ≡ b
+    → StopsCut fault (λ cause. HasFailed cause h h3) Unprinted (λ n m. CutsSoFar names ps n m h h3 a c)
+stops_between Unprinted fault names ps g r r' h h1 h2 h3 a a1 b c held world none (failed outside n cuts) later same =
+    failed (outside_cut_more (FailsBeside r r' h1 h2) (λ q. HasFailed q h h3)
+    (since_read g r r' h h1 h2 h3 held none later) fault outside) n
+    (cuts_between names ps n (n + 1) (reads g r') h h1 h2 h3 a a1 b c held world cuts later same)
+stops_between Unprinted fault names ps g r r' h h1 h2 h3 a a1 b c held world none (untold f told why n some cuts) later
+    same =
+    untold f told (wider Unprinted (FailsBeside r r' h1 h2 (call hosts.Memory)) (HasFailed (call hosts.Memory) h h3)
+    (f ≡ hosts.Memory) (since_read g r r' h h1 h2 h3 held none later (call hosts.Memory)) why) n some
+    (cuts_between names ps n n (reads g r') h h1 h2 h3 a a1 b c held world cuts later same)
+stops_between Unprinted fault names ps g r r' h h1 h2 h3 a a1 b c held world none (not_begun f told more cuts) later
+    same =
+    not_begun f told (since_read g r r' h h1 h2 h3 held none later (call f) more)
+    (cuts_between names ps 0 0 (reads g r') h h1 h2 h3 a a1 b c held world cuts later same)
+
+-- more was counted after something else
+pub counting_more : (n k : Counts) (h h' h'' : OpenFiles) → h' ≡ counting n h → h'' ≡ counting k h'
+    → h'' ≡ counting (added n k) h
+counting_more n k h h' h'' first later = later ∙ ap (λ (g : OpenFiles). counting k g) first ∙ counting_behind n k h
 
 -- ---- from the result of the call
 
@@ -302,10 +335,10 @@ pub refuses_file_as : (Unprinted : Type 0) (raw raw' : Option ℕ) (limit : ℕ)
     (bytes : List ℕ)
     (fault : SparseCommandFault) (h h' h'' : OpenFiles) (a b c : World) → raw ≡ raw' → h.begun ≡ []
     → OpensFile a input bytes h h' → b ≡ a
-    → StopsImage raw' limit bytes fault (HasFailed h' h'') Unprinted (c ≡ b)
+    → StopsImage raw' limit bytes fault (λ cause. HasFailed cause h' h'') Unprinted (c ≡ b)
     (λ ps n m. CutsSoFar names ps n m h' h'' b c)
     → RefusesCut raw limit input names fault h h'' a c Unprinted
 refuses_file_as Unprinted raw raw' limit input names bytes fault h h' h'' a b c same none o still why =
     refuses_file Unprinted raw limit input names bytes fault h h' h'' a b c none o still
-    (subst (λ (k : Option ℕ). StopsImage k limit bytes fault (HasFailed h' h'') Unprinted (c ≡ b)
+    (subst (λ (k : Option ℕ). StopsImage k limit bytes fault (λ cause. HasFailed cause h' h'') Unprinted (c ≡ b)
     (λ ps n m. CutsSoFar names ps n m h' h'' b c)) (sym same) why)

@@ -3,6 +3,7 @@ use Rattle.std.specs.Prelude.{◌≡◌, ◌≢◌, ◌<◌, ◌≤◌, ◌+◌,
 use Rattle.std.specs.Prelude.{Some, None}
 use Rattle.std.specs.Prelude.{Bool, ◌⊎◌}
 use Rattle.std.specs.Prelude.{true, false, IsTrue, Contains, if◌then◌else◌, Result, OnOk, IfOk, IfErr, is_ok}
+use Rattle.abt_io.specs.declared.device.DeviceFault.{DeviceFault}
 use Rattle.abt_io.specs.declared.device.Source as sources
 use Rattle.abt_sparse.specs.Block.{Block, classify}
 use Rattle.abt_sparse.specs.Chunk.{Header, Chunk, classed, piece}
@@ -29,8 +30,9 @@ use Rattle.sys_refusals.specs.Paths.{numbered, path_out}
 use Rattle.sys_refusals.specs.declared.place.FileArg.{FileArg}
 use Rattle.sys_refusals.specs.declared.refusal.HostFault.{HostFault}
 use Rattle.sys_refusals.specs.declared.refusal.HostFault.TheVariants as hosts
+use Rattle.sys_disk.specs.Counts.{Cause, Counts, call, of_reading, reading, writing}
 use Rattle.sys_disk.specs.World.{World, OpenFiles, Ends, KeepsFile, SparesRest, HasFailed, HasNotFailed, ended}
-use Rattle.sys_disk.specs.World.{failing}
+use Rattle.sys_disk.specs.World.{MayWrite, counting}
 use Rattle.cmd_common_sparse.specs.Blocks.{IsRawBlockSize}
 use Rattle.sys_disk.specs.LeftOver.{IsNextLeft}
 use Rattle.cmd_common_sparse.specs.Lines.{left_over_line, line_text}
@@ -81,8 +83,13 @@ abbrev pub IsNoneLeft : Naming → ℕ → World → Type 0
 IsNoneLeft names count world = (n : ℕ) → number_in_turn names.from_zero count < n → n < 2 ^ 32
     → world.at (piece_path names.prefix n) ≡ None
 
--- of one of the first m
-pub record IsFirstPiecePath (names : Naming) (m : ℕ) (path : List ℕ) : Type 0 where
+-- which may be written
+abbrev pub MayWritePiece : List ℕ → OpenFiles → List ℕ → Type 0
+MayWritePiece prefix held path = IsPiecePath prefix path × MayWrite path held
+
+-- of one of the first m, which may be written
+pub record IsFirstPiecePath (names : Naming) (m : ℕ) (held : OpenFiles) (path : List ℕ) : Type 0 where
+  pub allowed : MayWrite path held
   pub index : ℕ
   pub below : index < m
   pub is_path : path ≡ path_in_turn names (index + 1)
@@ -106,7 +113,8 @@ AreApart names n world = (i j f : ℕ) → i < j → j < n → world.at (path_in
 -- requested. Only the files of the first m were changed, and no output is open.
 pub record CutsSoFar (names : Naming) (ps : List (List ℕ)) (n m : ℕ) (held held' : OpenFiles) (old new : World)
     : Type 0 where
-  pub goes : GoesAmong (IsFirstPiecePath names m) held held' old new
+  pub goes : GoesAmong (IsFirstPiecePath names m held) held held' old new
+  pub may : (path : List ℕ) → MayWrite path held' → MayWrite path held
   pub stand : PiecesStand names ps n held' new
   pub apart : AreApart names n new
   pub closed : held'.output ≡ None
@@ -213,21 +221,37 @@ pub record HoldsPiece (ps : List (List ℕ)) (made : ℕ) (output : Option ℕ) 
   pub is_next : HasAt ps made bytes
   pub ends : Ends output bytes old new
 
--- the open output is closed, beside what is read: it was completed exactly where nothing has failed
+-- it is the fault of a device that has failed, or a call of the disk has returned it; or what was held back of a piece
+-- could not be written at its end
+abbrev pub IsOutsideCut : (Cause → Type 0) → SparseCommandFault → Type 0
+IsOutsideCut failed fault = IsOutsideSparse failed fault ⊎ ((fault ≡ faults.Host hosts.Write) × failed writing)
+
+-- this has failed, beside what is read, which had failed so often before, and has now
+abbrev pub FailsBeside : ℕ → ℕ → OpenFiles → OpenFiles → Cause → Type 0
+FailsBeside reads reads' old new cause =
+    old.counts.failed cause + of_reading reads cause < new.counts.failed cause + of_reading reads' cause
+
+-- nothing has
+abbrev pub NoneFailsBeside : ℕ → ℕ → OpenFiles → OpenFiles → Type 0
+NoneFailsBeside reads reads' old new = (cause : Cause)
+    → new.counts.failed cause + of_reading reads' cause ≡ old.counts.failed cause + of_reading reads cause
+
+-- the open output is closed, beside what is read: where it was completed, nothing has failed
 pub record ClosesBeside (is_done : Bool) (reads reads' : ℕ) (old new : OpenFiles) : Type 0 where
-  pub failures : ℕ
+  pub failures : Counts
   pub closed : new ≡ ended is_done failures old
-  pub clean : is_done ≡ true → reads' + failures ≡ reads
-  pub cause : is_done ≡ false → reads < reads' + failures
+  pub clean : is_done ≡ true → (cause : Cause)
+      → of_reading reads' cause + failures.failed cause ≡ of_reading reads cause
 
 -- The open output is completed and closed, beside what is read. After an Ok it holds the piece after this many
--- others. No other file has changed. After an Err a device or a file was at fault.
+-- others. No other file has changed. After an Err the device has failed that the fault is of, or a call of the disk has
+-- returned it.
 pub record PutsPiece {X E : Type 0} (r : Result X E) (fault : E → SparseCommandFault) (ps : List (List ℕ))
     (made reads reads' : ℕ) (held held' : OpenFiles) (old new : World) : Type 0 where
   pub holds : OnOk r (HoldsPiece ps made held.output old new)
   pub closed : ClosesBeside (is_ok r) reads reads' held held'
   pub rest : SparesRest held.output old new
-  pub outside : IfErr r (λ refusal. IsOutsideSparse (fault refusal))
+  pub outside : IfErr r (λ refusal. IsOutsideCut (FailsBeside reads reads' held held') (fault refusal))
 
 -- the next piece is stored under its name, in a file that was not begun before
 pub record AddsPiece (ps : List (List ℕ)) (made : ℕ) (path : List ℕ) (held held' : OpenFiles)
@@ -237,12 +261,14 @@ pub record AddsPiece (ps : List (List ℕ)) (made : ℕ) (path : List ℕ) (held
   pub written : IsMade held' new path bytes
   pub keeps : KeepsMade held held' old new
   pub fresh : (f : ℕ) → new.at path ≡ Some f → ¬ Contains held.begun f
+  pub may : (p : List ℕ) → MayWrite p held' → MayWrite p held
   pub is_synced : held'.is_synced ≡ held.is_synced
   pub synced : held'.syncs ≡ held.syncs + (if held.is_synced then 1 else 0)
 
 -- no piece is added: those that were begun before are as they were
 pub record AddsNone (held held' : OpenFiles) (old new : World) : Type 0 where
   pub keeps : KeepsMade held held' old new
+  pub may : (p : List ℕ) → MayWrite p held' → MayWrite p held
   pub is_synced : held'.is_synced ≡ held.is_synced
   pub synced : held'.syncs ≡ held.syncs
 
@@ -250,14 +276,17 @@ pub record AddsNone (held held' : OpenFiles) (old new : World) : Type 0 where
 
 -- Why not all pieces are cut, or not all printed. `Cut n m` states that the first n of them are stored, and that only
 -- the files of the first m were changed. The causes:
--- - A call of the disk has failed, before the first piece.
--- - A device has failed, or a call of the disk, in the piece after those that are stored.
+-- - A call of the disk has returned the fault, before the first piece.
+-- - The device has failed that the fault is of, or a call of the disk has returned it, in the piece after those that
+--   are stored.
 -- - A line could not be printed, or memory was refused to the look for an older piece.
-pub data StopsCut (fault : SparseCommandFault) (Failed Unprinted : Type 0) (Cut : ℕ → ℕ → Type 0) : Type 0 where
-  not_begun : IsOutsideSparse fault → Failed → Cut 0 0 → StopsCut fault Failed Unprinted Cut
-  failed : IsOutsideSparse fault → Failed → (n : ℕ) → Cut n (n + 1) → StopsCut fault Failed Unprinted Cut
-  untold : (f : HostFault) → fault ≡ faults.Host f → Unprinted ⊎ ((f ≡ hosts.Memory) × Failed) → (n : ℕ) → 0 < n
-      → Cut n n → StopsCut fault Failed Unprinted Cut
+pub data StopsCut (fault : SparseCommandFault) (Failed : Cause → Type 0) (Unprinted : Type 0) (Cut : ℕ → ℕ → Type 0)
+    : Type 0 where
+  not_begun : (f : HostFault) → fault ≡ faults.Host f → Failed (call f) → Cut 0 0
+      → StopsCut fault Failed Unprinted Cut
+  failed : IsOutsideCut Failed fault → (n : ℕ) → Cut n (n + 1) → StopsCut fault Failed Unprinted Cut
+  untold : (f : HostFault) → fault ≡ faults.Host f → Unprinted ⊎ ((f ≡ hosts.Memory) × Failed (call hosts.Memory))
+      → (n : ℕ) → 0 < n → Cut n n → StopsCut fault Failed Unprinted Cut
 
 -- the first fault that x has as an image: of a sparse one, or for its blocks
 abbrev pub HasNoCut : Option ℕ → RunFault → List ℕ → Type 0
@@ -271,14 +300,14 @@ HasBlocksOf None size x = (blocks : List Block) × IsSparseOf size blocks x
 HasBlocksOf (Some n) size x = size ≡ n
 
 -- Why the image x is not cut:
--- - It is no image, or could not be read, or the limit has no room for one of its blocks. Then nothing was changed.
+-- - It is no image, or a read of it has failed, or the limit has no room for one of its blocks. Then nothing was
+--   changed.
 -- - Its pieces are not all cut, or not all printed.
 pub data StopsImage (raw : Option ℕ) (limit : ℕ) (x : List ℕ) (fault : SparseCommandFault)
-    (Failed Unprinted Same : Type 0)
-    (Cut : List (List ℕ) → ℕ → ℕ → Type 0) : Type 0 where
+    (Failed : Cause → Type 0) (Unprinted Same : Type 0) (Cut : List (List ℕ) → ℕ → ℕ → Type 0) : Type 0 where
   no_cut : (f : RunFault) → fault ≡ faults.Run f → HasNoCut raw f x → Same
       → StopsImage raw limit x fault Failed Unprinted Same Cut
-  unread : (f : RunFault) → fault ≡ faults.Run f → Failed → Same
+  unread : (f : DeviceFault) → fault ≡ faults.Run (of_runs.Read f) → Failed reading → Same
       → StopsImage raw limit x fault Failed Unprinted Same Cut
   no_room : (size : ℕ) → HasBlocksOf raw size x → fault ≡ faults.Piece (of_pieces.LimitTooSmall (64 + size))
       → limit < 64 + size → Same → StopsImage raw limit x fault Failed Unprinted Same Cut
@@ -297,8 +326,8 @@ pub record IsTooSmall (fault : PieceFault) (limit : ℕ) (x : List ℕ) : Type 0
 
 -- calls failed, and nothing else has changed
 pub record OnlyFails (old new : OpenFiles) : Type 0 where
-  pub failures : ℕ
-  pub same : new ≡ failing failures old
+  pub failures : Counts
+  pub same : new ≡ counting failures old
 
 -- nor has any file
 pub record ChangesNoFile (held held' : OpenFiles) (old new : World) : Type 0 where
@@ -336,7 +365,7 @@ pub record FirstStand (names : Naming) (from : ℕ) (held held' : OpenFiles) (ol
   pub apart : AreApart names n new
   pub beside : (j f : ℕ) → j < n → new.at (path_in_turn names (j + 1)) ≡ Some f → f ≢ from
   pub synced : held'.syncs ≡ held.syncs + n * (if held.is_synced then 1 else 0)
-  pub only : OnlyAmong (IsFirstPiecePath names m) held.read held'.begun old new
+  pub only : OnlyAmong (IsFirstPiecePath names m held) held.read held'.begun old new
 
 -- The file at one path held an image, and all its pieces are stored. Their lines were printed, and then their number.
 pub record CutsFile (raw : Option ℕ) (limit : ℕ) (input : List ℕ) (names : Naming) (held held' : OpenFiles)
@@ -352,22 +381,25 @@ pub record CutsFile (raw : Option ℕ) (limit : ℕ) (input : List ℕ) (names :
   pub first : FirstStand names from held held' old new (pieces limit size blocks) count count
   pub shown : shows size blocks
 
--- What is left of files, whatever the outcome. Only files with names of pieces were created or changed, IN holds what
--- it held, and no output is open. The result is Ok only where nothing has failed.
+-- What is left of files, whatever the outcome. Only files with names of pieces were created or changed, and none where
+-- it is in use and that is not allowed. IN holds what it held, and no output is open. The result is Ok only where
+-- nothing has failed.
 pub record LeavesCut {X F : Type 0} (r : Result X F) (from prefix : List ℕ) (held held' : OpenFiles) (old new : World)
     : Type 0 where
   pub only : OnlyAmong (IsPiecePath prefix) held.read held'.begun old new
+  pub guarded : OnlyAmong (MayWritePiece prefix held) held.read held'.begun old new
   pub input : KeepsFile from old new
   pub closed : held'.output ≡ None
   pub clean : OnOk r (HasNotFailed held held')
 
--- why the command fails: the file could not be opened, before anything was changed; or for what it holds
+-- why the command fails: the call that opens the file returned the fault, before anything was changed; or for what it
+-- holds
 pub data RefusesCut (raw : Option ℕ) (limit : ℕ) (input : List ℕ) (names : Naming) (fault : SparseCommandFault)
     (held held' : OpenFiles) (old new : World) (Unprinted : Type 0) : Type 0 where
-  unopened : (f : HostFault) → fault ≡ faults.Host f → HasFailed held held' → new ≡ old
+  unopened : (f : HostFault) → fault ≡ faults.Host f → HasFailed (call f) held held' → new ≡ old
       → RefusesCut raw limit input names fault held held' old new Unprinted
-  opened : (from : ℕ) → old.at input ≡ Some from → StopsImage raw limit (old.holds from) fault (HasFailed held held')
-      Unprinted (new ≡ old) (FirstStand names from held held' old new)
+  opened : (from : ℕ) → old.at input ≡ Some from → StopsImage raw limit (old.holds from) fault
+      (λ cause. HasFailed cause held held') Unprinted (new ≡ old) (FirstStand names from held held' old new)
       → RefusesCut raw limit input names fault held held' old new Unprinted
 
 -- ---- which file a refusal is told of

@@ -1,7 +1,8 @@
 -- What the command `sparse` leaves of files, and what it prints.
 use Rattle.std.specs.Prelude.{◌≡◌, ◌≢◌, ◌<◌, ◌≤◌, ◌⊎◌, ◌+◌, ◌-◌, ◌*◌, ◌^◌, ℕ, List, [], ◌∷◌, ◌++◌, length, Bool, false}
-use Rattle.std.specs.Prelude.{Option, Some, None, IsTrue, Result, OnOk, OnErr, IfOk, IfErr, is_ok, if◌then◌else◌}
+use Rattle.std.specs.Prelude.{Option, Some, None, IsTrue, Result, OnOk, IfOk, IfErr, is_ok, if◌then◌else◌}
 use Rattle.abt_sparse.specs.Chunk.{chunks_of, spelling}
+use Rattle.abt_io.specs.declared.device.DeviceFault.{DeviceFault}
 use Rattle.abt_runs.specs.declared.part.RunFault.{RunFault}
 use Rattle.abt_runs.specs.Raw.{RefusedRaw}
 use Rattle.abt_runs.specs.Tail.{raw_list}
@@ -9,8 +10,9 @@ use Rattle.abt_pieces.specs.declared.fault.PieceFault.{PieceFault}
 use Rattle.abt_pieces.specs.declared.fault.PieceFault.TheVariants as pieces
 use Rattle.abt_placed.specs.Unfinished.{IsNoImage}
 use Rattle.abt_sparsify.specs.declared.count.Written.{Written}
+use Rattle.sys_disk.specs.Counts.{Cause, Counts, call, reading, writing}
 use Rattle.sys_disk.specs.World.{World, OpenFiles, ClosesOutput, KeepsFile, OnlyAt, Spares, SparesRest, HasFailed}
-use Rattle.sys_disk.specs.World.{HasNotFailed, ended}
+use Rattle.sys_disk.specs.World.{HasNotFailed, SparesInUse, ended}
 use Rattle.cmd_common_sparse.specs.Blocks.{IsRawBlockSize, most_of}
 use Rattle.cmd_common_sparse.specs.declared.blocks.Blocks.{Blocks}
 use Rattle.cmd_common_sparse.specs.Lines.{line_text}
@@ -61,7 +63,8 @@ HoldsNoPartOfSparse input output t size old new = (file : ℕ) → new.at output
     ⊎ (HoldsNoSparse (new.holds file) ⊎ HoldsImage input t size old (new.holds file))
 
 -- What is left, whatever the result, by a call that writes the sparse image of one file to another:
--- - Only the other may hold anything else. The first holds what it held.
+-- - Only the other may hold anything else, and not where it is in use and that is not allowed. The first holds what it
+--   held.
 -- - No output is open.
 -- - A file that can be overwritten has no part of an image.
 -- - After an Ok it was synced, where that is requested, and nothing has failed.
@@ -69,6 +72,7 @@ pub record LeavesImage {X F : Type 0} (r : Result X F) (from onto : List ℕ) (t
     (is_over : Bool) (held held' : OpenFiles) (old new : World) : Type 0 where
   pub synced : OnOk r (held'.syncs ≡ held.syncs + (if held.is_synced then 1 else 0))
   pub others : OnlyAt held.read onto old new
+  pub guarded : SparesInUse onto held old new
   pub input : KeepsFile from old new
   pub closed : held'.output ≡ None
   pub whole : IsTrue is_over → HoldsNoPartOfSparse from onto t size old new
@@ -81,44 +85,50 @@ pub record HasNoBlocks (path : List ℕ) (size : ℕ) (old new : World) (fault :
   pub fails : RefusedRaw fault size (length (old.holds file))
   pub untouched : new ≡ old
 
--- a device failed
-abbrev pub IsOfPieceDevices : PieceFault → Type 0
-IsOfPieceDevices (pieces.Read f) = Unit {0}
-IsOfPieceDevices (pieces.Write f) = Unit {0}
-IsOfPieceDevices pieces.SourceChanged = ⊥
-IsOfPieceDevices pieces.TooLarge = ⊥
-IsOfPieceDevices (pieces.BadBlock n) = ⊥
-IsOfPieceDevices (pieces.LimitTooSmall n) = ⊥
+-- the fault is of a device that has failed: of reading one, or of writing one
+abbrev pub IsOfPieceDevices : (Cause → Type 0) → PieceFault → Type 0
+IsOfPieceDevices failed (pieces.Read f) = failed reading
+IsOfPieceDevices failed (pieces.Write f) = failed writing
+IsOfPieceDevices failed pieces.SourceChanged = ⊥
+IsOfPieceDevices failed pieces.TooLarge = ⊥
+IsOfPieceDevices failed (pieces.BadBlock n) = ⊥
+IsOfPieceDevices failed (pieces.LimitTooSmall n) = ⊥
 
--- a fault of the devices or of files
-abbrev pub IsOutsideSparse : SparseCommandFault → Type 0
-IsOutsideSparse (faults.Sparse f) = ⊥
-IsOutsideSparse (faults.Run f) = ⊥
-IsOutsideSparse (faults.Piece f) = IsOfPieceDevices f
-IsOutsideSparse (faults.Flash f) = ⊥
-IsOutsideSparse (faults.Verify f) = ⊥
-IsOutsideSparse (faults.OtherBlocks image) = ⊥
-IsOutsideSparse (faults.OtherCut image) = ⊥
-IsOutsideSparse (faults.Host f) = Unit {0}
+-- it is such a fault, or a call of the disk has returned it
+abbrev pub IsOutsideSparse : (Cause → Type 0) → SparseCommandFault → Type 0
+IsOutsideSparse failed (faults.Sparse f) = ⊥
+IsOutsideSparse failed (faults.Run f) = ⊥
+IsOutsideSparse failed (faults.Piece f) = IsOfPieceDevices failed f
+IsOutsideSparse failed (faults.Flash f) = ⊥
+IsOutsideSparse failed (faults.Verify f) = ⊥
+IsOutsideSparse failed (faults.OtherBlocks image) = ⊥
+IsOutsideSparse failed (faults.OtherCut image) = ⊥
+IsOutsideSparse failed (faults.Host f) = failed (call f)
 
--- the block size doesn't fit the file at this path, and this is found before anything is changed; or a device failed;
--- or a call of the disk did; or everything was done and the line could not be printed
+-- the block size doesn't fit the file at this path, and this is found before anything is changed; or the device failed
+-- that the fault is of; or a call of the disk returned the fault; or everything was done and the line could not be
+-- printed
 abbrev pub RefusesRaw : List ℕ → ℕ → World → World → OpenFiles → OpenFiles → Type 0 → SparseCommandFault → Type 0
 RefusesRaw path size old new held held' Done (faults.Run f) = HasNoBlocks path size old new f
-RefusesRaw path size old new held held' Done (faults.Piece f) = IsOfPieceDevices f × HasFailed held held'
-RefusesRaw path size old new held held' Done (faults.Host f) = HasFailed held held' ⊎ Done
+RefusesRaw path size old new held held' Done (faults.Piece f) = IsOfPieceDevices (λ cause. HasFailed cause held held') f
+RefusesRaw path size old new held held' Done (faults.Host f) = HasFailed (call f) held held' ⊎ Done
 RefusesRaw path size old new held held' Done (faults.Sparse f) = ⊥
 RefusesRaw path size old new held held' Done (faults.Flash f) = ⊥
 RefusesRaw path size old new held held' Done (faults.Verify f) = ⊥
 RefusesRaw path size old new held held' Done (faults.OtherBlocks image) = ⊥
 RefusesRaw path size old new held held' Done (faults.OtherCut image) = ⊥
 
--- the open output was closed; it had failed this often, or more often in the end; no other file has changed
+-- the open output was closed; writing it had failed this often, or more often in the end; no other file has changed
 pub record GivesUp (faults : ℕ) (held held' : OpenFiles) (old new : World) : Type 0 where
-  pub failures : ℕ
+  pub failures : Counts
   pub closed : held' ≡ ended false failures held
-  pub least : faults ≤ failures
+  pub least : faults ≤ failures.failed writing
   pub rest : SparesRest held.output old new
+
+-- the fault that is told is this one, or that of an earlier write
+pub data TellsFirst (fault told : SparseCommandFault) (Earlier : Type 0) : Type 0 where
+  itself : told ≡ fault → TellsFirst fault told Earlier
+  earlier : (f : DeviceFault) → told ≡ faults.Piece (pieces.Write f) → Earlier → TellsFirst fault told Earlier
 
 -- a raw image of this many bytes can be written in these blocks
 pub record FitsBlocks (t : Bool) (blocks : Blocks) (bytes : ℕ) : Type 0 where
@@ -147,13 +157,18 @@ pub record ReadyToLay (t : Bool) (blocks : Blocks) (bytes : ℕ) (written : List
   pub fits : FitsBlocks t blocks bytes
   pub empty : written ≡ []
 
--- Of devices that had failed so often before, and have now, none has failed more where all was done; and where it was
--- not, one has, and the fault is theirs.
-pub record OnlyDevicesFail {X : Type 0} (r : Result X SparseCommandFault) (models : Bool) (failed failed' : ℕ)
-    : Type 0 where
-  pub outside : IsTrue models → IfErr r IsOutsideSparse
-  pub clean : OnOk r (failed' ≡ failed)
-  pub cause : IsTrue models → OnErr r (failed < failed')
+-- of two devices that had failed so often before, and have now, the one that was read has failed more, or the one that
+-- was written
+abbrev pub DevicesFail : ℕ → ℕ → ℕ → ℕ → Cause → Type 0
+DevicesFail reads reads' writes writes' (call f) = ⊥
+DevicesFail reads reads' writes writes' reading = reads < reads'
+DevicesFail reads reads' writes writes' writing = writes < writes'
+
+-- none of them has failed more where all was done; and where it was not, the one has that the fault is of
+pub record OnlyDevicesFail {X : Type 0} (r : Result X SparseCommandFault) (models : Bool)
+    (reads reads' writes writes' : ℕ) : Type 0 where
+  pub clean : OnOk r ((reads' ≡ reads) × (writes' ≡ writes))
+  pub cause : IsTrue models → IfErr r (IsOutsideSparse (DevicesFail reads reads' writes writes'))
 
 -- these are the numbers of the sparse image of these bytes, and it was written to an empty output
 pub record IsWritten (t : Bool) (size : ℕ) (x : List ℕ) (a : Written) (bytes : List ℕ) : Type 0 where
@@ -162,11 +177,11 @@ pub record IsWritten (t : Bool) (size : ℕ) (x : List ℕ) (a : Written) (bytes
   pub long : a.bytes ≡ length bytes
   pub holds : bytes ≡ image_of_raw t size x
 
--- What a call leaves that writes it of devices that had failed so often before, and have now.
+-- what a call leaves that writes it, of devices that had failed so often before, and have now
 pub record LaysSparseImage (r : Result Written SparseCommandFault) (models t : Bool) (size : ℕ) (x bytes : List ℕ)
-    (failed failed' : ℕ) : Type 0 where
+    (reads reads' writes writes' : ℕ) : Type 0 where
   pub written : IsTrue models → IfOk r (λ a. IsWritten t size x a bytes)
-  pub fails : OnlyDevicesFail r models failed failed'
+  pub fails : OnlyDevicesFail r models reads reads' writes writes'
 
 -- the output that was open holds the sparse image of these bytes, which has these numbers
 abbrev pub HoldsWritten : Bool → ℕ → List ℕ → Written → Option ℕ → World → World → Type 0
@@ -180,10 +195,11 @@ LeavesNoneOrSparse t size x (Some file) new = HoldsNoSparse (new.holds file)
     ⊎ (new.holds file ≡ image_of_raw t size x)
 
 -- The open output is completed and closed. After an Ok it holds the sparse image of these bytes, which has these
--- numbers. No other file has changed. After an Err a device or a file was at fault.
+-- numbers. No other file has changed. After an Err the device has failed that the fault is of, or a call of the disk
+-- has returned it.
 pub record WritesSparseImage {F : Type 0} (r : Result (Written × Bool) F) (fault : F → SparseCommandFault) (t : Bool)
     (size : ℕ) (x : List ℕ) (held held' : OpenFiles) (old new : World) : Type 0 where
   pub holds : IfOk r (λ end. HoldsWritten t size x end.0 held.output old new)
   pub closed : ClosesOutput (is_ok r) held held'
   pub rest : SparesRest held.output old new
-  pub outside : IfErr r (λ refusal. IsOutsideSparse (fault refusal))
+  pub outside : IfErr r (λ refusal. IsOutsideSparse (λ cause. HasFailed cause held held') (fault refusal))

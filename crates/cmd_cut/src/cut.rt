@@ -11,9 +11,9 @@ ghost use Rattle.sys_refusals.specs.declared.told.Side.{Side};
 ghost use Rattle.sys_report.specs.Shows.{CannotPrint};
 ghost use Rattle.abt_runs.specs.Sparse.{SparseOpened, SparsePlace, blocks_together, sparse_list};
 ghost use Rattle.abt_sparse.specs.View.{view};
-ghost use Rattle.cmd_cut.specs.Cutting.{CutsFile, CutsImage, CutsSoFar, IsPiecePath, IsUnbegun, IsUncutSparse};
-ghost use Rattle.cmd_cut.specs.Cutting.{LeavesCut, LeavesPieces, RefusesCut, ShowsCut, StopsImage, TellsOfImage};
-ghost use Rattle.cmd_cut.specs.Cutting.{TellsOfPiece};
+ghost use Rattle.cmd_cut.specs.Cutting.{CutsFile, CutsImage, CutsSoFar, IsUnbegun, IsUncutSparse};
+ghost use Rattle.cmd_cut.specs.Cutting.{LeavesCut, LeavesPieces, MayWritePiece, RefusesCut, ShowsCut, StopsImage};
+ghost use Rattle.cmd_cut.specs.Cutting.{TellsOfImage, TellsOfPiece};
 ghost use Rattle.cmd_cut.specs.Leaving.{BeginsCut, SparesImage};
 ghost use Rattle.cmd_common_sparse.specs.Fault.{side_of};
 ghost use Rattle.cmd_common_sparse.specs.PieceNames.{naming_of};
@@ -63,8 +63,8 @@ pub fn cut_file<'a, D: Disk>(
     ensures done { IsTrue D.models → OnOk result (CutsFile order.entry.raw order.entry.limit (path_of order.entry.input)
         (naming_of order.entry.names) (D.held disk.old) (D.held disk.new) (D.world disk.old) (D.world disk.new)
         (ShowsCut (naming_of order.entry.names) order.entry.limit (D.world disk.new) report.old report.new)) }
-    // whatever the outcome, only such files were created or changed, IN holds what it held, and no output is open;
-    // after an Ok nothing has failed
+    // whatever the outcome, only such files were created or changed, and none where it is in use and that is not
+    // allowed, IN holds what it held, and no output is open; after an Ok nothing has failed
     ensures leaves { IsTrue D.models → LeavesCut result (path_of order.entry.input) order.entry.names.prefix.now
         (D.held disk.old) (D.held disk.new) (D.world disk.old) (D.world disk.new) }
     // nothing was changed where an existing file with the name of a piece is IN's; no file that can be overwritten has
@@ -72,7 +72,7 @@ pub fn cut_file<'a, D: Disk>(
     ensures spares { IsTrue D.models → SparesImage order.entry.raw order.entry.limit D.is_over
         (naming_of order.entry.names) order.entry.input.name.now (path_of order.entry.input) (D.world disk.old)
         (D.world disk.new) }
-    // it fails for what IN holds, for the limit, or for a fault of files or devices
+    // it fails for what IN holds, for the limit, or for a fault of a call or a device that has failed
     ensures refused { IsTrue D.models → IfErr result (λ refusal. RefusesCut order.entry.raw order.entry.limit
         (path_of order.entry.input) (naming_of order.entry.names) refusal.fault (D.held disk.old) (D.held disk.new)
         (D.world disk.old) (D.world disk.new) (CannotPrint report.old report.new)) }
@@ -110,13 +110,13 @@ fn cut_raw<'a, D: Disk>(
         (D.At.content source)
         (D.held disk.old) (D.held disk.new) (D.world disk.old) (D.world disk.new)
         (ShowsCut (naming_of order.entry.names) order.entry.limit (D.world disk.new) report.old report.new)) }
-    ensures leaves { IsTrue D.models → LeavesPieces result (IsPiecePath order.entry.names.prefix.now) (D.held disk.old)
-        (D.held disk.new) (D.world disk.old) (D.world disk.new) }
+    ensures leaves { IsTrue D.models → LeavesPieces result (MayWritePiece order.entry.names.prefix.now
+        (D.held disk.old)) (D.held disk.old) (D.held disk.new) (D.world disk.old) (D.world disk.new) }
     ensures begins { IsTrue D.models → BeginsCut (Some size) order.entry.limit D.is_over (naming_of order.entry.names)
         order.entry.input.name.now (D.At.content source) (D.held disk.old) (D.world disk.old) (D.world disk.new) }
     ensures refused { IsTrue D.models → IfErr result (λ refusal. StopsImage (Some size) order.entry.limit
-        (D.At.content source) refusal.fault (HasFailed (D.held disk.old) (D.held disk.new)) (CannotPrint report.old
-        report.new) (D.world disk.new ≡ D.world disk.old)
+        (D.At.content source) refusal.fault (λ cause. HasFailed cause (D.held disk.old) (D.held disk.new))
+        (CannotPrint report.old report.new) (D.world disk.new ≡ D.world disk.old)
         (λ ps n m. CutsSoFar (naming_of order.entry.names) ps n m (D.held disk.old) (D.held disk.new) (D.world disk.old)
         (D.world disk.new))) }
     ensures told_of { IfErr result (λ refusal. TellsRead (side_of refusal.fault) refusal.about.place
@@ -155,13 +155,13 @@ fn cut_sparse<'a, D: Disk>(
     ensures done { IsTrue D.models → OnOk result (CutsImage None order.entry.limit (naming_of order.entry.names)
         (D.At.content source) (D.held disk.old) (D.held disk.new) (D.world disk.old) (D.world disk.new)
         (ShowsCut (naming_of order.entry.names) order.entry.limit (D.world disk.new) report.old report.new)) }
-    ensures leaves { IsTrue D.models → LeavesPieces result (IsPiecePath order.entry.names.prefix.now) (D.held disk.old)
-        (D.held disk.new) (D.world disk.old) (D.world disk.new) }
+    ensures leaves { IsTrue D.models → LeavesPieces result (MayWritePiece order.entry.names.prefix.now
+        (D.held disk.old)) (D.held disk.old) (D.held disk.new) (D.world disk.old) (D.world disk.new) }
     ensures begins { IsTrue D.models → BeginsCut None order.entry.limit D.is_over (naming_of order.entry.names)
         order.entry.input.name.now (D.At.content source) (D.held disk.old) (D.world disk.old) (D.world disk.new) }
     ensures refused { IsTrue D.models → IfErr result (λ refusal. StopsImage None order.entry.limit (D.At.content source)
-        refusal.fault (HasFailed (D.held disk.old) (D.held disk.new)) (CannotPrint report.old
-        report.new) (D.world disk.new ≡ D.world disk.old)
+        refusal.fault (λ cause. HasFailed cause (D.held disk.old) (D.held disk.new))
+        (CannotPrint report.old report.new) (D.world disk.new ≡ D.world disk.old)
         (λ ps n m. CutsSoFar (naming_of order.entry.names) ps n m (D.held disk.old) (D.held disk.new) (D.world disk.old)
         (D.world disk.new))) }
     ensures told_of { IfErr result (λ refusal. TellsRead (side_of refusal.fault) refusal.about.place

@@ -2,6 +2,7 @@
 
 ghost use Rattle.std.specs.Prelude.{◌≡◌, ◌<◌, ◌≤◌, ◌+◌, ◌-◌, ◌^◌, ◌⊎◌, ◌++◌, ◌∷◌, [], None, length, IsTrue, IfOk};
 ghost use Rattle.std.specs.Prelude.{IfErr, OnOk, OnErr};
+ghost use Rattle.sys_disk.specs.Counts.{call};
 ghost use Rattle.sys_disk.specs.World.{HasFailed, IsFree};
 ghost use Rattle.sys_refusals.specs.Blamed.{TellsRead, input_of};
 ghost use Rattle.sys_refusals.specs.Paths.{shown_place};
@@ -10,9 +11,9 @@ ghost use Rattle.sys_report.specs.Shows.{CannotPrint, IsNoted, Notes, Shows, ref
 ghost use Rattle.cmd_common_sparse.specs.Fault.{side_of};
 ghost use Rattle.cmd_common_sparse.specs.Lines.{left_over_text};
 ghost use Rattle.cmd_common_sparse.specs.PieceNames.{naming_of};
-ghost use Rattle.cmd_cut.specs.Cutting.{ChangesNoFile, CutsAll, CutsSoFar, IsPiecePath, IsUnbegun};
-ghost use Rattle.cmd_cut.specs.Cutting.{LeavesPieces, OnlyLeaves, ReadyFirstPiece, ShowsCount, ShowsCut};
-ghost use Rattle.cmd_cut.specs.Cutting.{ShowsPieces, StopsCut, TellsOfNext, cut_into, piece_line};
+ghost use Rattle.cmd_cut.specs.Cutting.{ChangesNoFile, CutsAll, CutsSoFar, FailsBeside, IsUnbegun, MayWritePiece};
+ghost use Rattle.cmd_cut.specs.Cutting.{LeavesPieces, NoneFailsBeside, OnlyLeaves, ReadyFirstPiece, ShowsCount};
+ghost use Rattle.cmd_cut.specs.Cutting.{ShowsCut, ShowsPieces, StopsCut, TellsOfNext, cut_into, piece_line};
 ghost use Rattle.cmd_cut.specs.Leaving.{AreFreeInTurn, LeavesNoPart, LooksAtPieces};
 ghost use Rattle.cmd_common_sparse.specs.PieceNames.{IsPieceName};
 
@@ -51,17 +52,17 @@ pub(crate) fn cut_pieces<'a, D: Disk, B: BlockRuns + LaysPieces + Drop>(
         (D.world disk.new) report.old report.new (B.size pieces.cutter.runs)
         (B.list pieces.cutter.runs (D.At.content source)))) }
     // whatever the outcome, only piece files were created or changed, and none is open; after an Ok nothing has failed
-    ensures leaves { IsTrue D.models → LeavesPieces result (IsPiecePath names.entry.prefix.now) (D.held disk.old)
-        (D.held disk.new) (D.world disk.old) (D.world disk.new) }
+    ensures leaves { IsTrue D.models → LeavesPieces result (MayWritePiece names.entry.prefix.now (D.held disk.old))
+        (D.held disk.old) (D.held disk.new) (D.world disk.old) (D.world disk.new) }
     // nothing was changed where the name of a piece leads to the image's file, as far as the look comes; no file that
     // can be overwritten has a part of a piece
     ensures spares { IsTrue D.models → LooksAtPieces (naming_of names.entry) input.entry.name.now (D.held disk.old)
         (D.world disk.old) (D.world disk.new) × LeavesNoPart D.is_over (naming_of names.entry)
         (cut_into pieces.cutter.limit (B.size pieces.cutter.runs) (B.list pieces.cutter.runs (D.At.content source)))
         (D.world disk.old) (D.world disk.new) }
-    // it fails where something has failed, or can't be printed
+    // it fails where a call or a device has failed that the fault is of, or a line can't be printed
     ensures refused { IsTrue D.models → IfErr result (λ refusal. StopsCut refusal.fault
-        (HasFailed (D.held disk.old) (D.held disk.new)) (CannotPrint report.old report.new)
+        (λ cause. HasFailed cause (D.held disk.old) (D.held disk.new)) (CannotPrint report.old report.new)
         (λ n m. CutsSoFar (naming_of names.entry)
         (cut_into pieces.cutter.limit (B.size pieces.cutter.runs) (B.list pieces.cutter.runs (D.At.content source))) n m (D.held disk.old)
         (D.held disk.new) (D.world disk.old) (D.world disk.new))) }
@@ -103,7 +104,8 @@ fn tell_all<'a, D: Disk>(
         (D.world disk.old) report.old report.new) }
     ensures held { IsTrue D.models → OnOk result (D.held disk.new ≡ D.held disk.old) }
     ensures refused { IsTrue D.models → IfErr result (λ refusal. CannotPrint report.old report.new
-        ⊎ ((refusal.fault ≡ HostFault.Memory) × HasFailed (D.held disk.old) (D.held disk.new))) }
+        ⊎ ((refusal.fault ≡ HostFault.Memory)
+        × HasFailed (call HostFault.Memory) (D.held disk.old) (D.held disk.new))) }
     ensures keeps { IsTrue D.models → ChangesNoFile (D.held disk.old) (D.held disk.new) (D.world disk.old)
         (D.world disk.new) }
 {
@@ -161,19 +163,19 @@ fn write_pieces<'a, D: Disk, B: BlockRuns + LaysPieces + Drop>(
         report.new) }
     ensures rises { refusals report.old ≤ refusals report.new }
     ensures named { IfOk result.1 (λ files. files.names ≡ names.entry) }
-    ensures left { IsTrue D.models → OnlyLeaves (IsPiecePath names.entry.prefix.now) (D.held disk.old) (D.held disk.new)
-        (D.world disk.old) (D.world disk.new) }
+    ensures left { IsTrue D.models → OnlyLeaves (MayWritePiece names.entry.prefix.now (D.held disk.old))
+        (D.held disk.old) (D.held disk.new) (D.world disk.old) (D.world disk.new) }
     ensures whole { IsTrue D.models → LeavesNoPart D.is_over (naming_of names.entry) (cut_into pieces.cutter.limit
         (B.size pieces.cutter.runs) (B.list pieces.cutter.runs (D.At.content source))) (D.world disk.old)
         (D.world disk.new) }
     ensures refused { IsTrue D.models → IfErr result.1 (λ refusal. StopsCut refusal.fault
-        ((D.held disk.old).failed + D.At.read_faults source
-        < (D.held disk.new).failed + D.At.read_faults result.0) (CannotPrint report.old report.new)
+        (FailsBeside (D.At.read_faults source) (D.At.read_faults result.0) (D.held disk.old) (D.held disk.new))
+        (CannotPrint report.old report.new)
         (λ n m. CutsSoFar (naming_of names.entry) (cut_into pieces.cutter.limit (B.size pieces.cutter.runs)
         (B.list pieces.cutter.runs (D.At.content source))) n m (D.held disk.old) (D.held disk.new)
         (D.world disk.old) (D.world disk.new))) }
-    ensures clean { IsTrue D.models → OnOk result.1 ((D.held disk.new).failed + D.At.read_faults result.0
-        ≡ (D.held disk.old).failed + D.At.read_faults source) }
+    ensures clean { IsTrue D.models → OnOk result.1 (NoneFailsBeside (D.At.read_faults source)
+        (D.At.read_faults result.0) (D.held disk.old) (D.held disk.new)) }
     ensures told_of { IfErr result.1 (λ refusal. TellsRead (side_of refusal.fault) refusal.about.place
         (input_of sides.entry)) }
     ensures told_of_piece { IsTrue D.models → IfErr result.1 (λ refusal. side_of refusal.fault ≡ Side.Output
@@ -241,7 +243,8 @@ fn refuse_image_as_piece<'a, D: Disk>(
     ensures named { IsTrue D.models → OnOk result (IsPieceName names.entry.prefix.now image.now
         → IsFree image.now (D.held disk.old) (D.world disk.old)) }
     ensures held { IsTrue D.models → OnOk result (D.held disk.new ≡ D.held disk.old) }
-    ensures refused { IsTrue D.models → OnErr result (HasFailed (D.held disk.old) (D.held disk.new)) }
+    ensures refused { IsTrue D.models → IfErr result (λ refusal. HasFailed (call refusal.fault) (D.held disk.old)
+        (D.held disk.new)) }
     ensures keeps { IsTrue D.models → ChangesNoFile (D.held disk.old) (D.held disk.new) (D.world disk.old)
         (D.world disk.new) }
 {

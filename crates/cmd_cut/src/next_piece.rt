@@ -1,10 +1,10 @@
 //! The engine's calls that write the next piece of an image, with the progress of the command.
 
-ghost use Rattle.std.specs.Prelude.{◌≡◌, ◌+◌, [], None, Some, IsTrue, IfOk, IfSome, OnErr};
+ghost use Rattle.std.specs.Prelude.{◌≡◌, [], None, Some, IsTrue, IfErr, IfOk, IfSome, OnErr, OnOk};
 ghost use Rattle.abt_pieces.specs.Turn.{HasAt};
 ghost use Rattle.abt_sparse.specs.Pieces.{pieces};
-ghost use Rattle.cmd_cut.specs.Cutting.{CutsPiece, ReadyPiece, NumbersOfPiece};
-ghost use Rattle.cmd_cut.specs.Sparsing.{HoldsNoSparse, OnlyDevicesFail};
+ghost use Rattle.cmd_cut.specs.Cutting.{CutsPiece, IsOutsideCut, ReadyPiece, NumbersOfPiece};
+ghost use Rattle.cmd_cut.specs.Sparsing.{DevicesFail, HoldsNoSparse, OnlyDevicesFail};
 
 use crate::zero_first::ZeroFirst;
 use abt_io::{Meter, Output, Overwrite, Window};
@@ -36,9 +36,9 @@ pub(crate) fn write_next<B: BlockRuns + Drop, S: Lasting, O: Output>(
     ensures cuts { CutsPiece result (λ p. p) B.BlockRuns S.Source cutter.old.runs cutter.new.runs source.old.device
         source.new.device cutter.old.limit cutter.new.limit cutter.old.made cutter.new.made cutter.old.start
         cutter.new.start cutter.new.stage }
-    // it fails where one of the devices has failed
-    ensures fails { OnlyDevicesFail result S.models (S.read_faults source.old.device + O.write_faults output.old)
-        (S.read_faults source.new.device + O.write_faults output.new) }
+    // it fails where the device has failed that the fault is of
+    ensures fails { OnlyDevicesFail result S.models (S.read_faults source.old.device) (S.read_faults source.new.device)
+        (O.write_faults output.old) (O.write_faults output.new) }
 {
     let answer = cutter.next_piece(source, output, w, m);
     match changed(source.device.shorter()) {
@@ -86,9 +86,11 @@ pub(crate) trait LaysPieces: BlockRuns + Drop {
         ensures cuts { CutsPiece result.1 (λ p. p) Self.BlockRuns S.Source cutter.old.runs cutter.new.runs
             source.old.device source.new.device cutter.old.limit cutter.new.limit cutter.old.made cutter.new.made
             cutter.old.start cutter.new.start cutter.new.stage }
-        // it fails where one of the devices has failed
-        ensures fails { OnlyDevicesFail result.1 S.models (S.read_faults source.old.device + O.write_faults image)
-            (S.read_faults source.new.device + O.write_faults result.0) }
+        // it fails where the device has failed that the fault is of
+        ensures clean { OnOk result.1 ((S.read_faults source.new.device ≡ S.read_faults source.old.device)
+            × (O.write_faults result.0 ≡ O.write_faults image)) }
+        ensures cause { IsTrue S.models → IfErr result.1 (IsOutsideCut (DevicesFail (S.read_faults source.old.device)
+            (S.read_faults source.new.device) (O.write_faults image) (O.write_faults result.0))) }
         // then what was written is no image
         ensures broken { IsTrue S.models → OnErr result.1 (HoldsNoSparse (O.written result.0)) };
 }

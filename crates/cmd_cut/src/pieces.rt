@@ -1,14 +1,15 @@
 //! Writes one piece of an image to a file of its own.
 
-ghost use Rattle.std.specs.Prelude.{◌≡◌, ◌<◌, ◌+◌, [], None, IsTrue, IfErr, IfOk, OnOk, OnErr};
+ghost use Rattle.std.specs.Prelude.{◌≡◌, [], None, IsTrue, IfErr, IfOk, OnOk, OnErr};
 ghost use Rattle.sys_refusals.specs.Blamed.{TellsOf, input_of};
 ghost use Rattle.sys_refusals.specs.Paths.{path_out};
 ghost use Rattle.cmd_common_sparse.specs.Fault.{side_of};
 ghost use Rattle.cmd_cut.specs.Cutting.{AddsNone, AddsPiece, CutsPiece, OnlyLeaves, PutsPiece, ReadyPiece};
-ghost use Rattle.cmd_cut.specs.Cutting.{NumbersOfPiece, cut_into};
+ghost use Rattle.cmd_cut.specs.Cutting.{FailsBeside, IsOutsideCut, NoneFailsBeside, NumbersOfPiece, cut_into};
 ghost use Rattle.cmd_cut.specs.Leaving.{HoldsNoneOrPiece, KeepsOrHolds};
-ghost use Rattle.cmd_cut.specs.Sparsing.{IsOutsideSparse, GivesUp, ReadyOutput};
+ghost use Rattle.cmd_cut.specs.Sparsing.{GivesUp, ReadyOutput};
 ghost use Rattle.sys_disk.specs.Images.{Leaves};
+ghost use Rattle.sys_disk.specs.World.{MayWrite};
 
 use crate::next_piece::{LaysPieces, write_next};
 use crate::stopped_command::stopped;
@@ -47,9 +48,10 @@ pub(crate) fn put_piece<'a, D: Disk, B: BlockRuns + LaysPieces + Drop>(
         (cut_into pieces.old.cutter.limit (B.size pieces.old.cutter.runs) (B.list pieces.old.cutter.runs
         (D.At.content source.old.device))) pieces.old.cutter.made (path_out place.entry) (D.world disk.old)
         (D.world disk.new)) }
-    // whatever the outcome, no other file was changed, and none is open
-    ensures left { IsTrue D.models → OnlyLeaves (λ path. path ≡ path_out place.entry) (D.held disk.old)
-        (D.held disk.new) (D.world disk.old) (D.world disk.new) }
+    // whatever the outcome, no other file was changed, nor this one where it is in use and that is not allowed, and
+    // none is open
+    ensures left { IsTrue D.models → OnlyLeaves (λ path. (path ≡ path_out place.entry)
+        × MayWrite path (D.held disk.old)) (D.held disk.old) (D.held disk.new) (D.world disk.old) (D.world disk.new) }
     ensures told { IsTrue D.models → IfOk result (λ end. NumbersOfPiece pieces.old.cutter.limit
         (B.size pieces.old.cutter.runs) (B.list pieces.old.cutter.runs (D.At.content source.old.device))
         pieces.old.cutter.made end.0) }
@@ -57,12 +59,12 @@ pub(crate) fn put_piece<'a, D: Disk, B: BlockRuns + LaysPieces + Drop>(
         pieces.new.cutter.runs source.old.device source.new.device pieces.old.cutter.limit pieces.new.cutter.limit
         pieces.old.cutter.made pieces.new.cutter.made pieces.old.cutter.start pieces.new.cutter.start
         pieces.new.cutter.stage }
-    // it fails where something has failed
-    ensures outside { IsTrue D.models → IfErr result (λ refusal. IsOutsideSparse refusal.fault) }
-    ensures clean { IsTrue D.models → OnOk result ((D.held disk.new).failed + D.At.read_faults source.new.device
-        ≡ (D.held disk.old).failed + D.At.read_faults source.old.device) }
-    ensures cause { IsTrue D.models → OnErr result ((D.held disk.old).failed + D.At.read_faults source.old.device
-        < (D.held disk.new).failed + D.At.read_faults source.new.device) }
+    // it fails where the device has failed that the fault is of, or a call of the disk has returned it
+    ensures clean { IsTrue D.models → OnOk result (NoneFailsBeside (D.At.read_faults source.old.device)
+        (D.At.read_faults source.new.device) (D.held disk.old) (D.held disk.new)) }
+    ensures outside { IsTrue D.models → IfErr result (λ refusal. IsOutsideCut (FailsBeside
+        (D.At.read_faults source.old.device) (D.At.read_faults source.new.device) (D.held disk.old)
+        (D.held disk.new)) refusal.fault) }
     // a fault of what is read is told of IN, and one of what is written of this file
     ensures told_of { IfErr result (λ refusal. TellsOf (side_of refusal.fault) refusal.about.place
         (input_of sides.entry) (Some place.entry)) }
@@ -176,7 +178,6 @@ fn unended<'a, D: Disk>(disk: &mut D, image: D::Image, place: FileArg<'a>) -> Sp
     ensures holds { IsTrue D.models → Leaves (D.held disk.old).output (D.Image.Output.written image) (D.world disk.new) }
     ensures closed { IsTrue D.models → GivesUp (D.Image.Output.write_faults image) (D.held disk.old) (D.held disk.new)
         (D.world disk.old) (D.world disk.new) }
-    ensures outside { IsOutsideSparse result.fault }
     ensures host { result.fault ≡ SparseCommandFault.Host HostFault.Write }
 {
     let refused = HostRefusal::at(HostFault::Write, place, image.why()).begun(place);

@@ -37,13 +37,14 @@ pub fn sparse_file<'a, D: Disk>(
     ensures done { IsTrue D.models → OnOk result (SparsifiesFile (path_of input.entry) (path_out output.entry)
         as_img2simg block (D.world disk.old) (D.world disk.new) (ShowsBeside (D.on_output (path_out output.entry))
         report.old report.new)) }
-    // whatever the outcome, only OUT may hold anything else, IN holds what it held, and a file has no part of an
-    // image; after an Ok OUT was synced, where that is requested, and nothing has failed
+    // whatever the outcome, only OUT may hold anything else, and not where it is in use and that is not allowed, IN
+    // holds what it held, and a file has no part of an image; after an Ok OUT was synced, where that is requested, and
+    // nothing has failed
     ensures left { IsTrue D.models → LeavesImage result (path_of input.entry) (path_out output.entry) as_img2simg
         block (D.is_over (path_out output.entry)) (D.held disk.old) (D.held disk.new) (D.world disk.old)
         (D.world disk.new) }
-    // it fails for a block size that doesn't fit IN, before anything is changed; or for a fault of files or devices;
-    // or where everything was done, but its line can't be printed
+    // it fails for a block size that doesn't fit IN, before anything is changed; or for a fault of a call or a device
+    // that has failed; or where everything was done, but its line can't be printed
     ensures refused { IsTrue D.models → IfErr result (λ refusal. RefusesRaw (path_of input.entry) block
         (D.world disk.old) (D.world disk.new) (D.held disk.old) (D.held disk.new)
         (SparsifiesFile (path_of input.entry) (path_out output.entry) as_img2simg block (D.world disk.old)

@@ -1,10 +1,12 @@
 //! The fault of a command that stopped, where its file is written late.
 
 ghost use Rattle.std.specs.Prelude.{◌≡◌, ◌≤◌, false, IsTrue, IfErr, IfOk, OnOk};
+ghost use Rattle.sys_disk.specs.Counts.{writing};
 ghost use Rattle.sys_disk.specs.Images.{Leaves};
+ghost use Rattle.sys_disk.specs.World.{HasFailed};
 ghost use Rattle.sys_refusals.specs.Blamed.{TellsOf, input_of};
 ghost use Rattle.cmd_common_sparse.specs.Fault.{side_of};
-ghost use Rattle.cmd_cut.specs.Sparsing.{IsOutsideSparse, GivesUp};
+ghost use Rattle.cmd_cut.specs.Sparsing.{GivesUp, TellsFirst};
 
 use abt_io::DeviceFault;
 use abt_pieces::PieceFault;
@@ -23,7 +25,9 @@ pub(crate) fn stopped<'a, D: Disk>(
     ensures left { IsTrue D.models → Leaves (D.held disk.old).output (D.Image.Output.written image) (D.world disk.new) }
     ensures closed { IsTrue D.models → GivesUp (D.Image.Output.write_faults image) (D.held disk.old) (D.held disk.new)
         (D.world disk.old) (D.world disk.new) }
-    ensures outside { IsOutsideSparse fault → IsOutsideSparse result.fault }
+    // it fails with this fault, unless an earlier write has failed
+    ensures told { TellsFirst fault result.fault (IsTrue D.models
+        → HasFailed writing (D.held disk.old) (D.held disk.new)) }
     ensures told_of { TellsOf (side_of result.fault) result.about.place (input_of sides.entry) (Some output.entry) }
 {
     let mut image = image;

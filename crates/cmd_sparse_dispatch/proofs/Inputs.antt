@@ -3,7 +3,7 @@ use Rattle.std.proofs.Common.{◌≡◌, ◌≢◌, ℕ, Bool, List, [], ◌∷�
 use Rattle.std.specs.Prelude.{IsTrue, Result, Ok, Err, IfErr, OnOk}
 use Rattle.std.specs.List.{AllByRecursion}
 use Rattle.sys_refusals.specs.Paths.{output_path}
-use Rattle.sys_disk.specs.World.{World, OnlyAt, KeepsFile, SparesInUse}
+use Rattle.sys_disk.specs.World.{World, OpenFiles, OnlyAt, KeepsFile, SparesInUse}
 use Rattle.sys_report.specs.Shows.{ShowsBeside, Unprinted}
 use Rattle.cmd_cut.specs.Sparsing.{HoldsNoPartOfSparse}
 use Rattle.cmd_common_sparse.specs.ImagePath.{image_path}
@@ -87,6 +87,10 @@ one_spared (word ∷ (more ∷ rest)) other output from place a z one read at on
     absurd (omega (arith, one))
 
 -- what is spared at a path
+pub guarded_at : (place output : List ℕ) (held : OpenFiles) (old new : World) → place ≡ output
+    → SparesInUse place held old new → SparesInUse output held old new
+guarded_at place output held old new at guarded = subst (λ p. SparesInUse p held old new) at guarded
+
 pub spared_at : (read path : List ℕ) (place : List ℕ) (a z : World) → place ≡ path → OnlyAt read place a z
     → OnlyAt read path a z
 spared_at read path place a z at only = subst (λ p. OnlyAt read p a z) at only

@@ -15,7 +15,7 @@ use Rattle.cmd_common_sparse.specs.declared.fault.SparseCommandFault.{SparseComm
 use Rattle.cmd_expand.specs.Expanding.{ExpandsFile, RefusesFile}
 use Rattle.cmd_expand.specs.Overlaying.{OverlaysFiles, RefusesOverlay}
 use Rattle.cmd_cut.specs.Sparsing.{HoldsNoPartOfSparse, RefusesRaw, SparsifiesFile}
-use Rattle.cmd_cut.specs.Cutting.{CutsFile, IsPiecePath, RefusesCut, ShowsCut}
+use Rattle.cmd_cut.specs.Cutting.{CutsFile, MayWritePiece, RefusesCut, ShowsCut}
 use Rattle.sys_disk.specs.Among.{OnlyAmong}
 use Rattle.cmd_flash.specs.Files.{OfFile, SparesAround}
 use Rattle.cmd_flash.specs.Flashing.{FlashesFile, RefusesFlash}
@@ -125,11 +125,13 @@ SparesExpanded inputs output a z = OnlyAt a.held.read output a.world z.world
 abbrev pub SparesSparsified : List ℕ → List ℕ → State → State → Type 0
 SparesSparsified input output a z =
     OnlyAt a.held.read (output_path output) a.world z.world × KeepsFile input a.world z.world
+    × SparesInUse (output_path output) a.held a.world z.world
 
--- files of pieces alone may be new, or hold anything else, and IN holds what it held
+-- files of pieces alone may be new, or hold anything else, and none at a path that may not be written; IN holds what it
+-- held
 abbrev pub SparesCut : List ℕ → List ℕ → State → State → Type 0
 SparesCut input prefix a z =
-    OnlyAmong (IsPiecePath prefix) a.held.read z.held.begun a.world z.world × KeepsFile input a.world z.world
+    OnlyAmong (MayWritePiece prefix a.held) a.held.read z.held.begun a.world z.world × KeepsFile input a.world z.world
 
 -- PARTITION alone may hold anything else, and SPOOL, where pieces go through it, and neither where it is in use and
 -- that is not allowed; IN holds what it held

@@ -1,6 +1,6 @@
 use Rattle.std.proofs.Common.{ap, refl, ◌∙◌}
 use Rattle.cmd_common_sparse.specs.PieceNames.{naming_of}
-use Rattle.cmd_cut.specs.Cutting.{IsPiecePath}
+use Rattle.cmd_cut.specs.Cutting.{IsPiecePath, MayWritePiece}
 use Rattle.cmd_cut.proofs.Opened.{if_err}
 use Rattle.sys_disk.proofs.Amongs.{among_none}
 use Rattle.cmd_cut.proofs.Wholes.{cuts_file_as, cuts_shown, leaves_cut, refuses_file_as, refuses_unopened}
@@ -16,8 +16,10 @@ returns-in-Err-clause-refused g c = λ t.
 
 pub returns-in-Err-clause-leaves : goal.returns-in-Err-clause-leaves
 returns-in-Err-clause-leaves g c = λ t. record {
-  only = among_none (IsPiecePath c.args.order.names.prefix.now) _ _ _ _ 1 (c.requires.first t).begun
+  only = among_none (IsPiecePath c.args.order.names.prefix.now) _ _ _ _ _ (c.requires.first t).begun
       (c.in-Err.ensures.kept t) (c.in-Err.ensures.world t);
+  guarded = among_none (MayWritePiece c.args.order.names.prefix.now (g.D.Disk.held c.args.disk.now)) _ _ _ _ _
+      (c.requires.first t).begun (c.in-Err.ensures.kept t) (c.in-Err.ensures.world t);
   input = λ f there. ap (λ w. w.holds f) (c.in-Err.ensures.world t);
   closed = ap (λ k. k.output) (c.in-Err.ensures.kept t) ∙ (c.requires.first t).output;
   clean = tt;

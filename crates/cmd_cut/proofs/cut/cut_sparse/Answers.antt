@@ -1,6 +1,8 @@
-use Rattle.std.proofs.Common.{None, refl, ap, arith}
+use Rattle.std.proofs.Common.{None, refl, ap, arith, ◌≡◌, ◌<◌, ◌+◌, ℕ}
 use Rattle.abt_runs.specs.Sparse.{sparse_list}
 use Rattle.abt_sparse.proofs.Exactly.{is_so}
+use Rattle.sys_disk.specs.Counts.{reading, reads}
+use Rattle.sys_disk.specs.World.{OpenFiles, HasFailed, counting}
 use Rattle.cmd_common_sparse.specs.PieceNames.{naming_of}
 use Rattle.cmd_cut.specs.Cutting.{ShowsCut}
 use Rattle.cmd_cut.proofs.Opened.{cut_of, if_err, sparse_image, sparse_uncut, stop_of}
@@ -8,6 +10,12 @@ use Rattle.cmd_cut.specs.Leaving.{unbegun}
 use Rattle.cmd_cut.proofs.Leavings.{begun_of}
 use Rattle.cmd_cut.proofs.Told.{sparse_side, tells_read, told_image}
 use Rattle.cmd_cut.proofs.cut.cut_sparse.Goals as goal
+
+-- what was read is closed, and has failed
+read_fails : (g r r' : ℕ) (h h' : OpenFiles) → r ≡ 0 → h' ≡ counting (reads g r') h → r < r' → HasFailed reading h h'
+read_fails g r r' h h' none closed more =
+    let last : h'.counts.failed reading ≡ h.counts.failed reading + r' = ap (λ k. k.counts.failed reading) closed in
+    omega (arith, last, more)
 
 pub returns-in-Ok-clause-done : goal.returns-in-Ok-clause-done
 returns-in-Ok-clause-done g c = λ t.
@@ -38,7 +46,7 @@ returns-in-Err-clause-refused g c = λ t.
     let x = g.D.At.Source.content c.args.source in
     sparse_uncut _ c.in-Err.fault c.refuse.result.fault c.args.order.limit x _ _ _ _ _
     (is_so x (g.met.D.At.Source.are_bytes c.args.source told)) c.refuse.ensures.fault (c.in-Err.ensures.refused told)
-    (λ more. omega (arith, more, (c.requires.fresh t).clean, ap (λ k. k.failed) (c.let_go_source.ensures.held t)))
+    (λ more. read_fails _ _ _ _ _ (c.requires.fresh t).clean (c.let_go_source.ensures.held t) more)
     (c.let_go_source.ensures.world t)
 
 pub returns-in-Ok-clause-begins : goal.returns-in-Ok-clause-begins

@@ -1,8 +1,11 @@
 use Rattle.std.proofs.Common.{subst, arith, inl, inr, ◌≡◌, ◌⊎◌, ◌<◌, ◌≤◌, ◌+◌, ◌∙◌, ℕ, ap, sym}
-use Rattle.sys_disk.specs.World.{OpenFiles, failing}
+use Rattle.sys_refusals.specs.declared.refusal.HostFault.TheVariants as hosts
+use Rattle.sys_disk.specs.Counts.{call, of_reading, reads}
+use Rattle.sys_disk.specs.World.{OpenFiles, HasNotFailed, counting}
 use Rattle.cmd_common_sparse.specs.PieceNames.{naming_of}
-use Rattle.cmd_cut.specs.Cutting.{IsPiecePath, ShowsCount, untold}
-use Rattle.cmd_cut.proofs.Wholes.{cuts_between, failing_more, left_between, left_failed, stops_between, stops_host}
+use Rattle.cmd_cut.specs.Cutting.{MayWritePiece, NoneFailsBeside, ShowsCount, untold}
+use Rattle.cmd_cut.proofs.Counted.{none_read}
+use Rattle.cmd_cut.proofs.Wholes.{cuts_between, counting_more, left_between, left_failed, stops_between, stops_host}
 use Rattle.cmd_cut.specs.Leaving.{looked, unlooked}
 use Rattle.cmd_cut.proofs.Leavings.{no_part_between, no_part_same}
 use Rattle.sys_refusals.proofs.Blames.{reads_of_input}
@@ -15,10 +18,15 @@ later a b c p q r M first same (inl more) = inl (omega (arith, first, more))
 later a b c p q r M first same (inr why) = inr (why.0, omega (arith, same, why.1))
 
 -- nothing has failed, once what was read is closed
-unfailed : (h h1 h2 h3 : OpenFiles) (r r' : ℕ) → h1 ≡ h → h2.failed + r' ≡ h1.failed + r → r ≡ 0 → h3 ≡ failing r' h2
-    → h3.failed ≡ h.failed
-unfailed h h1 h2 h3 r r' held clean none closed =
-    omega (arith, clean, none, ap (λ k. k.failed) held, ap (λ k. k.failed) closed)
+unfailed : (g r r' : ℕ) (h h1 h2 h3 : OpenFiles) → h1 ≡ h → NoneFailsBeside r r' h1 h2 → r ≡ 0
+    → h3 ≡ counting (reads g r') h2 → HasNotFailed h h3
+unfailed g r r' h h1 h2 h3 held clean none closed cause =
+    let first : h1.counts.failed cause ≡ h.counts.failed cause = ap (λ k. k.counts.failed cause) held in
+    let last : h3.counts.failed cause ≡ h2.counts.failed cause + of_reading r' cause
+    = ap (λ k. k.counts.failed cause) closed in
+    let still = clean cause in
+    let unread = none_read r none cause in
+    omega (arith, first, last, still, unread)
 
 pub returns-in-Err-clause-refused : goal.returns-in-Err-clause-refused
 returns-in-Err-clause-refused g c = λ t.
@@ -35,7 +43,7 @@ returns-in-Err-clause-leaves g c = λ t. record {
 
 pub returns-in-Err-answer-clause-leaves : goal.returns-in-Err-answer-clause-leaves
 returns-in-Err-answer-clause-leaves g c = λ t. record {
-  left = left_between (IsPiecePath c.args.names.prefix.now) _ _ _ _ _ _ _ _ _ (c.in-Ok.ensures.held t)
+  left = left_between (MayWritePiece c.args.names.prefix.now) _ _ _ _ _ _ _ _ _ (c.in-Ok.ensures.held t)
       (c.refuse_image_as_piece.ensures.keeps t).world (c.write_pieces-source.ensures.left t)
       (c.let_go_source.ensures.held t) (c.let_go_source.ensures.world t);
   clean = tt;
@@ -43,28 +51,28 @@ returns-in-Err-answer-clause-leaves g c = λ t. record {
 
 pub returns-in-Ok-tell_all-clause-leaves : goal.returns-in-Ok-tell_all-clause-leaves
 returns-in-Ok-tell_all-clause-leaves g c = λ t. record {
-  left = left_between (IsPiecePath c.args.names.prefix.now) _ _ _ _ _ _ _ _ _ (c.in-Ok.ensures.held t)
+  left = left_between (MayWritePiece c.args.names.prefix.now) _ _ _ _ _ _ _ _ _ (c.in-Ok.ensures.held t)
       (c.refuse_image_as_piece.ensures.keeps t).world (c.write_pieces-source.ensures.left t)
       (c.in-Ok-tell_all.ensures.held t ∙ c.let_go_source.ensures.held t)
       ((c.tell_all.ensures.keeps t).world ∙ c.let_go_source.ensures.world t);
-  clean = ap (λ k. k.failed) (c.in-Ok-tell_all.ensures.held t)
-      ∙ unfailed _ _ _ _ _ _ (c.in-Ok.ensures.held t)
+  clean = λ cause. ap (λ k. k.counts.failed cause) (c.in-Ok-tell_all.ensures.held t)
+      ∙ unfailed _ _ _ _ _ _ _ (c.in-Ok.ensures.held t)
       (rw c.in-Ok-answer.is at (c.write_pieces-source.ensures.clean t)) (c.requires.fresh t).clean
-      (c.let_go_source.ensures.held t);
+      (c.let_go_source.ensures.held t) cause;
 }
 
 pub returns-in-Err-tell_all-clause-leaves : goal.returns-in-Err-tell_all-clause-leaves
 returns-in-Err-tell_all-clause-leaves g c = λ t. record {
-  left = left_between (IsPiecePath c.args.names.prefix.now) _ _ _ _ _ _ _ _ _ (c.in-Ok.ensures.held t)
+  left = left_between (MayWritePiece c.args.names.prefix.now) _ _ _ _ _ _ _ _ _ (c.in-Ok.ensures.held t)
       (c.refuse_image_as_piece.ensures.keeps t).world (c.write_pieces-source.ensures.left t)
-      (failing_more _ _ _ _ _ (c.let_go_source.ensures.held t) (c.tell_all.ensures.keeps t).fails.same)
+      (counting_more _ _ _ _ _ (c.let_go_source.ensures.held t) (c.tell_all.ensures.keeps t).fails.same)
       ((c.tell_all.ensures.keeps t).world ∙ c.let_go_source.ensures.world t);
   clean = tt;
 }
 
 pub returns-in-Err-answer-clause-refused : goal.returns-in-Err-answer-clause-refused
 returns-in-Err-answer-clause-refused g c = λ t.
-    stops_between _ c.in-Err-answer.refusal.fault (naming_of c.args.names) _ _ _ _ _ _ _ _ _ _ _
+    stops_between _ c.in-Err-answer.refusal.fault (naming_of c.args.names) _ _ _ _ _ _ _ _ _ _ _ _
     (c.in-Ok.ensures.held t)
     (c.refuse_image_as_piece.ensures.keeps t).world (c.requires.fresh t).clean
     (rw c.in-Err-answer.is at (c.write_pieces-source.ensures.refused t)) (c.let_go_source.ensures.held t)
@@ -95,13 +103,14 @@ returns-in-Ok-tell_all-clause-done g c = λ t. record {
 pub returns-in-Err-tell_all-clause-refused : goal.returns-in-Err-tell_all-clause-refused
 returns-in-Err-tell_all-clause-refused g c = λ t.
     untold c.in-Err-tell_all.refusal.fault c.into-in-Err-tell_all.ensures
-    (later _ _ _ _ _ _ _ c.write_pieces-source.ensures.rises (sym (unfailed _ _ _ _ _ _ (c.in-Ok.ensures.held t)
+    (later _ _ _ _ _ _ _ c.write_pieces-source.ensures.rises (sym (unfailed _ _ _ _ _ _ _ (c.in-Ok.ensures.held t)
     (rw c.in-Ok-answer.is at (c.write_pieces-source.ensures.clean t)) (c.requires.fresh t).clean
-    (c.let_go_source.ensures.held t))) (c.in-Err-tell_all.ensures.refused t)) c.in-Ok-answer.files.count
-    (rw c.in-Ok-answer.is at c.write_pieces-source.ensures.some) (cuts_between (naming_of c.args.names) _
-    c.in-Ok-answer.files.count c.in-Ok-answer.files.count _ _ _ _ _ _ _ _ _ (c.in-Ok.ensures.held t)
+    (c.let_go_source.ensures.held t) (call hosts.Memory))) (c.in-Err-tell_all.ensures.refused t))
+    c.in-Ok-answer.files.count (rw c.in-Ok-answer.is at c.write_pieces-source.ensures.some)
+    (cuts_between (naming_of c.args.names) _ c.in-Ok-answer.files.count c.in-Ok-answer.files.count _ _ _ _ _ _ _ _ _
+    (c.in-Ok.ensures.held t)
     (c.refuse_image_as_piece.ensures.keeps t).world (rw c.in-Ok-answer.is at (c.write_pieces-source.ensures.done t))
-    (failing_more _ _ _ _ _ (c.let_go_source.ensures.held t) (c.tell_all.ensures.keeps t).fails.same)
+    (counting_more _ _ _ _ _ (c.let_go_source.ensures.held t) (c.tell_all.ensures.keeps t).fails.same)
     ((c.tell_all.ensures.keeps t).world ∙ c.let_go_source.ensures.world t))
 
 -- no part of a piece is left, and the names were looked at

@@ -3,6 +3,8 @@ use Rattle.std.proofs.lemmas.Bool.{false≢true}
 use Rattle.sys_disk.specs.LeftOver.{IsNextLeft}
 use Rattle.sys_report.specs.Shows.{Notes}
 use Rattle.cmd_common_sparse.specs.Lines.{left_over_line, left_over_text}
+use Rattle.sys_disk.specs.Counts.{no_counts}
+use Rattle.cmd_cut.proofs.Counted.{counting_none}
 use Rattle.cmd_cut.proofs.LeftOvers.{first_told, none_told}
 use Rattle.cmd_cut.proofs.cut_loop.tell_all.Goals as goal
 
@@ -51,4 +53,18 @@ returns-then-files-clause-shown g c = λ t. record {
   noted = (refl, refl);
   alone = λ none. ((refl, refl), refl);
   named = λ one n first. absurd (false≢true (sym one ∙ c.if-files.true));
+}
+
+-- nothing was counted
+
+pub returns-in-Err-clause-keeps : goal.returns-in-Err-clause-keeps
+returns-in-Err-clause-keeps g c = λ t. record {
+  fails = record { failures = no_counts; same = sym (counting_none (g.D.Disk.held c.args.disk.now)) };
+  world = refl;
+}
+
+pub returns-then-files-clause-keeps : goal.returns-then-files-clause-keeps
+returns-then-files-clause-keeps g c = λ t. record {
+  fails = record { failures = no_counts; same = sym (counting_none (g.D.Disk.held c.args.disk.now)) };
+  world = refl;
 }

@@ -6,7 +6,11 @@ use Rattle.sys_refusals.specs.Paths.{path_out}
 use Rattle.abt_sparse.specs.Pieces.{pieces}
 use Rattle.cmd_common_sparse.specs.PieceNames.{naming_of, number_in_turn}
 use Rattle.sys_report.specs.Shows.{Shows}
-use Rattle.cmd_cut.specs.Cutting.{CutsSoFar, ShowsPieces, failed, path_in_turn, piece_line, untold}
+use Rattle.sys_disk.specs.World.{OpenFiles}
+use Rattle.cmd_common_sparse.specs.declared.fault.SparseCommandFault.{SparseCommandFault}
+use Rattle.cmd_cut.specs.Cutting.{CutsSoFar, FailsBeside, IsOutsideCut, NoneFailsBeside, ShowsPieces, failed}
+use Rattle.cmd_cut.specs.Cutting.{path_in_turn, piece_line, untold}
+use Rattle.cmd_cut.proofs.Counted.{outside_cut_more}
 use Rattle.cmd_cut.proofs.Nexts.{not_done}
 use Rattle.cmd_cut.proofs.CutCommands.{all_made, countable, cuts_more, cuts_none, cuts_left, cuts_stop}
 use Rattle.cmd_cut.proofs.CutCommands.{now_done, path_behind, stands_more, still_between}
@@ -16,6 +20,13 @@ use Rattle.cmd_cut.proofs.cut_loop.write_pieces.Goals as goal
 
 next_of : (n : ℕ) → suc n ≡ n + 1
 next_of n = omega arith
+
+-- nothing had failed before
+beside_more : (r r' r'' : ℕ) (h h' h'' : OpenFiles) (fault : SparseCommandFault) → NoneFailsBeside r r' h h'
+    → IsOutsideCut (FailsBeside r' r'' h' h'') fault → IsOutsideCut (FailsBeside r r'' h h'') fault
+beside_more r r' r'' h h' h'' fault none is =
+    outside_cut_more (FailsBeside r' r'' h' h'') (FailsBeside r r'' h h'')
+    (λ cause more. let before = none cause in omega (arith, before, more)) fault is
 
 pub pieces-init : goal.pieces-init
 pieces-init g c = record {
@@ -42,7 +53,7 @@ pieces-init g c = record {
       (g.D.At.Source.content c.args.source)) n c.args.report.now c.args.report.now) (sym c.requires.ready.first)
       ((refl, refl), refl);
   rises = omega arith;
-  fails = λ t. refl;
+  fails = λ t cause. refl;
 }
 
 pub pieces-preserved : goal.pieces-preserved
@@ -94,7 +105,7 @@ pieces-preserved g c =
             ),
           );
       rises = omega (arith, i.rises, c.print_piece.ensures.rises);
-      fails = λ t. o.clean t ∙ i.fails t;
+      fails = λ t cause. o.clean t cause ∙ i.fails t cause;
     }
 
 pub put_piece-answer-requires-clause-one : goal.put_piece-answer-requires-clause-one
@@ -174,7 +185,9 @@ returns-in-Err-clause-refused g c = λ t.
     let path : path_out c.next-place.result ≡ path_in_turn (naming_of c.args.names) (cutter.made + 1)
     = path_behind c.next-place.result c.args.names _ _ _ (cutter.made + 1) c.next-place.ensures.folder
     c.next-place.ensures.number c.next-place.ensures.name c.next-place.ensures.begins i.named behind in
-    failed (c.in-Err.ensures.outside t) (omega (arith, i.fails t, c.in-Err.ensures.cause t)) cutter.made
+    failed (beside_more _ (g.D.At.Source.read_faults c.pieces.source) _ (g.D.Disk.held c.args.disk.now)
+    (g.D.Disk.held c.pieces.disk) (g.D.Disk.held c.put_piece-answer.new.disk) c.in-Err.refusal.fault (i.fails t)
+    (c.in-Err.ensures.outside t)) cutter.made
     (cuts_stop (naming_of c.args.names) _ cutter.made _ _ _ _ _ _ _ path (i.cuts t) (c.in-Err.ensures.keeps t)
     (c.in-Err.ensures.left t).only)
 

@@ -1,10 +1,10 @@
-use Rattle.std.proofs.Common.{◌≡◌, ◌≤◌, ◌+◌}
+use Rattle.std.proofs.Common.{◌≡◌, ◌≤◌}
 use Rattle.std.specs.Prelude.{IsTrue}
 use Rattle.abt_pieces.specs.Cutter.{ToldCutter}
 use Rattle.abt_sparse.specs.Pieces.{pieces}
 use Rattle.cmd_common_sparse.specs.PieceNames.{naming_of}
 use Rattle.sys_report.specs.Shows.{refusals}
-use Rattle.cmd_cut.specs.Cutting.{CutsSoFar, ShowsPieces}
+use Rattle.cmd_cut.specs.Cutting.{CutsSoFar, NoneFailsBeside, ShowsPieces}
 use Rattle.cmd_cut.proofs.CutCommands.{StandsNow, left_of}
 use Rattle.cmd_cut.proofs.cut_loop.write_pieces.Given as goal
 
@@ -33,8 +33,8 @@ invariant-pieces g l =
       shown : IsTrue g.D.Disk.models → ShowsPieces l.names.is_from_zero cutter.limit size list l.pieces.cutter.made
           l.fn.report l.report;
       rises : refusals l.fn.report ≤ refusals l.report;
-      fails : IsTrue g.D.Disk.models → (g.D.Disk.held l.disk).failed + g.D.At.Source.read_faults l.source
-          ≡ (g.D.Disk.held l.fn.disk).failed + g.D.At.Source.read_faults l.fn.source;
+      fails : IsTrue g.D.Disk.models → NoneFailsBeside (g.D.At.Source.read_faults l.fn.source)
+          (g.D.At.Source.read_faults l.source) (g.D.Disk.held l.fn.disk) (g.D.Disk.held l.disk);
     }
 
 abbrev pub decreases-pieces : goal.decreases-pieces

@@ -1,6 +1,4 @@
-use Rattle.std.proofs.Common.{arith}
 use Rattle.cmd_cut.proofs.Answered.{broken, outside, written}
-use Rattle.cmd_cut.proofs.Counted.{fails_raw}
 use Rattle.cmd_cut.proofs.engine_calls.lay_image.Goals as goal
 
 pub returns-in-Err-clause-broken : goal.returns-in-Err-clause-broken
@@ -11,8 +9,7 @@ returns-in-Ok-clause-lays g c = record {
   written = λ t. written _ _ _ _ _ _ _ c.requires.ready.empty c.requires.ready.fits.most (c.in-Ok.ensures.chunks t)
       c.in-Ok.ensures.written.long (c.in-Ok.ensures.whole t);
   fails = record {
-    outside = λ t. tt;
-    clean = omega (arith, c.in-Ok.ensures.does.reads.clean, c.in-Ok.ensures.does.writes.clean);
+    clean = (c.in-Ok.ensures.does.reads.clean, c.in-Ok.ensures.does.writes.clean);
     cause = λ t. tt;
   };
 }
@@ -24,8 +21,7 @@ returns-in-Err-clause-lays g c =
     record {
       written = λ t. tt;
       fails = record {
-        outside = λ t. outside _ _ _ _ _ _ _ _ t fits.sized fits.few e.cause;
         clean = tt;
-        cause = λ t. fails_raw _ _ _ _ _ _ _ _ t fits.sized fits.few e.reads.faults e.writes.faults e.cause;
+        cause = λ t. outside _ _ _ _ _ _ _ _ t fits.sized fits.few e.cause;
       };
     }

@@ -1,6 +1,4 @@
-use Rattle.std.proofs.Common.{arith}
 use Rattle.cmd_cut.proofs.Answered.{outside, written}
-use Rattle.cmd_cut.proofs.Counted.{fails_raw}
 use Rattle.cmd_cut.proofs.engine_calls.write_image.Goals as goal
 
 pub returns-in-Ok : goal.returns-in-Ok
@@ -10,8 +8,7 @@ returns-in-Ok g c = record {
         (c.in-Ok.ensures.told t).chunks
         c.in-Ok.ensures.sparse.long (c.in-Ok.ensures.told t).whole;
     fails = record {
-      outside = λ t. tt;
-      clean = omega (arith, c.in-Ok.ensures.does.reads.clean, c.in-Ok.ensures.does.writes.clean);
+      clean = (c.in-Ok.ensures.does.reads.clean, c.in-Ok.ensures.does.writes.clean);
       cause = λ t. tt;
     };
   };
@@ -25,9 +22,8 @@ returns-in-Err g c =
       lays = record {
         written = λ t. tt;
         fails = record {
-          outside = λ t. outside _ _ _ _ _ _ _ _ t fits.sized fits.few e.cause;
           clean = tt;
-          cause = λ t. fails_raw _ _ _ _ _ _ _ _ t fits.sized fits.few e.reads.faults e.writes.faults e.cause;
+          cause = λ t. outside _ _ _ _ _ _ _ _ t fits.sized fits.few e.cause;
         };
       };
     }

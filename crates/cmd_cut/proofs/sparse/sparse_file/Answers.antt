@@ -1,11 +1,11 @@
 use Rattle.std.proofs.Common.{◌∙◌, ap, sym, inr, rules}
 use Rattle.sys_disk.specs.World.{untouched}
 use Rattle.sys_refusals.specs.Paths.{path_of, path_out}
-use Rattle.sys_disk.proofs.Worlds.{only_written, only_behind, kept_behind, synced_behind}
+use Rattle.sys_disk.proofs.Worlds.{only_written, only_behind, kept_behind, spared_behind, synced_behind}
 use Rattle.cmd_cut.proofs.Files.{left_unbegun, left_whole, none_open, part_same, part_emptied, part_left}
-use Rattle.cmd_cut.proofs.Files.{no_blocks, refuses, refuses_host, sparsifies}
+use Rattle.cmd_cut.proofs.Files.{no_blocks, refuses, refuses_host, spared_created, sparsifies}
 use Rattle.sys_report.proofs.Beside.{beside}
-use Rattle.cmd_cut.proofs.Counted.{clean_behind, failed_behind}
+use Rattle.cmd_cut.proofs.Counted.{clean_behind, failed_behind, outside_more}
 use Rattle.cmd_common_sparse.specs.Fault.{side_of}
 use Rattle.cmd_cut.proofs.Told.{run_side, tells_given, tells_host, tells_read}
 use Rattle.sys_refusals.proofs.Blames.{told_of_input}
@@ -17,6 +17,7 @@ pub returns-in_err-source-clause-left : goal.returns-in_err-source-clause-left
 returns-in_err-source-clause-left g c = λ t. record {
   synced = search rules;
   others = untouched (c.in_err-source.ensures.world t);
+  guarded = λ used refused. c.in_err-source.ensures.world t;
   input = λ f there. ap (λ w. w.holds f) (c.in_err-source.ensures.world t);
   closed = ap (λ k. k.output) (c.in_err-source.ensures.kept t) ∙ (c.requires.first t).output;
   whole = λ o. part_same _ _ _ _ _ _ (c.in_err-source.ensures.world t);
@@ -44,6 +45,8 @@ returns-in_err-image-clause-left g c = λ t. record {
   synced = search rules;
   others = only_behind _ _ _ _ _ _ _ _ (c.in_ok-source.ensures.opened t) (c.in_ok-source.ensures.world t)
       (c.in_err-image.ensures.only t);
+  guarded = spared_behind _ _ _ _ _ _ _ _ (c.in_ok-source.ensures.opened t) (c.in_ok-source.ensures.world t)
+      (c.in_err-image.ensures.guarded t);
   input = kept_behind _ _ _ _ _ _ _ _ (c.in_ok-source.ensures.opened t) (c.in_ok-source.ensures.world t)
       (c.in_err-image.ensures.only t);
   closed = ap (λ k. k.output) (c.in_err-image.ensures.kept t) ∙ none_open _ _ _ _ _ (c.in_ok-source.ensures.opened t)
@@ -63,6 +66,7 @@ returns-in-Err-write_whole-clause-left g c = λ t.
     record {
       synced = tt;
       others = only_behind _ _ _ _ _ _ _ _ (c.in_ok-source.ensures.opened t) (c.in_ok-source.ensures.world t) only;
+      guarded = spared_created _ _ _ _ _ _ _ _ _ _ _ (c.in_ok-source.ensures.opened t) made;
       input = kept_behind _ _ _ _ _ _ _ _ (c.in_ok-source.ensures.opened t) (c.in_ok-source.ensures.world t) only;
       closed = ap (λ k. k.output) (c.in-Err-write_whole.ensures.writes t).closed.closed;
       whole = λ o. part_left _ _ _ _ _ _ _ _ _ _ _ _ _ c.in-Ok.ensures.size (c.in_ok-source.ensures.opened t) made
@@ -74,9 +78,10 @@ returns-in-Err-write_whole-clause-left g c = λ t.
 pub returns-in-Err-write_whole-clause-refused : goal.returns-in-Err-write_whole-clause-refused
 returns-in-Err-write_whole-clause-refused g c = λ t.
     refuses _ _ _ _ (g.D.Disk.held c.args.disk.now) (g.D.Disk.held c.write_whole.new.disk) _ _
-    (c.in-Err-write_whole.ensures.writes t).outside
-    (failed_behind _ _ _ _ _ _ _ _ _ _ (c.in_ok-source.ensures.opened t) (c.in_ok-image.ensures.created t)
-    (c.in-Err-write_whole.ensures.writes t).closed)
+    (outside_more _ _ (failed_behind _ _ _ (g.D.Disk.held c.args.disk.now) (g.D.Disk.held c.source.new.self)
+    (g.D.Disk.held c.image.new.self) (g.D.Disk.held c.write_whole.new.disk) _ _ _ (c.in_ok-source.ensures.opened t)
+    (c.in_ok-image.ensures.created t)) c.in-Err-write_whole.refusal.fault
+    (c.in-Err-write_whole.ensures.writes t).outside)
 
 -- nothing can be printed
 

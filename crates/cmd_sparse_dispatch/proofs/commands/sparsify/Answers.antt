@@ -1,4 +1,4 @@
-use Rattle.cmd_sparse_dispatch.proofs.Inputs.{kept_at, spared_at, whole_at}
+use Rattle.cmd_sparse_dispatch.proofs.Inputs.{guarded_at, kept_at, spared_at, whole_at}
 use Rattle.cmd_sparse_dispatch.proofs.commands.sparsify.Goals as goal
 
 pub returns-clause-leaves : goal.returns-clause-leaves
@@ -10,6 +10,7 @@ returns-clause-leaves g c = λ t.
       spares = (
         spared_at _ _ _ a z c.place-2.ensures.written left.others,
         kept_at _ _ a z c.place.ensures.at left.input,
+        guarded_at _ _ (g.D.Disk.held c.args.disk.now) a z c.place-2.ensures.written left.guarded,
       );
       clean = left.clean;
     }
