@@ -2,7 +2,7 @@
 use Rattle.sys_text.specs.Shown.{as_shown}
 use Rattle.sys_refusals.specs.Said.{TellsNumber, host_said, shortened}
 use Rattle.sys_refusals.specs.declared.place.FileArg.{FileArg}
-use Rattle.std.specs.Prelude.{◌≡◌, ℕ, ◌==◌, ◌||◌, List, ◌++◌, Bool, true, false, Option, Some, None, codes}
+use Rattle.std.specs.Prelude.{◌≡◌, ◌⊎◌, ℕ, ◌==◌, ◌||◌, List, ◌++◌, Bool, true, false, Option, Some, None, codes}
 use Rattle.std.specs.Prelude.{if◌then◌else◌}
 use Rattle.sys_refusals.specs.Host.{is_not_text}
 use Rattle.sys_refusals.specs.declared.refusal.HostFault.TheVariants as hosts
@@ -11,7 +11,8 @@ use Rattle.sys_refusals.specs.declared.told.Side.TheVariants as sides
 use Rattle.abt_sections.specs.Fault as section
 use Rattle.abt_headers.specs.declared.fault.HeaderFault.TheVariants as headers
 use Rattle.abt_sections.specs.declared.fault.SectionFault.TheVariants as sections
-use Rattle.cmd_common_boot.specs.Refused.{IsOfMoving}
+use Rattle.sys_disk.specs.Counts.{Cause, call, reading, writing}
+use Rattle.abt_sections.specs.declared.fault.SectionFault.{SectionFault}
 use Rattle.cmd_common_boot.specs.declared.fault.BootCommandFault.{BootCommandFault}
 use Rattle.cmd_common_boot.specs.declared.fault.BootCommandFault.TheVariants as faults
 
@@ -73,17 +74,36 @@ of_version n = faults.Section (sections.Header (headers.Version n))
 abbrev pub of_os_word : BootCommandFault
 of_os_word = faults.Section (sections.Header headers.Os)
 
--- a fault of the devices or of files
-abbrev pub IsOutsideBoot : BootCommandFault → Type 0
-IsOutsideBoot (faults.Host f) = Unit {0}
-IsOutsideBoot (faults.Section f) = IsOfMoving f
-IsOutsideBoot (faults.OptionNotCarried name) = ⊥
-IsOutsideBoot (faults.BadFragment word) = ⊥
-IsOutsideBoot (faults.BadNumber word) = ⊥
-IsOutsideBoot (faults.BadBoardId word) = ⊥
-IsOutsideBoot faults.CheckFailed = ⊥
+-- what has failed where this fault of the engine is told: the device that is read, or the one that is written
+abbrev pub IsMoveCauseOf : SectionFault → Cause → Type 0
+IsMoveCauseOf (sections.Read f) cause = cause ≡ reading
+IsMoveCauseOf (sections.Write f) cause = cause ≡ writing
+IsMoveCauseOf sections.SourceChanged cause = ⊥
+IsMoveCauseOf (sections.Header f) cause = ⊥
+IsMoveCauseOf (sections.Entry i) cause = ⊥
+IsMoveCauseOf sections.Name cause = ⊥
+IsMoveCauseOf sections.CommandLine cause = ⊥
+IsMoveCauseOf (sections.SectionTruncated s) cause = ⊥
+IsMoveCauseOf (sections.SectionTooLarge s) cause = ⊥
+
+-- What has failed where this fault is told: such a device, or a call of the disk. `Write` is also told where the magic
+-- of an image was not written, so that a device failed. No other fault has a cause.
+abbrev pub IsCauseOf : BootCommandFault → Cause → Type 0
+IsCauseOf (faults.Host f) cause = (cause ≡ call f) ⊎ ((f ≡ hosts.Write) × (cause ≡ writing))
+IsCauseOf (faults.Section f) cause = IsMoveCauseOf f cause
+IsCauseOf (faults.OptionNotCarried name) cause = ⊥
+IsCauseOf (faults.BadFragment word) cause = ⊥
+IsCauseOf (faults.BadNumber word) cause = ⊥
+IsCauseOf (faults.BadBoardId word) cause = ⊥
+IsCauseOf faults.CheckFailed cause = ⊥
+
+-- this fault has a cause, and that has failed
+pub record IsFailure (fault : BootCommandFault) (Failed : Cause → Type 0) : Type 0 where
+  pub cause : Cause
+  pub is_cause : IsCauseOf fault cause
+  pub failed : Failed cause
 
 -- memory was refused: so the fault states, and the refusal was counted
-pub record LacksMemory (fault : BootCommandFault) (Counted : Type 0) : Type 0 where
+pub record LacksMemory (fault : BootCommandFault) (Failed : Cause → Type 0) : Type 0 where
   pub told : fault ≡ faults.Host hosts.Memory
-  pub counted : Counted
+  pub counted : Failed (call hosts.Memory)

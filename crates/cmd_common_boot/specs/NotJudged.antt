@@ -1,5 +1,6 @@
 -- Why an image is not judged, before the file for it is opened.
-use Rattle.std.specs.Prelude.{◌≡◌, ℕ, Option, Some}
+use Rattle.std.specs.Prelude.{◌≡◌, Option, Some}
+use Rattle.sys_disk.specs.Counts.{Counts, call_of, no_counts}
 use Rattle.sys_refusals.specs.declared.refusal.HostFault.TheVariants as hosts
 use Rattle.abt_sections.specs.declared.fault.SectionFault.{SectionFault}
 use Rattle.cmd_common_boot.specs.declared.fault.BootCommandFault.{BootCommandFault}
@@ -12,10 +13,10 @@ abbrev pub fault_of : NotJudged → BootCommandFault
 fault_of (not_judged.Fault fault) = fault
 fault_of (not_judged.Memory refused) = faults.Host hosts.Memory
 
--- how often memory was refused
-abbrev pub refusals_of : NotJudged → ℕ
-refusals_of (not_judged.Fault fault) = 0
-refusals_of (not_judged.Memory refused) = 1
+-- what is counted of it: a refusal of memory
+abbrev pub refusals_of : NotJudged → Counts
+refusals_of (not_judged.Fault fault) = no_counts
+refusals_of (not_judged.Memory refused) = call_of hosts.Memory
 
 -- a fault satisfies this, or memory was refused
 abbrev pub OfFault : (BootCommandFault → Type 0) → NotJudged → Type 0

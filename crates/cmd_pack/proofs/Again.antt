@@ -5,8 +5,10 @@ use Rattle.std.specs.Prelude.{Bool, Contains, IfErr, IsTrue, OnOk, Result, Ok, E
 use Rattle.std.proofs.lemmas.List.Elements.{Contains-append_left}
 use Rattle.sys_refusals.specs.Paths.{output_path}
 use Rattle.sys_disk.specs.World.{World, OpenFiles, HasFailed, OnlyAt, untouched, in_output, Spares}
-use Rattle.sys_disk.specs.World.{failing}
+use Rattle.sys_disk.specs.World.{SparesInUse, counting}
+use Rattle.sys_disk.specs.Counts.{Cause, call, call_of, no_counts, reading}
 use Rattle.sys_refusals.specs.declared.refusal.HostFault.{HostFault}
+use Rattle.sys_refusals.specs.declared.refusal.HostFault.TheVariants as hosts
 use Rattle.abt_sections.specs.Fields.{BootFields, cmd_common_fields}
 use Rattle.abt_sections.specs.Header.{Header}
 use Rattle.abt_sections.specs.declared.fault.SectionFault.{SectionFault}
@@ -44,11 +46,13 @@ use Rattle.cmd_pack.specs.Repacking.{AreAskedAgain, AreFieldsAgain, AreFragments
 use Rattle.cmd_pack.specs.Repacking.{KeepsGivenAgain}
 use Rattle.cmd_pack.specs.Repacking.{PacksAgain}
 use Rattle.cmd_pack_outputs.specs.Writing.{HoldsNoPartOf, LaysImage, LeavesOut, StopsWriting}
-use Rattle.cmd_common_boot.specs.Fault.{IsOutsideBoot}
+use Rattle.cmd_common_boot.specs.Fault.{IsCauseOf}
 use Rattle.cmd_pack_outputs.specs.Writing as writing
 use Rattle.cmd_pack.proofs.Left.{on_ok_by}
-use Rattle.cmd_pack_inputs.proofs.Openings.{failed_still, opens_none, opens_then, stops_more, stops_then}
-use Rattle.cmd_common_boot.proofs.Calls.{same_failing}
+use Rattle.cmd_pack_inputs.proofs.Openings.{failed_then, opens_none, opens_then, stops_more, stops_then}
+use Rattle.cmd_common_boot.proofs.Calls.{same_counting}
+use Rattle.cmd_common_boot.proofs.Causes.{source_failed}
+use Rattle.cmd_pack_outputs.proofs.Closes.{call_fails, failure_more}
 
 -- ---- ramdisk fragments
 
@@ -101,10 +105,10 @@ each_path texts kind path (of_fragment is) = inl is
 -- the files of the fragments, and then those of the parts
 pub opens_given : (texts : PackTexts) (kind : ImageKind) (w w' : World) (h h' h'' h3 : OpenFiles) → w' ≡ w
     → OpensMore (IsFragmentInput texts.fragments.items) w h h'
-    → OpensMore (IsPartInput texts.options.items (part_sections kind)) w' h' h'' → h3 ≡ failing 0 h''
+    → OpensMore (IsPartInput texts.options.items (part_sections kind)) w' h' h'' → h3 ≡ counting no_counts h''
     → OpensMore (IsGivenPath texts kind) w h h3
 opens_given texts kind w w' h h' h'' h3 same a b last = subst (OpensMore (IsGivenPath texts kind) w h)
-    (sym (last ∙ same_failing h''))
+    (sym (last ∙ same_counting h''))
     (opens_then (IsFragmentInput texts.fragments.items) (IsPartInput texts.options.items (part_sections kind))
     (IsGivenPath texts kind) w w' h h' h'' same a b (each_path texts kind))
 
@@ -113,15 +117,13 @@ none_unread a b c d e f g h = omega (arith, e, f, g, h)
 
 -- ---- why the data is incomplete
 
-outside_host : (fault : BootCommandFault) (f : HostFault) → fault ≡ faults.Host f → IsOutsideBoot fault
-outside_host fault f same = subst IsOutsideBoot (sym same) tt
-
 pub filling_stops : (command : PackCommand) (w : World) (x : List ℕ) (h : Header) (A : List ℕ → Type 0)
     (k k' : OpenFiles)
     (f : HostFault) (fault : BootCommandFault)
     → ((path : List ℕ) → A path → IsGivenPath command.texts (kind_of h) path) → StopsOpening A k k' f
-    → fault ≡ faults.Host f → StopsFillingAgain command w x h (HasFailed k k') fault
-filling_stops command w x h A k k' f fault wider (failed more) same = again.unopened (outside_host fault f same) more
+    → fault ≡ faults.Host f → StopsFillingAgain command w x h (λ cause. HasFailed cause k k') fault
+filling_stops command w x h A k k' f fault wider (failed more) same =
+    again.unopened (call_fails fault f (λ cause. HasFailed cause k k') same more)
 filling_stops command w x h A k k' f fault wider (no_text path is bad told) same =
     again.not_text path (wider path is) bad (same ∙ ap (λ q. faults.Host q) told)
 filling_stops command w x h A k k' f fault wider (no_memory told more) same =
@@ -131,14 +133,14 @@ pub parts_stop : (command : PackCommand) (w : World) (x : List ℕ) (h : Header)
     (f : HostFault) (fault : BootCommandFault) → kind ≡ kind_of h
     → OpensMore (IsFragmentInput command.texts.fragments.items) w k k'
     → StopsOpening (IsPartInput command.texts.options.items (part_sections kind)) k' k'' f → fault ≡ faults.Host f
-    → StopsFillingAgain command w x h (HasFailed k k'') fault
+    → StopsFillingAgain command w x h (λ cause. HasFailed cause k k'') fault
 parts_stop command w x h kind k k' k'' f fault is opened stop same =
     filling_stops command w x h (IsGivenPath command.texts (kind_of h)) k k'' f fault (λ path given. given)
     (stops_then (IsFragmentInput command.texts.fragments.items)
     (IsPartInput command.texts.options.items (part_sections kind)) (IsGivenPath command.texts (kind_of h)) w k k' k'' f
     opened stop (λ path p. subst (λ q. IsGivenPath command.texts q path) is (of_part p))) same
 
-pub board_stops : (command : PackCommand) (w : World) (x : List ℕ) (h : Header) (P : Type 0)
+pub board_stops : (command : PackCommand) (w : World) (x : List ℕ) (h : Header) (P : Cause → Type 0)
     (said : List FragmentSpec) (ramdisks : List (List ℕ)) (words : List (Bor (List ℕ))) (fault : BootCommandFault)
     → AreFragmentsAgain w command.texts.fragments.items x h said ramdisks → words ≡ command.board_ids.items
     → IsBadBoard (map (λ word. word.now) words) (length said) fault → StopsFillingAgain command w x h P fault
@@ -160,14 +162,13 @@ pub behind_stops : (command : PackCommand) (w : World) (x : List ℕ) (h : Heade
     (k k' k'' k3 : OpenFiles)
     (v : World) (f : HostFault) (fault : BootCommandFault)
     → OpensMore (IsFragmentInput command.texts.fragments.items) w k k'
-    → OpensMore (IsPartInput command.texts.options.items (part_sections kind)) v k' k'' → k3 ≡ failing 1 k''
-    → fault ≡ faults.Host f → StopsFillingAgain command w x h (HasFailed k k3) fault
+    → OpensMore (IsPartInput command.texts.options.items (part_sections kind)) v k' k'' → k3 ≡ counting (call_of f) k''
+    → fault ≡ faults.Host f → StopsFillingAgain command w x h (λ cause. HasFailed cause k k3) fault
 behind_stops command w x h kind k k' k'' k3 v f fault a b more same =
-    let i : k'.failed ≡ k.failed = failed_still (IsFragmentInput command.texts.fragments.items) w k k' a in
-    let j : k''.failed ≡ k'.failed =
-    failed_still (IsPartInput command.texts.options.items (part_sections kind)) v k' k'' b in
-    let n : k3.failed ≡ k''.failed + 1 = ap (λ q. q.failed) more in
-    again.unopened (outside_host fault f same) (omega (arith, i, j, n))
+    again.unopened (call_fails fault f (λ cause. HasFailed cause k k3) same
+    (failed_then (IsFragmentInput command.texts.fragments.items) w k k' k3 (call f) a
+    (failed_then (IsPartInput command.texts.options.items (part_sections kind)) v k' k'' k3 (call f) b
+    (source_failed k'' k3 f more))))
 
 -- ---- the image is written
 
@@ -246,6 +247,12 @@ module _ (command : PackCommand) (x : List ℕ) (h : Header) (w w' : World) (k k
   only_again w'' path named (in_output file there free s) =
       in_output file (ap w''.at (sym named) ∙ there) (fewer_read file free) (spares_old w'' file s)
 
+  guarded_again : (w'' : World) (path : List ℕ) → path ≡ output_path command.output.now → SparesInUse path k' w' w''
+      → SparesInUse (output_path command.output.now) k w w''
+  guarded_again w'' path named spared used refused =
+      subst (λ (q : OpenFiles). SparesInUse path q w' w'') r.opened.taken spared
+      (subst (λ p. IsTrue (k.in_use p)) (sym named) used) refused ∙ r.same
+
   pub keeps_again : (w'' : World) (path : List ℕ) → OnlyAt k'.read path w' w'' → KeepsGivenAgain command h w w''
   keeps_again w'' path (untouched same) p given file there = ap (λ v. v.holds file) (same ∙ r.same)
   keeps_again w'' path (in_output onto here free s) p given file there =
@@ -267,8 +274,8 @@ module _ (command : PackCommand) (x : List ℕ) (h : Header) (w w' : World) (k k
       → k''.syncs ≡ k.syncs + (if k.is_synced then 1 else 0)
   synced_again k'' s = s ∙ ap (λ (q : OpenFiles). q.syncs + (if q.is_synced then 1 else 0)) r.opened.taken
 
-  same_failed : k'.failed ≡ k.failed
-  same_failed = ap (λ q. q.failed) r.opened.taken
+  same_failed : (cause : Cause) → k'.counts.failed cause ≡ k.counts.failed cause
+  same_failed cause = ap (λ q. q.counts.failed cause) r.opened.taken
 
   pub left_again : {X F : Type 0} (q : Result X F) (w'' : World) (k'' : OpenFiles) (path : List ℕ)
       (over : List ℕ → Bool)
@@ -277,20 +284,22 @@ module _ (command : PackCommand) (x : List ℕ) (h : Header) (w w' : World) (k k
       (IsPackedAgain command x h w) k k'' w w''
   left_again q w'' k'' path over named left = record {
     others = only_again w'' path named left.others;
+    guarded = guarded_again w'' path named left.guarded;
     closed = left.closed;
     whole = λ o. whole_again w'' path named (left.whole (subst (λ p. IsTrue (over p)) (sym named) o));
-    clean = on_ok_by q (λ e. e ∙ same_failed) left.clean;
+    clean = on_ok_by q (λ e cause. e cause ∙ same_failed cause) left.clean;
     synced = on_ok_by q (synced_again k'') left.synced;
   }
 
-  failed_again : (k'' : OpenFiles) → HasFailed k' k'' → HasFailed k k''
-  failed_again k'' more = let e = same_failed in omega (arith, e, more)
+  failed_again : (k'' : OpenFiles) (cause : Cause) → HasFailed cause k' k'' → HasFailed cause k k''
+  failed_again k'' cause more = failed_then (IsGivenPath command.texts (kind_of h)) w k k' k'' cause r.opened more
 
   pub writing_stops : (w'' : World) (k'' : OpenFiles) (path : List ℕ) (shows : List ℕ → Type 0)
       (fault : BootCommandFault)
       → path ≡ output_path command.output.now
       → StopsWriting refusal k' k'' w' w'' (LaysImage path k'.read bytes w' w'' shows) fault
-      → RefusesAgain command x h w w'' (HasFailed k k'') (PacksAgain command x h k.read w w'' shows) fault
+      → RefusesAgain command x h w w'' (λ cause. HasFailed cause k k'') (PacksAgain command x h k.read w w'' shows)
+      fault
   writing_stops w'' k'' path shows fault named (writing.refused f same why held kept) = again.not_packed f same
       (record {
         given = r.given;
@@ -300,9 +309,11 @@ module _ (command : PackCommand) (x : List ℕ) (h : Header) (w w' : World) (k k
         refused = sym r.refuses ∙ why;
       }) (kept ∙ r.same)
   writing_stops w'' k'' path shows fault named (writing.no_memory lacks kept) =
-      again.no_memory (record { told = lacks.told; counted = failed_again k'' lacks.counted }) (kept ∙ r.same)
-  writing_stops w'' k'' path shows fault named (writing.failed outside more) =
-      again.failed outside (failed_again k'' more)
+      again.no_memory (record { told = lacks.told; counted = failed_again k'' (call hosts.Memory) lacks.counted })
+      (kept ∙ r.same)
+  writing_stops w'' k'' path shows fault named (writing.failed failure) =
+      again.failed (failure_more fault (λ cause. HasFailed cause k' k'') (λ cause. HasFailed cause k k'') failure
+      (failed_again k''))
   writing_stops w'' k'' path shows fault named (writing.untold f same done) =
       again.untold f same (packs_again w'' path shows named done)
 
@@ -311,16 +322,17 @@ module _ (command : PackCommand) (x : List ℕ) (h : Header) (w w' : World) (k k
 pub stays_kept : (command : PackCommand) (h : Header) (w w' : World) → w' ≡ w → KeepsGivenAgain command h w w'
 stays_kept command h w w' same path given file there = ap (λ v. v.holds file) same
 
-pub filling_refuses : (command : PackCommand) (x : List ℕ) (h : Header) (w w' : World) (P Q : Type 0)
-    (fault : BootCommandFault) → w' ≡ w → StopsFillingAgain command w x h P fault
+pub filling_refuses : (command : PackCommand) (x : List ℕ) (h : Header) (w w' : World) (P : Cause → Type 0)
+    (Q : Type 0) (fault : BootCommandFault) → w' ≡ w → StopsFillingAgain command w x h P fault
     → RefusesAgain command x h w w' P Q fault
-filling_refuses command x h w w' P Q fault same (again.unopened outside more) = again.failed outside more
+filling_refuses command x h w w' P Q fault same (again.unopened failure) = again.failed failure
 filling_refuses command x h w w' P Q fault same (again.not_text path is bad told) = again.no_text path is bad told same
 filling_refuses command x h w w' P Q fault same (again.no_space told) = again.no_memory told same
 filling_refuses command x h w w' P Q fault same (again.bad_board bad) = again.wrong_board bad same
 
-pub words_refuse : (command : PackCommand) (x : List ℕ) (h : Header) (w w' : World) (P Q : Type 0) (kind : ImageKind)
-    (own : BootFields) (f fault : BootCommandFault) → w' ≡ w → kind ≡ kind_of h → own ≡ own_fields h → fault ≡ f
+pub words_refuse : (command : PackCommand) (x : List ℕ) (h : Header) (w w' : World) (P : Cause → Type 0) (Q : Type 0)
+    (kind : ImageKind) (own : BootFields) (f fault : BootCommandFault) → w' ≡ w → kind ≡ kind_of h
+    → own ≡ own_fields h → fault ≡ f
     → IsWrong own kind command.texts.options.items command.texts.fragments.items f
     → RefusesAgain command x h w w' P Q fault
 words_refuse command x h w w' P Q kind own f fault same is own_is told wrong = again.wrong_words
@@ -343,7 +355,7 @@ untaken_wrong own kind options fragments faults.CheckFailed u = absurd u
 
 pub judging_refuses : (command : PackCommand) (x : List ℕ) (h : Header) (w w' : World) (k k' : OpenFiles)
     (r r' : ℕ) (Q : Type 0) (kind : ImageKind) (why : NotJudged) (fault : BootCommandFault) → w' ≡ w
-    → kind ≡ kind_of h → fault ≡ fault_of why → k' ≡ failing (refusals_of why) k → r ≤ r'
+    → kind ≡ kind_of h → fault ≡ fault_of why → k' ≡ counting (refusals_of why) k → r ≤ r'
     → StopsJudging command kind (r < r') why → RefusesAgain command x h w w' (SomeFailed k r k' r') Q fault
 judging_refuses command x h w w' k k' r r' Q kind why fault same is told held grown (judging.untaken f why_is u) =
     words_refuse command x h w w' (SomeFailed k r k' r') Q kind (own_fields h) f fault same is refl
@@ -351,17 +363,25 @@ judging_refuses command x h w w' k k' r r' Q kind why fault same is told held gr
     (untaken_wrong (own_fields h) kind command.texts.options.items command.texts.fragments.items f u)
 judging_refuses command x h w w' k k' r r' Q kind (not_judged.Fault f) fault same is told held grown
     (judging.not_read unread) =
-    again.failed (subst IsOutsideBoot (sym told) unread.0)
-    (record { rises = omega (arith, unread.1, ap (λ q. q.failed) held) })
+    again.failed (record {
+      cause = reading;
+      is_cause = subst (λ q. IsCauseOf q reading) (sym told) unread.0;
+      failed = let e : k'.counts.failed reading ≡ k.counts.failed reading + 0
+          = ap (λ q. q.counts.failed reading) held in
+          record { rises = omega (arith, unread.1, e) };
+    })
 judging_refuses command x h w w' k k' r r' Q kind (not_judged.Memory m) fault same is told held grown
     (judging.not_read unread) =
     again.no_memory (record {
       told = told;
-      counted = record { rises = omega (arith, grown, ap (λ q. q.failed) held) };
+      counted = let more : k.counts.failed (call hosts.Memory) < k'.counts.failed (call hosts.Memory)
+          = source_failed k k' hosts.Memory held in
+          record { rises = omega (arith, more) };
     }) same
 
-pub again_more : (command : PackCommand) (x : List ℕ) (h : Header) (w w' : World) (P P' Q Q' : Type 0)
-    (fault : BootCommandFault) → RefusesAgain command x h w w' P Q fault → (P → P') → (Q → Q')
+pub again_more : (command : PackCommand) (x : List ℕ) (h : Header) (w w' : World) (P P' : Cause → Type 0)
+    (Q Q' : Type 0) (fault : BootCommandFault) → RefusesAgain command x h w w' P Q fault
+    → ((cause : Cause) → P cause → P' cause) → (Q → Q')
     → RefusesAgain command x h w w' P' Q' fault
 again_more command x h w w' P P' Q Q' fault (again.wrong_words wrong same) p q = again.wrong_words wrong same
 again_more command x h w w' P P' Q Q' fault (again.wrong_board bad same) p q = again.wrong_board bad same
@@ -369,8 +389,9 @@ again_more command x h w w' P P' Q Q' fault (again.not_packed f told why same) p
 again_more command x h w w' P P' Q Q' fault (again.no_text path is bad told same) p q =
     again.no_text path is bad told same
 again_more command x h w w' P P' Q Q' fault (again.no_memory lacks same) p q =
-    again.no_memory (record { told = lacks.told; counted = p lacks.counted }) same
-again_more command x h w w' P P' Q Q' fault (again.failed outside more) p q = again.failed outside (p more)
+    again.no_memory (record { told = lacks.told; counted = p (call hosts.Memory) lacks.counted }) same
+again_more command x h w w' P P' Q Q' fault (again.failed failure) p q =
+    again.failed (failure_more fault P P' failure p)
 again_more command x h w w' P P' Q Q' fault (again.untold f told done) p q = again.untold f told (q done)
 
 -- the image holds what it held before it was read
@@ -385,9 +406,10 @@ pub content_left : {X F : Type 0} (r : Result X F) (command : PackCommand) (x y 
 content_left r command x y h v path over k k' w w' same left =
     subst (λ z. LeavesOut r path over (IsPackedAgain command z h v) k k' w w') same left
 
-pub content_refused : (command : PackCommand) (x y : List ℕ) (h : Header) (w w' : World) (P P' : Type 0)
+pub content_refused : (command : PackCommand) (x y : List ℕ) (h : Header) (w w' : World) (P P' : Cause → Type 0)
     (read : List ℕ) (shows : List ℕ → Type 0) (fault : BootCommandFault) → x ≡ y
-    → RefusesAgain command x h w w' P (PacksAgain command x h read w w' shows) fault → (P → P')
+    → RefusesAgain command x h w w' P (PacksAgain command x h read w w' shows) fault
+    → ((cause : Cause) → P cause → P' cause)
     → RefusesAgain command y h w w' P' (PacksAgain command y h read w w' shows) fault
 content_refused command x y h w w' P P' read shows fault same why more =
     again_more command y h w w' P P' (PacksAgain command y h read w w' shows) (PacksAgain command y h read w w' shows)

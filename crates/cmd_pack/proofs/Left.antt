@@ -15,6 +15,7 @@ pub left_told : {X Y F G : Type 0} {x : X} (y : Y) {output : List ℕ} {over : B
     {a b : World} → LeavesOut {F = F} (Ok x) output over W h h' a b → LeavesOut {F = G} (Ok y) output over W h h' a b
 left_told y left = record {
   others = left.others;
+  guarded = left.guarded;
   closed = left.closed;
   whole = left.whole;
   clean = left.clean;
@@ -24,5 +25,11 @@ left_told y left = record {
 pub left_refused : {X Y F G : Type 0} {e : F} (f : G) {output : List ℕ} {over : Bool} {W : List ℕ → Type 0}
     {h h' : OpenFiles}
     {a b : World} → LeavesOut {X = X} (Err e) output over W h h' a b → LeavesOut {X = Y} (Err f) output over W h h' a b
-left_refused f left =
-    record { others = left.others; closed = left.closed; whole = left.whole; clean = tt; synced = tt }
+left_refused f left = record {
+  others = left.others;
+  guarded = left.guarded;
+  closed = left.closed;
+  whole = left.whole;
+  clean = tt;
+  synced = tt;
+}

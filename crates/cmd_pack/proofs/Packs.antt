@@ -5,8 +5,10 @@ use Rattle.std.proofs.lemmas.List.{append-nil}
 use Rattle.std.proofs.lemmas.List.Elements.{Contains-append_left}
 use Rattle.std.specs.Prelude.{Bool, Contains, IsTrue, Result, map, if◌then◌else◌}
 use Rattle.sys_refusals.specs.Paths.{output_path}
-use Rattle.sys_disk.specs.World.{World, OpenFiles, Spares, OnlyAt, in_output, untouched}
+use Rattle.sys_disk.specs.Counts.{call}
+use Rattle.sys_disk.specs.World.{World, OpenFiles, HasFailed, Spares, SparesInUse, OnlyAt, in_output, untouched}
 use Rattle.sys_refusals.specs.declared.refusal.HostFault.{HostFault}
+use Rattle.sys_refusals.specs.declared.refusal.HostFault.TheVariants as hosts
 use Rattle.sys_report.specs.Shows.{ShowsBeside}
 use Rattle.sys_report.specs.declared.report.Report.{Report}
 use Rattle.abt_sections.specs.Cause.{total}
@@ -37,10 +39,10 @@ use Rattle.cmd_pack_inputs.specs.BadBoards.{IsBadBoard}
 use Rattle.cmd_pack.specs.Refusing.{RefusesPack, StopsFilling}
 use Rattle.cmd_pack.specs.Refusing as refusing
 use Rattle.cmd_pack_outputs.specs.Writing.{HoldsNoPartOf, LaysImage, LeavesOut, StopsWriting}
-use Rattle.cmd_common_boot.specs.Fault.{IsOutsideBoot}
 use Rattle.cmd_pack_outputs.specs.Writing as writing
 use Rattle.cmd_pack_outputs.specs.declared.contents.ImageContents.{ImageContents}
-use Rattle.cmd_pack_inputs.proofs.Openings.{failed_still, opens_then, stops_then}
+use Rattle.cmd_pack_inputs.proofs.Openings.{failed_still, failed_then, opens_then, stops_then}
+use Rattle.cmd_pack_outputs.proofs.Closes.{call_fails, failure_more}
 use Rattle.cmd_pack.proofs.Left.{on_ok_by}
 
 -- ---- what is opened
@@ -61,7 +63,7 @@ pub filling_stops : (A B : List ℕ → Type 0) (words : List (List ℕ)) (count
     (f : BootCommandFault) → StopsOpening A h h' k → f ≡ faults.Host k → ((p : List ℕ) → A p → B p)
     → StopsFilling B words count h h' f
 filling_stops A B words count h h' k f (opening.failed more) told wider =
-    refusing.unopened (subst IsOutsideBoot (sym told) tt) more
+    refusing.unopened (call_fails f k (λ cause. HasFailed cause h h') told more)
 filling_stops A B words count h h' k f (opening.no_text path is bad why) told wider =
     refusing.no_text path (wider path is) bad (told ∙ ap faults.Host why)
 filling_stops A B words count h h' k f (opening.no_memory why more) told wider =
@@ -182,6 +184,12 @@ only_before A q path w w' v h h' named same opens (in_output file at free spares
     (Contains-append_left h.read opens.files file c)))
     (subst (λ u. Spares file u v) same spares)
 
+guarded_before : (A : List ℕ → Type 0) (q path : List ℕ) (w w' v : World) (h h' : OpenFiles) → q ≡ path → w' ≡ w
+    → OpensMore A w h h' → SparesInUse q h' w' v → SparesInUse path h w v
+guarded_before A q path w w' v h h' named same opens spared used refused =
+    subst (λ (k : OpenFiles). SparesInUse q k w' v) opens.taken spared
+    (subst (λ p. IsTrue (h.in_use p)) (sym named) used) refused ∙ same
+
 pub keeps_given : (command : PackCommand) (q : List ℕ) (w w' v : World) (h h' : OpenFiles) → w' ≡ w
     → OpensMore (IsGivenPath command.texts (asked_kind command)) w h h' → OnlyAt h'.read q w' v → KeepsGiven command w v
 keeps_given command q w w' v h h' same opens (untouched is) = λ path given f there. ap (λ u. u.holds f) (is ∙ same)
@@ -207,10 +215,11 @@ pub left_behind : {X F : Type 0} (r : Result X F) (A : List ℕ → Type 0) (q p
     → LeavesOut r path (over path) W h h'' w v
 left_behind r A q path over W bytes w w' v h h' h'' named same opens to left = record {
   others = only_before A q path w w' v h h' named same opens left.others;
+  guarded = guarded_before A q path w w' v h h' named same opens left.guarded;
   closed = left.closed;
   whole = λ o. whole_as W q path bytes w w' v named same to
       (left.whole (subst (λ p. IsTrue (over p)) (sym named) o));
-  clean = on_ok_by r (λ e. e ∙ failed_still A w h h' opens) left.clean;
+  clean = on_ok_by r (λ e cause. e cause ∙ failed_still A w h h' cause opens) left.clean;
   synced = on_ok_by r (synced_behind A w h h' h'' opens) left.synced;
 }
 
@@ -242,7 +251,7 @@ pub refuses_filling : (command : PackCommand) (w v : World) (h h' : OpenFiles) (
     → v ≡ w
     → StopsFilling (IsGivenPath command.texts (asked_kind command)) (board_id_words command)
     (length command.texts.fragments.items) h h' f → RefusesPack command w v h h' Done f
-refuses_filling command w v h h' Done f same (refusing.unopened outside more) = refusing.failed outside more
+refuses_filling command w v h h' Done f same (refusing.unopened failure) = refusing.failed failure
 refuses_filling command w v h h' Done f same (refusing.no_text path is bad told) =
     refusing.no_path path is bad told same
 refuses_filling command w v h h' Done f same (refusing.no_memory told) = refusing.too_little told same
@@ -270,15 +279,13 @@ refuses_writing content command w w' v h h' h'' given c Laid Done f same opens a
     (writing.no_memory lacks here) =
     refusing.too_little (record {
       told = lacks.told;
-      counted = (let e : h'.failed ≡ h.failed
-          = failed_still (IsGivenPath command.texts (asked_kind command)) w h h' opens in
-          omega (arith, e, lacks.counted));
+      counted = failed_then (IsGivenPath command.texts (asked_kind command)) w h h' h'' (call hosts.Memory) opens
+          lacks.counted;
     }) (here ∙ same)
 refuses_writing content command w w' v h h' h'' given c Laid Done f same opens are_given kind asked done
-    (writing.failed outside more) =
-    refusing.failed outside
-    (let e : h'.failed ≡ h.failed = failed_still (IsGivenPath command.texts (asked_kind command)) w h h' opens in
-    omega (arith, e, more))
+    (writing.failed failure) =
+    refusing.failed (failure_more f (λ cause. HasFailed cause h' h'') (λ cause. HasFailed cause h h'') failure
+    (λ cause more. failed_then (IsGivenPath command.texts (asked_kind command)) w h h' h'' cause opens more))
 refuses_writing content command w w' v h h' h'' given c Laid Done f same opens are_given kind asked done
     (writing.untold k told laid) =
     refusing.untold k told (done laid)

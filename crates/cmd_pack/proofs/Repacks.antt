@@ -5,7 +5,9 @@ use Rattle.std.specs.Prelude.{Contains, OnOk, Result, Ok, Err, if◌then◌else�
 use Rattle.std.proofs.lemmas.List.Elements.{Contains-append_left, Contains-push}
 use Rattle.sys_refusals.specs.Paths.{output_path}
 use Rattle.sys_disk.specs.World.{World, OpenFiles, HasFailed, HasNotFailed, KeepsFile, OnlyAt, OpensFile, Spares}
-use Rattle.sys_disk.specs.World.{failing}
+use Rattle.sys_disk.specs.World.{SparesInUse, counting}
+use Rattle.sys_disk.specs.Counts.{Cause, Counts, of_reading, reads}
+use Rattle.cmd_pack_outputs.proofs.Closes.{no_reading}
 use Rattle.sys_disk.specs.World.{untouched, in_output}
 use Rattle.std.proofs.Common.{append_assoc}
 use Rattle.abt_sections.specs.Header.{Header, image_header_at, view_of}
@@ -27,10 +29,19 @@ use Rattle.cmd_pack.proofs.Left.{on_ok_by}
 -- ---- what has failed
 
 pub nothing_more : (h h' : OpenFiles) (r r' : ℕ) → HasNotFailed h h' → r' ≡ r → NoMoreFailed h r h' r'
-nothing_more h h' r r' clean same = record { stays = omega (arith, clean, same) }
+nothing_more h h' r r' clean same = record {
+  stays = λ cause.
+      let e : h'.counts.failed cause ≡ h.counts.failed cause = clean cause in
+      let d : of_reading r' cause ≡ of_reading r cause = ap (λ n. of_reading n cause) same in
+      omega (arith, e, d);
+}
 
-pub calls_failed : (h h' : OpenFiles) (r r' : ℕ) → r' ≡ r → HasFailed h h' → SomeFailed h r h' r'
-calls_failed h h' r r' same more = record { rises = omega (arith, more, same) }
+pub calls_failed : (h h' : OpenFiles) (r r' : ℕ) (cause : Cause) → r' ≡ r → HasFailed cause h h'
+    → SomeFailed h r h' r' cause
+calls_failed h h' r r' cause same more =
+    let rises : h.counts.failed cause < h'.counts.failed cause = more in
+    let d : of_reading r' cause ≡ of_reading r cause = ap (λ n. of_reading n cause) same in
+    record { rises = omega (arith, rises, d) }
 
 -- ---- what IN begins with
 
@@ -82,6 +93,12 @@ module _ (input : List ℕ) (command : PackCommand) (x : List ℕ) (image : Imag
   only_all (untouched same) = untouched (last ∙ same ∙ first)
   only_all (in_output file there free s) = in_output file (ap (λ v. v.at (output_path command.output.now)) last ∙ there)
       (fewer file free) (subst (λ v. Spares file w v) (sym last) (subst (λ v. Spares file v w2) first s))
+
+  guarded_all : SparesInUse (output_path command.output.now) h1 w1 w2
+      → SparesInUse (output_path command.output.now) h w w3
+  guarded_all spared used refused = last
+      ∙ subst (λ (q : OpenFiles). SparesInUse (output_path command.output.now) q w1 w2) o.taken spared used refused
+      ∙ first
 
   input_only : OnlyAt h1.read (output_path command.output.now) w1 w2 → KeepsFile input w w3
   input_only (untouched same) file there = ap (λ v. v.holds file) (last ∙ same ∙ first)
@@ -143,15 +160,16 @@ module _ (input : List ℕ) (command : PackCommand) (x : List ℕ) (image : Imag
             ]))
       ]
 
-  pub left_all : {X Y F : Type 0} (r : Result X F) (q : Result Y F) (over : Bool) (h2 h3 : OpenFiles) (n : ℕ)
+  pub left_all : {X Y F : Type 0} (r : Result X F) (q : Result Y F) (over : Bool) (h2 h3 : OpenFiles) (n : Counts)
       → (OnOk q (h3.syncs ≡ h1.syncs + (if h1.is_synced then 1 else 0))
       → OnOk r (h3.syncs ≡ h1.syncs + (if h1.is_synced then 1 else 0)))
-      → h3 ≡ failing n h2 → OnOk r (HasNotFailed h h3)
+      → h3 ≡ counting n h2 → OnOk r (HasNotFailed h h3)
       → LeavesOut q (output_path command.output.now) over (IsPackedAgain command x (view_of image.header) w1) h1 h2 w1
       w2
       → LeavesOut r (output_path command.output.now) over (IsRepackedOf input command w) h h3 w w3
   left_all r q over h2 h3 n told let_go clean left = record {
     others = only_all left.others;
+    guarded = guarded_all left.guarded;
     closed = ap (λ (k : OpenFiles). k.output) let_go ∙ left.closed;
     whole = λ o. whole_all (left.whole o);
     clean = clean;
@@ -159,32 +177,36 @@ module _ (input : List ℕ) (command : PackCommand) (x : List ℕ) (image : Imag
         (told (on_ok_by q (λ e. ap (λ (k : OpenFiles). k.syncs) let_go ∙ e) left.synced));
   }
 
-  pub refuses_all : (P Done Done' : Type 0) (fault : BootCommandFault) (h3 : OpenFiles)
-      → RefusesAgain command x (view_of image.header) w1 w2 P Done fault → (P → HasFailed h h3) → (Done → Done')
+  pub refuses_all : (P : Cause → Type 0) (Done Done' : Type 0) (fault : BootCommandFault) (h3 : OpenFiles)
+      → RefusesAgain command x (view_of image.header) w1 w2 P Done fault
+      → ((cause : Cause) → P cause → HasFailed cause h h3) → (Done → Done')
       → RefusesRepack input command w w3 h h3 Done' fault
   refuses_all P Done Done' fault h3 why more done = not_again x (view_of image.header) begin
-      (subst (λ v. RefusesAgain command x (view_of image.header) w v (HasFailed h h3) Done' fault) (sym last)
-      (subst (λ v. RefusesAgain command x (view_of image.header) v w2 (HasFailed h h3) Done' fault) first
-      (again_more command x (view_of image.header) w1 w2 P (HasFailed h h3) Done Done' fault why more done)))
+      (subst (λ v. RefusesAgain command x (view_of image.header) w v (λ cause. HasFailed cause h h3) Done' fault)
+      (sym last)
+      (subst (λ v. RefusesAgain command x (view_of image.header) v w2 (λ cause. HasFailed cause h h3) Done' fault) first
+      (again_more command x (view_of image.header) w1 w2 P (λ cause. HasFailed cause h h3) Done Done' fault why more
+      done)))
 
 -- all that has failed is counted where the image is closed
-pub failed_all : (path bytes : List ℕ) (w : World) (h h1 h2 h3 : OpenFiles) (r r' : ℕ) → OpensFile w path bytes h h1
-    → r ≡ 0
-    → SomeFailed h1 r h2 r' → h3 ≡ failing r' h2 → HasFailed h h3
-failed_all path bytes w h h1 h2 h3 r r' o none more let_go =
-    let e : h1.failed ≡ h.failed = ap (λ k. k.failed) o.taken in
-    let d : h3.failed ≡ h2.failed + r' = ap (λ k. k.failed) let_go in
+pub failed_all : (path bytes : List ℕ) (w : World) (h h1 h2 h3 : OpenFiles) (g r r' : ℕ) (cause : Cause)
+    → OpensFile w path bytes h h1 → SomeFailed h1 r h2 r' cause → h3 ≡ counting (reads g r') h2 → HasFailed cause h h3
+failed_all path bytes w h h1 h2 h3 g r r' cause o more let_go =
+    let e : h1.counts.failed cause ≡ h.counts.failed cause = ap (λ k. k.counts.failed cause) o.taken in
+    let d : h3.counts.failed cause ≡ h2.counts.failed cause + of_reading r' cause
+    = ap (λ k. k.counts.failed cause) let_go in
     let m = more.rises in
-    omega (arith, e, d, m, none)
+    omega (arith, e, d, m)
 
-pub clean_all : (path bytes : List ℕ) (w : World) (h h1 h2 h3 : OpenFiles) (r r' : ℕ) → OpensFile w path bytes h h1
-    → r ≡ 0
-    → NoMoreFailed h1 r h2 r' → h3 ≡ failing r' h2 → HasNotFailed h h3
-clean_all path bytes w h h1 h2 h3 r r' o none same let_go =
-    let e : h1.failed ≡ h.failed = ap (λ k. k.failed) o.taken in
-    let d : h3.failed ≡ h2.failed + r' = ap (λ k. k.failed) let_go in
-    let m = same.stays in
-    omega (arith, e, d, m, none)
+pub clean_all : (path bytes : List ℕ) (w : World) (h h1 h2 h3 : OpenFiles) (g r r' : ℕ) → OpensFile w path bytes h h1
+    → r ≡ 0 → NoMoreFailed h1 r h2 r' → h3 ≡ counting (reads g r') h2 → HasNotFailed h h3
+clean_all path bytes w h h1 h2 h3 g r r' o none same let_go = λ cause.
+    let e : h1.counts.failed cause ≡ h.counts.failed cause = ap (λ k. k.counts.failed cause) o.taken in
+    let d : h3.counts.failed cause ≡ h2.counts.failed cause + of_reading r' cause
+    = ap (λ k. k.counts.failed cause) let_go in
+    let z : of_reading r cause ≡ 0 = ap (λ n. of_reading n cause) none ∙ no_reading cause in
+    let m = same.stays cause in
+    omega (arith, e, d, m, z)
 
 -- nothing was changed
 pub keeps_read : (input : List ℕ) (command : PackCommand) (w w' : World) → w' ≡ w → KeepsRead input command w w'

@@ -14,16 +14,16 @@ use Rattle.cmd_common_boot.specs.declared.pack_command.PackCommand.{PackCommand}
 use Rattle.cmd_pack_outputs.specs.Contents.{Packing, refusal_from}
 use Rattle.cmd_pack.specs.Packing.{AreAskedFor, board_id_words, asked_kind}
 use Rattle.cmd_pack_inputs.specs.Parts.{IsGivenPath}
-use Rattle.cmd_common_boot.specs.Fault.{IsOutsideBoot, LacksMemory}
+use Rattle.cmd_common_boot.specs.Fault.{IsFailure, LacksMemory}
 use Rattle.cmd_pack_inputs.specs.BadBoards.{IsBadBoard}
 
 -- why an image is not filled: one of its files was not opened, or a board id is wrong
 pub data StopsFilling (named : List ℕ → Type 0) (words : List (List ℕ)) (count : ℕ) (held held' : OpenFiles)
     (fault : BootCommandFault) : Type 0 where
-  unopened : IsOutsideBoot fault → HasFailed held held' → StopsFilling named words count held held' fault
+  unopened : IsFailure fault (λ cause. HasFailed cause held held') → StopsFilling named words count held held' fault
   no_text : (path : List ℕ) → named path → ¬ IsUtf8 path → fault ≡ faults.Host hosts.CannotOpen
       → StopsFilling named words count held held' fault
-  no_memory : LacksMemory fault (HasFailed held held') → StopsFilling named words count held held' fault
+  no_memory : LacksMemory fault (λ cause. HasFailed cause held held') → StopsFilling named words count held held' fault
   wrong_board : IsBadBoard words count fault → StopsFilling named words count held held' fault
 
 -- packing what the arguments describe fails, because of these fields and of the sizes of the parts
@@ -50,8 +50,9 @@ pub data RefusesPack (command : PackCommand) (old new : World) (held held' : Ope
   no_path : (path : List ℕ) → IsGivenPath command.texts (asked_kind command) path → ¬ IsUtf8 path
       → fault ≡ faults.Host hosts.CannotOpen → new ≡ old → RefusesPack command old new held held' Done fault
   -- memory was refused, before OUT is opened
-  too_little : LacksMemory fault (HasFailed held held') → new ≡ old → RefusesPack command old new held held' Done fault
-  -- a call of the disk failed, or a device
-  failed : IsOutsideBoot fault → HasFailed held held' → RefusesPack command old new held held' Done fault
+  too_little : LacksMemory fault (λ cause. HasFailed cause held held') → new ≡ old
+      → RefusesPack command old new held held' Done fault
+  -- a call of the disk has failed, or a device, and the fault is the one of that
+  failed : IsFailure fault (λ cause. HasFailed cause held held') → RefusesPack command old new held held' Done fault
   -- all is done, and the line could not be printed
   untold : (f : HostFault) → fault ≡ faults.Host f → Done → RefusesPack command old new held held' Done fault

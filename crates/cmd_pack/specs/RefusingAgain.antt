@@ -1,6 +1,7 @@
 -- Why the command `repack` fails: each fault has its cause.
 use Rattle.std.specs.Prelude.{◌≡◌, ℕ, List, length, Some}
 use Rattle.std.specs.Str.{IsUtf8}
+use Rattle.sys_disk.specs.Counts.{Cause}
 use Rattle.sys_disk.specs.World.{World, OpenFiles, HasFailed}
 use Rattle.sys_refusals.specs.declared.refusal.HostFault.{HostFault}
 use Rattle.sys_refusals.specs.declared.refusal.HostFault.TheVariants as hosts
@@ -20,7 +21,7 @@ use Rattle.cmd_pack.specs.Packing.{board_id_words}
 use Rattle.cmd_pack_inputs.specs.Parts.{IsGivenPath}
 use Rattle.cmd_pack_inputs.specs.BadBoards.{IsBadBoard}
 use Rattle.cmd_pack.specs.Repacking.{AreAskedAgain, AreFieldsAgain, AreFragmentsAgain, BeginsWith}
-use Rattle.cmd_common_boot.specs.Fault.{IsOutsideBoot, LacksMemory}
+use Rattle.cmd_common_boot.specs.Fault.{IsFailure, LacksMemory}
 
 -- the arguments are wrong for an image with this header
 abbrev pub IsWrongAgain : PackCommand → Header → BootCommandFault → Type 0
@@ -44,10 +45,10 @@ pub record IsNotRepacked (command : PackCommand) (world : World) (x : List ℕ) 
     pub asked : AreAskedAgain command world x h given packing
     pub refused : refusal_from (kind_of h) packing ≡ Some f
 
--- why an image x with this header is not packed again. Failed states that a call or a device has failed, Done that
+-- why an image x with this header is not packed again. Failed states which calls and devices have failed, Done that
 -- everything was done.
-pub data RefusesAgain (command : PackCommand) (x : List ℕ) (h : Header) (old new : World) (Failed Done : Type 0)
-    (fault : BootCommandFault) : Type 0 where
+pub data RefusesAgain (command : PackCommand) (x : List ℕ) (h : Header) (old new : World) (Failed : Cause → Type 0)
+    (Done : Type 0) (fault : BootCommandFault) : Type 0 where
   -- an argument is wrong, before OUT is opened
   wrong_words : IsWrongAgain command h fault → new ≡ old → RefusesAgain command x h old new Failed Done fault
   wrong_board : IsBadBoardAgain command old x h fault → new ≡ old
@@ -60,8 +61,8 @@ pub data RefusesAgain (command : PackCommand) (x : List ℕ) (h : Header) (old n
       → fault ≡ faults.Host hosts.CannotOpen → new ≡ old → RefusesAgain command x h old new Failed Done fault
   -- memory was refused, before OUT is opened
   no_memory : LacksMemory fault Failed → new ≡ old → RefusesAgain command x h old new Failed Done fault
-  -- a call of the disk failed, or a device
-  failed : IsOutsideBoot fault → Failed → RefusesAgain command x h old new Failed Done fault
+  -- a call of the disk has failed, or a device, and the fault is the one of that
+  failed : IsFailure fault Failed → RefusesAgain command x h old new Failed Done fault
   -- all is done, and the line could not be printed
   untold : (f : HostFault) → fault ≡ faults.Host f → Done → RefusesAgain command x h old new Failed Done fault
 
@@ -70,19 +71,19 @@ pub data RefusesAgain (command : PackCommand) (x : List ℕ) (h : Header) (old n
 pub data RefusesRepack (input : List ℕ) (command : PackCommand) (old new : World) (held held' : OpenFiles)
     (Done : Type 0)
     (fault : BootCommandFault) : Type 0 where
-  no_image : RefusesImage input old (HasFailed held held') ⊥ fault → new ≡ old
+  no_image : RefusesImage input old (λ cause. HasFailed cause held held') ⊥ fault → new ≡ old
       → RefusesRepack input command old new held held' Done fault
   not_again : (x : List ℕ) (h : Header) → BeginsWith input old x h
-      → RefusesAgain command x h old new (HasFailed held held') Done fault
+      → RefusesAgain command x h old new (λ cause. HasFailed cause held held') Done fault
       → RefusesRepack input command old new held held' Done fault
 
 -- ---- on the way
 
 -- why the data from which an image is packed again is incomplete: a call failed, a path is no UTF-8, memory was
 -- refused, or a board id is wrong
-pub data StopsFillingAgain (command : PackCommand) (world : World) (x : List ℕ) (h : Header) (Failed : Type 0)
+pub data StopsFillingAgain (command : PackCommand) (world : World) (x : List ℕ) (h : Header) (Failed : Cause → Type 0)
     (fault : BootCommandFault) : Type 0 where
-  unopened : IsOutsideBoot fault → Failed → StopsFillingAgain command world x h Failed fault
+  unopened : IsFailure fault Failed → StopsFillingAgain command world x h Failed fault
   not_text : (path : List ℕ) → IsGivenPath command.texts (kind_of h) path → ¬ IsUtf8 path
       → fault ≡ faults.Host hosts.CannotOpen → StopsFillingAgain command world x h Failed fault
   no_space : LacksMemory fault Failed → StopsFillingAgain command world x h Failed fault

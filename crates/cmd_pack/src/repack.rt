@@ -162,10 +162,10 @@ fn write_again<'t, 'a, D: Disk>(
     ensures given { IsTrue D.models → KeepsGivenAgain command.now (view_of own.now.image.header) (D.world disk.old)
         (D.world disk.new) }
     ensures refused { IsTrue D.models → IfErr result (λ refusal. RefusesAgain command.now (D.At.content own.now.source)
-        (view_of own.now.image.header) (D.world disk.old) (D.world disk.new) (HasFailed (D.held disk.old)
-        (D.held disk.new)) (PacksAgain command.now (D.At.content own.now.source) (view_of own.now.image.header)
-        (D.held disk.old).read (D.world disk.old) (D.world disk.new) (Unprinted report.old report.new))
-        refusal.fault) }
+        (view_of own.now.image.header) (D.world disk.old) (D.world disk.new)
+        (λ cause. HasFailed cause (D.held disk.old) (D.held disk.new)) (PacksAgain command.now
+        (D.At.content own.now.source) (view_of own.now.image.header) (D.held disk.old).read (D.world disk.old)
+        (D.world disk.new) (Unprinted report.old report.new)) refusal.fault) }
 {
     let own_fields = own_fields(&own.image.header, kept.cmdline.as_slice());
     let fields = match with_given(own_fields, kind, command.page, &command.texts) {
@@ -205,8 +205,8 @@ fn contents_of<'t, 'f, 'a, D: Disk>(
         ⟦<PartSource<'t, D::At> as Source>⟧.size ⟦<PartSource<'t, D::At> as Source>⟧.read_faults
         (D.held disk.old) (D.held disk.new) (D.world disk.old) (D.world disk.new) }
     ensures refused { IsTrue D.models → IfErr result (λ refusal. StopsFillingAgain command.now (D.world disk.old)
-        (D.At.content own.now.source) (view_of own.now.image.header) (HasFailed (D.held disk.old) (D.held disk.new))
-        refusal.fault) }
+        (D.At.content own.now.source) (view_of own.now.image.header) (λ cause. HasFailed cause (D.held disk.old)
+        (D.held disk.new)) refusal.fault) }
 {
     let texts = &command.texts;
     let ramdisks = match ramdisks_of(disk, command.alloc, own, kept, texts) {

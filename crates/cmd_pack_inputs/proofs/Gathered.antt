@@ -2,8 +2,9 @@
 use Rattle.std.proofs.Common.{inl, inr, arith, ◌⊎◌, ◌+◌, ◌≡◌, ◌<◌, ◌≤◌, ℕ, List, [], ◌∷◌, ◌++◌, Some, None, sym}
 use Rattle.std.proofs.Common.{◌∙◌, ap, subst, length, take, get_or, length-append}
 use Rattle.std.proofs.lemmas.Bool.{false≢true}
-use Rattle.std.specs.Prelude.{Err, IfErr, IfOk, Ok, OnOk, Result, is_ok, is_some, unwrap_or}
+use Rattle.std.specs.Prelude.{Err, IfErr, IfOk, Ok, OnOk, Result, is_some, unwrap_or}
 use Rattle.sys_refusals.specs.declared.refusal.HostFault.{HostFault}
+use Rattle.sys_refusals.specs.declared.refusal.HostRefusal.{HostRefusal}
 use Rattle.std.proofs.lemmas.List.{get_or-map, length-map, map-append, take_all, take_more}
 use Rattle.std.proofs.lemmas.List.Elements.{Contains-push_cases, Contains-get_or}
 use Rattle.std.proofs.lemmas.List.Sums.{sum_by-append}
@@ -12,12 +13,14 @@ use Rattle.std.specs.List.{All}
 use Rattle.std.specs.Prelude.{Contains, map}
 use Rattle.abt_headers.specs.declared.sections.Section.{Section}
 use Rattle.abt_sections.specs.declared.spec.FragmentSpec.{FragmentSpec}
-use Rattle.sys_disk.specs.World.{World, OpenFiles, OpensFile, failing, unless}
+use Rattle.sys_disk.specs.Counts.{failure_of}
+use Rattle.sys_disk.specs.World.{World, OpenFiles, OpensFile, counting}
 use Rattle.abt_sections.specs.Cause.{total}
 use Rattle.cmd_common_fields.specs.Board.{BoardFits, IsBoardWord}
 use Rattle.cmd_common_fields.specs.Options.{option_of}
 use Rattle.cmd_common_fields.specs.declared.board_word.BoardWord.{BoardWord}
 use Rattle.cmd_common_boot.specs.Given.{found}
+use Rattle.cmd_common_boot.proofs.Calls.{same_counting}
 use Rattle.cmd_common_boot.specs.declared.fault.BootCommandFault.{BootCommandFault}
 use Rattle.cmd_common_boot.specs.declared.fault.BootCommandFault.TheVariants as commands
 use Rattle.cmd_common_boot.specs.declared.pack_texts.FragmentText.{FragmentText}
@@ -29,7 +32,6 @@ use Rattle.cmd_pack_inputs.specs.Parts.{IsPartBy}
 use Rattle.cmd_pack_inputs.specs.Parts.{IsPartInput, IsPathOf}
 use Rattle.cmd_pack_inputs.specs.BadBoards.{IsBadBoard}
 use Rattle.cmd_pack_inputs.proofs.Openings.{opens_file, opens_none, opens_then, stops_more, stops_then}
-use Rattle.cmd_common_boot.proofs.Calls.{same_failing}
 
 -- ---- parts
 
@@ -297,11 +299,11 @@ option_stops (Err e) fault options name path option h h' given is stops =
     stops_more (λ p. p ≡ path) (IsPathOf options name) h h' (fault e) stops
     (λ p same. record { option = option; given = given; is_path = same ∙ is })
 
-pub own_opens : {X E : Type 0} (r : Result X E) (options : List OptionText) (name : List ℕ) (w : World)
-    (h h' : OpenFiles)
-    → found options name ≡ None → h' ≡ failing (unless (is_ok r)) h → OnOk r (OpensMore (IsPathOf options name) w h h')
+pub own_opens : {X : Type 0} (r : Result X HostRefusal) (options : List OptionText) (name : List ℕ) (w : World)
+    (h h' : OpenFiles) → found options name ≡ None → h' ≡ counting (failure_of r) h
+    → OnOk r (OpensMore (IsPathOf options name) w h h')
 own_opens (Ok p) options name w h h' none held =
-    opens_none (IsPathOf options name) w h h' (held ∙ same_failing h)
+    opens_none (IsPathOf options name) w h h' (held ∙ same_counting h)
     (λ q of. false≢true (ap is_some (sym none ∙ of.given)))
 own_opens (Err e) options name w h h' none held = tt
 

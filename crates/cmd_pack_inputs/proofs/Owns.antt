@@ -1,8 +1,8 @@
 -- What is read of an image beside it.
-use Rattle.std.proofs.Common.{◌≡◌, ◌<◌, ◌≤◌, ◌+◌, ◌-◌, ℕ, zero, suc, Bool, true, false, cond, List, [], ◌∷◌, ◌++◌}
+use Rattle.std.proofs.Common.{◌≡◌, ◌<◌, ◌≤◌, ◌+◌, ℕ, zero, suc, Bool, true, false, cond, List, [], ◌∷◌, ◌++◌}
 use Rattle.std.proofs.Common.{Option, Some}
-use Rattle.std.proofs.Common.{None, length, take, drop, find, refl, sym, ap, ◌∙◌, subst, arith, take_all}
-use Rattle.std.proofs.Common.{length-drop, ltb-false, lt-ltb}
+use Rattle.std.proofs.Common.{None, length, take, find, refl, sym, ap, ◌∙◌, subst, arith}
+use Rattle.std.proofs.Common.{ltb-false, lt-ltb}
 use Rattle.std.proofs.Common.{get_or, map, sum_by}
 use Rattle.std.proofs.lemmas.List.{map-append, take_more}
 use Rattle.std.proofs.lemmas.List.Sums.{sum_by-append}
@@ -21,7 +21,6 @@ use Rattle.abt_sections.specs.Header.{Header, OfBoot, OfVendor, EachWithin, entr
 use Rattle.abt_sections.specs.Header.{ramdisk_at}
 use Rattle.abt_sections.specs.Header.{ramdisk_size}
 use Rattle.abt_sections.specs.Open.{beyond, ends_beyond}
-use Rattle.cmd_common_findings.specs.LeftOut.{end_of}
 use Rattle.cmd_common_findings.specs.Places.{first_place_of, stands_at}
 use Rattle.cmd_pack_inputs.specs.Own.{AllEndBehind, EndsBehind, entries_to}
 

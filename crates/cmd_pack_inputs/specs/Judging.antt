@@ -5,7 +5,8 @@ use Rattle.abt_io.specs.declared.device.Source as sources
 use Rattle.abt_sections.specs.Open.{IsOpened}
 use Rattle.abt_sections.specs.declared.image.Image.{Image}
 use Rattle.cmd_common_fields.specs.declared.image_kind.ImageKind.{ImageKind}
-use Rattle.cmd_common_boot.specs.Fault.{IsOutsideBoot}
+use Rattle.sys_disk.specs.Counts.{reading}
+use Rattle.cmd_common_boot.specs.Fault.{IsCauseOf}
 use Rattle.cmd_common_boot.specs.NotJudged.{OfFault}
 use Rattle.cmd_common_boot.specs.Wrong.{IsUntaken}
 use Rattle.cmd_common_boot.specs.declared.fault.BootCommandFault.{BootCommandFault}
@@ -13,9 +14,9 @@ use Rattle.cmd_common_boot.specs.declared.not_judged.NotJudged.{NotJudged}
 use Rattle.cmd_common_boot.specs.declared.not_judged.NotJudged.TheVariants as not_judged
 use Rattle.cmd_common_boot.specs.declared.pack_command.PackCommand.{PackCommand}
 
--- why an image is not read again: a read failed, or memory was refused
+-- why an image is not read again: this is the fault of a read, which has failed, or memory was refused
 abbrev pub IsUnread : Type 0 → NotJudged → Type 0
-IsUnread Failed = OfFault (λ fault. IsOutsideBoot fault × Failed)
+IsUnread Failed = OfFault (λ fault. IsCauseOf fault reading × Failed)
 
 -- an image that was opened is only read again, or not read for such a fault
 pub record ReadsOpened {X : Type 0} (r : Result X NotJudged) {S : Type 0} (s : sources.Ghosts S) (old new : S)

@@ -1,8 +1,9 @@
 -- Files that are opened for reading, one after another.
-use Rattle.std.specs.Prelude.{◌≡◌, ℕ, List, ◌++◌, Some, Contains, Bool, IsTrue, Result, IfOk, IfErr, OnOk, is_ok}
+use Rattle.std.specs.Prelude.{◌≡◌, ℕ, List, ◌++◌, Some, Contains, Bool, IsTrue, Result, IfOk, IfErr, OnOk}
 use Rattle.std.specs.Str.{IsUtf8}
+use Rattle.sys_disk.specs.Counts.{call, failure_of}
 use Rattle.sys_disk.specs.DiskCalls.{FailsOnly}
-use Rattle.sys_disk.specs.World.{World, OpenFiles, HasFailed, OpensFile, unless}
+use Rattle.sys_disk.specs.World.{World, OpenFiles, HasFailed, OpensFile}
 use Rattle.sys_refusals.specs.declared.refusal.HostFault.{HostFault}
 use Rattle.sys_refusals.specs.declared.refusal.HostFault.TheVariants as hosts
 use Rattle.sys_refusals.specs.declared.refusal.HostRefusal.{HostRefusal}
@@ -23,12 +24,12 @@ pub record OnlyOpens (held held' : OpenFiles) (old new : World) : Type 0 where
   pub world : new ≡ old
   pub output : held'.output ≡ held.output
 
--- why one of the files at these paths was not opened: a call of the disk failed; or a path is no UTF-8; or memory was
--- refused
+-- why one of the files at these paths was not opened: a call of the disk returned this fault; or a path is no UTF-8; or
+-- memory was refused
 pub data StopsOpening (named : List ℕ → Type 0) (old new : OpenFiles) (fault : HostFault) : Type 0 where
-  failed : HasFailed old new → StopsOpening named old new fault
+  failed : HasFailed (call fault) old new → StopsOpening named old new fault
   no_text : (path : List ℕ) → named path → ¬ IsUtf8 path → fault ≡ hosts.CannotOpen → StopsOpening named old new fault
-  no_memory : fault ≡ hosts.Memory → HasFailed old new → StopsOpening named old new fault
+  no_memory : fault ≡ hosts.Memory → HasFailed (call hosts.Memory) old new → StopsOpening named old new fault
 
 -- ---- what a call that opens them does, whatever the result, where the disk models its files
 
@@ -49,11 +50,11 @@ pub record OpensEach {X : Type 0} (models : Bool) (r : Result X HostRefusal) (na
   pub keeps : IsTrue models → OnlyOpens h h' old new
 
 -- a part of what is already open is opened; its bytes satisfy `Holds`, and it has not failed yet; or opening it fails
-pub record OpensAgain {P F : Type 0} (models : Bool) (r : Result P F) (Holds : List ℕ → Type 0)
+pub record OpensAgain {P : Type 0} (models : Bool) (r : Result P HostRefusal) (Holds : List ℕ → Type 0)
     (its_content : P → List ℕ) (its_faults : P → ℕ) (h h' : OpenFiles) (old new : World) : Type 0 where
   pub part : IsTrue models → IfOk r (λ p. Holds (its_content p))
   pub unread : IsTrue models → IfOk r (λ p. its_faults p ≡ 0)
-  pub fails : FailsOnly models (unless (is_ok r)) h h' old new
+  pub fails : FailsOnly models (failure_of r) h h' old new
 
 -- the same for several parts, which have no paths
 pub record OpensOwn {X : Type 0} (models : Bool) (r : Result X HostRefusal) (its_faults : X → ℕ) (before : ℕ)

@@ -38,7 +38,7 @@ pub fn open_own<'t, 'a, D: Disk>(
         (D.world disk.new) }
     ensures image { IsTrue D.At.models → IfOk result (λ own. IsOpened (D.At.content own.source) own.image) }
     ensures refused { IsTrue D.models → IfErr result (λ refusal. RefusesImage (path_of place.entry)
-        (D.world disk.old) (HasFailed (D.held disk.old) (D.held disk.new)) ⊥ refusal.fault) }
+        (D.world disk.old) (λ cause. HasFailed cause (D.held disk.old) (D.held disk.new)) ⊥ refusal.fault) }
 {
     let mut source = match disk.source(place) {
         Ok(source) => source,

@@ -1,36 +1,37 @@
 -- The file that an image is written to.
-use Rattle.std.proofs.Common.{inl, inr, arith, ◌⊎◌, ◌≡◌, ℕ, List, [], ◌∷◌, ◌++◌, Option, Some}
+use Rattle.std.proofs.Common.{inl, inr, ◌⊎◌, ◌≡◌, ℕ, List, [], ◌∷◌, ◌++◌, Option, Some}
 use Rattle.std.proofs.Common.{Bool, true, sym, ◌∙◌, ap, subst, length}
 use Rattle.std.proofs.lemmas.Bool.{false≢true}
-use Rattle.std.specs.Prelude.{unwrap_or, IsOk, IfOk, IfErr, OnOk, OnErr, MatchResult, Result, Ok, Err}
+use Rattle.std.specs.Prelude.{unwrap_or, IfOk, OnOk, MatchResult, Result, Ok, Err}
 use Rattle.std.specs.Prelude.{is_ok}
 use Rattle.std.specs.Prelude.{IsTrue}
 use Rattle.sys_disk.specs.Images.{OfImage}
 use Rattle.sys_disk.specs.declared.image_to.ImageTo.{ImageTo}
 use Rattle.sys_disk.specs.declared.image_to.ImageTo.TheVariants.{File, Stream}
-use Rattle.sys_disk.specs.World.{ClosesOutput, Creates, Ends, OpenFiles, Spares, SparesRest, World, failing}
+use Rattle.sys_disk.specs.Counts.{Counts}
+use Rattle.sys_disk.specs.World.{ClosesOutput, Creates, Ends, OpenFiles, Spares, SparesInUse, SparesRest, World}
+use Rattle.sys_disk.specs.World.{counting}
 use Rattle.abt_sections.specs.declared.fault.SectionFault.{SectionFault}
 use Rattle.cmd_common_boot.specs.NotJudged.{IsOfPacking, OfFault, fault_of, refusals_of}
-use Rattle.cmd_common_boot.specs.Refused.{IsOfMoving}
 use Rattle.cmd_common_boot.specs.declared.fault.BootCommandFault.{BootCommandFault}
 use Rattle.cmd_common_boot.specs.declared.fault.BootCommandFault.TheVariants as faults
 use Rattle.cmd_common_boot.specs.declared.not_judged.NotJudged.{NotJudged}
 use Rattle.cmd_common_boot.specs.declared.not_judged.NotJudged.TheVariants as not_judged
-use Rattle.sys_refusals.specs.declared.refusal.HostFault.{HostFault}
+use Rattle.sys_refusals.specs.declared.refusal.HostFault.TheVariants as hosts
 use Rattle.cmd_pack_outputs.specs.Contents.{faults_in}
 use Rattle.cmd_pack_outputs.specs.declared.contents.ImageContents.{ImageContents}
 use Rattle.cmd_pack_outputs.specs.Lines.{counted_in_u64, image_line}
 use Rattle.cmd_pack_outputs.specs.Magic.{HoldsNone}
 use Rattle.cmd_pack_outputs.specs.Writing.{HoldsNoPartOf, IsAccepted, IsReady, LaysImage, LeavesNoneOrAll}
-use Rattle.cmd_common_boot.specs.Fault.{IsOutsideBoot}
 use Rattle.cmd_pack_outputs.specs.Writing.{LeavesOut}
 use Rattle.cmd_pack_outputs.specs.Writing.{StopsWriting}
 use Rattle.cmd_pack_outputs.specs.Writing.{no_memory, refused}
-use Rattle.sys_disk.proofs.Worlds.{only_written}
+use Rattle.sys_disk.proofs.Worlds.{only_written, spared_if_may}
 use Rattle.sys_report.specs.Shows.{ShowsBeside}
 use Rattle.sys_report.specs.declared.report.Report.{Report}
 use Rattle.cmd_pack_outputs.proofs.Closes.{clean_created, closed_created, synced_created}
-use Rattle.cmd_common_boot.proofs.Calls.{on_ok, same_failing}
+use Rattle.cmd_common_boot.proofs.Calls.{on_ok, same_counting}
+use Rattle.cmd_common_boot.proofs.Causes.{source_failed}
 use Rattle.cmd_pack_outputs.proofs.Magics.{empty_none}
 
 one : (o : Option ℕ) (f g : ℕ) → o ≡ Some f → o ≡ Some g → f ≡ g
@@ -76,6 +77,11 @@ part_whole output bytes h h' a b c made ends = λ file at.
     let is : made.file ≡ file = one (c.at output) made.file file (it.1.paths output made.file made.there) at in
     inr (inr (ap (λ f. c.holds f) (sym is) ∙ it.0))
 
+-- it is no file that is in use, or such files may be written
+pub spared_made : (output : List ℕ) (h h' : OpenFiles) (a b c : World) → Creates output h h' a b
+    → SparesInUse output h a c
+spared_made output h h' a b c made = spared_if_may output h a c made.allowed
+
 -- whatever was printed of it then
 pub left_done : {X F : Type 0} (r : Result X F) (output bytes : List ℕ) (over : Bool) (h h' h'' : OpenFiles)
     (a b c : World)
@@ -83,6 +89,7 @@ pub left_done : {X F : Type 0} (r : Result X F) (output bytes : List ℕ) (over 
     → ClosesOutput true h' h'' → LeavesOut r output over (λ x. x ≡ bytes) h h'' a c
 left_done r output bytes over h h' h'' a b c made rest ends closes = record {
   others = only_written output h h' a b c made rest;
+  guarded = spared_made output h h' a b c made;
   closed = closed_created true h' h'' closes;
   whole = λ o. part_whole output bytes h h' a b c made ends;
   clean = on_ok r _ (clean_created output h h' h'' a b made closes);
@@ -117,21 +124,18 @@ beside_as b b' a c line same beside = subst (λ is. ShowsBeside is a c line) sam
 -- ---- why it fails
 
 pub judged_stops : (o : Option SectionFault) (h h' : OpenFiles) (a b : World) (Done : Type 0) (why : NotJudged)
-    (g : BootCommandFault) → OfFault (IsOfPacking o) why → g ≡ fault_of why → h' ≡ failing (refusals_of why) h → b ≡ a
+    (g : BootCommandFault) → OfFault (IsOfPacking o) why → g ≡ fault_of why → h' ≡ counting (refusals_of why) h → b ≡ a
     → StopsWriting o h h' a b Done g
 judged_stops o h h' a b Done (not_judged.Memory m) g judged told held same =
-    no_memory (record { told = told; counted = omega (arith, ap (λ k. k.failed) held) }) same
+    no_memory (record { told = told; counted = source_failed h h' hosts.Memory held }) same
 judged_stops o h h' a b Done (not_judged.Fault (faults.Section f)) g judged told held same =
-    refused f told judged (held ∙ same_failing h) same
+    refused f told judged (held ∙ same_counting h) same
 judged_stops o h h' a b Done (not_judged.Fault (faults.Host f)) g judged told held same = absurd judged
 judged_stops o h h' a b Done (not_judged.Fault (faults.OptionNotCarried n)) g judged told held same = absurd judged
 judged_stops o h h' a b Done (not_judged.Fault (faults.BadFragment w)) g judged told held same = absurd judged
 judged_stops o h h' a b Done (not_judged.Fault (faults.BadNumber w)) g judged told held same = absurd judged
 judged_stops o h h' a b Done (not_judged.Fault (faults.BadBoardId w)) g judged told held same = absurd judged
 judged_stops o h h' a b Done (not_judged.Fault faults.CheckFailed) g judged told held same = absurd judged
-
-pub host_outside : (f : BootCommandFault) (k : HostFault) → f ≡ faults.Host k → IsOutsideBoot f
-host_outside f k told = subst IsOutsideBoot (sym told) tt
 
 -- ---- the result of a call that wrote bytes, as one of a command
 
@@ -140,11 +144,6 @@ pub told_done : {X F G : Type 0} (a : Result X F) (b : Result X G) (to : F → G
     → MatchResult a (λ n. b ≡ Ok n) (λ f. b ≡ Err (to f)) → OnOk a A → OnOk b A
 told_done {X} {F} {G} (Ok n) b to A told is = subst (λ (k : Result X G). OnOk k A) (sym told) is
 told_done {X} {F} {G} (Err f) b to A told is = subst (λ (k : Result X G). OnOk k A) (sym told) tt
-
-pub told_undone : {X F G : Type 0} (a : Result X F) (b : Result X G) (to : F → G) (A : Type 0)
-    → MatchResult a (λ n. b ≡ Ok n) (λ f. b ≡ Err (to f)) → OnErr a A → OnErr b A
-told_undone {X} {F} {G} (Ok n) b to A told is = subst (λ (k : Result X G). OnErr k A) (sym told) tt
-told_undone {X} {F} {G} (Err f) b to A told is = subst (λ (k : Result X G). OnErr k A) (sym told) is
 
 -- where the output was completed, the call returned
 abbrev the : {G : Type 0} → Result ℕ G → ℕ
@@ -159,9 +158,9 @@ counts_end (Err f) b (Ok end) to k told done is = absurd (false≢true (ap is_ok
 counts_end a b (Err x) to k told done is = tt
 
 pub ends_end : {F G R : Type 0} (a : Result ℕ F) (b : Result ℕ G) (r : Result (ℕ × Bool) R) (to : F → G)
-    (x w bytes : List ℕ) (n : ℕ) (h h' : OpenFiles) (u v c : World)
+    (x w bytes : List ℕ) (n : Counts) (h h' : OpenFiles) (u v c : World)
     → MatchResult a (λ n. b ≡ Ok n) (λ f. b ≡ Err (to f))
-    → IfOk r (λ end. b ≡ Ok end.0) → w ≡ [] → h' ≡ failing n h → v ≡ u → OnOk a (x ≡ w ++ bytes)
+    → IfOk r (λ end. b ≡ Ok end.0) → w ≡ [] → h' ≡ counting n h → v ≡ u → OnOk a (x ≡ w ++ bytes)
     → OnOk r (Ends h'.output x v c) → OnOk r (Ends h.output bytes u c)
 ends_end (Ok m) b (Ok end) to x w bytes n h h' u v c told done none held same is ends =
     let o : h'.output ≡ h.output = ap (λ (k : OpenFiles). k.output) held in
@@ -171,35 +170,23 @@ ends_end (Err f) b (Ok end) to x w bytes n h h' u v c told done none held same i
     absurd (false≢true (ap is_ok (sym told ∙ done)))
 ends_end a b (Err y) to x w bytes n h h' u v c told done none held same is ends = tt
 
-pub outside_end : {Y R : Type 0} (a : Result ℕ SectionFault) (b : Result ℕ BootCommandFault) (r : Result Y R)
-    (fault : R → BootCommandFault) → MatchResult a (λ n. b ≡ Ok n) (λ f. b ≡ Err (faults.Section f))
-    → IfErr a IsOfMoving → IfErr b (λ f. IfErr r (λ x. fault x ≡ f))
-    → (IsOk b → IfErr r (λ x. (k : HostFault) × (fault x ≡ faults.Host k))) → IfErr r (λ x. IsOutsideBoot (fault x))
-outside_end a b (Ok y) fault told moving is host = tt
-outside_end (Ok n) b (Err x) fault told moving is host =
-    let it = host (ap is_ok told) in host_outside (fault x) it.0 it.1
-outside_end {Y} {R} (Err f) b (Err x) fault told moving is host =
-    let r : Result Y R = Err x in
-    let e : fault x ≡ faults.Section f
-    = subst (λ (k : Result ℕ BootCommandFault). IfErr k (λ f. IfErr r (λ x. fault x ≡ f))) told is in
-    subst IsOutsideBoot (sym e) moving
-
 -- ---- after what was read is closed
 
-pub ends_behind : (x bytes : List ℕ) (n : ℕ) (h h' : OpenFiles) (u v c : World) → h' ≡ failing n h → v ≡ u → x ≡ bytes
+pub ends_behind : (x bytes : List ℕ) (n : Counts) (h h' : OpenFiles) (u v c : World) → h' ≡ counting n h → v ≡ u
+    → x ≡ bytes
     → Ends h'.output x v c → Ends h.output bytes u c
 ends_behind x bytes n h h' u v c held same is ends =
     let o : h'.output ≡ h.output = ap (λ (k : OpenFiles). k.output) held in
     subst (λ o. Ends o bytes u c) o (subst (λ l. Ends h'.output l u c) is (subst (λ k. Ends h'.output x k c) same ends))
 
-pub part_behind : (bytes : List ℕ) (n : ℕ) (h h' : OpenFiles) (c : World) → h' ≡ failing n h → LeavesNoneOrAll h'.output
-    bytes c
+pub part_behind : (bytes : List ℕ) (n : Counts) (h h' : OpenFiles) (c : World) → h' ≡ counting n h
+    → LeavesNoneOrAll h'.output bytes c
     → LeavesNoneOrAll h.output bytes c
 part_behind bytes n h h' c held left =
     let o : h'.output ≡ h.output = ap (λ (k : OpenFiles). k.output) held in subst (λ o. LeavesNoneOrAll o bytes c) o
     left
 
-pub rest_behind : (n : ℕ) (h h' : OpenFiles) (u v c : World) → h' ≡ failing n h → v ≡ u → SparesRest h'.output v c
+pub rest_behind : (n : Counts) (h h' : OpenFiles) (u v c : World) → h' ≡ counting n h → v ≡ u → SparesRest h'.output v c
     → SparesRest h.output u c
 rest_behind n h h' u v c held same rest = subst (λ w. SparesRest h.output w c) same
     (subst (λ o. SparesRest o v c) (ap (λ (k : OpenFiles). k.output) held) rest)

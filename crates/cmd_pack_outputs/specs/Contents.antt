@@ -43,3 +43,7 @@ refusal_in size c = refusal_of c.kind c.fields (map size c.parts.items) (map siz
 -- how often a read of them has failed
 abbrev pub faults_in : {P : Type 0} → (P → ℕ) → ImageContents P → ℕ
 faults_in faults c = total faults c.parts.items + total faults c.sources.items + faults c.nothing + faults c.trailing
+
+-- how many bytes they gave
+abbrev pub bytes_given : {P : Type 0} → (P → ℕ) → ImageContents P → ℕ
+bytes_given given c = total given c.parts.items + total given c.sources.items + given c.nothing + given c.trailing

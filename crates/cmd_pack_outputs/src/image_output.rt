@@ -1,6 +1,7 @@
 //! The file to which an image is written, from before it is opened until it is closed.
 
 ghost use Rattle.std.specs.Prelude.{◌≡◌, ◌++◌, ◌∷◌, [], None, IsTrue, IfErr, OnOk, OnErr, false, true};
+ghost use Rattle.sys_disk.specs.Counts.{writes};
 ghost use Rattle.sys_disk.specs.DiskCalls.{LetsImageGo};
 ghost use Rattle.sys_disk.specs.Images.{OfImage, is_file};
 ghost use Rattle.sys_report.specs.Shows.{CannotPrint, ShowsBeside, Unprinted};
@@ -8,9 +9,8 @@ ghost use Rattle.sys_refusals.specs.Paths.{path_out};
 ghost use Rattle.cmd_common_boot.specs.NotJudged.{IsOfPacking, OfFault};
 ghost use Rattle.cmd_pack_outputs.specs.Contents.{faults_in, packed_image, packing_of, refusal_from, refusal_in};
 ghost use Rattle.cmd_pack_outputs.specs.Lines.{image_line};
-ghost use Rattle.cmd_pack_outputs.specs.Writing.{IsOfLaying, IsReady, LaysImage, LeavesOut};
-ghost use Rattle.cmd_common_boot.specs.Fault.{IsOutsideBoot};
-ghost use Rattle.cmd_pack_outputs.specs.Writing.{StopsWriting, WritesBytes};
+ghost use Rattle.cmd_pack_outputs.specs.Writing.{IsReady, LaysImage, LeavesOut, StopsWriting, WritesBytes};
+ghost use Rattle.cmd_pack_outputs.specs.Writing.{lay_fault};
 
 use crate::contents::ImageContents;
 use crate::letting_go::{bytes_of, let_go, sides_of};
@@ -49,7 +49,7 @@ pub fn write_image<'f, 't, 'a, D: Disk>(
     ensures left { IsTrue D.models → LeavesOut result (path_out output.entry) (D.is_over (path_out output.entry))
         (λ x. x ≡ packed_image ⟦<PartSource<'t, D::At> as Source>⟧.content contents.entry) (D.held disk.old)
         (D.held disk.new) (D.world disk.old) (D.world disk.new) }
-    // it fails for a fault of packing, for a fault of devices or files, or where only its line failed
+    // it fails for a fault of packing, for that of a device or a call that has failed, or where only its line failed
     ensures refused { IsTrue D.models → IfErr result (λ refusal. StopsWriting
         (refusal_from contents.entry.kind (packing_of ⟦<PartSource<'t, D::At> as Source>⟧.content contents.entry))
         (D.held disk.old) (D.held disk.new)
@@ -204,9 +204,9 @@ fn stopped<'t, 'a, D: Disk>(
     output: FileArg<'t>,
     sides: Sides<'t>,
 ) -> Refusal<'t, BootCommandFault<'a>>
-    ensures gone { LetsImageGo D.models (D.Image.Output.written file) (D.Image.Output.write_faults file)
+    ensures gone { LetsImageGo D.models (D.Image.Output.written file) (writes (D.Image.Output.write_faults file))
         (D.held disk.old) (D.held disk.new) (D.world disk.old) (D.world disk.new) }
-    ensures outside { IsOfLaying fault → IsOutsideBoot result.fault }
+    ensures told { result.fault ≡ lay_fault fault }
 {
     let why = file.why();
     disk.give_up_image(file);

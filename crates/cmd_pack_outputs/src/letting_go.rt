@@ -1,8 +1,9 @@
 //! Closing the sources of an image after it was written, and the file that a fault concerns.
 
+ghost use Rattle.sys_disk.specs.Counts.{reads};
 ghost use Rattle.sys_disk.specs.DiskCalls.{FailsOnly};
 ghost use Rattle.abt_sections.specs.Cause.{total};
-ghost use Rattle.cmd_pack_outputs.specs.Contents.{faults_in};
+ghost use Rattle.cmd_pack_outputs.specs.Contents.{bytes_given, faults_in};
 
 use crate::contents::ImageContents;
 use abt_io::Source;
@@ -56,7 +57,8 @@ fn place_at_fault<'t, S: Source + Lasting + Drop>(
 
 /// Lets the files go that an image was written from.
 pub(crate) fn let_go<'t, D: Disk>(disk: &mut D, contents: ImageContents<'_, PartSource<'t, D::At>>)
-    ensures fails { FailsOnly D.models (faults_in ⟦<PartSource<'t, D::At> as Source>⟧.read_faults contents.entry)
+    ensures fails { FailsOnly D.models (reads (bytes_given ⟦<PartSource<'t, D::At> as Source>⟧.given contents.entry)
+        (faults_in ⟦<PartSource<'t, D::At> as Source>⟧.read_faults contents.entry))
         (D.held disk.old) (D.held disk.new) (D.world disk.old) (D.world disk.new) }
 {
     let ImageContents {
@@ -73,7 +75,8 @@ pub(crate) fn let_go<'t, D: Disk>(disk: &mut D, contents: ImageContents<'_, Part
 }
 
 fn let_go_parts<'t, D: Disk>(disk: &mut D, parts: Vec<PartSource<'t, D::At>>)
-    ensures fails { FailsOnly D.models (total ⟦<PartSource<'t, D::At> as Source>⟧.read_faults parts.entry.items)
+    ensures fails { FailsOnly D.models (reads (total ⟦<PartSource<'t, D::At> as Source>⟧.given parts.entry.items)
+        (total ⟦<PartSource<'t, D::At> as Source>⟧.read_faults parts.entry.items))
         (D.held disk.old) (D.held disk.new) (D.world disk.old) (D.world disk.new) }
 {
     let mut parts = parts;
@@ -83,7 +86,8 @@ fn let_go_parts<'t, D: Disk>(disk: &mut D, parts: Vec<PartSource<'t, D::At>>)
 }
 
 fn let_go_part<'t, D: Disk>(disk: &mut D, part: PartSource<'t, D::At>)
-    ensures fails { FailsOnly D.models (⟦<PartSource<'t, D::At> as Source>⟧.read_faults part.entry)
+    ensures fails { FailsOnly D.models (reads (⟦<PartSource<'t, D::At> as Source>⟧.given part.entry)
+        (⟦<PartSource<'t, D::At> as Source>⟧.read_faults part.entry))
         (D.held disk.old) (D.held disk.new) (D.world disk.old) (D.world disk.new) }
 {
     let PartSource { file, .. } = part;

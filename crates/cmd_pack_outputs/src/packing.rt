@@ -1,9 +1,9 @@
 //! Packs an image from its contents, and copies the bytes after it.
 
-ghost use Rattle.std.specs.Prelude.{◌≡◌, ◌<◌, ◌+◌, ◌++◌, IsTrue, IfOk, IfErr, OnOk, OnErr, length, map};
+ghost use Rattle.std.specs.Prelude.{◌≡◌, ◌++◌, IsTrue, IfOk, IfErr, OnOk, OnErr, length, map};
 ghost use Rattle.abt_sections.specs.Broken.{IsBrokenOff};
+ghost use Rattle.abt_sections.specs.Cause.{MoveCause};
 ghost use Rattle.cmd_common_boot.specs.Parts.{IsBoot};
-ghost use Rattle.cmd_common_boot.specs.Refused.{IsOfMoving};
 ghost use Rattle.cmd_pack_outputs.specs.Contents.{faults_in, image_from, packed_image, packing_of, refusal_from};
 ghost use Rattle.cmd_pack_outputs.specs.Contents.{refusal_in};
 ghost use Rattle.cmd_pack_outputs.specs.Writing.{IsAccepted, IsAcceptedAlone, PacksBytes};
@@ -56,9 +56,9 @@ pub(crate) fn pack_once<P: Source + Drop, O: Overwrite>(
     m: &mut Meter,
 ) -> Result<u64, SectionFault>
     requires sources { IsAcceptedAlone P.size contents.old }
-    ensures packs { PacksBytes result IsOfMoving P.models (packed_image P.content contents.old) (O.written output.old)
-        (O.written output.new) (faults_in P.read_faults contents.old + O.write_faults output.old)
-        (faults_in P.read_faults contents.new + O.write_faults output.new) }
+    ensures packs { PacksBytes result MoveCause P.models (packed_image P.content contents.old) (O.written output.old)
+        (O.written output.new) (faults_in P.read_faults contents.old) (faults_in P.read_faults contents.new)
+        (O.write_faults output.old) (O.write_faults output.new) }
     ensures broken { OnErr result (IsBrokenOff (O.written output.old) (O.written output.new)) }
 {
     let parts = contents.parts.as_mut_slice();
@@ -76,9 +76,9 @@ pub(crate) fn pack_contents<P: Source + Drop, O: Output>(
     m: &mut Meter,
 ) -> Result<u64, SectionFault>
     requires sources { IsAccepted P.size contents.old }
-    ensures packs { PacksBytes result IsOfMoving P.models (packed_image P.content contents.old) (O.written output.old)
-        (O.written output.new) (faults_in P.read_faults contents.old + O.write_faults output.old)
-        (faults_in P.read_faults contents.new + O.write_faults output.new) }
+    ensures packs { PacksBytes result MoveCause P.models (packed_image P.content contents.old) (O.written output.old)
+        (O.written output.new) (faults_in P.read_faults contents.old) (faults_in P.read_faults contents.new)
+        (O.write_faults output.old) (O.write_faults output.new) }
 {
     let bytes = match pack_parts(contents, output, w, m) {
         Ok(bytes) => bytes,
@@ -103,11 +103,11 @@ fn pack_parts<P: Source + Drop, O: Output>(
         ++ image_from contents.old.kind (packing_of P.content contents.old)) }
     ensures counted { IsTrue P.models → IfOk result (λ bytes. bytes
         ≡ length (image_from contents.old.kind (packing_of P.content contents.old))) }
-    ensures moving { IfErr result IsOfMoving }
-    ensures clean { OnOk result (faults_in P.read_faults contents.new + O.write_faults output.new
-        ≡ faults_in P.read_faults contents.old + O.write_faults output.old) }
-    ensures cause { IsTrue P.models → OnErr result (faults_in P.read_faults contents.old + O.write_faults output.old
-        < faults_in P.read_faults contents.new + O.write_faults output.new) }
+    ensures clean { OnOk result ((faults_in P.read_faults contents.new ≡ faults_in P.read_faults contents.old)
+        × (O.write_faults output.new ≡ O.write_faults output.old)) }
+    ensures cause { IfErr result (λ fault. MoveCause fault (faults_in P.read_faults contents.old)
+        (faults_in P.read_faults contents.new) (O.write_faults output.old) (O.write_faults output.new)
+        (IsTrue P.models → ⊥)) }
 {
     let parts = contents.parts.as_mut_slice();
     let specs = contents.specs.as_slice();
@@ -128,11 +128,10 @@ fn copy_behind<P: Source, O: Output>(
     ensures written { IsTrue P.models → OnOk result (O.written output.new ≡ O.written output.old
         ++ P.content trailing.old) }
     ensures counted { IsTrue P.models → IfOk result (λ bytes. bytes ≡ length (P.content trailing.old)) }
-    ensures moving { IfErr result IsOfMoving }
-    ensures clean { OnOk result (P.read_faults trailing.new + O.write_faults output.new
-        ≡ P.read_faults trailing.old + O.write_faults output.old) }
-    ensures cause { IsTrue P.models → OnErr result (P.read_faults trailing.old + O.write_faults output.old
-        < P.read_faults trailing.new + O.write_faults output.new) }
+    ensures clean { OnOk result ((P.read_faults trailing.new ≡ P.read_faults trailing.old)
+        × (O.write_faults output.new ≡ O.write_faults output.old)) }
+    ensures cause { IfErr result (λ fault. MoveCause fault (P.read_faults trailing.old) (P.read_faults trailing.new)
+        (O.write_faults output.old) (O.write_faults output.new) (IsTrue P.models → ⊥)) }
 {
     let behind = trailing.length();
     match copy_range(trailing, 0, behind, output, w, m) {

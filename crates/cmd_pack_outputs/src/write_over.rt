@@ -1,6 +1,6 @@
 //! Writes an image over a regular file, so that no reader takes a partial image for a whole one.
 
-ghost use Rattle.std.specs.Prelude.{◌≡◌, ◌+◌, []};
+ghost use Rattle.std.specs.Prelude.{◌≡◌, []};
 ghost use Rattle.cmd_pack_outputs.specs.Contents.{faults_in, packed_image};
 ghost use Rattle.cmd_pack_outputs.specs.Writing.{IsAccepted, IsAcceptedAlone, LaysBytes};
 
@@ -34,9 +34,9 @@ pub(crate) fn lay_image<'t, S: Source + Lasting + Drop, O: Overwrite>(
     requires empty { O.written file ≡ [] }
     requires sources { IsAccepted ⟦<PartSource<'t, S> as Source>⟧.size contents.old }
     ensures lays { LaysBytes result.1 S.models (packed_image ⟦<PartSource<'t, S> as Source>⟧.content contents.old)
-        (O.written result.0)
-        (faults_in ⟦<PartSource<'t, S> as Source>⟧.read_faults contents.old + O.write_faults file)
-        (faults_in ⟦<PartSource<'t, S> as Source>⟧.read_faults contents.new + O.write_faults result.0) }
+        (O.written result.0) (faults_in ⟦<PartSource<'t, S> as Source>⟧.read_faults contents.old)
+        (faults_in ⟦<PartSource<'t, S> as Source>⟧.read_faults contents.new) (O.write_faults file)
+        (O.write_faults result.0) }
 {
     if is_read_once(contents) {
         lay_once(contents, file, progress, w, m)
@@ -56,9 +56,9 @@ fn lay_once<'t, S: Source + Lasting + Drop, O: Overwrite>(
     requires empty { O.written file ≡ [] }
     requires sources { IsAcceptedAlone ⟦<PartSource<'t, S> as Source>⟧.size contents.old }
     ensures lays { LaysBytes result.1 S.models (packed_image ⟦<PartSource<'t, S> as Source>⟧.content contents.old)
-        (O.written result.0)
-        (faults_in ⟦<PartSource<'t, S> as Source>⟧.read_faults contents.old + O.write_faults file)
-        (faults_in ⟦<PartSource<'t, S> as Source>⟧.read_faults contents.new + O.write_faults result.0) }
+        (O.written result.0) (faults_in ⟦<PartSource<'t, S> as Source>⟧.read_faults contents.old)
+        (faults_in ⟦<PartSource<'t, S> as Source>⟧.read_faults contents.new) (O.write_faults file)
+        (O.write_faults result.0) }
 {
     let mut carried = Carried {
         device: file,
@@ -83,9 +83,9 @@ fn lay_magic_last<'t, S: Source + Lasting + Drop, O: Overwrite>(
     requires empty { O.written file ≡ [] }
     requires sources { IsAccepted ⟦<PartSource<'t, S> as Source>⟧.size contents.old }
     ensures lays { LaysBytes result.1 S.models (packed_image ⟦<PartSource<'t, S> as Source>⟧.content contents.old)
-        (O.written result.0)
-        (faults_in ⟦<PartSource<'t, S> as Source>⟧.read_faults contents.old + O.write_faults file)
-        (faults_in ⟦<PartSource<'t, S> as Source>⟧.read_faults contents.new + O.write_faults result.0) }
+        (O.written result.0) (faults_in ⟦<PartSource<'t, S> as Source>⟧.read_faults contents.old)
+        (faults_in ⟦<PartSource<'t, S> as Source>⟧.read_faults contents.new) (O.write_faults file)
+        (O.write_faults result.0) }
 {
     let mut carried = Carried {
         device: MagicLast::new(file),

@@ -5,7 +5,7 @@ use Rattle.cmd_common_boot.specs.Sources.{content_of, faults_of}
 use Rattle.cmd_pack.proofs.Again.{asked_again, behind_stops, board_stops, boards_set, filling_stops, opens_given}
 use Rattle.cmd_pack.proofs.Again.{none_unread, parts_stop}
 use Rattle.cmd_pack_inputs.specs.Parts.{IsFragmentInput, of_fragment}
-use Rattle.cmd_pack_inputs.proofs.Openings.{only_failing, only_then}
+use Rattle.cmd_pack_inputs.proofs.Openings.{only_counting, only_then}
 use Rattle.cmd_pack.proofs.repack.contents_of.Goals as goal
 
 pub returns-in-Err : goal.returns-in-Err
@@ -83,7 +83,7 @@ returns-in-Ok-trailing_of g c = record {
         opened = λ t.
             opens_given c.args.command.now.texts c.args.kind _ _ _ _ _ _ (fragments.keeps t).world (fragments.opened t)
             (parts.opened t) (trailing.fails.held t);
-        keeps = λ t. only_then (only_then (fragments.keeps t) (parts.keeps t)) (only_failing trailing.fails t);
+        keeps = λ t. only_then (only_then (fragments.keeps t) (parts.keeps t)) (only_counting trailing.fails t);
       };
   refused = λ t. tt;
 }
@@ -100,7 +100,7 @@ returns g c = record {
         nothing = tt;
         unread = λ t. tt;
         opened = λ t. tt;
-        keeps = λ t. only_then (only_then (fragments.keeps t) (parts.keeps t)) (only_failing trailing.fails t);
+        keeps = λ t. only_then (only_then (fragments.keeps t) (parts.keeps t)) (only_counting trailing.fails t);
       };
   refused = λ t.
       behind_stops c.args.command.now _ _ _ c.args.kind _ _ _ _ _ _ _ (c.in-Ok.ensures.opens.opened t)

@@ -59,7 +59,7 @@ returns g c = record {
   refused = λ t.
       content_refused c.args.command.now _ _ _ _ _ _ _ _ (Unprinted c.args.report.now c.write_again.new.report) _
       (c.in-Ok.ensures.reads.content (g.met.D.Disk.source_told t)) (c.in-Err-write_again.ensures.refused t)
-      (λ failed. calls_failed _ _ _ _ c.in-Ok.ensures.reads.clean failed);
+      (λ cause failed. calls_failed _ _ _ _ cause c.in-Ok.ensures.reads.clean failed);
 }
 
 pub write_again-requires-clause-own : goal.write_again-requires-clause-own

@@ -40,7 +40,7 @@ returns-in-Ok-answer g c = record {
       (c.in-Ok.ensures.image (g.met.D.Disk.source_told t)) (c.in-Ok.ensures.opens.keeps t).world
       (c.let_go_source.ensures.world t)
       _ _ _ _ _ _ (λ e. e) (c.let_go_source.ensures.held t)
-      (clean_all _ _ _ _ _ _ _ _ _ (c.in-Ok.ensures.opens.opened t) (c.in-Ok.ensures.opens.unread t)
+      (clean_all _ _ _ _ _ _ _ _ _ _ (c.in-Ok.ensures.opens.opened t) (c.in-Ok.ensures.opens.unread t)
       (c.in-Ok-answer.ensures.clean t) (c.let_go_source.ensures.held t)) (c.in-Ok-answer.ensures.left t);
   inputs = λ t.
       keeps_all (path_of c.args.input) c.args.command.now _ _ _ _ _ _ _ _ (c.in-Ok.ensures.opens.opened t)
@@ -68,7 +68,7 @@ returns-in-Err-answer g c = record {
       (c.in-Ok.ensures.image (g.met.D.Disk.source_told t))
       (c.in-Ok.ensures.opens.keeps t).world (c.let_go_source.ensures.world t) _ _ _ _ _
       (c.in-Err-answer.ensures.refused t)
-      (λ failed. failed_all _ _ _ _ _ _ _ _ _ (c.in-Ok.ensures.opens.opened t) (c.in-Ok.ensures.opens.unread t) failed
+      (λ cause failed. failed_all _ _ _ _ _ _ _ _ _ _ cause (c.in-Ok.ensures.opens.opened t) failed
       (c.let_go_source.ensures.held t))
       (λ done. repacks (path_of c.args.input) c.args.command.now _ _ _ _ _ _ _ _ (c.in-Ok.ensures.opens.opened t)
       (c.in-Ok.ensures.image (g.met.D.Disk.source_told t))

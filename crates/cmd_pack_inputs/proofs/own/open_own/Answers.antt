@@ -1,5 +1,6 @@
 use Rattle.std.proofs.Common.{◌∙◌, ap}
 use Rattle.sys_refusals.specs.Paths.{path_of}
+use Rattle.sys_disk.specs.World.{HasFailed}
 use Rattle.cmd_common_boot.proofs.Causes.{host_image, open_failed, opened, opened_as, opens_as, refuses_file}
 use Rattle.cmd_common_boot.proofs.Causes.{section_refused}
 use Rattle.cmd_common_boot.proofs.Causes.{source_failed}
@@ -17,8 +18,9 @@ returns-in-Err g c = record {
   };
   image = λ told. tt;
   refused = λ t.
-      host_image (path_of c.args.place) (g.D.Disk.world c.args.disk.now) _ _ _ _ c.into.ensures
-      (source_failed _ _ (c.in-Err.ensures.kept t));
+      host_image (path_of c.args.place) (g.D.Disk.world c.args.disk.now)
+      (λ cause. HasFailed cause (g.D.Disk.held c.args.disk.now) (g.D.Disk.held c.source.new.self)) ⊥ _ _ c.into.ensures
+      (source_failed _ _ _ (c.in-Err.ensures.kept t));
 }
 
 pub returns-in-Err-open : goal.returns-in-Err-open
@@ -39,7 +41,7 @@ returns-in-Err-open g c = record {
       (section_refused _ _ ⊥ _ _ c.refuse.ensures.fault
       (opened c.in-Err-open.fault (g.D.At.Source.content c.in-Ok.source) _ _ _ c.in-Err-open.ensures.reads.cause
       (c.in-Err-open.ensures.opens told)))
-      (λ failed. open_failed _ _ _ _ _ _ _ _ (c.in-Ok.ensures.opened t) (c.in-Ok.ensures.clean t)
+      (λ cause failed. open_failed _ _ _ _ _ _ _ _ _ cause (c.in-Ok.ensures.opened t) (c.in-Ok.ensures.clean t)
       (c.let_go_source.ensures.held t) failed)
       (λ none. absurd none);
 }

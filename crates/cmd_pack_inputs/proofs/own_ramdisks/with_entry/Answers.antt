@@ -1,8 +1,8 @@
 use Rattle.std.proofs.Common.{◌∙◌, ◌≡◌, ap, arith, ◌+◌, take, drop, ◌++◌, ◌∷◌, []}
 use Rattle.cmd_pack_inputs.specs.Own.{no_path}
 use Rattle.cmd_common_boot.specs.Sources.{content_of, faults_of}
-use Rattle.cmd_pack_inputs.proofs.Openings.{only_failing, only_then, opens_none, stops_lacking, stops_once}
-use Rattle.cmd_common_boot.proofs.Calls.{same_failing}
+use Rattle.cmd_pack_inputs.proofs.Openings.{only_counting, only_then, opens_none, stops_lacking, stops_once}
+use Rattle.cmd_common_boot.proofs.Calls.{same_counting}
 use Rattle.cmd_pack_inputs.proofs.Owns.{push_bytes, push_unread}
 use Rattle.cmd_pack_inputs.proofs.own_ramdisks.with_entry.Goals as goal
 
@@ -15,7 +15,7 @@ returns-in-Err g c = record {
         unread = λ t. tt;
         held = λ t. tt;
         refused = λ t. stops_once no_path _ _ _ (fails.held t);
-        keeps = only_failing fails;
+        keeps = only_counting fails;
       };
 }
 
@@ -28,9 +28,9 @@ returns-in-Err-with g c = record {
         unread = λ t. tt;
         held = λ t. tt;
         refused = λ t. stops_lacking no_path (g.D.Disk.world c.args.disk.now) _ _ _ c.memory.result.fault
-            (opens_none no_path (g.D.Disk.world c.args.disk.now) _ _ (fails.held t ∙ same_failing _) (λ p is. is))
+            (opens_none no_path (g.D.Disk.world c.args.disk.now) _ _ (fails.held t ∙ same_counting _) (λ p is. is))
             c.memory.ensures (c.no_memory.ensures.held t);
-        keeps = λ t. only_then (only_failing fails t) (only_failing c.no_memory.ensures t);
+        keeps = λ t. only_then (only_counting fails t) (only_counting c.no_memory.ensures t);
       };
 }
 
@@ -48,8 +48,8 @@ returns-in-Ok-with g c = record {
       record {
         unread = λ t. push_unread (content_of at.content) (faults_of at.read_faults) _ _ _ c.in-Ok-with.ensures.sources
             (opens.unread t);
-        held = λ t. opens.fails.held t ∙ same_failing _;
+        held = λ t. opens.fails.held t ∙ same_counting _;
         refused = λ t. tt;
-        keeps = only_failing opens.fails;
+        keeps = only_counting opens.fails;
       };
 }

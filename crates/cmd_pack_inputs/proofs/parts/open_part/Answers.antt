@@ -1,7 +1,6 @@
-use Rattle.std.proofs.Common.{rules}
 use Rattle.cmd_common_boot.specs.Sources.{content_of}
 use Rattle.cmd_pack_inputs.proofs.Gathered.{option_opens, option_stops, own_opens}
-use Rattle.cmd_pack_inputs.proofs.Openings.{only_failing}
+use Rattle.cmd_pack_inputs.proofs.Openings.{only_counting, stops_call}
 use Rattle.cmd_pack_inputs.proofs.parts.open_part.Goals as goal
 
 pub returns-in-Some-clause-opens : goal.returns-in-Some-clause-opens
@@ -22,6 +21,6 @@ returns-in-None-clause-opens g c =
     record {
       unread = opens.unread;
       opened = λ t. own_opens _ _ _ _ _ _ c.in-None.ensures (opens.fails.held t);
-      refused = λ t. search rules;
-      keeps = only_failing opens.fails;
+      refused = λ t. stops_call _ c.own_part.result _ _ (opens.fails.held t);
+      keeps = only_counting opens.fails;
     }

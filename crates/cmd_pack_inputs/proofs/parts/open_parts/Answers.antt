@@ -5,7 +5,7 @@ use Rattle.cmd_pack_inputs.specs.Parts.{IsPartInput}
 use Rattle.cmd_common_boot.specs.Sources.{content_of, faults_of}
 use Rattle.cmd_pack_inputs.proofs.Gathered.{no_paths, none_at_all, none_read, one_longer, parts_all, parts_none}
 use Rattle.cmd_pack_inputs.proofs.Gathered.{parts_so_far, paths_all, paths_so_far, row_stops}
-use Rattle.cmd_pack_inputs.proofs.Openings.{only_failing, only_more, only_then, opens_none, stops_lacking}
+use Rattle.cmd_pack_inputs.proofs.Openings.{only_counting, only_more, only_then, opens_none, stops_lacking}
 use Rattle.cmd_pack_inputs.proofs.parts.open_parts.Goals as goal
 
 pub loop-row-init : goal.loop-row-init
@@ -71,7 +71,7 @@ returns-in-Err-push g c = record {
         (c.no_memory.ensures.held t));
     keeps = λ t.
         let i = c.loop-row.invariant.1 t in
-        only_then (only_then (only_more i.2 i.3) (c.in-Ok.ensures.opens.keeps t)) (only_failing c.no_memory.ensures t);
+        only_then (only_then (only_more i.2 i.3) (c.in-Ok.ensures.opens.keeps t)) (only_counting c.no_memory.ensures t);
   };
 }
 

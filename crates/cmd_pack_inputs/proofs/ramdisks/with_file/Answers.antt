@@ -2,7 +2,7 @@ use Rattle.std.proofs.Common.{◌≡◌, ◌∙◌, sym}
 use Rattle.std.specs.Prelude.{Ok}
 use Rattle.cmd_common_boot.specs.Sources.{content_of, faults_of}
 use Rattle.cmd_pack_inputs.proofs.Gathered.{fragment_added, fragment_unread}
-use Rattle.cmd_pack_inputs.proofs.Openings.{only_failing, only_then, opens_file, stops_lacking, stops_more}
+use Rattle.cmd_pack_inputs.proofs.Openings.{only_counting, only_then, opens_file, stops_lacking, stops_more}
 use Rattle.cmd_pack_inputs.proofs.ramdisks.with_file.Goals as goal
 
 pub returns-in-Ok-with : goal.returns-in-Ok-with
@@ -37,7 +37,7 @@ returns-in-Ok g c = record {
             (opens_file (λ path. path ≡ c.args.fragment.now.path.items) _ c.as_slice-path.result.now
             (content_of g.D.At.Source.content c.in-Ok.source) _ _ (opens.opened t)
             (λ p is. is ∙ sym c.as_slice-path.ensures.value)) c.memory.ensures (c.no_memory.ensures.held t);
-        keeps = λ t. only_then (opens.keeps t) (only_failing c.no_memory.ensures t);
+        keeps = λ t. only_then (opens.keeps t) (only_counting c.no_memory.ensures t);
       };
 }
 

@@ -2,9 +2,10 @@ use Rattle.std.proofs.Common.{ap, ◌∙◌}
 use Rattle.sys_disk.proofs.Worlds.{only_written}
 use Rattle.cmd_common_boot.specs.Sources.{faults_of}
 use Rattle.cmd_pack_outputs.specs.Writing.{failed, untold}
-use Rattle.cmd_pack_outputs.proofs.Closes.{closed_created, failed_created, failed_once, left_unopened}
-use Rattle.cmd_pack_outputs.proofs.Outputs.{beside_as, host_outside, judged_stops, lays, left_done, part_emptied}
-use Rattle.cmd_pack_outputs.proofs.Outputs.{part_left}
+use Rattle.cmd_common_boot.proofs.Causes.{source_failed}
+use Rattle.cmd_pack_outputs.proofs.Closes.{call_fails, closed_created, failed_created, left_unopened}
+use Rattle.cmd_pack_outputs.proofs.Outputs.{beside_as, judged_stops, lays, left_done, part_emptied}
+use Rattle.cmd_pack_outputs.proofs.Outputs.{part_left, spared_made}
 use Rattle.cmd_pack_outputs.proofs.Outputs.{ready_image}
 use Rattle.cmd_pack_outputs.proofs.image_output.write_image.Goals as goal
 
@@ -36,6 +37,7 @@ write_to-requires g c = record {
 pub returns-in-Err-image-clause-left : goal.returns-in-Err-image-clause-left
 returns-in-Err-image-clause-left g c = λ t. record {
   others = c.in-Err-image.ensures.only t;
+  guarded = c.in-Err-image.ensures.guarded t;
   closed = ap (λ k. k.output) (c.in-Err-image.ensures.kept t) ∙ c.requires.one t;
   whole = λ o file at. part_emptied _ _ _ (c.in-Err-image.ensures.empties t file at);
   clean = tt;
@@ -44,7 +46,7 @@ returns-in-Err-image-clause-left g c = λ t. record {
 
 pub returns-in-Err-image-clause-refused : goal.returns-in-Err-image-clause-refused
 returns-in-Err-image-clause-refused g c = λ t.
-    failed (host_outside _ _ c.into.ensures) (failed_once _ _ (c.in-Err-image.ensures.kept t))
+    failed (call_fails _ _ _ c.into.ensures (source_failed _ _ _ (c.in-Err-image.ensures.kept t)))
 
 -- the image cannot be written
 
@@ -54,6 +56,7 @@ returns-in-Err-write_to-clause-left g c = λ t.
     let wrote = c.in-Err-write_to.ensures.writes t in
     record {
       others = only_written _ _ _ _ _ _ made wrote.rest;
+      guarded = spared_made _ _ _ _ _ _ made;
       closed = closed_created _ _ _ wrote.closed;
       whole = λ o. part_left _ _ _ _ _ _ _ made wrote.rest
           (wrote.broken (c.in-Ok-image.ensures.kind t ∙ o));
@@ -63,8 +66,9 @@ returns-in-Err-write_to-clause-left g c = λ t.
 
 pub returns-in-Err-write_to-clause-refused : goal.returns-in-Err-write_to-clause-refused
 returns-in-Err-write_to-clause-refused g c = λ t.
-    failed ((c.in-Err-write_to.ensures.writes t).outside)
-    (failed_created _ _ _ _ _ _ (c.in-Ok-image.ensures.created t) (c.in-Err-write_to.ensures.writes t).closed)
+    failed (failed_created _ _ (g.D.Disk.held c.args.disk.now) (g.D.Disk.held c.image.new.self)
+    (g.D.Disk.held c.write_to.new.disk) _ _ (c.in-Ok-image.ensures.created t)
+    (c.in-Err-write_to.ensures.writes t).failed)
 
 -- nothing can be printed
 

@@ -1,5 +1,4 @@
-use Rattle.std.proofs.Common.{rules}
-use Rattle.cmd_pack_outputs.proofs.Closes.{closes_laid, closes_unended, closes_unlaid}
+use Rattle.cmd_pack_outputs.proofs.Closes.{closes_laid, closes_undone, end_fails, stopped_fails}
 use Rattle.cmd_pack_outputs.proofs.Magics.{left_all, left_none}
 use Rattle.cmd_pack_outputs.proofs.Outputs.{ends_behind, part_behind, rest_behind}
 use Rattle.cmd_pack_outputs.proofs.image_output.write_over.Goals as goal
@@ -15,10 +14,10 @@ returns-in-Ok-finish_image g c = record {
             (rw c.in-Ok.is at (laid.written told)) (c.in-Ok-finish_image.ensures.ended t);
         number = rw c.in-Ok.is at (laid.number told);
         stream = c.in-Ok-finish_image.ensures.stream t;
-        closed = closes_laid _ _ _ _ _ _ _ (c.requires.ready.unread t) (c.requires.ready.clean t) (let_go.held t)
+        closed = closes_laid _ _ _ _ _ _ _ _ (c.requires.ready.unread t) (c.requires.ready.clean t) (let_go.held t)
             (c.in-Ok-finish_image.ensures.closed t) (rw c.in-Ok.is at laid.clean);
         rest = rest_behind _ _ _ _ _ _ (let_go.held t) (let_go.world t) (c.in-Ok-finish_image.ensures.rest t);
-        outside = tt;
+        failed = tt;
         broken = λ over. tt;
       };
 }
@@ -31,9 +30,10 @@ returns-in-Err-finish_image g c = record {
         ended = tt;
         number = tt;
         stream = tt;
-        closed = closes_unended _ _ _ _ _ (let_go.held t) (c.in-Err-finish_image.ensures.closed t);
+        closed = closes_undone _ _ _ _ _ (let_go.held t) (c.in-Err-finish_image.ensures.closed t);
         rest = rest_behind _ _ _ _ _ _ (let_go.held t) (let_go.world t) (c.in-Err-finish_image.ensures.rest t);
-        outside = search rules;
+        failed = end_fails _ c.in-Err-finish_image.refusal.fault _ _ _ _ _ _ c.into.ensures (let_go.held t)
+            (c.in-Err-finish_image.ensures.closed t);
         broken = λ over. part_behind _ _ _ _ _ (let_go.held t)
             (left_all _ _ _ _
             (rw c.in-Ok.is at (c.lay_image-file.ensures.lays.packs.written (g.met.D.Disk.source_told t)))
@@ -50,10 +50,11 @@ returns-in-Err g c = record {
         ended = tt;
         number = tt;
         stream = tt;
-        closed = closes_unlaid _ _ _ _ _ _ _ (let_go.held t) (c.stopped.ensures.gone.closed t)
-            (rw c.in-Err.is at (laid.packs.cause (g.met.D.Disk.source_told t)));
+        closed = closes_undone _ _ _ _ _ (let_go.held t) (c.stopped.ensures.gone.closed t);
         rest = rest_behind _ _ _ _ _ _ (let_go.held t) (let_go.world t) (c.stopped.ensures.gone.rest t);
-        outside = search rules;
+        failed = stopped_fails _ c.in-Err.fault _ _ _ _ _ _ _ _ _ c.stopped.ensures.told (let_go.held t)
+            (c.stopped.ensures.gone.closed t) (λ changed. changed (g.met.D.Disk.source_told t))
+            (rw c.in-Err.is at laid.packs.cause);
         broken = λ over. part_behind _ _ _ _ _ (let_go.held t)
             (left_none _ _ _ _ (rw c.in-Err.is at laid.broken) (c.stopped.ensures.gone.left t));
       };

@@ -1,7 +1,8 @@
 use Rattle.std.proofs.lemmas.Bool.{false≢true}
+use Rattle.std.specs.Prelude.{IsTrue}
 use Rattle.cmd_common_boot.specs.declared.fault.BootCommandFault.TheVariants as faults
-use Rattle.cmd_pack_outputs.proofs.Closes.{answered, closes_answer}
-use Rattle.cmd_pack_outputs.proofs.Outputs.{counts_end, ends_end, outside_end, rest_behind, told_done, told_undone}
+use Rattle.cmd_pack_outputs.proofs.Closes.{answer_fails, answered, closes_answer}
+use Rattle.cmd_pack_outputs.proofs.Outputs.{counts_end, ends_end, rest_behind, told_done}
 use Rattle.cmd_pack_outputs.proofs.image_output.write_through.Goals as goal
 
 pub returns : goal.returns
@@ -17,15 +18,14 @@ returns g c = record {
         number = counts_end c.pack_contents-answer.result c.of_bytes.result c.ended.result faults.Section _
             c.of_bytes.ensures c.ended.ensures.done (packs.number told);
         stream = c.ended.ensures.stream t;
-        closed = closes_answer c.of_bytes.result c.ended.result _ _ _ _ _ _ _ (c.requires.ready.unread t)
+        closed = closes_answer c.of_bytes.result c.ended.result _ _ _ _ _ _ _ _ (c.requires.ready.unread t)
             (c.requires.ready.clean t) (let_go.held t) (c.ended.ensures.closed t)
             (told_done c.pack_contents-answer.result c.of_bytes.result faults.Section _ c.of_bytes.ensures packs.clean)
-            (told_undone c.pack_contents-answer.result c.of_bytes.result faults.Section _ c.of_bytes.ensures
-            (packs.cause told))
             (answered _ _ c.ended.ensures.done);
         rest = rest_behind _ _ _ _ _ _ (let_go.held t) (let_go.world t) (c.ended.ensures.rest t);
-        outside = outside_end c.pack_contents-answer.result c.of_bytes.result c.ended.result (λ r. r.fault)
-            c.of_bytes.ensures packs.moving c.ended.ensures.told c.ended.ensures.host;
+        failed = answer_fails c.pack_contents-answer.result c.of_bytes.result c.ended.result (λ r. r.fault) _ _ _ _ _ _
+            (IsTrue g.D.Disk.models) _ _ _ c.of_bytes.ensures (let_go.held t) (c.ended.ensures.closed t)
+            (λ changed. changed told) packs.cause c.ended.ensures.told t c.ended.ensures.host;
         broken = λ over. absurd (false≢true over);
       };
 }

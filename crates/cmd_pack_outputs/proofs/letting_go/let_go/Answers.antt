@@ -1,5 +1,5 @@
 use Rattle.std.proofs.Common.{◌∙◌}
-use Rattle.cmd_pack_outputs.proofs.Closes.{failing_all}
+use Rattle.cmd_pack_outputs.proofs.Closes.{reads_all}
 use Rattle.cmd_pack_outputs.proofs.letting_go.let_go.Goals as goal
 
 pub returns : goal.returns
@@ -10,7 +10,8 @@ returns g c =
     let trailing = c.let_go_part-2.ensures.fails in
     record {
       fails = record {
-        held = λ t. failing_all _ _ _ _ _ _ _ _ _ (parts.held t) (sources.held t) (nothing.held t) (trailing.held t);
+        held = λ t. reads_all _ _ _ _ _ _ _ _ _ _ _ _ _ (parts.held t) (sources.held t) (nothing.held t)
+            (trailing.held t);
         world = λ t. trailing.world t ∙ nothing.world t ∙ sources.world t ∙ parts.world t;
       };
     }
