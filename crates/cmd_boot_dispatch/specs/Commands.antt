@@ -6,7 +6,7 @@ use Rattle.words_orders.specs.declared.order.BootTask.TheVariants as tasks
 use Rattle.sys_report.specs.declared.report.Report.{Report}
 use Rattle.sys_report.specs.Shows.{CannotPrint, ShowsBeside, Unprinted}
 use Rattle.sys_disk.specs.Among.{OnlyAmong}
-use Rattle.sys_disk.specs.World.{World, OpenFiles, HasFailed, OnlyAt, KeepsFile}
+use Rattle.sys_disk.specs.World.{World, OpenFiles, HasFailed, OnlyAt, KeepsFile, MayWrite, SparesInUse}
 use Rattle.cmd_common_boot.specs.declared.fault.BootCommandFault.{BootCommandFault}
 use Rattle.cmd_common_boot.specs.ImageFaults.{RefusesImage}
 use Rattle.cmd_unpack.specs.Lines.{ShowsEach}
@@ -17,7 +17,6 @@ use Rattle.cmd_pack.specs.Refusing.{RefusesPack}
 use Rattle.cmd_pack.specs.RefusingAgain.{RefusesRepack}
 use Rattle.cmd_pack.specs.Repacking.{HoldsNoPartAgain, KeepsRead, RepacksFile, ShowsFirst}
 use Rattle.cmd_boot_dispatch.specs.Ordered.{IsCommandOf}
-use Rattle.cmd_boot_dispatch.specs.declared.command.BootCommand.{BootCommand}
 use Rattle.cmd_boot_dispatch.specs.declared.command.BootCommandKind.{BootCommandKind}
 use Rattle.cmd_boot_dispatch.specs.declared.command.BootCommandKind.TheVariants as kinds
 
@@ -51,16 +50,19 @@ DoesKind on_output (kinds.Unpack input folder with_words) world held report worl
 DoesKind on_output (kinds.Info input with_check with_hex) world held report world' held' report' =
     TellsFile input.now (notation_of with_hex) with_check world report report'
 
--- ---- what stays, whatever the outcome: only OUT, or files with the parts' names, may hold anything else
+-- ---- what stays, whatever the outcome: only OUT may hold anything else, or files with the parts' names, and none of
+-- them where it is in use and that is not allowed
 
 abbrev pub SparesKind : BootCommandKind → World → OpenFiles → World → OpenFiles → Type 0
 SparesKind (kinds.Pack command) world held world' held' =
     OnlyAt held.read (output_path command.output.now) world world' × KeepsGiven command world world'
+    × SparesInUse (output_path command.output.now) held world world'
 SparesKind (kinds.Repack input command) world held world' held' =
     OnlyAt held.read (output_path command.output.now) world world' × KeepsRead input.now command world world'
+    × SparesInUse (output_path command.output.now) held world world'
 SparesKind (kinds.Unpack input folder with_words) world held world' held' =
-    OnlyAmong (IsPartOf input.now folder.now with_words world) held.read held'.begun world world'
-    × KeepsFile input.now world world'
+    OnlyAmong (λ path. IsPartOf input.now folder.now with_words world path × MayWrite path held) held.read held'.begun
+    world world' × KeepsFile input.now world world'
 SparesKind (kinds.Info input with_check with_hex) world held world' held' = world' ≡ world
 
 -- OUT of these has no part of an image, where it can be overwritten
@@ -82,7 +84,8 @@ RefusesKind fault (kinds.Repack input command) world held report world' held' re
     RefusesRepack input.now command world world' held held'
     (RepacksFile input.now command world world' (Unprinted report report')) fault
 RefusesKind fault (kinds.Unpack input folder with_words) world held report world' held' report' =
-    RefusesImage input.now world (HasFailed held held')
+    RefusesImage input.now world (λ cause. HasFailed cause held held')
     (PartsStand input.now folder.now with_words world held' world' × CannotPrint report report') fault
 RefusesKind fault (kinds.Info input with_check with_hex) world held report world' held' report' =
-    RefusesInfo input.now (notation_of with_hex) with_check world (HasFailed held held') report report' fault
+    RefusesInfo input.now (notation_of with_hex) with_check world (λ cause. HasFailed cause held held') report report'
+    fault

@@ -1,19 +1,19 @@
 -- What a check finds, and which faults are reported.
-use Rattle.std.proofs.Common.{◌≡◌, ◌<◌, ◌≤◌, ◌+◌, ◌-◌, ◌⊎◌, inl, inr, ℕ, List, Some, Bool, true, false, IsTrue}
+use Rattle.std.proofs.Common.{◌≡◌, ◌<◌, ◌+◌, ◌-◌, ◌⊎◌, inl, inr, ℕ, List, Bool, true, false, IsTrue}
 use Rattle.std.proofs.Common.{◌&&◌}
-use Rattle.std.proofs.Common.{[], ◌∷◌, ◌++◌, length, take, flat_map, Option, option_map, option_to_list, Result}
-use Rattle.std.proofs.Common.{Ok}
-use Rattle.std.proofs.Common.{Err, refl, sym, ◌∙◌, ap, subst, arith}
+use Rattle.std.proofs.Common.{take, flat_map, Option, option_map, option_to_list}
+use Rattle.std.proofs.Common.{refl, sym, ◌∙◌, ap, subst, arith}
 use Rattle.std.proofs.lemmas.Bool.{true≢false}
-use Rattle.sys_disk.specs.World.{World, OpenFiles, OpensFile, failing}
+use Rattle.sys_disk.specs.Counts.{Cause, Counts, call, call_of, calls, of_reading, reading, reads}
+use Rattle.sys_disk.specs.Counts.{writing}
+use Rattle.sys_disk.specs.World.{World, OpenFiles, OpensFile, HasFailed, HasNotFailed, counting}
+use Rattle.sys_disk.proofs.Failings.{counts_one}
 use Rattle.abt_headers.proofs.Fields.{IsBytes}
 use Rattle.sys_report.specs.Shows.{CannotPrint, ShowsHere}
 use Rattle.sys_report.specs.declared.report.Report.{Report}
 use Rattle.sys_refusals.specs.declared.refusal.HostFault.{HostFault}
 use Rattle.abt_sections.proofs.Canonical.{canonical_iff}
-use Rattle.abt_sections.specs.Canonical.{StartsAsPacked}
 use Rattle.abt_sections.specs.Check.{IsVerdict}
-use Rattle.abt_sections.specs.Cause.{MoveCause}
 use Rattle.abt_sections.specs.declared.checking.Verdict.{Verdict}
 use Rattle.abt_sections.specs.declared.fault.SectionFault.{SectionFault}
 use Rattle.abt_sections.specs.declared.fault.SectionFault.TheVariants as sections
@@ -32,8 +32,8 @@ use Rattle.cmd_common_boot.specs.declared.fault.BootCommandFault.TheVariants as 
 use Rattle.cmd_common_texts.specs.Info.{InfoCause, Reports, SectionWriteTold}
 use Rattle.cmd_common_texts.specs.declared.info_lines.Notation.{Notation}
 use Rattle.cmd_info.specs.Informing.{IsCheckRefusal, IsFailedHost, IsFlawedImage, IsInfoFault, IsInfoRefusal}
-use Rattle.cmd_info.specs.Informing.{IsSound, IsSoundImage}
-use Rattle.cmd_info.specs.Informing.{RefusesInfo, TellsFile, TellsFindings, TellsFlaws, TellsImage, TellsText, is_good}
+use Rattle.cmd_info.specs.Informing.{IsSoundImage}
+use Rattle.cmd_info.specs.Informing.{RefusesInfo, TellsFile, TellsFindings, TellsImage, is_good}
 
 -- ---- the verdict
 
@@ -193,18 +193,18 @@ refusal_more x o with_check P Q old new (faults.BadNumber word) more refuses = a
 refusal_more x o with_check P Q old new (faults.BadBoardId word) more refuses = absurd refuses
 refusal_more x o with_check P Q old new faults.CheckFailed more refuses = refuses
 
-pub refuses : (path x : List ℕ) (o : Notation) (with_check : Bool) (world : World) (h h' k : OpenFiles) (r r' : ℕ)
-    (old new : Report) (fault : BootCommandFault) → OpensFile world path x h h' → r ≡ 0 → k ≡ failing r' h'
+pub refuses : (path x : List ℕ) (o : Notation) (with_check : Bool) (world : World) (h h' k : OpenFiles) (n r r' : ℕ)
+    (old new : Report) (fault : BootCommandFault) → OpensFile world path x h h' → r ≡ 0 → k ≡ counting (reads n r') h'
     → IsInfoRefusal x o with_check (r < r') old new fault
-    → RefusesInfo path o with_check world (h.failed < k.failed) old new fault
-refuses path x o with_check world h h' k r r' old new fault opens none let_go told =
-    let e : h'.failed ≡ h.failed = ap (λ q. q.failed) opens.taken in
-    let d : k.failed ≡ h'.failed + r' = ap (λ q. q.failed) let_go in
+    → RefusesInfo path o with_check world (λ cause. HasFailed cause h k) old new fault
+refuses path x o with_check world h h' k n r r' old new fault opens none let_go told =
+    let e : h'.counts.failed reading ≡ h.counts.failed reading = ap (λ q. q.counts.failed reading) opens.taken in
+    let d : k.counts.failed reading ≡ h'.counts.failed reading + r' = ap (λ q. q.counts.failed reading) let_go in
     inr (
       opens.file,
       opens.there,
-      subst (λ z. IsInfoRefusal z o with_check (h.failed < k.failed) old new fault) opens.held
-          (refusal_more x o with_check (r < r') (h.failed < k.failed) old new fault (λ failed. omega (
+      subst (λ z. IsInfoRefusal z o with_check (HasFailed reading h k) old new fault) opens.held
+          (refusal_more x o with_check (r < r') (HasFailed reading h k) old new fault (λ failed. omega (
             arith,
             e,
             d,
@@ -213,10 +213,19 @@ refuses path x o with_check world h h' k r r' old new fault opens none let_go to
     )
 
 pub refuses_host : (other : Type 0) (h k : OpenFiles) (fault : BootCommandFault) (host : HostFault)
-    → fault ≡ faults.Host host → k ≡ failing 1 h → IsFailedHost (h.failed < k.failed) fault ⊎ other
+    → fault ≡ faults.Host host → k ≡ counting (call_of host) h
+    → IsFailedHost (λ cause. HasFailed cause h k) fault ⊎ other
 refuses_host other h k fault host same failed =
-    let d : k.failed ≡ h.failed + 1 = ap (λ q. q.failed) failed in
-    inl (host, same, omega (arith, d))
+    let one = counts_one host in
+    let d : k.counts.failed (call host) ≡ h.counts.failed (call host) + calls host (call host) =
+    ap (λ q. q.counts.failed (call host)) failed in
+    inl (host, same, omega (arith, d, one))
+
+-- a source that has not failed
+no_reads : (cause : Cause) → of_reading 0 cause ≡ 0
+no_reads (call f) = refl
+no_reads reading = refl
+no_reads writing = refl
 
 pub tells_file : (path x : List ℕ) (o : Notation) (with_check : Bool) (world : World) (h h' : OpenFiles)
     (old new : Report)
@@ -227,17 +236,18 @@ tells_file path x o with_check world h h' old new opens told = record {
   told = subst (λ z. TellsImage o with_check z old new) opens.held told;
 }
 
-pub none_failed : (path x : List ℕ) (world : World) (h h' k : OpenFiles) (r r' : ℕ) → OpensFile world path x h h' → r
-    ≡ 0
-    → r' ≡ r → k ≡ failing r' h' → k.failed ≡ h.failed
-none_failed path x world h h' k r r' opens none same let_go =
-    let e : h'.failed ≡ h.failed = ap (λ q. q.failed) opens.taken in
-    let d : k.failed ≡ h'.failed + r' = ap (λ q. q.failed) let_go in
-    omega (arith, e, d, none, same)
+pub none_failed : (path x : List ℕ) (world : World) (h h' k : OpenFiles) (n r r' : ℕ) → OpensFile world path x h h'
+    → r ≡ 0 → r' ≡ r → k ≡ counting (reads n r') h' → HasNotFailed h k
+none_failed path x world h h' k n r r' opens none same let_go = λ cause.
+    let e : h'.counts.failed cause ≡ h.counts.failed cause = ap (λ q. q.counts.failed cause) opens.taken in
+    let d : k.counts.failed cause ≡ h'.counts.failed cause + of_reading r' cause =
+    ap (λ q. q.counts.failed cause) let_go in
+    let z : of_reading r' cause ≡ 0 = ap (λ j. of_reading j cause) (same ∙ none) ∙ no_reads cause in
+    omega (arith, e, d, z)
 
-pub begun_same : (path x : List ℕ) (world : World) (h h' k : OpenFiles) (r : ℕ) → OpensFile world path x h h'
-    → k ≡ failing r h' → k.begun ≡ h.begun
-begun_same path x world h h' k r opens let_go = ap (λ q. q.begun) let_go ∙ ap (λ q. q.begun) opens.taken
+pub begun_same : (path x : List ℕ) (world : World) (h h' k : OpenFiles) (n : Counts) → OpensFile world path x h h'
+    → k ≡ counting n h' → k.begun ≡ h.begun
+begun_same path x world h h' k n opens let_go = ap (λ q. q.begun) let_go ∙ ap (λ q. q.begun) opens.taken
 
 -- ---- what was printed
 

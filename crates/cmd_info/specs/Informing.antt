@@ -1,6 +1,7 @@
 -- What the command `info` prints, and why it fails.
-use Rattle.std.specs.Prelude.{◌≡◌, ◌<◌, ◌-◌, ◌⊎◌, ℕ, List, length, Some, Bool, true, false, not, IsTrue, ◌&&◌}
+use Rattle.std.specs.Prelude.{◌≡◌, ◌<◌, ◌-◌, ◌⊎◌, ℕ, List, length, Some, Bool, true, false, IsTrue, ◌&&◌}
 use Rattle.std.specs.Prelude.{Result, Ok, Err, option_map}
+use Rattle.sys_disk.specs.Counts.{Cause, call, reading}
 use Rattle.sys_disk.specs.World.{World}
 use Rattle.sys_refusals.specs.declared.refusal.HostFault.{HostFault}
 use Rattle.sys_report.specs.Shows.{CannotPrint, ShowsHere}
@@ -96,7 +97,7 @@ pub record TellsFile (input : List ℕ) (o : Notation) (with_check : Bool) (worl
 abbrev pub OutFailed : Report → Report → Type 0
 OutFailed old new = old.out.faults.number < new.out.faults.number
 
--- the bytes x have this fault; or the source or standard output has
+-- the bytes x have this fault; or the source has, and a read has failed; or standard output has
 abbrev pub IsInfoFault : List ℕ → Type 0 → Report → Report → SectionFault → Type 0
 IsInfoFault x failed old new (sections.Read f) = failed
 IsInfoFault x failed old new (sections.Write f) = OutFailed old new
@@ -136,11 +137,14 @@ abbrev pub IfChecked : {F : Type 0} → (F → BootCommandFault) → Result (Uni
 IfChecked fault_of (Ok done) then = then
 IfChecked fault_of (Err refusal) then = fault_of refusal ≡ faults.CheckFailed → then
 
--- a fault of files, of which one failed
-abbrev pub IsFailedHost : Type 0 → BootCommandFault → Type 0
-IsFailedHost failed fault = (host : HostFault) × (fault ≡ faults.Host host) × failed
+-- the fault of a call of the disk, which has failed
+abbrev pub IsFailedHost : (Cause → Type 0) → BootCommandFault → Type 0
+IsFailedHost failed fault = (host : HostFault) × (fault ≡ faults.Host host) × failed (call host)
 
--- of the file at this path: a fault of what it holds; or it could not be opened
-abbrev pub RefusesInfo : List ℕ → Notation → Bool → World → Type 0 → Report → Report → BootCommandFault → Type 0
+-- Of the file at this path: a fault of what it holds, or of reading it, and then a read has failed; or it could not be
+-- opened.
+abbrev pub RefusesInfo : List ℕ → Notation → Bool → World → (Cause → Type 0) → Report → Report → BootCommandFault
+    → Type 0
 RefusesInfo path o with_check world failed old new fault = IsFailedHost failed fault ⊎ ((file : ℕ)
-    × (world.at path ≡ Some file) × IsInfoRefusal (world.holds file) o with_check failed old new fault)
+    × (world.at path ≡ Some file)
+    × IsInfoRefusal (world.holds file) o with_check (failed reading) old new fault)

@@ -37,11 +37,12 @@ pub fn info_file<'t, 'a, D: Disk>(
     ensures leaves { LeavesAll D.models result (D.held disk.old) (D.held disk.new) (D.world disk.old)
         (D.world disk.new) }
     ensures begun { IsTrue D.models → (D.held disk.new).begun ≡ (D.held disk.old).begun }
-    // it fails for a fault of IN, for an answer that is no, or since a call or standard output failed
+    // it fails for a fault of IN, for an answer that is no, or for what has failed: a read, a call with this fault, or
+    // standard output
     ensures refused { IsTrue D.models → IfErr result (λ refusal. RefusesInfo (path_of input.entry)
         (notation_of with_hex)
-        with_check (D.world disk.old) (HasFailed (D.held disk.old) (D.held disk.new)) report.old report.new
-        refusal.fault) }
+        with_check (D.world disk.old) (λ cause. HasFailed cause (D.held disk.old) (D.held disk.new)) report.old
+        report.new refusal.fault) }
     // a fault of what is read is told of IN
     ensures told_of { IfErr result (λ refusal. TellsRead (boot_side_of refusal.fault) refusal.about.place
         (Some input.entry)) }

@@ -9,7 +9,7 @@ use Rattle.cmd_common_boot.specs.Unpacked.{IsPart, part_count}
 use Rattle.cmd_common_boot.specs.declared.part_names.ImagePart.{ImagePart}
 use Rattle.sys_disk.specs.World.{World, OpenFiles, OpensFile, IsFree}
 use Rattle.cmd_unpack.specs.Unpacking.{HaveFreeNames, HasFreeName, IsPartPath, LooksAtParts, none_taken, path_of_part}
-use Rattle.cmd_unpack.specs.Unpacking.{of_fragment, of_section, of_words, section_part}
+use Rattle.cmd_unpack.specs.Unpacking.{of_fragment, of_section, of_words}
 use Rattle.cmd_unpack.proofs.Loops.{same_path}
 
 -- one name more

@@ -3,7 +3,8 @@ use Rattle.std.proofs.Common.{◌≡◌, ℕ, ◌+◌, ◌<◌, ◌≤◌, Bool,
 use Rattle.std.proofs.Common.{arith, below_more}
 use Rattle.std.specs.Prelude.{slice_index_or}
 use Rattle.abt_headers.specs.declared.sections.SectionPlace.{SectionPlace}
-use Rattle.sys_disk.specs.World.{World, OpenFiles, Creates, Ends, ended, failing}
+use Rattle.sys_disk.specs.Counts.{Counts}
+use Rattle.sys_disk.specs.World.{World, OpenFiles, Creates, Ends, ended, counting}
 use Rattle.abt_sections.specs.Header.{Header, places_of, fragment_count, fragment_of}
 use Rattle.abt_sections.specs.Layout.{part_of}
 use Rattle.cmd_common_boot.specs.declared.part_names.ImagePart.{ImagePart}
@@ -112,47 +113,47 @@ pub no_fragments : (folder : List ℕ) (header : Header) (x : List ℕ) (h : Ope
 no_fragments folder header x h w = λ k below. absurd (omega (arith, below))
 
 -- what is stored stays so where only a count has risen
-done_failing : (path bytes : List ℕ) (h : OpenFiles) (n : ℕ) (w : World) → IsMade h w path bytes
-    → IsMade (failing n h) w
+done_counting : (path bytes : List ℕ) (h : OpenFiles) (n : Counts) (w : World) → IsMade h w path bytes
+    → IsMade (counting n h) w
     path bytes
-done_failing path bytes h n w done = record {
+done_counting path bytes h n w done = record {
   file = done.file;
   there = done.there;
   holds = done.holds;
   listed = done.listed;
 }
 
-pub begun_failing : (folder : List ℕ) (with_words : Bool) (header : Header) (x : List ℕ) (h : OpenFiles) (n : ℕ)
+pub begun_counting : (folder : List ℕ) (with_words : Bool) (header : Header) (x : List ℕ) (h : OpenFiles) (n : Counts)
     (w : World)
-    → PartsBegun folder with_words header x h w → PartsBegun folder with_words header x (failing n h) w
-begun_failing folder with_words header x h n w (up_to_section i below sections) =
-    up_to_section i below (λ k under p found. done_failing _ _ h n w (sections k under p found))
-begun_failing folder with_words header x h n w (up_to_fragment i below sections fragments) =
-    up_to_fragment i below (λ k under p found. done_failing _ _ h n w (sections k under p found))
-    (λ k under. done_failing _ _ h n w (fragments k under))
-begun_failing folder with_words header x h n w (up_to_words wanted sections fragments words) =
-    up_to_words wanted (λ k under p found. done_failing _ _ h n w (sections k under p found))
-    (λ k under. done_failing _ _ h n w (fragments k under)) (done_failing _ _ h n w words)
+    → PartsBegun folder with_words header x h w → PartsBegun folder with_words header x (counting n h) w
+begun_counting folder with_words header x h n w (up_to_section i below sections) =
+    up_to_section i below (λ k under p found. done_counting _ _ h n w (sections k under p found))
+begun_counting folder with_words header x h n w (up_to_fragment i below sections fragments) =
+    up_to_fragment i below (λ k under p found. done_counting _ _ h n w (sections k under p found))
+    (λ k under. done_counting _ _ h n w (fragments k under))
+begun_counting folder with_words header x h n w (up_to_words wanted sections fragments words) =
+    up_to_words wanted (λ k under p found. done_counting _ _ h n w (sections k under p found))
+    (λ k under. done_counting _ _ h n w (fragments k under)) (done_counting _ _ h n w words)
 
-pub begun_later : (folder : List ℕ) (with_words : Bool) (header : Header) (x : List ℕ) (h k : OpenFiles) (n : ℕ)
+pub begun_later : (folder : List ℕ) (with_words : Bool) (header : Header) (x : List ℕ) (h k : OpenFiles) (n : Counts)
     (c d : World)
-    → k ≡ failing n h → d ≡ c → PartsBegun folder with_words header x h c → PartsBegun folder with_words header x k d
+    → k ≡ counting n h → d ≡ c → PartsBegun folder with_words header x h c → PartsBegun folder with_words header x k d
 begun_later folder with_words header x h k n c d let_go same begun =
     subst (λ w. PartsBegun folder with_words header x k w) (sym same)
     (subst (λ q. PartsBegun folder with_words header x q c) (sym let_go)
-    (begun_failing folder with_words header x h n c begun))
+    (begun_counting folder with_words header x h n c begun))
 
 -- and so do those before a failure
-done_let_go : (path bytes : List ℕ) (h k : OpenFiles) (n : ℕ) (c d : World) → k ≡ failing n h → d ≡ c
+done_let_go : (path bytes : List ℕ) (h k : OpenFiles) (n : Counts) (c d : World) → k ≡ counting n h → d ≡ c
     → IsMade h c path bytes
     → IsMade k d path bytes
 done_let_go path bytes h k n c d let_go same done =
     subst (λ w. IsMade k w path bytes) (sym same)
-    (subst (λ q. IsMade q c path bytes) (sym let_go) (done_failing path bytes h n c done))
+    (subst (λ q. IsMade q c path bytes) (sym let_go) (done_counting path bytes h n c done))
 
 pub left_later : (folder : List ℕ) (header : Header) (x : List ℕ) (Tells : ImagePart → Type 0) (h k : OpenFiles)
-    (n : ℕ) (c d : World) (Only Later : (List ℕ → Type 0) → Type 0) → ((P : List ℕ → Type 0) → Only P → Later P)
-    → k ≡ failing n h → d ≡ c → PartsLeft folder header x Tells h c Only → PartsLeft folder header x Tells k d Later
+    (n : Counts) (c d : World) (Only Later : (List ℕ → Type 0) → Type 0) → ((P : List ℕ → Type 0) → Only P → Later P)
+    → k ≡ counting n h → d ≡ c → PartsLeft folder header x Tells h c Only → PartsLeft folder header x Tells k d Later
 left_later folder header x Tells h k n c d Only Later more let_go same (in_sections i tells sections only) =
     in_sections i tells (λ j under p found. done_let_go _ _ h k n c d let_go same (sections j under p found))
     (more _ only)
@@ -189,9 +190,8 @@ fragment_named folder header i path there is_path =
     record { index = i; below = omega arith; there = there; is_path = is_path }
 
 -- an output that was created empty, written, and brought to its end
-pub part_done : (path path' before after bytes : List ℕ) (b : Bool) (n : ℕ) (h h' h'' : OpenFiles) (u v w : World)
-    → path
-    ≡ path'
+pub part_done : (path path' before after bytes : List ℕ) (b : Bool) (n : Counts) (h h' h'' : OpenFiles)
+    (u v w : World) → path ≡ path'
     → before ≡ [] → after ≡ before ++ bytes → Creates path h h' u v → h'' ≡ ended b n h' → Ends h'.output after v w
     → IsMade h'' w path' bytes
 part_done path path' before after bytes b n h h' h'' u v w is_path empty written made closed ends =

@@ -15,8 +15,6 @@ use Rattle.abt_sections.specs.declared.fault.SectionFault.{SectionFault}
 use Rattle.cmd_common_boot.specs.declared.part_names.ImagePart.{ImagePart}
 use Rattle.cmd_common_boot.specs.declared.part_names.ImagePart.TheVariants as parts
 use Rattle.cmd_unpack.specs.Lines.{ShowsEach, told_fragments, told_part, told_parts, told_section}
-use Rattle.cmd_unpack.specs.Lines.{told_words}
-use Rattle.cmd_unpack.specs.Unpacking.{section_part}
 
 pub silent : (a : Report) → IsSilent a a
 silent a = ((refl, refl), refl)

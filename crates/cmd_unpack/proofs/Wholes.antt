@@ -1,7 +1,9 @@
 -- What a whole run leaves, after the image that it opened.
 use Rattle.std.proofs.Common.{◌≡◌, ℕ, ◌+◌, Bool, IsTrue, List, [], length, refl, sym, ◌∙◌, ap, subst, arith}
 use Rattle.std.specs.Prelude.{Option, unwrap_or}
-use Rattle.sys_disk.specs.World.{World, OpenFiles, OpensFile, KeepsFile, failing}
+use std.Path.{fun_ext}
+use Rattle.sys_disk.specs.Counts.{Cause, Counts, added}
+use Rattle.sys_disk.specs.World.{World, OpenFiles, OpensFile, KeepsFile, counting}
 use Rattle.abt_sections.specs.Header.{Header, view_of, places_of, fragment_count, fragment_of}
 use Rattle.abt_sections.specs.declared.image.Image.{Image}
 use Rattle.abt_sections.specs.Layout.{part_of}
@@ -17,7 +19,9 @@ use Rattle.cmd_unpack.specs.Unpacking.{part_total}
 use Rattle.cmd_unpack.specs.Unpacking.{LeavesParts, PartsLeft, TellsOfPart, first_parts}
 use Rattle.cmd_unpack.specs.Lines.{told_parts}
 use Rattle.sys_disk.proofs.Amongs.{among_behind, goes_more, goes_none, goes_then, kept_beside, stands}
+use Rattle.cmd_unpack.specs.Writing.{KeepsInUse}
 use Rattle.cmd_unpack.proofs.Loops.{left_later}
+use Rattle.cmd_unpack.proofs.UnpackSteps.{Allowed, allowed_as, allowed_more, guards_counted, guards_then}
 
 pub unpacks : (path folder x : List ℕ) (with_words : Bool) (header : Header) (h h' h'' : OpenFiles) (a c : World)
     (shows : List (List ℕ) → Type 0) → OpensFile a path x h h' → HasImage x header
@@ -63,17 +67,22 @@ parts_stand path folder x with_words header h h' h'' a c opens image begun = rec
   begun = subst (λ z. PartsBegun folder with_words header z h'' c) opens.held begun;
 }
 
+part_of_opened : (path folder x : List ℕ) (with_words : Bool) (header : Header) (h h' : OpenFiles) (a : World)
+    → OpensFile a path x h h' → HasImage x header → (p : List ℕ) → IsPartPath folder with_words header p
+    → IsPartOf path folder with_words a p
+part_of_opened path folder x with_words header h h' a opens image p named = record {
+  from = opens.file;
+  there = opens.there;
+  header = header;
+  image = subst (λ z. HasImage z header) opens.held image;
+  is_part = named;
+}
+
 goes_part : (path folder x : List ℕ) (with_words : Bool) (header : Header) (h h' h'' : OpenFiles) (a b c : World)
     → OpensFile a path x h h' → HasImage x header → GoesAmong (IsPartPath folder with_words header) h' h'' b c
     → GoesAmong (IsPartOf path folder with_words a) h' h'' b c
 goes_part path folder x with_words header h h' h'' a b c opens image goes =
-    goes_more _ _ h' h'' b c (λ p named. record {
-      from = opens.file;
-      there = opens.there;
-      header = header;
-      image = subst (λ z. HasImage z header) opens.held image;
-      is_part = named;
-    }) goes
+    goes_more _ _ h' h'' b c (part_of_opened path folder x with_words header h h' a opens image) goes
 
 pub only_parts : (path folder x : List ℕ) (with_words : Bool) (header : Header) (h h' h'' : OpenFiles) (a b c : World)
     → h.begun ≡ [] → OpensFile a path x h h' → b ≡ a → HasImage x header
@@ -83,8 +92,8 @@ only_parts path folder x with_words header h h' h'' a b c none opens same image 
     among_behind _ path x h h' h'' a b c none opens same
     (goes_part path folder x with_words header h h' h'' a b c opens image goes)
 
-pub only_opened : (P : List ℕ → Type 0) (path x : List ℕ) (h h' h'' : OpenFiles) (a b : World) (n : ℕ) → h.begun ≡ []
-    → OpensFile a path x h h' → b ≡ a → h'' ≡ failing n h' → OnlyAmong P h.read h''.begun a b
+pub only_opened : (P : List ℕ → Type 0) (path x : List ℕ) (h h' h'' : OpenFiles) (a b : World) (n : Counts)
+    → h.begun ≡ [] → OpensFile a path x h h' → b ≡ a → h'' ≡ counting n h' → OnlyAmong P h.read h''.begun a b
 only_opened P path x h h' h'' a b n none opens same let_go =
     among_behind P path x h h' h'' a b b none opens same (goes_none P h' h'' b b n let_go refl)
 
@@ -100,40 +109,63 @@ keeps_same path a b same = λ f there. ap (λ w. w.holds f) same
 pub has_as : (x y : List ℕ) (image : Image) → y ≡ x → IsOpened x image → HasImage y (view_of image.header)
 has_as x y image same opened = subst (λ z. HasImage z (view_of image.header)) (sym same) opened.has
 
--- two counts of what failed are one
-pub twice : (h h' h'' : OpenFiles) (m n : ℕ) → h' ≡ failing m h → h'' ≡ failing n h' → h'' ≡ failing (m + n) h
+-- what is counted twice is one sum
+pub twice : (h h' h'' : OpenFiles) (m n : Counts) → h' ≡ counting m h → h'' ≡ counting n h'
+    → h'' ≡ counting (added m n) h
 twice h h' h'' m n first next =
-    let sum : h.failed + m + n ≡ h.failed + (m + n) = omega arith in
-    next ∙ ap (λ k. failing n k) first ∙ ap (λ f. record h { failed = f }) sum
+    let failed : (cause : Cause) → h.counts.failed cause + m.failed cause + n.failed cause
+    ≡ h.counts.failed cause + (m.failed cause + n.failed cause) = λ cause. omega arith in
+    let given : h.counts.given + m.given + n.given ≡ h.counts.given + (m.given + n.given) = omega arith in
+    next ∙ ap (λ k. counting n k) first
+    ∙ ap (λ f. record h { counts = record { failed = f; given = h.counts.given + m.given + n.given } }) (fun_ext failed)
+    ∙ ap (λ b. record h { counts = record { failed = (added h.counts (added m n)).failed; given = b } }) given
 
 -- whatever was done after a file was opened, before it was closed
-within : (P : List ℕ → Type 0) (h' g h'' k : OpenFiles) (b c d : World) (m n : ℕ) → g ≡ failing m h'
+within : (P : List ℕ → Type 0) (h' g h'' k : OpenFiles) (b c d : World) (m n : Counts) → g ≡ counting m h'
     → GoesAmong P g h'' b c
-    → k ≡ failing n h'' → d ≡ c → GoesAmong P h' k b d
+    → k ≡ counting n h'' → d ≡ c → GoesAmong P h' k b d
 within P h' g h'' k b c d m n taken goes let_go same =
     goes_then P h' h'' k b c d (goes_then P h' g h'' b b c (goes_none P h' g b b m taken refl) goes)
     (goes_none P h'' k c d n let_go same)
 
 pub only_let_go : (path folder x : List ℕ) (with_words : Bool) (header : Header) (h h' g h'' k : OpenFiles)
     (a b c d : World)
-    (m n : ℕ) → h.begun ≡ [] → OpensFile a path x h h' → b ≡ a → HasImage x header → g ≡ failing m h'
-    → GoesAmong (IsPartPath folder with_words header) g h'' b c → k ≡ failing n h'' → d ≡ c
+    (m n : Counts) → h.begun ≡ [] → OpensFile a path x h h' → b ≡ a → HasImage x header → g ≡ counting m h'
+    → GoesAmong (IsPartPath folder with_words header) g h'' b c → k ≡ counting n h'' → d ≡ c
     → OnlyAmong (IsPartOf path folder with_words a) h.read k.begun a d
 only_let_go path folder x with_words header h h' g h'' k a b c d m n none opens same image taken goes let_go still =
     only_parts path folder x with_words header h h' k a b d none opens same image
     (within _ h' g h'' k b c d m n taken goes let_go still)
 
-pub keeps_let_go : (P : List ℕ → Type 0) (path x : List ℕ) (h h' g h'' k : OpenFiles) (a b c d : World) (m n : ℕ)
-    → OpensFile a path x h h' → b ≡ a → g ≡ failing m h' → GoesAmong P g h'' b c → k ≡ failing n h'' → d ≡ c
+-- and only where it may be written
+pub allowed_let_go : (path folder x : List ℕ) (with_words : Bool) (header : Header) (h h' g h'' k : OpenFiles)
+    (a b c d : World) (m n : Counts) → h.begun ≡ [] → OpensFile a path x h h' → b ≡ a → HasImage x header
+    → g ≡ counting m h' → GoesAmong (Allowed (IsPartPath folder with_words header) g) g h'' b c → k ≡ counting n h''
+    → d ≡ c → OnlyAmong (Allowed (IsPartOf path folder with_words a) h) h.read k.begun a d
+allowed_let_go path folder x with_words header h h' g h'' k a b c d m n none opens same image taken goes let_go still =
+    let P = IsPartPath folder with_words header in
+    let Q = IsPartOf path folder with_words a in
+    let opened : KeepsInUse h h' = record {
+      in_use = ap (λ q. q.in_use) opens.taken;
+      allows = ap (λ q. q.allows_mounted) opens.taken;
+    } in
+    let guards = guards_then h h' g opened (guards_counted h' g m taken) in
+    among_behind (Allowed Q h) path x h h' k a b d none opens same
+    (within (Allowed Q h) h' g h'' k b c d m n taken
+    (allowed_more P Q h g h'' b c (part_of_opened path folder x with_words header h h' a opens image)
+    (allowed_as P h g h'' b c guards goes)) let_go still)
+
+pub keeps_let_go : (P : List ℕ → Type 0) (path x : List ℕ) (h h' g h'' k : OpenFiles) (a b c d : World) (m n : Counts)
+    → OpensFile a path x h h' → b ≡ a → g ≡ counting m h' → GoesAmong P g h'' b c → k ≡ counting n h'' → d ≡ c
     → KeepsFile path a d
 keeps_let_go P path x h h' g h'' k a b c d m n opens same taken goes let_go still =
     keeps_opened P path x h h' k a b d opens same (within P h' g h'' k b c d m n taken goes let_go still)
 
 pub leaves_parts : (path folder x : List ℕ) (fault : BootCommandFault) (place : Option FileArg) (header : Header)
-    (h h' g h'' k : OpenFiles) (a b c d : World) (m n : ℕ)
-    → h.begun ≡ [] → OpensFile a path x h h' → b ≡ a → HasImage x header → g ≡ failing m h'
+    (h h' g h'' k : OpenFiles) (a b c d : World) (m n : Counts)
+    → h.begun ≡ [] → OpensFile a path x h h' → b ≡ a → HasImage x header → g ≡ counting m h'
     → PartsLeft folder header x (TellsOfPart fault place folder) h'' c (λ named. GoesAmong named g h'' b c)
-    → k ≡ failing n h'' → d ≡ c → LeavesParts path folder fault place h k a d
+    → k ≡ counting n h'' → d ≡ c → LeavesParts path folder fault place h k a d
 leaves_parts path folder x fault place header h h' g h'' k a b c d m n none opens same image taken left let_go still =
     first_parts opens.file opens.there header (subst (λ z. HasImage z header) opens.held image)
     (subst (λ z. PartsLeft folder header z (TellsOfPart fault place folder) k d

@@ -1,9 +1,10 @@
 //! The command `unpack`: writes each section and ramdisk fragment of an image to a file of its own.
 
-ghost use Rattle.std.specs.Prelude.{◌≡◌, Some, IsTrue, IfErr, OnOk, is_ok};
+ghost use Rattle.std.specs.Prelude.{◌≡◌, Some, IsTrue, IfErr, OnOk};
 ghost use Rattle.sys_refusals.specs.Blamed.{TellsRead};
 ghost use Rattle.sys_refusals.specs.Paths.{path_of};
-ghost use Rattle.sys_disk.specs.World.{HasFailed, IsReading, unless};
+ghost use Rattle.sys_disk.specs.Counts.{failure_of};
+ghost use Rattle.sys_disk.specs.World.{HasFailed, IsReading, MayWrite};
 ghost use Rattle.sys_disk.specs.Among.{OnlyAmong};
 ghost use Rattle.sys_disk.specs.DiskCalls.{FailsOnly, KeepsInput};
 ghost use Rattle.sys_report.specs.Shows.{CannotPrint};
@@ -44,10 +45,14 @@ pub fn unpack_file<'t, 'a, D: Disk>(
     // each was synced, where that is requested
     ensures synced { IsTrue D.models → OnOk result (SyncsParts (path_of input.entry) with_words (D.world disk.old)
         (D.held disk.old) (D.held disk.new)) }
-    // whatever the outcome, only such files were created or changed, and IN holds what it held; no call failed where all
-    // was done
+    // whatever the outcome, only such files were created or changed
     ensures only { IsTrue D.models → OnlyAmong (IsPartOf (path_of input.entry) folder.now with_words (D.world disk.old))
         (D.held disk.old).read (D.held disk.new).begun (D.world disk.old) (D.world disk.new) }
+    // and each is at a path that may be written: it leads to no device in use, unless such devices may be written
+    ensures guarded { IsTrue D.models → OnlyAmong (λ path. IsPartOf (path_of input.entry) folder.now with_words
+        (D.world disk.old) path × MayWrite path (D.held disk.old)) (D.held disk.old).read (D.held disk.new).begun
+        (D.world disk.old) (D.world disk.new) }
+    // IN holds what it held; no call failed where all was done
     ensures keeps { KeepsInput D.models result (path_of input.entry) (D.held disk.old) (D.held disk.new)
         (D.world disk.old) (D.world disk.new) }
     // where the name of a part leads to IN's file, nothing was changed
@@ -60,10 +65,12 @@ pub fn unpack_file<'t, 'a, D: Disk>(
     // and one of what is read is told of IN
     ensures told_of { IfErr result (λ refusal. TellsRead (boot_side_of refusal.fault) refusal.about.place
         (Some input.entry)) }
-    // it fails for a fault of IN, or since a call failed; or a part is written, whose line could not be printed
+    // it fails for a fault of IN, or of what has failed: a device, or a call with this fault; or a part is written, but
+    // its line could not be printed
     ensures refused { IsTrue D.models → IfErr result (λ refusal. RefusesImage (path_of input.entry) (D.world disk.old)
-        (HasFailed (D.held disk.old) (D.held disk.new)) (PartsStand (path_of input.entry) folder.now with_words
-        (D.world disk.old) (D.held disk.new) (D.world disk.new) × CannotPrint report.old report.new) refusal.fault) }
+        (λ cause. HasFailed cause (D.held disk.old) (D.held disk.new)) (PartsStand (path_of input.entry) folder.now
+        with_words (D.world disk.old) (D.held disk.new) (D.world disk.new) × CannotPrint report.old report.new)
+        refusal.fault) }
 {
     let mut device = match disk.source(input) {
         Ok(device) => device,
@@ -123,7 +130,7 @@ fn refuse_taken<'t, D: Disk>(
 ) -> Result<(), HostRefusal<'t>>
     ensures free { IsTrue D.models → OnOk result (HaveFreeNames folder.now (view_of image.now.header)
         (part_count (view_of image.now.header) with_words) (D.held disk.old) (D.world disk.old)) }
-    ensures fails { FailsOnly D.models (unless (is_ok result)) (D.held disk.old) (D.held disk.new) (D.world disk.old)
+    ensures fails { FailsOnly D.models (failure_of result) (D.held disk.old) (D.held disk.new) (D.world disk.old)
         (D.world disk.new) }
 {
     for i in 0..part_count(image, with_words) {

@@ -5,6 +5,7 @@ ghost use Rattle.std.specs.Prelude.{IfOk, IfErr, OnOk, Some, length, slice_index
 ghost use Rattle.abt_headers.specs.declared.sections.SectionPlace.{SectionPlace};
 ghost use Rattle.sys_refusals.specs.Blamed.{TellsOf, TellsRead};
 ghost use Rattle.cmd_common_boot.specs.Fault.{boot_side_of};
+ghost use Rattle.sys_disk.specs.Counts.{Cause, Counts, of_writing, writes};
 ghost use Rattle.sys_disk.specs.World.{Ends, ended};
 ghost use Rattle.sys_report.specs.Shows.{CannotPrint, Shows, refusals};
 ghost use Rattle.abt_sections.specs.Header.{entry_of, fragment_count, fragment_of, places_of, view_of};
@@ -173,14 +174,16 @@ fn finish<'t, 'a, D: Disk>(
     ensures done { OnOk result (IsOk answer) }
     ensures ends { EndsPart D.models result (D.Onto.written onto) (D.held disk.old) (D.world disk.old)
         (D.world disk.new) }
-    ensures closed { IsTrue D.models → (b : Bool) × (n : ℕ) × (D.held disk.new ≡ ended b n (D.held disk.old)) }
+    ensures closed { IsTrue D.models → (b : Bool) × (n : Counts) × (D.held disk.new ≡ ended b n (D.held disk.old)) }
     ensures clean { IsTrue D.models → OnOk result (D.held disk.new
-        ≡ ended true (D.Onto.write_faults onto) (D.held disk.old)) }
-    ensures counts { IsTrue D.models → (D.held disk.old).failed + D.Onto.write_faults onto ≤ (D.held disk.new).failed }
+        ≡ ended true (writes (D.Onto.write_faults onto)) (D.held disk.old)) }
+    ensures counts { IsTrue D.models → (cause : Cause) → (D.held disk.old).counts.failed cause
+        + of_writing (D.Onto.write_faults onto) cause ≤ (D.held disk.new).counts.failed cause }
     ensures shown { OnOk result (IfOk answer (λ bytes. Shows report.old report.new (told_part part bytes))) }
     ensures rises { OnOk result (refusals report.old ≤ refusals report.new) }
     ensures told { IsTrue D.models → IfErr result (λ refusal. IsAnswerOf answer
-        ((D.held disk.old).failed + D.Onto.write_faults onto < (D.held disk.new).failed)
+        (λ cause. (D.held disk.old).counts.failed cause + of_writing (D.Onto.write_faults onto) cause
+        < (D.held disk.new).counts.failed cause)
         (Ends (D.held disk.old).output (D.Onto.written onto) (D.world disk.old) (D.world disk.new)
         × CannotPrint report.old report.new) refusal.fault) }
     ensures told_of { IfErr result (λ refusal. TellsOf (boot_side_of refusal.fault) refusal.about.place (Some input.entry)

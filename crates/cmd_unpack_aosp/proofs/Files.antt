@@ -2,16 +2,16 @@
 use Rattle.std.proofs.Common.{◌≡◌, ℕ, ◌+◌, ◌-◌, ◌<◌, ◌≤◌, List, [], Option, Some, None, IfSome, length, refl}
 use Rattle.std.proofs.Common.{sym, ap, ◌∙◌, subst}
 use Rattle.std.proofs.Common.{arith, rules, nat_lt, below_more, inl, inr, Err}
-use Rattle.std.specs.Prelude.{◌⊎◌, get_or, slice_index_or, true, false, if◌then◌else◌}
+use Rattle.std.specs.Prelude.{slice_index_or, true, false, if◌then◌else◌}
 use Rattle.std.proofs.lemmas.List.{get_or_default}
 use Rattle.abt_headers.specs.declared.sections.SectionPlace.{SectionPlace}
-use Rattle.sys_disk.specs.World.{World, OpenFiles, OpensFile, failing}
+use Rattle.sys_disk.specs.Counts.{Cause, Counts, call}
+use Rattle.sys_disk.specs.World.{World, OpenFiles, OpensFile, HasFailed, counting}
 use Rattle.sys_disk.specs.Among.{GoesAmong, IsMade, KeepsMade, FileHolds, OnlyAmong}
 use Rattle.sys_disk.proofs.Amongs.{among_behind, goes_more, goes_none, goes_then, made_later, stands}
 use Rattle.abt_sections.specs.Header.{Header, places_of, fragment_count, fragment_of}
 use Rattle.abt_sections.specs.Layout.{part_of}
 use Rattle.abt_sections.specs.Open.{HasImage}
-use Rattle.cmd_common_boot.specs.ImageFaults.{IsRefusedOver}
 use Rattle.cmd_common_boot.proofs.Causes.{host_image, refused_more, refuses_file}
 use Rattle.cmd_common_boot.specs.declared.fault.BootCommandFault.{BootCommandFault}
 use Rattle.abt_io.specs.declared.device.Source as sources
@@ -150,8 +150,8 @@ files_more folder h x y n k k' a b same kept done next =
     (subst (λ z. FileDone folder h z n k' b) same next)
 
 -- a failure after others
-pub part_more : (x y : List ℕ) (P Q : Type 0) (fault : BootCommandFault) → y ≡ x → RefusesPart y P fault → (P → Q)
-    → RefusesPart x Q fault
+pub part_more : (x y : List ℕ) (P Q : Cause → Type 0) (fault : BootCommandFault) → y ≡ x → RefusesPart y P fault
+    → ((cause : Cause) → P cause → Q cause) → RefusesPart x Q fault
 part_more x y P Q fault same (inl refused) more = inl (refused_more x y P Q ⊥ ⊥ fault same refused more (λ none.
     none))
 part_more x y P Q fault same (inr unnamed) more = inr unnamed
@@ -188,9 +188,9 @@ file_of_image path folder x header h h' a opens image p named = record {
 }
 
 -- whatever was done after a file was opened, before it was closed
-pub only_files : (path folder x : List ℕ) (header : Header) (h h' g h'' k : OpenFiles) (a b c d : World) (m n : ℕ)
-    → h.begun ≡ [] → OpensFile a path x h h' → b ≡ a → HasImage x header → g ≡ failing m h'
-    → GoesAmong (IsFilePath folder header (file_count header)) g h'' b c → k ≡ failing n h'' → d ≡ c
+pub only_files : (path folder x : List ℕ) (header : Header) (h h' g h'' k : OpenFiles) (a b c d : World) (m n : Counts)
+    → h.begun ≡ [] → OpensFile a path x h h' → b ≡ a → HasImage x header → g ≡ counting m h'
+    → GoesAmong (IsFilePath folder header (file_count header)) g h'' b c → k ≡ counting n h'' → d ≡ c
     → OnlyAmong (IsFileOf path folder a) h.read k.begun a d
 only_files path folder x header h h' g h'' k a b c d m n none opens same image taken goes let_go still =
     let P = IsFilePath folder header (file_count header) in
@@ -200,21 +200,23 @@ only_files path folder x header h h' g h'' k a b c d m n none opens same image t
     (goes_none P h'' k c d n let_go still)))
 
 -- a failure, of the file from which the image was opened
-pub unpack_refused : (path x : List ℕ) (h h' : OpenFiles) (a : World) (P Q : Type 0) (fault : BootCommandFault)
-    → OpensFile a path x h h' → RefusesPart x P fault → (P → Q) → RefusesUnpack path a Q fault
+pub unpack_refused : (path x : List ℕ) (h h' : OpenFiles) (a : World) (P Q : Cause → Type 0)
+    (fault : BootCommandFault) → OpensFile a path x h h' → RefusesPart x P fault
+    → ((cause : Cause) → P cause → Q cause) → RefusesUnpack path a Q fault
 unpack_refused path x h h' a P Q fault opens (inl refused) more =
     inl (refuses_file path x h h' a P ⊥ Q ⊥ fault opens refused more (λ none. absurd none))
 unpack_refused path x h h' a P Q fault opens (inr unnamed) more = inr unnamed
 
 -- and one before any part was read
-pub taken_refused : (path x : List ℕ) (h h' h'' k : OpenFiles) (a : World) (n : ℕ) (fault : BootCommandFault)
-    → OpensFile a path x h h' → k ≡ failing n h'' → RefusesName (h'.failed < h''.failed) fault
-    → RefusesUnpack path a (h.failed < k.failed) fault
-taken_refused path x h h' h'' k a n fault opens let_go (inl call) =
-    let e : h'.failed ≡ h.failed = ap (λ q. q.failed) opens.taken in
-    let b : k.failed ≡ h''.failed + n = ap (λ q. q.failed) let_go in
-    let r : h'.failed < h''.failed = call.rises in
-    inl (host_image path a (h.failed < k.failed) ⊥ fault call.host call.told (omega (arith, e, b, r)))
+pub taken_refused : (path x : List ℕ) (h h' h'' k : OpenFiles) (a : World) (n : Counts) (fault : BootCommandFault)
+    → OpensFile a path x h h' → k ≡ counting n h'' → RefusesName (λ cause. HasFailed cause h' h'') fault
+    → RefusesUnpack path a (λ cause. HasFailed cause h k) fault
+taken_refused path x h h' h'' k a n fault opens let_go (inl refused) =
+    let c = call refused.host in
+    let e : h'.counts.failed c ≡ h.counts.failed c = ap (λ q. q.counts.failed c) opens.taken in
+    let b : k.counts.failed c ≡ h''.counts.failed c + n.failed c = ap (λ q. q.counts.failed c) let_go in
+    let r : h'.counts.failed c < h''.counts.failed c = refused.rises in
+    inl (host_image path a (λ cause. HasFailed cause h k) ⊥ fault refused.host refused.told (omega (arith, e, b, r)))
 taken_refused path x h h' h'' k a n fault opens let_go (inr unnamed) = inr unnamed
 
 -- nothing was begun
@@ -226,6 +228,8 @@ nothing_begun {s = s} {a = a} {P = P} {h = h} {u = u} closed =
       content = tt;
       keeps = none.keeps;
       only = none.only;
+      allowed = none.allowed;
+      guards = none.guards;
       synced = tt;
       clean = tt;
     }

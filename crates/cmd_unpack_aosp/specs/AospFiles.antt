@@ -1,5 +1,5 @@
 -- What unpack_bootimg leaves of files.
-use Rattle.std.specs.Prelude.{◌≡◌, ◌<◌, ◌⊎◌, ℕ, ◌+◌, ◌-◌, List, Option, Some, None, IfSome, if◌then◌else◌}
+use Rattle.std.specs.Prelude.{◌≡◌, ◌<◌, ◌⊎◌, ℕ, ◌+◌, ◌-◌, List, Option, Some, IfSome, if◌then◌else◌}
 use Rattle.std.specs.Prelude.{length, nat_lt}
 use Rattle.std.specs.Prelude.{get_or}
 use Rattle.abt_headers.specs.declared.sections.SectionPlace.{SectionPlace}
@@ -10,6 +10,7 @@ use Rattle.abt_sections.specs.Layout.{part_of}
 use Rattle.abt_sections.specs.Open.{HasImage}
 use Rattle.sys_refusals.specs.Paths.{in_folder}
 use Rattle.sys_refusals.specs.declared.refusal.HostFault.{HostFault}
+use Rattle.sys_disk.specs.Counts.{Cause, call}
 use Rattle.sys_disk.specs.World.{World, OpenFiles}
 use Rattle.sys_disk.specs.Among.{FileHolds, IsMade}
 use Rattle.cmd_common_boot.specs.ImageFaults.{IsRefusedOver, RefusesImage}
@@ -79,22 +80,22 @@ pub record IsUnnamed (fault : BootCommandFault) : Type 0 where
   pub index : ℕ
   pub told : fault ≡ faults.Section (section_faults.Entry index)
 
--- a call failed
-pub record IsCallFault (failed : Type 0) (fault : BootCommandFault) : Type 0 where
+-- a call with this fault has failed
+pub record IsCallFault (failed : Cause → Type 0) (fault : BootCommandFault) : Type 0 where
   pub host : HostFault
   pub told : fault ≡ faults.Host host
-  pub rises : failed
+  pub rises : failed (call host)
 
 -- either, before any part is read
-abbrev pub RefusesName : Type 0 → BootCommandFault → Type 0
+abbrev pub RefusesName : (Cause → Type 0) → BootCommandFault → Type 0
 RefusesName failed fault = IsCallFault failed fault ⊎ IsUnnamed fault
 
--- a fault of the image x, or a device failed, or a call
-abbrev pub RefusesPart : List ℕ → Type 0 → BootCommandFault → Type 0
+-- a fault of the image x, or of a device or a call that has failed
+abbrev pub RefusesPart : List ℕ → (Cause → Type 0) → BootCommandFault → Type 0
 RefusesPart x failed fault = IsRefusedOver x failed ⊥ fault ⊎ IsUnnamed fault
 
 -- the same for what the file at a path holds
-abbrev pub RefusesUnpack : List ℕ → World → Type 0 → BootCommandFault → Type 0
+abbrev pub RefusesUnpack : List ℕ → World → (Cause → Type 0) → BootCommandFault → Type 0
 RefusesUnpack path world failed fault = RefusesImage path world failed ⊥ fault ⊎ IsUnnamed fault
 
 -- ---- all of it

@@ -4,7 +4,8 @@ ghost use Rattle.std.specs.Prelude.{◌≡◌, ◌<◌, ◌+◌, ℕ, None, IsTr
 ghost use Rattle.sys_refusals.specs.Paths.{path_of};
 ghost use Rattle.abt_sections.specs.Header.{view_of};
 ghost use Rattle.abt_sections.specs.Open.{IsOpened};
-ghost use Rattle.sys_disk.specs.World.{HasFailed, IsReading, failing};
+ghost use Rattle.sys_disk.specs.Counts.{Counts};
+ghost use Rattle.sys_disk.specs.World.{HasFailed, IsReading, counting};
 ghost use Rattle.sys_disk.specs.Among.{OnlyAmong};
 ghost use Rattle.sys_disk.specs.DiskCalls.{KeepsInput};
 ghost use Rattle.cmd_common_boot.specs.ImageFaults.{SomeFailed};
@@ -42,9 +43,10 @@ pub fn unpack_as_aosp<'t, 'a, D: Disk>(
         (D.held disk.old).read (D.held disk.new).begun (D.world disk.old) (D.world disk.new) }
     ensures keeps { KeepsInput D.models result (path_of input.entry) (D.held disk.old) (D.held disk.new)
         (D.world disk.old) (D.world disk.new) }
-    // it fails for a fault of IN, or since a call failed, or for a fragment without a name
+    // it fails for a fault of IN, or of what has failed: a device, or a call with this fault; or for a fragment without
+    // a name
     ensures refused { IsTrue D.models → IfErr result (λ refusal. RefusesUnpack (path_of input.entry) (D.world disk.old)
-        (HasFailed (D.held disk.old) (D.held disk.new)) refusal.fault) }
+        (λ cause. HasFailed cause (D.held disk.old) (D.held disk.new)) refusal.fault) }
     // nothing is printed: only the progress may be another
     ensures quiet { report.new ≡ record report.old { progress = report.new.progress } }
 {
@@ -94,11 +96,11 @@ fn refuse_taken<'t, 'a, D: Disk>(
     input: FileArg<'t>,
     folder: &'t str,
 ) -> BootOutcome<'t, 'a>
-    ensures held { IsTrue D.models → (n : ℕ) × (D.held disk.new ≡ failing n (D.held disk.old)) }
-    ensures clean { IsTrue D.models → OnOk result (D.held disk.new ≡ failing 0 (D.held disk.old)) }
+    ensures held { IsTrue D.models → (n : Counts) × (D.held disk.new ≡ counting n (D.held disk.old)) }
+    ensures clean { IsTrue D.models → OnOk result (D.held disk.new ≡ D.held disk.old) }
     ensures world { IsTrue D.models → D.world disk.new ≡ D.world disk.old }
-    ensures refused { IsTrue D.models → IfErr result (λ refusal. RefusesName (HasFailed (D.held disk.old)
-        (D.held disk.new)) refusal.fault) }
+    ensures refused { IsTrue D.models → IfErr result (λ refusal. RefusesName (λ cause. HasFailed cause
+        (D.held disk.old) (D.held disk.new)) refusal.fault) }
 {
     for i in 0..part_count(image, false) {
         match refuse_part(disk, image, i, input, folder) {
@@ -117,11 +119,11 @@ fn refuse_part<'t, 'a, D: Disk>(
     folder: &'t str,
 ) -> BootOutcome<'t, 'a>
     requires there { i < file_count (view_of image.now.header) }
-    ensures held { IsTrue D.models → (n : ℕ) × (D.held disk.new ≡ failing n (D.held disk.old)) }
-    ensures clean { IsTrue D.models → OnOk result (D.held disk.new ≡ failing 0 (D.held disk.old)) }
+    ensures held { IsTrue D.models → (n : Counts) × (D.held disk.new ≡ counting n (D.held disk.old)) }
+    ensures clean { IsTrue D.models → OnOk result (D.held disk.new ≡ D.held disk.old) }
     ensures world { IsTrue D.models → D.world disk.new ≡ D.world disk.old }
-    ensures refused { IsTrue D.models → IfErr result (λ refusal. RefusesName (HasFailed (D.held disk.old)
-        (D.held disk.new)) refusal.fault) }
+    ensures refused { IsTrue D.models → IfErr result (λ refusal. RefusesName (λ cause. HasFailed cause
+        (D.held disk.old) (D.held disk.new)) refusal.fault) }
 {
     let name = match name_at(image, i) {
         Ok(Some(name)) => name,

@@ -1,6 +1,7 @@
 //! Writes one part of an image to a file of its own.
 
 ghost use Rattle.std.specs.Prelude.{◌≡◌, ◌<◌, ◌≤◌, ◌+◌, ◌⊎◌, None, Bool, ℕ, true, IsTrue, IsOk, IfErr, OnOk, length};
+ghost use Rattle.sys_disk.specs.Counts.{Cause, Counts, of_writing, writes};
 ghost use Rattle.sys_disk.specs.World.{Ends, ended};
 ghost use Rattle.abt_sections.specs.Header.{fragment_count, places_of, view_of};
 ghost use Rattle.abt_sections.specs.Open.{IsOpened};
@@ -144,12 +145,14 @@ fn finish<'t, 'a, D: Disk>(
     ensures done { OnOk result (IsOk answer) }
     ensures ends { EndsPart D.models result (D.Onto.written onto) (D.held disk.old) (D.world disk.old)
         (D.world disk.new) }
-    ensures closed { IsTrue D.models → (b : Bool) × (n : ℕ) × (D.held disk.new ≡ ended b n (D.held disk.old)) }
+    ensures closed { IsTrue D.models → (b : Bool) × (n : Counts) × (D.held disk.new ≡ ended b n (D.held disk.old)) }
     ensures clean { IsTrue D.models → OnOk result (D.held disk.new
-        ≡ ended true (D.Onto.write_faults onto) (D.held disk.old)) }
-    ensures counts { IsTrue D.models → (D.held disk.old).failed + D.Onto.write_faults onto ≤ (D.held disk.new).failed }
+        ≡ ended true (writes (D.Onto.write_faults onto)) (D.held disk.old)) }
+    ensures counts { IsTrue D.models → (cause : Cause) → (D.held disk.old).counts.failed cause
+        + of_writing (D.Onto.write_faults onto) cause ≤ (D.held disk.new).counts.failed cause }
     ensures told { IsTrue D.models → IfErr result (λ refusal. IsAnswerOf answer
-        ((D.held disk.old).failed + D.Onto.write_faults onto < (D.held disk.new).failed) ⊥ refusal.fault) }
+        (λ cause. (D.held disk.old).counts.failed cause + of_writing (D.Onto.write_faults onto) cause
+        < (D.held disk.new).counts.failed cause) ⊥ refusal.fault) }
 {
     let sides = Sides::none().reading(input, None);
     match ended(disk, BootCommandFault::of_bytes(answer), onto, place, sides) {

@@ -20,8 +20,8 @@ pub returns-in-Ok-tell_image-clause-leaves : goal.returns-in-Ok-tell_image-claus
 returns-in-Ok-tell_image-clause-leaves g c = record {
   world = λ t. c.let_go_source.ensures.world t ∙ c.in-Ok.ensures.world t;
   clean = λ t.
-      none_failed _ _ _ _ _ _ _ _ (c.in-Ok.ensures.opened t) (c.in-Ok.ensures.clean t) c.in-Ok-tell_image.ensures.clean
-      (c.let_go_source.ensures.held t);
+      none_failed _ _ _ _ _ _ _ _ _ (c.in-Ok.ensures.opened t) (c.in-Ok.ensures.clean t)
+      c.in-Ok-tell_image.ensures.clean (c.let_go_source.ensures.held t);
 }
 
 pub returns-in-Ok-tell_image-clause-begun : goal.returns-in-Ok-tell_image-clause-begun
@@ -42,7 +42,7 @@ returns-in-Err-tell_image-clause-begun g c = λ t.
 
 pub returns-in-Err-tell_image-clause-refused : goal.returns-in-Err-tell_image-clause-refused
 returns-in-Err-tell_image-clause-refused g c = λ t.
-    refuses _ _ _ _ _ _ _ _ _ _ _ _ _ (c.in-Ok.ensures.opened t) (c.in-Ok.ensures.clean t)
+    refuses _ _ _ _ _ _ _ _ _ _ _ _ _ _ (c.in-Ok.ensures.opened t) (c.in-Ok.ensures.clean t)
     (c.let_go_source-in-Err-tell_image.ensures.held t)
     (c.in-Err-tell_image.ensures.refused (g.met.D.Disk.source_told t))
 

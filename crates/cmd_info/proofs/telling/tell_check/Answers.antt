@@ -1,5 +1,5 @@
 use Rattle.std.proofs.Common.{◌∙◌, ap, sym}
-use Rattle.cmd_info.proofs.Told.{reasons_told, tells_findings}
+use Rattle.cmd_info.proofs.Told.{reasons_told}
 use Rattle.sys_refusals.proofs.Blames.{words≢input}
 use Rattle.cmd_common_boot.specs.Fault.{boot_side_of}
 use Rattle.cmd_common_boot.proofs.Sides.{reads_host}

@@ -1,6 +1,6 @@
 use Rattle.std.proofs.Common.{◌∙◌, rules, sym, subst}
 use Rattle.abt_sections.specs.Open.{IsOpened}
-use Rattle.cmd_common_boot.proofs.Causes.{moved_behind, read_first, sum_behind}
+use Rattle.cmd_common_boot.proofs.Causes.{moved_behind, read_first}
 use Rattle.cmd_unpack.proofs.copying.copy_fragment.Goals as goal
 
 pub returns-in-Err-clause-copies : goal.returns-in-Err-clause-copies
@@ -11,7 +11,7 @@ returns-in-Err-clause-copies g c =
       content = λ models. tt;
       clean = tt;
       refused = λ models opened. read_first c.in-Err.fault _ _ _ (g.S.Source.content c.args.source.now) _ e.cause
-          (λ changed. changed models opened) e.only.faults;
+          (λ changed. changed models opened);
     }
 
 pub returns-in-Ok-answer-clause-copies : goal.returns-in-Ok-answer-clause-copies
@@ -21,7 +21,7 @@ returns-in-Ok-answer-clause-copies g c =
     record {
       written = search rules;
       content = λ models. e.reads.content models ∙ k.content models;
-      clean = sum_behind _ _ _ _ _ k.clean (e.reads.clean, e.writes.clean);
+      clean = (e.reads.clean ∙ k.clean, e.writes.clean);
       refused = λ models opened. tt;
     }
 
@@ -36,5 +36,5 @@ returns-in-Err-answer-clause-copies g c =
       refused = λ models opened.
           let now = subst (λ x. IsOpened x c.args.image.now) (sym (k.content models)) opened in
           moved_behind c.in-Err-answer.fault _ _ _ _ _ (g.S.Source.content c.args.source.now) _ k.clean e.cause
-          (λ changed. changed models now) e.reads.faults e.writes.faults;
+          (λ changed. changed models now);
     }

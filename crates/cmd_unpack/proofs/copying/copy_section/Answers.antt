@@ -1,5 +1,5 @@
 use Rattle.std.proofs.Common.{rules}
-use Rattle.cmd_common_boot.proofs.Causes.{moved, sum_stays}
+use Rattle.cmd_common_boot.proofs.Causes.{moved}
 use Rattle.cmd_unpack.proofs.copying.copy_section.Goals as goal
 
 pub returns-in-Ok-clause-copies : goal.returns-in-Ok-clause-copies
@@ -8,7 +8,7 @@ returns-in-Ok-clause-copies g c = λ p found.
     record {
       written = search rules;
       content = e.reads.content;
-      clean = sum_stays _ _ _ _ (e.reads.clean, e.writes.clean);
+      clean = (e.reads.clean, e.writes.clean);
       refused = λ models opened. tt;
     }
 
@@ -20,5 +20,5 @@ returns-in-Err-clause-copies g c = λ p found.
       content = λ models. tt;
       clean = tt;
       refused = λ models opened. moved c.in-Err.fault _ _ _ _ (g.S.Source.content c.args.source.now) _ e.cause
-          (λ changed. changed models opened) e.reads.faults e.writes.faults;
+          (λ changed. changed models opened);
     }

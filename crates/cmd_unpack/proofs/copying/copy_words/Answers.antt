@@ -1,16 +1,15 @@
-use Rattle.std.proofs.Common.{ℕ, ◌+◌, ◌<◌, List, Err, arith, rules}
+use Rattle.std.proofs.Common.{ℕ, List, Err, rules}
 use Rattle.abt_sections.specs.declared.fault.SectionFault.{SectionFault}
 use Rattle.abt_sections.specs.declared.fault.SectionFault.TheVariants as sections
 use Rattle.cmd_common_texts.specs.Info.{PrintCause, SectionReadTold, SectionWriteTold}
-use Rattle.cmd_common_boot.specs.ImageFaults.{IsFaultOf}
-use Rattle.cmd_common_boot.proofs.Causes.{sum_stays}
+use Rattle.cmd_common_boot.specs.ImageFaults.{DeviceFails, IsFaultOf}
 use Rattle.cmd_unpack.proofs.copying.copy_words.Goals as goal
 
 -- a fault of printing the words is one of the image, or of a device that failed
 printed : (X : Type 0) (f : SectionFault) (r r' w w' : ℕ) (x : List ℕ) → PrintCause f r r'
-    → SectionReadTold {X = X} (Err f) r r' → SectionWriteTold f w w' → IsFaultOf x (r + w < r' + w') f
-printed X (sections.Read f) r r' w w' x cause reads writes = omega (arith, cause, writes)
-printed X (sections.Write f) r r' w w' x cause reads writes = omega (arith, reads, writes)
+    → SectionReadTold {X = X} (Err f) r r' → SectionWriteTold f w w' → IsFaultOf x (DeviceFails r r' w w') f
+printed X (sections.Read f) r r' w w' x cause reads writes = cause
+printed X (sections.Write f) r r' w w' x cause reads writes = writes
 printed X sections.SourceChanged r r' w w' x cause reads writes = absurd cause
 printed X (sections.Header f) r r' w w' x cause reads writes = absurd cause
 printed X (sections.Entry i) r r' w w' x cause reads writes = absurd cause
@@ -25,7 +24,7 @@ returns-in-Ok g c =
     record {
       written = search rules;
       content = e.leaves.content;
-      clean = sum_stays _ _ _ _ (e.leaves.reads, e.leaves.clean);
+      clean = (e.leaves.reads, e.leaves.clean);
       refused = λ models opened. tt;
     }
 

@@ -44,7 +44,7 @@ returns-in-Err g c = record {
       let i = c.loop-i.invariant t in
       refused_more _ _ _ _ _ _ c.in-Err.refusal.fault i.0.content
       (c.in-Err.ensures.refused t (subst (λ x. IsOpened x c.args.image.now) (sym i.0.content) opened))
-      (λ failed. some_then _ _ _ _ _ _ i.0.clean failed)
+      (λ cause failed. some_then _ _ _ _ _ _ i.0.clean cause failed)
       (λ stands. (
         c.loop-i.i,
         search (rules, arith),

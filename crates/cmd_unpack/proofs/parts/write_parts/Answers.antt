@@ -24,7 +24,8 @@ returns-in-Err g c = record {
       in_sections s.0 s.1 s.2 (goes_section _ _ _ _ _ _ _ _ _ s.3);
   shown = λ t. tt;
   refused = λ t opened.
-      refused_more _ _ _ _ _ _ c.in-Err.refusal.fault refl (c.in-Err.ensures.refused t opened) (λ failed. failed)
+      refused_more _ _ _ _ _ _ c.in-Err.refusal.fault refl (c.in-Err.ensures.refused t opened)
+      (λ cause failed. failed)
       (λ stands. (up_to_section stands.0 stands.1 stands.2, stands.3));
   told_of = c.in-Err.ensures.told_of;
 }
@@ -53,7 +54,7 @@ returns-in-Err-write_fragments g c = record {
       let same = (c.in-Ok.ensures.writes t).content in
       refused_more _ _ _ _ _ _ c.in-Err-write_fragments.refusal.fault same
       (c.in-Err-write_fragments.ensures.refused t (subst (λ x. IsOpened x c.args.image.now) (sym same) opened))
-      (λ failed. some_then _ _ _ _ _ _ (c.in-Ok.ensures.writes t).clean failed)
+      (λ cause failed. some_then _ _ _ _ _ _ (c.in-Ok.ensures.writes t).clean cause failed)
       (λ stands. (
         up_to_fragment stands.0 stands.1 (sections_later _ _ _ _ _ _ _ _
             (c.in-Err-write_fragments.ensures.writes t).keeps (c.in-Ok.ensures.done t))
@@ -159,8 +160,9 @@ returns-in-Err-write_pack_words g c = record {
       let same = (c.in-Ok-write_fragments.ensures.writes t).content ∙ first in
       refused_more _ _ _ _ _ _ c.in-Err-write_pack_words.refusal.fault same
       (c.in-Err-write_pack_words.ensures.refused t (subst (λ x. IsOpened x c.args.image.now) (sym same) opened))
-      (λ failed. some_then _ _ _ _ _ _
-      (none_then _ _ _ _ _ _ (c.in-Ok.ensures.writes t).clean (c.in-Ok-write_fragments.ensures.writes t).clean) failed)
+      (λ cause failed. some_then _ _ _ _ _ _
+      (none_then _ _ _ _ _ _ (c.in-Ok.ensures.writes t).clean (c.in-Ok-write_fragments.ensures.writes t).clean) cause
+      failed)
       (λ stands. (
         up_to_words (first_of (search (rules, c.if-not-with_words.false), cc))
             (sections_later _ _ _ _ _ _ _ _

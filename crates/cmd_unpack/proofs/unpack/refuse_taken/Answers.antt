@@ -1,5 +1,5 @@
-use Rattle.std.proofs.Common.{refl, sym, ◌∙◌, arith}
-use Rattle.cmd_unpack.proofs.Counts.{same_failing}
+use Rattle.std.proofs.Common.{refl, ◌∙◌, arith}
+use Rattle.cmd_common_boot.proofs.Calls.{same_counting}
 use Rattle.cmd_unpack.proofs.Looks.{free_more}
 use Rattle.cmd_unpack.proofs.unpack.refuse_taken.Goals as goal
 
@@ -14,7 +14,7 @@ pub loop-i-preserved : goal.loop-i-preserved
 loop-i-preserved g c = λ t.
     let i = c.loop-i.invariant t in
     record {
-      held = c.in-Ok.ensures.held t ∙ sym (same_failing _) ∙ i.held;
+      held = c.in-Ok.ensures.held t ∙ same_counting _ ∙ i.held;
       world = c.in-Ok.ensures.world t ∙ i.world;
       free = free_more _ _ _ _ _ _ _ i.free c.part_of.ensures c.place_of.ensures
           (rw (i.held, i.world) at (c.in-Ok.ensures.free t));

@@ -3,13 +3,13 @@ use Rattle.sys_refusals.specs.Paths.{path_of}
 use Rattle.cmd_unpack.specs.Lines.{ShowsEach}
 use Rattle.cmd_unpack.specs.Unpacking.{Unpacks, no_part, unchanged}
 use Rattle.sys_disk.proofs.Amongs.{among_none}
-use Rattle.cmd_common_boot.proofs.Causes.{host_image, open_failed, opened, opened_as, opens_as, refuses_file}
+use Rattle.cmd_common_boot.proofs.Causes.{open_failed, opened, opened_as, opens_as, refuses_file}
 use Rattle.cmd_common_boot.proofs.Causes.{section_refused}
-use Rattle.cmd_common_boot.proofs.Causes.{source_failed}
 use Rattle.cmd_unpack.proofs.Counts.{clean_within, failed_within, syncs_within}
-use Rattle.cmd_unpack.proofs.Counts.{taken_failed}
+use Rattle.cmd_unpack.proofs.Counts.{taken, unopened}
 use Rattle.cmd_unpack.proofs.Looks.{looks}
 use Rattle.cmd_unpack.proofs.Loops.{begun_later}
+use Rattle.cmd_unpack.proofs.Wholes.{allowed_let_go}
 use Rattle.cmd_unpack.proofs.Wholes.{has_as, keeps_let_go, keeps_same, leaves_parts, only_let_go, only_opened}
 use Rattle.cmd_unpack.proofs.Wholes.{parts_stand, syncs_parts, twice, unpacks}
 use Rattle.cmd_common_boot.proofs.Sides.{host_output, reads_host}
@@ -22,7 +22,9 @@ returns-in-Err g c = record {
   done = λ t. tt;
   synced = λ t. tt;
   only = λ t.
-      among_none _ _ _ _ _ 1 (c.requires.first t).begun (c.in-Err.ensures.kept t) (c.in-Err.ensures.world t);
+      among_none _ _ _ _ _ _ (c.requires.first t).begun (c.in-Err.ensures.kept t) (c.in-Err.ensures.world t);
+  guarded = λ t.
+      among_none _ _ _ _ _ _ (c.requires.first t).begun (c.in-Err.ensures.kept t) (c.in-Err.ensures.world t);
   keeps = record {
     input = λ t. keeps_same _ _ _ (c.in-Err.ensures.world t);
     clean = λ t. tt;
@@ -32,8 +34,8 @@ returns-in-Err g c = record {
       no_part (c.in-Err.ensures.world t) (host_output _ c.in-Err.refusal.fault c.into.ensures);
   told_of = reads_host _ c.in-Err.refusal.fault _ _ c.into.ensures;
   refused = λ t.
-      host_image (path_of c.args.input) (g.D.Disk.world c.args.disk.now) _ _ _ _ c.into.ensures
-      (source_failed _ _ (c.in-Err.ensures.kept t));
+      unopened (path_of c.args.input) (g.D.Disk.world c.args.disk.now) _ _ _ _ _ c.into.ensures
+      (c.in-Err.ensures.kept t);
 }
 
 -- it is no image
@@ -42,6 +44,9 @@ returns-in-Err-open g c = record {
   done = λ t. tt;
   synced = λ t. tt;
   only = λ t.
+      only_opened _ _ _ _ _ _ _ _ _ (c.requires.first t).begun (c.in-Ok.ensures.opened t)
+      (c.let_go_source.ensures.world t ∙ c.in-Ok.ensures.world t) (c.let_go_source.ensures.held t);
+  guarded = λ t.
       only_opened _ _ _ _ _ _ _ _ _ (c.requires.first t).begun (c.in-Ok.ensures.opened t)
       (c.let_go_source.ensures.world t ∙ c.in-Ok.ensures.world t) (c.let_go_source.ensures.held t);
   keeps = record {
@@ -60,7 +65,7 @@ returns-in-Err-open g c = record {
       (section_refused _ _ ⊥ _ _ c.not_opened.ensures.fault
       (opened c.in-Err-open.fault (g.D.At.Source.content c.in-Ok.device) _ _ _ c.in-Err-open.ensures.reads.cause
       (c.in-Err-open.ensures.opens told)))
-      (λ failed. open_failed _ _ _ _ _ _ _ _ (c.in-Ok.ensures.opened t) (c.in-Ok.ensures.clean t)
+      (λ cause failed. open_failed _ _ _ _ _ _ _ _ _ cause (c.in-Ok.ensures.opened t) (c.in-Ok.ensures.clean t)
       (c.let_go_source.ensures.held t) failed)
       (λ none. absurd none);
 }
@@ -71,6 +76,12 @@ returns-in-Err-refuse_taken g c = record {
   done = λ t. tt;
   synced = λ t. tt;
   only = λ t.
+      only_opened _ _ _ _ _ _ _ _ _ (c.requires.first t).begun (c.in-Ok.ensures.opened t)
+      (c.let_go_source-in-Err-refuse_taken.ensures.world t ∙ c.in-Err-refuse_taken.ensures.fails.world t
+      ∙ c.in-Ok.ensures.world t)
+      (twice _ _ _ _ _ (c.in-Err-refuse_taken.ensures.fails.held t)
+      (c.let_go_source-in-Err-refuse_taken.ensures.held t));
+  guarded = λ t.
       only_opened _ _ _ _ _ _ _ _ _ (c.requires.first t).begun (c.in-Ok.ensures.opened t)
       (c.let_go_source-in-Err-refuse_taken.ensures.world t ∙ c.in-Err-refuse_taken.ensures.fails.world t
       ∙ c.in-Ok.ensures.world t)
@@ -91,9 +102,8 @@ returns-in-Err-refuse_taken g c = record {
       (host_output _ c.in-Err-refuse_taken.refusal.fault c.into-in-Err-refuse_taken.ensures);
   told_of = reads_host _ c.in-Err-refuse_taken.refusal.fault _ _ c.into-in-Err-refuse_taken.ensures;
   refused = λ t.
-      host_image (path_of c.args.input) (g.D.Disk.world c.args.disk.now) _ _ _ _ c.into-in-Err-refuse_taken.ensures
-      (taken_failed _ _ _ _ _ _ _ _ (c.in-Ok.ensures.opened t) (c.in-Err-refuse_taken.ensures.fails.held t)
-      (c.let_go_source-in-Err-refuse_taken.ensures.held t));
+      taken _ _ _ _ _ _ _ _ _ _ _ (c.in-Ok.ensures.opened t) c.into-in-Err-refuse_taken.ensures
+      (c.in-Err-refuse_taken.ensures.fails.held t) (c.let_go_source-in-Err-refuse_taken.ensures.held t);
 }
 
 -- all parts are written
@@ -121,6 +131,12 @@ returns-in-Ok-write_parts g c = record {
       (c.in-Ok-refuse_taken.ensures.fails.world t ∙ c.in-Ok.ensures.world t) (c.in-Ok-open.ensures.opens told).has
       (c.in-Ok-refuse_taken.ensures.fails.held t) (c.in-Ok-write_parts.ensures.writes t).only
       (c.let_go_source-in-Ok-write_parts.ensures.held t) (c.let_go_source-in-Ok-write_parts.ensures.world t);
+  guarded = λ t.
+      let told = g.met.D.Disk.source_told t in
+      allowed_let_go _ _ _ _ _ _ _ _ _ _ _ _ _ _ _ _ (c.requires.first t).begun (c.in-Ok.ensures.opened t)
+      (c.in-Ok-refuse_taken.ensures.fails.world t ∙ c.in-Ok.ensures.world t) (c.in-Ok-open.ensures.opens told).has
+      (c.in-Ok-refuse_taken.ensures.fails.held t) (c.in-Ok-write_parts.ensures.writes t).allowed
+      (c.let_go_source-in-Ok-write_parts.ensures.held t) (c.let_go_source-in-Ok-write_parts.ensures.world t);
   keeps = record {
     input = λ t.
         keeps_let_go _ _ _ _ _ _ _ _ _ _ _ _ _ _ (c.in-Ok.ensures.opened t)
@@ -128,7 +144,7 @@ returns-in-Ok-write_parts g c = record {
         (c.in-Ok-refuse_taken.ensures.fails.held t) (c.in-Ok-write_parts.ensures.writes t).only
         (c.let_go_source-in-Ok-write_parts.ensures.held t) (c.let_go_source-in-Ok-write_parts.ensures.world t);
     clean = λ t.
-        clean_within _ _ _ _ _ _ _ _ _ _ _ (c.in-Ok.ensures.opened t) (c.in-Ok.ensures.clean t)
+        clean_within _ _ _ _ _ _ _ _ _ _ _ _ (c.in-Ok.ensures.opened t) (c.in-Ok.ensures.clean t)
         c.in-Ok-open.ensures.reads.only.clean
         (c.in-Ok-refuse_taken.ensures.fails.held t) (c.in-Ok-write_parts.ensures.writes t).clean
         (c.let_go_source-in-Ok-write_parts.ensures.held t);
@@ -153,6 +169,12 @@ returns-in-Err-write_parts g c = record {
       only_let_go _ _ _ _ _ _ _ _ _ _ _ _ _ _ _ _ (c.requires.first t).begun (c.in-Ok.ensures.opened t)
       (c.in-Ok-refuse_taken.ensures.fails.world t ∙ c.in-Ok.ensures.world t) (c.in-Ok-open.ensures.opens told).has
       (c.in-Ok-refuse_taken.ensures.fails.held t) (c.in-Err-write_parts.ensures.writes t).only
+      (c.let_go_source-in-Err-write_parts.ensures.held t) (c.let_go_source-in-Err-write_parts.ensures.world t);
+  guarded = λ t.
+      let told = g.met.D.Disk.source_told t in
+      allowed_let_go _ _ _ _ _ _ _ _ _ _ _ _ _ _ _ _ (c.requires.first t).begun (c.in-Ok.ensures.opened t)
+      (c.in-Ok-refuse_taken.ensures.fails.world t ∙ c.in-Ok.ensures.world t) (c.in-Ok-open.ensures.opens told).has
+      (c.in-Ok-refuse_taken.ensures.fails.held t) (c.in-Err-write_parts.ensures.writes t).allowed
       (c.let_go_source-in-Err-write_parts.ensures.held t) (c.let_go_source-in-Err-write_parts.ensures.world t);
   keeps = record {
     input = λ t.
@@ -183,9 +205,9 @@ returns-in-Err-write_parts g c = record {
       let opens = opens_as _ _ _ _ _ _ same (c.in-Ok.ensures.opened t) in
       refuses_file _ _ _ _ _ _ _ _ _ _ opens
       (c.in-Err-write_parts.ensures.refused t (opened_as _ _ c.in-Ok-open.image same (c.in-Ok-open.ensures.opens told)))
-      (λ failed. failed_within _ _ _ _ _ _ _ _ _ _ _ (c.in-Ok.ensures.opened t) (c.in-Ok.ensures.clean t)
-      c.in-Ok-open.ensures.reads.only.clean (c.in-Ok-refuse_taken.ensures.fails.held t) failed
-      (c.let_go_source-in-Err-write_parts.ensures.held t))
+      (λ cause failed. failed_within _ _ _ _ _ _ _ _ _ _ _ _ (c.in-Ok.ensures.opened t) (c.in-Ok.ensures.clean t)
+      c.in-Ok-open.ensures.reads.only.clean (c.in-Ok-refuse_taken.ensures.fails.held t)
+      (c.let_go_source-in-Err-write_parts.ensures.held t) cause failed)
       (λ begun. (
         parts_stand _ _ _ _ _ _ _ _ _ _ opens
             (has_as _ _ c.in-Ok-open.image same (c.in-Ok-open.ensures.opens told))

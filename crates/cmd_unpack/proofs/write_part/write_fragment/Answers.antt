@@ -11,13 +11,13 @@ use Rattle.cmd_unpack.proofs.write_part.write_fragment.Goals as goal
 pub returns-in-Err : goal.returns-in-Err
 returns-in-Err g c = record {
   writes = λ t.
-      part_refused (fragment_named _ _ c.args.index _ c.requires.there c.place_of-place.ensures) (c.requires.one t)
-      (c.in-Err.ensures.kept t) (c.in-Err.ensures.only t) (c.in-Err.ensures.begun t);
+      part_refused (fragment_named _ _ c.args.index _ c.requires.there c.place_of-place.ensures) _ (c.requires.one t)
+      (c.in-Err.ensures.kept t) (c.in-Err.ensures.only t) (c.in-Err.ensures.begun t) (c.in-Err.ensures.guarded t);
   done = λ t. tt;
   shown = λ t. tt;
   rises = tt;
   refused = λ t opened.
-      host_refused _ _ _ _ _ c.into.ensures (none_created _ _ _ (c.in-Err.ensures.kept t));
+      host_refused _ _ _ _ _ c.into.ensures (none_created _ _ _ _ (c.in-Err.ensures.kept t));
   told_of = reads_host _ c.in-Err.refusal.fault _ _ c.into.ensures;
   told_of_part = λ on. absurd (host_output _ c.in-Err.refusal.fault c.into.ensures on);
 }
@@ -59,10 +59,10 @@ returns-in-Err-finish g c = record {
       let told = g.met.D.Disk.source_told t in
       told_so _ (g.D.At.Source.content c.args.source.now) _ _ _ _ _ _ (c.in-Err-finish.ensures.told t)
       (c.copy_fragment-onto.ensures.copies.refused told opened)
-      (λ done failed. end_failed _ _ _ _ _ _ _ _ _ _ (c.in-Ok.ensures.created t) (c.in-Ok.ensures.clean t)
-      (ok_gives _ _ done c.copy_fragment-onto.ensures.copies.clean) failed)
-      (λ failed. copy_failed _ _ _ _ _ _ _ _ _ _ (c.in-Ok.ensures.created t) (c.in-Ok.ensures.clean t)
-      (c.in-Err-finish.ensures.counts t) failed)
+      (λ done cause failed. end_failed _ _ _ _ _ _ _ _ _ (c.in-Ok.ensures.created t)
+      (ok_gives _ _ done c.copy_fragment-onto.ensures.copies.clean).0 cause failed)
+      (λ cause failed. copy_failed _ _ _ _ _ _ _ _ _ _ (c.in-Ok.ensures.created t) (c.in-Ok.ensures.clean t)
+      (c.in-Err-finish.ensures.counts t) cause failed)
       (λ done ends. (
         part_done _ _ _ _ _ (c.in-Err-finish.ensures.closed t).0 _ _ _ _ _ _ _ c.place_of-place.ensures
             c.in-Ok.ensures.empty

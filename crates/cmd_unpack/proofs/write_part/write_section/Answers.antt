@@ -14,12 +14,12 @@ pub returns-in-Err : goal.returns-in-Err
 returns-in-Err g c = record {
   writes = λ t.
       part_refused (section_named _ _ c.args.i c.section.result _ c.requires.there c.section.ensures.value
-      c.place_of-place.ensures) (c.requires.one t)
-      (c.in-Err.ensures.kept t) (c.in-Err.ensures.only t) (c.in-Err.ensures.begun t);
+      c.place_of-place.ensures) _ (c.requires.one t)
+      (c.in-Err.ensures.kept t) (c.in-Err.ensures.only t) (c.in-Err.ensures.begun t) (c.in-Err.ensures.guarded t);
   done = λ t. tt;
   shown = tt;
   rises = tt;
-  refused = λ t opened. host_refused _ _ _ _ _ c.into.ensures (none_created _ _ _ (c.in-Err.ensures.kept t));
+  refused = λ t opened. host_refused _ _ _ _ _ c.into.ensures (none_created _ _ _ _ (c.in-Err.ensures.kept t));
   told_of = reads_host _ c.in-Err.refusal.fault _ _ c.into.ensures;
   told_of_part = λ p found on. absurd (host_output _ c.in-Err.refusal.fault c.into.ensures on);
 }
@@ -68,10 +68,10 @@ returns-in-Err-finish g c =
           let told = g.met.D.Disk.source_told t in
           told_so _ (g.D.At.Source.content c.args.source.now) _ _ _ _ _ _ (c.in-Err-finish.ensures.told t)
           (copies.refused told opened)
-          (λ done failed. end_failed _ _ _ _ _ _ _ _ _ _ (c.in-Ok.ensures.created t) (c.in-Ok.ensures.clean t)
-          (ok_gives _ _ done copies.clean) failed)
-          (λ failed. copy_failed _ _ _ _ _ _ _ _ _ _ (c.in-Ok.ensures.created t) (c.in-Ok.ensures.clean t)
-          (c.in-Err-finish.ensures.counts t) failed)
+          (λ done cause failed. end_failed _ _ _ _ _ _ _ _ _ (c.in-Ok.ensures.created t)
+          (ok_gives _ _ done copies.clean).0 cause failed)
+          (λ cause failed. copy_failed _ _ _ _ _ _ _ _ _ _ (c.in-Ok.ensures.created t) (c.in-Ok.ensures.clean t)
+          (c.in-Err-finish.ensures.counts t) cause failed)
           (λ done ends. (
             λ p found. part_done _ _ _ _ _ (c.in-Err-finish.ensures.closed t).0 _ _ _ _ _ _ _
                 (c.place_of-place.ensures ∙ same_path _ _ c.args.i c.section.result p c.requires.there

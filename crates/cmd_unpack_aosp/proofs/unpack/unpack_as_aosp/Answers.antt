@@ -1,10 +1,10 @@
 use Rattle.std.proofs.Common.{◌∙◌, sym, subst, inl, refl}
 use Rattle.sys_refusals.specs.Paths.{path_of}
 use Rattle.sys_disk.proofs.Amongs.{among_none}
-use Rattle.cmd_common_boot.proofs.Causes.{host_image, open_failed, opened, opened_as, opens_as, refuses_file}
+use Rattle.cmd_common_boot.proofs.Causes.{open_failed, opened, opened_as, opens_as, refuses_file}
 use Rattle.cmd_common_boot.proofs.Causes.{section_refused}
-use Rattle.cmd_common_boot.proofs.Causes.{source_failed}
-use Rattle.cmd_unpack.proofs.Counts.{clean_within, failed_within}
+use Rattle.cmd_common_boot.proofs.Calls.{same_counting}
+use Rattle.cmd_unpack.proofs.Counts.{clean_within, failed_within, unopened}
 use Rattle.cmd_unpack.proofs.Wholes.{has_as, keeps_let_go, keeps_same, only_opened, twice}
 use Rattle.cmd_unpack_aosp.specs.AospFiles.{UnpacksAsAosp}
 use Rattle.cmd_unpack_aosp.proofs.Files.{only_files, taken_refused, unpack_refused, unpacks_all}
@@ -15,14 +15,14 @@ pub returns-in-Err : goal.returns-in-Err
 returns-in-Err g c = record {
   done = λ t. tt;
   only = λ t.
-      among_none _ _ _ _ _ 1 (c.requires.first t).begun (c.in-Err.ensures.kept t) (c.in-Err.ensures.world t);
+      among_none _ _ _ _ _ _ (c.requires.first t).begun (c.in-Err.ensures.kept t) (c.in-Err.ensures.world t);
   keeps = record {
     input = λ t. keeps_same _ _ _ (c.in-Err.ensures.world t);
     clean = λ t. tt;
   };
   refused = λ t.
-      inl (host_image (path_of c.args.input) (g.D.Disk.world c.args.disk.now) _ _ _ _ c.into.ensures
-      (source_failed _ _ (c.in-Err.ensures.kept t)));
+      inl (unopened (path_of c.args.input) (g.D.Disk.world c.args.disk.now) _ _ _ _ _ c.into.ensures
+      (c.in-Err.ensures.kept t));
   quiet = refl;
 }
 
@@ -44,7 +44,7 @@ returns-in-Err-open g c = record {
       (section_refused _ _ ⊥ _ _ c.refused_in.ensures
       (opened c.in-Err-open.fault (g.D.At.Source.content c.in-Ok.device) _ _ _ c.in-Err-open.ensures.reads.cause
       (c.in-Err-open.ensures.opens told)))
-      (λ failed. open_failed _ _ _ _ _ _ _ _ (c.in-Ok.ensures.opened t) (c.in-Ok.ensures.clean t)
+      (λ cause failed. open_failed _ _ _ _ _ _ _ _ _ cause (c.in-Ok.ensures.opened t) (c.in-Ok.ensures.clean t)
       (c.let_go_source.ensures.held t) failed)
       (λ none. absurd none));
   quiet = refl;
@@ -87,18 +87,18 @@ returns-in-Ok-write_files g c = record {
       let told = g.met.D.Disk.source_told t in
       only_files _ _ _ _ _ _ _ _ _ _ _ _ _ _ _ (c.requires.first t).begun (c.in-Ok.ensures.opened t)
       (c.in-Ok-refuse_taken.ensures.world t ∙ c.in-Ok.ensures.world t) (c.in-Ok-open.ensures.opens told).has
-      (c.in-Ok-refuse_taken.ensures.clean t) (c.in-Ok-write_files.ensures.writes t).1.only
+      (c.in-Ok-refuse_taken.ensures.clean t ∙ sym (same_counting _)) (c.in-Ok-write_files.ensures.writes t).1.only
       (c.let_go_source-in-Ok-write_files.ensures.held t) (c.let_go_source-in-Ok-write_files.ensures.world t);
   keeps = record {
     input = λ t.
         keeps_let_go _ _ _ _ _ _ _ _ _ _ _ _ _ _ (c.in-Ok.ensures.opened t)
         (c.in-Ok-refuse_taken.ensures.world t ∙ c.in-Ok.ensures.world t)
-        (c.in-Ok-refuse_taken.ensures.clean t) (c.in-Ok-write_files.ensures.writes t).1.only
+        (c.in-Ok-refuse_taken.ensures.clean t ∙ sym (same_counting _)) (c.in-Ok-write_files.ensures.writes t).1.only
         (c.let_go_source-in-Ok-write_files.ensures.held t) (c.let_go_source-in-Ok-write_files.ensures.world t);
     clean = λ t.
-        clean_within _ _ _ _ _ _ _ _ _ _ _ (c.in-Ok.ensures.opened t) (c.in-Ok.ensures.clean t)
+        clean_within _ _ _ _ _ _ _ _ _ _ _ _ (c.in-Ok.ensures.opened t) (c.in-Ok.ensures.clean t)
         c.in-Ok-open.ensures.reads.only.clean
-        (c.in-Ok-refuse_taken.ensures.clean t) (c.in-Ok-write_files.ensures.writes t).1.clean
+        (c.in-Ok-refuse_taken.ensures.clean t ∙ sym (same_counting _)) (c.in-Ok-write_files.ensures.writes t).1.clean
         (c.let_go_source-in-Ok-write_files.ensures.held t);
   };
   refused = λ t. tt;
@@ -113,13 +113,13 @@ returns-in-Err-write_files g c = record {
       let told = g.met.D.Disk.source_told t in
       only_files _ _ _ _ _ _ _ _ _ _ _ _ _ _ _ (c.requires.first t).begun (c.in-Ok.ensures.opened t)
       (c.in-Ok-refuse_taken.ensures.world t ∙ c.in-Ok.ensures.world t) (c.in-Ok-open.ensures.opens told).has
-      (c.in-Ok-refuse_taken.ensures.clean t) (c.in-Err-write_files.ensures.writes t).1.only
+      (c.in-Ok-refuse_taken.ensures.clean t ∙ sym (same_counting _)) (c.in-Err-write_files.ensures.writes t).1.only
       (c.let_go_source-in-Err-write_files.ensures.held t) (c.let_go_source-in-Err-write_files.ensures.world t);
   keeps = record {
     input = λ t.
         keeps_let_go _ _ _ _ _ _ _ _ _ _ _ _ _ _ (c.in-Ok.ensures.opened t)
         (c.in-Ok-refuse_taken.ensures.world t ∙ c.in-Ok.ensures.world t)
-        (c.in-Ok-refuse_taken.ensures.clean t) (c.in-Err-write_files.ensures.writes t).1.only
+        (c.in-Ok-refuse_taken.ensures.clean t ∙ sym (same_counting _)) (c.in-Err-write_files.ensures.writes t).1.only
         (c.let_go_source-in-Err-write_files.ensures.held t) (c.let_go_source-in-Err-write_files.ensures.world t);
     clean = λ t. tt;
   };
@@ -128,8 +128,8 @@ returns-in-Err-write_files g c = record {
       let same = c.in-Ok-open.ensures.reads.only.content told in
       unpack_refused _ _ _ _ _ _ _ _ (opens_as _ _ _ _ _ _ same (c.in-Ok.ensures.opened t))
       (c.in-Err-write_files.ensures.refused t (opened_as _ _ c.in-Ok-open.image same (c.in-Ok-open.ensures.opens told)))
-      (λ failed. failed_within _ _ _ _ _ _ _ _ _ _ _ (c.in-Ok.ensures.opened t) (c.in-Ok.ensures.clean t)
-      c.in-Ok-open.ensures.reads.only.clean (c.in-Ok-refuse_taken.ensures.clean t) failed
-      (c.let_go_source-in-Err-write_files.ensures.held t));
+      (λ cause failed. failed_within _ _ _ _ _ _ _ _ _ _ _ _ (c.in-Ok.ensures.opened t) (c.in-Ok.ensures.clean t)
+      c.in-Ok-open.ensures.reads.only.clean (c.in-Ok-refuse_taken.ensures.clean t ∙ sym (same_counting _))
+      (c.let_go_source-in-Err-write_files.ensures.held t) cause failed);
   quiet = refl;
 }

@@ -1,10 +1,8 @@
-use Rattle.std.proofs.Common.{◌≡◌, ◌∙◌, ◌<◌, ap, arith, refl, sym, true, inl, inr}
-use Rattle.std.specs.Prelude.{Some, option_map}
-use Rattle.abt_sections.specs.Header.{view_of}
+use Rattle.std.proofs.Common.{true, inl, inr}
 use Rattle.cmd_common_boot.proofs.Causes.{host_refused, ok_gives, told_so}
 use Rattle.cmd_unpack.proofs.Counts.{copy_failed, end_failed, none_created}
 use Rattle.cmd_unpack.proofs.Loops.{part_done}
-use Rattle.cmd_unpack.proofs.UnpackSteps.{part_broken, part_refused, part_written, parts_none}
+use Rattle.cmd_unpack.proofs.UnpackSteps.{part_broken, part_refused, part_written}
 use Rattle.cmd_unpack_aosp.proofs.Files.{file_done, file_named, fragment_bytes, fragment_found, fragment_in_count}
 use Rattle.cmd_unpack_aosp.proofs.Files.{nothing_begun}
 use Rattle.cmd_unpack_aosp.proofs.write_part.write_fragment.Goals as goal
@@ -25,12 +23,12 @@ returns-in-Err g c = record {
     part_refused (file_named _ _ c.args.i c.in-Some.name.now _
         (fragment_in_count _ c.args.i c.args.index c.requires.behind c.requires.there)
         (fragment_found _ c.args.i c.args.index _ c.requires.behind c.in-Some.ensures)
-        c.place_in-place.ensures) (c.requires.one t)
-        (c.in-Err.ensures.kept t) (c.in-Err.ensures.only t) (c.in-Err.ensures.begun t),
+        c.place_in-place.ensures) _ (c.requires.one t)
+        (c.in-Err.ensures.kept t) (c.in-Err.ensures.only t) (c.in-Err.ensures.begun t) (c.in-Err.ensures.guarded t),
   );
   done = λ t. tt;
   refused = λ t opened.
-      inl (host_refused _ _ _ _ _ c.into.ensures (none_created _ _ _ (c.in-Err.ensures.kept t)));
+      inl (host_refused _ _ _ _ _ c.into.ensures (none_created _ _ _ _ (c.in-Err.ensures.kept t)));
 }
 
 -- it was written
@@ -76,9 +74,9 @@ returns-in-Err-finish g c = record {
       let told = g.met.D.Disk.source_told t in
       inl (told_so _ (g.D.At.Source.content c.args.source.now) _ _ _ _ _ _ (c.in-Err-finish.ensures.told t)
       (copies.refused told opened)
-      (λ done failed. end_failed _ _ _ _ _ _ _ _ _ _ (c.in-Ok.ensures.created t) (c.in-Ok.ensures.clean t)
-      (ok_gives _ _ done copies.clean) failed)
-      (λ failed. copy_failed _ _ _ _ _ _ _ _ _ _ (c.in-Ok.ensures.created t) (c.in-Ok.ensures.clean t)
-      (c.in-Err-finish.ensures.counts t) failed)
+      (λ done cause failed. end_failed _ _ _ _ _ _ _ _ _ (c.in-Ok.ensures.created t)
+      (ok_gives _ _ done copies.clean).0 cause failed)
+      (λ cause failed. copy_failed _ _ _ _ _ _ _ _ _ _ (c.in-Ok.ensures.created t) (c.in-Ok.ensures.clean t)
+      (c.in-Err-finish.ensures.counts t) cause failed)
       (λ done none. none));
 }

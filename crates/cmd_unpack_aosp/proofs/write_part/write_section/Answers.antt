@@ -1,5 +1,5 @@
-use Rattle.std.proofs.Common.{◌≡◌, ◌∙◌, ◌<◌, ap, arith, refl, sym, true, inl, inr}
-use Rattle.std.specs.Prelude.{Some, option_map}
+use Rattle.std.proofs.Common.{◌∙◌, ap, refl, sym, true, inl}
+use Rattle.std.specs.Prelude.{option_map}
 use Rattle.abt_sections.specs.Header.{view_of}
 use Rattle.cmd_common_boot.proofs.Causes.{host_refused, ok_gives, told_so}
 use Rattle.cmd_unpack.proofs.Counts.{copy_failed, end_failed, none_created}
@@ -31,12 +31,12 @@ returns-in-Err g c = record {
         (section_name_at _ c.args.i c.section.result c.requires.there
         c.section.ensures.value ∙ ap (λ b. name_of_section b c.section.result) (sym c.has_table.ensures)
         ∙ sym c.section_file.ensures ∙ ap (option_map (λ n. n.now)) c.in-Some.is)
-        c.place_in-place.ensures) (c.requires.one t)
-        (c.in-Err.ensures.kept t) (c.in-Err.ensures.only t) (c.in-Err.ensures.begun t),
+        c.place_in-place.ensures) _ (c.requires.one t)
+        (c.in-Err.ensures.kept t) (c.in-Err.ensures.only t) (c.in-Err.ensures.begun t) (c.in-Err.ensures.guarded t),
   );
   done = λ t. tt;
   refused = λ t opened.
-      inl (host_refused _ _ _ _ _ c.into.ensures (none_created _ _ _ (c.in-Err.ensures.kept t)));
+      inl (host_refused _ _ _ _ _ c.into.ensures (none_created _ _ _ _ (c.in-Err.ensures.kept t)));
 }
 
 -- it was written
@@ -85,9 +85,9 @@ returns-in-Err-finish g c = record {
       let told = g.met.D.Disk.source_told t in
       inl (told_so _ (g.D.At.Source.content c.args.source.now) _ _ _ _ _ _ (c.in-Err-finish.ensures.told t)
       (copies.refused told opened)
-      (λ done failed. end_failed _ _ _ _ _ _ _ _ _ _ (c.in-Ok.ensures.created t) (c.in-Ok.ensures.clean t)
-      (ok_gives _ _ done copies.clean) failed)
-      (λ failed. copy_failed _ _ _ _ _ _ _ _ _ _ (c.in-Ok.ensures.created t) (c.in-Ok.ensures.clean t)
-      (c.in-Err-finish.ensures.counts t) failed)
+      (λ done cause failed. end_failed _ _ _ _ _ _ _ _ _ (c.in-Ok.ensures.created t)
+      (ok_gives _ _ done copies.clean).0 cause failed)
+      (λ cause failed. copy_failed _ _ _ _ _ _ _ _ _ _ (c.in-Ok.ensures.created t) (c.in-Ok.ensures.clean t)
+      (c.in-Err-finish.ensures.counts t) cause failed)
       (λ done none. none));
 }
