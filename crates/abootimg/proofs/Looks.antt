@@ -1,23 +1,39 @@
 -- Files that are opened once before the orders of a tool begin.
-use Rattle.std.proofs.Common.{arith, ◌≡◌, ◌<◌, ◌+◌, ℕ, List, [], ◌∷◌, ◌++◌, Bool, sym, ◌∙◌, ap, subst, append_assoc}
+use Rattle.std.proofs.Common.{arith, ◌≡◌, ◌<◌, ◌+◌, ℕ, List, [], ◌∷◌, ◌++◌, Bool, refl, sym, ◌∙◌, ap, subst}
+use Rattle.std.proofs.Common.{append_assoc}
 use Rattle.std.specs.Prelude.{Contains, IfSome, IsTrue, None, Option, Some, get_or, length, take}
 use Rattle.std.proofs.lemmas.List.Elements.{All-more, All-nil, All-weaker, Contains-append_left}
 use Rattle.words_orders.specs.declared.order.Given.{Given}
 use Rattle.std.proofs.lemmas.List.{append-nil}
-use Rattle.sys_disk.specs.World.{World, OpenFiles, OpensFile, HasFailed, failing}
-use Rattle.cmd_common_boot.proofs.Calls.{same_failing}
+use Rattle.sys_disk.specs.World.{World, OpenFiles, OpensFile, HasFailed, counting}
+use Rattle.sys_disk.specs.Counts.{Cause, call, of_reading, reading, reads, writing}
+use Rattle.cmd_common_boot.proofs.Calls.{same_counting}
+use std.Path.{fun_ext}
 use Rattle.abootimg.specs.OrderDone.{IsReadyForOrder}
 use Rattle.abootimg.specs.LooksAhead.{IsReadAhead, LooksAhead, OpensThese, file_word}
 
 pub reads_none : (h : OpenFiles) → OpensThese h h
 reads_none h = record { files = []; taken = ap (λ (l : List ℕ). record h { read = l }) (sym (append-nil h.read)) }
 
+no_reading : (cause : Cause) → of_reading 0 cause ≡ 0
+no_reading (call fault) = refl
+no_reading reading = refl
+no_reading writing = refl
+
+-- a device was opened and is closed, and nothing was read
+counting_unread : (given faults : ℕ) (h : OpenFiles) → given ≡ 0 → faults ≡ 0 → counting (reads given faults) h ≡ h
+counting_unread given faults h unread clean =
+    let none : of_reading 0 ≡ (λ cause. 0) = fun_ext no_reading in
+    ap (λ n. counting (reads n faults) h) unread ∙ ap (λ n. counting (reads 0 n) h) clean
+    ∙ ap (λ (f : Cause → ℕ). counting (record { failed = f; given = 0 }) h) none ∙ same_counting h
+
 -- a file is opened, and closed again
-pub reads_one : (w : World) (path bytes : List ℕ) (h h' h'' : OpenFiles) (n : ℕ) → OpensFile w path bytes h h' → n ≡ 0
-    → h'' ≡ failing n h' → OpensThese h h''
-reads_one w path bytes h h' h'' n opens none let_go = record {
+pub reads_one : (w : World) (path bytes : List ℕ) (h h' h'' : OpenFiles) (given faults : ℕ)
+    → OpensFile w path bytes h h' → given ≡ 0 → faults ≡ 0 → h'' ≡ counting (reads given faults) h'
+    → OpensThese h h''
+reads_one w path bytes h h' h'' given faults opens unread clean let_go = record {
   files = opens.file ∷ [];
-  taken = let_go ∙ ap (λ k. failing k h') none ∙ same_failing h' ∙ opens.taken;
+  taken = let_go ∙ counting_unread given faults h' unread clean ∙ opens.taken;
 }
 
 pub reads_on : (h h' h'' : OpenFiles) → OpensThese h h' → OpensThese h' h'' → OpensThese h h''
@@ -30,9 +46,11 @@ reads_on h h' h'' first more = record {
 pub reads_begun : (h h' : OpenFiles) → OpensThese h h' → h.begun ≡ [] → h'.begun ≡ []
 reads_begun h h' reads none = ap (λ k. k.begun) reads.taken ∙ none
 
-pub reads_failed : (h h' h'' : OpenFiles) → OpensThese h h' → HasFailed h' h'' → HasFailed h h''
-reads_failed h h' h'' reads failed =
-    let same : h'.failed ≡ h.failed = ap (λ k. k.failed) reads.taken in omega (arith, same, failed)
+pub reads_failed : (cause : Cause) (h h' h'' : OpenFiles) → OpensThese h h' → HasFailed cause h' h''
+    → HasFailed cause h h''
+reads_failed cause h h' h'' opened failed =
+    let same : h'.counts.failed cause ≡ h.counts.failed cause = ap (λ k. k.counts.failed cause) opened.taken in
+    omega (arith, same, failed)
 
 pub reads_ready : (h h' : OpenFiles) → OpensThese h h' → IsReadyForOrder h → IsReadyForOrder h'
 reads_ready h h' reads ready = record {

@@ -6,12 +6,12 @@ use Rattle.sys_report.specs.declared.report.Report.{Report}
 use Rattle.sys_refusals.specs.Host.{is_not_text}
 use Rattle.words_orders.specs.declared.order.SparseTask.{SparseTask}
 use Rattle.cmd_common_sparse.specs.declared.fault.SparseCommandFault.{SparseCommandFault}
-use Rattle.cmd_common_boot.specs.Fault.{IsOutsideBoot, is_usage}
+use Rattle.sys_disk.specs.Counts.{Cause}
+use Rattle.cmd_common_boot.specs.Fault.{IsCauseOf, is_usage}
 use Rattle.cmd_common_boot.specs.declared.fault.BootCommandFault.{BootCommandFault}
 use Rattle.cmd_common_boot.specs.declared.fault.BootCommandFault.TheVariants as faults
 use Rattle.cmd_common_boot.specs.declared.pack_command.PackCommand.{PackCommand}
 use Rattle.abt_sections.specs.Header.{Header}
-use Rattle.cmd_common_boot.specs.ImageFaults.{RefusesImage}
 use Rattle.cmd_pack.specs.Refusing as packing
 use Rattle.cmd_pack.specs.Refusing.{RefusesPack}
 use Rattle.cmd_pack.specs.RefusingAgain as again
@@ -105,14 +105,14 @@ boot_refused fault (Err e) n kind w w' h h' report told none is refuses not = re
 one_is_two : ◌≡◌ {A = ℕ} 1 2 → ⊥
 one_is_two is = omega (arith, is)
 
-outside : (fault : BootCommandFault) → IsOutsideBoot fault → status_of_boot fault ≡ 2 → ⊥
-outside (faults.Host f) is two = one_is_two two
-outside (faults.Section f) is two = one_is_two two
-outside (faults.OptionNotCarried name) is two = is
-outside (faults.BadFragment word) is two = is
-outside (faults.BadNumber word) is two = is
-outside (faults.BadBoardId word) is two = is
-outside faults.CheckFailed is two = is
+outside : (fault : BootCommandFault) (cause : Cause) → IsCauseOf fault cause → status_of_boot fault ≡ 2 → ⊥
+outside (faults.Host f) cause is two = one_is_two two
+outside (faults.Section f) cause is two = one_is_two two
+outside (faults.OptionNotCarried name) cause is two = is
+outside (faults.BadFragment word) cause is two = is
+outside (faults.BadNumber word) cause is two = is
+outside (faults.BadBoardId word) cause is two = is
+outside faults.CheckFailed cause is two = is
 
 pack_same : (command : PackCommand) (w w' : World) (h h' : OpenFiles) (Done : Type 0) (fault : BootCommandFault)
     → RefusesPack command w w' h h' Done fault → status_of_boot fault ≡ 2 → w' ≡ w
@@ -121,19 +121,21 @@ pack_same command w w' h h' Done fault (packing.bad_board bad same) two = same
 pack_same command w w' h h' Done fault (packing.not_packed f is not same) two = same
 pack_same command w w' h h' Done fault (packing.no_path path given not is same) two = same
 pack_same command w w' h h' Done fault (packing.too_little is same) two = same
-pack_same command w w' h h' Done fault (packing.failed out has) two = absurd (outside fault out two)
+pack_same command w w' h h' Done fault (packing.failed is) two =
+    absurd (outside fault is.cause is.is_cause two)
 pack_same command w w' h h' Done fault (packing.untold f is done) two =
     absurd (one_is_two (sym (ap status_of_boot is) ∙ two))
 
-again_same : (command : PackCommand) (x : List ℕ) (header : Header) (w w' : World) (Failed Done : Type 0)
-    (fault : BootCommandFault)
+again_same : (command : PackCommand) (x : List ℕ) (header : Header) (w w' : World) (Failed : Cause → Type 0)
+    (Done : Type 0) (fault : BootCommandFault)
     → RefusesAgain command x header w w' Failed Done fault → status_of_boot fault ≡ 2 → w' ≡ w
 again_same command x header w w' Failed Done fault (again.wrong_words wrong same) two = same
 again_same command x header w w' Failed Done fault (again.wrong_board bad same) two = same
 again_same command x header w w' Failed Done fault (again.not_packed f is not same) two = same
 again_same command x header w w' Failed Done fault (again.no_text path given not is same) two = same
 again_same command x header w w' Failed Done fault (again.no_memory is same) two = same
-again_same command x header w w' Failed Done fault (again.failed out has) two = absurd (outside fault out two)
+again_same command x header w w' Failed Done fault (again.failed is) two =
+    absurd (outside fault is.cause is.is_cause two)
 again_same command x header w w' Failed Done fault (again.untold f is done) two =
     absurd (one_is_two (sym (ap status_of_boot is) ∙ two))
 
@@ -144,17 +146,7 @@ repack_same input command w w' h h' Done fault (again.no_image image same) two =
 repack_same input command w w' h h' Done fault (again.not_again x header begins refuses) two =
     again_same command x header w w' _ Done fault refuses two
 
-image_not_two : (path : List ℕ) (w : World) (Failed Unprinted : Type 0) (fault : BootCommandFault)
-    → RefusesImage path w Failed Unprinted fault → status_of_boot fault ≡ 2 → ⊥
-image_not_two path w Failed Unprinted (faults.Host f) is two = one_is_two two
-image_not_two path w Failed Unprinted (faults.Section f) is two = one_is_two two
-image_not_two path w Failed Unprinted (faults.OptionNotCarried name) is two = is
-image_not_two path w Failed Unprinted (faults.BadFragment word) is two = is
-image_not_two path w Failed Unprinted (faults.BadNumber word) is two = is
-image_not_two path w Failed Unprinted (faults.BadBoardId word) is two = is
-image_not_two path w Failed Unprinted faults.CheckFailed is two = is
-
--- `info` changes no file, whatever its status
+-- `info` changes no file, whatever its status, and no fault of `unpack` has status 2
 pub kind_same : (fault : BootCommandFault) (kind : BootCommandKind) (w w' : World) (h h' : OpenFiles)
     (report told : Report)
     → SparesKind kind w h w' h' → RefusesKind fault kind w h report w' h' told → status_of_boot fault ≡ 2 → w' ≡ w
@@ -162,8 +154,20 @@ kind_same fault (kinds.Pack command) w w' h h' report told spares is two =
     pack_same command w w' h h' _ fault is two
 kind_same fault (kinds.Repack input command) w w' h h' report told spares is two =
     repack_same input.now command w w' h h' _ fault is two
-kind_same fault (kinds.Unpack input folder words) w w' h h' report told spares is two =
-    absurd (image_not_two input.now w _ _ fault is two)
+kind_same (faults.Host f) (kinds.Unpack input folder words) w w' h h' report told spares is two =
+    absurd (one_is_two two)
+kind_same (faults.Section f) (kinds.Unpack input folder words) w w' h h' report told spares is two =
+    absurd (one_is_two two)
+kind_same (faults.OptionNotCarried name) (kinds.Unpack input folder words) w w' h h' report told spares is two =
+    absurd is
+kind_same (faults.BadFragment word) (kinds.Unpack input folder words) w w' h h' report told spares is two =
+    absurd is
+kind_same (faults.BadNumber word) (kinds.Unpack input folder words) w w' h h' report told spares is two =
+    absurd is
+kind_same (faults.BadBoardId word) (kinds.Unpack input folder words) w w' h h' report told spares is two =
+    absurd is
+kind_same faults.CheckFailed (kinds.Unpack input folder words) w w' h h' report told spares is two =
+    absurd is
 kind_same fault (kinds.Info input check hex) w w' h h' report told spares is two = spares
 
 pub boot_same : {X E : Type 0} (fault : E → BootCommandFault) (r : Result X E) (n : ℕ) (kind : BootCommandKind)

@@ -4,7 +4,8 @@ use Rattle.std.proofs.Common.{inl, inr}
 use Rattle.std.specs.Prelude.{Result, Ok, Err, IfErr, OnOk}
 use Rattle.abt_sections.specs.Header.{Header}
 use Rattle.abt_sections.specs.Open.{HasImage}
-use Rattle.sys_disk.specs.World.{World, OpenFiles, OpensFile, HasFailed, HasNotFailed, KeepsFile, failing}
+use Rattle.sys_disk.specs.World.{World, OpenFiles, OpensFile, HasFailed, HasNotFailed, KeepsFile, counting}
+use Rattle.sys_disk.specs.Counts.{Cause, Counts}
 use Rattle.sys_disk.specs.Among.{OnlyAmong}
 use Rattle.sys_report.specs.declared.report.Report.{Report}
 use Rattle.sys_host.specs.Answering.{PrintsNothing}
@@ -14,7 +15,7 @@ use Rattle.cmd_unpack_aosp.specs.AospFiles.{IsFileOf, RefusesUnpack, UnpacksAsAo
 use Rattle.cmd_unpack_aosp_texts.specs.Texts.{aosp_text}
 use Rattle.cmd_unpack_aosp_texts.specs.declared.text.AospText.{AospText}
 use Rattle.abootimg.specs.OrderDone.{IsReadyForOrder}
-use Rattle.abootimg.specs.Stored.{KeepsStored, Stored, failing_more, stored}
+use Rattle.abootimg.specs.Stored.{KeepsStored, Stored, counting_more, stored}
 use Rattle.abootimg.specs.UnpackEnds.{PartsEnd, PartsOn, PrintsText, PrintsTextOf, StepStays, TextStep, UnpackBegun}
 use Rattle.abootimg.specs.UnpackEnds.{UnpackEnds, text_wanted}
 use Rattle.abootimg.proofs.Refusals.{not_one}
@@ -22,41 +23,57 @@ use Rattle.abootimg.proofs.Refusals.{not_one}
 -- ---- no file is changed
 
 pub kept_none : (a : Stored) → KeepsStored a a
-kept_none a = record { same = refl; rises = omega arith }
+kept_none a = record { same = refl; rises = λ cause. omega arith }
 
 pub kept_then : (a b z : Stored) → KeepsStored a b → KeepsStored b z → KeepsStored a z
-kept_then a b z first next =
-    let up : a.failed ≤ b.failed = first.rises in
-    let more : b.failed ≤ z.failed = next.rises in
-    record { same = next.same ∙ first.same; rises = omega (arith, up, more) }
+kept_then a b z first next = record {
+  same = next.same ∙ first.same;
+  rises = λ cause.
+      let up : a.counts.failed cause ≤ b.counts.failed cause = first.rises cause in
+      let more : b.counts.failed cause ≤ z.counts.failed cause = next.rises cause in
+      omega (arith, up, more);
+}
 
-pub kept_failing : (w w' : World) (h h' : OpenFiles) (n : ℕ) → w' ≡ w → h' ≡ failing n h
+-- one is more of the other
+more_by : (m n k : ℕ) → m ≡ n + k → n ≤ m
+more_by m n k is = omega (arith, is)
+
+pub kept_counting : (w w' : World) (h h' : OpenFiles) (n : Counts) → w' ≡ w → h' ≡ counting n h
     → KeepsStored (stored w h) (stored w' h')
-kept_failing w w' h h' n same failed =
-    let e : h'.failed ≡ h.failed + n = ap (λ (k : OpenFiles). k.failed) failed in
-    record { same = same; rises = omega (arith, e) }
+kept_counting w w' h h' n same counted = record {
+  same = same;
+  rises = λ cause. more_by (h'.counts.failed cause) (h.counts.failed cause) (n.failed cause)
+      (ap (λ (k : OpenFiles). k.counts.failed cause) counted);
+}
 
 pub kept_opening : (w w' : World) (path x : List ℕ) (h h' : OpenFiles) → OpensFile w path x h h' → w' ≡ w
     → KeepsStored (stored w h) (stored w' h')
-kept_opening w w' path x h h' opens same =
-    let e : h'.failed ≡ h.failed = ap (λ (k : OpenFiles). k.failed) opens.taken in
-    record { same = same; rises = omega (arith, e) }
+kept_opening w w' path x h h' opens same = record {
+  same = same;
+  rises = λ cause.
+      let e : h'.counts.failed cause ≡ h.counts.failed cause
+      = ap (λ (k : OpenFiles). k.counts.failed cause) opens.taken in
+      omega (arith, e);
+}
 
-pub kept_counted : (a z : Stored) (n : ℕ) → z ≡ failing_more n a → KeepsStored a z
-kept_counted a z n counted =
-    let e : z.failed ≡ a.failed + n = ap (λ (s : Stored). s.failed) counted in
-    record { same = ap (λ (s : Stored). s.world) counted; rises = omega (arith, e) }
+pub kept_counted : (a z : Stored) (n : Counts) → z ≡ counting_more n a → KeepsStored a z
+kept_counted a z n counted = record {
+  same = ap (λ (s : Stored). s.world) counted;
+  rises = λ cause. more_by (z.counts.failed cause) (a.counts.failed cause) (n.failed cause)
+      (ap (λ (s : Stored). s.counts.failed cause) counted);
+}
 
 -- what is done on a disk that is given back
-kept_from : (a z : Stored) (w w' : World) (h h' : OpenFiles) → w ≡ a.world → h.failed ≡ a.failed
+kept_from : (a z : Stored) (w w' : World) (h h' : OpenFiles) → w ≡ a.world → h.counts ≡ a.counts
     → KeepsStored (stored w h) (stored w' h') → z ≡ stored w' h' → KeepsStored a z
-kept_from a z w w' h h' first begins kept back =
-    let upto : z.failed ≡ h'.failed = ap (λ (s : Stored). s.failed) back in
-    let rises : h.failed ≤ h'.failed = kept.rises in
-    record {
-      same = ap (λ (s : Stored). s.world) back ∙ (kept.same ∙ first);
-      rises = omega (arith, begins, upto, rises);
-    }
+kept_from a z w w' h h' first begins kept back = record {
+  same = ap (λ (s : Stored). s.world) back ∙ (kept.same ∙ first);
+  rises = λ cause.
+      let from : h.counts.failed cause ≡ a.counts.failed cause = ap (λ (n : Counts). n.failed cause) begins in
+      let upto : z.counts.failed cause ≡ h'.counts.failed cause = ap (λ (s : Stored). s.counts.failed cause) back in
+      let rises : h.counts.failed cause ≤ h'.counts.failed cause = kept.rises cause in
+      omega (arith, from, upto, rises);
+}
 
 -- ---- a step that changes no file
 
@@ -76,7 +93,7 @@ step_refused a z r r' n kept one = record {
 
 -- it is made on a disk that is given back
 pub step_from : (a z : Stored) (w w' : World) (h h' : OpenFiles) (r r' : Report) (n : ℕ) → w ≡ a.world
-    → h.failed ≡ a.failed → StepStays (stored w h) r (stored w' h') r' n → z ≡ stored w' h' → StepStays a r z r' n
+    → h.counts ≡ a.counts → StepStays (stored w h) r (stored w' h') r' n → z ≡ stored w' h' → StepStays a r z r' n
 step_from a z w w' h h' r r' n first begins stays back = record {
   kept = kept_from a z w w' h h' first begins stays.kept back;
   status_is = stays.status_is;
@@ -84,12 +101,12 @@ step_from a z w w' h h' r r' n first begins stays back = record {
 }
 
 -- it is made in a file that is opened, and closed again
-pub step_over : (w v u w' : World) (path x : List ℕ) (h k l h' : OpenFiles) (r r' : Report) (m n : ℕ)
-    → OpensFile w path x h k → v ≡ w → StepStays (stored v k) r (stored u l) r' n → w' ≡ u → h' ≡ failing m l
+pub step_over : (w v u w' : World) (path x : List ℕ) (h k l h' : OpenFiles) (r r' : Report) (m : Counts)
+    (n : ℕ) → OpensFile w path x h k → v ≡ w → StepStays (stored v k) r (stored u l) r' n → w' ≡ u → h' ≡ counting m l
     → StepStays (stored w h) r (stored w' h') r' n
 step_over w v u w' path x h k l h' r r' m n opens same stays back closed = record {
   kept = kept_then _ _ _ (kept_then _ _ _ (kept_opening w v path x h k opens same) stays.kept)
-      (kept_failing u w' l h' m back closed);
+      (kept_counting u w' l h' m back closed);
   status_is = stays.status_is;
   quiet = stays.quiet;
 }
@@ -112,12 +129,16 @@ pub zero_done : {X E : Type 0} (r : Result X E) (n : ℕ) (P : Type 0) → IfErr
 zero_done (Ok x) n P one none is = is
 zero_done (Err e) n P one none is = absurd (not_one n one none)
 
+-- two that are the same
+no_more : (m n : ℕ) → n ≡ m → m ≤ n
+no_more m n same = omega (arith, same)
+
 -- the result of the command, and its status
 pub parts_told : {X E : Type 0} (fault : E → BootCommandFault) (r : Result X E) (n : ℕ) (path : List ℕ)
     (image : UnpackImage) (w w' : World) (h h' : OpenFiles) → path ≡ image.input.now → OnOk r (n ≡ 0)
     → IfErr r (λ e. n ≡ 1) → OnOk r (UnpacksAsAosp path image.folder.now w w')
     → OnlyAmong (IsFileOf path image.folder.now w) h.read h'.begun w w' → KeepsFile path w w'
-    → OnOk r (HasNotFailed h h') → IfErr r (λ e. RefusesUnpack path w (HasFailed h h') (fault e))
+    → OnOk r (HasNotFailed h h') → IfErr r (λ e. RefusesUnpack path w (λ cause. HasFailed cause h h') (fault e))
     → PartsOn image w h w' h' n
 parts_told fault (Ok x) n path image w w' h h' at none one done only keeps clean refuses = record {
   done = λ is. subst (λ p. UnpacksAsAosp p image.folder.now w w') at done;
@@ -133,22 +154,23 @@ parts_told fault (Err e) n path image w w' h h' at none one done only keeps clea
   status_is = omega (arith, one);
   refused = λ not. record {
     fault = fault e;
-    refuses = subst (λ p. RefusesUnpack p w (HasFailed h h') (fault e)) at refuses;
+    refuses = subst (λ p. RefusesUnpack p w (λ cause. HasFailed cause h h') (fault e)) at refuses;
   };
   only = subst (λ p. OnlyAmong (IsFileOf p image.folder.now w) h.read h'.begun w w') at only;
   keeps = subst (λ p. KeepsFile p w w') at keeps;
 }
 
 pub parts_from : (image : UnpackImage) (a z : Stored) (w w' : World) (h h' : OpenFiles) (n : ℕ) → w ≡ a.world
-    → h.failed ≡ a.failed → IsReadyForOrder h → PartsOn image w h w' h' n → z ≡ stored w' h' → PartsEnd image a z n
+    → h.counts ≡ a.counts → IsReadyForOrder h → PartsOn image w h w' h' n → z ≡ stored w' h' → PartsEnd image a z n
 parts_from image a z w w' h h' n first begins ready parts back =
-    let upto : z.failed ≡ h'.failed = ap (λ (s : Stored). s.failed) back in
     record {
       held = h;
       held' = h';
       ready = ready;
-      from = omega (arith, begins);
-      upto = omega (arith, upto);
+      from = λ cause. no_more (a.counts.failed cause) (h.counts.failed cause)
+          (ap (λ (n : Counts). n.failed cause) begins);
+      upto = λ cause. no_more (h'.counts.failed cause) (z.counts.failed cause)
+          (ap (λ (s : Stored). s.counts.failed cause) back);
       parts = subst (λ (x : World). PartsOn image x h z.world h' n) first
           (subst (λ (s : Stored). PartsOn image w h s.world h' n) (sym back) parts);
     }
@@ -157,16 +179,18 @@ parts_from image a z w w' h h' n first begins ready parts back =
 parts_within : (image : UnpackImage) (a b y z : Stored) (n : ℕ) → KeepsStored a b → PartsEnd image b y n
     → KeepsStored y z → PartsEnd image a z n
 parts_within image a b y z n first parts next =
-    let up : a.failed ≤ b.failed = first.rises in
-    let more : y.failed ≤ z.failed = next.rises in
-    let from : b.failed ≤ parts.held.failed = parts.from in
-    let upto : parts.held'.failed ≤ y.failed = parts.upto in
     record {
       held = parts.held;
       held' = parts.held';
       ready = parts.ready;
-      from = omega (arith, up, from);
-      upto = omega (arith, upto, more);
+      from = λ cause.
+          let up : a.counts.failed cause ≤ b.counts.failed cause = first.rises cause in
+          let from : b.counts.failed cause ≤ parts.held.counts.failed cause = parts.from cause in
+          omega (arith, up, from);
+      upto = λ cause.
+          let more : y.counts.failed cause ≤ z.counts.failed cause = next.rises cause in
+          let upto : parts.held'.counts.failed cause ≤ y.counts.failed cause = parts.upto cause in
+          omega (arith, upto, more);
       parts = subst (λ (x : World). PartsOn image x parts.held z.world parts.held' n) first.same
           (subst (λ (x : World). PartsOn image b.world parts.held x parts.held' n) (sym next.same) parts.parts);
     }
@@ -214,7 +238,7 @@ text_refused image a z r r' n kept one = record {
 }
 
 pub text_from : (image : UnpackImage) (a z : Stored) (w w' : World) (h h' : OpenFiles) (r r' : Report) (n : ℕ)
-    → w ≡ a.world → h.failed ≡ a.failed → TextStep image (stored w h) r (stored w' h') r' n → z ≡ stored w' h'
+    → w ≡ a.world → h.counts ≡ a.counts → TextStep image (stored w h) r (stored w' h') r' n → z ≡ stored w' h'
     → TextStep image a r z r' n
 text_from image a z w w' h h' r r' n first begins text back = record {
   kept = kept_from a z w w' h h' first begins text.kept back;

@@ -1,21 +1,28 @@
 -- What contracts know of where the files of a run are.
-use Rattle.std.specs.Prelude.{◌≡◌, ◌≤◌, ℕ, ◌+◌}
+use Rattle.std.specs.Prelude.{◌≡◌, ◌≤◌, ◌+◌, ℕ, Bool, true, false}
+use Rattle.sys_disk.specs.Counts.{Cause, Counts, added, call_of, no_counts}
 use Rattle.sys_disk.specs.World.{World, OpenFiles}
+use Rattle.sys_refusals.specs.declared.refusal.HostFault.TheVariants as faults
 
--- the files, and how often a call failed, or a device of a disk that was given back, or memory was refused to a disk
+-- the files, and what a run counts
 pub record Stored : Type 0 where
   pub world : World
-  pub failed : ℕ
+  pub counts : Counts
 
 -- what a disk has that is given back
 abbrev pub stored : World → OpenFiles → Stored
-stored world held = record { world = world; failed = held.failed }
+stored world held = record { world = world; counts = held.counts }
 
--- so many calls more have failed, and no file has changed
-abbrev pub failing_more : ℕ → Stored → Stored
-failing_more n s = record s { failed = s.failed + n }
+-- a folder or a link is made, or a call has failed that has the fault `CannotOpen`
+abbrev pub making : Bool → Counts
+making true = no_counts
+making false = call_of faults.CannotOpen
 
--- no file has changed, and perhaps more calls have failed
+-- this much more is counted, and no file has changed
+abbrev pub counting_more : Counts → Stored → Stored
+counting_more n s = record s { counts = added s.counts n }
+
+-- no file has changed, and perhaps more has failed
 pub record KeepsStored (a z : Stored) : Type 0 where
   pub same : z.world ≡ a.world
-  pub rises : a.failed ≤ z.failed
+  pub rises : (cause : Cause) → a.counts.failed cause ≤ z.counts.failed cause

@@ -1,7 +1,9 @@
 -- How a run ends that is called by the name of one of AOSP's tools.
 use Rattle.std.specs.Prelude.{◌≡◌, ◌≢◌, ◌⊎◌, ◌==◌, ℕ, List, Bool, Option, Some, None, Result, Ok, Err, IfOk}
 use Rattle.std.specs.Prelude.{if◌then◌else◌}
+use Rattle.sys_disk.specs.Counts.{call}
 use Rattle.sys_disk.specs.World.{OpenFiles, HasFailed}
+use Rattle.sys_refusals.specs.declared.refusal.HostFault.{HostFault}
 use Rattle.sys_report.specs.declared.report.Report.{Report}
 use Rattle.words_orders.specs.declared.answers.Answer.{Answer}
 use Rattle.words_orders.specs.declared.fault.WordsFault.{WordsFault}
@@ -27,7 +29,7 @@ ArePlain orders = IsPlainOrder orders.first × IsPlainOrder orders.second
 -- before.
 pub record NoneBegun (a z : State) (status : ℕ) : Type 0 where
   pub same : z.world ≡ a.world
-  pub cause : (z.held ≡ a.held) ⊎ HasFailed a.held z.held
+  pub cause : (z.held ≡ a.held) ⊎ ((fault : HostFault) × HasFailed (call fault) a.held z.held)
   pub status_is : status ≢ 0
 
 -- Regular files that the second order reads are opened once, before any order is begun. Both are carried out in turn.
@@ -53,7 +55,7 @@ abbrev pub GivenEnd : (List ℕ → Bool) → (List ℕ → Bool) → Option Unp
     → Report → ℕ → Type 0
 GivenEnd on_output is_file (Some image) orders a report z report' status = UnpackEnds image a report z report' status
 GivenEnd on_output is_file None orders a report z report' status =
-    (held : OpenFiles) × IsReadyForOrder held × (held.failed ≡ a.failed)
+    (held : OpenFiles) × IsReadyForOrder held × (held.counts ≡ a.counts)
     × ((y : State) × (z ≡ stored y.world y.held) × (report' ≡ y.report)
     × OrdersEnd on_output is_file orders (state a.world held report) y status)
 

@@ -2,6 +2,7 @@
 use Rattle.std.specs.Prelude.{◌≡◌, ◌≢◌, ◌≤◌, ◌⊎◌, ◌++◌, ℕ, List, Some}
 use Rattle.abt_sections.specs.Header.{Header}
 use Rattle.abt_sections.specs.Open.{HasImage}
+use Rattle.sys_disk.specs.Counts.{Cause}
 use Rattle.sys_disk.specs.World.{World, OpenFiles, HasFailed, HasNotFailed, KeepsFile}
 use Rattle.sys_disk.specs.Among.{OnlyAmong}
 use Rattle.sys_report.specs.declared.report.Report.{Report}
@@ -50,7 +51,7 @@ pub record StepStays (a : Stored) (report : Report) (z : Stored) (report' : Repo
 -- the command refuses the parts, for a fault of the image or since a call failed
 pub record PartsRefused (image : UnpackImage) (world : World) (held held' : OpenFiles) : Type 0 where
   pub fault : BootCommandFault
-  pub refuses : RefusesUnpack image.input.now world (HasFailed held held') fault
+  pub refuses : RefusesUnpack image.input.now world (λ cause. HasFailed cause held held') fault
 
 -- how the parts are written, on a disk
 pub record PartsOn (image : UnpackImage) (world : World) (held : OpenFiles) (world' : World) (held' : OpenFiles)
@@ -70,8 +71,8 @@ pub record PartsEnd (image : UnpackImage) (a z : Stored) (status : ℕ) : Type 0
   pub held : OpenFiles
   pub held' : OpenFiles
   pub ready : IsReadyForOrder held
-  pub from : a.failed ≤ held.failed
-  pub upto : held'.failed ≤ z.failed
+  pub from : (cause : Cause) → a.counts.failed cause ≤ held.counts.failed cause
+  pub upto : (cause : Cause) → held'.counts.failed cause ≤ z.counts.failed cause
   pub parts : PartsOn image a.world held z.world held' status
 
 -- the text is printed, or that is refused with status 1

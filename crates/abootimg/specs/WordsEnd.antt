@@ -1,5 +1,6 @@
 -- How a run ends that these words of the command line ask for.
 use Rattle.std.specs.Prelude.{◌≡◌, ◌≢◌, ◌⊎◌, ℕ, List, Bool, Result, Ok, Err, IfOk, IfErr, IsTrue, if◌then◌else◌}
+use Rattle.sys_disk.specs.Counts.{call}
 use Rattle.sys_disk.specs.World.{World, OpenFiles, HasFailed}
 use Rattle.sys_refusals.specs.Host.{is_not_text}
 use Rattle.sys_refusals.specs.declared.refusal.HostFault.{HostFault}
@@ -37,7 +38,7 @@ pub record WordsUnread (world : World) (held : OpenFiles) (world' : World) (held
   where
     pub fault : HostFault
     pub same : world' ≡ world
-    pub cause : HasFailed held held' ⊎ (fault ≡ Memory)
+    pub cause : HasFailed (call fault) held held' ⊎ (fault ≡ Memory)
     pub status_is : status ≡ (if is_not_text fault then 2 else 1)
 
 -- An order that is found is what the words ask for. Where none is found, status 2 says that they ask for none.

@@ -1,9 +1,9 @@
 //! Where the files of a run are, whose disks are opened once the words are read.
 
 ghost use Rattle.std.specs.Prelude.{◌≡◌, [], IsTrue, None, is_ok};
-ghost use Rattle.sys_disk.specs.World.{unless};
+ghost use Rattle.sys_disk.specs.Counts.{no_counts};
 ghost use Rattle.abootimg.specs.OrderDone.{IsReadyForOrder};
-ghost use Rattle.abootimg.specs.Stored.{Stored, failing_more, stored};
+ghost use Rattle.abootimg.specs.Stored.{Stored, counting_more, making, stored};
 
 use crate::beginning::Beginning;
 use std::io;
@@ -22,13 +22,13 @@ pub trait Storage {
     /// The disk.
     type Disk: Beginning + Drop;
 
-    /// Its files, and how often a call failed.
+    /// Its files, and what the run counts.
     ghost its: { Self → Stored };
 
-    /// The disk, on which nothing is open. It counts on from what has failed.
+    /// The disk, on which nothing is open. It counts on.
     fn disk(&self) -> Self::Disk
         ensures world { IsTrue Self.Disk.models → Self.Disk.world result ≡ (its self.now).world }
-        ensures failed { IsTrue Self.Disk.models → (Self.Disk.held result).failed ≡ (its self.now).failed }
+        ensures counts { IsTrue Self.Disk.models → (Self.Disk.held result).counts ≡ (its self.now).counts }
         ensures ready { IsTrue Self.Disk.models → IsReadyForOrder (Self.Disk.held result) };
 
     /// Takes the disk back, with what its files hold.
@@ -37,11 +37,11 @@ pub trait Storage {
 
     /// Creates a folder and the folders above it, where they do not exist.
     fn make_folder(&mut self, path: &str) -> io::Result<()>
-        ensures { IsTrue Self.Disk.models → its self.new ≡ failing_more (unless (is_ok result)) (its self.old) };
+        ensures { IsTrue Self.Disk.models → its self.new ≡ counting_more (making (is_ok result)) (its self.old) };
 
     /// Creates a symbolic link to a path. A file or a link of its name is removed before.
     fn replace_link(&mut self, to: &str, path: &str) -> io::Result<()>
-        ensures { IsTrue Self.Disk.models → its self.new ≡ failing_more (unless (is_ok result)) (its self.old) };
+        ensures { IsTrue Self.Disk.models → its self.new ≡ counting_more (making (is_ok result)) (its self.old) };
 }
 
 /// The files of the system.
@@ -53,7 +53,7 @@ pub(crate) struct SystemStorage {
 impl Storage for SystemStorage {
     type Disk = Host<OsSystem>;
 
-    ghost its = { λ _. record { world = record { at = λ _. None; holds = λ _. [] }; failed = 0 } };
+    ghost its = { λ _. record { world = record { at = λ _. None; holds = λ _. [] }; counts = no_counts } };
 
     fn disk(&self) -> Host<OsSystem> {
         Host::new(Reading::new(OsSystem { rt: self.rt }))

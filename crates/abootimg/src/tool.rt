@@ -1,7 +1,8 @@
 //! Doing what the words of one of AOSP's tools ask for, and the exit status.
 
-ghost use Rattle.std.specs.Prelude.{◌≡◌, ◌≢◌, [], IsTrue, IfOk, OnErr, OnOk, map, option_map, string_bytes};
+ghost use Rattle.std.specs.Prelude.{◌≡◌, ◌≢◌, [], IfErr, IfOk, IsTrue, OnOk, map, option_map, string_bytes};
 ghost use Rattle.sys_refusals.specs.Paths.{path_of};
+ghost use Rattle.sys_disk.specs.Counts.{call};
 ghost use Rattle.sys_disk.specs.World.{HasFailed};
 ghost use Rattle.words_tools.specs.Tools.{AreOrdersOf, ArePartedFor};
 ghost use Rattle.cmd_sparse_dispatch.specs.Commands.{state};
@@ -320,7 +321,8 @@ fn spare_inputs<'a, D: Beginning>(
     ensures looks { IsTrue D.models → OnOk result (LooksAhead D.is_file (files_given order.now) (D.world disk.old)
         (D.held disk.old) (D.held disk.new)) }
     ensures world { IsTrue D.models → D.world disk.new ≡ D.world disk.old }
-    ensures refused { IsTrue D.models → OnErr result (HasFailed (D.held disk.old) (D.held disk.new)) }
+    ensures refused { IsTrue D.models → IfErr result (λ refusal. HasFailed (call refusal.fault) (D.held disk.old)
+        (D.held disk.new)) }
 {
     let Some(order) = order else {
         return Ok(());
@@ -340,7 +342,8 @@ fn read_all_ahead<'a, D: Beginning>(
     ensures looks { IsTrue D.models → OnOk result (LooksAhead D.is_file all.now (D.world disk.old) (D.held disk.old)
         (D.held disk.new)) }
     ensures world { IsTrue D.models → D.world disk.new ≡ D.world disk.old }
-    ensures refused { IsTrue D.models → OnErr result (HasFailed (D.held disk.old) (D.held disk.new)) }
+    ensures refused { IsTrue D.models → IfErr result (λ refusal. HasFailed (call refusal.fault) (D.held disk.old)
+        (D.held disk.new)) }
 {
     for given in all {
         match read_ahead(rt, disk, given) {
@@ -362,7 +365,8 @@ fn read_ahead<'a, D: Beginning>(
     ensures ahead { IsTrue D.models → OnOk result (IsReadAhead D.is_file (D.world disk.old) (D.held disk.new)
         given.now) }
     ensures world { IsTrue D.models → D.world disk.new ≡ D.world disk.old }
-    ensures refused { IsTrue D.models → OnErr result (HasFailed (D.held disk.old) (D.held disk.new)) }
+    ensures refused { IsTrue D.models → IfErr result (λ refusal. HasFailed (call refusal.fault) (D.held disk.old)
+        (D.held disk.new)) }
 {
     let Some(word) = file_given(given) else {
         return Ok(());

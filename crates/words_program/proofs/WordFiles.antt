@@ -6,7 +6,8 @@ use Rattle.std.proofs.lemmas.List.{append-nil, map-append}
 use Rattle.std.proofs.lemmas.List.Elements.{filter-append}
 use Rattle.std.proofs.Math.Seq.{take-suc}
 use Rattle.words_values.specs.WordFile.{names_file}
-use Rattle.sys_disk.specs.World.{World, OpenFiles}
+use Rattle.sys_disk.specs.Counts.{Cause}
+use Rattle.sys_disk.specs.World.{World, OpenFiles, HasFailed}
 use Rattle.cmd_common_sparse.specs.ImagePath.{image_path}
 use Rattle.words_program.specs.WordFiles.{ReadsNext, ReadsWordFiles, paths_named}
 
@@ -95,9 +96,9 @@ pub still_reading : (words texts : List (List ℕ)) (a : World) (h h' : OpenFile
 still_reading words texts a h h' all none = ap (λ k. k.begun) all.taken ∙ none
 
 -- what fails behind them fails in all
-pub fails_behind : (words texts : List (List ℕ)) (a : World) (h h1 h2 : OpenFiles) (P : Type 0)
-    → ReadsWordFiles words texts a h h1 → (h1.failed < h2.failed) ⊎ P → (h.failed < h2.failed) ⊎ P
-fails_behind words texts a h h1 h2 P all (inl failed) =
-    let same : h1.failed ≡ h.failed = ap (λ k. k.failed) all.taken in
+pub fails_behind : (words texts : List (List ℕ)) (a : World) (h h1 h2 : OpenFiles) (cause : Cause) (P : Type 0)
+    → ReadsWordFiles words texts a h h1 → HasFailed cause h1 h2 ⊎ P → HasFailed cause h h2 ⊎ P
+fails_behind words texts a h h1 h2 cause P all (inl failed) =
+    let same : h1.counts.failed cause ≡ h.counts.failed cause = ap (λ k. k.counts.failed cause) all.taken in
     inl (omega (arith, same, failed))
-fails_behind words texts a h h1 h2 P all (inr is) = inr is
+fails_behind words texts a h h1 h2 cause P all (inr is) = inr is

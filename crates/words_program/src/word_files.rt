@@ -1,6 +1,7 @@
 //! Words `@FILE`, which are replaced by the lines of a file.
 
 ghost use Rattle.std.specs.Prelude.{◌≡◌, ◌⊎◌, [], IsTrue, IfOk, IfErr, OnOk, map, string_bytes};
+ghost use Rattle.sys_disk.specs.Counts.{call};
 ghost use Rattle.sys_disk.specs.World.{HasFailed};
 ghost use Rattle.sys_refusals.specs.Paths.{path_in};
 ghost use Rattle.sys_refusals.specs.declared.refusal.HostFault.TheVariants.{Memory};
@@ -26,7 +27,7 @@ pub fn read_word_files<'a, D: Disk>(
     ensures world { IsTrue D.models → D.world disk.new ≡ D.world disk.old }
     // it fails if a file could not be read, or an allocation failed
     ensures refused { IsTrue D.models → IfErr result (λ refusal.
-        HasFailed (D.held disk.old) (D.held disk.new) ⊎ (refusal.fault ≡ Memory)) }
+        HasFailed (call refusal.fault) (D.held disk.old) (D.held disk.new) ⊎ (refusal.fault ≡ Memory)) }
 {
     let mut texts = Vec::new(alloc);
     for word in words {
@@ -49,7 +50,7 @@ fn read_next<'a, D: Disk>(
         (map string_bytes texts.new.items) (D.world disk.old) (D.held disk.old) (D.held disk.new)) }
     ensures world { IsTrue D.models → D.world disk.new ≡ D.world disk.old }
     ensures refused { IsTrue D.models → IfErr result (λ refusal.
-        HasFailed (D.held disk.old) (D.held disk.new) ⊎ (refusal.fault ≡ Memory)) }
+        HasFailed (call refusal.fault) (D.held disk.old) (D.held disk.new) ⊎ (refusal.fault ≡ Memory)) }
 {
     let Some(path) = file_of(word) else {
         return Ok(());

@@ -25,8 +25,8 @@ read_ahead-requires g c = record {
 
 pub returns-in-Err-clause-refused : goal.returns-in-Err-clause-refused
 returns-in-Err-clause-refused g c = λ t.
-    reads_failed (g.D.Disk.held c.args.disk.now) (g.D.Disk.held c.loop-given.disk) (g.D.Disk.held c.read_ahead.new.disk)
-    (c.loop-given.invariant.looks t).reads (c.in-Err.ensures.refused t)
+    reads_failed _ (g.D.Disk.held c.args.disk.now) (g.D.Disk.held c.loop-given.disk)
+    (g.D.Disk.held c.read_ahead.new.disk) (c.loop-given.invariant.looks t).reads (c.in-Err.ensures.refused t)
 
 pub returns-clause-looks : goal.returns-clause-looks
 returns-clause-looks g c = λ t. looks_all _ c.args.all.now c.loop-given.given-index _ _ _

@@ -1,9 +1,9 @@
-use Rattle.abootimg.proofs.Unpacks.{kept_failing, step_over, step_refused}
+use Rattle.abootimg.proofs.Unpacks.{kept_counting, step_over, step_refused}
 use Rattle.abootimg.proofs.unpack_image.look_on.Goals as goal
 
 pub returns-in-Err : goal.returns-in-Err
 returns-in-Err g c = λ t. step_refused _ _ _ _ _
-    (kept_failing _ _ _ _ _ (c.in-Err.ensures.world t) (c.in-Err.ensures.kept t)) c.refused_step.ensures
+    (kept_counting _ _ _ _ _ (c.in-Err.ensures.world t) (c.in-Err.ensures.kept t)) c.refused_step.ensures
 
 pub returns : goal.returns
 returns g c = λ t. step_over _ _ _ _ _ _ _ _ _ _ _ _ _ _ (c.in-Ok.ensures.opened t) (c.in-Ok.ensures.world t)

@@ -1,10 +1,10 @@
 use Rattle.std.proofs.Common.{refl}
-use Rattle.abootimg.proofs.Unpacks.{kept_failing, kept_opening, kept_then, text_done, text_refused}
+use Rattle.abootimg.proofs.Unpacks.{kept_counting, kept_opening, kept_then, text_done, text_refused}
 use Rattle.abootimg.proofs.unpack_image.print_on.Goals as goal
 
 pub returns-in-Err : goal.returns-in-Err
 returns-in-Err g c = λ t. text_refused _ _ _ _ _ _
-    (kept_failing _ _ _ _ _ (c.in-Err.ensures.world t) (c.in-Err.ensures.kept t)) c.refused_step.ensures
+    (kept_counting _ _ _ _ _ (c.in-Err.ensures.world t) (c.in-Err.ensures.kept t)) c.refused_step.ensures
 
 pub returns-in-Ok-write_text : goal.returns-in-Ok-write_text
 returns-in-Ok-write_text g c = λ t.
@@ -12,10 +12,10 @@ returns-in-Ok-write_text g c = λ t.
     (c.in-Ok.ensures.opened t)
     (c.in-Ok-write_text.ensures (g.met.D.Disk.source_told t)) refl
     (kept_then _ _ _ (kept_opening _ _ _ _ _ _ (c.in-Ok.ensures.opened t) (c.in-Ok.ensures.world t))
-    (kept_failing _ _ _ _ _ (c.let_go_source.ensures.world t) (c.let_go_source.ensures.held t)))
+    (kept_counting _ _ _ _ _ (c.let_go_source.ensures.world t) (c.let_go_source.ensures.held t)))
 
 pub returns-in-Err-write_text : goal.returns-in-Err-write_text
 returns-in-Err-write_text g c = λ t. text_refused _ _ _ _ _ _
     (kept_then _ _ _ (kept_opening _ _ _ _ _ _ (c.in-Ok.ensures.opened t) (c.in-Ok.ensures.world t))
-    (kept_failing _ _ _ _ _ (c.let_go_source-in-Err-write_text.ensures.world t)
+    (kept_counting _ _ _ _ _ (c.let_go_source-in-Err-write_text.ensures.world t)
     (c.let_go_source-in-Err-write_text.ensures.held t))) c.refused_image.ensures

@@ -28,7 +28,7 @@ read_next-requires g c = record {
 pub returns-in-Err-clause-refused : goal.returns-in-Err-clause-refused
 returns-in-Err-clause-refused g c = λ t.
     fails_behind _ _ _ (g.D.Disk.held c.args.disk.now) (g.D.Disk.held c.loop-word.disk)
-    (g.D.Disk.held c.read_next.new.disk) _ (c.loop-word.invariant.texts t) (c.in-Err.ensures.refused t)
+    (g.D.Disk.held c.read_next.new.disk) _ _ (c.loop-word.invariant.texts t) (c.in-Err.ensures.refused t)
 
 pub returns-clause-texts : goal.returns-clause-texts
 returns-clause-texts g c = λ t.
