@@ -29,7 +29,7 @@ from repository import HERE, copy_of, crate_at, crate_lines, with_below
 FOLDERS = ("must-fail", "more-edits")
 MOST = 12
 # Crates with more: edits for new claims came in, and no older one left the gate for them.
-MORE = {"abt_flash": 14, "sys_host": 14}
+MORE = {"abt_flash": 14, "cmd_flash": 13, "sys_host": 14}
 TRIED = re.compile(r"must-fail (\w+)/([\w.-]+)\.edit: (.*)")
 FAULTS = ("NOT REFUSED", "BAD EDIT", "NOT TRIED")
 WEAK = ("only because a proof file", "only by a limit")

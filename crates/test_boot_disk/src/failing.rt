@@ -54,7 +54,7 @@ fn counted(rt: HostRuntime, command: Command, kind: Kind) -> Option<u64> {
         };
         let mut disk = made;
         let is_done = is_done(rt, command, &mut disk) == Ok(true);
-        let has_failed = disk.failed.seen != 0;
+        let has_failed = disk.failed != 0;
         if is_done == has_failed || is_kept(rt.alloc(), &disk) != Ok(true) {
             return None;
         }

@@ -8,5 +8,5 @@ use mem_disk::Faults;
 fn the_check_says_no_of_an_image_that_packing_would_write_otherwise(rt: HostRuntime) {
     let mut disk = disk(rt.alloc(), &[], Faults::none()).expect(&rt, "has memory");
     assert!(rt; is_done(rt, Command::InfoCheck, &mut disk) == Ok(false));
-    assert!(rt; disk.failed.seen == 0);
+    assert!(rt; disk.failed == 0);
 }

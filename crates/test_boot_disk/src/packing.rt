@@ -34,7 +34,7 @@ fn a_version_that_there_is_none_of_makes_no_file(rt: HostRuntime) {
     let mut disk = disk(rt.alloc(), &[], Faults::none()).expect(&rt, "has memory");
     assert!(rt; is_done(rt, Command::Pack(5), &mut disk) == Ok(false));
     assert!(rt; disk.file_at("out").is_none());
-    assert!(rt; disk.failed.seen == 0);
+    assert!(rt; disk.failed == 0);
 }
 
 /// The image that was packed again is packed again to the same bytes.

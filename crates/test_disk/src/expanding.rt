@@ -99,7 +99,7 @@ fn expanded_to_device(rt: HostRuntime, is_allowed: bool) -> Option<(bool, Memory
 fn a_device_in_use_is_written_where_that_is_allowed(rt: HostRuntime) {
     let (is_done, disk) = expanded_to_device(rt, false).expect(&rt, "there is memory");
     assert!(rt; !is_done);
-    assert!(rt; disk.failed.seen == 1);
+    assert!(rt; disk.failed == 1);
     assert!(rt; holds(&disk, "/dev/in-use", b"kept"));
     let (is_done, disk) = expanded_to_device(rt, true).expect(&rt, "there is memory");
     assert!(rt; is_done);

@@ -42,7 +42,7 @@ fn counted(rt: HostRuntime, row: CommandRow, kind: Kind) -> Option<u64> {
         let Ok((is_done, disk)) = run(rt, row.0, "out", row.1, faults(kind, number)) else {
             return None;
         };
-        let has_failed = disk.failed.seen != 0;
+        let has_failed = disk.failed != 0;
         if is_done == has_failed
             || !holds(&disk, "in", row.1.0)
             || !holds(&disk, "out.4", b"older")
@@ -108,7 +108,7 @@ fn a_device_in_use_is_not_written(rt: HostRuntime) {
         );
         let is_refused = !is_reading(*command) && !is_cutting(*command);
         assert!(rt; is_done != is_refused, "row {n}");
-        assert!(rt; (disk.failed.seen == 1) == is_refused, "row {n}");
+        assert!(rt; (disk.failed == 1) == is_refused, "row {n}");
         assert!(rt; holds(&disk, "out", before.1), "row {n}");
     }
 }
@@ -122,7 +122,7 @@ fn a_file_that_is_read_is_not_written(rt: HostRuntime) {
         );
         if !is_reading(*command) {
             assert!(rt; !is_done, "row {n}");
-            assert!(rt; disk.failed.seen == 1, "row {n}");
+            assert!(rt; disk.failed == 1, "row {n}");
         }
         assert!(rt; holds(&disk, "in", before.0), "row {n}");
         assert!(rt; holds(&disk, "out", before.1), "row {n}");

@@ -83,7 +83,7 @@ fn each_command_leaves_what_it_should(rt: HostRuntime) {
         assert!(rt; holds(&disk, "in", before.0), "row {n}");
         assert!(rt; holds(&disk, "out", after), "row {n}");
         assert!(rt; holds(&disk, "out.4", b"older"), "row {n}");
-        assert!(rt; disk.failed.seen == 0, "row {n}");
+        assert!(rt; disk.failed == 0, "row {n}");
     }
 }
 
