@@ -1,16 +1,25 @@
 -- What opening, creating and ending leave together, for who proves a command over any disk.
-use Rattle.std.proofs.Common.{◌≡◌, ◌≢◌, ℕ, ◌+◌, List, [], ◌∷◌, ◌++◌, Option, Some, None, sym, ◌∙◌, ap, subst}
-use Rattle.std.specs.Prelude.{Contains, unwrap_or, true, if◌then◌else◌}
+use Rattle.std.proofs.Common.{arith, ◌≡◌, ◌≢◌, ℕ, ◌+◌, List, [], ◌∷◌, ◌++◌, Option, Some, None, sym, ◌∙◌, ap, subst}
+use Rattle.std.specs.Prelude.{Contains, unwrap_or, true, if◌then◌else◌, length, take}
 use Rattle.std.proofs.lemmas.Bool.{true≢false}
 use Rattle.std.proofs.lemmas.List.Elements.{Contains-append_left, Contains-push}
 use Rattle.sys_disk.specs.Counts.{Counts}
 use Rattle.sys_disk.specs.World.{World, OpenFiles, Spares, OpensFile, Creates, OnlyAt, untouched, in_output, Ends}
-use Rattle.sys_disk.specs.World.{MayWrite, SparesInUse, SparesRest, KeepsFile, ended}
+use Rattle.sys_disk.specs.World.{HoldsMost, MayWrite, SparesInUse, SparesRest, KeepsFile, ended}
 
 pub spares_trans : (f : ℕ) (a b c : World) → Spares f a b → Spares f b c → Spares f a c
 spares_trans f a b c s t = record {
   paths = λ p g h. t.paths p g (s.paths p g h);
   files = λ g n. t.files g n ∙ s.files g n;
+}
+
+-- an output that holds all of these bytes holds most of them
+pub most_of_all : (o : Option ℕ) (bytes : List ℕ) (a b : World) → Ends o bytes a b → HoldsMost o bytes b
+most_of_all None bytes a b ends = tt
+most_of_all (Some file) bytes a b ends = record {
+  kept = length bytes;
+  few = omega arith;
+  front = ap (take (length bytes)) ends.0;
 }
 
 -- what is not among the files that were read when the output was created, was not among fewer

@@ -1,12 +1,18 @@
 -- The files under given names, and that nothing else was changed.
 use Rattle.std.specs.Prelude.{◌≡◌, ◌⊎◌, ℕ, List, [], ◌∷◌, Option, Some, None, Contains}
-use Rattle.sys_disk.specs.World.{World, OpenFiles, KeepsBegun}
+use Rattle.sys_disk.specs.World.{World, OpenFiles, HasMost, KeepsBegun}
 
 -- this path leads to a file that holds these bytes
 pub record FileHolds (world : World) (path bytes : List ℕ) : Type 0 where
   pub file : ℕ
   pub there : world.at path ≡ Some file
   pub holds : world.holds file ≡ bytes
+
+-- this path leads to a file that begins with these bytes, but for less than 65,536 of them at their end
+pub record FileHoldsMost (world : World) (path bytes : List ℕ) : Type 0 where
+  pub file : ℕ
+  pub there : world.at path ≡ Some file
+  pub holds : HasMost bytes (world.holds file)
 
 -- the file is at one of these paths, and is none that is read
 pub record IsAmong (named : List ℕ → Type 0) (read : List ℕ) (world : World) (file : ℕ) : Type 0 where

@@ -9,7 +9,7 @@ use Rattle.sys_disk.specs.InPlace.{OpensPart, MakesZeros}
 use Rattle.sys_disk.specs.Spools.{OpensSpool}
 use Rattle.sys_disk.specs.World.{World, OpenFiles, OpensFile, Creates, OnlyAt, KeepsBegun, KeepsFile, IsFree, Ends}
 use Rattle.sys_disk.specs.Counts.{Counts, HasNone, added, call_of, failure_of}
-use Rattle.sys_disk.specs.World.{SparesInUse, SparesRest, HasNotFailed, counting}
+use Rattle.sys_disk.specs.World.{SparesInUse, SparesRest, HasNotFailed, HoldsMost, counting}
 use Rattle.sys_refusals.specs.declared.refusal.HostRefusal.{HostRefusal}
 use Rattle.sys_disk.specs.World as worlds
 
@@ -86,23 +86,25 @@ pub record CreatesOutput {A : Type 0} (models : Bool) (r : Result A HostRefusal)
   pub begun : IsTrue models → OnErr r (KeepsBegun h.begun before after)
   pub guarded : IsTrue models → OnErr r (SparesInUse path h before after)
 
--- the open output is finished, and holds these bytes, or the call fails; it returns whether that is where standard
--- output goes
+-- the open output is finished, and holds these bytes, or the call fails, and it holds most of them; it returns whether
+-- that is where standard output goes
 pub record FinishesOutput (models : Bool) (r : Result Bool HostRefusal) (is_on_output : Bool) (bytes : List ℕ)
     (failures : Counts) (h h' : OpenFiles) (before after : World) : Type 0 where
   pub ended : IsTrue models → OnOk r (Ends h.output bytes before after)
+  pub most : IsTrue models → OnErr r (HoldsMost h.output bytes after)
   pub closed : IsTrue models → h' ≡ worlds.ended (is_ok r) (added (failure_of r) failures) h
   pub rest : IsTrue models → SparesRest h.output before after
   pub stream : IsTrue models → IfOk r (λ is. is ≡ is_on_output)
 
 -- The open output is closed, and `more` has failed, without a byte of an input. If nothing has, and no write had, the
--- file holds these bytes.
+-- file holds these bytes. Whatever has, it holds most of them.
 pub record LetsGo (bytes : List ℕ) (failures : Counts) (h h' : OpenFiles) (before after : World) : Type 0 where
   pub more : Counts
   pub unread : more.given ≡ 0
   pub closed : h' ≡ worlds.ended false (added more failures) h
   pub rest : SparesRest h.output before after
   pub left : HasNone (added more failures) → Ends h.output bytes before after
+  pub most : HoldsMost h.output bytes after
 
 -- and it holds these bytes, or has no magic at its beginning
 pub record LetsImageGo (models : Bool) (bytes : List ℕ) (failures : Counts)

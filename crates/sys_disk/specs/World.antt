@@ -1,6 +1,6 @@
 -- The files of a disk, which of them are open, and how the calls of a run change them.
 use Rattle.std.specs.Prelude.{◌≡◌, ◌≢◌, ◌<◌, ℕ, ◌+◌, List, [], ◌∷◌, ◌++◌, Option, Some, None, Bool, true, false}
-use Rattle.std.specs.Prelude.{Contains, IsTrue, ◌&&◌, if◌then◌else◌}
+use Rattle.std.specs.Prelude.{Contains, IsTrue, ◌&&◌, if◌then◌else◌, length, take}
 use Rattle.sys_disk.specs.Counts.{Cause, Counts, HasNone, added}
 
 -- which file each path leads to, by a number, and what each file holds
@@ -110,9 +110,20 @@ abbrev pub Ends : Option ℕ → List ℕ → World → World → Type 0
 Ends None bytes old new = Unit {0}
 Ends (Some file) bytes old new = (new.holds file ≡ bytes) × Spares file old new
 
+-- x begins with these bytes, but for less than 65,536 of them at their end
+pub record HasMost (bytes x : List ℕ) : Type 0 where
+  pub kept : ℕ
+  pub few : length bytes < kept + 65536
+  pub front : take kept x ≡ take kept bytes
+
+-- the open output begins so
+abbrev pub HoldsMost : Option ℕ → List ℕ → World → Type 0
+HoldsMost None bytes new = Unit {0}
+HoldsMost (Some file) bytes new = HasMost bytes (new.holds file)
+
 -- The output that was open is closed, and this is the result of the call that wrote it. `more` has failed at its end:
 -- nothing where the result is Ok, and that reads nothing. If nothing has, and no write had, the file holds all that the
--- output took.
+-- output took. Whatever has, it holds most of that.
 pub record EndsOutput (is_done : Bool) (bytes : List ℕ) (failures : Counts) (held held' : OpenFiles)
     (old new : World) : Type 0 where
   pub more : Counts
@@ -120,6 +131,7 @@ pub record EndsOutput (is_done : Bool) (bytes : List ℕ) (failures : Counts) (h
   pub closed : held' ≡ ended is_done (added more failures) held
   pub clean : IsTrue is_done → HasNone more
   pub left : HasNone (added more failures) → Ends held.output bytes old new
+  pub most : HoldsMost held.output bytes new
 
 -- all files but this one are as before
 abbrev pub SparesRest : Option ℕ → World → World → Type 0

@@ -262,13 +262,14 @@ pub trait Disk {
             (world self.old) (world self.new)) };
 
     /// Finishes the open output: all that it took is in its file, and synced if that is wanted. Returns whether it is
-    /// where standard output goes.
+    /// where standard output goes. If that fails, its file begins with what it took, but for less than 65,536 bytes at
+    /// the end of that.
     fn finish<'a>(&mut self, onto: Self::Onto, place: FileArg<'a>) -> Result<bool, HostRefusal<'a>>
         ensures { FinishesOutput models result (on_output (path_out place.entry)) (Self.Onto.written onto)
             (writes (Self.Onto.write_faults onto)) (held self.old) (held self.new) (world self.old) (world self.new) };
 
     /// Closes the open output after the work before has failed. Its file holds what it took, unless a write failed, or
-    /// the close did.
+    /// the close did. Also then its file begins with what it took, but for less than 65,536 bytes at the end of that.
     fn give_up(&mut self, onto: Self::Onto)
         ensures { IsTrue models → LetsGo (Self.Onto.written onto) (writes (Self.Onto.write_faults onto)) (held self.old)
             (held self.new) (world self.old) (world self.new) };

@@ -7,6 +7,7 @@ use Rattle.sys_refusals.proofs.Blames.{tells_begun}
 use Rattle.std.proofs.lemmas.Bool.{false≢true}
 use Rattle.sys_disk.specs.Counts.{call_of, no_counts}
 use Rattle.sys_disk.proofs.Failings.{is_some_failure}
+use Rattle.sys_disk.proofs.Worlds.{most_of_all}
 use Rattle.sys_disk.proofs.ending.ended.Goals as goal
 
 -- of the fault that the call returned
@@ -29,6 +30,7 @@ returns-in-Ok-finish-clause-closed g c = λ t. record {
   closed = c.in-Ok-finish.ensures.closed t;
   clean = λ _ _. refl;
   left = λ _. c.in-Ok-finish.ensures.ended t;
+  most = most_of_all _ _ _ _ (c.in-Ok-finish.ensures.ended t);
 }
 
 pub returns-in-Err-finish-clause-closed : goal.returns-in-Err-finish-clause-closed
@@ -38,4 +40,5 @@ returns-in-Err-finish-clause-closed g c = λ t. record {
   closed = c.in-Err-finish.ensures.closed t;
   clean = λ done. absurd (false≢true done);
   left = λ none. absurd (is_some_failure _ _ none);
+  most = c.in-Err-finish.ensures.most t;
 }
