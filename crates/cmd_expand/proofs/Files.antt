@@ -13,8 +13,8 @@ use Rattle.abt_chunks.specs.Cause.{Clean}
 use Rattle.abt_chunks.specs.Expanding.{ExpandingRises, UnlessExpandingDevice}
 use Rattle.abt_chunks.specs.Whole.{Expansion, Refusal}
 use Rattle.sys_disk.specs.World.{World, OpenFiles, Spares, OpensFile, Creates, Ends, SparesRest, HasFailed}
-use Rattle.sys_disk.specs.World.{HasNotFailed}
-use Rattle.sys_disk.specs.Among.{FileHolds}
+use Rattle.sys_disk.specs.World.{HasNotFailed, HoldsMost}
+use Rattle.sys_disk.specs.Among.{FileHolds, FileHoldsMost}
 use Rattle.sys_disk.specs.World.{OnlyAt, SparesInUse, counting, ended}
 use Rattle.sys_disk.specs.Counts.{Cause, call, reading, writing, Counts, HasNone, added, call_of, calls, reads, writes}
 use Rattle.sys_disk.specs.Counts.{of_reading, of_writing}
@@ -27,7 +27,7 @@ use Rattle.cmd_common_sparse.specs.declared.fault.SparseCommandFault.{SparseComm
 use Rattle.cmd_common_sparse.specs.declared.fault.SparseCommandFault.TheVariants as faults
 use Rattle.cmd_expand.specs.Expanding.{Blames, ExpandsFile, ExpandingSays, LeavesExpanded, RefusesFile, HasFault}
 use Rattle.cmd_expand.specs.Expanding.{BlamesDevice, FromCall, FromHost, HasFailedToReadOnce, LeavesFront, OfDevice}
-use Rattle.cmd_expand.specs.Expanding.{WritesRead}
+use Rattle.cmd_expand.specs.Expanding.{HoldsBegun, WritesRead}
 
 -- ---- what was read is closed before the output is completed
 
@@ -212,43 +212,65 @@ holds_left path bytes h h' a b c made ends =
     = subst (λ k. Ends k.output bytes b c) made.begins ends in
     record { file = made.file; there = after.1.paths path made.file made.there; holds = after.0 }
 
--- what a fault of IN leaves of an output that was empty
-front_of : (f : SparseFault) (input path x old new : List ℕ) (h h1 k : OpenFiles) (a c : World) (r0 r w w' : ℕ)
-    (more : Counts) (read : ℕ) → OpensFile a input x h h1 → r0 ≡ 0 → HasCounted h k r more w'
-    → UnlessExpandingDevice f (Refusal f old new x) → BlamesDevice f r0 r w w' → old ≡ [] → WritesRead read x old new
-    → k.counts.given ≡ h.counts.given + read → (HasNone (added more (writes w')) → FileHolds c path new)
-    → LeavesFront f input path a c h k
-front_of (of_sparse.Read d) input path x old new h h1 k a c r0 r w w' more read opened first count is blames empty
-    begun came left = λ one. record {
-      from = opened.file;
-      there = opened.there;
-      read = read;
-      counted = came;
-      front = new;
-      written = subst (λ z. WritesRead read (a.holds opened.file) z new) empty
-          (subst (λ z. WritesRead read z old new) opened.held begun);
-      holds = left (only_read h k r w' more (omega (arith, blames.0, first)) one count);
-    }
-front_of (of_sparse.Write d) input path x old new h h1 k a c r0 r w w' more read opened first count is blames
-    empty begun came left = tt
-front_of f input path x old new h h1 k a c r0 r w w' more read opened first count is blames empty begun came left =
-    λ clean. record {
-      from = opened.file;
-      there = opened.there;
-      given = is.given;
-      fails = subst (λ z. Fails z f is.given) opened.held is.fails;
-      holds = subst (λ z. FileHolds c path z) (is.written ∙ ap (λ z. z ++ laid is.given) empty)
-          (left (nothing_more h k r w' more clean count));
+-- an output that was created, and begins with most of these bytes
+pub most_left : (path bytes : List ℕ) (n : Counts) (h h' h'' : OpenFiles) (a b b' c : World) → Creates path h h' a b
+    → h'' ≡ counting n h' → b' ≡ b → SparesRest h''.output b' c → HoldsMost h''.output bytes c
+    → FileHoldsMost c path bytes
+most_left path bytes n h h' h'' a b b' c made gone same rest most =
+    let after : Spares made.file b c
+    = subst (λ k. SparesRest k.output b c) made.begins (rest_behind n h' h'' b b' c gone same rest) in
+    record {
+      file = made.file;
+      there = after.paths path made.file made.there;
+      holds = subst (λ k. HoldsMost k.output bytes c) made.begins (subst (λ k. HoldsMost k.output bytes c) gone most);
     }
 
+-- what was read of IN is held so
+pub begun_of : (Holds : List ℕ → Type 0) (input x old new : List ℕ) (h h1 k : OpenFiles) (a : World) (read : ℕ)
+    → OpensFile a input x h h1 → old ≡ [] → WritesRead read x old new → k.counts.given ≡ h.counts.given + read
+    → Holds new → HoldsBegun Holds input h k a
+begun_of Holds input x old new h h1 k a read opened empty begun came held = record {
+  from = opened.file;
+  there = opened.there;
+  read = read;
+  counted = came;
+  front = new;
+  written = subst (λ z. WritesRead read (a.holds opened.file) z new) empty
+      (subst (λ z. WritesRead read z old new) opened.held begun);
+  holds = held;
+}
+
+-- what a fault of IN leaves of an output that was empty
+front_of : (f : SparseFault) (input path x old new : List ℕ) (h h1 k : OpenFiles) (a c : World) (r0 r w w' : ℕ)
+    (more : Counts) → OpensFile a input x h h1 → r0 ≡ 0 → HasCounted h k r more w'
+    → UnlessExpandingDevice f (Refusal f old new x) → BlamesDevice f r0 r w w' → old ≡ []
+    → HoldsBegun (FileHoldsMost c path) input h k a → (FileHolds c path new → HoldsBegun (FileHolds c path) input h k a)
+    → (HasNone (added more (writes w')) → FileHolds c path new) → LeavesFront f input path a c h k
+front_of (of_sparse.Read d) input path x old new h h1 k a c r0 r w w' more opened first count is blames empty most begun
+    left = (most, λ one. begun (left (only_read h k r w' more (omega (arith, blames.0, first)) one count)))
+front_of (of_sparse.Write d) input path x old new h h1 k a c r0 r w w' more opened first count is blames empty most
+    begun left = most
+front_of f input path x old new h h1 k a c r0 r w w' more opened first count is blames empty most begun left = (
+  most,
+  λ clean. record {
+    from = opened.file;
+    there = opened.there;
+    given = is.given;
+    fails = subst (λ z. Fails z f is.given) opened.held is.fails;
+    holds = subst (λ z. FileHolds c path z) (is.written ∙ ap (λ z. z ++ laid is.given) empty)
+        (left (nothing_more h k r w' more clean count));
+  },
+)
+
 own : (untold : List ℕ → Type 0) (input path x old new : List ℕ) (h h1 k : OpenFiles) (a c : World)
-    (f : SparseCommandFault) (r0 r w w' : ℕ) (more : Counts) (read : ℕ)
+    (f : SparseCommandFault) (r0 r w w' : ℕ) (more : Counts)
     → OpensFile a input x h h1 → r0 ≡ 0 → HasCounted h k r more w'
-    → ExpandingSays (Err f) x old new → Blames (Err f) r0 r w w' → old ≡ [] → WritesRead read x old new
-    → k.counts.given ≡ h.counts.given + read → (HasNone (added more (writes w')) → FileHolds c path new)
+    → ExpandingSays (Err f) x old new → Blames (Err f) r0 r w w' → old ≡ []
+    → HoldsBegun (FileHoldsMost c path) input h k a → (FileHolds c path new → HoldsBegun (FileHolds c path) input h k a)
+    → (HasNone (added more (writes w')) → FileHolds c path new)
     → RefusesFile f input path a c h k untold
-own untold input path x old new h h1 k a c (faults.Sparse f) r0 r w w' more read opened first count says blames
-    empty begun came left = (
+own untold input path x old new h h1 k a c (faults.Sparse f) r0 r w w' more opened first count says blames empty most
+    begun left = (
       of_image f (HasRisen r0 r w w') (λ cause. HasFailed cause h k) (Refusal f old new x) (HasFault input a f)
           (λ cause rose. has_failed cause h k r0 r w w' more count rose)
           (λ refusal. record {
@@ -257,23 +279,22 @@ own untold input path x old new h h1 k a c (faults.Sparse f) r0 r w w' more read
             given = refusal.given;
             fails = subst (λ z. Fails z f refusal.given) opened.held refusal.fails;
           }) (rose_of f r0 r w w' blames) says,
-      front_of f input path x old new h h1 k a c r0 r w w' more read opened first count says blames empty begun came
-          left,
+      front_of f input path x old new h h1 k a c r0 r w w' more opened first count says blames empty most begun left,
     )
-own untold input path x old new h h1 k a c (faults.Run f) r0 r w w' more read opened first count says blames
-    empty begun came left = absurd says
-own untold input path x old new h h1 k a c (faults.Piece f) r0 r w w' more read opened first count says blames
-    empty begun came left = absurd says
-own untold input path x old new h h1 k a c (faults.Flash f) r0 r w w' more read opened first count says blames
-    empty begun came left = absurd says
-own untold input path x old new h h1 k a c (faults.Verify f) r0 r w w' more read opened first count says blames
-    empty begun came left = absurd says
-own untold input path x old new h h1 k a c (faults.OtherBlocks f) r0 r w w' more read opened first count says blames
-    empty begun came left = absurd says
-own untold input path x old new h h1 k a c (faults.OtherCut f) r0 r w w' more read opened first count says blames
-    empty begun came left = absurd says
-own untold input path x old new h h1 k a c (faults.Host f) r0 r w w' more read opened first count says blames
-    empty begun came left = absurd says
+own untold input path x old new h h1 k a c (faults.Run f) r0 r w w' more opened first count says blames empty most
+    begun left = absurd says
+own untold input path x old new h h1 k a c (faults.Piece f) r0 r w w' more opened first count says blames empty most
+    begun left = absurd says
+own untold input path x old new h h1 k a c (faults.Flash f) r0 r w w' more opened first count says blames empty most
+    begun left = absurd says
+own untold input path x old new h h1 k a c (faults.Verify f) r0 r w w' more opened first count says blames empty most
+    begun left = absurd says
+own untold input path x old new h h1 k a c (faults.OtherBlocks f) r0 r w w' more opened first count says blames empty most
+    begun left = absurd says
+own untold input path x old new h h1 k a c (faults.OtherCut f) r0 r w w' more opened first count says blames empty most
+    begun left = absurd says
+own untold input path x old new h h1 k a c (faults.Host f) r0 r w w' more opened first count says blames empty most
+    begun left = absurd says
 
 -- a fault of files, of a call that has failed
 pub of_failed : (untold : List ℕ → Type 0) (input path : List ℕ) (a c : World) (h k : OpenFiles)
@@ -291,19 +312,18 @@ of_unprinted untold input path a c h k r made done =
 -- the call failed, or the end of the output did
 pub refuses : (untold : List ℕ → Type 0) (input path x old new : List ℕ) (h h1 k : OpenFiles) (a c : World)
     (answer : Result Expanded SparseCommandFault) (told : SparseCommandFault)
-    (r0 r w w' : ℕ) (more : Counts) (read : ℕ) → OpensFile a input x h h1 → r0 ≡ 0
+    (r0 r w w' : ℕ) (more : Counts) → OpensFile a input x h h1 → r0 ≡ 0
     → HasCounted h k r more w' → ExpandingSays answer x old new → Blames answer r0 r w w'
     → (IsOk answer → FromCall told h k) → IfErr answer (λ f. told ≡ f)
-    → old ≡ [] → WritesRead read x old new
-    → k.counts.given ≡ h.counts.given + read
+    → old ≡ []
+    → HoldsBegun (FileHoldsMost c path) input h k a → (FileHolds c path new → HoldsBegun (FileHolds c path) input h k a)
     → (HasNone (added more (writes w')) → FileHolds c path new) → RefusesFile told input path a c h k untold
-refuses untold input path x old new h h1 k a c (Ok e) told r0 r w w' more read opened first count says blames files is
-    empty begun came left = of_failed untold input path a c h k told (files refl)
-refuses untold input path x old new h h1 k a c (Err f) told r0 r w w' more read opened first count says blames files is
-    empty begun came left =
+refuses untold input path x old new h h1 k a c (Ok e) told r0 r w w' more opened first count says blames files is empty
+    most begun left = of_failed untold input path a c h k told (files refl)
+refuses untold input path x old new h h1 k a c (Err f) told r0 r w w' more opened first count says blames files is empty
+    most begun left =
     subst (λ q. RefusesFile q input path a c h k untold) (sym is)
-    (own untold input path x old new h h1 k a c f r0 r w w' more read opened first count says blames empty begun came
-    left)
+    (own untold input path x old new h h1 k a c f r0 r w w' more opened first count says blames empty most begun left)
 
 -- it was done, and then nothing has failed
 pub clean_behind : (answer : Result Expanded SparseCommandFault) (e : Expanded) (h k : OpenFiles) (r0 r w w' : ℕ)

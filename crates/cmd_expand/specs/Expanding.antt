@@ -9,7 +9,7 @@ use Rattle.abt_sparse.specs.Fails.{Fails, Spells}
 use Rattle.abt_chunks.specs.declared.progress.Expanded.{Expanded}
 use Rattle.abt_chunks.specs.Expanding.{UnlessExpandingDevice}
 use Rattle.abt_chunks.specs.Whole.{AlmostWhole, Begun, Expansion, Refusal}
-use Rattle.sys_disk.specs.Among.{FileHolds}
+use Rattle.sys_disk.specs.Among.{FileHolds, FileHoldsMost}
 use Rattle.sys_disk.specs.Counts.{Cause, call, of_reading, reading, writing}
 use Rattle.sys_disk.specs.World.{World, OpenFiles, KeepsFile, OnlyAt, Spares, SparesInUse, HasFailed, HasNotFailed}
 use Rattle.sys_refusals.specs.declared.refusal.HostFault.{HostFault}
@@ -107,23 +107,28 @@ pub record WritesRead (read : ℕ) (x old new : List ℕ) : Type 0 where
 abbrev pub HasFailedToReadOnce : OpenFiles → OpenFiles → Type 0
 HasFailedToReadOnce old new = (cause : Cause) → new.counts.failed cause ≡ old.counts.failed cause + of_reading 1 cause
 
--- the file at the other path holds what the first bytes give of the file at the one, as many as were read in this run
-pub record HoldsBegun (input output : List ℕ) (held held' : OpenFiles) (old new : World) : Type 0 where
+-- what the first bytes give of the file at this path, as many as were read in this run, is held so
+pub record HoldsBegun (Holds : List ℕ → Type 0) (input : List ℕ) (held held' : OpenFiles) (old : World) : Type 0 where
   pub from : ℕ
   pub there : old.at input ≡ Some from
   pub read : ℕ
   pub counted : held'.counts.given ≡ held.counts.given + read
   pub front : List ℕ
   pub written : WritesRead read (old.holds from) [] front
-  pub holds : FileHolds new output front
+  pub holds : Holds front
 
--- What OUT's file holds after a fault of IN, where nothing else has failed: what comes before the fault; or, where IN
--- could not be read, what was read, but for less than a window.
+-- What OUT's file holds after a fault of IN, whatever else has failed: it begins with most of what was read. Where
+-- nothing else has failed, it holds just what comes before the fault; or, where IN could not be read, what was read, but
+-- for less than a window.
 abbrev pub LeavesFront : SparseFault → List ℕ → List ℕ → World → World → OpenFiles → OpenFiles → Type 0
 LeavesFront (of_sparse.Read d) input output old new held held' =
-    HasFailedToReadOnce held held' → HoldsBegun input output held held' old new
-LeavesFront (of_sparse.Write d) input output old new held held' = Unit {0}
-LeavesFront f input output old new held held' = HasNotFailed held held' → HoldsUpTo input output f old new
+    HoldsBegun (FileHoldsMost new output) input held held' old
+    × (HasFailedToReadOnce held held' → HoldsBegun (FileHolds new output) input held held' old)
+LeavesFront (of_sparse.Write d) input output old new held held' =
+    HoldsBegun (FileHoldsMost new output) input held held' old
+LeavesFront f input output old new held held' =
+    HoldsBegun (FileHoldsMost new output) input held held' old
+    × (HasNotFailed held held' → HoldsUpTo input output f old new)
 
 -- why it fails: for a fault of the contents of IN; because a device or the system failed; or only its line failed
 abbrev pub RefusesFile : SparseCommandFault → List ℕ → List ℕ → World → World → OpenFiles → OpenFiles

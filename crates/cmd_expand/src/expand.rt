@@ -37,7 +37,8 @@ pub fn expand_one<'a, D: Disk>(
     // result is Ok only where nothing failed
     ensures leaves { IsTrue D.models → LeavesExpanded result (path_in input.entry) (path_out output.entry)
         (D.held disk.old) (D.held disk.new) (D.world disk.old) (D.world disk.new) }
-    // it fails for a fault of IN, and OUT holds what comes before that; or where a device or the system failed
+    // it fails for a fault of IN, and OUT holds what comes before that; or where a device failed, and OUT begins with
+    // most of what was read; or where the system failed
     ensures refused { IsTrue D.models → IfErr result (λ refusal. RefusesFile refusal.fault (path_in input.entry)
         (path_out output.entry) (D.world disk.old) (D.world disk.new) (D.held disk.old) (D.held disk.new)
         (Unprinted report.old report.new)) }

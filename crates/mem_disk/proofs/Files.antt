@@ -1,21 +1,19 @@
 -- What paths lead to and files hold after one of them was written, or made.
 use Rattle.std.proofs.Common.{zero, suc, ◌+◌, ◌≡◌, ℕ, ◌<◌, List, [], ◌∷◌, ◌++◌, Option, Some, None, Err, refl, sym, ◌∙◌}
-use Rattle.std.proofs.Common.{ap, subst}
+use Rattle.std.proofs.Common.{ap, arith, subst}
 use Rattle.std.specs.Prelude.{Contains, get_or, set, length, string_bytes, true, false}
-use Rattle.std.proofs.lemmas.List.{map-append}
+use Rattle.std.proofs.lemmas.List.{length-append, length-set, map-append}
 use Rattle.mem_disk.specs.Memory.{world_of_files, world_of, held_of, Untouched, RefusesAt, CountsMore}
 use Rattle.mem_files.specs.Stored.{contents, leads}
 use Rattle.mem_files.proofs.Paths.{leads_more, leads_new, holds_other, holds_new}
 use Rattle.sys_disk.specs.DiskCalls.{CreatesOutput, LetsGo}
 use Rattle.sys_disk.specs.Images.{HoldsSame}
 use Rattle.sys_disk.specs.World.{World, MayWrite, Spares, SparesInUse, Ends, SparesRest, OnlyAt, untouched, in_output}
-use Rattle.sys_disk.specs.World.{OpenFiles, KeepsBegun, ended, counting}
+use Rattle.sys_disk.specs.World.{OpenFiles, HoldsMost, KeepsBegun, ended, counting}
 use Rattle.sys_disk.specs.Counts.{Counts, call_of, no_counts}
-use Rattle.sys_disk.proofs.Failings.{is_some_failure}
-use Rattle.sys_disk.proofs.Worlds.{spared_if_may}
-use Rattle.sys_refusals.specs.declared.refusal.HostFault.{HostFault}
+use Rattle.sys_disk.proofs.Worlds.{most_of_all, spared_if_may}
 use Rattle.sys_refusals.specs.declared.refusal.HostRefusal.{HostRefusal}
-use Rattle.mem_disk.proofs.Sums.{swapped, swapped_over}
+use Rattle.mem_disk.proofs.Sums.{swapped}
 use Rattle.mem_disk.specs.declared.disk.MemoryDisk.{MemoryDisk}
 use Rattle.mem_files.specs.declared.stored.MemoryFile.{MemoryFile}
 use Rattle.mem_files.specs.declared.stored.MemoryPath.{MemoryPath}
@@ -48,6 +46,15 @@ spares_made ps q fs x empty file = record {
   paths = λ p f h. leads_more ps q p f h;
   files = λ f n. holds_more fs x empty f;
 }
+
+-- a file that exists still does after one was written, or made
+pub there_set : (fs : List MemoryFile) (i : ℕ) (x : MemoryFile) (file : ℕ) → file < length fs
+    → file < length (set fs i x)
+there_set fs i x file below = let same = length-set fs i x in omega (arith, same, below)
+
+pub there_more : (fs : List MemoryFile) (x : MemoryFile) (file : ℕ) → file < length fs
+    → file < length (fs ++ (x ∷ []))
+there_more fs x file below = let more = length-append fs (x ∷ []) in omega (arith, more, below)
 
 -- the output that is open holds what was put into it
 pub ends_put : (o : Option ℕ) (file : ℕ) (ps : List MemoryPath) (fs : List MemoryFile) (x : MemoryFile) → o ≡ Some file
@@ -146,12 +153,18 @@ creates_path e path written faults a b c refused counted = record {
   guarded = λ _. guarded_then path a b (world_of c) counted.world refused;
 }
 
+-- an output that is open holds most of what was put into it, also where the call is refused then
+pub most_put : (n : Counts) (bytes : List ℕ) (h h' : OpenFiles) (b c d : World) → h' ≡ counting n h → d ≡ c
+    → Ends h'.output bytes b c → HoldsMost h.output bytes d
+most_put n bytes h h' b c d counted after ends =
+    subst (HoldsMost h.output bytes) (sym after)
+    (subst (λ (k : OpenFiles). HoldsMost k.output bytes c) counted (most_of_all h'.output bytes b c ends))
+
 -- ---- an output that is given up
 
 abbrev with_counts : OpenFiles → Counts → OpenFiles
 with_counts h n = record h { output = None; syncs = h.syncs + 0; counts = n }
 
--- its file was there
 pub lets_go_put : (n : Counts) (bytes : List ℕ) (h h' h'' : OpenFiles) (a b c : World) → h' ≡ counting n h → b ≡ a
     → h'' ≡ ended false no_counts h' → SparesRest h'.output b c → Ends h'.output bytes b c → LetsGo bytes n h h'' a c
 lets_go_put n bytes h h' h'' a b c counted same closed rest ends = record {
@@ -159,20 +172,9 @@ lets_go_put n bytes h h' h'' a b c counted same closed rest ends = record {
   unread = refl;
   closed = closed ∙ ap (ended false no_counts) counted ∙ ap (with_counts h) (swapped h.counts n no_counts);
   rest = subst (λ w. SparesRest h.output w c) same (subst (λ (k : OpenFiles). SparesRest k.output b c) counted rest);
-  left = λ none. subst (λ w. Ends h.output bytes w c) same
-      (subst (λ (k : OpenFiles). Ends k.output bytes b c) counted ends);
+  left = λ none. all;
+  most = most_of_all h.output bytes a c all;
 }
-
--- it was not
-pub lets_go_lost : (n : Counts) (f : HostFault) (bytes : List ℕ) (h h' h'' h3 : OpenFiles) (a b c d : World)
-    → h' ≡ counting n h → b ≡ a → h'' ≡ ended false no_counts h' → h3 ≡ counting (call_of f) h'' → d ≡ c
-    → SparesRest h'.output b c → LetsGo bytes n h h3 a d
-lets_go_lost n f bytes h h' h'' h3 a b c d counted same closed lost after rest = record {
-  more = call_of f;
-  unread = refl;
-  closed = lost ∙ ap (counting (call_of f)) (closed ∙ ap (ended false no_counts) counted)
-      ∙ ap (with_counts h) (swapped_over h.counts n (call_of f));
-  rest = subst (λ w. SparesRest h.output a w) (sym after) (subst (λ w. SparesRest h.output w c) same
-      (subst (λ (k : OpenFiles). SparesRest k.output b c) counted rest));
-  left = λ none. absurd (is_some_failure f n.failed none);
-}
+  where
+    all : Ends h.output bytes a c
+    all = subst (λ w. Ends h.output bytes w c) same (subst (λ (k : OpenFiles). Ends k.output bytes b c) counted ends)

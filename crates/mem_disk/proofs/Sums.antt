@@ -1,7 +1,7 @@
 -- Sums of what is counted, in another order.
 use Rattle.std.proofs.Common.{arith, ℕ, ◌+◌, ◌≡◌, ap, ◌∙◌}
 use Rattle.std.proofs.Math.Path.{fun_ext}
-use Rattle.sys_disk.specs.Counts.{Cause, Counts, added, no_counts}
+use Rattle.sys_disk.specs.Counts.{Cause, Counts, added}
 
 same_counts : (a b : Counts) → ((cause : Cause) → a.failed cause ≡ b.failed cause) → a.given ≡ b.given → a ≡ b
 same_counts a b e d =
@@ -15,11 +15,3 @@ swapped a b c =
     ≡ a.failed cause + (c.failed cause + b.failed cause) = λ cause. omega arith in
     let d : a.given + b.given + c.given ≡ a.given + (c.given + b.given) = omega arith in
     same_counts (added (added a b) c) (added a (added c b)) e d
-
--- and between them is nothing
-pub swapped_over : (a b c : Counts) → added (added (added a b) no_counts) c ≡ added a (added c b)
-swapped_over a b c =
-    let e : (cause : Cause) → a.failed cause + b.failed cause + 0 + c.failed cause
-    ≡ a.failed cause + (c.failed cause + b.failed cause) = λ cause. omega arith in
-    let d : a.given + b.given + 0 + c.given ≡ a.given + (c.given + b.given) = omega arith in
-    same_counts (added (added (added a b) no_counts) c) (added a (added c b)) e d

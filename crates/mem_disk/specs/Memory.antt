@@ -60,12 +60,14 @@ pub record CountsMore (n : Counts) (old new : MemoryDisk) : Type 0 where
   pub held : held_of new ≡ counting n (held_of old)
   pub world : world_of new ≡ world_of old
 
--- this file is begun, and holds these bytes: it is none that is read or was begun, and all others are as before
+-- this file, which exists, is begun, and holds these bytes: it is none that is read or was begun, and all others are as
+-- before
 pub record Fills {X E : Type 0} (r : Result X E) (file : ℕ) (bytes : List ℕ) (old new : MemoryDisk) : Type 0 where
   pub held : OnOk r (held_of new ≡ with_file_begun file (held_of old))
   pub refused : OnErr r (Untouched old new)
   pub free : OnOk r (¬ Contains old.read.items file)
   pub fresh : OnOk r (¬ Contains old.begun.items file)
+  pub present : OnOk r (file < length new.files.items)
   pub holds : OnOk r ((world_of new).holds file ≡ bytes)
   pub spares : OnOk r (Spares file (world_of old) (world_of new))
   pub paths : new.paths ≡ old.paths

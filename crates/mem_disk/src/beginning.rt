@@ -1,6 +1,6 @@
 //! How a disk in memory creates a file, or empties it, and closes one.
 
-ghost use Rattle.std.specs.Prelude.{◌≡◌, [], Some, None, string_bytes, IsTrue, IfOk, OnErr, Contains, false};
+ghost use Rattle.std.specs.Prelude.{◌≡◌, [], Some, None, string_bytes, ◌<◌, IfOk, OnErr, Contains, false, length};
 ghost use Rattle.sys_disk.specs.Counts.{no_counts};
 ghost use Rattle.sys_disk.specs.Images.{HoldsSame, Leaves};
 ghost use Rattle.sys_disk.specs.World.{OnlyAt, Spares, Ends, SparesRest, ended};
@@ -30,6 +30,7 @@ impl MemoryDisk {
     pub(crate) fn start(&mut self, path: String, bytes: Vec<u8>) -> Result<u64, HostFault>
         ensures starts { IfOk result (λ file. Starts file (string_bytes path) bytes.items (held_of self.old)
             (held_of self.new) (world_of self.old) (world_of self.new)) }
+        ensures present { IfOk result (λ file. file < length self.new.files.items) }
         ensures refused { OnErr result (RefusesAt (string_bytes path) self.old self.new) }
     {
         if !self.may_write(path.as_str()) {
@@ -97,20 +98,16 @@ impl MemoryDisk {
         Ok(file)
     }
 
-    // Puts these bytes into the open output, which is closed. Returns whether it existed.
-    pub(crate) fn put(&mut self, bytes: Vec<u8>) -> bool
-        ensures ended { IsTrue result → Ends self.old.output bytes.items (world_of self.old) (world_of self.new) }
+    // Puts these bytes into the open output, which is closed.
+    pub(crate) fn put(&mut self, bytes: Vec<u8>)
+        ensures ended { Ends self.old.output bytes.items (world_of self.old) (world_of self.new) }
         ensures closed { held_of self.new ≡ ended false no_counts (held_of self.old) }
         ensures rest { SparesRest self.old.output (world_of self.old) (world_of self.new) }
         ensures left { Leaves self.old.output bytes.items (world_of self.new) }
     {
-        let Some(file) = self.output.take() else {
-            return true;
-        };
-        if file >= self.files.as_slice().len() as u64 {
-            return false;
+        match self.output.take() {
+            Some(file) => self.files[file as usize] = MemoryFile { bytes },
+            None => {}
         }
-        self.files[file as usize] = MemoryFile { bytes };
-        true
     }
 }

@@ -212,8 +212,9 @@ impl Disk for MemoryDisk {
         place: FileArg<'a>,
     ) -> Result<bool, HostRefusal<'a>> {
         self.add_written(&onto.failed);
-        let is_there = self.put(onto.bytes);
-        if !is_there || self.faults.calls.is_over() {
+        let is_refused = self.faults.calls.is_over();
+        self.put(onto.bytes);
+        if is_refused {
             return Err(self.refused(HostRefusal::at(HostFault::Write, place, None).begun(place)));
         }
         if self.is_synced {
@@ -224,10 +225,7 @@ impl Disk for MemoryDisk {
 
     fn give_up(&mut self, onto: MemoryOutput) {
         self.add_written(&onto.failed);
-        if self.put(onto.bytes) {
-            return;
-        }
-        self.refused(HostRefusal::of(HostFault::Write, None));
+        self.put(onto.bytes);
     }
 
     fn image<'a>(
@@ -253,7 +251,8 @@ impl Disk for MemoryDisk {
         } else {
             image.bytes
         };
-        if !self.put(bytes) || is_over {
+        self.put(bytes);
+        if is_over {
             return Err(self.refused(HostRefusal::at(HostFault::Write, place, None).begun(place)));
         }
         let is_synced = self.is_synced;

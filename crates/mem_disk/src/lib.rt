@@ -4,6 +4,7 @@
 //! | file | has |
 //! |---|---|
 //! | `disk.rt` | its files, the paths that lead to them, and what was opened |
+//! | `noting.rt` | what it looks up, and what it counts |
 //! | `calls.rt` | its calls: each counts its own failure, and the failures of a device that is given back |
 //! | `open_to_read.rt` | how it opens inputs |
 //! | `beginning.rt` | how it creates or empties a file, and closes one |
@@ -27,6 +28,7 @@ mod failures;
 mod image;
 mod input;
 mod left;
+mod noting;
 mod open_in_place;
 mod open_to_read;
 mod output;

@@ -2,7 +2,9 @@ use Rattle.std.proofs.Common.{rules, refl, true, false, Ok, subst}
 use Rattle.sys_disk.proofs.Worlds.{only_written}
 use Rattle.sys_report.proofs.Beside.{beside}
 use Rattle.cmd_expand.specs.Expanding.{ExpandingSays}
+use Rattle.sys_disk.specs.Among.{FileHolds, FileHoldsMost}
 use Rattle.sys_disk.specs.Counts.{added, reads, writes}
+use Rattle.cmd_expand.proofs.Files.{begun_of, most_left}
 use Rattle.cmd_expand.proofs.Files.{clean_behind, ends_behind, expands, failed_behind, failed_first, failed_second}
 use Rattle.cmd_expand.proofs.Files.{failed_since, given_behind, handed_on, holds_left, leaves_expanded, of_failed}
 use Rattle.cmd_expand.proofs.Files.{of_unprinted, refuses, rest_behind, spared_created, synced_once}
@@ -66,30 +68,38 @@ returns-in-Ok-printed-clause-leaves g c = λ t.
 
 pub returns-in-Err-clause-refused : goal.returns-in-Err-clause-refused
 returns-in-Err-clause-refused g c = λ t.
-    refuses _ _ _ _ _ _ (g.D.Disk.held c.args.disk.now) _ (g.D.Disk.held c.ended.new.disk) _ _ c.expanded-answer.result
+    let closed = c.in-Err.ensures.closed t in
+    let h' = g.D.Disk.held c.ended.new.disk in
+    let given = g.D.From.Input.given c.expanded-answer.new.from.device in
+    let begun = c.expanded-answer.ensures.begun (g.met.D.Disk.told t) in
+    let came = given_behind _ _ _ _ _ _ _ _ _ _ _ _ _ _ _ _ false (c.in_ok-from.ensures.opened t)
+    (c.in_ok-onto.ensures.created t) (c.let_go.ensures.held t) closed.closed closed.unread
+    (c.in_ok-from.ensures.unread t) in
+    refuses _ _ _ _ _ _ (g.D.Disk.held c.args.disk.now) _ h' _ _ c.expanded-answer.result
     c.in-Err.refusal.fault _ (g.D.From.Input.read_faults c.expanded-answer.new.from.device) _
-    (g.D.Onto.Output.write_faults c.expanded-answer.new.onto) (c.in-Err.ensures.closed t).more
-    _ (c.in_ok-from.ensures.opened t) (c.in_ok-from.ensures.clean t)
-    (failed_behind _ _ _ _ _ _ _ _ _ _ _ (reads (g.D.From.Input.given c.expanded-answer.new.from.device)
+    (g.D.Onto.Output.write_faults c.expanded-answer.new.onto) closed.more
+    (c.in_ok-from.ensures.opened t) (c.in_ok-from.ensures.clean t)
+    (failed_behind _ _ _ _ _ _ _ _ _ _ _ (reads given
     (g.D.From.Input.read_faults c.expanded-answer.new.from.device))
-    (added (c.in-Err.ensures.closed t).more (writes (g.D.Onto.Output.write_faults c.expanded-answer.new.onto))) false
-    (c.in_ok-from.ensures.opened t) (c.in_ok-onto.ensures.created t) (c.let_go.ensures.held t)
-    (c.in-Err.ensures.closed t).closed)
+    (added closed.more (writes (g.D.Onto.Output.write_faults c.expanded-answer.new.onto))) false
+    (c.in_ok-from.ensures.opened t) (c.in_ok-onto.ensures.created t) (c.let_go.ensures.held t) closed.closed)
     (c.expanded-answer.ensures.says (g.met.D.Disk.told t)) c.expanded-answer.ensures.blames
     (λ ok. let told = c.in-Err.ensures.host ok in (
       told.0,
       told.1,
-      failed_since _ _ _ _ _ _ _ (g.D.Disk.held c.ended.new.disk) _ _ _ _ _ told.0
+      failed_since _ _ _ _ _ _ _ h' _ _ _ _ _ told.0
           (c.in_ok-from.ensures.opened t)
           (c.in_ok-onto.ensures.created t) (c.let_go.ensures.held t) (told.2 t),
     ))
     c.in-Err.ensures.told c.in_ok-onto.ensures.empty
-    (c.expanded-answer.ensures.begun (g.met.D.Disk.told t))
-    (given_behind _ _ _ _ _ _ _ _ _ _ _ _ _ _ _ _ false (c.in_ok-from.ensures.opened t)
-    (c.in_ok-onto.ensures.created t) (c.let_go.ensures.held t) (c.in-Err.ensures.closed t).closed
-    (c.in-Err.ensures.closed t).unread (c.in_ok-from.ensures.unread t))
+    (begun_of (FileHoldsMost _ _) _ _ _ _ _ _ h' _ _ (c.in_ok-from.ensures.opened t) c.in_ok-onto.ensures.empty begun
+    came
+    (most_left _ _ _ _ _ _ _ _ _ _ (c.in_ok-onto.ensures.created t) (c.let_go.ensures.held t)
+    (c.let_go.ensures.world t) (c.in-Err.ensures.rest t) closed.most))
+    (λ all. begun_of (FileHolds _ _) _ _ _ _ _ _ h' _ _ (c.in_ok-from.ensures.opened t) c.in_ok-onto.ensures.empty
+    begun came all)
     (λ none. holds_left _ _ _ _ _ _ _ (c.in_ok-onto.ensures.created t) (ends_behind _ _ _ _ _ _ _
-    (c.let_go.ensures.held t) (c.let_go.ensures.world t) ((c.in-Err.ensures.closed t).left none)))
+    (c.let_go.ensures.held t) (c.let_go.ensures.world t) (closed.left none)))
 
 pub returns-in-Err-printed-clause-refused : goal.returns-in-Err-printed-clause-refused
 returns-in-Err-printed-clause-refused g c = λ t.
