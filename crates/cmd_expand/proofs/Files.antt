@@ -1,5 +1,5 @@
 -- What opening, creating and ending leave together.
-use Rattle.std.proofs.Common.{inl, inr, arith, ◌≡◌, ◌<◌, ℕ, ◌+◌, ◌-◌, Bool, true, List, [], ◌∷◌, ◌++◌}
+use Rattle.std.proofs.Common.{inl, inr, arith, ◌≡◌, ◌<◌, ℕ, ◌+◌, ◌-◌, Bool, true, false, List, [], ◌∷◌, ◌++◌}
 use Rattle.std.proofs.Common.{refl, sym, ◌∙◌, ap, subst, None}
 use Rattle.std.specs.Prelude.{Result, Ok, Err, IsOk, IfErr, OnOk, IsErrAnd, is_ok, if◌then◌else◌}
 use Rattle.std.proofs.lemmas.Bool.{false≢true}
@@ -13,7 +13,7 @@ use Rattle.abt_chunks.specs.Cause.{Clean}
 use Rattle.abt_chunks.specs.Expanding.{ExpandingRises, UnlessExpandingDevice}
 use Rattle.abt_chunks.specs.Whole.{Expansion, Refusal}
 use Rattle.sys_disk.specs.World.{World, OpenFiles, Spares, OpensFile, Creates, Ends, SparesRest, HasFailed}
-use Rattle.sys_disk.specs.World.{HasNotFailed, HoldsMost}
+use Rattle.sys_disk.specs.World.{EndsOutput, HasNotFailed, HoldsMost}
 use Rattle.sys_disk.specs.Among.{FileHolds, FileHoldsMost}
 use Rattle.sys_disk.specs.World.{OnlyAt, SparesInUse, counting, ended}
 use Rattle.sys_disk.specs.Counts.{Cause, call, reading, writing, Counts, HasNone, added, call_of, calls, reads, writes}
@@ -119,7 +119,7 @@ failed_behind input path bytes h h1 h2 h3 h4 w a b r n done opened made gone clo
     omega (arith, first, second, third, last)
 
 -- and as many bytes were read as the input has given
-pub given_behind : (input path bytes : List ℕ) (h h1 h2 h3 h4 : OpenFiles) (w a b : World) (given given' r n : ℕ)
+given_behind : (input path bytes : List ℕ) (h h1 h2 h3 h4 : OpenFiles) (w a b : World) (given given' r n : ℕ)
     (more : Counts) (done : Bool) → OpensFile w input bytes h h1 → Creates path h1 h2 a b
     → h3 ≡ counting (reads given' r) h2 → h4 ≡ ended done (added more (writes n)) h3 → more.given ≡ 0 → given ≡ 0
     → h4.counts.given ≡ h.counts.given + (given' - given)
@@ -131,7 +131,7 @@ given_behind input path bytes h h1 h2 h3 h4 w a b given given' r n more done ope
     omega (arith, first, second, third, last, unread, fresh)
 
 -- a call has failed once the input was closed
-pub failed_since : (input path bytes : List ℕ) (h h1 h2 h3 k : OpenFiles) (w a b : World) (given r : ℕ) (f : HostFault)
+failed_since : (input path bytes : List ℕ) (h h1 h2 h3 k : OpenFiles) (w a b : World) (given r : ℕ) (f : HostFault)
     → OpensFile w input bytes h h1 → Creates path h1 h2 a b → h3 ≡ counting (reads given r) h2
     → HasFailed (call f) h3 k → HasFailed (call f) h k
 failed_since input path bytes h h1 h2 h3 k w a b given r f opened made gone failed =
@@ -205,7 +205,7 @@ has_failed cause h k r r' w w' more count rose =
     z
 
 -- an output that was created, and holds these bytes
-pub holds_left : (path bytes : List ℕ) (h h' : OpenFiles) (a b c : World) → Creates path h h' a b
+holds_left : (path bytes : List ℕ) (h h' : OpenFiles) (a b c : World) → Creates path h h' a b
     → Ends h'.output bytes b c → FileHolds c path bytes
 holds_left path bytes h h' a b c made ends =
     let after : (c.holds made.file ≡ bytes) × Spares made.file b c
@@ -213,7 +213,7 @@ holds_left path bytes h h' a b c made ends =
     record { file = made.file; there = after.1.paths path made.file made.there; holds = after.0 }
 
 -- an output that was created, and begins with most of these bytes
-pub most_left : (path bytes : List ℕ) (n : Counts) (h h' h'' : OpenFiles) (a b b' c : World) → Creates path h h' a b
+most_left : (path bytes : List ℕ) (n : Counts) (h h' h'' : OpenFiles) (a b b' c : World) → Creates path h h' a b
     → h'' ≡ counting n h' → b' ≡ b → SparesRest h''.output b' c → HoldsMost h''.output bytes c
     → FileHoldsMost c path bytes
 most_left path bytes n h h' h'' a b b' c made gone same rest most =
@@ -226,7 +226,7 @@ most_left path bytes n h h' h'' a b b' c made gone same rest most =
     }
 
 -- what was read of IN is held so
-pub begun_of : (Holds : List ℕ → Type 0) (input x old new : List ℕ) (h h1 k : OpenFiles) (a : World) (read : ℕ)
+begun_of : (Holds : List ℕ → Type 0) (input x old new : List ℕ) (h h1 k : OpenFiles) (a : World) (read : ℕ)
     → OpensFile a input x h h1 → old ≡ [] → WritesRead read x old new → k.counts.given ≡ h.counts.given + read
     → Holds new → HoldsBegun Holds input h k a
 begun_of Holds input x old new h h1 k a read opened empty begun came held = record {
@@ -281,20 +281,13 @@ own untold input path x old new h h1 k a c (faults.Sparse f) r0 r w w' more open
           }) (rose_of f r0 r w w' blames) says,
       front_of f input path x old new h h1 k a c r0 r w w' more opened first count says blames empty most begun left,
     )
-own untold input path x old new h h1 k a c (faults.Run f) r0 r w w' more opened first count says blames empty most
-    begun left = absurd says
-own untold input path x old new h h1 k a c (faults.Piece f) r0 r w w' more opened first count says blames empty most
-    begun left = absurd says
-own untold input path x old new h h1 k a c (faults.Flash f) r0 r w w' more opened first count says blames empty most
-    begun left = absurd says
-own untold input path x old new h h1 k a c (faults.Verify f) r0 r w w' more opened first count says blames empty most
-    begun left = absurd says
-own untold input path x old new h h1 k a c (faults.OtherBlocks f) r0 r w w' more opened first count says blames empty most
-    begun left = absurd says
-own untold input path x old new h h1 k a c (faults.OtherCut f) r0 r w w' more opened first count says blames empty most
-    begun left = absurd says
-own untold input path x old new h h1 k a c (faults.Host f) r0 r w w' more opened first count says blames empty most
-    begun left = absurd says
+own _ _ _ _ _ _ _ _ _ _ _ (faults.Run f) _ _ _ _ _ _ _ _ says _ _ _ _ _ = absurd says
+own _ _ _ _ _ _ _ _ _ _ _ (faults.Piece f) _ _ _ _ _ _ _ _ says _ _ _ _ _ = absurd says
+own _ _ _ _ _ _ _ _ _ _ _ (faults.Flash f) _ _ _ _ _ _ _ _ says _ _ _ _ _ = absurd says
+own _ _ _ _ _ _ _ _ _ _ _ (faults.Verify f) _ _ _ _ _ _ _ _ says _ _ _ _ _ = absurd says
+own _ _ _ _ _ _ _ _ _ _ _ (faults.OtherBlocks f) _ _ _ _ _ _ _ _ says _ _ _ _ _ = absurd says
+own _ _ _ _ _ _ _ _ _ _ _ (faults.OtherCut f) _ _ _ _ _ _ _ _ says _ _ _ _ _ = absurd says
+own _ _ _ _ _ _ _ _ _ _ _ (faults.Host f) _ _ _ _ _ _ _ _ says _ _ _ _ _ = absurd says
 
 -- a fault of files, of a call that has failed
 pub of_failed : (untold : List ℕ → Type 0) (input path : List ℕ) (a c : World) (h k : OpenFiles)
@@ -310,20 +303,30 @@ of_unprinted untold input path a c h k r made done =
     subst (λ f. RefusesFile f input path a c h k untold) (sym made.1) (inr done)
 
 -- the call failed, or the end of the output did
-pub refuses : (untold : List ℕ → Type 0) (input path x old new : List ℕ) (h h1 k : OpenFiles) (a c : World)
-    (answer : Result Expanded SparseCommandFault) (told : SparseCommandFault)
-    (r0 r w w' : ℕ) (more : Counts) → OpensFile a input x h h1 → r0 ≡ 0
-    → HasCounted h k r more w' → ExpandingSays answer x old new → Blames answer r0 r w w'
-    → (IsOk answer → FromCall told h k) → IfErr answer (λ f. told ≡ f)
-    → old ≡ []
-    → HoldsBegun (FileHoldsMost c path) input h k a → (FileHolds c path new → HoldsBegun (FileHolds c path) input h k a)
-    → (HasNone (added more (writes w')) → FileHolds c path new) → RefusesFile told input path a c h k untold
-refuses untold input path x old new h h1 k a c (Ok e) told r0 r w w' more opened first count says blames files is empty
-    most begun left = of_failed untold input path a c h k told (files refl)
-refuses untold input path x old new h h1 k a c (Err f) told r0 r w w' more opened first count says blames files is empty
-    most begun left =
+pub refuses : (untold : List ℕ → Type 0) (input path x old new : List ℕ) (h h1 h2 h3 k : OpenFiles)
+    (a a' b b' c : World) (answer : Result Expanded SparseCommandFault) (told : SparseCommandFault)
+    (g0 g r0 r w w' : ℕ) → OpensFile a input x h h1 → g0 ≡ 0 → r0 ≡ 0 → Creates path h1 h2 a' b
+    → h3 ≡ counting (reads g r) h2 → b' ≡ b → EndsOutput false new (writes w') h3 k b' c → SparesRest h3.output b' c
+    → ExpandingSays answer x old new → Blames answer r0 r w w' → old ≡ [] → WritesRead (g - g0) x old new
+    → (IsOk answer → FromCall told h3 k) → IfErr answer (λ f. told ≡ f) → RefusesFile told input path a c h k untold
+refuses untold input path x old new h h1 h2 h3 k a a' b b' c (Ok e) told g0 g r0 r w w' opened fresh first made gone
+    same end rest says blames empty begun files is =
+    let failed = files refl in
+    of_failed untold input path a c h k told
+    (failed.0, failed.1, failed_since input path x h h1 h2 h3 k a a' b g r failed.0 opened made gone failed.2)
+refuses untold input path x old new h h1 h2 h3 k a a' b b' c (Err f) told g0 g r0 r w w' opened fresh first made gone
+    same end rest says blames empty begun files is =
+    let count : HasCounted h k r end.more w' = failed_behind input path x h h1 h2 h3 k a a' b (reads g r)
+    (added end.more (writes w')) false opened made gone end.closed in
+    let came = given_behind input path x h h1 h2 h3 k a a' b g0 g r w' end.more false opened made gone end.closed
+    end.unread fresh in
     subst (λ q. RefusesFile q input path a c h k untold) (sym is)
-    (own untold input path x old new h h1 k a c f r0 r w w' more opened first count says blames empty most begun left)
+    (own untold input path x old new h h1 k a c f r0 r w w' end.more opened first count says blames empty
+    (begun_of (FileHoldsMost c path) input x old new h h1 k a (g - g0) opened empty begun came
+    (most_left path new (reads g r) h1 h2 h3 a' b b' c made gone same rest end.most))
+    (begun_of (FileHolds c path) input x old new h h1 k a (g - g0) opened empty begun came)
+    (λ none. holds_left path new h1 h2 a' b c made (ends_behind new (reads g r) h2 h3 b b' c gone same
+    (end.left none))))
 
 -- it was done, and then nothing has failed
 pub clean_behind : (answer : Result Expanded SparseCommandFault) (e : Expanded) (h k : OpenFiles) (r0 r w w' : ℕ)

@@ -118,8 +118,8 @@ pub record HoldsBegun (Holds : List ℕ → Type 0) (input : List ℕ) (held hel
   pub holds : Holds front
 
 -- What OUT's file holds after a fault of IN, whatever else has failed: it begins with most of what was read. Where
--- nothing else has failed, it holds just what comes before the fault; or, where IN could not be read, what was read, but
--- for less than a window.
+-- nothing else has failed, it holds what comes before the fault; or, where IN could not be read, what was read, but for
+-- less than a window.
 abbrev pub LeavesFront : SparseFault → List ℕ → List ℕ → World → World → OpenFiles → OpenFiles → Type 0
 LeavesFront (of_sparse.Read d) input output old new held held' =
     HoldsBegun (FileHoldsMost new output) input held held' old

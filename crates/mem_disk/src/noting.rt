@@ -6,8 +6,8 @@ ghost use Rattle.sys_disk.specs.World.{MayWrite};
 ghost use Rattle.mem_disk.specs.Memory.{held_of, CountsMore};
 ghost use Rattle.mem_files.specs.Stored.{contents, leads};
 
-use crate::disk::MemoryDisk;
 use crate::Failures;
+use crate::disk::MemoryDisk;
 use abt_io::Tally;
 use mem_files::file_at;
 use std::alloc::AllocError;

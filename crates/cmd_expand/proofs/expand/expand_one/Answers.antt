@@ -1,13 +1,11 @@
-use Rattle.std.proofs.Common.{rules, refl, true, false, Ok, subst}
+use Rattle.std.proofs.Common.{rules, refl, true, Ok, subst}
 use Rattle.sys_disk.proofs.Worlds.{only_written}
 use Rattle.sys_report.proofs.Beside.{beside}
 use Rattle.cmd_expand.specs.Expanding.{ExpandingSays}
-use Rattle.sys_disk.specs.Among.{FileHolds, FileHoldsMost}
 use Rattle.sys_disk.specs.Counts.{added, reads, writes}
-use Rattle.cmd_expand.proofs.Files.{begun_of, most_left}
 use Rattle.cmd_expand.proofs.Files.{clean_behind, ends_behind, expands, failed_behind, failed_first, failed_second}
-use Rattle.cmd_expand.proofs.Files.{failed_since, given_behind, handed_on, holds_left, leaves_expanded, of_failed}
-use Rattle.cmd_expand.proofs.Files.{of_unprinted, refuses, rest_behind, spared_created, synced_once}
+use Rattle.cmd_expand.proofs.Files.{handed_on, leaves_expanded, of_failed, of_unprinted, refuses, rest_behind}
+use Rattle.cmd_expand.proofs.Files.{spared_created, synced_once}
 use Rattle.cmd_expand.proofs.expand.expand_one.Goals as goal
 
 pub returns-in_err-from-clause-refused : goal.returns-in_err-from-clause-refused
@@ -68,38 +66,15 @@ returns-in-Ok-printed-clause-leaves g c = λ t.
 
 pub returns-in-Err-clause-refused : goal.returns-in-Err-clause-refused
 returns-in-Err-clause-refused g c = λ t.
-    let closed = c.in-Err.ensures.closed t in
-    let h' = g.D.Disk.held c.ended.new.disk in
-    let given = g.D.From.Input.given c.expanded-answer.new.from.device in
-    let begun = c.expanded-answer.ensures.begun (g.met.D.Disk.told t) in
-    let came = given_behind _ _ _ _ _ _ _ _ _ _ _ _ _ _ _ _ false (c.in_ok-from.ensures.opened t)
-    (c.in_ok-onto.ensures.created t) (c.let_go.ensures.held t) closed.closed closed.unread
-    (c.in_ok-from.ensures.unread t) in
-    refuses _ _ _ _ _ _ (g.D.Disk.held c.args.disk.now) _ h' _ _ c.expanded-answer.result
-    c.in-Err.refusal.fault _ (g.D.From.Input.read_faults c.expanded-answer.new.from.device) _
-    (g.D.Onto.Output.write_faults c.expanded-answer.new.onto) closed.more
-    (c.in_ok-from.ensures.opened t) (c.in_ok-from.ensures.clean t)
-    (failed_behind _ _ _ _ _ _ _ _ _ _ _ (reads given
-    (g.D.From.Input.read_faults c.expanded-answer.new.from.device))
-    (added closed.more (writes (g.D.Onto.Output.write_faults c.expanded-answer.new.onto))) false
-    (c.in_ok-from.ensures.opened t) (c.in_ok-onto.ensures.created t) (c.let_go.ensures.held t) closed.closed)
-    (c.expanded-answer.ensures.says (g.met.D.Disk.told t)) c.expanded-answer.ensures.blames
-    (λ ok. let told = c.in-Err.ensures.host ok in (
-      told.0,
-      told.1,
-      failed_since _ _ _ _ _ _ _ h' _ _ _ _ _ told.0
-          (c.in_ok-from.ensures.opened t)
-          (c.in_ok-onto.ensures.created t) (c.let_go.ensures.held t) (told.2 t),
-    ))
-    c.in-Err.ensures.told c.in_ok-onto.ensures.empty
-    (begun_of (FileHoldsMost _ _) _ _ _ _ _ _ h' _ _ (c.in_ok-from.ensures.opened t) c.in_ok-onto.ensures.empty begun
-    came
-    (most_left _ _ _ _ _ _ _ _ _ _ (c.in_ok-onto.ensures.created t) (c.let_go.ensures.held t)
-    (c.let_go.ensures.world t) (c.in-Err.ensures.rest t) closed.most))
-    (λ all. begun_of (FileHolds _ _) _ _ _ _ _ _ h' _ _ (c.in_ok-from.ensures.opened t) c.in_ok-onto.ensures.empty
-    begun came all)
-    (λ none. holds_left _ _ _ _ _ _ _ (c.in_ok-onto.ensures.created t) (ends_behind _ _ _ _ _ _ _
-    (c.let_go.ensures.held t) (c.let_go.ensures.world t) (closed.left none)))
+    refuses _ _ _ _ _ _ _ _ _ _ _ _ _ _ _ _ c.expanded-answer.result c.in-Err.refusal.fault _
+    (g.D.From.Input.given c.expanded-answer.new.from.device) _
+    (g.D.From.Input.read_faults c.expanded-answer.new.from.device) _
+    (g.D.Onto.Output.write_faults c.expanded-answer.new.onto) (c.in_ok-from.ensures.opened t)
+    (c.in_ok-from.ensures.unread t) (c.in_ok-from.ensures.clean t) (c.in_ok-onto.ensures.created t)
+    (c.let_go.ensures.held t) (c.let_go.ensures.world t) (c.in-Err.ensures.closed t) (c.in-Err.ensures.rest t)
+    (c.expanded-answer.ensures.says (g.met.D.Disk.told t)) c.expanded-answer.ensures.blames c.in_ok-onto.ensures.empty
+    (c.expanded-answer.ensures.begun (g.met.D.Disk.told t))
+    (λ ok. let told = c.in-Err.ensures.host ok in (told.0, told.1, told.2 t)) c.in-Err.ensures.told
 
 pub returns-in-Err-printed-clause-refused : goal.returns-in-Err-printed-clause-refused
 returns-in-Err-printed-clause-refused g c = λ t.
