@@ -8,14 +8,15 @@ use Rattle.abt_headers.specs.declared.sections.SectionPlace.{SectionPlace}
 use Rattle.sys_disk.specs.Counts.{Cause, Counts, call}
 use Rattle.sys_disk.specs.World.{World, OpenFiles, OpensFile, HasFailed, counting}
 use Rattle.sys_disk.specs.Among.{GoesAmong, IsMade, KeepsMade, FileHolds, OnlyAmong}
-use Rattle.sys_disk.proofs.Amongs.{among_behind, goes_more, goes_none, goes_then, made_later, stands}
+use Rattle.sys_disk.proofs.Amongs.{among_behind, goes_none, goes_then, made_later, stands}
 use Rattle.abt_sections.specs.Header.{Header, places_of, fragment_count, fragment_of}
 use Rattle.abt_sections.specs.Layout.{part_of}
 use Rattle.abt_sections.specs.Open.{HasImage}
 use Rattle.cmd_common_boot.proofs.Causes.{host_image, refused_more, refuses_file}
 use Rattle.cmd_common_boot.specs.declared.fault.BootCommandFault.{BootCommandFault}
 use Rattle.abt_io.specs.declared.device.Source as sources
-use Rattle.cmd_unpack.specs.Writing.{WritesParts}
+use Rattle.cmd_unpack.specs.Writing.{KeepsInUse, WritesParts}
+use Rattle.cmd_unpack.proofs.UnpackSteps.{Allowed, allowed_as, allowed_more, guards_counted, guards_then}
 use Rattle.cmd_unpack.proofs.UnpackSteps.{parts_none}
 use Rattle.cmd_common_texts.specs.Words.{has_table}
 use Rattle.cmd_unpack_aosp_texts.specs.Files.{name_of_fragment, name_of_section}
@@ -187,17 +188,24 @@ file_of_image path folder x header h h' a opens image p named = record {
   is_file = named;
 }
 
--- whatever was done after a file was opened, before it was closed
+-- whatever was done after a file was opened, before it was closed: only such files, where they may be written
 pub only_files : (path folder x : List ℕ) (header : Header) (h h' g h'' k : OpenFiles) (a b c d : World) (m n : Counts)
     → h.begun ≡ [] → OpensFile a path x h h' → b ≡ a → HasImage x header → g ≡ counting m h'
-    → GoesAmong (IsFilePath folder header (file_count header)) g h'' b c → k ≡ counting n h'' → d ≡ c
-    → OnlyAmong (IsFileOf path folder a) h.read k.begun a d
+    → GoesAmong (Allowed (IsFilePath folder header (file_count header)) g) g h'' b c → k ≡ counting n h'' → d ≡ c
+    → OnlyAmong (Allowed (IsFileOf path folder a) h) h.read k.begun a d
 only_files path folder x header h h' g h'' k a b c d m n none opens same image taken goes let_go still =
     let P = IsFilePath folder header (file_count header) in
-    among_behind (IsFileOf path folder a) path x h h' k a b d none opens same
-    (goes_more P (IsFileOf path folder a) h' k b d (file_of_image path folder x header h h' a opens image)
-    (goes_then P h' h'' k b c d (goes_then P h' g h'' b b c (goes_none P h' g b b m taken refl) goes)
-    (goes_none P h'' k c d n let_go still)))
+    let Q = Allowed (IsFileOf path folder a) h in
+    let opened : KeepsInUse h h' = record {
+      in_use = ap (λ q. q.in_use) opens.taken;
+      allows = ap (λ q. q.allows_mounted) opens.taken;
+    } in
+    let guards = guards_then h h' g opened (guards_counted h' g m taken) in
+    let named = allowed_more P (IsFileOf path folder a) h g h'' b c
+    (file_of_image path folder x header h h' a opens image) (allowed_as P h g h'' b c guards goes) in
+    among_behind Q path x h h' k a b d none opens same
+    (goes_then Q h' h'' k b c d (goes_then Q h' g h'' b b c (goes_none Q h' g b b m taken refl) named)
+    (goes_none Q h'' k c d n let_go still))
 
 -- a failure, of the file from which the image was opened
 pub unpack_refused : (path x : List ℕ) (h h' : OpenFiles) (a : World) (P Q : Cause → Type 0)

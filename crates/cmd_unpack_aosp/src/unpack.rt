@@ -5,7 +5,7 @@ ghost use Rattle.sys_refusals.specs.Paths.{path_of};
 ghost use Rattle.abt_sections.specs.Header.{view_of};
 ghost use Rattle.abt_sections.specs.Open.{IsOpened};
 ghost use Rattle.sys_disk.specs.Counts.{Counts};
-ghost use Rattle.sys_disk.specs.World.{HasFailed, IsReading, counting};
+ghost use Rattle.sys_disk.specs.World.{HasFailed, IsReading, MayWrite, counting};
 ghost use Rattle.sys_disk.specs.Among.{OnlyAmong};
 ghost use Rattle.sys_disk.specs.DiskCalls.{KeepsInput};
 ghost use Rattle.cmd_common_boot.specs.ImageFaults.{SomeFailed};
@@ -37,10 +37,12 @@ pub fn unpack_as_aosp<'t, 'a, D: Disk>(
     // each part of the image that IN holds is stored in the folder, in the tool's file for it
     ensures done { IsTrue D.models → OnOk result (UnpacksAsAosp (path_of input.entry) folder.now (D.world disk.old)
         (D.world disk.new)) }
-    // whatever the outcome, only such files were created or changed, and IN holds what it held; no call failed where all
-    // was done
-    ensures only { IsTrue D.models → OnlyAmong (IsFileOf (path_of input.entry) folder.now (D.world disk.old))
-        (D.held disk.old).read (D.held disk.new).begun (D.world disk.old) (D.world disk.new) }
+    // whatever the outcome, only such files were created or changed, each at a path that may be written: it leads to no
+    // device in use, unless such devices may be written
+    ensures only { IsTrue D.models → OnlyAmong (λ path. IsFileOf (path_of input.entry) folder.now (D.world disk.old)
+        path × MayWrite path (D.held disk.old)) (D.held disk.old).read (D.held disk.new).begun (D.world disk.old)
+        (D.world disk.new) }
+    // IN holds what it held; no call failed where all was done
     ensures keeps { KeepsInput D.models result (path_of input.entry) (D.held disk.old) (D.held disk.new)
         (D.world disk.old) (D.world disk.new) }
     // it fails for a fault of IN, or of what has failed: a device, or a call with this fault; or for a fragment without

@@ -87,7 +87,7 @@ returns-in-Ok-write_files g c = record {
       let told = g.met.D.Disk.source_told t in
       only_files _ _ _ _ _ _ _ _ _ _ _ _ _ _ _ (c.requires.first t).begun (c.in-Ok.ensures.opened t)
       (c.in-Ok-refuse_taken.ensures.world t ∙ c.in-Ok.ensures.world t) (c.in-Ok-open.ensures.opens told).has
-      (c.in-Ok-refuse_taken.ensures.clean t ∙ sym (same_counting _)) (c.in-Ok-write_files.ensures.writes t).1.only
+      (c.in-Ok-refuse_taken.ensures.clean t ∙ sym (same_counting _)) (c.in-Ok-write_files.ensures.writes t).1.allowed
       (c.let_go_source-in-Ok-write_files.ensures.held t) (c.let_go_source-in-Ok-write_files.ensures.world t);
   keeps = record {
     input = λ t.
@@ -113,7 +113,7 @@ returns-in-Err-write_files g c = record {
       let told = g.met.D.Disk.source_told t in
       only_files _ _ _ _ _ _ _ _ _ _ _ _ _ _ _ (c.requires.first t).begun (c.in-Ok.ensures.opened t)
       (c.in-Ok-refuse_taken.ensures.world t ∙ c.in-Ok.ensures.world t) (c.in-Ok-open.ensures.opens told).has
-      (c.in-Ok-refuse_taken.ensures.clean t ∙ sym (same_counting _)) (c.in-Err-write_files.ensures.writes t).1.only
+      (c.in-Ok-refuse_taken.ensures.clean t ∙ sym (same_counting _)) (c.in-Err-write_files.ensures.writes t).1.allowed
       (c.let_go_source-in-Err-write_files.ensures.held t) (c.let_go_source-in-Err-write_files.ensures.world t);
   keeps = record {
     input = λ t.
