@@ -101,8 +101,8 @@ fn refuse_taken<'t, 'a, D: Disk>(
     ensures held { IsTrue D.models → (n : Counts) × (D.held disk.new ≡ counting n (D.held disk.old)) }
     ensures clean { IsTrue D.models → OnOk result (D.held disk.new ≡ D.held disk.old) }
     ensures world { IsTrue D.models → D.world disk.new ≡ D.world disk.old }
-    ensures refused { IsTrue D.models → IfErr result (λ refusal. RefusesName (λ cause. HasFailed cause
-        (D.held disk.old) (D.held disk.new)) refusal.fault) }
+    ensures refused { IsTrue D.models → IfErr result (λ refusal. RefusesName (view_of image.now.header)
+        (λ cause. HasFailed cause (D.held disk.old) (D.held disk.new)) refusal.fault) }
 {
     for i in 0..part_count(image, false) {
         match refuse_part(disk, image, i, input, folder) {
@@ -124,8 +124,8 @@ fn refuse_part<'t, 'a, D: Disk>(
     ensures held { IsTrue D.models → (n : Counts) × (D.held disk.new ≡ counting n (D.held disk.old)) }
     ensures clean { IsTrue D.models → OnOk result (D.held disk.new ≡ D.held disk.old) }
     ensures world { IsTrue D.models → D.world disk.new ≡ D.world disk.old }
-    ensures refused { IsTrue D.models → IfErr result (λ refusal. RefusesName (λ cause. HasFailed cause
-        (D.held disk.old) (D.held disk.new)) refusal.fault) }
+    ensures refused { IsTrue D.models → IfErr result (λ refusal. RefusesName (view_of image.now.header)
+        (λ cause. HasFailed cause (D.held disk.old) (D.held disk.new)) refusal.fault) }
 {
     let name = match name_at(image, i) {
         Ok(Some(name)) => name,
@@ -156,8 +156,8 @@ fn write_files<'t, 'a, D: Disk>(
     ensures done { IsTrue D.models → OnOk result (FilesDone folder.now (view_of image.now.header)
         (D.At.content source.old) (file_count (view_of image.now.header)) (D.held disk.new) (D.world disk.new)) }
     ensures refused { IsTrue D.models → IsOpened (D.At.content source.old) image.now → IfErr result (λ refusal.
-        RefusesPart (D.At.content source.old) (SomeFailed (D.held disk.old) (D.At.read_faults source.old)
-        (D.held disk.new) (D.At.read_faults source.new)) refusal.fault) }
+        RefusesPart (D.At.content source.old) (view_of image.now.header) (SomeFailed (D.held disk.old)
+        (D.At.read_faults source.old) (D.held disk.new) (D.At.read_faults source.new)) refusal.fault) }
 {
     for i in 0..part_count(image, false) {
         match write_file(disk, image, i, source, input, folder, progress, w, m) {

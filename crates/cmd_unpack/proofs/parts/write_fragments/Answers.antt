@@ -18,7 +18,7 @@ loop-i-preserved g c = λ t.
     let under : c.loop-i.i ≤ c.loop-i.i + 1 = omega arith in (
       parts_then (parts_more refl (fragment_under under) i.0) (parts_more refl (λ p named. named) e),
       fragments_more _ _ _ _ _ _ _ _ _ i.0.content e.keeps i.1 (c.in-Ok.ensures.done t),
-      fragment_shown _ _ _ _ c.args.report.now c.loop-i.report c.write_fragment.new.report i.0.content i.2
+      fragment_shown _ _ _ _ _ c.args.report.now c.loop-i.report c.write_fragment.new.report i.0.content i.2
           (c.in-Ok.ensures.shown t),
       rises_then c.args.report.now c.loop-i.report c.write_fragment.new.report i.3 c.in-Ok.ensures.rises,
     )

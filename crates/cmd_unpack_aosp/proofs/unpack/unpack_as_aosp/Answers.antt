@@ -67,7 +67,11 @@ returns-in-Err-refuse_taken g c = record {
     clean = λ t. tt;
   };
   refused = λ t.
-      taken_refused _ _ _ _ _ _ _ _ _ (c.in-Ok.ensures.opened t) (c.let_go_source-in-Err-refuse_taken.ensures.held t)
+      let told = g.met.D.Disk.source_told t in
+      let same = c.in-Ok-open.ensures.reads.only.content told in
+      taken_refused _ _ _ _ _ _ _ _ _ _ (opens_as _ _ _ _ _ _ same (c.in-Ok.ensures.opened t))
+      (has_as _ _ c.in-Ok-open.image same (c.in-Ok-open.ensures.opens told))
+      (c.let_go_source-in-Err-refuse_taken.ensures.held t)
       (c.in-Err-refuse_taken.ensures.refused t);
   quiet = refl;
 }
@@ -126,7 +130,8 @@ returns-in-Err-write_files g c = record {
   refused = λ t.
       let told = g.met.D.Disk.source_told t in
       let same = c.in-Ok-open.ensures.reads.only.content told in
-      unpack_refused _ _ _ _ _ _ _ _ (opens_as _ _ _ _ _ _ same (c.in-Ok.ensures.opened t))
+      unpack_refused _ _ _ _ _ _ _ _ _ (opens_as _ _ _ _ _ _ same (c.in-Ok.ensures.opened t))
+      (has_as _ _ c.in-Ok-open.image same (c.in-Ok-open.ensures.opens told))
       (c.in-Err-write_files.ensures.refused t (opened_as _ _ c.in-Ok-open.image same (c.in-Ok-open.ensures.opens told)))
       (λ cause failed. failed_within _ _ _ _ _ _ _ _ _ _ _ _ (c.in-Ok.ensures.opened t) (c.in-Ok.ensures.clean t)
       c.in-Ok-open.ensures.reads.only.clean (c.in-Ok-refuse_taken.ensures.clean t ∙ sym (same_counting _))
