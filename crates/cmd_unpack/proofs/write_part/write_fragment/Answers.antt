@@ -1,7 +1,9 @@
 use Rattle.std.proofs.Common.{ap, true}
 use Rattle.cmd_common_boot.proofs.Causes.{host_refused, ok_gives, told_so}
 use Rattle.cmd_unpack.proofs.Counts.{copy_failed, end_failed, none_created}
+use Rattle.cmd_common_boot.specs.declared.part_names.ImagePart.{ImagePart}
 use Rattle.cmd_common_boot.specs.declared.part_names.ImagePart.TheVariants as parts
+use Rattle.cmd_unpack.specs.Unpacking.{path_of_part}
 use Rattle.cmd_unpack.proofs.Loops.{fragment_named, part_done}
 use Rattle.cmd_unpack.proofs.Shown.{shown_part}
 use Rattle.cmd_common_boot.proofs.Sides.{host_output, reads_host}
@@ -38,7 +40,8 @@ returns-in-Ok-finish g c = record {
       (c.copy_fragment-onto.ensures.copies.written (g.met.D.Disk.source_told t)))
       (c.in-Ok.ensures.created t) (c.in-Ok-finish.ensures.clean t) (c.in-Ok-finish.ensures.ends.ended t);
   shown = λ t.
-      shown_part _ _ _ c.args.report.now c.finish.new.report (parts.Fragment c.args.index) _
+      shown_part (λ (part : ImagePart). g.D.Disk.on_output (path_of_part c.args.folder.now part)) _ _
+      c.args.report.now c.finish.new.report (parts.Fragment c.args.index) _
       (ap g.D.Disk.on_output c.place_of-place.ensures.written) c.in-Ok-finish.ensures.done
       (c.in-Ok-finish.ensures.shown t)
       (c.copy_fragment-onto.ensures.count (g.met.D.Disk.source_told t));

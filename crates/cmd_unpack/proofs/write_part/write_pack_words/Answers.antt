@@ -1,7 +1,9 @@
 use Rattle.std.proofs.Common.{ap, true}
 use Rattle.cmd_common_boot.proofs.Causes.{host_refused, ok_gives, told_so}
 use Rattle.cmd_unpack.proofs.Counts.{copy_failed, end_failed, none_created}
+use Rattle.cmd_common_boot.specs.declared.part_names.ImagePart.{ImagePart}
 use Rattle.cmd_common_boot.specs.declared.part_names.ImagePart.TheVariants as parts
+use Rattle.cmd_unpack.specs.Unpacking.{path_of_part}
 use Rattle.cmd_unpack.proofs.Loops.{part_done}
 use Rattle.cmd_unpack.proofs.Shown.{shown_some}
 use Rattle.cmd_common_boot.proofs.Sides.{host_output, reads_host}
@@ -35,7 +37,9 @@ returns-in-Ok-finish g c = record {
       c.in-Ok.ensures.empty
       (ok_gives _ _ c.in-Ok-finish.ensures.done (c.copy_words-onto.ensures.written (g.met.D.Disk.source_told t)))
       (c.in-Ok.ensures.created t) (c.in-Ok-finish.ensures.clean t) (c.in-Ok-finish.ensures.ends.ended t);
-  shown = λ t. shown_some _ _ _ c.args.report.now c.finish.new.report parts.Words
+  shown = λ t.
+      shown_some (λ (part : ImagePart). g.D.Disk.on_output (path_of_part c.args.folder.now part)) _ _
+      c.args.report.now c.finish.new.report parts.Words
       (ap g.D.Disk.on_output c.place_of-place.ensures.written) c.in-Ok-finish.ensures.done
       (c.in-Ok-finish.ensures.shown t);
   refused = λ t opened. tt;

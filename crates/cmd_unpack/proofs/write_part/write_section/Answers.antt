@@ -1,6 +1,7 @@
-use Rattle.std.proofs.Common.{◌∙◌, ap, subst, true}
+use Rattle.std.proofs.Common.{◌∙◌, Bool, ap, subst, true}
 use Rattle.cmd_common_boot.proofs.Causes.{host_refused, ok_gives, told_so}
 use Rattle.cmd_unpack.proofs.Counts.{copy_failed, end_failed, none_created}
+use Rattle.cmd_common_boot.specs.declared.part_names.ImagePart.{ImagePart}
 use Rattle.cmd_unpack.specs.Lines.{ShowsPart}
 use Rattle.cmd_unpack.specs.Unpacking.{path_of_part, section_part}
 use Rattle.cmd_unpack.proofs.Loops.{part_done, same_path, same_section, section_named}
@@ -41,7 +42,7 @@ returns-in-Ok-finish g c =
           (ok_gives _ _ done ((c.copy_section-onto.ensures.copies p found).written (g.met.D.Disk.source_told t)))
           (c.in-Ok.ensures.created t) (c.in-Ok-finish.ensures.clean t) (c.in-Ok-finish.ensures.ends.ended t);
       shown = λ t p found.
-          let on = λ part. g.D.Disk.on_output (path_of_part c.args.folder.now part) in
+          let on : ImagePart → Bool = λ part. g.D.Disk.on_output (path_of_part c.args.folder.now part) in
           subst (λ part. ShowsPart on (record { part = part; bytes = p.size }) c.args.report.now c.finish.new.report)
           (ap section_part (same_section _ c.args.i c.section.result p c.requires.there c.section.ensures.value found))
           (shown_part on _ _ c.args.report.now c.finish.new.report (section_part c.section.result) p.size
