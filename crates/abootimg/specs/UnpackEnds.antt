@@ -62,14 +62,14 @@ pub record PartsOn (image : UnpackImage) (world : World) (held : OpenFiles) (wor
   -- else, which is status 1, the command refuses them
   pub status_is : status ≤ 1
   pub refused : status ≢ 0 → PartsRefused image world held held'
-  -- whatever the status, only files of parts were created or changed, at paths that may be written, and the image's file
-  -- holds what it held
+  -- whatever the status, only files of parts were created or changed, at paths that may be written, and the image's
+  -- file holds what it held
   pub only : OnlyAmong (λ path. IsFileOf image.input.now image.folder.now world path × MayWrite path held) held.read
       held'.begun world world'
   pub keeps : KeepsFile image.input.now world world'
 
--- The same on a disk of their own, on which nothing was open, and which may write no device in use. What has failed on it
--- has failed in the run.
+-- The same on a disk of their own, on which nothing was open, and which may write no device in use. What has failed on
+-- it has failed in the run.
 pub record PartsEnd (image : UnpackImage) (a z : Stored) (status : ℕ) : Type 0 where
   pub held : OpenFiles
   pub held' : OpenFiles

@@ -56,9 +56,9 @@ impl Storage for SystemStorage {
     type Disk = Host<OsSystem>;
 
     ghost its = { λ _. record {
-        world = record { at = λ _. None; holds = λ _. [] };
-        in_use = λ _. false;
-        counts = no_counts
+      world = record { at = λ _. None; holds = λ _. [] };
+      in_use = λ _. false;
+      counts = no_counts;
     } };
 
     fn disk(&self) -> Host<OsSystem> {

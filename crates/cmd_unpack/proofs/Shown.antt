@@ -14,8 +14,8 @@ use Rattle.abt_sections.specs.Header.{Header, places_of, fragment_count}
 use Rattle.abt_sections.specs.declared.fault.SectionFault.{SectionFault}
 use Rattle.cmd_common_boot.specs.declared.part_names.ImagePart.{ImagePart}
 use Rattle.cmd_common_boot.specs.declared.part_names.ImagePart.TheVariants as parts
-use Rattle.cmd_unpack.specs.Lines.{ShowsEach, ShowsPart, ToldPart, told_fragment, told_fragments, told_part, told_parts}
-use Rattle.cmd_unpack.specs.Lines.{told_section}
+use Rattle.cmd_unpack.specs.Lines.{ShowsEach, ShowsLineOf, ToldPart, told_fragment, told_fragments, told_part}
+use Rattle.cmd_unpack.specs.Lines.{told_parts, told_section}
 
 pub silent : (a : Report) → IsSilent a a
 silent a = ((refl, refl), refl)
@@ -56,12 +56,12 @@ each_then on [] more a b c first next = each_behind on more a b c first next
 each_then on (line ∷ lines) more a b c first next =
     (first.0, first.1, each_then on lines more first.0 b c first.2 next)
 
-pub each_one : (on : ImagePart → Bool) (line : ToldPart) (a b : Report) → ShowsPart on line a b
+pub each_one : (on : ImagePart → Bool) (line : ToldPart) (a b : Report) → ShowsLineOf on line a b
     → ShowsEach on (line ∷ []) a b
 each_one on line a b shows = (b, shows, silent b)
 
 pub one_more : (on : ImagePart → Bool) (lines : List ToldPart) (line : ToldPart) (a b c : Report)
-    → ShowsEach on lines a b → ShowsPart on line b c → ShowsEach on (lines ++ (line ∷ [])) a c
+    → ShowsEach on lines a b → ShowsLineOf on line b c → ShowsEach on (lines ++ (line ∷ [])) a c
 one_more on lines line a b c each shows = each_then on lines (line ∷ []) a b c each (each_one on line b c shows)
 
 -- ---- of a part
@@ -69,7 +69,7 @@ one_more on lines line a b c each shows = each_then on lines (line ∷ []) a b c
 pub shown_part : (on : ImagePart → Bool) (beside : Bool) (answer : Result ℕ SectionFault) (a b : Report)
     (part : ImagePart) (m : ℕ) → beside ≡ on part → IsOk answer
     → IfOk answer (λ n. ShowsBeside beside a b (told_part part n)) → IfOk answer (λ n. n ≡ m)
-    → ShowsPart on (record { part = part; bytes = m }) a b
+    → ShowsLineOf on (record { part = part; bytes = m }) a b
 shown_part on beside (Ok n) a b part m same done shows count =
     subst (λ k. ShowsBeside k a b (told_part part m)) same
     (subst (λ k. ShowsBeside beside a b (told_part part k)) count shows)
@@ -79,7 +79,7 @@ shown_part on beside (Err e) a b part m same done shows count = absurd (false≢
 pub shown_some : (on : ImagePart → Bool) (beside : Bool) (answer : Result ℕ SectionFault) (a b : Report)
     (part : ImagePart) → beside ≡ on part → IsOk answer
     → IfOk answer (λ n. ShowsBeside beside a b (told_part part n))
-    → (n : ℕ) × ShowsPart on (record { part = part; bytes = n }) a b
+    → (n : ℕ) × ShowsLineOf on (record { part = part; bytes = n }) a b
 shown_some on beside (Ok n) a b part same done shows =
     (n, subst (λ k. ShowsBeside k a b (told_part part n)) same shows)
 shown_some on beside (Err e) a b part same done shows = absurd (false≢true done)
@@ -90,7 +90,7 @@ some_place = record { kind = kinds.Kernel; at = 0; size = 0 }
 -- one section more
 pub section_shown : (on : ImagePart → Bool) (h : Header) (i : ℕ) (a b c : Report) → i < length (places_of h)
     → ShowsEach on (map told_section (take i (places_of h))) a b
-    → ((p : SectionPlace) → p ≡ slice_index_or (places_of h) i p → ShowsPart on (told_section p) b c)
+    → ((p : SectionPlace) → p ≡ slice_index_or (places_of h) i p → ShowsLineOf on (told_section p) b c)
     → ShowsEach on (map told_section (take (i + 1) (places_of h))) a c
 section_shown on h i a b c there each shows =
     let places = places_of h in
@@ -106,13 +106,13 @@ section_shown on h i a b c there each shows =
 
 -- one fragment more
 pub fragment_shown : (on : ImagePart → Bool) (x y : List ℕ) (h : Header) (n : ℕ) (a b c : Report) → y ≡ x
-    → ShowsEach on (told_fragments x h n) a b → ShowsPart on (told_fragment y h n) b c
+    → ShowsEach on (told_fragments x h n) a b → ShowsLineOf on (told_fragment y h n) b c
     → ShowsEach on (told_fragments x h (n + 1)) a c
 fragment_shown on x y h n a b c same each shows =
     let next : suc n ≡ n + 1 = omega arith in
     subst (λ k. ShowsEach on (told_fragments x h k) a c) next
     (one_more on (told_fragments x h n) (told_fragment x h n) a b c each
-    (subst (λ z. ShowsPart on (told_fragment z h n) b c) same shows))
+    (subst (λ z. ShowsLineOf on (told_fragment z h n) b c) same shows))
 
 -- ---- all parts
 
@@ -136,7 +136,7 @@ all_but_words on x y h false a b c same none sections fragments =
 pub all_shown : (on : ImagePart → Bool) (x y : List ℕ) (h : Header) (with_words : Bool) (a b c d : Report) → y ≡ x
     → with_words ≡ true → ShowsEach on (map told_section (places_of h)) a b
     → ShowsEach on (told_fragments y h (fragment_count h)) b c
-    → ((n : ℕ) × ShowsPart on (record { part = parts.Words; bytes = n }) c d)
+    → ((n : ℕ) × ShowsLineOf on (record { part = parts.Words; bytes = n }) c d)
     → (n : ℕ) × ShowsEach on (told_parts x h with_words n) a d
 all_shown on x y h true a b c d same wanted sections fragments words =
     let last : ToldPart = record { part = parts.Words; bytes = words.0 } in (

@@ -48,16 +48,16 @@ told_parts x h with_words bytes =
 
 -- Its line was printed: to standard error if data goes to standard output, as it does from now on if the part's file is
 -- where that goes.
-abbrev pub ShowsPart : (ImagePart → Bool) → ToldPart → Report → Report → Type 0
-ShowsPart on_output told old new = ShowsBeside (on_output told.part) old new (told_part told.part told.bytes)
+abbrev pub ShowsLineOf : (ImagePart → Bool) → ToldPart → Report → Report → Type 0
+ShowsLineOf on_output told old new = ShowsBeside (on_output told.part) old new (told_part told.part told.bytes)
 
 -- the lines of parts were printed, one after another, and nothing else
 abbrev pub ShowsEach : (ImagePart → Bool) → List ToldPart → Report → Report → Type 0
 ShowsEach on_output [] old new = IsSilent old new
 ShowsEach on_output (told ∷ more) old new =
-    (next : Report) × ShowsPart on_output told old next × ShowsEach on_output more next new
+    (next : Report) × ShowsLineOf on_output told old next × ShowsEach on_output more next new
 
 -- the line of section i was
 abbrev pub ShowsSection : (ImagePart → Bool) → Header → ℕ → Report → Report → Type 0
 ShowsSection on_output h i old new =
-    (p : SectionPlace) → p ≡ slice_index_or (places_of h) i p → ShowsPart on_output (told_section p) old new
+    (p : SectionPlace) → p ≡ slice_index_or (places_of h) i p → ShowsLineOf on_output (told_section p) old new

@@ -12,7 +12,7 @@ ghost use Rattle.abt_sections.specs.Header.{fragment_count, fragment_of, places_
 ghost use Rattle.abt_sections.specs.Open.{IsOpened};
 ghost use Rattle.sys_disk.specs.Among.{IsMade};
 ghost use Rattle.cmd_common_boot.specs.ImageFaults.{IsAnswerOf, IsRefusedOver, SomeFailed};
-ghost use Rattle.cmd_unpack.specs.Lines.{ShowsPart, ShowsSection, told_fragment, told_part};
+ghost use Rattle.cmd_unpack.specs.Lines.{ShowsLineOf, ShowsSection, told_fragment, told_part};
 ghost use Rattle.sys_refusals.specs.Paths.{path_out};
 ghost use Rattle.cmd_unpack.specs.Unpacking.{IsFragmentPath, IsSectionPath, SectionDone, TellsOfPart, WordsDone};
 ghost use Rattle.cmd_unpack.specs.Unpacking.{path_of_part};
@@ -96,7 +96,7 @@ pub(crate) fn write_fragment<'t, 'a, D: Disk>(
     ensures done { IsTrue D.models → OnOk result (IsMade (D.held disk.new) (D.world disk.new)
         (path_of_part folder.now (parts.Fragment index))
         (fragment_of (D.At.content source.old) (view_of image.now.header) index)) }
-    ensures shown { IsTrue D.models → OnOk result (ShowsPart (λ part. D.on_output (path_of_part folder.now part))
+    ensures shown { IsTrue D.models → OnOk result (ShowsLineOf (λ part. D.on_output (path_of_part folder.now part))
         (told_fragment (D.At.content source.old) (view_of image.now.header) index) report.old report.new) }
     ensures rises { OnOk result (refusals report.old ≤ refusals report.new) }
     ensures refused { IsTrue D.models → IsOpened (D.At.content source.old) image.now → IfErr result (λ refusal.
@@ -139,8 +139,8 @@ pub(crate) fn write_pack_words<'t, 'a, D: Disk>(
         D.At.Source source.old source.new (D.held disk.old) (D.held disk.new) (D.world disk.old) (D.world disk.new) }
     ensures done { IsTrue D.models → OnOk result (WordsDone folder.now (view_of image.now.header)
         (D.At.content source.old) (D.held disk.new) (D.world disk.new)) }
-    ensures shown { IsTrue D.models → OnOk result ((bytes : ℕ) × ShowsPart (λ part. D.on_output (path_of_part folder.now
-        part)) (record { part = parts.Words; bytes = bytes }) report.old report.new) }
+    ensures shown { IsTrue D.models → OnOk result ((bytes : ℕ) × ShowsLineOf (λ part. D.on_output (path_of_part
+        folder.now part)) (record { part = parts.Words; bytes = bytes }) report.old report.new) }
     ensures refused { IsTrue D.models → IsOpened (D.At.content source.old) image.now → IfErr result (λ refusal.
         IsRefusedOver (D.At.content source.old) (SomeFailed (D.held disk.old) (D.At.read_faults source.old)
         (D.held disk.new) (D.At.read_faults source.new)) (WordsDone folder.now (view_of image.now.header)
@@ -182,8 +182,8 @@ fn finish<'t, 'a, D: Disk>(
         ≡ ended true (writes (D.Onto.write_faults onto)) (D.held disk.old)) }
     ensures counts { IsTrue D.models → (cause : Cause) → (D.held disk.old).counts.failed cause
         + of_writing (D.Onto.write_faults onto) cause ≤ (D.held disk.new).counts.failed cause }
-    ensures shown { IsTrue D.models → OnOk result (IfOk answer (λ bytes. ShowsBeside (D.on_output (path_out place.entry))
-        report.old report.new (told_part part bytes))) }
+    ensures shown { IsTrue D.models → OnOk result (IfOk answer (λ bytes. ShowsBeside (D.on_output (path_out
+        place.entry)) report.old report.new (told_part part bytes))) }
     ensures rises { OnOk result (refusals report.old ≤ refusals report.new) }
     ensures told { IsTrue D.models → IfErr result (λ refusal. IsAnswerOf answer
         (λ cause. (D.held disk.old).counts.failed cause + of_writing (D.Onto.write_faults onto) cause

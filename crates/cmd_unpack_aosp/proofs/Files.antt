@@ -20,8 +20,8 @@ use Rattle.cmd_unpack.proofs.UnpackSteps.{Allowed, allowed_as, allowed_more, gua
 use Rattle.cmd_unpack.proofs.UnpackSteps.{parts_none}
 use Rattle.cmd_common_texts.specs.Words.{has_table}
 use Rattle.cmd_unpack_aosp_texts.specs.Files.{name_of_fragment, name_of_section}
-use Rattle.cmd_unpack_aosp.specs.AospFiles.{FileDone, FilesDone, IsFileOf, IsFilePath, IsUnnamed, IsUnnamedAt, RefusesName}
-use Rattle.cmd_unpack_aosp.specs.AospFiles.{RefusesPart, RefusesUnpack}
+use Rattle.cmd_unpack_aosp.specs.AospFiles.{FileDone, FilesDone, IsFileOf, IsFilePath, IsUnnamed, IsUnnamedAt}
+use Rattle.cmd_unpack_aosp.specs.AospFiles.{RefusesName, RefusesPart, RefusesUnpack}
 use Rattle.cmd_unpack_aosp.specs.AospFiles.{UnpacksAsAosp}
 use Rattle.cmd_unpack_aosp.specs.AospFiles.{part_bytes_at, file_count, name_at, no_place, path_in_folder, place_at}
 

@@ -13,7 +13,8 @@ use Rattle.cmd_unpack.proofs.write_part.write_fragment.Goals as goal
 pub returns-in-Err : goal.returns-in-Err
 returns-in-Err g c = record {
   writes = λ t.
-      part_refused (fragment_named _ _ c.args.index _ c.requires.there c.place_of-place.ensures.path) _ (c.requires.one t)
+      part_refused (fragment_named _ _ c.args.index _ c.requires.there c.place_of-place.ensures.path) _
+      (c.requires.one t)
       (c.in-Err.ensures.kept t) (c.in-Err.ensures.only t) (c.in-Err.ensures.begun t) (c.in-Err.ensures.guarded t);
   done = λ t. tt;
   shown = λ t. tt;

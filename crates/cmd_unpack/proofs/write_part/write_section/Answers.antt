@@ -2,7 +2,7 @@ use Rattle.std.proofs.Common.{◌∙◌, Bool, ap, subst, true}
 use Rattle.cmd_common_boot.proofs.Causes.{host_refused, ok_gives, told_so}
 use Rattle.cmd_unpack.proofs.Counts.{copy_failed, end_failed, none_created}
 use Rattle.cmd_common_boot.specs.declared.part_names.ImagePart.{ImagePart}
-use Rattle.cmd_unpack.specs.Lines.{ShowsPart}
+use Rattle.cmd_unpack.specs.Lines.{ShowsLineOf}
 use Rattle.cmd_unpack.specs.Unpacking.{path_of_part, section_part}
 use Rattle.cmd_unpack.proofs.Loops.{part_done, same_path, same_section, section_named}
 use Rattle.cmd_unpack.proofs.Shown.{shown_part}
@@ -36,14 +36,14 @@ returns-in-Ok-finish g c =
           (ok_gives _ _ done (copies.content (g.met.D.Disk.source_told t))) (c.in-Ok.ensures.clean t)
           (ok_gives _ _ done copies.clean);
       done = λ t p found.
-          part_done _ _ _ _ _ true _ _ _ _ _ _ _ (c.place_of-place.ensures.path ∙ same_path _ _ c.args.i c.section.result p
-          c.requires.there c.section.ensures.value found)
+          part_done _ _ _ _ _ true _ _ _ _ _ _ _ (c.place_of-place.ensures.path ∙ same_path _ _ c.args.i
+          c.section.result p c.requires.there c.section.ensures.value found)
           c.in-Ok.ensures.empty
           (ok_gives _ _ done ((c.copy_section-onto.ensures.copies p found).written (g.met.D.Disk.source_told t)))
           (c.in-Ok.ensures.created t) (c.in-Ok-finish.ensures.clean t) (c.in-Ok-finish.ensures.ends.ended t);
       shown = λ t p found.
           let on : ImagePart → Bool = λ part. g.D.Disk.on_output (path_of_part c.args.folder.now part) in
-          subst (λ part. ShowsPart on (record { part = part; bytes = p.size }) c.args.report.now c.finish.new.report)
+          subst (λ part. ShowsLineOf on (record { part = part; bytes = p.size }) c.args.report.now c.finish.new.report)
           (ap section_part (same_section _ c.args.i c.section.result p c.requires.there c.section.ensures.value found))
           (shown_part on _ _ c.args.report.now c.finish.new.report (section_part c.section.result) p.size
           (ap g.D.Disk.on_output c.place_of-place.ensures.written) done (c.in-Ok-finish.ensures.shown t)
