@@ -26,6 +26,6 @@ pub use completions::Shell;
 pub use fault::WordsFault;
 pub use order::{BootTask, Given, Order, PackOrder, Pieces, SparseTask, Task};
 pub use parser::with_rows;
-pub use reading::{answers_of, expand, order_of};
+pub use reading::{answers_of, expand, order_of, told_by};
 pub use rows::Work;
 pub use table::{FLAG, PART, PATH, TEXT, VERSION, options};

@@ -66,8 +66,8 @@ fn fault_for<S: AsStr>(alloc: Global, words: &[S], error: Error) -> WordsFault
     }
 }
 
-// The fault that clap tells of, in the place of one of the words themselves.
-fn told_by(fault: WordsFault, told: Error) -> WordsFault
+/// The fault that clap tells of, in the place of one of the words themselves.
+pub fn told_by(fault: WordsFault, told: Error) -> WordsFault
     ensures { IsOfWords result → IsOfWords fault }
 {
     match fault {
@@ -231,8 +231,11 @@ pub fn answers_of<'a, S: AsStr>(
     rows: &'static [Row],
     words: &'a [S],
 ) -> Result<Option<Answers<'a>>, WordsFault>
-    ensures { IfOk result (λ found. IfSome found (λ answers. AreAnswersOf (map shape_of rows.entry.now)
+    ensures answers { IfOk result (λ found. IfSome found (λ answers. AreAnswersOf (map shape_of rows.entry.now)
         (map S.text words.entry.now) answers.all.items)) }
+    // none are found only if these words have none
+    ensures none { FindsNone result → (all : List Answer) →
+        AreAnswersOf (map shape_of rows.entry.now) (map S.text words.entry.now) all → ⊥ }
 {
     let rows = listed(alloc, rows)?;
     match said_by(alloc, rows.as_slice(), true, words)? {

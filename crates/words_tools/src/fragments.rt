@@ -1,8 +1,12 @@
 //! The words of ramdisk fragments, separated from the other words of a call of mkbootimg.
 
-ghost use Rattle.std.specs.Prelude.{◌≡◌, ◌++◌, ℕ, List, [], ◌∷◌, IfOk, IfSome, IsTrue, OnOk, Contains, codes, map};
+ghost use Rattle.std.specs.Prelude.{◌≡◌, ◌++◌, ℕ, List, [], ◌∷◌, IfErr, IfOk, IfSome, IsTrue, OnOk, Contains, codes, map};
 ghost use Rattle.words_sayings.specs.Rows.{shape_of};
+ghost use Rattle.words_values.specs.NumberWord.{IsRead};
+ghost use Rattle.words_orders.specs.declared.answers.Answer.{Answer};
+ghost use Rattle.words_orders.specs.Refused.{IsOfWords};
 ghost use Rattle.words_tools.specs.Fragments.{AreParted, AreParting, IsAnswerTo, IsNameOf, SaysOption, fragment_rows};
+ghost use Rattle.words_tools.specs.Rejected.{RejectsParts, RejectsWord};
 
 use crate::hyphens::is_value;
 use crate::shortening::is_short_of;
@@ -56,26 +60,29 @@ impl<'a> Parted<'a> {
         before: Option<&'static Row>,
         word: &'a str,
     ) -> Result<Option<&'static Row>, WordsFault>
-        ensures { (words : List (List ℕ)) → AreParting words self.old.said.items
+        ensures parting { (words : List (List ℕ)) → AreParting words self.old.said.items
             (map (λ it. it.now) self.old.others.items) before.entry → IfOk result (AreParting (words ++ (word.now ∷ []))
             self.new.said.items (map (λ it. it.now) self.new.others.items)) }
+        ensures refused { IfErr result (λ fault. IsOfWords fault → RejectsWord before.entry word.now) }
     {
         if let Some(row) = before {
             if !(is_value(fragment_rows(), word) && is_value(Tool::Mkbootimg.rows(), word)) {
                 return Err(WordsFault::NotTaken(NO_VALUE));
             }
-            self.say(answer_of(alloc, row, word)?)?;
-            return Ok(None);
+            return match self.say(alloc, row, word) {
+                Ok(()) => Ok(None),
+                Err(fault) => Err(fault),
+            };
         }
         match kind_of(word) {
             WordKind::Other => {
                 self.leave(word)?;
                 Ok(None)
             }
-            WordKind::WithEquals(row, value) => {
-                self.say(answer_of(alloc, row, value)?)?;
-                Ok(None)
-            }
+            WordKind::WithEquals(row, value) => match self.say(alloc, row, value) {
+                Ok(()) => Ok(None),
+                Err(fault) => Err(fault),
+            },
             WordKind::WithNext(row) => Ok(Some(row)),
         }
     }
@@ -89,12 +96,24 @@ impl<'a> Parted<'a> {
         Ok(())
     }
 
-    fn say(&mut self, answer: Answer<'a>) -> Result<(), AllocError>
-        ensures said { OnOk result (self.new.said.items ≡ self.old.said.items ++ (answer.entry ∷ [])) }
+    // Adds the answer of a word to a row.
+    fn say(&mut self, alloc: Global, row: &'static Row, word: &'a str) -> Result<(), WordsFault>
+        ensures said { OnOk result ((answer : Answer) × IsAnswerTo row.now word.now answer
+            × (self.new.said.items ≡ self.old.said.items ++ (answer ∷ []))) }
         ensures others { OnOk result (self.new.others.items ≡ self.old.others.items) }
+        ensures refused { IfErr result (λ fault. IsOfWords fault → (n : ℕ) → IsRead row.now.value word.now n → ⊥) }
     {
-        self.said.push(answer)?;
-        Ok(())
+        match number_in(row.value, word) {
+            Some(number) => match self.said.push(Answer { row, word, number }) {
+                Ok(()) => Ok(()),
+                Err(_) => Err(WordsFault::Memory),
+            },
+            None => Err(WordsFault::BadNumber {
+                word: String::from_str(alloc, word)?,
+                is_number: number_word(word).is_some(),
+                is_verbose: false,
+            }),
+        }
     }
 }
 
@@ -110,31 +129,22 @@ pub(crate) enum WordKind<'a> {
 
 /// The words of ramdisk fragments, and the others.
 pub fn part_words<'a, S: AsStr>(alloc: Global, words: &'a [S]) -> Result<Parted<'a>, WordsFault>
-    ensures { IfOk result (λ parted. AreParted (map S.text words.now) parted.said.items
+    ensures parted { IfOk result (λ parted. AreParted (map S.text words.now) parted.said.items
         (map (λ word. word.now) parted.others.items)) }
+    // they are rejected only if an option of fragments has no value, or a wrong one, or for want of memory
+    ensures refused { IfErr result (λ fault. IsOfWords fault → RejectsParts (map S.text words.now)) }
 {
     let mut parted = Parted::new(alloc);
     let mut before = None;
     for word in words {
-        before = parted.take(alloc, before, word.as_str())?;
+        match parted.take(alloc, before, word.as_str()) {
+            Ok(next) => before = next,
+            Err(fault) => return Err(fault),
+        }
     }
     match before {
         Some(_row) => Err(WordsFault::NotTaken(NO_VALUE)),
         None => Ok(parted),
-    }
-}
-
-// The answer of a word to a row.
-fn answer_of<'a>(alloc: Global, row: &'static Row, word: &'a str) -> Result<Answer<'a>, WordsFault>
-    ensures { IfOk result (IsAnswerTo row.now word.now) }
-{
-    match number_in(row.value, word) {
-        Some(number) => Ok(Answer { row, word, number }),
-        None => Err(WordsFault::BadNumber {
-            word: String::from_str(alloc, word)?,
-            is_number: number_word(word).is_some(),
-            is_verbose: false,
-        }),
     }
 }
 

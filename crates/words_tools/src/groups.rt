@@ -1,6 +1,6 @@
 //! The ramdisk fragments that words of mkbootimg ask for, and their board ids.
 
-ghost use Rattle.std.specs.Prelude.{◌≡◌, ◌++◌, List, IfOk, IfSome, IsTrue};
+ghost use Rattle.std.specs.Prelude.{◌≡◌, ◌⊎◌, ◌++◌, List, IfOk, IfSome, IsTrue, Contains, true};
 ghost use Rattle.std.specs.List.{AllZip};
 ghost use Rattle.words_tools.specs.Fragments.{BoardSaid, FragmentSaid, IsSpelledBoard, IsBoardText, IsSpelledFragment};
 ghost use Rattle.words_tools.specs.Fragments.{IsFragmentText, board_by, board_said, boards_said, count_behind};
@@ -8,6 +8,9 @@ ghost use Rattle.words_tools.specs.Fragments.{ended_by};
 ghost use Rattle.words_tools.specs.Fragments.{fragment_said, fragments_said, group_behind, group_of, group_with};
 ghost use Rattle.words_tools.specs.Fragments.{is_board, is_file_word, no_group, of_platform, platform_group};
 ghost use Rattle.words_tools.specs.Fragments.{ramdisk_type};
+
+ghost use Rattle.words_tools.specs.Fragments.{FragmentSaid};
+ghost use Rattle.words_tools.specs.Rejected.{EndsInGroup, IsOfName, RejectsFragments, RejectsName, RejectsType};
 
 use crate::fragments::{FRAGMENT, cut};
 use std::alloc::{AllocError, Global};
@@ -298,11 +301,19 @@ fn says_board(text: &str, fragment: u64, place: &str, number: u64) -> bool
 
 // ---- what is rejected
 
-/// Why these fragments are rejected, with or without that of `--vendor_ramdisk` before them.
-pub(crate) fn fragments_refusal(said: &[Answer<'_>], has_ramdisk: bool) -> Option<&'static str> {
+const SAME_NAME: &str = "two fragments have the same name";
+
+/// Why these fragments are rejected, behind that of `--vendor_ramdisk` if it is given.
+pub(crate) fn fragments_refusal(
+    said: &[Answer<'_>],
+    ramdisk: Option<Answer<'_>>,
+) -> Option<&'static str>
+    ensures { IfSome result (λ _. RejectsFragments (of_platform ramdisk.entry ++ fragments_said no_group said.now)
+        ⊎ EndsInGroup said.now) }
+{
     let mut group = Group::new();
     for i in 0..said.len() {
-        let refusal = end_refusal(group, &said[..i], &said[i], has_ramdisk);
+        let refusal = end_refusal(group, &said[..i], &said[i], ramdisk);
         if refusal.is_some() {
             return refusal;
         }
@@ -321,10 +332,14 @@ fn end_refusal(
     group: Group<'_>,
     before: &[Answer<'_>],
     said: &Answer<'_>,
-    has_ramdisk: bool,
-) -> Option<&'static str> {
+    ramdisk: Option<Answer<'_>>,
+) -> Option<&'static str>
+    ensures file { IfSome result (λ _. is_file_word said.now ≡ true) }
+    ensures group { IfSome result (λ _. RejectsType (group_of group.entry).kind
+        ⊎ RejectsName (of_platform ramdisk.entry ++ fragments_said no_group before.now) (group_of group.entry).name) }
+{
     if is_file_word(said) {
-        group_refusal(group, before, has_ramdisk)
+        group_refusal(group, before, ramdisk)
     } else {
         None
     }
@@ -334,8 +349,11 @@ fn end_refusal(
 fn group_refusal(
     group: Group<'_>,
     before: &[Answer<'_>],
-    has_ramdisk: bool,
-) -> Option<&'static str> {
+    ramdisk: Option<Answer<'_>>,
+) -> Option<&'static str>
+    ensures { IfSome result (λ _. RejectsType (group_of group.entry).kind
+        ⊎ RejectsName (of_platform ramdisk.entry ++ fragments_said no_group before.now) (group_of group.entry).name) }
+{
     match group.kind {
         Some(kind) if kind <= u32::MAX as u64 => {}
         _ => return Some("--ramdisk_type is none, platform, recovery, dlkm or a number"),
@@ -346,18 +364,23 @@ fn group_refusal(
     if name == "default" {
         return Some("no fragment has the name default");
     }
-    if name.contains(':') {
+    if cut(name, ":").is_some() {
         return Some("a name has no colon: use abootimg pack with --escaped");
     }
-    if (has_ramdisk && name.is_empty()) || is_named_in(before, name) {
-        Some("two fragments have the same name")
-    } else {
-        None
+    if ramdisk.is_some() && name.is_empty() {
+        return Some(SAME_NAME);
     }
+    if is_named_in(before, name) {
+        return Some(SAME_NAME);
+    }
+    None
 }
 
 // Whether one of these fragments has this name.
-fn is_named_in(said: &[Answer<'_>], name: &str) -> bool {
+fn is_named_in(said: &[Answer<'_>], name: &str) -> bool
+    ensures { IsTrue result → (f : FragmentSaid)
+        × (Contains (fragments_said no_group said.now) f × IsOfName name.now f) }
+{
     let mut group = Group::new();
     for answer in said {
         if is_file_word(answer) && group.name == Some(name) {

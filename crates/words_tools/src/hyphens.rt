@@ -1,6 +1,10 @@
-//! Which words with a hyphen are values, by the rules of Python's argparse. Nothing that is proved rests on it: no
-//! contract depends on how clap reads words.
+//! Which words with a hyphen are values, by the rules of Python's argparse. No contract depends on how clap reads words.
 
+ghost use Rattle.std.specs.Prelude.{◌≡◌, ◌∷◌, ℕ, List, IfSome, IsTrue, false, map};
+ghost use Rattle.words_sayings.specs.Rows.{shape_of};
+ghost use Rattle.words_tools.specs.Rejected.{AwaitsNext, BeginsLetter, BeginsOption, HasHyphenValue};
+
+use crate::shortening::begins;
 use std::convert::AsStr;
 use words_values::{Row, WordPlace};
 
@@ -16,13 +20,33 @@ pub(crate) fn are_values<S: AsStr>(rows: &[Row], words: &[S]) -> bool {
     true
 }
 
+/// Whether a word that begins with a hyphen stands behind an option that has no value of its own.
+pub(crate) fn has_hyphen_value<S: AsStr>(rows: &[Row], words: &[S]) -> bool
+    ensures { IsTrue result → HasHyphenValue (map shape_of rows.now) (map S.text words.now) }
+{
+    for i in 1..words.len() {
+        if awaits_value(rows, words[i - 1].as_str()) && behind_hyphen(words[i].as_str()).is_some() {
+            return true;
+        }
+    }
+    false
+}
+
 /// Whether a word can be the value of the option before it. One that begins with a hyphen is a number below zero or has
 /// a space, and does not begin as an option.
-pub(crate) fn is_value(rows: &[Row], word: &str) -> bool {
-    match word.strip_prefix('-') {
+pub(crate) fn is_value(rows: &[Row], word: &str) -> bool
+    ensures { result ≡ false → (value : List ℕ) × (word.now ≡ 45 ∷ value) }
+{
+    match behind_hyphen(word) {
         Some("") | None => true,
         Some(behind) => (is_number(behind) || word.contains(' ')) && !is_option(rows, behind),
     }
+}
+
+fn behind_hyphen<'a>(word: &'a str) -> Option<&'a str>
+    ensures { IfSome result (λ behind. word.entry.now ≡ 45 ∷ behind.now) }
+{
+    word.strip_prefix('-')
 }
 
 // Digits, with a point before the last of them or without.
@@ -55,10 +79,12 @@ fn is_option(rows: &[Row], behind: &str) -> bool {
 }
 
 // Whether this is a letter's name, and what may follow it in its word.
-fn is_letter(rows: &[Row], behind: &str) -> bool {
+fn is_letter(rows: &[Row], behind: &str) -> bool
+    ensures { IsTrue result → BeginsLetter (map shape_of rows.now) behind.now }
+{
     for row in rows {
         if let WordPlace::Letter = row.place {
-            if behind.starts_with(row.name) {
+            if begins(behind, row.name) {
                 return true;
             }
         }
@@ -67,25 +93,29 @@ fn is_letter(rows: &[Row], behind: &str) -> bool {
 }
 
 // Whether a name of an option is this or begins so, or a name of a flag.
-fn is_long(rows: &[Row], short: &str, has_flags: bool) -> bool {
+fn is_long(rows: &[Row], short: &str, has_flags: bool) -> bool
+    ensures { IsTrue result → has_flags ≡ false → BeginsOption (map shape_of rows.now) short.now }
+{
     for row in rows {
-        let counts = match row.place {
-            WordPlace::Option | WordPlace::Options => true,
-            WordPlace::Flag | WordPlace::ShortFlag(_) => has_flags,
-            _ => false,
-        };
-        if counts && row.name.starts_with(short) {
-            return true;
+        if !begins(row.name, short) {
+            continue;
+        }
+        match row.place {
+            WordPlace::Option | WordPlace::Options => return true,
+            WordPlace::Flag | WordPlace::ShortFlag(_) if has_flags => return true,
+            _ => {}
         }
     }
     false
 }
 
 // Whether a word is an option whose value is the next word.
-fn awaits_value(rows: &[Row], word: &str) -> bool {
+fn awaits_value(rows: &[Row], word: &str) -> bool
+    ensures { IsTrue result → AwaitsNext (map shape_of rows.now) word.now }
+{
     match word.strip_prefix("--") {
         Some(option) => !option.is_empty() && is_long(rows, option, false),
-        None => match word.strip_prefix('-') {
+        None => match behind_hyphen(word) {
             Some(behind) => behind.len() == 1 && is_letter(rows, behind),
             None => false,
         },

@@ -1,7 +1,8 @@
 //! The images that the words of mkbootimg ask for.
 
-ghost use Rattle.std.specs.Prelude.{◌≡◌, ◌↔◌, ◌+◌, ◌*◌, IfOk, IfSome, IsTrue, Contains, length, map, option_map};
-ghost use Rattle.std.specs.List.{AllZip};
+ghost use Rattle.std.specs.Prelude.{◌≡◌, ◌↔◌, ◌+◌, ◌*◌, IfOk, IfSome, IsTrue, Contains, length, map, option_map, true};
+ghost use Rattle.std.specs.List.{AllZip, list_any};
+ghost use Rattle.words_tools.specs.Rejected.{RejectsBoot, RejectsImage, RejectsVendor, names_again, takes_file};
 ghost use Rattle.words_tools.specs.Mkbootimg.{AreImagesOf, Carries, IsFillOf, IsOptionOf, PacksImage, filler_of};
 ghost use Rattle.words_tools.specs.Mkbootimg.{fillers};
 ghost use Rattle.words_tools.specs.Fragments.{IsBoardText, IsFragmentText};
@@ -99,23 +100,40 @@ pub(crate) fn refusal_of(
     answers: &Answers<'_>,
     said: &[Answer<'_>],
     image: Image<'_>,
-) -> Option<&'static str> {
-    let has_ramdisk = answers.word("vendor_ramdisk").is_some();
-    match (image.is_vendor, image.version) {
-        (true, 3) if !has_ramdisk => {
-            Some("vendor header version 3 has a ramdisk: give --vendor_ramdisk")
-        }
-        (true, 4) => fragments_refusal(said, has_ramdisk),
-        (true, _) => None,
-        (false, _) => boot_refusal(answers, image.version),
+) -> Option<&'static str>
+    ensures { IfSome result (λ _. RejectsImage answers.now.all.items said.now image.entry) }
+{
+    if image.is_vendor {
+        vendor_refusal(answers, said, image.version)
+    } else {
+        boot_refusal(answers, image.version)
     }
 }
 
-fn boot_refusal(answers: &Answers<'_>, version: u32) -> Option<&'static str> {
-    if version > 2 && answers.word("second").is_some() {
+fn vendor_refusal(
+    answers: &Answers<'_>,
+    said: &[Answer<'_>],
+    version: u32,
+) -> Option<&'static str>
+    ensures { IfSome result (λ _. RejectsVendor answers.now.all.items said.now version) }
+{
+    let ramdisk = answers.find("vendor_ramdisk");
+    if version == 3 && ramdisk.is_none() {
+        return Some("vendor header version 3 has a ramdisk: give --vendor_ramdisk");
+    }
+    if version == 4 {
+        return fragments_refusal(said, ramdisk);
+    }
+    None
+}
+
+fn boot_refusal(answers: &Answers<'_>, version: u32) -> Option<&'static str>
+    ensures { IfSome result (λ _. RejectsBoot answers.now.all.items version) }
+{
+    if version > 2 && answers.find("second").is_some() {
         return Some("header versions from 3 on have no second stage: leave out --second");
     }
-    if version == 2 && answers.word("dtb").is_none() {
+    if version == 2 && answers.find("dtb").is_none() {
         return Some("header version 2 has a device tree blob: give --dtb");
     }
     if version < 3 && answers.given_word("cmdline").len() > 1534 {
@@ -125,7 +143,9 @@ fn boot_refusal(answers: &Answers<'_>, version: u32) -> Option<&'static str> {
 }
 
 /// Whether another option than this one names this file.
-pub(crate) fn names_again(answers: &Answers<'_>, name: &str, path: &str) -> bool {
+pub(crate) fn names_again(answers: &Answers<'_>, name: &str, path: &str) -> bool
+    ensures { IsTrue result → list_any (names_again name.now path.now) answers.now.all.items ≡ true }
+{
     for answer in &answers.all {
         if is_file(answer.row.value) && answer.row.name != name && answer.word == path {
             return true;
@@ -134,7 +154,9 @@ pub(crate) fn names_again(answers: &Answers<'_>, name: &str, path: &str) -> bool
     false
 }
 
-fn is_file(value: Value) -> bool {
+fn is_file(value: Value) -> bool
+    ensures { result ≡ takes_file value }
+{
     match value {
         Value::File => true,
         _ => false,

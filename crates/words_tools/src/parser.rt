@@ -14,20 +14,16 @@ pub(crate) fn tool_program<'a, S: AsStr>(
     tool: Tool,
     words: &[S],
 ) -> Result<Command<'a>, AllocError> {
-    let name: &'a str = tool.name();
-    let about: &'a str = tool.about();
     let takes_hyphens = match tool {
         Tool::Mkbootimg => are_values(tool.rows(), words),
         _ => false,
     };
-    let program = described(alloc, name, about);
-    with_rows(alloc, program, tool.rows(), takes_hyphens)
-}
-
-// A parser that takes a prefix of an option for the option, if no other begins so, and the last of its values.
-fn described<'a>(alloc: Global, name: &'a str, about: &'a str) -> Command<'a> {
-    Command::new(alloc, name)
+    let name: &'a str = tool.name();
+    let about: &'a str = tool.about();
+    // it takes a prefix of an option for the option, if no other begins so, and the last of its values
+    let program = Command::new(alloc, name)
         .about(about)
         .infer_long_args(true)
-        .args_override_self(true)
+        .args_override_self(true);
+    with_rows(alloc, program, tool.rows(), takes_hyphens)
 }

@@ -14,7 +14,8 @@ pub(crate) fn is_short_of(rows: &[Row], short: &str, name: &str) -> bool
     begins(name, short) && is_only(rows, short, name)
 }
 
-fn begins(name: &str, front: &str) -> bool
+/// Whether a text begins with another.
+pub(crate) fn begins(name: &str, front: &str) -> bool
     ensures { result ≡ starts_with ◌==◌ name.now front.now }
 {
     name.starts_with(front)

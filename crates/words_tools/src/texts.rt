@@ -11,35 +11,17 @@ pub(crate) fn fragment_texts(
     said: &[Answer<'_>],
 ) -> Result<Vec<String>, AllocError> {
     let mut texts = Vec::new(alloc);
-    push_platform_text(alloc, &mut texts, ramdisk)?;
-    let first = texts.len() as u64;
-    push_fragment_texts(alloc, &mut texts, said)?;
-    push_board_texts(alloc, &mut texts, first, said)?;
-    Ok(texts)
-}
-
-fn push_platform_text(
-    alloc: Global,
-    texts: &mut Vec<String>,
-    ramdisk: Option<&str>,
-) -> Result<(), AllocError> {
     if let Some(path) = ramdisk {
-        texts.push(fragment_text(alloc, Group::platform(), path)?)?;
+        texts.push(format!(in alloc; "1::{path}")?)?;
     }
-    Ok(())
-}
-
-fn push_fragment_texts(
-    alloc: Global,
-    texts: &mut Vec<String>,
-    said: &[Answer<'_>],
-) -> Result<(), AllocError> {
+    let first = texts.len() as u64;
     let mut group = Group::new();
     for answer in said {
-        push_ended_text(alloc, texts, group, answer)?;
+        push_ended_text(alloc, &mut texts, group, answer)?;
         group = group.behind(answer);
     }
-    Ok(())
+    push_board_texts(alloc, &mut texts, first, said)?;
+    Ok(texts)
 }
 
 // That of the fragment that an answer ends, where it ends one.
@@ -50,15 +32,12 @@ fn push_ended_text(
     said: &Answer<'_>,
 ) -> Result<(), AllocError> {
     if is_file_word(said) {
-        texts.push(fragment_text(alloc, group, said.word)?)?;
+        let kind = group.kind.unwrap_or(0);
+        let name = group.name.unwrap_or("");
+        let path = said.word;
+        texts.push(format!(in alloc; "{kind}:{name}:{path}")?)?;
     }
     Ok(())
-}
-
-fn fragment_text(alloc: Global, group: Group<'_>, path: &str) -> Result<String, AllocError> {
-    let kind = group.kind.unwrap_or(0);
-    let name = group.name.unwrap_or("");
-    format!(in alloc; "{kind}:{name}:{path}")
 }
 
 fn push_board_texts(

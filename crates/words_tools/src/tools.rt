@@ -1,7 +1,10 @@
 //! The tools of AOSP by whose names the program may be called.
 
 ghost use Rattle.std.specs.Prelude.{◌≡◌, ◌≢◌, ◌↔◌, ◌++◌, ◌∷◌, ℕ, List, [], IsTrue, IfSome, None, get_or, map};
-ghost use Rattle.words_tools.specs.Tools.{CallsNone, IsBehindAs, IsCalled, IsFolder, IsLastPart, tool_name, wrong_words_status};
+ghost use Rattle.words_orders.specs.declared.answers.Answer.{Answer};
+ghost use Rattle.words_tools.specs.declared.orders.Orders.{Orders};
+ghost use Rattle.words_tools.specs.Tools.{AsksOrders, CallsNone, IsBehindAs, IsCalled, IsFolder, IsLastPart, tool_name};
+ghost use Rattle.words_tools.specs.Tools.{wrong_words_status};
 
 use std::convert::AsStr;
 
@@ -44,7 +47,11 @@ impl Tool {
     }
 
     /// What to use instead of a tool whose words are not read.
-    pub(crate) fn instead(self) -> Option<&'static str> {
+    pub(crate) fn instead(self) -> Option<&'static str>
+        // no words ask for orders of it
+        ensures { IfSome result (λ _. (all said : List Answer) (orders : Orders) →
+            AsksOrders self all said orders → ⊥) }
+    {
         match self {
             Tool::Append2simg => Some(
                 "use abootimg expand, append to the raw image, and abootimg sparse",

@@ -1,10 +1,12 @@
 use Rattle.std.proofs.Common.{refl}
 use Rattle.std.specs.Prelude.{Err}
+use Rattle.words_tools.specs.Rejected.{parts}
 use Rattle.abootimg.proofs.tool.do_called.Goals as goal
 
 pub returns-in-Err : goal.returns-in-Err
 returns-in-Err g c = λ t. record {
   found = Err c.in-Err.fault;
   asked = tt;
-  ends = (refl, c.wrong_words.ensures.mistake);
+  none = λ two. parts (c.in-Err.ensures.refused (c.wrong_words.ensures.wrong two));
+  ends = (refl, (c.wrong_words.ensures.mistake, c.wrong_words.ensures.wrong));
 }

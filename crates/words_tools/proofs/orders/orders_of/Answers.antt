@@ -1,18 +1,10 @@
-use Rattle.std.proofs.Common.{map, subst, ap}
-use Rattle.words_orders.specs.Asked.{AreAnswersOf}
+use Rattle.std.proofs.Common.{map}
+use Rattle.words_tools.proofs.Rejecting.{no_tool}
 use Rattle.words_tools.proofs.orders.orders_of.Goals as goal
 
-pub returns : goal.returns
-returns g c =
-    let text = g.S.AsStr.text in
-    let own = map text c.in-Some-split_first.own.now in
-    record {
-      caller = text c.in-Some-split_first._caller.now;
-      own = own;
-      words_are = ap (map text) c.in-Some-split_first.ensures.cases.0;
-      all = c.in-Some-2.answers.all.items;
-      answers =
-          subst (λ t. AreAnswersOf t own c.in-Some-2.answers.all.items) c.rows.ensures
-          (rw c.in-Some-2.is at c.in_ok-answers.ensures);
-      asks = c.in_ok-orders.ensures;
-    }
+pub returns-in-Some-clause-none : goal.returns-in-Some-clause-none
+returns-in-Some-clause-none g c = λ _.
+    no_tool c.args.tool (map g.S.AsStr.text c.args.words.now) c.args.said.now c.in-Some.ensures
+
+pub returns-in-Ok-None-clause-none : goal.returns-in-Ok-None-clause-none
+returns-in-Ok-None-clause-none g c = λ _. (rw c.in-Ok-None.field-0-is at c.in-Ok-None.ensures.none) tt
