@@ -3,7 +3,7 @@
 ghost use Rattle.std.specs.Prelude.{◌≡◌, ◌≢◌, ◌<◌, [], OnOk, true};
 ghost use Rattle.sys_file.specs.System.{IsJustOpened};
 
-use crate::calls::Calls;
+use crate::calls::{Calls, counted, moved};
 use crate::table::INPUT;
 use mem_files::OpenMemoryFile;
 use std::io;
@@ -37,22 +37,21 @@ impl CopiedFile {
         }
     }
 
-    // Counts a call, and fails if it is the one that is to fail.
-    fn counted(&self) -> io::Result<()> {
-        match &self.calls {
-            Some(calls) if calls.as_ref().fails() => Err(io::Error::from(ErrorKind::Other)),
-            _ => Ok(()),
-        }
-    }
-
-    // The same of a call that writes. Nothing is written to standard input.
+    // Nothing is written to standard input.
     fn may_write(&self) -> io::Result<()>
         ensures { OnOk result (self.now.number ≢ 0) }
     {
         if self.number == INPUT {
             return Err(io::Error::from(ErrorKind::PermissionDenied));
         }
-        self.counted()
+        Ok(())
+    }
+
+    // Keeps in the journal that these bytes were written at an offset.
+    fn wrote(&self, at: u64, bytes: &[u8]) {
+        if let Some(calls) = &self.calls {
+            calls.as_ref().journal.wrote(self.number, at, bytes);
+        }
     }
 }
 
@@ -68,7 +67,7 @@ impl SystemFile for CopiedFile {
     ghost are_bytes = { λ f _. f.file.told };
 
     fn length(&self) -> io::Result<u64> {
-        self.counted()?;
+        counted(&self.calls)?;
         SystemFile::length(&self.file)
     }
 
@@ -77,37 +76,53 @@ impl SystemFile for CopiedFile {
     }
 
     fn read_at(&self, at: u64, out: &mut [u8]) -> io::Result<usize> {
-        self.counted()?;
-        SystemFile::read_at(&self.file, at, out)
+        let n = moved(&self.calls, out.len())?;
+        SystemFile::read_at(&self.file, at, &mut out[..n])
     }
 
     fn write_at(&mut self, at: u64, bytes: &[u8]) -> io::Result<usize> {
         self.may_write()?;
-        SystemFile::write_at(&mut self.file, at, bytes)
+        let part = &bytes[..moved(&self.calls, bytes.len())?];
+        let n = SystemFile::write_at(&mut self.file, at, part)?;
+        self.wrote(at, &part[..n]);
+        Ok(n)
     }
 
     fn read(&mut self, out: &mut [u8]) -> io::Result<usize> {
-        self.counted()?;
-        SystemFile::read(&mut self.file, out)
+        let n = moved(&self.calls, out.len())?;
+        SystemFile::read(&mut self.file, &mut out[..n])
     }
 
     fn write(&mut self, bytes: &[u8]) -> io::Result<usize> {
         self.may_write()?;
-        SystemFile::write(&mut self.file, bytes)
+        let part = &bytes[..moved(&self.calls, bytes.len())?];
+        let at = self.file.place;
+        let n = SystemFile::write(&mut self.file, part)?;
+        self.wrote(at, &part[..n]);
+        Ok(n)
     }
 
     fn go_to(&mut self, at: u64) -> io::Result<()> {
-        self.counted()?;
+        counted(&self.calls)?;
         SystemFile::go_to(&mut self.file, at)
     }
 
     fn set_len(&mut self, n: u64) -> io::Result<()> {
         self.may_write()?;
-        SystemFile::set_len(&mut self.file, n)
+        counted(&self.calls)?;
+        SystemFile::set_len(&mut self.file, n)?;
+        if let Some(calls) = &self.calls {
+            calls.as_ref().journal.set_len(self.number, n);
+        }
+        Ok(())
     }
 
     fn sync(&mut self) -> io::Result<()> {
-        self.counted()?;
-        SystemFile::sync(&mut self.file)
+        counted(&self.calls)?;
+        SystemFile::sync(&mut self.file)?;
+        if let Some(calls) = &self.calls {
+            calls.as_ref().journal.synced(self.number);
+        }
+        Ok(())
     }
 }

@@ -14,3 +14,5 @@ mod commands;
 mod failing;
 #[cfg(test)]
 mod same;
+#[cfg(test)]
+mod stopping;
