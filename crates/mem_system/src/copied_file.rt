@@ -82,10 +82,14 @@ impl SystemFile for CopiedFile {
 
     fn write_at(&mut self, at: u64, bytes: &[u8]) -> io::Result<usize> {
         self.may_write()?;
-        let part = &bytes[..moved(&self.calls, bytes.len())?];
-        let n = SystemFile::write_at(&mut self.file, at, part)?;
-        self.wrote(at, &part[..n]);
-        Ok(n)
+        let n = moved(&self.calls, bytes.len())?;
+        match SystemFile::write_at(&mut self.file, at, &bytes[..n]) {
+            Ok(done) => {
+                self.wrote(at, &bytes[..done]);
+                Ok(done)
+            }
+            Err(error) => Err(error),
+        }
     }
 
     fn read(&mut self, out: &mut [u8]) -> io::Result<usize> {
@@ -95,11 +99,15 @@ impl SystemFile for CopiedFile {
 
     fn write(&mut self, bytes: &[u8]) -> io::Result<usize> {
         self.may_write()?;
-        let part = &bytes[..moved(&self.calls, bytes.len())?];
+        let n = moved(&self.calls, bytes.len())?;
         let at = self.file.place;
-        let n = SystemFile::write(&mut self.file, part)?;
-        self.wrote(at, &part[..n]);
-        Ok(n)
+        match SystemFile::write(&mut self.file, &bytes[..n]) {
+            Ok(done) => {
+                self.wrote(at, &bytes[..done]);
+                Ok(done)
+            }
+            Err(error) => Err(error),
+        }
     }
 
     fn go_to(&mut self, at: u64) -> io::Result<()> {
