@@ -1,7 +1,7 @@
 //! What the calls of a system in memory do otherwise than they are asked: one fails, reads and writes are short, or a
 //! signal interrupts them.
 
-ghost use Rattle.std.specs.Prelude.{◌≤◌, ◌<◌, ◌≢◌, IfOk, IfErr};
+ghost use Rattle.std.specs.Prelude.{◌≤◌, ◌<◌, ◌≢◌, IfOk, IfErr, IsTrue};
 ghost use Rattle.std.specs.IoError.{error_kind};
 
 use crate::journal::Journal;
@@ -16,6 +16,8 @@ use std::rc::Rc;
 pub struct Way {
     /// The call of this number fails, counted from 1. With 0 none does.
     pub failing: u64,
+    /// A write that fails has written half of its bytes.
+    pub is_torn: bool,
     /// A read or a write moves at most this many bytes. With 0 it moves all of them.
     pub most: usize,
     /// Of so many reads and writes, the last is interrupted and does nothing. With 0 none is.
@@ -26,6 +28,7 @@ impl Way {
     /// Each call does all of what it is asked.
     pub const PLAIN: Way = Way {
         failing: 0,
+        is_torn: false,
         most: 0,
         interrupted: 0,
     };
@@ -36,6 +39,7 @@ impl Way {
 pub struct Calls {
     pub journal: Journal,
     left: Cell<u64>,
+    is_torn: bool,
     most: usize,
     interrupted: u64,
     moves: Cell<u64>,
@@ -47,6 +51,7 @@ impl Calls {
         Calls {
             journal: Journal::new(alloc),
             left: Cell::new(way.failing),
+            is_torn: way.is_torn,
             most: way.most,
             interrupted: way.interrupted,
             moves: Cell::new(0),
@@ -107,4 +112,14 @@ pub(crate) fn moved(calls: &Option<Rc<Calls>>, n: usize) -> io::Result<usize>
     counted(calls)?;
     let most = shared.as_ref().most;
     if most == 0 { Ok(n) } else { Ok(n.min(most)) }
+}
+
+/// Whether a write that failed so has written half of its bytes.
+pub(crate) fn is_torn(calls: &Option<Rc<Calls>>, error: &io::Error) -> bool
+    ensures { IsTrue result → error_kind error.now ≢ ErrorKind.Interrupted }
+{
+    match calls {
+        Some(calls) => calls.as_ref().is_torn && error.kind() != ErrorKind::Interrupted,
+        None => false,
+    }
 }

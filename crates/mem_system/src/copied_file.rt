@@ -1,9 +1,13 @@
 //! One open file of a system in memory.
 
-ghost use Rattle.std.specs.Prelude.{◌≡◌, ◌≢◌, ◌<◌, [], OnOk, true};
+ghost use Rattle.std.specs.Prelude.{◌≡◌, ◌≢◌, ◌<◌, ◌≤◌, ◌+◌, [], OnOk, IfErr, true, length};
+ghost use Rattle.sys_file.specs.File.{WritesAt};
+ghost use Rattle.sys_file.specs.Past.{LaysWithin};
+ghost use Rattle.abt_io.specs.Count.{count_of};
+ghost use Rattle.std.specs.IoError.{error_kind};
 ghost use Rattle.sys_file.specs.System.{IsJustOpened};
 
-use crate::calls::{Calls, counted, moved};
+use crate::calls::{Calls, counted, is_torn, moved};
 use crate::table::INPUT;
 use mem_files::OpenMemoryFile;
 use std::io;
@@ -47,6 +51,29 @@ impl CopiedFile {
         Ok(())
     }
 
+    // A write at an offset that fails. It may have written half of its bytes.
+    fn failed(&mut self, at: u64, bytes: &[u8], error: io::Error) -> io::Result<usize>
+        requires stands { at ≤ length self.old.file.bytes.items }
+        requires some { self.old.number ≢ 0 }
+        ensures writes { WritesAt true self.old.file.bytes.items self.new.file.bytes.items result at bytes.now }
+        ensures idle { IfErr result (λ e. error_kind e ≡ ErrorKind.Interrupted → self.new.file ≡ self.old.file) }
+        ensures lays { at + length bytes.now ≤ length self.old.file.bytes.items → LaysWithin self.old.file.bytes.items
+            self.new.file.bytes.items self.old.file.history.past self.new.file.history.past result at
+            (length bytes.now) }
+        ensures none { count_of result ≡ 0 }
+        ensures stays { self.new.file.place ≡ self.old.file.place }
+        ensures number { self.new.number ≡ self.old.number }
+    {
+        if !is_torn(&self.calls, &error) {
+            return Err(error);
+        }
+        let half = &bytes[..bytes.len() / 2];
+        if SystemFile::write_at(&mut self.file, at, half).is_ok() {
+            self.wrote(at, half);
+        }
+        Err(error)
+    }
+
     // Keeps in the journal that these bytes were written at an offset.
     fn wrote(&self, at: u64, bytes: &[u8]) {
         if let Some(calls) = &self.calls {
@@ -82,7 +109,10 @@ impl SystemFile for CopiedFile {
 
     fn write_at(&mut self, at: u64, bytes: &[u8]) -> io::Result<usize> {
         self.may_write()?;
-        let n = moved(&self.calls, bytes.len())?;
+        let n = match moved(&self.calls, bytes.len()) {
+            Ok(n) => n,
+            Err(error) => return self.failed(at, bytes, error),
+        };
         match SystemFile::write_at(&mut self.file, at, &bytes[..n]) {
             Ok(done) => {
                 self.wrote(at, &bytes[..done]);
@@ -99,8 +129,11 @@ impl SystemFile for CopiedFile {
 
     fn write(&mut self, bytes: &[u8]) -> io::Result<usize> {
         self.may_write()?;
-        let n = moved(&self.calls, bytes.len())?;
         let at = self.file.place;
+        let n = match moved(&self.calls, bytes.len()) {
+            Ok(n) => n,
+            Err(error) => return self.failed(at, bytes, error),
+        };
         match SystemFile::write(&mut self.file, &bytes[..n]) {
             Ok(done) => {
                 self.wrote(at, &bytes[..done]);
