@@ -3,7 +3,8 @@
 use abt_io::{Meter, Window};
 use mem_system::{Calls, Crash, MemorySystem, Table, Way};
 use mem_test_boot_commands::image;
-use mem_test_commands::{Before, Command, PATHS, files};
+use mem_test_commands::{Before, Command, CommandRow, PATHS, files};
+use mem_test_data::vectors::THREE_KINDS;
 use std::alloc::{AllocError, Global};
 use std::rc::Rc;
 use sys_host::Reading;
@@ -23,6 +24,12 @@ pub(crate) enum Task {
 
 /// A path, and what the file is to hold that it leads to.
 pub(crate) type Held<'a> = (&'static str, &'a [u8]);
+
+/// Commands that may write to standard output, and their files.
+pub(crate) const STREAMED: [CommandRow; 2] = [
+    (Command::Expand, (&THREE_KINDS, b"")),
+    (Command::Sparse, (b"a raw 12", b"")),
+];
 
 /// What OUT of `pack` and `repack` held.
 pub(crate) const OLDER: &[u8] = b"ANDROID! an older image";

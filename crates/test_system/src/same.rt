@@ -1,6 +1,6 @@
 //! What each command leaves where no call fails: also if reads and writes move few bytes, or are interrupted.
 
-use crate::commands::{Task, run};
+use crate::commands::{STREAMED, Task, run};
 use mem_system::Way;
 use mem_test_boot_commands::EACH;
 use mem_test_commands::ROWS;
@@ -71,5 +71,20 @@ fn nor_where_images_are_boot_images(rt: HostRuntime) {
     for (n, command) in EACH.iter().enumerate() {
         let differs = differing(rt, Task::Boot(*command));
         assert!(rt; differs == Some(0), "row {n}");
+    }
+}
+
+#[test]
+fn standard_output_gets_what_a_file_gets(rt: HostRuntime) {
+    for (n, (command, before)) in STREAMED.iter().enumerate() {
+        let task = Task::Sparse(*command, "out", *before);
+        let mut file = run(rt, task, &[], false, Way::PLAIN).expect(&rt, "has memory");
+        let bytes = file.copy_at("out").expect(&rt, "has memory");
+        for way in WAYS.iter() {
+            let task = Task::Sparse(*command, "-", *before);
+            let mut stream = run(rt, task, &[], false, *way).expect(&rt, "has memory");
+            assert!(rt; stream.is_done, "row {n}");
+            assert!(rt; stream.holds("/dev/stdout", bytes.as_slice()), "row {n}");
+        }
     }
 }
