@@ -17,7 +17,7 @@ pub struct OpenMemoryFile {
     pub bytes: Vec<u8>,
     pub left: u64,
     pub history: History,
-    place: u64,
+    pub place: u64,
     pub ghost told: { AreBytes bytes.items },
 }
 

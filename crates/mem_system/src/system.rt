@@ -8,7 +8,7 @@ ghost use Rattle.sys_file.specs.declared.stat.Kind.{Kind};
 ghost use Rattle.mem_files.specs.Stored.{leads};
 ghost use Rattle.mem_system.specs.Table.{stored_in};
 
-use crate::calls::Calls;
+use crate::calls::{Calls, counted};
 use crate::copied_file::CopiedFile;
 use crate::names::MemoryNames;
 use crate::table::{INPUT, OUTPUT, Table};
@@ -33,13 +33,11 @@ impl MemorySystem {
         MemorySystem { table, calls }
     }
 
-    // Counts a call, and fails if it is the one that is to fail.
-    fn counted(&self) -> io::Result<()>
-        ensures { IfErr result (λ e. error_kind e ≢ ErrorKind.NotFound) }
-    {
+    // The counts, for one more file.
+    fn calls(&self) -> Option<Rc<Calls>> {
         match &self.calls {
-            Some(calls) if calls.as_ref().fails() => Err(io::Error::from(ErrorKind::Other)),
-            _ => Ok(()),
+            Some(calls) => calls.clone().ok(),
+            None => None,
         }
     }
 
@@ -54,14 +52,7 @@ impl MemorySystem {
         let Some(bytes) = self.table.copy_of(number) else {
             return Err(io::Error::from(ErrorKind::OutOfMemory));
         };
-        let calls = match &self.calls {
-            Some(calls) => match calls.clone() {
-                Ok(calls) => Some(calls),
-                Err(_) => return Err(io::Error::from(ErrorKind::OutOfMemory)),
-            },
-            None => None,
-        };
-        Ok(CopiedFile::new(bytes, number, calls))
+        Ok(CopiedFile::new(bytes, number, self.calls()))
     }
 }
 
@@ -132,12 +123,12 @@ impl System for MemorySystem {
     }
 
     fn stat(&self, file: &CopiedFile) -> io::Result<Stat> {
-        self.counted()?;
+        counted(&self.calls)?;
         Ok(stat_of(file.number, file.file.bytes.len() as u64))
     }
 
     fn open(&mut self, path: &str, how: Opening) -> io::Result<CopiedFile> {
-        self.counted()?;
+        counted(&self.calls)?;
         if let Some(number) = self.table.number_at(path) {
             return self.opened(number);
         }
@@ -155,9 +146,9 @@ impl System for MemorySystem {
     }
 
     fn again(&self, file: &CopiedFile) -> io::Result<CopiedFile> {
-        self.counted()?;
+        counted(&self.calls)?;
         match Vec::from_slice(self.table.alloc, file.file.bytes.as_slice()) {
-            Ok(bytes) => Ok(CopiedFile::new(bytes, file.number, None)),
+            Ok(bytes) => Ok(CopiedFile::new(bytes, file.number, self.calls())),
             Err(_) => Err(io::Error::from(ErrorKind::OutOfMemory)),
         }
     }
@@ -172,7 +163,7 @@ impl System for MemorySystem {
     }
 
     fn input(&self) -> CopiedFile {
-        CopiedFile::new(Vec::new(self.table.alloc), INPUT, None)
+        CopiedFile::new(Vec::new(self.table.alloc), INPUT, self.calls())
     }
 
     fn output(&self, _synced: Option<CopiedFile>) -> CopiedFile
@@ -181,7 +172,7 @@ impl System for MemorySystem {
         ensures empty { IsTrue ⟦<CopiedFile as SystemFile>⟧.models → ⟦<CopiedFile as SystemFile>⟧.stands result ≡ [] }
         ensures which { IsTrue ⟦<CopiedFile as SystemFile>⟧.models → result.number ≡ 1 }
     {
-        CopiedFile::new(Vec::new(self.table.alloc), OUTPUT, None)
+        CopiedFile::new(Vec::new(self.table.alloc), OUTPUT, self.calls())
     }
 
     fn contents(&self, _path: &str) -> io::Result<Vec<u8>> {
@@ -189,6 +180,9 @@ impl System for MemorySystem {
     }
 
     fn names(&self, _folder: &str) -> io::Result<MemoryNames> {
+        if counted(&self.calls).is_err() {
+            return Err(io::Error::from(ErrorKind::OutOfMemory));
+        }
         match MemoryNames::of(self.table.alloc, self.table.paths.as_slice()) {
             Some(names) => Ok(names),
             None => Err(io::Error::from(ErrorKind::OutOfMemory)),
@@ -196,10 +190,14 @@ impl System for MemorySystem {
     }
 
     fn next_name(&self, names: &mut MemoryNames) -> Option<io::Result<String>> {
+        if counted(&self.calls).is_err() {
+            return Some(Err(io::Error::from(ErrorKind::OutOfMemory)));
+        }
         names.next_name(self.table.alloc)
     }
 
     fn whole_path(&self, path: &str) -> io::Result<String> {
+        counted(&self.calls)?;
         match String::from_str(self.table.alloc, path) {
             Ok(path) => Ok(path),
             Err(_) => Err(io::Error::from(ErrorKind::OutOfMemory)),

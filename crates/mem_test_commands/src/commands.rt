@@ -26,9 +26,9 @@ pub enum Command {
     CutRaw,
     Flash,
     FlashRaw,
-    FlashPieces,
-    FlashRawPieces,
-    FlashFromSecond,
+    /// In pieces, from the one of this number on.
+    FlashFrom(u32),
+    FlashRawFrom(u32),
     Verify,
     VerifyRaw,
     List,
@@ -116,14 +116,11 @@ pub fn is_done<D: Disk>(
     match command {
         Command::Flash => flash_file(disk, report, input, part, w, m).is_ok(),
         Command::FlashRaw => flash_raw_file(disk, report, input, part, 4, w, m).is_ok(),
-        Command::FlashPieces => {
-            flash_pieces_file(disk, report, input, part, None, LIMIT, spool, 1, w, m).is_ok()
+        Command::FlashFrom(from) => {
+            flash_pieces_file(disk, report, input, part, None, LIMIT, spool, from, w, m).is_ok()
         }
-        Command::FlashFromSecond => {
-            flash_pieces_file(disk, report, input, part, None, LIMIT, spool, 2, w, m).is_ok()
-        }
-        Command::FlashRawPieces => {
-            flash_pieces_file(disk, report, input, part, Some(4), LIMIT, spool, 1, w, m).is_ok()
+        Command::FlashRawFrom(from) => {
+            flash_pieces_file(disk, report, input, part, Some(4), LIMIT, spool, from, w, m).is_ok()
         }
         Command::Verify => verify_file(disk, report, input, part, w, m).is_ok(),
         Command::VerifyRaw => verify_raw_file(disk, report, input, part, 4, w, m).is_ok(),

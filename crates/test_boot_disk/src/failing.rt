@@ -1,19 +1,8 @@
 //! Each command fails exactly where something has failed.
 
-use crate::commands::{Command, is_done};
 use crate::made::{disk, is_kept};
 use mem_disk::{Countdown, Faults};
-
-const COMMANDS: [Command; 8] = [
-    Command::Unpack,
-    Command::UnpackWords,
-    Command::Info,
-    Command::InfoHex,
-    Command::Pack(0),
-    Command::Pack(3),
-    Command::Pack(4),
-    Command::Repack,
-];
+use mem_test_boot_commands::{Command, EACH, is_done};
 
 /// Which of the calls fails.
 #[derive(Clone, Copy, Drop)]
@@ -67,7 +56,7 @@ fn counted(rt: HostRuntime, command: Command, kind: Kind) -> Option<u64> {
 
 #[test]
 fn each_call_that_fails_is_told(rt: HostRuntime) {
-    for (n, command) in COMMANDS.iter().enumerate() {
+    for (n, command) in EACH.iter().enumerate() {
         let calls = counted(rt, *command, Kind::Call);
         assert!(rt; calls > Some(0), "row {n}");
     }
@@ -75,7 +64,7 @@ fn each_call_that_fails_is_told(rt: HostRuntime) {
 
 #[test]
 fn each_read_that_fails_is_told(rt: HostRuntime) {
-    for (n, command) in COMMANDS.iter().enumerate() {
+    for (n, command) in EACH.iter().enumerate() {
         let reads = counted(rt, *command, Kind::Read);
         assert!(rt; reads > Some(0), "row {n}");
     }
@@ -83,7 +72,7 @@ fn each_read_that_fails_is_told(rt: HostRuntime) {
 
 #[test]
 fn each_write_that_fails_is_told(rt: HostRuntime) {
-    for (n, command) in COMMANDS.iter().enumerate() {
+    for (n, command) in EACH.iter().enumerate() {
         let writes = counted(rt, *command, Kind::Write);
         assert!(rt; writes.is_some(), "row {n}");
     }

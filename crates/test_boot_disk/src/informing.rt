@@ -1,8 +1,8 @@
 //! `info` over a disk in memory.
 
-use crate::commands::{Command, is_done};
 use crate::made::disk;
 use mem_disk::Faults;
+use mem_test_boot_commands::{Command, is_done};
 
 #[test]
 fn the_check_says_no_of_an_image_that_packing_would_write_otherwise(rt: HostRuntime) {

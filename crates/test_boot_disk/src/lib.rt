@@ -5,25 +5,19 @@
 //!
 //! | file | what it tests |
 //! |---|---|
-//! | `made.rt` | a vendor boot image, and a disk that holds it |
-//! | `commands.rt` | the commands, as one call |
+//! | `made.rt` | a disk that holds a vendor boot image |
 //! | `failing.rt` | each command fails exactly where something has failed |
 //! | `informing.rt` | `info`: its check answers no |
-//! | `orders.rt` | the arguments of `pack` and `repack` |
 //! | `packing.rt` | what `pack` and `repack` leave of OUT |
 //! | `unpacking.rt` | `unpack`: each part under its name; two paths to one file |
 #![tactic(auto)]
 
-#[cfg(test)]
-mod commands;
 #[cfg(test)]
 mod failing;
 #[cfg(test)]
 mod informing;
 #[cfg(test)]
 mod made;
-#[cfg(test)]
-mod orders;
 #[cfg(test)]
 mod packing;
 #[cfg(test)]

@@ -1,8 +1,8 @@
 //! `pack` and `repack` over a disk in memory.
 
-use crate::commands::{Command, is_done};
-use crate::made::{disk, holds, image, is_kept};
+use crate::made::{disk, holds, is_kept};
 use mem_disk::Faults;
+use mem_test_boot_commands::{Command, image, is_done};
 
 /// The versions of boot images. The kernel of each begins after one page of 4096 bytes.
 const VERSIONS: [u32; 5] = [0, 1, 2, 3, 4];

@@ -1,8 +1,8 @@
 //! `unpack` over a disk in memory.
 
-use crate::commands::{Command, is_done};
 use crate::made::{disk, holds, is_kept};
 use mem_disk::Faults;
+use mem_test_boot_commands::{Command, is_done};
 
 /// Its parts except the table, by their paths.
 const PARTS: [(&str, &[u8]); 4] = [

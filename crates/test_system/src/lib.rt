@@ -1,11 +1,12 @@
-//! Tests of the commands of sparse images over the program's own disk, whose system is in memory. What runs here is what
-//! users run, but for the calls of the operating system.
+//! Tests of the commands over the program's own disk, whose system is in memory. What runs here is what users run, but
+//! for the calls of the operating system.
 //!
 //! | file | content |
 //! |---|---|
-//! | `commands.rt` | a command over that disk, and what its files hold |
-//! | `same.rt` | each command leaves what it leaves over a disk in memory |
-//! | `failing.rt` | openings and calls of opened files fail in turn |
+//! | `commands.rt` | a command over that disk, what its files hold, and what it leaves |
+//! | `same.rt` | each command leaves the same if reads and writes move few bytes, or are interrupted |
+//! | `failing.rt` | calls fail in turn |
+//! | `stopping.rt` | each command stops between any two of its calls |
 #![tactic(auto)]
 
 #[cfg(test)]
@@ -14,3 +15,5 @@ mod commands;
 mod failing;
 #[cfg(test)]
 mod same;
+#[cfg(test)]
+mod stopping;

@@ -1,6 +1,6 @@
-//! The commands over a disk in memory, as one call.
+//! The commands over any disk, as one call.
 
-ghost use Rattle.mem_disk.specs.Memory.{held_of};
+ghost use Rattle.std.specs.Prelude.{IsTrue};
 ghost use Rattle.sys_disk.specs.World.{IsReading};
 
 use crate::orders::{kernel_alone, nothing_given};
@@ -8,14 +8,14 @@ use abt_io::{Meter, Window};
 use cmd_info::info_file;
 use cmd_pack::{pack_file, repack_file};
 use cmd_unpack::unpack_file;
-use mem_disk::MemoryDisk;
 use std::alloc::AllocError;
+use sys_disk::Disk;
 use sys_refusals::FileArg;
 use sys_report::Report;
 
 /// The commands.
 #[derive(Clone, Copy, Drop)]
-pub(crate) enum Command {
+pub enum Command {
     Unpack,
     UnpackWords,
     Info,
@@ -27,13 +27,25 @@ pub(crate) enum Command {
     Repack,
 }
 
+/// Each command that is done where nothing fails.
+pub const EACH: [Command; 8] = [
+    Command::Unpack,
+    Command::UnpackWords,
+    Command::Info,
+    Command::InfoHex,
+    Command::Pack(0),
+    Command::Pack(3),
+    Command::Pack(4),
+    Command::Repack,
+];
+
 /// Whether a command with IN over this disk, on which nothing is open yet, returns Ok.
-pub(crate) fn is_done(
+pub fn is_done<D: Disk>(
     rt: HostRuntime,
     command: Command,
-    disk: &mut MemoryDisk,
+    disk: &mut D,
 ) -> Result<bool, AllocError>
-    requires { IsReading (held_of disk.old) }
+    requires { IsTrue D.models → IsReading (D.held disk.old) }
 {
     let mut report = Report::new(rt);
     let mut w = Box::new(rt.alloc(), Window::new())?;
