@@ -1,5 +1,6 @@
 -- Why words are rejected, at the word or the answer at hand.
-use Rattle.std.proofs.Common.{arith, ◌≡◌, ◌∙◌, ◌+◌, ◌-◌, ◌<◌, ◌≤◌, ℕ, List, [], ◌∷◌, ◌++◌, refl, sym, ap, subst, inl, inr}
+use Rattle.std.proofs.Common.{arith, ◌≡◌, ◌∙◌, ◌+◌, ◌-◌, ◌<◌, ◌≤◌, ℕ, List, [], ◌∷◌, ◌++◌, refl, sym, ap, subst}
+use Rattle.std.proofs.Common.{inl, inr}
 use Rattle.std.proofs.Common.{Bor, Option, Some, None, ⊎_elim, eqb-true}
 use Rattle.std.proofs.Common.{drop, get_or, length, map, take}
 use Rattle.std.specs.Prelude.{◌⊎◌, ◌&&◌, ◌==◌, Bool, Contains, IfSome, bytes_eq, is_some, option_map, true}
@@ -9,7 +10,7 @@ use Rattle.std.specs.List.{starts_with}
 use Rattle.std.proofs.lemmas.Bool.{cond-true, false≢true}
 use Rattle.std.proofs.lemmas.List.{append_assoc, drop_more, get_or-map, length-map, map-append, take-append-drop}
 use Rattle.std.proofs.lemmas.List.{take_more}
-use Rattle.std.proofs.lemmas.List.Elements.{Contains-append_right}
+use Rattle.std.proofs.lemmas.List.Elements.{Contains-append_right, Contains-get_or}
 use Rattle.words_values.specs.declared.rows.Row.{Row}
 use Rattle.words_values.specs.declared.rows.WordPlace.{WordPlace}
 use Rattle.words_values.specs.declared.rows.WordPlace.TheVariants as places
@@ -95,6 +96,14 @@ hyphen_at text words i a b w v table (Some behind) is first below here wa next v
       ∙ ap (λ u. take (i - 1) (map text words) ++ (w ∷ (u ∷ drop (i + 1) (map text words)))) begins;
   awaits = awaits;
 }
+
+-- a word among those behind the first
+pub word_in : {S : Type 0} (text : S → List ℕ) (words : List S) (i : ℕ) (a : S) (w v : List ℕ) → i < length words
+    → a ≡ get_or words i a → w ≡ text a → w ≡ v → Contains (map text words) v
+word_in text words i a w v below here is same =
+    subst (Contains (map text words))
+    (get_or-map text words i a (text a) below ∙ ap text (sym here) ∙ sym is ∙ same)
+    (Contains-get_or (map text words) i (text a) (omega (arith, length-map words text, below)))
 
 -- ---- groups
 

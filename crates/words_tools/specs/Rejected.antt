@@ -99,7 +99,7 @@ pub record RejectsImages (all said : List Answer) : Type 0 where
   pub rejects : RejectsTogether all said vendor
       ⊎ (IsSomeAnd vendor (RejectsImage all said) ⊎ IsSomeAnd boot (RejectsImage all said))
 
--- ---- a value that begins with a hyphen
+-- ---- words with a hyphen that clap may refuse
 
 -- an option by its name or a beginning of it, or by its letter
 abbrev pub BeginsOption : List Shape → List ℕ → Type 0
@@ -123,6 +123,11 @@ pub record HasHyphenValue (table : List Shape) (words : List (List ℕ)) : Type 
   pub words_are : words ≡ front ++ (option ∷ ((45 ∷ value) ∷ behind))
   pub awaits : AwaitsNext table option
 
+-- such a value; or `--` among the words of simg2img, of which all but the last go to one row
+abbrev pub HasHyphens : Tool → List (List ℕ) → Type 0
+HasHyphens tool words = HasHyphenValue (tool_rows tool) words
+    ⊎ ((tool ≡ tools.Simg2img) × Contains words (codes "--"))
+
 -- ---- words without those of ramdisk fragments
 
 -- they are read, and ask for images that are not made
@@ -134,12 +139,12 @@ pub record AskForRejected (words : List (List ℕ)) (said : List Answer) : Type 
   pub answers : AreAnswersOf (tool_rows tools.Mkbootimg) own all
   pub rejects : RejectsImages all said
 
--- They ask for no orders, or mkbootimg's ask for images that are not made. Or a value begins with a hyphen: argparse
--- takes it as one only if it is a number or has a space.
+-- They ask for no orders, or mkbootimg's ask for images that are not made. Or there is a hyphen: argparse takes a value
+-- that begins with one only if it is a number or has a space, and clap takes several words for a row only in one run.
 pub data AreRejected (tool : Tool) (words : List (List ℕ)) (said : List Answer) : Type 0 where
   ask_for_none : ((orders : Orders) → AreOrdersOf tool words said orders → ⊥) → AreRejected tool words said
   not_made : tool ≡ tools.Mkbootimg → AskForRejected words said → AreRejected tool words said
-  hyphen : HasHyphenValue (tool_rows tool) words → AreRejected tool words said
+  hyphen : HasHyphens tool words → AreRejected tool words said
 
 -- ---- words of ramdisk fragments
 
@@ -150,9 +155,9 @@ RejectsValue row word = ((value : List ℕ) × (word ≡ 45 ∷ value)) ⊎ ((n 
 -- a word behind an option that awaits its value, or an option with its value
 abbrev pub RejectsWord : Option (Bor Row) → List ℕ → Type 0
 RejectsWord (Some row) word = RejectsValue row.now word
-RejectsWord None word = (short : List ℕ) × ((value : List ℕ) × ((row : Row)
-    × ((word ≡ codes "--" ++ (short ++ (61 ∷ value))) × (IsNameOf short row.name.now
-    × (Contains fragment_rows (shape_of row) × ((n : ℕ) → IsRead row.value value n → ⊥))))))
+RejectsWord None word = (short : List ℕ) × (value : List ℕ) × (row : Row)
+    × (word ≡ codes "--" ++ (short ++ (61 ∷ value))) × IsNameOf short row.name.now
+    × Contains fragment_rows (shape_of row) × ((n : ℕ) → IsRead row.value value n → ⊥)
 
 -- such a word, behind words that are separated
 pub record RejectsPart (words : List (List ℕ)) : Type 0 where

@@ -8,7 +8,6 @@ ghost use Rattle.words_tools.specs.Fragments.{ended_by};
 ghost use Rattle.words_tools.specs.Fragments.{fragment_said, fragments_said, group_behind, group_of, group_with};
 ghost use Rattle.words_tools.specs.Fragments.{is_board, is_file_word, no_group, of_platform, platform_group};
 ghost use Rattle.words_tools.specs.Fragments.{ramdisk_type};
-
 ghost use Rattle.words_tools.specs.Fragments.{FragmentSaid};
 ghost use Rattle.words_tools.specs.Rejected.{EndsInGroup, IsOfName, RejectsFragments, RejectsName, RejectsType};
 

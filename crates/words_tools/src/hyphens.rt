@@ -1,10 +1,12 @@
 //! Which words with a hyphen are values, by the rules of Python's argparse. No contract depends on how clap reads words.
 
-ghost use Rattle.std.specs.Prelude.{◌≡◌, ◌∷◌, ℕ, List, IfSome, IsTrue, false, map};
+ghost use Rattle.std.specs.Prelude.{◌≡◌, ◌∷◌, ℕ, List, IfSome, IsTrue, codes, false, map};
 ghost use Rattle.words_sayings.specs.Rows.{shape_of};
-ghost use Rattle.words_tools.specs.Rejected.{AwaitsNext, BeginsLetter, BeginsOption, HasHyphenValue};
+ghost use Rattle.words_tools.specs.declared.tools.Tool.TheVariants as tools;
+ghost use Rattle.words_tools.specs.Rejected.{AwaitsNext, BeginsLetter, BeginsOption, HasHyphens};
 
 use crate::shortening::begins;
+use crate::tools::Tool;
 use std::convert::AsStr;
 use words_values::{Row, WordPlace};
 
@@ -20,16 +22,30 @@ pub(crate) fn are_values<S: AsStr>(rows: &[Row], words: &[S]) -> bool {
     true
 }
 
-/// Whether a word that begins with a hyphen stands behind an option that has no value of its own.
-pub(crate) fn has_hyphen_value<S: AsStr>(rows: &[Row], words: &[S]) -> bool
-    ensures { IsTrue result → HasHyphenValue (map shape_of rows.now) (map S.text words.now) }
+/// Whether clap may refuse words that give orders: a word that begins with a hyphen stands behind an option that has no
+/// value of its own, or `--` is among the words of simg2img.
+pub(crate) fn has_hyphens<S: AsStr>(tool: Tool, words: &[S]) -> bool
+    ensures { IsTrue result → HasHyphens tool (map S.text words.now) }
 {
+    let rows = tool.rows();
     for i in 1..words.len() {
+        if is_stop(tool, words[i].as_str()) {
+            return true;
+        }
         if awaits_value(rows, words[i - 1].as_str()) && behind_hyphen(words[i].as_str()).is_some() {
             return true;
         }
     }
     false
+}
+
+fn is_stop(tool: Tool, word: &str) -> bool
+    ensures { IsTrue result → (tool ≡ tools.Simg2img) × (word.now ≡ codes "--") }
+{
+    match tool {
+        Tool::Simg2img => word == "--",
+        _ => false,
+    }
 }
 
 /// Whether a word can be the value of the option before it. One that begins with a hyphen is a number below zero or has

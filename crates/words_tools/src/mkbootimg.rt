@@ -2,7 +2,7 @@
 
 ghost use Rattle.std.specs.Prelude.{◌≡◌, ◌↔◌, ◌+◌, ◌*◌, IfOk, IfSome, IsTrue, Contains, length, map, option_map, true};
 ghost use Rattle.std.specs.List.{AllZip, list_any};
-ghost use Rattle.words_tools.specs.Rejected.{RejectsBoot, RejectsImage, RejectsVendor, names_again, takes_file};
+ghost use Rattle.words_tools.specs.Rejected.{RejectsBoot, RejectsImage, names_again, takes_file};
 ghost use Rattle.words_tools.specs.Mkbootimg.{AreImagesOf, Carries, IsFillOf, IsOptionOf, PacksImage, filler_of};
 ghost use Rattle.words_tools.specs.Mkbootimg.{fillers};
 ghost use Rattle.words_tools.specs.Fragments.{IsBoardText, IsFragmentText};
@@ -103,25 +103,14 @@ pub(crate) fn refusal_of(
 ) -> Option<&'static str>
     ensures { IfSome result (λ _. RejectsImage answers.now.all.items said.now image.entry) }
 {
-    if image.is_vendor {
-        vendor_refusal(answers, said, image.version)
-    } else {
-        boot_refusal(answers, image.version)
+    if !image.is_vendor {
+        return boot_refusal(answers, image.version);
     }
-}
-
-fn vendor_refusal(
-    answers: &Answers<'_>,
-    said: &[Answer<'_>],
-    version: u32,
-) -> Option<&'static str>
-    ensures { IfSome result (λ _. RejectsVendor answers.now.all.items said.now version) }
-{
     let ramdisk = answers.find("vendor_ramdisk");
-    if version == 3 && ramdisk.is_none() {
+    if image.version == 3 && ramdisk.is_none() {
         return Some("vendor header version 3 has a ramdisk: give --vendor_ramdisk");
     }
-    if version == 4 {
+    if image.version == 4 {
         return fragments_refusal(said, ramdisk);
     }
     None

@@ -9,7 +9,7 @@ ghost use Rattle.words_tools.specs.Tools.{AreOrdersOf, AsksBlocks, AsksCut, Asks
 ghost use Rattle.words_tools.specs.Tools.{IsToolOrder};
 ghost use Rattle.words_tools.specs.Tools.{PacksAsked, standard_or};
 
-use crate::hyphens::has_hyphen_value;
+use crate::hyphens::has_hyphens;
 use crate::mkbootimg::{Image, id_asked, images_of, names_again, packing, refusal_of};
 use crate::parser::tool_program;
 use crate::texts::fragment_texts;
@@ -19,7 +19,9 @@ use clap::Error;
 use clap::error::ErrorKind;
 use std::alloc::{AllocError, Global};
 use std::convert::AsStr;
-use words_orders::{Answer, Answers, Order, SparseTask, Task, WordsFault, answers_of, expand, told_by};
+use words_orders::{
+    Answer, Answers, Order, SparseTask, Task, WordsFault, answers_of, expand, told_by,
+};
 
 /// The orders of a tool's words, which are done one after the other, or none.
 #[derive(Drop)]
@@ -44,8 +46,8 @@ pub fn orders_of<'a, S: AsStr>(
     texts: &'a [String],
 ) -> Result<Orders<'a>, WordsFault>
     ensures orders { IfOk result (AreOrdersOf tool (map S.text words.entry.now) said.now) }
-    // they are rejected only if they ask for none, or for what is not made, or a value begins with a hyphen, or for want
-    // of memory, or if clap read them in another way
+    // they are rejected only if they ask for none, or for what is not made, or for a hyphen, or for want of memory, or if
+    // clap read them in another way
     ensures none { IfErr result (λ fault. IsOfWords fault → AreRejected tool (map S.text words.entry.now) said.now) }
 {
     if let Some(instead) = tool.instead() {
@@ -61,8 +63,8 @@ pub fn orders_of<'a, S: AsStr>(
     }
 }
 
-// What is wrong with words that clap refuses: what clap says, unless orders are found in them though no value begins
-// with a hyphen.
+// What is wrong with words that clap refuses: what clap says, unless orders are found in them though no hyphen explains
+// that.
 #[inline(never)]
 fn fault_for<'a, S: AsStr>(
     alloc: Global,
@@ -74,7 +76,7 @@ fn fault_for<'a, S: AsStr>(
 ) -> WordsFault
     ensures { IsOfWords result → AreRejected tool (map S.text words.entry.now) said.now }
 {
-    if has_hyphen_value(tool.rows(), words) {
+    if has_hyphens(tool, words) {
         return WordsFault::from(error);
     }
     match orders_in(alloc, tool, words, said, texts) {

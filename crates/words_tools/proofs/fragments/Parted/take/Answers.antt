@@ -47,8 +47,9 @@ returns-in-Ok-say-clause-parting c = λ words before.
 pub returns-in-Err-say-clause-refused : goal.returns-in-Err-say-clause-refused
 returns-in-Err-say-clause-refused c = λ is.
     let says = c.in-WithEquals.ensures in
+    let row = c.in-WithEquals.row.now in
     rejects_of_none c.args.before c.args.word.now (first_of (
       assumption c.in_default.not-Some,
       search (rules, c.in_default.not-Some, c.in_default.is),
     ))
-    (says.0, (c.in-WithEquals.value.now, (c.in-WithEquals.row.now, (says.1, (says.2, (says.3, c.in-Err-say.ensures.refused is))))))
+    (says.0, c.in-WithEquals.value.now, row, says.1, says.2, says.3, c.in-Err-say.ensures.refused is)
