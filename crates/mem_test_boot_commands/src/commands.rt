@@ -15,7 +15,7 @@ use sys_report::Report;
 
 /// The commands.
 #[derive(Clone, Copy, Drop)]
-pub enum BootCommand {
+pub enum BootCall {
     Unpack,
     UnpackWords,
     Info,
@@ -28,20 +28,20 @@ pub enum BootCommand {
 }
 
 /// Each command that is done where nothing fails.
-pub const EACH: [BootCommand; 8] = [
-    BootCommand::Unpack,
-    BootCommand::UnpackWords,
-    BootCommand::Info,
-    BootCommand::InfoHex,
-    BootCommand::Pack(0),
-    BootCommand::Pack(3),
-    BootCommand::Pack(4),
-    BootCommand::Repack,
+pub const EACH: [BootCall; 8] = [
+    BootCall::Unpack,
+    BootCall::UnpackWords,
+    BootCall::Info,
+    BootCall::InfoHex,
+    BootCall::Pack(0),
+    BootCall::Pack(3),
+    BootCall::Pack(4),
+    BootCall::Repack,
 ];
 
 /// Whether a command with IN over this disk, on which nothing is open yet, returns Ok.
 pub fn is_done<D: Disk>(
-    command: BootCommand,
+    command: BootCall,
     alloc: Global,
     disk: &mut D,
     report: &mut Report,
@@ -52,16 +52,16 @@ pub fn is_done<D: Disk>(
 {
     let input = FileArg::new("IN", "in");
     Ok(match command {
-        BootCommand::Unpack => unpack_file(disk, report, input, "parts", false, w, m).is_ok(),
-        BootCommand::UnpackWords => unpack_file(disk, report, input, "parts", true, w, m).is_ok(),
-        BootCommand::Info => info_file(disk, report, input, false, false, w, m).is_ok(),
-        BootCommand::InfoHex => info_file(disk, report, input, false, true, w, m).is_ok(),
-        BootCommand::InfoCheck => info_file(disk, report, input, true, false, w, m).is_ok(),
-        BootCommand::Pack(version) => {
+        BootCall::Unpack => unpack_file(disk, report, input, "parts", false, w, m).is_ok(),
+        BootCall::UnpackWords => unpack_file(disk, report, input, "parts", true, w, m).is_ok(),
+        BootCall::Info => info_file(disk, report, input, false, false, w, m).is_ok(),
+        BootCall::InfoHex => info_file(disk, report, input, false, true, w, m).is_ok(),
+        BootCall::InfoCheck => info_file(disk, report, input, true, false, w, m).is_ok(),
+        BootCall::Pack(version) => {
             let order = kernel_alone(alloc, version)?;
             pack_file(disk, report, &order, w, m).is_ok()
         }
-        BootCommand::Repack => {
+        BootCall::Repack => {
             let order = nothing_given(alloc);
             repack_file(disk, report, input, &order, w, m).is_ok()
         }

@@ -12,5 +12,5 @@ mod commands;
 mod orders;
 mod vendor;
 
-pub use commands::{BootCommand, EACH, is_done};
+pub use commands::{BootCall, EACH, is_done};
 pub use vendor::image;

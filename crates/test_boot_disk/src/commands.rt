@@ -5,14 +5,14 @@ ghost use Rattle.sys_disk.specs.World.{IsReading};
 
 use abt_io::{Meter, Window};
 use mem_disk::MemoryDisk;
-use mem_test_boot_commands::BootCommand;
+use mem_test_boot_commands::BootCall;
 use std::alloc::AllocError;
 use sys_report::Report;
 
 /// Whether a command with IN over this disk, on which nothing is open yet, returns Ok.
 pub(crate) fn is_done(
     rt: HostRuntime,
-    command: BootCommand,
+    command: BootCall,
     disk: &mut MemoryDisk,
 ) -> Result<bool, AllocError>
     requires { IsReading (held_of disk.old) }

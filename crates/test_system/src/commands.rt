@@ -2,7 +2,7 @@
 
 use abt_io::{Meter, Window};
 use mem_system::{Calls, Crash, MemorySystem, Table, Way};
-use mem_test_boot_commands::{BootCommand, image};
+use mem_test_boot_commands::{BootCall, image};
 use mem_test_commands::{Before, Command, CommandRow, PATHS, files};
 use mem_test_data::vectors::THREE_KINDS;
 use std::alloc::{AllocError, Global};
@@ -16,7 +16,7 @@ use sys_report::Report;
 pub(crate) enum Task {
     /// Over sparse images, from `in` to the file of this name.
     Sparse(Command, &'static str, Before),
-    Boot(BootCommand),
+    Boot(BootCall),
 }
 
 /// A path, and what the file is to hold that it leads to.

@@ -2,7 +2,7 @@
 
 use crate::commands::{Left, Task, run};
 use mem_system::{Crash, Way};
-use mem_test_boot_commands::{BootCommand, EACH};
+use mem_test_boot_commands::{BootCall, EACH};
 use mem_test_commands::{Before, Command, ROWS};
 use std::alloc::AllocError;
 
@@ -32,8 +32,8 @@ fn images(task: Task) -> &'static [&'static str] {
         Task::Sparse(Command::Sparse, _, _) => &["out"],
         Task::Sparse(Command::Cut, _, _) => &["out.1", "out.2", "out.3"],
         Task::Sparse(Command::CutRaw, _, _) => &["out.1", "out.2", "out.3"],
-        Task::Boot(BootCommand::Pack(_)) => &["out"],
-        Task::Boot(BootCommand::Repack) => &["out"],
+        Task::Boot(BootCall::Pack(_)) => &["out"],
+        Task::Boot(BootCall::Repack) => &["out"],
         _ => &[],
     }
 }
