@@ -68,7 +68,7 @@ FAMILIES = {
     "memory": "mem_files mem_system mem_disk mem_commands",
     "for programs in C": "abt_c",
     "tests and benchmark":
-        "mem_test_data mem_test_commands test_devices test_sparse test_verify test_flash test_boot test_boot_disk test_buffers test_ahead "
+        "mem_test_data mem_test_commands mem_test_boot_commands test_devices test_sparse test_verify test_flash test_boot test_boot_disk test_buffers test_ahead "
         "test_spool test_disk test_system speed",
 }
 LINES = {
@@ -82,9 +82,9 @@ LINES = {
     "commands over sparse images": 163,
     "commands over boot images": 151,
     "laws": 83,
-    "memory": 43,
+    "memory": 47,
     "for programs in C": 25,
-    "tests and benchmark": 107,
+    "tests and benchmark": 112,
 }
 
 FUNCTION = re.compile(r"\s*(?:pub(?:\(\w+\))? )?(?:const )?(?:unsafe )?(?:extern \"C\" )?(?:final )?fn (\w+)")

@@ -4,13 +4,13 @@
 //! | file | has |
 //! |---|---|
 //! | `commands.rt` | the commands, as one call |
-//! | `image.rt` | a vendor boot image, which is IN of each of them |
 //! | `orders.rt` | the arguments of `pack` and `repack` |
+//! | `vendor.rt` | a vendor boot image, which is IN of each of them |
 #![tactic(auto)]
 
 mod commands;
-mod image;
 mod orders;
+mod vendor;
 
-pub use commands::{Command, EACH, is_done};
-pub use image::image;
+pub use commands::{BootCall, EACH, is_done};
+pub use vendor::image;

@@ -1,8 +1,9 @@
 //! Each command fails exactly where something has failed.
 
+use crate::commands::is_done;
 use crate::made::{disk, is_kept};
 use mem_disk::{Countdown, Faults};
-use mem_test_boot_commands::{Command, EACH, is_done};
+use mem_test_boot_commands::{BootCall, EACH};
 
 /// Which of the calls fails.
 #[derive(Clone, Copy, Drop)]
@@ -36,7 +37,7 @@ const CALLS: u64 = 200;
 /// Fails each call, read or write of a command, each in a run of its own, and returns how many there are. Each such
 /// run fails, and its disk has counted a failure. Returns `None` where a run fails without a cause, succeeds
 /// after a failure, or changes IN.
-fn counted(rt: HostRuntime, command: Command, kind: Kind) -> Option<u64> {
+fn counted(rt: HostRuntime, command: BootCall, kind: Kind) -> Option<u64> {
     for number in 1..CALLS {
         let Ok(made) = disk(rt.alloc(), &[], faults(kind, number)) else {
             return None;

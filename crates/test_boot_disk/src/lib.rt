@@ -6,12 +6,15 @@
 //! | file | what it tests |
 //! |---|---|
 //! | `made.rt` | a disk that holds a vendor boot image |
+//! | `commands.rt` | the commands over that disk, as one call |
 //! | `failing.rt` | each command fails exactly where something has failed |
 //! | `informing.rt` | `info`: its check answers no |
 //! | `packing.rt` | what `pack` and `repack` leave of OUT |
 //! | `unpacking.rt` | `unpack`: each part under its name; two paths to one file |
 #![tactic(auto)]
 
+#[cfg(test)]
+mod commands;
 #[cfg(test)]
 mod failing;
 #[cfg(test)]

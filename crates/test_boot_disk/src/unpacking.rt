@@ -1,8 +1,9 @@
 //! `unpack` over a disk in memory.
 
+use crate::commands::is_done;
 use crate::made::{disk, holds, is_kept};
 use mem_disk::Faults;
-use mem_test_boot_commands::{Command, is_done};
+use mem_test_boot_commands::BootCall;
 
 /// Its parts except the table, by their paths.
 const PARTS: [(&str, &[u8]); 4] = [
@@ -15,7 +16,7 @@ const PARTS: [(&str, &[u8]); 4] = [
 #[test]
 fn each_part_stands_under_its_name(rt: HostRuntime) {
     let mut disk = disk(rt.alloc(), &[], Faults::none()).expect(&rt, "has memory");
-    assert!(rt; is_done(rt, Command::Unpack, &mut disk) == Ok(true));
+    assert!(rt; is_done(rt, BootCall::Unpack, &mut disk) == Ok(true));
     for (name, bytes) in PARTS.iter() {
         assert!(rt; holds(&disk, name, bytes), "{name}");
     }
@@ -28,7 +29,7 @@ fn each_part_stands_under_its_name(rt: HostRuntime) {
 #[test]
 fn the_words_stand_beside_the_parts(rt: HostRuntime) {
     let mut disk = disk(rt.alloc(), &[], Faults::none()).expect(&rt, "has memory");
-    assert!(rt; is_done(rt, Command::UnpackWords, &mut disk) == Ok(true));
+    assert!(rt; is_done(rt, BootCall::UnpackWords, &mut disk) == Ok(true));
     let words = disk.file_at("parts/pack.words").expect(&rt, "is there");
     let words = disk.copy_of(words).expect(&rt, "has memory");
     assert!(rt;
@@ -45,7 +46,7 @@ fn a_part_that_is_the_image_is_refused_first(rt: HostRuntime) {
         &rt,
         "has memory",
     );
-    assert!(rt; is_done(rt, Command::Unpack, &mut disk) == Ok(false));
+    assert!(rt; is_done(rt, BootCall::Unpack, &mut disk) == Ok(false));
     assert!(rt; disk.file_at("parts/vendor_ramdisk").is_none());
     assert!(rt; is_kept(rt.alloc(), &disk) == Ok(true));
 }
@@ -55,7 +56,7 @@ fn a_part_that_is_the_image_is_refused_first(rt: HostRuntime) {
 fn two_parts_in_one_file_are_refused(rt: HostRuntime) {
     let links = [("parts/vendor_ramdisk", 1), ("parts/dtb", 1)];
     let mut disk = disk(rt.alloc(), &links, Faults::none()).expect(&rt, "has memory");
-    assert!(rt; is_done(rt, Command::Unpack, &mut disk) == Ok(false));
+    assert!(rt; is_done(rt, BootCall::Unpack, &mut disk) == Ok(false));
     assert!(rt; holds(&disk, "parts/dtb", b"0123456789"));
     assert!(rt; disk.file_at("parts/table").is_none());
     assert!(rt; is_kept(rt.alloc(), &disk) == Ok(true));

@@ -2,7 +2,7 @@
 
 use abt_io::{Meter, Window};
 use mem_system::{Calls, Crash, MemorySystem, Table, Way};
-use mem_test_boot_commands::image;
+use mem_test_boot_commands::{BootCall, image};
 use mem_test_commands::{Before, Command, CommandRow, PATHS, files};
 use mem_test_data::vectors::THREE_KINDS;
 use std::alloc::{AllocError, Global};
@@ -11,15 +11,12 @@ use sys_host::Reading;
 use sys_host_disk::Host;
 use sys_report::Report;
 
-/// A command over boot images.
-pub(crate) type BootCommand = mem_test_boot_commands::Command;
-
 /// A command, and what its files hold before it.
 #[derive(Clone, Copy, Drop)]
 pub(crate) enum Task {
     /// Over sparse images, from `in` to the file of this name.
     Sparse(Command, &'static str, Before),
-    Boot(BootCommand),
+    Boot(BootCall),
 }
 
 /// A path, and what the file is to hold that it leads to.
@@ -185,22 +182,17 @@ pub(crate) fn run(
     if is_synced {
         disk.sync_all();
     }
+    let mut report = Report::new(rt);
+    let report = &mut report;
+    let mut w = Box::new(alloc, Window::new())?;
+    let mut m = Meter::new();
     let is_done = match task {
-        Task::Sparse(command, output, _) => {
-            let mut report = Report::new(rt);
-            let mut w = Box::new(alloc, Window::new())?;
-            let mut m = Meter::new();
-            mem_test_commands::is_done(
-                command,
-                output,
-                alloc,
-                &mut disk,
-                &mut report,
-                &mut w,
-                &mut m,
-            )
+        Task::Sparse(command, output, _) => mem_test_commands::is_done(
+            command, output, alloc, &mut disk, report, &mut w, &mut m,
+        ),
+        Task::Boot(command) => {
+            mem_test_boot_commands::is_done(command, alloc, &mut disk, report, &mut w, &mut m)?
         }
-        Task::Boot(command) => mem_test_boot_commands::is_done(rt, command, &mut disk)?,
     };
     Ok(Left {
         is_done,

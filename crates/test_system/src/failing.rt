@@ -41,7 +41,11 @@ fn counted(rt: HostRuntime, task: Task, is_synced: bool, way: Way) -> Option<u64
             return None;
         }
         if !left.has_failed {
-            return if left.is_done { Some(failing - 1) } else { None };
+            return if left.is_done {
+                Some(failing - 1)
+            } else {
+                None
+            };
         }
     }
     None

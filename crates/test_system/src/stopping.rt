@@ -1,8 +1,8 @@
 //! What each command leaves where it stops between two calls.
 
-use crate::commands::{BootCommand, Left, Task, run};
+use crate::commands::{Left, Task, run};
 use mem_system::{Crash, Way};
-use mem_test_boot_commands::EACH;
+use mem_test_boot_commands::{BootCall, EACH};
 use mem_test_commands::{Before, Command, ROWS};
 use std::alloc::AllocError;
 
@@ -32,8 +32,8 @@ fn images(task: Task) -> &'static [&'static str] {
         Task::Sparse(Command::Sparse, _, _) => &["out"],
         Task::Sparse(Command::Cut, _, _) => &["out.1", "out.2", "out.3"],
         Task::Sparse(Command::CutRaw, _, _) => &["out.1", "out.2", "out.3"],
-        Task::Boot(BootCommand::Pack(_)) => &["out"],
-        Task::Boot(BootCommand::Repack) => &["out"],
+        Task::Boot(BootCall::Pack(_)) => &["out"],
+        Task::Boot(BootCall::Repack) => &["out"],
         _ => &[],
     }
 }
@@ -77,18 +77,24 @@ fn is_settled(left: &mut Left, paths: &[&str]) -> bool {
 /// Whether a flash that stops between any two calls is completed by another, whatever of the bytes that were not synced
 /// is lost: in pieces by one from the piece on that it was in, which follows the pieces that were synced.
 fn is_completed(rt: HostRuntime, command: Command, before: Before) -> Result<bool, AllocError> {
-    let mut whole = run(rt, Task::Sparse(command, "out", before), &[], false, Way::PLAIN)?;
+    let mut whole = run(
+        rt,
+        Task::Sparse(command, "out", before),
+        &[],
+        false,
+        Way::PLAIN,
+    )?;
     let Some(end) = whole.copy_at("out") else {
         return Err(AllocError);
     };
     for calls in 0..=whole.calls.as_ref().journal.len() {
         let rest = match command {
-            Command::FlashFrom(from) => Command::FlashFrom(
-                from.saturating_add(whole.syncs("out", calls)),
-            ),
-            Command::FlashRawFrom(from) => Command::FlashRawFrom(
-                from.saturating_add(whole.syncs("out", calls)),
-            ),
+            Command::FlashFrom(from) => Command::FlashFrom(from.saturating_add(whole.syncs(
+                "out", calls,
+            ))),
+            Command::FlashRawFrom(from) => Command::FlashRawFrom(from.saturating_add(whole.syncs(
+                "out", calls,
+            ))),
             other => other,
         };
         for crash in CRASHES.iter() {
@@ -143,6 +149,9 @@ fn nor_is_it_of_a_boot_image(rt: HostRuntime) {
     for (n, command) in EACH.iter().enumerate() {
         let task = Task::Boot(*command);
         let mut left = run(rt, task, &[], true, Way::PLAIN).expect(&rt, "has memory");
-        assert!(rt; left.is_done && is_settled(&mut left, task.written()), "row {n}");
+        assert!(rt;
+            left.is_done && is_settled(&mut left, task.written()),
+            "row {n}"
+        );
     }
 }
