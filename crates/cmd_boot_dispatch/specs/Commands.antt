@@ -10,7 +10,7 @@ use Rattle.sys_disk.specs.World.{World, OpenFiles, HasFailed, OnlyAt, KeepsFile,
 use Rattle.cmd_common_boot.specs.declared.fault.BootCommandFault.{BootCommandFault}
 use Rattle.cmd_common_boot.specs.ImageFaults.{RefusesImage}
 use Rattle.cmd_unpack.specs.Lines.{ShowsEach}
-use Rattle.cmd_unpack.specs.Unpacking.{IsPartOf, PartsStand, SyncsParts, Unpacks}
+use Rattle.cmd_unpack.specs.Unpacking.{IsPartOf, PartsStand, SyncsParts, Unpacks, path_of_part}
 use Rattle.cmd_info.specs.Informing.{RefusesInfo, TellsFile, notation_of}
 use Rattle.cmd_pack.specs.Packing.{HoldsNoPart, KeepsGiven, PacksFile}
 use Rattle.cmd_pack.specs.Refusing.{RefusesPack}
@@ -45,7 +45,8 @@ DoesKind on_output (kinds.Repack input command) world held report world' held' r
     RepacksFile input.now command world world' (ShowsFirst (on_output (output_path command.output.now)) report report')
     × SyncsOne held held'
 DoesKind on_output (kinds.Unpack input folder with_words) world held report world' held' report' =
-    Unpacks input.now folder.now with_words world world' (λ lines. ShowsEach lines report report')
+    Unpacks input.now folder.now with_words world world'
+    (λ told. ShowsEach (λ part. on_output (path_of_part folder.now part)) told report report')
     × SyncsParts input.now with_words world held held'
 DoesKind on_output (kinds.Info input with_check with_hex) world held report world' held' report' =
     TellsFile input.now (notation_of with_hex) with_check world report report'

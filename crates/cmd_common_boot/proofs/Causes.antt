@@ -78,7 +78,7 @@ pub refusal_more : (x : List ℕ) (P Q : Cause → Type 0) (U V : Type 0) (fault
     → ((cause : Cause) → P cause → Q cause) → (U → V)
     → IsRefusalOf x P U fault → IsRefusalOf x Q V fault
 refusal_more x P Q U V (faults.Host f) more stands (inl failed) = inl (more (call f) failed)
-refusal_more x P Q U V (faults.Host f) more stands (inr unprinted) = inr (stands unprinted)
+refusal_more x P Q U V (faults.Host f) more stands (inr unprinted) = inr (unprinted.0, stands unprinted.1)
 refusal_more x P Q U V (faults.Section f) more stands refuses = fault_more x P Q f more refuses
 refusal_more x P Q U V (faults.OptionNotCarried name) more stands refuses = absurd refuses
 refusal_more x P Q U V (faults.BadFragment word) more stands refuses = absurd refuses
@@ -90,7 +90,7 @@ of_files : {X : Type 0} (answer : X) (x : List ℕ) (P : Cause → Type 0) (U : 
     (V : Type 0) (fault : BootCommandFault) → ((cause : Cause) → P cause → Q cause) → (U → V)
     → IsAnswerOf {X = X} (Ok answer) P U fault → IsRefusalOf x Q V fault
 of_files answer x P U Q V (faults.Host f) more stands (inl failed) = inl (more (call f) failed)
-of_files answer x P U Q V (faults.Host f) more stands (inr unprinted) = inr (stands unprinted)
+of_files answer x P U Q V (faults.Host f) more stands (inr unprinted) = inr (unprinted.0, stands unprinted.1)
 of_files answer x P U Q V (faults.Section f) more stands told = absurd told
 of_files answer x P U Q V (faults.OptionNotCarried name) more stands told = absurd told
 of_files answer x P U Q V (faults.BadFragment word) more stands told = absurd told
@@ -132,7 +132,7 @@ file_refuses : (path bytes : List ℕ) (held held' : OpenFiles) (world : World) 
 file_refuses path bytes held held' world P U Q V (faults.Host f) opens more stands (inl failed) =
     inl (more (call f) failed)
 file_refuses path bytes held held' world P U Q V (faults.Host f) opens more stands (inr unprinted) =
-    inr (stands unprinted)
+    inr (unprinted.0, stands unprinted.1)
 file_refuses path bytes held held' world P U Q V (faults.Section f) opens more stands refuses =
     (opens.file, opens.there, subst (λ x. IsFaultOf x Q f) opens.held (fault_more bytes P Q f more refuses))
 file_refuses path bytes held held' world P U Q V (faults.OptionNotCarried name) opens more stands refuses =

@@ -1,5 +1,7 @@
 -- Why a command fails that works on a boot image that was opened from a file.
 use Rattle.std.specs.Prelude.{◌≡◌, ◌<◌, ◌+◌, ◌⊎◌, ℕ, List, Some, Result, Ok, Err}
+use Rattle.sys_refusals.specs.declared.refusal.HostFault.{HostFault}
+use Rattle.sys_refusals.specs.declared.refusal.HostFault.TheVariants as hosts
 use Rattle.sys_disk.specs.Counts.{Cause, call, of_reading, reading, writing}
 use Rattle.abt_sections.specs.declared.fault.SectionFault.{SectionFault}
 use Rattle.abt_sections.specs.declared.fault.SectionFault.TheVariants as sections
@@ -37,9 +39,13 @@ IsFaultOf x failed sections.CommandLine = ⊥
 IsFaultOf x failed (sections.SectionTruncated s) = RefusedAs x (sections.SectionTruncated s)
 IsFaultOf x failed (sections.SectionTooLarge s) = ⊥
 
--- such a fault; or that of a call of the disk, which has failed; or only a line that could not be printed
+-- the fault of a call of the disk, which has failed; or `Write`, where only a line could not be printed
+abbrev pub IsHostFaultOf : (Cause → Type 0) → Type 0 → HostFault → Type 0
+IsHostFaultOf failed unprinted f = failed (call f) ⊎ ((f ≡ hosts.Write) × unprinted)
+
+-- a fault of the bytes x or of a device, or of files
 abbrev pub IsRefusalOf : List ℕ → (Cause → Type 0) → Type 0 → BootCommandFault → Type 0
-IsRefusalOf x failed unprinted (faults.Host f) = failed (call f) ⊎ unprinted
+IsRefusalOf x failed unprinted (faults.Host f) = IsHostFaultOf failed unprinted f
 IsRefusalOf x failed unprinted (faults.Section f) = IsFaultOf x failed f
 IsRefusalOf x failed unprinted (faults.OptionNotCarried name) = ⊥
 IsRefusalOf x failed unprinted (faults.BadFragment word) = ⊥
@@ -54,7 +60,7 @@ pub record IsRefusedOver (x : List ℕ) (failed : Cause → Type 0) (unprinted :
 
 -- the same for what the file at this path holds
 abbrev pub RefusesImage : List ℕ → World → (Cause → Type 0) → Type 0 → BootCommandFault → Type 0
-RefusesImage path world failed unprinted (faults.Host f) = failed (call f) ⊎ unprinted
+RefusesImage path world failed unprinted (faults.Host f) = IsHostFaultOf failed unprinted f
 RefusesImage path world failed unprinted (faults.Section f) =
     (file : ℕ) × (world.at path ≡ Some file) × IsFaultOf (world.holds file) failed f
 RefusesImage path world failed unprinted (faults.OptionNotCarried name) = ⊥
@@ -63,10 +69,9 @@ RefusesImage path world failed unprinted (faults.BadNumber word) = ⊥
 RefusesImage path world failed unprinted (faults.BadBoardId word) = ⊥
 RefusesImage path world failed unprinted faults.CheckFailed = ⊥
 
--- why a command fails after a call of the engine returned this: this call's own fault, or else one as above, of a call
--- of the disk
+-- why a command fails after a call of the engine returned this: this call's own fault, or else one of files
 abbrev pub IsAnswerOf : {X : Type 0} → Result X SectionFault → (Cause → Type 0) → Type 0 → BootCommandFault → Type 0
-IsAnswerOf (Ok x) failed unprinted (faults.Host f) = failed (call f) ⊎ unprinted
+IsAnswerOf (Ok x) failed unprinted (faults.Host f) = IsHostFaultOf failed unprinted f
 IsAnswerOf (Ok x) failed unprinted (faults.Section f) = ⊥
 IsAnswerOf (Ok x) failed unprinted (faults.OptionNotCarried name) = ⊥
 IsAnswerOf (Ok x) failed unprinted (faults.BadFragment word) = ⊥

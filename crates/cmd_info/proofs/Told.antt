@@ -125,43 +125,44 @@ cannot_behind old between new out err unshown cannot = omega (arith, out, err, u
 
 -- of the check, after the text
 pub checked : (x : List ℕ) (o : Notation) (with_check : Bool) (v : Verdict) (r q r' : ℕ) (old between new : Report)
-    (C U : Type 0) (fault : BootCommandFault) → IsTrue with_check → q ≡ r
+    (C U : Type 0) (fault : BootCommandFault) → IsTrue with_check → between ≡ record old { out = between.out } → q ≡ r
     → Reports o x old.out.log.state.bytes between.out.log.state.bytes
     → (is_good v ≡ false → IsFlawedImage x) → (fault ≡ faults.CheckFailed → TellsFindings x between new)
     → (C → ⊥) → (U → CannotPrint old new) → IsCheckRefusal v (q < r') C U fault
     → IsInfoRefusal x o with_check (r < r') old new fault
-checked x o with_check v r q r' old between new C U (faults.Host f) wanted same text flaw lines never up told =
-    (wanted, record { between = between; text = text }, up told)
+checked x o with_check v r q r' old between new C U (faults.Host f) wanted alone same text flaw lines never up told =
+    (told.0, wanted, record { between = between; alone = alone; text = text }, up told.1)
 checked x o with_check v r q r' old between new C U (faults.Section
-    (sections.Read f)) wanted same text flaw lines never up told = omega (arith, same, told)
+    (sections.Read f)) wanted alone same text flaw lines never up told = omega (arith, same, told)
 checked x o with_check v r q r' old between new C U (faults.Section
-    sections.SourceChanged) wanted same text flaw lines never up told = absurd (never told)
+    sections.SourceChanged) wanted alone same text flaw lines never up told = absurd (never told)
 checked x o with_check v r q r' old between new C U (faults.Section
-    (sections.Write f)) wanted same text flaw lines never up told = absurd told
+    (sections.Write f)) wanted alone same text flaw lines never up told = absurd told
 checked x o with_check v r q r' old between new C U (faults.Section
-    (sections.Header f)) wanted same text flaw lines never up told = absurd told
+    (sections.Header f)) wanted alone same text flaw lines never up told = absurd told
 checked x o with_check v r q r' old between new C U (faults.Section
-    (sections.Entry i)) wanted same text flaw lines never up told = absurd told
+    (sections.Entry i)) wanted alone same text flaw lines never up told = absurd told
 checked x o with_check v r q r' old between new C U (faults.Section
-    sections.Name) wanted same text flaw lines never up told = absurd told
+    sections.Name) wanted alone same text flaw lines never up told = absurd told
 checked x o with_check v r q r' old between new C U (faults.Section
-    sections.CommandLine) wanted same text flaw lines never up told = absurd told
+    sections.CommandLine) wanted alone same text flaw lines never up told = absurd told
 checked x o with_check v r q r' old between new C U (faults.Section
-    (sections.SectionTruncated s)) wanted same text flaw lines never up told = absurd told
+    (sections.SectionTruncated s)) wanted alone same text flaw lines never up told = absurd told
 checked x o with_check v r q r' old between new C U (faults.Section
-    (sections.SectionTooLarge s)) wanted same text flaw lines never up told = absurd told
+    (sections.SectionTooLarge s)) wanted alone same text flaw lines never up told = absurd told
 checked x o with_check v r q r' old between new C U (faults.OptionNotCarried
-    name) wanted same text flaw lines never up told = absurd told
+    name) wanted alone same text flaw lines never up told = absurd told
 checked x o with_check v r q r' old between new C U (faults.BadFragment
-    word) wanted same text flaw lines never up told = absurd told
+    word) wanted alone same text flaw lines never up told = absurd told
 checked x o with_check v r q r' old between new C U (faults.BadNumber
-    word) wanted same text flaw lines never up told = absurd told
+    word) wanted alone same text flaw lines never up told = absurd told
 checked x o with_check v r q r' old between new C U (faults.BadBoardId
-    word) wanted same text flaw lines never up told = absurd told
-checked x o with_check v r q r' old between new C U faults.CheckFailed wanted same text flaw lines never up told = (
+    word) wanted alone same text flaw lines never up told = absurd told
+checked x o with_check v r q r' old between new C U faults.CheckFailed wanted alone same text flaw lines never up
+    told = (
   wanted,
   record {
-    told = record { between = between; text = text };
+    told = record { between = between; alone = alone; text = text };
     checked = lines refl;
     flawed = flaw told;
   },
@@ -255,25 +256,27 @@ pub as_told : (o o' : Notation) (x a b : List ℕ) → o' ≡ o → Reports o' x
 as_told o o' x a b same text = subst (λ n. Reports n x a b) same text
 
 pub text_alone : (o : Notation) (with_check : Bool) (x : List ℕ) (old new : Report) → with_check ≡ false
-    → Reports o x old.out.log.state.bytes new.out.log.state.bytes → TellsImage o with_check x old new
-text_alone o true x old new off text = absurd (true≢false off)
-text_alone o false x old new off text = record {
-  told = record { between = new; text = text };
+    → new ≡ record old { out = new.out } → Reports o x old.out.log.state.bytes new.out.log.state.bytes
+    → TellsImage o with_check x old new
+text_alone o true x old new off alone text = absurd (true≢false off)
+text_alone o false x old new off alone text = record {
+  told = record { between = new; alone = alone; text = text };
   alone = λ none. refl;
   checked = λ on. absurd (true≢false (sym on));
   good = λ on. absurd (true≢false (sym on));
 }
 
 pub text_checked : (o : Notation) (with_check : Bool) (x : List ℕ) (old between new : Report) → with_check ≡ true
-    → Reports o x old.out.log.state.bytes between.out.log.state.bytes → TellsFindings x between new
+    → between ≡ record old { out = between.out } → Reports o x old.out.log.state.bytes between.out.log.state.bytes
+    → TellsFindings x between new
     → IsSoundImage x → TellsImage o with_check x old new
-text_checked o true x old between new on text lines good = record {
-  told = record { between = between; text = text };
+text_checked o true x old between new on alone text lines good = record {
+  told = record { between = between; alone = alone; text = text };
   alone = λ off. absurd (true≢false off);
   checked = λ wanted. lines;
   good = λ wanted. good;
 }
-text_checked o false x old between new on text lines good = absurd (true≢false (sym on))
+text_checked o false x old between new on alone text lines good = absurd (true≢false (sym on))
 
 -- ---- the lines of the check
 

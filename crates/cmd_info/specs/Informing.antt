@@ -4,6 +4,7 @@ use Rattle.std.specs.Prelude.{Result, Ok, Err, option_map}
 use Rattle.sys_disk.specs.Counts.{Cause, call, reading}
 use Rattle.sys_disk.specs.World.{World}
 use Rattle.sys_refusals.specs.declared.refusal.HostFault.{HostFault}
+use Rattle.sys_refusals.specs.declared.refusal.HostFault.TheVariants as hosts
 use Rattle.sys_report.specs.Shows.{CannotPrint, ShowsHere}
 use Rattle.sys_report.specs.declared.report.Report.{Report}
 use Rattle.abt_sections.specs.declared.checking.Verdict.{Verdict}
@@ -48,9 +49,10 @@ IsSoundImage x = (h : Header) × HasImage x h × IsSound x h
 abbrev pub IsFlawedImage : List ℕ → Type 0
 IsFlawedImage x = (h : Header) × HasImage x h × (IsSound x h → ⊥)
 
--- the text of the image x went to standard output, before whatever else was printed
+-- the text of the image x went to standard output, and nothing to standard error, before whatever else was printed
 pub record TellsText (o : Notation) (x : List ℕ) (old new : Report) : Type 0 where
   pub between : Report
+  pub alone : between ≡ record old { out = between.out }
   pub text : Reports o x old.out.log.state.bytes between.out.log.state.bytes
 
 -- What a check finds of the image x: each answer that is no has a reason, and no other has one. The reason of the
@@ -109,10 +111,11 @@ IsInfoFault x failed old new sections.CommandLine = ⊥
 IsInfoFault x failed old new (sections.SectionTruncated s) = RefusedAs x (sections.SectionTruncated s)
 IsInfoFault x failed old new (sections.SectionTooLarge s) = ⊥
 
--- of the image x: such a fault; or its text was printed, and a line after it could not be, or an answer is no
+-- of the image x: such a fault; or its text was printed, and a line after it could not be, which has the fault `Write`,
+-- or an answer is no
 abbrev pub IsInfoRefusal : List ℕ → Notation → Bool → Type 0 → Report → Report → BootCommandFault → Type 0
 IsInfoRefusal x o with_check failed old new (faults.Host f) =
-    IsTrue with_check × TellsText o x old new × CannotPrint old new
+    (f ≡ hosts.Write) × IsTrue with_check × TellsText o x old new × CannotPrint old new
 IsInfoRefusal x o with_check failed old new (faults.Section f) = IsInfoFault x failed old new f
 IsInfoRefusal x o with_check failed old new (faults.OptionNotCarried name) = ⊥
 IsInfoRefusal x o with_check failed old new (faults.BadFragment word) = ⊥
@@ -122,7 +125,7 @@ IsInfoRefusal x o with_check failed old new faults.CheckFailed = IsTrue with_che
 
 -- of the check alone, which had this verdict: `failed` is a read, `changed` what was read, and `unprinted` a line
 abbrev pub IsCheckRefusal : Verdict → Type 0 → Type 0 → Type 0 → BootCommandFault → Type 0
-IsCheckRefusal v failed changed unprinted (faults.Host f) = unprinted
+IsCheckRefusal v failed changed unprinted (faults.Host f) = (f ≡ hosts.Write) × unprinted
 IsCheckRefusal v failed changed unprinted (faults.Section (sections.Read f)) = failed
 IsCheckRefusal v failed changed unprinted (faults.Section sections.SourceChanged) = changed
 IsCheckRefusal v failed changed unprinted (faults.Section f) = ⊥

@@ -16,7 +16,7 @@ use abt_sections::{SectionFault, Verdict};
 use cmd_common_boot::BootCommandFault;
 use cmd_common_findings::{Findings, find_reasons};
 use cmd_common_texts::{InfoReport, Notation, report_info};
-use sys_refusals::{FileArg, HostRefusal, Refusal, Sides};
+use sys_refusals::{FileArg, HostFault, HostRefusal, Refusal, Sides};
 use sys_report::Report;
 
 /// Prints the values of an image's header, and with the check why its answers are no.
@@ -99,6 +99,7 @@ fn notation_of(with_hex: bool) -> Notation
 fn tell_reasons<'t>(findings: &Findings, report: &mut Report) -> Result<(), HostRefusal<'t>>
     ensures shown { OnOk result (ShowsHere report.old report.new (printed (lines_of findings.now))) }
     ensures refused { OnErr result (CannotPrint report.old report.new) }
+    ensures fault { IfErr result (λ refusal. refusal.fault ≡ HostFault.Write) }
 {
     let lines = findings.lines();
     for i in 0..lines.len() {

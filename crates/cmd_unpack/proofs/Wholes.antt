@@ -17,14 +17,14 @@ use Rattle.cmd_unpack.specs.Unpacking.{FragmentsDone, SectionsDone, WordsDone, p
 use Rattle.cmd_unpack.specs.Unpacking.{IsPartOf, IsPartPath, PartsBegun, PartsStand, SyncsMore, SyncsParts, Unpacks}
 use Rattle.cmd_unpack.specs.Unpacking.{part_total}
 use Rattle.cmd_unpack.specs.Unpacking.{LeavesParts, PartsLeft, TellsOfPart, first_parts}
-use Rattle.cmd_unpack.specs.Lines.{told_parts}
+use Rattle.cmd_unpack.specs.Lines.{ToldPart, told_parts}
 use Rattle.sys_disk.proofs.Amongs.{among_behind, goes_more, goes_none, goes_then, kept_beside, stands}
 use Rattle.cmd_unpack.specs.Writing.{KeepsInUse}
 use Rattle.cmd_unpack.proofs.Loops.{left_later}
 use Rattle.cmd_unpack.proofs.UnpackSteps.{Allowed, allowed_as, allowed_more, guards_counted, guards_then}
 
 pub unpacks : (path folder x : List ℕ) (with_words : Bool) (header : Header) (h h' h'' : OpenFiles) (a c : World)
-    (shows : List (List ℕ) → Type 0) → OpensFile a path x h h' → HasImage x header
+    (shows : List ToldPart → Type 0) → OpensFile a path x h h' → HasImage x header
     → SectionsDone folder header x (length (places_of header)) h'' c
     → FragmentsDone folder header x (fragment_count header) h'' c
     → (IsTrue with_words → WordsDone folder header x h'' c)

@@ -3,7 +3,7 @@ use Rattle.std.specs.Prelude.{◌≡◌, ℕ, zero, suc, Bool, true, false, List
 use Rattle.std.specs.Prelude.{slice_index_or}
 use Rattle.abt_headers.specs.declared.sections.SectionPlace.{SectionPlace}
 use Rattle.abt_headers.specs.Places.{section_name}
-use Rattle.sys_report.specs.Shows.{IsSilent, Shows}
+use Rattle.sys_report.specs.Shows.{IsSilent, ShowsBeside}
 use Rattle.sys_report.specs.declared.report.Report.{Report}
 use Rattle.abt_sections.specs.Header.{Header, places_of, fragment_count, entry_of}
 use Rattle.cmd_common_boot.specs.declared.part_names.ImagePart.{ImagePart}
@@ -19,30 +19,45 @@ part_line parts.Words bytes = codes "pack.words " ++ decimal bytes
 abbrev pub told_part : ImagePart → ℕ → List ℕ
 told_part part bytes = part_line part bytes ++ (10 ∷ [])
 
--- of the section at a place
-abbrev pub told_section : SectionPlace → List ℕ
-told_section p = told_part (parts.Section p.kind) p.size
+-- what is told of a part: how many bytes its file has
+pub record ToldPart : Type 0 where
+  pub part : ImagePart
+  pub bytes : ℕ
 
--- of the first n fragments of an image x
-abbrev pub told_fragments : List ℕ → Header → ℕ → List (List ℕ)
+-- of the section at a place
+abbrev pub told_section : SectionPlace → ToldPart
+told_section p = record { part = parts.Section p.kind; bytes = p.size }
+
+-- of a fragment of an image x, and of the first n
+abbrev pub told_fragment : List ℕ → Header → ℕ → ToldPart
+told_fragment x h n = record { part = parts.Fragment n; bytes = (entry_of x h n).ramdisk_size }
+
+abbrev pub told_fragments : List ℕ → Header → ℕ → List ToldPart
 told_fragments x h zero = []
-told_fragments x h (suc n) = told_fragments x h n ++ (told_part (parts.Fragment n) (entry_of x h n).ramdisk_size ∷ [])
+told_fragments x h (suc n) = told_fragments x h n ++ (told_fragment x h n ∷ [])
 
 -- of the arguments, where they are requested
-abbrev pub told_words : Bool → ℕ → List (List ℕ)
-told_words true bytes = told_part parts.Words bytes ∷ []
+abbrev pub told_words : Bool → ℕ → List ToldPart
+told_words true bytes = record { part = parts.Words; bytes = bytes } ∷ []
 told_words false bytes = []
 
--- the lines of all parts, one after another
-abbrev pub told_parts : List ℕ → Header → Bool → ℕ → List (List ℕ)
+-- of all parts, one after another
+abbrev pub told_parts : List ℕ → Header → Bool → ℕ → List ToldPart
 told_parts x h with_words bytes =
     map told_section (places_of h) ++ (told_fragments x h (fragment_count h) ++ told_words with_words bytes)
 
--- lines were printed one after another: each went to where lines went at that time
-abbrev pub ShowsEach : List (List ℕ) → Report → Report → Type 0
-ShowsEach [] old new = IsSilent old new
-ShowsEach (line ∷ lines) old new = (next : Report) × Shows old next line × ShowsEach lines next new
+-- Its line was printed: to standard error if data goes to standard output, as it does from now on if the part's file is
+-- where that goes.
+abbrev pub ShowsLineOf : (ImagePart → Bool) → ToldPart → Report → Report → Type 0
+ShowsLineOf on_output told old new = ShowsBeside (on_output told.part) old new (told_part told.part told.bytes)
 
--- the line of section i was shown
-abbrev pub ShowsSection : Header → ℕ → Report → Report → Type 0
-ShowsSection h i old new = (p : SectionPlace) → p ≡ slice_index_or (places_of h) i p → Shows old new (told_section p)
+-- the lines of parts were printed, one after another, and nothing else
+abbrev pub ShowsEach : (ImagePart → Bool) → List ToldPart → Report → Report → Type 0
+ShowsEach on_output [] old new = IsSilent old new
+ShowsEach on_output (told ∷ more) old new =
+    (next : Report) × ShowsLineOf on_output told old next × ShowsEach on_output more next new
+
+-- the line of section i was
+abbrev pub ShowsSection : (ImagePart → Bool) → Header → ℕ → Report → Report → Type 0
+ShowsSection on_output h i old new =
+    (p : SectionPlace) → p ≡ slice_index_or (places_of h) i p → ShowsLineOf on_output (told_section p) old new

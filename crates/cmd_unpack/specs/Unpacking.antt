@@ -18,7 +18,7 @@ use Rattle.cmd_common_boot.specs.declared.part_names.ImagePart.TheVariants as pa
 use Rattle.cmd_common_boot.specs.Unpacked.{IsPart}
 use Rattle.cmd_common_texts.specs.Words.{words_text, image_words}
 use Rattle.sys_disk.specs.Among.{FileHolds, IsMade, OnlyAmong}
-use Rattle.cmd_unpack.specs.Lines.{told_parts}
+use Rattle.cmd_unpack.specs.Lines.{ToldPart, told_parts}
 
 -- the name of a part's file, and the number after it
 abbrev pub part_name : ImagePart → List ℕ
@@ -162,7 +162,7 @@ TellsOfPart fault place folder part = boot_side_of fault ≡ sides.Output → Is
 -- The file at a path held a boot image or a vendor boot image. In the folder there is a file for each of its sections
 -- and one for each of its ramdisk fragments, under its name. It holds exactly its bytes. Where they are requested,
 -- one file holds the arguments that pack the image again. A line was printed of each.
-pub record Unpacks (input folder : List ℕ) (with_words : Bool) (old new : World) (shows : List (List ℕ) → Type 0)
+pub record Unpacks (input folder : List ℕ) (with_words : Bool) (old new : World) (shows : List ToldPart → Type 0)
     : Type 0 where
   pub from : ℕ
   pub there : old.at input ≡ Some from

@@ -1,7 +1,7 @@
 //! The file of a part.
 
 ghost use Rattle.std.specs.Prelude.{◌≡◌};
-ghost use Rattle.sys_refusals.specs.Paths.{path_of};
+ghost use Rattle.sys_refusals.specs.Paths.{path_of, path_out};
 ghost use Rattle.cmd_unpack.specs.Unpacking.{part_name, part_number, path_of_part};
 
 use cmd_common_boot::ImagePart;
@@ -9,7 +9,8 @@ use sys_refusals::FileArg;
 
 /// The file of a part in a folder: `kernel`, `fragment.0`, `pack.words`.
 pub fn place_of<'a>(part: ImagePart, folder: &'a str) -> FileArg<'a>
-    ensures { path_of result ≡ path_of_part folder.now part }
+    ensures path { path_of result ≡ path_of_part folder.now part }
+    ensures written { path_out result ≡ path_of_part folder.now part }
 {
     FileArg {
         role: "PART",

@@ -13,7 +13,7 @@ ghost use Rattle.sys_report.specs.Shows.{CannotPrint, refusals};
 ghost use Rattle.cmd_common_boot.specs.ImageFaults.{IsRefusedOver, SomeFailed};
 ghost use Rattle.cmd_unpack.specs.Lines.{ShowsEach, told_fragments, told_parts, told_section};
 ghost use Rattle.cmd_unpack.specs.Unpacking.{FragmentsDone, IsFragmentPath, IsPartPath, IsSectionPath, PartsBegun};
-ghost use Rattle.cmd_unpack.specs.Unpacking.{PartsLeft, SectionsDone, TellsOfPart, WordsDone, part_total};
+ghost use Rattle.cmd_unpack.specs.Unpacking.{PartsLeft, SectionsDone, TellsOfPart, WordsDone, part_total, path_of_part};
 ghost use Rattle.cmd_unpack.specs.Writing.{WritesParts};
 
 use crate::write_part::{write_fragment, write_pack_words, write_section};
@@ -52,8 +52,9 @@ pub(crate) fn write_parts<'t, 'a, D: Disk>(
         (D.At.content source.old) (TellsOfPart refusal.fault refusal.about.place folder.now) (D.held disk.new)
         (D.world disk.new) (λ named. GoesAmong named (D.held disk.old) (D.held disk.new) (D.world disk.old)
         (D.world disk.new))) }
-    ensures shown { IsTrue D.models → OnOk result ((bytes : ℕ) × ShowsEach (told_parts (D.At.content source.old)
-        (view_of image.now.header) with_words bytes) report.old report.new) }
+    ensures shown { IsTrue D.models → OnOk result ((bytes : ℕ) × ShowsEach (λ part. D.on_output (path_of_part folder.now
+        part)) (told_parts (D.At.content source.old) (view_of image.now.header) with_words bytes) report.old
+        report.new) }
     ensures refused { IsTrue D.models → IsOpened (D.At.content source.old) image.now → IfErr result (λ refusal.
         IsRefusedOver (D.At.content source.old) (SomeFailed (D.held disk.old) (D.At.read_faults source.old)
         (D.held disk.new) (D.At.read_faults source.new)) (PartsBegun folder.now with_words (view_of
@@ -102,8 +103,8 @@ fn write_sections<'t, 'a, D: Disk>(
         × SectionsDone folder.now (view_of image.now.header) (D.At.content source.old) i (D.held disk.new)
         (D.world disk.new) × GoesAmong (IsSectionPath folder.now (view_of image.now.header) (i + 1)) (D.held disk.old)
         (D.held disk.new) (D.world disk.old) (D.world disk.new)) }
-    ensures shown { OnOk result (ShowsEach (map told_section (places_of (view_of image.now.header))) report.old
-        report.new) }
+    ensures shown { IsTrue D.models → OnOk result (ShowsEach (λ part. D.on_output (path_of_part folder.now part))
+        (map told_section (places_of (view_of image.now.header))) report.old report.new) }
     ensures rises { OnOk result (refusals report.old ≤ refusals report.new) }
     ensures refused { IsTrue D.models → IsOpened (D.At.content source.old) image.now → IfErr result (λ refusal.
         IsRefusedOver (D.At.content source.old) (SomeFailed (D.held disk.old) (D.At.read_faults source.old)
@@ -145,8 +146,9 @@ fn write_fragments<'t, 'a, D: Disk>(
         × FragmentsDone folder.now (view_of image.now.header) (D.At.content source.old) i (D.held disk.new)
         (D.world disk.new) × GoesAmong (IsFragmentPath folder.now (view_of image.now.header) (i + 1)) (D.held disk.old)
         (D.held disk.new) (D.world disk.old) (D.world disk.new)) }
-    ensures shown { IsTrue D.models → OnOk result (ShowsEach (told_fragments (D.At.content source.old)
-        (view_of image.now.header) (fragment_count (view_of image.now.header))) report.old report.new) }
+    ensures shown { IsTrue D.models → OnOk result (ShowsEach (λ part. D.on_output (path_of_part folder.now part))
+        (told_fragments (D.At.content source.old) (view_of image.now.header) (fragment_count (view_of
+        image.now.header))) report.old report.new) }
     ensures rises { IsTrue D.models → OnOk result (refusals report.old ≤ refusals report.new) }
     ensures refused { IsTrue D.models → IsOpened (D.At.content source.old) image.now → IfErr result (λ refusal.
         IsRefusedOver (D.At.content source.old) (SomeFailed (D.held disk.old) (D.At.read_faults source.old)

@@ -14,7 +14,7 @@ ghost use Rattle.cmd_unpack.specs.Lines.{ShowsEach};
 ghost use Rattle.cmd_common_boot.specs.Unpacked.{part_count};
 ghost use Rattle.abt_sections.specs.Header.{view_of};
 ghost use Rattle.cmd_unpack.specs.Unpacking.{HaveFreeNames, IsPartOf, LeavesParts, LooksAtParts, PartsStand, SyncsParts};
-ghost use Rattle.cmd_unpack.specs.Unpacking.{Unpacks};
+ghost use Rattle.cmd_unpack.specs.Unpacking.{Unpacks, path_of_part};
 
 use crate::names::place_of;
 use crate::parts::write_parts;
@@ -39,9 +39,11 @@ pub fn unpack_file<'t, 'a, D: Disk>(
     m: &mut Meter,
 ) -> BootOutcome<'t, 'a>
     requires first { IsTrue D.models → IsReading (D.held disk.old) }
-    // each part of the image that IN holds is stored in the folder under its name; a line was printed of each
+    // each part of the image that IN holds is stored in the folder under its name; a line was printed of each, to
+    // standard error once a part's file is where standard output goes
     ensures done { IsTrue D.models → OnOk result (Unpacks (path_of input.entry) folder.now with_words (D.world disk.old)
-        (D.world disk.new) (λ lines. ShowsEach lines report.old report.new)) }
+        (D.world disk.new) (λ told. ShowsEach (λ part. D.on_output (path_of_part folder.now part)) told report.old
+        report.new)) }
     // each was synced, where that is requested
     ensures synced { IsTrue D.models → OnOk result (SyncsParts (path_of input.entry) with_words (D.world disk.old)
         (D.held disk.old) (D.held disk.new)) }

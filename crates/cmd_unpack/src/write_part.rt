@@ -7,12 +7,13 @@ ghost use Rattle.sys_refusals.specs.Blamed.{TellsOf, TellsRead};
 ghost use Rattle.cmd_common_boot.specs.Fault.{boot_side_of};
 ghost use Rattle.sys_disk.specs.Counts.{Cause, Counts, of_writing, writes};
 ghost use Rattle.sys_disk.specs.World.{Ends, ended};
-ghost use Rattle.sys_report.specs.Shows.{CannotPrint, Shows, refusals};
-ghost use Rattle.abt_sections.specs.Header.{entry_of, fragment_count, fragment_of, places_of, view_of};
+ghost use Rattle.sys_report.specs.Shows.{CannotPrint, ShowsBeside, refusals};
+ghost use Rattle.abt_sections.specs.Header.{fragment_count, fragment_of, places_of, view_of};
 ghost use Rattle.abt_sections.specs.Open.{IsOpened};
 ghost use Rattle.sys_disk.specs.Among.{IsMade};
 ghost use Rattle.cmd_common_boot.specs.ImageFaults.{IsAnswerOf, IsRefusedOver, SomeFailed};
-ghost use Rattle.cmd_unpack.specs.Lines.{ShowsSection, told_part};
+ghost use Rattle.cmd_unpack.specs.Lines.{ShowsLineOf, ShowsSection, told_fragment, told_part};
+ghost use Rattle.sys_refusals.specs.Paths.{path_out};
 ghost use Rattle.cmd_unpack.specs.Unpacking.{IsFragmentPath, IsSectionPath, SectionDone, TellsOfPart, WordsDone};
 ghost use Rattle.cmd_unpack.specs.Unpacking.{path_of_part};
 ghost use Rattle.cmd_unpack.specs.Writing.{EndsPart, WritesParts};
@@ -47,7 +48,8 @@ pub(crate) fn write_section<'t, 'a, D: Disk>(
         D.At.Source source.old source.new (D.held disk.old) (D.held disk.new) (D.world disk.old) (D.world disk.new) }
     ensures done { IsTrue D.models → OnOk result (SectionDone folder.now (view_of image.now.header)
         (D.At.content source.old) i (D.held disk.new) (D.world disk.new)) }
-    ensures shown { OnOk result (ShowsSection (view_of image.now.header) i report.old report.new) }
+    ensures shown { IsTrue D.models → OnOk result (ShowsSection (λ part. D.on_output (path_of_part folder.now part))
+        (view_of image.now.header) i report.old report.new) }
     ensures rises { OnOk result (refusals report.old ≤ refusals report.new) }
     ensures refused { IsTrue D.models → IsOpened (D.At.content source.old) image.now → IfErr result (λ refusal.
         IsRefusedOver (D.At.content source.old) (SomeFailed (D.held disk.old) (D.At.read_faults source.old)
@@ -94,8 +96,8 @@ pub(crate) fn write_fragment<'t, 'a, D: Disk>(
     ensures done { IsTrue D.models → OnOk result (IsMade (D.held disk.new) (D.world disk.new)
         (path_of_part folder.now (parts.Fragment index))
         (fragment_of (D.At.content source.old) (view_of image.now.header) index)) }
-    ensures shown { IsTrue D.models → OnOk result (Shows report.old report.new (told_part (parts.Fragment index)
-        (entry_of (D.At.content source.old) (view_of image.now.header) index).ramdisk_size)) }
+    ensures shown { IsTrue D.models → OnOk result (ShowsLineOf (λ part. D.on_output (path_of_part folder.now part))
+        (told_fragment (D.At.content source.old) (view_of image.now.header) index) report.old report.new) }
     ensures rises { OnOk result (refusals report.old ≤ refusals report.new) }
     ensures refused { IsTrue D.models → IsOpened (D.At.content source.old) image.now → IfErr result (λ refusal.
         IsRefusedOver (D.At.content source.old) (SomeFailed (D.held disk.old) (D.At.read_faults source.old)
@@ -137,7 +139,8 @@ pub(crate) fn write_pack_words<'t, 'a, D: Disk>(
         D.At.Source source.old source.new (D.held disk.old) (D.held disk.new) (D.world disk.old) (D.world disk.new) }
     ensures done { IsTrue D.models → OnOk result (WordsDone folder.now (view_of image.now.header)
         (D.At.content source.old) (D.held disk.new) (D.world disk.new)) }
-    ensures shown { OnOk result ((bytes : ℕ) × Shows report.old report.new (told_part parts.Words bytes)) }
+    ensures shown { IsTrue D.models → OnOk result ((bytes : ℕ) × ShowsLineOf (λ part. D.on_output (path_of_part
+        folder.now part)) (record { part = parts.Words; bytes = bytes }) report.old report.new) }
     ensures refused { IsTrue D.models → IsOpened (D.At.content source.old) image.now → IfErr result (λ refusal.
         IsRefusedOver (D.At.content source.old) (SomeFailed (D.held disk.old) (D.At.read_faults source.old)
         (D.held disk.new) (D.At.read_faults source.new)) (WordsDone folder.now (view_of image.now.header)
@@ -179,7 +182,8 @@ fn finish<'t, 'a, D: Disk>(
         ≡ ended true (writes (D.Onto.write_faults onto)) (D.held disk.old)) }
     ensures counts { IsTrue D.models → (cause : Cause) → (D.held disk.old).counts.failed cause
         + of_writing (D.Onto.write_faults onto) cause ≤ (D.held disk.new).counts.failed cause }
-    ensures shown { OnOk result (IfOk answer (λ bytes. Shows report.old report.new (told_part part bytes))) }
+    ensures shown { IsTrue D.models → OnOk result (IfOk answer (λ bytes. ShowsBeside (D.on_output (path_out
+        place.entry)) report.old report.new (told_part part bytes))) }
     ensures rises { OnOk result (refusals report.old ≤ refusals report.new) }
     ensures told { IsTrue D.models → IfErr result (λ refusal. IsAnswerOf answer
         (λ cause. (D.held disk.old).counts.failed cause + of_writing (D.Onto.write_faults onto) cause

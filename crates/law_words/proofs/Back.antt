@@ -14,6 +14,7 @@ use Rattle.words_sayings.specs.Words.{is_plain}
 use Rattle.words_orders.specs.declared.order.BootTask.{BootTask}
 use Rattle.words_orders.specs.declared.order.BootTask.TheVariants as boot
 use Rattle.words_orders.specs.declared.order.PackOrder.{PackOrder}
+use Rattle.cmd_unpack.specs.Lines.{ToldPart}
 use Rattle.cmd_unpack.specs.Unpacking.{Unpacks, path_of_part}
 use Rattle.cmd_common_boot.specs.declared.part_names.ImagePart.TheVariants as parts
 use Rattle.cmd_common_boot.specs.declared.pack_command.PackCommand.{PackCommand}
@@ -38,7 +39,7 @@ use Rattle.law_words.proofs.PackWords.{image_are}
 -- ---- what is done
 
 -- any lines
-unpacks_of : (input folder : List ℕ) (t : Bool) (a b : World) (shows : List (List ℕ) → Type 0)
+unpacks_of : (input folder : List ℕ) (t : Bool) (a b : World) (shows : List ToldPart → Type 0)
     → Unpacks input folder t a b shows → Unpacks input folder t a b (λ lines. Unit {0})
 unpacks_of input folder t a b shows u = record {
   from = u.from;

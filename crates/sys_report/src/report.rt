@@ -1,6 +1,6 @@
 //! What a command prints.
 
-ghost use Rattle.std.specs.Prelude.{◌≡◌, ◌<◌, ◌≤◌, OnOk, OnErr, IfSome};
+ghost use Rattle.std.specs.Prelude.{◌≡◌, ◌<◌, ◌≤◌, OnOk, OnErr, IfErr, IfSome};
 ghost use Rattle.std.specs.Fmt.{with_newline};
 ghost use Rattle.sys_report.specs.Shows.{CannotPrint, IsFirstLine, IsNoted, IsSilent, Notes, NotesOne, ShowsBeside};
 ghost use Rattle.sys_report.specs.Shows.{ShowsHere, refusals};
@@ -52,6 +52,7 @@ impl Report {
         ensures shown { OnOk result (IfSome (with_newline (D.output line)) (ShowsBeside is_data_on_output self.old
             self.new)) }
         ensures refused { OnErr result (CannotPrint self.old self.new) }
+        ensures fault { IfErr result (λ refusal. refusal.fault ≡ HostFault.Write) }
         ensures rises { refusals self.old ≤ refusals self.new }
     {
         if is_data_on_output {
@@ -65,6 +66,7 @@ impl Report {
     pub fn line<'a, D: fmt::Display + Drop>(&mut self, line: D) -> Result<(), HostRefusal<'a>>
         ensures shown { OnOk result (IfSome (with_newline (D.output line)) (ShowsHere self.old self.new)) }
         ensures refused { OnErr result (CannotPrint self.old self.new) }
+        ensures fault { IfErr result (λ refusal. refusal.fault ≡ HostFault.Write) }
         ensures rises { refusals self.old ≤ refusals self.new }
     {
         self.progress.erase();
@@ -140,7 +142,9 @@ impl Report {
     }
 
     /// The error for a text that could not be printed to standard output.
-    pub fn cannot_print<'a>(&self) -> HostRefusal<'a> {
+    pub fn cannot_print<'a>(&self) -> HostRefusal<'a>
+        ensures { result.fault ≡ HostFault.Write }
+    {
         HostRefusal::of(HostFault::Write, self.out.writer.why)
     }
 }

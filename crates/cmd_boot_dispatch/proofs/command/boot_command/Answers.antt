@@ -2,7 +2,7 @@ use Rattle.std.proofs.Common.{subst}
 use Rattle.cmd_unpack.specs.Lines.{ShowsEach}
 use Rattle.sys_disk.specs.Among.{OnlyAmong}
 use Rattle.sys_disk.specs.World.{KeepsFile, MayWrite}
-use Rattle.cmd_unpack.specs.Unpacking.{IsPartOf, SyncsParts, Unpacks}
+use Rattle.cmd_unpack.specs.Unpacking.{IsPartOf, SyncsParts, Unpacks, path_of_part}
 use Rattle.cmd_pack.specs.Repacking.{HoldsNoPartAgain, KeepsRead}
 use Rattle.cmd_boot_dispatch.proofs.Clauses.{both}
 use Rattle.cmd_boot_dispatch.proofs.command.boot_command.Goals as goal
@@ -53,7 +53,8 @@ returns-in-Unpack-clause-done g c = λ t.
     let z = g.D.Disk.world c.unpack_file.new.disk in
     rw c.in-Unpack.is (both c.unpack_file.result _ _ _ (λ does synced. (
       subst (λ p. Unpacks p c.in-Unpack.folder.now c.in-Unpack.with_words a z
-          (λ lines. ShowsEach lines c.args.report.now c.unpack_file.new.report)) c.input_at-in-Unpack.ensures does,
+          (λ told. ShowsEach (λ part. g.D.Disk.on_output (path_of_part c.in-Unpack.folder.now part)) told
+          c.args.report.now c.unpack_file.new.report)) c.input_at-in-Unpack.ensures does,
       subst (λ p. SyncsParts p c.in-Unpack.with_words a (g.D.Disk.held c.args.disk.now)
           (g.D.Disk.held c.unpack_file.new.disk)) c.input_at-in-Unpack.ensures synced,
     )) (c.unpack_file.ensures.done t) (c.unpack_file.ensures.synced t))

@@ -16,7 +16,7 @@ returns-in-Err-clause-refused g c = λ t.
 pub returns-then-not-with_check-clause-done : goal.returns-then-not-with_check-clause-done
 returns-then-not-with_check-clause-done g c = λ t.
     text_alone _ c.args.with_check _ c.args.report.now (record c.args.report.now { out = c.report_info.new.out })
-    (search (rules, c.if-not-with_check.true))
+    (search (rules, c.if-not-with_check.true)) refl
     (as_told _ _ _ _ _ c.notation_of.ensures (c.in-Ok.ensures.printed t))
 
 pub returns-in-Ok-tell_check-clause-done : goal.returns-in-Ok-tell_check-clause-done
@@ -24,7 +24,7 @@ returns-in-Ok-tell_check-clause-done g c = λ t.
     let reported = c.in-Ok.ensures.reported t in
     let same = c.in-Ok.ensures.leaves.content t in
     text_checked _ c.args.with_check _ c.args.report.now (record c.args.report.now { out = c.report_info.new.out })
-    c.tell_check.new.report (first_of (search (rules, c.if-not-with_check.false), cc))
+    c.tell_check.new.report (first_of (search (rules, c.if-not-with_check.false), cc)) refl
     (as_told _ _ _ _ _ c.notation_of.ensures (c.in-Ok.ensures.printed t))
     ((rw same at (c.in-Ok-tell_check.ensures.found t)) reported.0 reported.1)
     (sound _ _ _ (g.met.S.Source.are_bytes c.args.source.now t) reported.0.has reported.1
@@ -36,7 +36,7 @@ returns-in-Err-tell_check-clause-refused g c = λ t.
     let same = c.in-Ok.ensures.leaves.content t in
     checked _ _ c.args.with_check c.in-Ok.told.verdict _ _ _ c.args.report.now
     (record c.args.report.now { out = c.report_info.new.out }) c.tell_check.new.report _ _
-    c.in-Err-tell_check.refusal.fault (first_of (search (rules, c.if-not-with_check.false), cc))
+    c.in-Err-tell_check.refusal.fault (first_of (search (rules, c.if-not-with_check.false), cc)) refl
     c.in-Ok.ensures.leaves.reads
     (as_told _ _ _ _ _ c.notation_of.ensures (c.in-Ok.ensures.printed t))
     (λ bad. flawed _ _ _ (g.met.S.Source.are_bytes c.args.source.now t) reported.0.has reported.1 bad)

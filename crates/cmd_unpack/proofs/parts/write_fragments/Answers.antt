@@ -1,7 +1,10 @@
-use Rattle.std.proofs.Common.{◌≤◌, ◌+◌, refl, sym, subst, arith, rules}
+use Rattle.std.proofs.Common.{◌≡◌, ◌≤◌, ◌+◌, refl, sym, subst, arith, rules}
+use Rattle.abt_sections.specs.Header.{fragment_count, view_of}
 use Rattle.abt_sections.specs.Open.{IsOpened}
 use Rattle.sys_disk.proofs.Amongs.{goes_more, goes_then}
 use Rattle.cmd_common_boot.proofs.Causes.{refused_more}
+use Rattle.cmd_unpack.specs.Lines.{ShowsEach, told_fragments}
+use Rattle.cmd_unpack.specs.Unpacking.{path_of_part}
 use Rattle.cmd_unpack.proofs.Counts.{some_then}
 use Rattle.cmd_unpack.proofs.Loops.{fragment_any, fragment_under, fragments_later, fragments_more, no_fragments}
 use Rattle.cmd_unpack.proofs.Shown.{cannot_behind, fragment_shown, rises_then, silent}
@@ -18,7 +21,7 @@ loop-i-preserved g c = λ t.
     let under : c.loop-i.i ≤ c.loop-i.i + 1 = omega arith in (
       parts_then (parts_more refl (fragment_under under) i.0) (parts_more refl (λ p named. named) e),
       fragments_more _ _ _ _ _ _ _ _ _ i.0.content e.keeps i.1 (c.in-Ok.ensures.done t),
-      fragment_shown _ _ _ _ c.args.report.now c.loop-i.report c.write_fragment.new.report i.0.content i.2
+      fragment_shown _ _ _ _ _ c.args.report.now c.loop-i.report c.write_fragment.new.report i.0.content i.2
           (c.in-Ok.ensures.shown t),
       rises_then c.args.report.now c.loop-i.report c.write_fragment.new.report i.3 c.in-Ok.ensures.rises,
     )
@@ -60,3 +63,10 @@ returns-clause-done g c = λ t k below.
 
 pub returns-clause-writes : goal.returns-clause-writes
 returns-clause-writes g c = λ t. parts_more (search (rules, arith)) fragment_any (c.loop-i.invariant t).0
+
+pub returns-clause-shown : goal.returns-clause-shown
+returns-clause-shown g c = λ t.
+    let same : c.loop-i.i ≡ fragment_count (view_of c.args.image.now.header) = search (rules, arith) in
+    subst (λ n. ShowsEach (λ part. g.D.Disk.on_output (path_of_part c.args.folder.now part))
+    (told_fragments (g.D.At.Source.content c.args.source.now) (view_of c.args.image.now.header) n) c.args.report.now
+    c.loop-i.report) same (c.loop-i.invariant t).2

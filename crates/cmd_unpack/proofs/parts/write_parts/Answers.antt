@@ -85,10 +85,10 @@ returns-then-not-with_words g c = record {
       absurd (true≢false (sym wanted ∙ off));
   stands = λ t. tt;
   shown = λ t.
-      all_but_words _ _ _ c.args.with_words c.args.report.now c.write_sections.new.report c.write_fragments.new.report
+      all_but_words _ _ _ _ c.args.with_words c.args.report.now c.write_sections.new.report c.write_fragments.new.report
       (c.in-Ok.ensures.writes t).content
       (search (rules, c.if-not-with_words.true))
-      c.in-Ok.ensures.shown (c.in-Ok-write_fragments.ensures.shown t);
+      (c.in-Ok.ensures.shown t) (c.in-Ok-write_fragments.ensures.shown t);
   refused = λ t opened. tt;
   told_of = tt;
 }
@@ -120,10 +120,10 @@ returns-in-Ok-write_pack_words g c = record {
       (c.in-Ok-write_pack_words.ensures.done t);
   stands = λ t. tt;
   shown = λ t.
-      all_shown _ _ _ c.args.with_words c.args.report.now c.write_sections.new.report c.write_fragments.new.report
+      all_shown _ _ _ _ c.args.with_words c.args.report.now c.write_sections.new.report c.write_fragments.new.report
       c.write_pack_words.new.report (c.in-Ok.ensures.writes t).content
-      (first_of (search (rules, c.if-not-with_words.false), cc)) c.in-Ok.ensures.shown
-      (c.in-Ok-write_fragments.ensures.shown t) c.in-Ok-write_pack_words.ensures.shown;
+      (first_of (search (rules, c.if-not-with_words.false), cc)) (c.in-Ok.ensures.shown t)
+      (c.in-Ok-write_fragments.ensures.shown t) (c.in-Ok-write_pack_words.ensures.shown t);
   refused = λ t opened. tt;
   told_of = tt;
 }

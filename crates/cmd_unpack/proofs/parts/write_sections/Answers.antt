@@ -10,7 +10,7 @@ use Rattle.cmd_unpack.proofs.parts.write_sections.Goals as goal
 
 pub loop-i-init : goal.loop-i-init
 loop-i-init g c = record {
-  shown = silent c.args.report.now;
+  shown = λ t. silent c.args.report.now;
   rises = omega arith;
   told = λ t. (parts_none (c.requires.one t), no_sections _ _ _ _ _);
 }
@@ -19,8 +19,8 @@ pub loop-i-preserved : goal.loop-i-preserved
 loop-i-preserved g c =
     let under : c.loop-i.i ≤ c.loop-i.i + 1 = omega arith in
     record {
-      shown = section_shown _ _ c.args.report.now c.loop-i.report c.write_section.new.report (search (rules, arith))
-          c.loop-i.invariant.shown c.in-Ok.ensures.shown;
+      shown = λ t. section_shown _ _ _ c.args.report.now c.loop-i.report c.write_section.new.report
+          (search (rules, arith)) (c.loop-i.invariant.shown t) (c.in-Ok.ensures.shown t);
       rises = rises_then c.args.report.now c.loop-i.report c.write_section.new.report c.loop-i.invariant.rises
           c.in-Ok.ensures.rises;
       told = λ t.
@@ -46,7 +46,7 @@ returns-in-Err g c = record {
         sections_later _ _ _ _ _ _ _ _ e.keeps i.1,
         goes_then _ _ _ _ _ _ _ (goes_more _ _ _ _ _ _ (section_under under) i.0.only) e.only,
       );
-  shown = tt;
+  shown = λ t. tt;
   rises = tt;
   refused = λ t opened.
       let i = c.loop-i.invariant.told t in

@@ -16,7 +16,7 @@ loop-i-preserved g c = λ t.
     record {
       held = c.in-Ok.ensures.held t ∙ same_counting _ ∙ i.held;
       world = c.in-Ok.ensures.world t ∙ i.world;
-      free = free_more _ _ _ _ _ _ _ i.free c.part_of.ensures c.place_of.ensures
+      free = free_more _ _ _ _ _ _ _ i.free c.part_of.ensures c.place_of.ensures.path
           (rw (i.held, i.world) at (c.in-Ok.ensures.free t));
     }
 

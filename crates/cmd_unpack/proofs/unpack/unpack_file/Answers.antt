@@ -1,7 +1,7 @@
 use Rattle.std.proofs.Common.{◌∙◌, sym, subst}
 use Rattle.sys_refusals.specs.Paths.{path_of}
 use Rattle.cmd_unpack.specs.Lines.{ShowsEach}
-use Rattle.cmd_unpack.specs.Unpacking.{Unpacks, no_part, unchanged}
+use Rattle.cmd_unpack.specs.Unpacking.{Unpacks, no_part, path_of_part, unchanged}
 use Rattle.sys_disk.proofs.Amongs.{among_none}
 use Rattle.cmd_common_boot.proofs.Causes.{open_failed, opened, opened_as, opens_as, refuses_file}
 use Rattle.cmd_common_boot.proofs.Causes.{section_refused}
@@ -113,7 +113,8 @@ returns-in-Ok-write_parts g c = record {
       let told = g.met.D.Disk.source_told t in
       let same = c.in-Ok-open.ensures.reads.only.content told in
       subst (λ w. Unpacks (path_of c.args.input) c.args.folder.now c.args.with_words (g.D.Disk.world c.args.disk.now) w
-      (λ lines. ShowsEach lines c.args.report.now c.write_parts.new.report))
+      (λ told. ShowsEach (λ part. g.D.Disk.on_output (path_of_part c.args.folder.now part)) told c.args.report.now
+      c.write_parts.new.report))
       (sym (c.let_go_source-in-Ok-write_parts.ensures.world t))
       (unpacks _ _ _ _ _ _ _ _ _ _ _ (opens_as _ _ _ _ _ _ same (c.in-Ok.ensures.opened t))
       (has_as _ _ c.in-Ok-open.image same (c.in-Ok-open.ensures.opens told))

@@ -12,7 +12,7 @@ returns-in-Err-clause-told_of g c =
 
 pub returns-in-Err-line_beside-clause-told_of : goal.returns-in-Err-line_beside-clause-told_of
 returns-in-Err-line_beside-clause-told_of g c =
-    tells_host _ c.in-Err-line_beside.refusal.fault _ _ _ c.into.ensures
+    tells_host _ _ _ _ _ c.into.ensures
 
 pub returns-in-Err-clause-closed : goal.returns-in-Err-clause-closed
 returns-in-Err-clause-closed g c = λ t.

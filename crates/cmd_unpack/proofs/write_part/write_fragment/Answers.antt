@@ -1,7 +1,9 @@
-use Rattle.std.proofs.Common.{true}
+use Rattle.std.proofs.Common.{ap, true}
 use Rattle.cmd_common_boot.proofs.Causes.{host_refused, ok_gives, told_so}
 use Rattle.cmd_unpack.proofs.Counts.{copy_failed, end_failed, none_created}
+use Rattle.cmd_common_boot.specs.declared.part_names.ImagePart.{ImagePart}
 use Rattle.cmd_common_boot.specs.declared.part_names.ImagePart.TheVariants as parts
+use Rattle.cmd_unpack.specs.Unpacking.{path_of_part}
 use Rattle.cmd_unpack.proofs.Loops.{fragment_named, part_done}
 use Rattle.cmd_unpack.proofs.Shown.{shown_part}
 use Rattle.cmd_common_boot.proofs.Sides.{host_output, reads_host}
@@ -11,7 +13,8 @@ use Rattle.cmd_unpack.proofs.write_part.write_fragment.Goals as goal
 pub returns-in-Err : goal.returns-in-Err
 returns-in-Err g c = record {
   writes = λ t.
-      part_refused (fragment_named _ _ c.args.index _ c.requires.there c.place_of-place.ensures) _ (c.requires.one t)
+      part_refused (fragment_named _ _ c.args.index _ c.requires.there c.place_of-place.ensures.path) _
+      (c.requires.one t)
       (c.in-Err.ensures.kept t) (c.in-Err.ensures.only t) (c.in-Err.ensures.begun t) (c.in-Err.ensures.guarded t);
   done = λ t. tt;
   shown = λ t. tt;
@@ -27,19 +30,21 @@ returns-in-Ok-finish g c = record {
   writes = λ t.
       let copies = c.copy_fragment-onto.ensures.copies in
       let done = c.in-Ok-finish.ensures.done in
-      part_written (fragment_named _ _ c.args.index _ c.requires.there c.place_of-place.ensures)
+      part_written (fragment_named _ _ c.args.index _ c.requires.there c.place_of-place.ensures.path)
       (c.in-Ok.ensures.created t) (c.in-Ok-finish.ensures.ends.rest t) _ _ (c.in-Ok-finish.ensures.clean t)
       (ok_gives _ _ done (copies.content (g.met.D.Disk.source_told t))) (c.in-Ok.ensures.clean t)
       (ok_gives _ _ done copies.clean);
   done = λ t.
-      part_done _ _ _ _ _ true _ _ _ _ _ _ _ c.place_of-place.ensures
+      part_done _ _ _ _ _ true _ _ _ _ _ _ _ c.place_of-place.ensures.path
       c.in-Ok.ensures.empty
       (ok_gives _ _ c.in-Ok-finish.ensures.done
       (c.copy_fragment-onto.ensures.copies.written (g.met.D.Disk.source_told t)))
       (c.in-Ok.ensures.created t) (c.in-Ok-finish.ensures.clean t) (c.in-Ok-finish.ensures.ends.ended t);
   shown = λ t.
-      shown_part _ c.args.report.now c.finish.new.report (parts.Fragment c.args.index) _ c.in-Ok-finish.ensures.done
-      c.in-Ok-finish.ensures.shown
+      shown_part (λ (part : ImagePart). g.D.Disk.on_output (path_of_part c.args.folder.now part)) _ _
+      c.args.report.now c.finish.new.report (parts.Fragment c.args.index) _
+      (ap g.D.Disk.on_output c.place_of-place.ensures.written) c.in-Ok-finish.ensures.done
+      (c.in-Ok-finish.ensures.shown t)
       (c.copy_fragment-onto.ensures.count (g.met.D.Disk.source_told t));
   rises = c.in-Ok-finish.ensures.rises;
   refused = λ t opened. tt;
@@ -50,7 +55,7 @@ returns-in-Ok-finish g c = record {
 pub returns-in-Err-finish : goal.returns-in-Err-finish
 returns-in-Err-finish g c = record {
   writes = λ t.
-      part_broken (fragment_named _ _ c.args.index _ c.requires.there c.place_of-place.ensures)
+      part_broken (fragment_named _ _ c.args.index _ c.requires.there c.place_of-place.ensures.path)
       (c.in-Ok.ensures.created t) (c.in-Err-finish.ensures.ends.rest t) (c.in-Err-finish.ensures.closed t);
   done = λ t. tt;
   shown = λ t. tt;
@@ -64,7 +69,7 @@ returns-in-Err-finish g c = record {
       (λ cause failed. copy_failed _ _ _ _ _ _ _ _ _ _ (c.in-Ok.ensures.created t) (c.in-Ok.ensures.clean t)
       (c.in-Err-finish.ensures.counts t) cause failed)
       (λ done ends. (
-        part_done _ _ _ _ _ (c.in-Err-finish.ensures.closed t).0 _ _ _ _ _ _ _ c.place_of-place.ensures
+        part_done _ _ _ _ _ (c.in-Err-finish.ensures.closed t).0 _ _ _ _ _ _ _ c.place_of-place.ensures.path
             c.in-Ok.ensures.empty
             (ok_gives _ _ done (c.copy_fragment-onto.ensures.copies.written (g.met.D.Disk.source_told t)))
             (c.in-Ok.ensures.created t) (c.in-Err-finish.ensures.closed t).2 ends.0,
@@ -74,6 +79,6 @@ returns-in-Err-finish g c = record {
   told_of_part = λ on. record {
     named = c.place_of-place.result;
     is_named = c.in-Err-finish.ensures.told_of.written on;
-    leads = c.place_of-place.ensures;
+    leads = c.place_of-place.ensures.path;
   };
 }
