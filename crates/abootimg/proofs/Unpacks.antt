@@ -1,10 +1,10 @@
 -- How unpacking as unpack_bootimg goes on from step to step.
 use Rattle.std.proofs.Common.{arith, ◌≡◌, ◌≢◌, ◌≤◌, ◌+◌, ◌++◌, ℕ, List, Some, refl, sym, ◌∙◌, ap, subst}
 use Rattle.std.proofs.Common.{inl, inr}
-use Rattle.std.specs.Prelude.{Result, Ok, Err, IfErr, OnOk}
+use Rattle.std.specs.Prelude.{Result, Ok, Err, IfErr, OnOk, false}
 use Rattle.abt_sections.specs.Header.{Header}
 use Rattle.abt_sections.specs.Open.{HasImage}
-use Rattle.sys_disk.specs.World.{World, OpenFiles, OpensFile, HasFailed, HasNotFailed, KeepsFile, counting}
+use Rattle.sys_disk.specs.World.{World, OpenFiles, OpensFile, HasFailed, HasNotFailed, KeepsFile, MayWrite, counting}
 use Rattle.sys_disk.specs.Counts.{Cause, Counts}
 use Rattle.sys_disk.specs.Among.{OnlyAmong}
 use Rattle.sys_report.specs.declared.report.Report.{Report}
@@ -23,11 +23,12 @@ use Rattle.abootimg.proofs.Refusals.{not_one}
 -- ---- no file is changed
 
 pub kept_none : (a : Stored) → KeepsStored a a
-kept_none a = record { same = refl; rises = λ cause. omega arith }
+kept_none a = record { same = refl; in_use = refl; rises = λ cause. omega arith }
 
 pub kept_then : (a b z : Stored) → KeepsStored a b → KeepsStored b z → KeepsStored a z
 kept_then a b z first next = record {
   same = next.same ∙ first.same;
+  in_use = next.in_use ∙ first.in_use;
   rises = λ cause.
       let up : a.counts.failed cause ≤ b.counts.failed cause = first.rises cause in
       let more : b.counts.failed cause ≤ z.counts.failed cause = next.rises cause in
@@ -42,6 +43,7 @@ pub kept_counting : (w w' : World) (h h' : OpenFiles) (n : Counts) → w' ≡ w 
     → KeepsStored (stored w h) (stored w' h')
 kept_counting w w' h h' n same counted = record {
   same = same;
+  in_use = ap (λ (k : OpenFiles). k.in_use) counted;
   rises = λ cause. more_by (h'.counts.failed cause) (h.counts.failed cause) (n.failed cause)
       (ap (λ (k : OpenFiles). k.counts.failed cause) counted);
 }
@@ -50,6 +52,7 @@ pub kept_opening : (w w' : World) (path x : List ℕ) (h h' : OpenFiles) → Ope
     → KeepsStored (stored w h) (stored w' h')
 kept_opening w w' path x h h' opens same = record {
   same = same;
+  in_use = ap (λ (k : OpenFiles). k.in_use) opens.taken;
   rises = λ cause.
       let e : h'.counts.failed cause ≡ h.counts.failed cause
       = ap (λ (k : OpenFiles). k.counts.failed cause) opens.taken in
@@ -59,15 +62,17 @@ kept_opening w w' path x h h' opens same = record {
 pub kept_counted : (a z : Stored) (n : Counts) → z ≡ counting_more n a → KeepsStored a z
 kept_counted a z n counted = record {
   same = ap (λ (s : Stored). s.world) counted;
+  in_use = ap (λ (s : Stored). s.in_use) counted;
   rises = λ cause. more_by (z.counts.failed cause) (a.counts.failed cause) (n.failed cause)
       (ap (λ (s : Stored). s.counts.failed cause) counted);
 }
 
 -- what is done on a disk that is given back
-kept_from : (a z : Stored) (w w' : World) (h h' : OpenFiles) → w ≡ a.world → h.counts ≡ a.counts
-    → KeepsStored (stored w h) (stored w' h') → z ≡ stored w' h' → KeepsStored a z
-kept_from a z w w' h h' first begins kept back = record {
+kept_from : (a z : Stored) (w w' : World) (h h' : OpenFiles) → w ≡ a.world → h.in_use ≡ a.in_use
+    → h.counts ≡ a.counts → KeepsStored (stored w h) (stored w' h') → z ≡ stored w' h' → KeepsStored a z
+kept_from a z w w' h h' first busy begins kept back = record {
   same = ap (λ (s : Stored). s.world) back ∙ (kept.same ∙ first);
+  in_use = ap (λ (s : Stored). s.in_use) back ∙ (kept.in_use ∙ busy);
   rises = λ cause.
       let from : h.counts.failed cause ≡ a.counts.failed cause = ap (λ (n : Counts). n.failed cause) begins in
       let upto : z.counts.failed cause ≡ h'.counts.failed cause = ap (λ (s : Stored). s.counts.failed cause) back in
@@ -93,9 +98,10 @@ step_refused a z r r' n kept one = record {
 
 -- it is made on a disk that is given back
 pub step_from : (a z : Stored) (w w' : World) (h h' : OpenFiles) (r r' : Report) (n : ℕ) → w ≡ a.world
-    → h.counts ≡ a.counts → StepStays (stored w h) r (stored w' h') r' n → z ≡ stored w' h' → StepStays a r z r' n
-step_from a z w w' h h' r r' n first begins stays back = record {
-  kept = kept_from a z w w' h h' first begins stays.kept back;
+    → h.in_use ≡ a.in_use → h.counts ≡ a.counts → StepStays (stored w h) r (stored w' h') r' n → z ≡ stored w' h'
+    → StepStays a r z r' n
+step_from a z w w' h h' r r' n first busy begins stays back = record {
+  kept = kept_from a z w w' h h' first busy begins stays.kept back;
   status_is = stays.status_is;
   quiet = stays.quiet;
 }
@@ -137,7 +143,7 @@ no_more m n same = omega (arith, same)
 pub parts_told : {X E : Type 0} (fault : E → BootCommandFault) (r : Result X E) (n : ℕ) (path : List ℕ)
     (image : UnpackImage) (w w' : World) (h h' : OpenFiles) → path ≡ image.input.now → OnOk r (n ≡ 0)
     → IfErr r (λ e. n ≡ 1) → OnOk r (UnpacksAsAosp path image.folder.now w w')
-    → OnlyAmong (IsFileOf path image.folder.now w) h.read h'.begun w w' → KeepsFile path w w'
+    → OnlyAmong (λ q. IsFileOf path image.folder.now w q × MayWrite q h) h.read h'.begun w w' → KeepsFile path w w'
     → OnOk r (HasNotFailed h h') → IfErr r (λ e. RefusesUnpack path w (λ cause. HasFailed cause h h') (fault e))
     → PartsOn image w h w' h' n
 parts_told fault (Ok x) n path image w w' h h' at none one done only keeps clean refuses = record {
@@ -145,7 +151,7 @@ parts_told fault (Ok x) n path image w w' h h' at none one done only keeps clean
   clean = λ is. clean;
   status_is = omega (arith, none);
   refused = λ not. absurd (not none);
-  only = subst (λ p. OnlyAmong (IsFileOf p image.folder.now w) h.read h'.begun w w') at only;
+  only = subst (λ p. OnlyAmong (λ q. IsFileOf p image.folder.now w q × MayWrite q h) h.read h'.begun w w') at only;
   keeps = subst (λ p. KeepsFile p w w') at keeps;
 }
 parts_told fault (Err e) n path image w w' h h' at none one done only keeps clean refuses = record {
@@ -156,17 +162,20 @@ parts_told fault (Err e) n path image w w' h h' at none one done only keeps clea
     fault = fault e;
     refuses = subst (λ p. RefusesUnpack p w (λ cause. HasFailed cause h h') (fault e)) at refuses;
   };
-  only = subst (λ p. OnlyAmong (IsFileOf p image.folder.now w) h.read h'.begun w w') at only;
+  only = subst (λ p. OnlyAmong (λ q. IsFileOf p image.folder.now w q × MayWrite q h) h.read h'.begun w w') at only;
   keeps = subst (λ p. KeepsFile p w w') at keeps;
 }
 
 pub parts_from : (image : UnpackImage) (a z : Stored) (w w' : World) (h h' : OpenFiles) (n : ℕ) → w ≡ a.world
-    → h.counts ≡ a.counts → IsReadyForOrder h → PartsOn image w h w' h' n → z ≡ stored w' h' → PartsEnd image a z n
-parts_from image a z w w' h h' n first begins ready parts back =
+    → h.in_use ≡ a.in_use → h.allows_mounted ≡ false → h.counts ≡ a.counts → IsReadyForOrder h
+    → PartsOn image w h w' h' n → z ≡ stored w' h' → PartsEnd image a z n
+parts_from image a z w w' h h' n first busy unallowed begins ready parts back =
     record {
       held = h;
       held' = h';
       ready = ready;
+      in_use = busy;
+      unallowed = unallowed;
       from = λ cause. no_more (a.counts.failed cause) (h.counts.failed cause)
           (ap (λ (n : Counts). n.failed cause) begins);
       upto = λ cause. no_more (h'.counts.failed cause) (z.counts.failed cause)
@@ -183,6 +192,8 @@ parts_within image a b y z n first parts next =
       held = parts.held;
       held' = parts.held';
       ready = parts.ready;
+      in_use = parts.in_use ∙ first.in_use;
+      unallowed = parts.unallowed;
       from = λ cause.
           let up : a.counts.failed cause ≤ b.counts.failed cause = first.rises cause in
           let from : b.counts.failed cause ≤ parts.held.counts.failed cause = parts.from cause in
@@ -238,10 +249,10 @@ text_refused image a z r r' n kept one = record {
 }
 
 pub text_from : (image : UnpackImage) (a z : Stored) (w w' : World) (h h' : OpenFiles) (r r' : Report) (n : ℕ)
-    → w ≡ a.world → h.counts ≡ a.counts → TextStep image (stored w h) r (stored w' h') r' n → z ≡ stored w' h'
-    → TextStep image a r z r' n
-text_from image a z w w' h h' r r' n first begins text back = record {
-  kept = kept_from a z w w' h h' first begins text.kept back;
+    → w ≡ a.world → h.in_use ≡ a.in_use → h.counts ≡ a.counts → TextStep image (stored w h) r (stored w' h') r' n
+    → z ≡ stored w' h' → TextStep image a r z r' n
+text_from image a z w w' h h' r r' n first busy begins text back = record {
+  kept = kept_from a z w w' h h' first busy begins text.kept back;
   status_is = text.status_is;
   printed = λ done. subst (λ (x : World). PrintsTextOf image x r r') first (text.printed done);
 }
@@ -295,11 +306,10 @@ same_number a b e = cc
 
 -- The image's file holds what it held before its parts were written. So the text is that of the same image, and it is
 -- all that was printed.
-prints_first : (image : UnpackImage) (w w' : World) (read begun : List ℕ) (r q r' : Report)
-    → UnpacksAsAosp image.input.now image.folder.now w w'
-    → OnlyAmong (IsFileOf image.input.now image.folder.now w) read begun w w' → KeepsFile image.input.now w w'
-    → PrintsNothing r q → PrintsTextOf image w' q r' → PrintsTextOf image w r r'
-prints_first image w w' read begun r q r' unpacks only keeps quiet printed =
+prints_first : (image : UnpackImage) (w w' : World) (P : List ℕ → Type 0) (read begun : List ℕ) (r q r' : Report)
+    → UnpacksAsAosp image.input.now image.folder.now w w' → OnlyAmong P read begun w w'
+    → KeepsFile image.input.now w w' → PrintsNothing r q → PrintsTextOf image w' q r' → PrintsTextOf image w r r'
+prints_first image w w' P read begun r q r' unpacks only keeps quiet printed =
     let path = image.input.now in
     let here : w'.at path ≡ Some unpacks.from = only.leads path unpacks.from unpacks.there in
     let one : printed.file ≡ unpacks.from = same_number _ _ (sym printed.there ∙ here) in
@@ -328,7 +338,7 @@ ends_at_last image a b y u z r q s t r' j k m n before made parts none quiet lin
     let told = quiet_then r s t (quiet_then r q s (before.quiet made) quiet) (links.quiet linked) in
     record {
       done = λ done. all.parts.done none;
-      printed = λ done. prints_first image a.world z.world _ _ r t r' (all.parts.done none) all.parts.only
+      printed = λ done. prints_first image a.world z.world _ _ _ r t r' (all.parts.done none) all.parts.only
           all.parts.keeps told
           (subst (λ (x : World). PrintsTextOf image x t r') (sym text.kept.same) (text.printed done));
       status_is = text.status_is;

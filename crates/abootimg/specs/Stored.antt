@@ -1,17 +1,18 @@
 -- What contracts know of where the files of a run are.
-use Rattle.std.specs.Prelude.{◌≡◌, ◌≤◌, ◌+◌, ℕ, Bool, true, false}
+use Rattle.std.specs.Prelude.{◌≡◌, ◌≤◌, ◌+◌, ℕ, List, Bool, true, false}
 use Rattle.sys_disk.specs.Counts.{Cause, Counts, added, call_of, no_counts}
 use Rattle.sys_disk.specs.World.{World, OpenFiles}
 use Rattle.sys_refusals.specs.declared.refusal.HostFault.TheVariants as faults
 
--- the files, and what a run counts
+-- the files, which paths lead to devices in use, and what a run counts
 pub record Stored : Type 0 where
   pub world : World
+  pub in_use : List ℕ → Bool
   pub counts : Counts
 
 -- what a disk has that is given back
 abbrev pub stored : World → OpenFiles → Stored
-stored world held = record { world = world; counts = held.counts }
+stored world held = record { world = world; in_use = held.in_use; counts = held.counts }
 
 -- a folder or a link is made, or a call has failed that has the fault `CannotOpen`
 abbrev pub making : Bool → Counts
@@ -22,7 +23,8 @@ making false = call_of faults.CannotOpen
 abbrev pub counting_more : Counts → Stored → Stored
 counting_more n s = record s { counts = added s.counts n }
 
--- no file has changed, and perhaps more has failed
+-- no file has changed, the same devices are in use, and perhaps more has failed
 pub record KeepsStored (a z : Stored) : Type 0 where
   pub same : z.world ≡ a.world
+  pub in_use : z.in_use ≡ a.in_use
   pub rises : (cause : Cause) → a.counts.failed cause ≤ z.counts.failed cause

@@ -1,9 +1,9 @@
 -- How unpack_bootimg ends, whatever its status. It makes each of its steps on a disk of its own.
-use Rattle.std.specs.Prelude.{◌≡◌, ◌≢◌, ◌≤◌, ◌⊎◌, ◌++◌, ℕ, List, Some}
+use Rattle.std.specs.Prelude.{◌≡◌, ◌≢◌, ◌≤◌, ◌⊎◌, ◌++◌, ℕ, List, Some, false}
 use Rattle.abt_sections.specs.Header.{Header}
 use Rattle.abt_sections.specs.Open.{HasImage}
 use Rattle.sys_disk.specs.Counts.{Cause}
-use Rattle.sys_disk.specs.World.{World, OpenFiles, HasFailed, HasNotFailed, KeepsFile}
+use Rattle.sys_disk.specs.World.{World, OpenFiles, HasFailed, HasNotFailed, KeepsFile, MayWrite}
 use Rattle.sys_disk.specs.Among.{OnlyAmong}
 use Rattle.sys_report.specs.declared.report.Report.{Report}
 use Rattle.sys_host.specs.Answering.{PrintsNothing}
@@ -62,15 +62,20 @@ pub record PartsOn (image : UnpackImage) (world : World) (held : OpenFiles) (wor
   -- else, which is status 1, the command refuses them
   pub status_is : status ≤ 1
   pub refused : status ≢ 0 → PartsRefused image world held held'
-  -- whatever the status, only files of parts were created or changed, and the image's file holds what it held
-  pub only : OnlyAmong (IsFileOf image.input.now image.folder.now world) held.read held'.begun world world'
+  -- whatever the status, only files of parts were created or changed, at paths that may be written, and the image's
+  -- file holds what it held
+  pub only : OnlyAmong (λ path. IsFileOf image.input.now image.folder.now world path × MayWrite path held) held.read
+      held'.begun world world'
   pub keeps : KeepsFile image.input.now world world'
 
--- The same on a disk of their own, on which nothing was open. What has failed on it has failed in the run.
+-- The same on a disk of their own, on which nothing was open, and which may write no device in use. What has failed on
+-- it has failed in the run.
 pub record PartsEnd (image : UnpackImage) (a z : Stored) (status : ℕ) : Type 0 where
   pub held : OpenFiles
   pub held' : OpenFiles
   pub ready : IsReadyForOrder held
+  pub in_use : held.in_use ≡ a.in_use
+  pub unallowed : held.allows_mounted ≡ false
   pub from : (cause : Cause) → a.counts.failed cause ≤ held.counts.failed cause
   pub upto : (cause : Cause) → held'.counts.failed cause ≤ z.counts.failed cause
   pub parts : PartsOn image a.world held z.world held' status

@@ -1,6 +1,6 @@
 //! Where the files of a run are, whose disks are opened once the words are read.
 
-ghost use Rattle.std.specs.Prelude.{◌≡◌, [], IsTrue, None, is_ok};
+ghost use Rattle.std.specs.Prelude.{◌≡◌, [], IsTrue, None, false, is_ok};
 ghost use Rattle.sys_disk.specs.Counts.{no_counts};
 ghost use Rattle.abootimg.specs.OrderDone.{IsReadyForOrder};
 ghost use Rattle.abootimg.specs.Stored.{Stored, counting_more, making, stored};
@@ -25,11 +25,13 @@ pub trait Storage {
     /// Its files, and what the run counts.
     ghost its: { Self → Stored };
 
-    /// The disk, on which nothing is open. It counts on.
+    /// The disk, on which nothing is open, and which may write no device in use. It counts on.
     fn disk(&self) -> Self::Disk
         ensures world { IsTrue Self.Disk.models → Self.Disk.world result ≡ (its self.now).world }
         ensures counts { IsTrue Self.Disk.models → (Self.Disk.held result).counts ≡ (its self.now).counts }
-        ensures ready { IsTrue Self.Disk.models → IsReadyForOrder (Self.Disk.held result) };
+        ensures ready { IsTrue Self.Disk.models → IsReadyForOrder (Self.Disk.held result) }
+        ensures in_use { IsTrue Self.Disk.models → (Self.Disk.held result).in_use ≡ (its self.now).in_use }
+        ensures unallowed { IsTrue Self.Disk.models → (Self.Disk.held result).allows_mounted ≡ false };
 
     /// Takes the disk back, with what its files hold.
     fn give_back(&mut self, disk: Self::Disk)
@@ -53,7 +55,11 @@ pub(crate) struct SystemStorage {
 impl Storage for SystemStorage {
     type Disk = Host<OsSystem>;
 
-    ghost its = { λ _. record { world = record { at = λ _. None; holds = λ _. [] }; counts = no_counts } };
+    ghost its = { λ _. record {
+      world = record { at = λ _. None; holds = λ _. [] };
+      in_use = λ _. false;
+      counts = no_counts;
+    } };
 
     fn disk(&self) -> Host<OsSystem> {
         Host::new(Reading::new(OsSystem { rt: self.rt }))

@@ -8,19 +8,20 @@ use Rattle.abt_headers.specs.declared.sections.SectionPlace.{SectionPlace}
 use Rattle.sys_disk.specs.Counts.{Cause, Counts, call}
 use Rattle.sys_disk.specs.World.{World, OpenFiles, OpensFile, HasFailed, counting}
 use Rattle.sys_disk.specs.Among.{GoesAmong, IsMade, KeepsMade, FileHolds, OnlyAmong}
-use Rattle.sys_disk.proofs.Amongs.{among_behind, goes_more, goes_none, goes_then, made_later, stands}
+use Rattle.sys_disk.proofs.Amongs.{among_behind, goes_none, goes_then, made_later, stands}
 use Rattle.abt_sections.specs.Header.{Header, places_of, fragment_count, fragment_of}
 use Rattle.abt_sections.specs.Layout.{part_of}
 use Rattle.abt_sections.specs.Open.{HasImage}
 use Rattle.cmd_common_boot.proofs.Causes.{host_image, refused_more, refuses_file}
 use Rattle.cmd_common_boot.specs.declared.fault.BootCommandFault.{BootCommandFault}
 use Rattle.abt_io.specs.declared.device.Source as sources
-use Rattle.cmd_unpack.specs.Writing.{WritesParts}
+use Rattle.cmd_unpack.specs.Writing.{KeepsInUse, WritesParts}
+use Rattle.cmd_unpack.proofs.UnpackSteps.{Allowed, allowed_as, allowed_more, guards_counted, guards_then}
 use Rattle.cmd_unpack.proofs.UnpackSteps.{parts_none}
 use Rattle.cmd_common_texts.specs.Words.{has_table}
 use Rattle.cmd_unpack_aosp_texts.specs.Files.{name_of_fragment, name_of_section}
-use Rattle.cmd_unpack_aosp.specs.AospFiles.{FileDone, FilesDone, IsFileOf, IsFilePath, RefusesName, RefusesPart}
-use Rattle.cmd_unpack_aosp.specs.AospFiles.{RefusesUnpack}
+use Rattle.cmd_unpack_aosp.specs.AospFiles.{FileDone, FilesDone, IsFileOf, IsFilePath, IsUnnamed, IsUnnamedAt}
+use Rattle.cmd_unpack_aosp.specs.AospFiles.{RefusesName, RefusesPart, RefusesUnpack}
 use Rattle.cmd_unpack_aosp.specs.AospFiles.{UnpacksAsAosp}
 use Rattle.cmd_unpack_aosp.specs.AospFiles.{part_bytes_at, file_count, name_at, no_place, path_in_folder, place_at}
 
@@ -150,11 +151,11 @@ files_more folder h x y n k k' a b same kept done next =
     (subst (λ z. FileDone folder h z n k' b) same next)
 
 -- a failure after others
-pub part_more : (x y : List ℕ) (P Q : Cause → Type 0) (fault : BootCommandFault) → y ≡ x → RefusesPart y P fault
-    → ((cause : Cause) → P cause → Q cause) → RefusesPart x Q fault
-part_more x y P Q fault same (inl refused) more = inl (refused_more x y P Q ⊥ ⊥ fault same refused more (λ none.
+pub part_more : (x y : List ℕ) (h : Header) (P Q : Cause → Type 0) (fault : BootCommandFault) → y ≡ x
+    → RefusesPart y h P fault → ((cause : Cause) → P cause → Q cause) → RefusesPart x h Q fault
+part_more x y h P Q fault same (inl refused) more = inl (refused_more x y P Q ⊥ ⊥ fault same refused more (λ none.
     none))
-part_more x y P Q fault same (inr unnamed) more = inr unnamed
+part_more x y h P Q fault same (inr unnamed) more = inr unnamed
 
 -- ---- all of it
 
@@ -187,37 +188,57 @@ file_of_image path folder x header h h' a opens image p named = record {
   is_file = named;
 }
 
--- whatever was done after a file was opened, before it was closed
+-- whatever was done after a file was opened, before it was closed: only such files, where they may be written
 pub only_files : (path folder x : List ℕ) (header : Header) (h h' g h'' k : OpenFiles) (a b c d : World) (m n : Counts)
     → h.begun ≡ [] → OpensFile a path x h h' → b ≡ a → HasImage x header → g ≡ counting m h'
-    → GoesAmong (IsFilePath folder header (file_count header)) g h'' b c → k ≡ counting n h'' → d ≡ c
-    → OnlyAmong (IsFileOf path folder a) h.read k.begun a d
+    → GoesAmong (Allowed (IsFilePath folder header (file_count header)) g) g h'' b c → k ≡ counting n h'' → d ≡ c
+    → OnlyAmong (Allowed (IsFileOf path folder a) h) h.read k.begun a d
 only_files path folder x header h h' g h'' k a b c d m n none opens same image taken goes let_go still =
     let P = IsFilePath folder header (file_count header) in
-    among_behind (IsFileOf path folder a) path x h h' k a b d none opens same
-    (goes_more P (IsFileOf path folder a) h' k b d (file_of_image path folder x header h h' a opens image)
-    (goes_then P h' h'' k b c d (goes_then P h' g h'' b b c (goes_none P h' g b b m taken refl) goes)
-    (goes_none P h'' k c d n let_go still)))
+    let Q = Allowed (IsFileOf path folder a) h in
+    let opened : KeepsInUse h h' = record {
+      in_use = ap (λ q. q.in_use) opens.taken;
+      allows = ap (λ q. q.allows_mounted) opens.taken;
+    } in
+    let guards = guards_then h h' g opened (guards_counted h' g m taken) in
+    let named = allowed_more P (IsFileOf path folder a) h g h'' b c
+    (file_of_image path folder x header h h' a opens image) (allowed_as P h g h'' b c guards goes) in
+    among_behind Q path x h h' k a b d none opens same
+    (goes_then Q h' h'' k b c d (goes_then Q h' g h'' b b c (goes_none Q h' g b b m taken refl) named)
+    (goes_none Q h'' k c d n let_go still))
+
+unnamed_at : (path x : List ℕ) (header : Header) (h h' : OpenFiles) (a : World) (fault : BootCommandFault)
+    → OpensFile a path x h h' → HasImage x header → IsUnnamed header fault → IsUnnamedAt path a fault
+unnamed_at path x header h h' a fault opens image unnamed = record {
+  from = opens.file;
+  there = opens.there;
+  header = header;
+  image = subst (λ z. HasImage z header) opens.held image;
+  unnamed = unnamed;
+}
 
 -- a failure, of the file from which the image was opened
-pub unpack_refused : (path x : List ℕ) (h h' : OpenFiles) (a : World) (P Q : Cause → Type 0)
-    (fault : BootCommandFault) → OpensFile a path x h h' → RefusesPart x P fault
+pub unpack_refused : (path x : List ℕ) (header : Header) (h h' : OpenFiles) (a : World) (P Q : Cause → Type 0)
+    (fault : BootCommandFault) → OpensFile a path x h h' → HasImage x header → RefusesPart x header P fault
     → ((cause : Cause) → P cause → Q cause) → RefusesUnpack path a Q fault
-unpack_refused path x h h' a P Q fault opens (inl refused) more =
+unpack_refused path x header h h' a P Q fault opens image (inl refused) more =
     inl (refuses_file path x h h' a P ⊥ Q ⊥ fault opens refused more (λ none. absurd none))
-unpack_refused path x h h' a P Q fault opens (inr unnamed) more = inr unnamed
+unpack_refused path x header h h' a P Q fault opens image (inr unnamed) more =
+    inr (unnamed_at path x header h h' a fault opens image unnamed)
 
 -- and one before any part was read
-pub taken_refused : (path x : List ℕ) (h h' h'' k : OpenFiles) (a : World) (n : Counts) (fault : BootCommandFault)
-    → OpensFile a path x h h' → k ≡ counting n h'' → RefusesName (λ cause. HasFailed cause h' h'') fault
+pub taken_refused : (path x : List ℕ) (header : Header) (h h' h'' k : OpenFiles) (a : World) (n : Counts)
+    (fault : BootCommandFault) → OpensFile a path x h h' → HasImage x header → k ≡ counting n h''
+    → RefusesName header (λ cause. HasFailed cause h' h'') fault
     → RefusesUnpack path a (λ cause. HasFailed cause h k) fault
-taken_refused path x h h' h'' k a n fault opens let_go (inl refused) =
+taken_refused path x header h h' h'' k a n fault opens image let_go (inl refused) =
     let c = call refused.host in
     let e : h'.counts.failed c ≡ h.counts.failed c = ap (λ q. q.counts.failed c) opens.taken in
     let b : k.counts.failed c ≡ h''.counts.failed c + n.failed c = ap (λ q. q.counts.failed c) let_go in
     let r : h'.counts.failed c < h''.counts.failed c = refused.rises in
     inl (host_image path a (λ cause. HasFailed cause h k) ⊥ fault refused.host refused.told (omega (arith, e, b, r)))
-taken_refused path x h h' h'' k a n fault opens let_go (inr unnamed) = inr unnamed
+taken_refused path x header h h' h'' k a n fault opens image let_go (inr unnamed) =
+    inr (unnamed_at path x header h h' a fault opens image unnamed)
 
 -- nothing was begun
 pub nothing_begun : {X E A : Type 0} {e : E} {s : sources.Ghosts A} {a : A} {P : List ℕ → Type 0} {h : OpenFiles}

@@ -75,10 +75,19 @@ FilesDone folder h x n held world = (k : ℕ) → k < n → FileDone folder h x 
 
 -- ---- why it fails
 
--- a fragment has no name: only the first hundred have one
-pub record IsUnnamed (fault : BootCommandFault) : Type 0 where
+-- a fragment that the image has is without a name: only the first hundred have one
+pub record IsUnnamed (h : Header) (fault : BootCommandFault) : Type 0 where
   pub index : ℕ
+  pub there : index < fragment_count h
   pub told : fault ≡ faults.Section (section_faults.Entry index)
+
+-- the same for what the file at a path holds
+pub record IsUnnamedAt (path : List ℕ) (world : World) (fault : BootCommandFault) : Type 0 where
+  pub from : ℕ
+  pub there : world.at path ≡ Some from
+  pub header : Header
+  pub image : HasImage (world.holds from) header
+  pub unnamed : IsUnnamed header fault
 
 -- a call with this fault has failed
 pub record IsCallFault (failed : Cause → Type 0) (fault : BootCommandFault) : Type 0 where
@@ -87,16 +96,16 @@ pub record IsCallFault (failed : Cause → Type 0) (fault : BootCommandFault) : 
   pub rises : failed (call host)
 
 -- either, before any part is read
-abbrev pub RefusesName : (Cause → Type 0) → BootCommandFault → Type 0
-RefusesName failed fault = IsCallFault failed fault ⊎ IsUnnamed fault
+abbrev pub RefusesName : Header → (Cause → Type 0) → BootCommandFault → Type 0
+RefusesName h failed fault = IsCallFault failed fault ⊎ IsUnnamed h fault
 
 -- a fault of the image x, or of a device or a call that has failed
-abbrev pub RefusesPart : List ℕ → (Cause → Type 0) → BootCommandFault → Type 0
-RefusesPart x failed fault = IsRefusedOver x failed ⊥ fault ⊎ IsUnnamed fault
+abbrev pub RefusesPart : List ℕ → Header → (Cause → Type 0) → BootCommandFault → Type 0
+RefusesPart x h failed fault = IsRefusedOver x failed ⊥ fault ⊎ IsUnnamed h fault
 
 -- the same for what the file at a path holds
 abbrev pub RefusesUnpack : List ℕ → World → (Cause → Type 0) → BootCommandFault → Type 0
-RefusesUnpack path world failed fault = RefusesImage path world failed ⊥ fault ⊎ IsUnnamed fault
+RefusesUnpack path world failed fault = RefusesImage path world failed ⊥ fault ⊎ IsUnnamedAt path world fault
 
 -- ---- all of it
 

@@ -2,7 +2,7 @@
 
 ghost use Rattle.std.specs.Prelude.{◌≡◌, ◌<◌, ℕ, IfErr, Some};
 ghost use Rattle.sys_refusals.specs.Paths.{in_folder, path_of};
-ghost use Rattle.abt_sections.specs.Header.{view_of};
+ghost use Rattle.abt_sections.specs.Header.{fragment_count, view_of};
 ghost use Rattle.cmd_unpack_aosp.specs.AospFiles.{file_count};
 
 use abt_sections::{Image, SectionFault, fragments, section, sections};
@@ -24,7 +24,8 @@ pub(crate) fn place_in<'a>(folder: &'a str, name: &'a str) -> FileArg<'a>
 /// The name of the file of part `i`, if any. Part `i` is section `i`, or after all sections a ramdisk fragment.
 pub(crate) fn name_at(image: &Image, i: u64) -> Result<Option<&'static str>, SectionFault>
     requires { i < file_count (view_of image.now.header) }
-    ensures { IfErr result (λ fault. (index : ℕ) × (fault ≡ SectionFault.Entry index)) }
+    ensures { IfErr result (λ fault. (index : ℕ) × (index < fragment_count (view_of image.now.header))
+        × (fault ≡ SectionFault.Entry index)) }
 {
     let sections = sections(image) as u64;
     let _fragments = fragments(image);

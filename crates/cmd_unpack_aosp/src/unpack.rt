@@ -5,7 +5,7 @@ ghost use Rattle.sys_refusals.specs.Paths.{path_of};
 ghost use Rattle.abt_sections.specs.Header.{view_of};
 ghost use Rattle.abt_sections.specs.Open.{IsOpened};
 ghost use Rattle.sys_disk.specs.Counts.{Counts};
-ghost use Rattle.sys_disk.specs.World.{HasFailed, IsReading, counting};
+ghost use Rattle.sys_disk.specs.World.{HasFailed, IsReading, MayWrite, counting};
 ghost use Rattle.sys_disk.specs.Among.{OnlyAmong};
 ghost use Rattle.sys_disk.specs.DiskCalls.{KeepsInput};
 ghost use Rattle.cmd_common_boot.specs.ImageFaults.{SomeFailed};
@@ -37,10 +37,12 @@ pub fn unpack_as_aosp<'t, 'a, D: Disk>(
     // each part of the image that IN holds is stored in the folder, in the tool's file for it
     ensures done { IsTrue D.models → OnOk result (UnpacksAsAosp (path_of input.entry) folder.now (D.world disk.old)
         (D.world disk.new)) }
-    // whatever the outcome, only such files were created or changed, and IN holds what it held; no call failed where all
-    // was done
-    ensures only { IsTrue D.models → OnlyAmong (IsFileOf (path_of input.entry) folder.now (D.world disk.old))
-        (D.held disk.old).read (D.held disk.new).begun (D.world disk.old) (D.world disk.new) }
+    // whatever the outcome, only such files were created or changed, each at a path that may be written: it leads to no
+    // device in use, unless such devices may be written
+    ensures only { IsTrue D.models → OnlyAmong (λ path. IsFileOf (path_of input.entry) folder.now (D.world disk.old)
+        path × MayWrite path (D.held disk.old)) (D.held disk.old).read (D.held disk.new).begun (D.world disk.old)
+        (D.world disk.new) }
+    // IN holds what it held; no call failed where all was done
     ensures keeps { KeepsInput D.models result (path_of input.entry) (D.held disk.old) (D.held disk.new)
         (D.world disk.old) (D.world disk.new) }
     // it fails for a fault of IN, or of what has failed: a device, or a call with this fault; or for a fragment without
@@ -99,8 +101,8 @@ fn refuse_taken<'t, 'a, D: Disk>(
     ensures held { IsTrue D.models → (n : Counts) × (D.held disk.new ≡ counting n (D.held disk.old)) }
     ensures clean { IsTrue D.models → OnOk result (D.held disk.new ≡ D.held disk.old) }
     ensures world { IsTrue D.models → D.world disk.new ≡ D.world disk.old }
-    ensures refused { IsTrue D.models → IfErr result (λ refusal. RefusesName (λ cause. HasFailed cause
-        (D.held disk.old) (D.held disk.new)) refusal.fault) }
+    ensures refused { IsTrue D.models → IfErr result (λ refusal. RefusesName (view_of image.now.header)
+        (λ cause. HasFailed cause (D.held disk.old) (D.held disk.new)) refusal.fault) }
 {
     for i in 0..part_count(image, false) {
         match refuse_part(disk, image, i, input, folder) {
@@ -122,8 +124,8 @@ fn refuse_part<'t, 'a, D: Disk>(
     ensures held { IsTrue D.models → (n : Counts) × (D.held disk.new ≡ counting n (D.held disk.old)) }
     ensures clean { IsTrue D.models → OnOk result (D.held disk.new ≡ D.held disk.old) }
     ensures world { IsTrue D.models → D.world disk.new ≡ D.world disk.old }
-    ensures refused { IsTrue D.models → IfErr result (λ refusal. RefusesName (λ cause. HasFailed cause
-        (D.held disk.old) (D.held disk.new)) refusal.fault) }
+    ensures refused { IsTrue D.models → IfErr result (λ refusal. RefusesName (view_of image.now.header)
+        (λ cause. HasFailed cause (D.held disk.old) (D.held disk.new)) refusal.fault) }
 {
     let name = match name_at(image, i) {
         Ok(Some(name)) => name,
@@ -154,8 +156,8 @@ fn write_files<'t, 'a, D: Disk>(
     ensures done { IsTrue D.models → OnOk result (FilesDone folder.now (view_of image.now.header)
         (D.At.content source.old) (file_count (view_of image.now.header)) (D.held disk.new) (D.world disk.new)) }
     ensures refused { IsTrue D.models → IsOpened (D.At.content source.old) image.now → IfErr result (λ refusal.
-        RefusesPart (D.At.content source.old) (SomeFailed (D.held disk.old) (D.At.read_faults source.old)
-        (D.held disk.new) (D.At.read_faults source.new)) refusal.fault) }
+        RefusesPart (D.At.content source.old) (view_of image.now.header) (SomeFailed (D.held disk.old)
+        (D.At.read_faults source.old) (D.held disk.new) (D.At.read_faults source.new)) refusal.fault) }
 {
     for i in 0..part_count(image, false) {
         match write_file(disk, image, i, source, input, folder, progress, w, m) {

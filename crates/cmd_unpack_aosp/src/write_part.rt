@@ -39,8 +39,8 @@ pub(crate) fn write_file<'t, 'a, D: Disk>(
     ensures done { IsTrue D.models → OnOk result (FileDone folder.now (view_of image.now.header)
         (D.At.content source.old) i (D.held disk.new) (D.world disk.new)) }
     ensures refused { IsTrue D.models → IsOpened (D.At.content source.old) image.now → IfErr result (λ refusal.
-        RefusesPart (D.At.content source.old) (SomeFailed (D.held disk.old) (D.At.read_faults source.old)
-        (D.held disk.new) (D.At.read_faults source.new)) refusal.fault) }
+        RefusesPart (D.At.content source.old) (view_of image.now.header) (SomeFailed (D.held disk.old)
+        (D.At.read_faults source.old) (D.held disk.new) (D.At.read_faults source.new)) refusal.fault) }
 {
     let sections = sections(image) as u64;
     let _fragments = fragments(image);
@@ -74,8 +74,8 @@ fn write_section<'t, 'a, D: Disk>(
     ensures done { IsTrue D.models → OnOk result (FileDone folder.now (view_of image.now.header)
         (D.At.content source.old) i (D.held disk.new) (D.world disk.new)) }
     ensures refused { IsTrue D.models → IsOpened (D.At.content source.old) image.now → IfErr result (λ refusal.
-        RefusesPart (D.At.content source.old) (SomeFailed (D.held disk.old) (D.At.read_faults source.old)
-        (D.held disk.new) (D.At.read_faults source.new)) refusal.fault) }
+        RefusesPart (D.At.content source.old) (view_of image.now.header) (SomeFailed (D.held disk.old)
+        (D.At.read_faults source.old) (D.held disk.new) (D.At.read_faults source.new)) refusal.fault) }
 {
     let name = match section_file(has_table(&image.header), section(image, i)) {
         Some(name) => name,
@@ -115,8 +115,8 @@ fn write_fragment<'t, 'a, D: Disk>(
     ensures done { IsTrue D.models → OnOk result (FileDone folder.now (view_of image.now.header)
         (D.At.content source.old) i (D.held disk.new) (D.world disk.new)) }
     ensures refused { IsTrue D.models → IsOpened (D.At.content source.old) image.now → IfErr result (λ refusal.
-        RefusesPart (D.At.content source.old) (SomeFailed (D.held disk.old) (D.At.read_faults source.old)
-        (D.held disk.new) (D.At.read_faults source.new)) refusal.fault) }
+        RefusesPart (D.At.content source.old) (view_of image.now.header) (SomeFailed (D.held disk.old)
+        (D.At.read_faults source.old) (D.held disk.new) (D.At.read_faults source.new)) refusal.fault) }
 {
     let name = match fragment_file(index) {
         Some(name) => name,

@@ -67,7 +67,11 @@ returns-in-Err-refuse_taken g c = record {
     clean = λ t. tt;
   };
   refused = λ t.
-      taken_refused _ _ _ _ _ _ _ _ _ (c.in-Ok.ensures.opened t) (c.let_go_source-in-Err-refuse_taken.ensures.held t)
+      let told = g.met.D.Disk.source_told t in
+      let same = c.in-Ok-open.ensures.reads.only.content told in
+      taken_refused _ _ _ _ _ _ _ _ _ _ (opens_as _ _ _ _ _ _ same (c.in-Ok.ensures.opened t))
+      (has_as _ _ c.in-Ok-open.image same (c.in-Ok-open.ensures.opens told))
+      (c.let_go_source-in-Err-refuse_taken.ensures.held t)
       (c.in-Err-refuse_taken.ensures.refused t);
   quiet = refl;
 }
@@ -87,7 +91,7 @@ returns-in-Ok-write_files g c = record {
       let told = g.met.D.Disk.source_told t in
       only_files _ _ _ _ _ _ _ _ _ _ _ _ _ _ _ (c.requires.first t).begun (c.in-Ok.ensures.opened t)
       (c.in-Ok-refuse_taken.ensures.world t ∙ c.in-Ok.ensures.world t) (c.in-Ok-open.ensures.opens told).has
-      (c.in-Ok-refuse_taken.ensures.clean t ∙ sym (same_counting _)) (c.in-Ok-write_files.ensures.writes t).1.only
+      (c.in-Ok-refuse_taken.ensures.clean t ∙ sym (same_counting _)) (c.in-Ok-write_files.ensures.writes t).1.allowed
       (c.let_go_source-in-Ok-write_files.ensures.held t) (c.let_go_source-in-Ok-write_files.ensures.world t);
   keeps = record {
     input = λ t.
@@ -113,7 +117,7 @@ returns-in-Err-write_files g c = record {
       let told = g.met.D.Disk.source_told t in
       only_files _ _ _ _ _ _ _ _ _ _ _ _ _ _ _ (c.requires.first t).begun (c.in-Ok.ensures.opened t)
       (c.in-Ok-refuse_taken.ensures.world t ∙ c.in-Ok.ensures.world t) (c.in-Ok-open.ensures.opens told).has
-      (c.in-Ok-refuse_taken.ensures.clean t ∙ sym (same_counting _)) (c.in-Err-write_files.ensures.writes t).1.only
+      (c.in-Ok-refuse_taken.ensures.clean t ∙ sym (same_counting _)) (c.in-Err-write_files.ensures.writes t).1.allowed
       (c.let_go_source-in-Err-write_files.ensures.held t) (c.let_go_source-in-Err-write_files.ensures.world t);
   keeps = record {
     input = λ t.
@@ -126,7 +130,8 @@ returns-in-Err-write_files g c = record {
   refused = λ t.
       let told = g.met.D.Disk.source_told t in
       let same = c.in-Ok-open.ensures.reads.only.content told in
-      unpack_refused _ _ _ _ _ _ _ _ (opens_as _ _ _ _ _ _ same (c.in-Ok.ensures.opened t))
+      unpack_refused _ _ _ _ _ _ _ _ _ (opens_as _ _ _ _ _ _ same (c.in-Ok.ensures.opened t))
+      (has_as _ _ c.in-Ok-open.image same (c.in-Ok-open.ensures.opens told))
       (c.in-Err-write_files.ensures.refused t (opened_as _ _ c.in-Ok-open.image same (c.in-Ok-open.ensures.opens told)))
       (λ cause failed. failed_within _ _ _ _ _ _ _ _ _ _ _ _ (c.in-Ok.ensures.opened t) (c.in-Ok.ensures.clean t)
       c.in-Ok-open.ensures.reads.only.clean (c.in-Ok-refuse_taken.ensures.clean t ∙ sym (same_counting _))

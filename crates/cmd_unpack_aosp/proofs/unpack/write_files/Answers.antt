@@ -27,7 +27,7 @@ returns-in-Err g c = record {
   done = λ t. tt;
   refused = λ t opened.
       let i = c.loop-i.invariant t in
-      part_more _ _ _ _ c.in-Err.refusal.fault i.0.1.content
+      part_more _ _ _ _ _ c.in-Err.refusal.fault i.0.1.content
       (c.in-Err.ensures.refused t (subst (λ x. IsOpened x c.args.image.now) (sym i.0.1.content) opened))
       (λ cause failed. some_then _ _ _ _ _ _ i.0.1.clean cause failed);
 }

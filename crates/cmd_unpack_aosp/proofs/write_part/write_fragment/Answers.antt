@@ -12,7 +12,7 @@ pub returns-in-None : goal.returns-in-None
 returns-in-None g c = record {
   writes = λ t. (0, nothing_begun (c.requires.one t));
   done = λ t. tt;
-  refused = λ t opened. inr (record { index = c.args.index; told = c.of.ensures });
+  refused = λ t opened. inr (record { index = c.args.index; there = c.requires.there; told = c.of.ensures });
 }
 
 -- it could not be created
