@@ -14,5 +14,6 @@ returns-in-Err g c = λ t. record {
 
 pub returns-in-Ok : goal.returns-in-Ok
 returns-in-Ok g c = λ t.
-    called_from _ _ c.args.tool _ (map (λ word. word.now) c.in-Ok.parted.others.items) c.in-Ok.parted.said.items _ _ _ _ _
-    c.in-Ok.ensures.parted (rw (c.as_slice-words.ensures.value, c.as_slice-said.ensures.value) at (c.do_parted.ensures t))
+    let rest = map (λ word. word.now) c.in-Ok.parted.others.items in
+    called_from _ _ c.args.tool _ rest c.in-Ok.parted.said.items _ _ _ _ _ c.in-Ok.ensures.parted
+    (rw (c.as_slice-words.ensures.value, c.as_slice-said.ensures.value) at (c.do_parted.ensures t))
