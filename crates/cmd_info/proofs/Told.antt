@@ -160,13 +160,13 @@ checked x o with_check v r q r' old between new C U (faults.BadBoardId
     word) wanted alone same text flaw lines never up told = absurd told
 checked x o with_check v r q r' old between new C U faults.CheckFailed wanted alone same text flaw lines never up
     told = (
-  wanted,
-  record {
-    told = record { between = between; alone = alone; text = text };
-    checked = lines refl;
-    flawed = flaw told;
-  },
-)
+      wanted,
+      record {
+        told = record { between = between; alone = alone; text = text };
+        checked = lines refl;
+        flawed = flaw told;
+      },
+    )
 
 -- ---- of the file
 
