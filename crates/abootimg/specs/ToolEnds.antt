@@ -1,5 +1,5 @@
 -- How a run ends that is called by the name of one of AOSP's tools.
-use Rattle.std.specs.Prelude.{◌≡◌, ◌≢◌, ◌⊎◌, ◌==◌, ℕ, List, Bool, Option, Some, None, Result, Ok, Err, IfOk}
+use Rattle.std.specs.Prelude.{◌≡◌, ◌≢◌, ◌⊎◌, ◌==◌, ℕ, List, Bool, Option, Some, None, Result, Ok, Err, IfErr, IfOk}
 use Rattle.std.specs.Prelude.{if◌then◌else◌}
 use Rattle.sys_disk.specs.Counts.{call}
 use Rattle.sys_disk.specs.World.{OpenFiles, HasFailed}
@@ -7,9 +7,11 @@ use Rattle.sys_refusals.specs.declared.refusal.HostFault.{HostFault}
 use Rattle.sys_report.specs.declared.report.Report.{Report}
 use Rattle.words_orders.specs.declared.answers.Answer.{Answer}
 use Rattle.words_orders.specs.declared.fault.WordsFault.{WordsFault}
+use Rattle.words_orders.specs.Refused.{IsOfWords}
 use Rattle.words_tools.specs.declared.orders.Orders.{Orders}
 use Rattle.words_tools.specs.declared.tools.Tool.{Tool}
 use Rattle.words_tools.specs.declared.unpack_bootimg.UnpackImage.{UnpackImage}
+use Rattle.words_tools.specs.Rejected.{AreRejected, IsRejected}
 use Rattle.words_tools.specs.Tools.{AreOrdersOf, AreToolOrders, wrong_words_status}
 use Rattle.words_program.specs.Mistake.{IsMistake}
 use Rattle.cmd_sparse_dispatch.specs.Commands.{State, state}
@@ -59,22 +61,26 @@ GivenEnd on_output is_file None orders a report z report' status =
     × ((y : State) × (z ≡ stored y.world y.held) × (report' ≡ y.report)
     × OrdersEnd on_output is_file orders (state a.world held report) y status)
 
--- Words that give no orders change no file, and a mistake does not end with status 0.
+-- Words that give no orders change no file, a mistake does not end with status 0, and only one of the words themselves
+-- ends with status 2.
 abbrev pub OrdersFoundEnd : (List ℕ → Bool) → (List ℕ → Bool) → Result Orders WordsFault → Stored → Report → Stored
     → Report → ℕ → Type 0
 OrdersFoundEnd on_output is_file (Ok orders) a report z report' status =
     GivenEnd on_output is_file orders.unpack orders a report z report' status
-OrdersFoundEnd on_output is_file (Err fault) a report z report' status = (z ≡ a) × (IsMistake fault → status ≢ 0)
+OrdersFoundEnd on_output is_file (Err fault) a report z report' status =
+    (z ≡ a) × ((IsMistake fault → status ≢ 0) × (status ≡ 2 → IsOfWords fault))
 
 -- the status under a tool's name: that of wrong words is the tool's own
 abbrev pub status_as : Tool → ℕ → ℕ
 status_as tool status = if status == 2 then wrong_words_status tool else status
 
--- what was found in words without those of ramdisk fragments: orders that they give with what those say
+-- What was found in words without those of ramdisk fragments: orders that they give with what those say. Where none is
+-- found, status 2 says that the words are rejected.
 pub record PartedEnds (on_output is_file : List ℕ → Bool) (tool : Tool) (others : List (List ℕ)) (said : List Answer)
     (a : Stored) (report : Report) (z : Stored) (report' : Report) (status : ℕ) : Type 0 where
   pub found : Result Orders WordsFault
   pub asked : IfOk found (AreOrdersOf tool others said)
+  pub none : IfErr found (λ fault. status ≡ 2 → AreRejected tool others said)
   pub ends : OrdersFoundEnd on_output is_file found a report z report' status
 
 -- what was found in all words of a call
@@ -82,6 +88,7 @@ pub record CalledEnds (on_output is_file : List ℕ → Bool) (tool : Tool) (wor
     (report : Report) (z : Stored) (report' : Report) (status : ℕ) : Type 0 where
   pub found : Result Orders WordsFault
   pub asked : IfOk found (AreToolOrders tool words)
+  pub none : IfErr found (λ fault. status ≡ 2 → IsRejected tool words)
   pub ends : OrdersFoundEnd on_output is_file found a report z report' status
 
 -- the same, with the tool's status of wrong words

@@ -4,6 +4,8 @@ ghost use Rattle.std.specs.Prelude.{◌≡◌, ◌≢◌, [], IfErr, IfOk, IsTru
 ghost use Rattle.sys_refusals.specs.Paths.{path_of};
 ghost use Rattle.sys_disk.specs.Counts.{call};
 ghost use Rattle.sys_disk.specs.World.{HasFailed};
+ghost use Rattle.words_orders.specs.Refused.{IsOfWords};
+ghost use Rattle.words_tools.specs.Rejected.{AreRejected, RejectsPartsFor};
 ghost use Rattle.words_tools.specs.Tools.{AreOrdersOf, ArePartedFor};
 ghost use Rattle.cmd_sparse_dispatch.specs.Commands.{state};
 ghost use Rattle.abootimg.specs.OrderDone.{IsReadyForOrder};
@@ -71,7 +73,8 @@ fn do_tool<S: Storage>(
     w: &mut Window,
     m: &mut Meter,
 ) -> u8
-    // the orders are carried out that the words give, if they are found
+    // the orders are carried out that the words give, if they are found; else the status is that of wrong words only if
+    // they are rejected
     ensures { IsTrue S.Disk.models → ToolEnds S.Disk.on_output S.Disk.is_file tool (map string_bytes words.now)
         (S.its storage.old) report.old (S.its storage.new) report.new result }
 {
@@ -117,8 +120,9 @@ fn status_for(tool: Tool, status: u8) -> u8
 
 // The words separated: those of mkbootimg that say something of ramdisk fragments, and the others.
 fn parted_for<'a>(alloc: Global, tool: Tool, words: &'a [String]) -> Result<Parted<'a>, WordsFault>
-    ensures { IfOk result (λ parted. ArePartedFor tool (map string_bytes words.now)
+    ensures parted { IfOk result (λ parted. ArePartedFor tool (map string_bytes words.now)
         (map (λ word. word.now) parted.others.items) parted.said.items) }
+    ensures refused { IfErr result (λ fault. IsOfWords fault → RejectsPartsFor tool (map string_bytes words.now)) }
 {
     match tool {
         Tool::Mkbootimg => part_words(alloc, words),
@@ -127,7 +131,7 @@ fn parted_for<'a>(alloc: Global, tool: Tool, words: &'a [String]) -> Result<Part
 }
 
 // Does what these words ask for.
-#[tactic(auto, using(crate::proofs::Plain::found_plain))]
+#[tactic(auto, using(crate::proofs::Plain::found_plain, crate::proofs::Asking::none_given))]
 fn do_parted<'a, S: Storage>(
     rt: HostRuntime,
     tool: Tool,
@@ -160,7 +164,9 @@ fn ordered<'a>(
     said: &'a [Answer<'a>],
     texts: &'a [String],
 ) -> Result<Orders<'a>, WordsFault>
-    ensures { IfOk result (AreOrdersOf tool (map (λ word. word.now) words.now) said.now) }
+    ensures orders { IfOk result (AreOrdersOf tool (map (λ word. word.now) words.now) said.now) }
+    ensures none { IfErr result (λ fault. IsOfWords fault →
+        AreRejected tool (map (λ word. word.now) words.now) said.now) }
 {
     orders_of(alloc, tool, words, said, texts)
 }

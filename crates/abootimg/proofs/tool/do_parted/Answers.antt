@@ -6,5 +6,6 @@ pub returns-in-Err : goal.returns-in-Err
 returns-in-Err g c = λ t. record {
   found = Err c.in-Err.fault;
   asked = tt;
-  ends = (refl, c.wrong_words.ensures.mistake);
+  none = λ two. absurd (c.in-Err.ensures (c.wrong_words.ensures.wrong two));
+  ends = (refl, (c.wrong_words.ensures.mistake, c.wrong_words.ensures.wrong));
 }
