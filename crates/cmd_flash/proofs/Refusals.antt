@@ -227,14 +227,16 @@ pub flash_untold : (untold : List ℕ → Type 0) (e : SparseCommandFault) (inpu
     → e ≡ faults.Host hosts.Write → h'.part ≡ None → FlashesFile input path a c h.syncs h'.syncs untold
     → RefusesFlash e input path a c h h' untold
 flash_untold untold e input path a c h h' is closed done =
-    subst (λ (z : SparseCommandFault). RefusesFlash z input path a c h h' untold) (sym is) (inr (refl, (closed, done)))
+    subst (λ (z : SparseCommandFault). RefusesFlash z input path a c h h' untold) (sym is)
+    (inr (refl, (closed, done)))
 
 pub raw_untold : (untold : List ℕ → Type 0) (e : SparseCommandFault) (b : ℕ) (input path : List ℕ)
     (a c : World) (h h' : OpenFiles)
     → e ≡ faults.Host hosts.Write → h'.part ≡ None → FlashesRawFile b input path a c h.syncs h'.syncs untold
     → RefusesFlashRaw e b input path a c h h' untold
 raw_untold untold e b input path a c h h' is closed done =
-    subst (λ (z : SparseCommandFault). RefusesFlashRaw z b input path a c h h' untold) (sym is) (inr (refl, (closed, done)))
+    subst (λ (z : SparseCommandFault). RefusesFlashRaw z b input path a c h h' untold) (sym is)
+    (inr (refl, (closed, done)))
 
 -- closing the partition failed, which is counted in the run
 pub host_late : (answer : Result ℕ SparseCommandFault) (e : SparseCommandFault) (M : Type 0)

@@ -91,7 +91,8 @@ returns-in_err-line_beside-clause-refused g c = λ t.
     (c.in_ok-onto.ensures.opened t) (c.in_ok-onto.ensures.world t) (c.let_go.ensures.held t) (c.let_go.ensures.world t)
     (c.closed.ensures.ended t) (c.closed.ensures.paths t) (c.in-Ok.ensures.closed t) in
     handed_on c.from_residual-in_err-line_beside.result _ _
-    (λ r made. flash_untold _ r.fault _ _ _ _ _ _ (made ∙ ap faults.Host c.in_err-line_beside.ensures.fault) all.closed (record {
+    (λ r made. flash_untold _ r.fault _ _ _ _ _ _
+    (made ∙ ap faults.Host c.in_err-line_beside.ensures.fault) all.closed (record {
       blocks = c.in-Ok.end.0;
       flashed = all.with_files (IsFlashed c.in-Ok.end.0)
           (is_flashed c.flashed-answer.result c.in-Ok.end.0 _ _ _ _ _ _ _ _ done

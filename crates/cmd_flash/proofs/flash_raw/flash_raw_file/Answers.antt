@@ -98,7 +98,8 @@ returns-in_err-line_beside-clause-refused g c = λ t.
     (c.let_go_source.ensures.world t)
     (c.closed.ensures.ended t) (c.closed.ensures.paths t) (c.in-Ok.ensures.closed t) in
     handed_on c.from_residual-in_err-line_beside.result _ _
-    (λ r made. raw_untold _ r.fault c.args.size _ _ _ _ _ _ (made ∙ ap faults.Host c.in_err-line_beside.ensures.fault) all.closed (record {
+    (λ r made. raw_untold _ r.fault c.args.size _ _ _ _ _ _
+    (made ∙ ap faults.Host c.in_err-line_beside.ensures.fault) all.closed (record {
       blocks = c.in-Ok.end.0;
       flashed = all.with_files (IsFlashedRaw c.in-Ok.end.0 c.args.size)
           (is_flashed_raw c.flash_blocks-answer.result c.in-Ok.end.0 c.args.size _ _ _ _ _ _ _ _ done
