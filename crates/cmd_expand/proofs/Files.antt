@@ -21,12 +21,13 @@ use Rattle.sys_disk.specs.Counts.{of_reading, of_writing}
 use Rattle.sys_disk.proofs.Failings.{counts_one}
 use Rattle.sys_disk.proofs.Worlds.{apart, kept_behind, only_behind, spared_behind, spared_if_may, spares_trans}
 use Rattle.sys_refusals.specs.declared.refusal.HostFault.{HostFault}
+use Rattle.sys_refusals.specs.declared.refusal.HostFault.TheVariants as hosts
 use Rattle.cmd_common_sparse.specs.declared.lines.Line.TheVariants as lines
 use Rattle.cmd_common_sparse.specs.Lines.{line_text}
 use Rattle.cmd_common_sparse.specs.declared.fault.SparseCommandFault.{SparseCommandFault}
 use Rattle.cmd_common_sparse.specs.declared.fault.SparseCommandFault.TheVariants as faults
 use Rattle.cmd_expand.specs.Expanding.{Blames, ExpandsFile, ExpandingSays, LeavesExpanded, RefusesFile, HasFault}
-use Rattle.cmd_expand.specs.Expanding.{BlamesDevice, FromCall, FromHost, HasFailedToReadOnce, LeavesFront, OfDevice}
+use Rattle.cmd_expand.specs.Expanding.{BlamesDevice, FromCall, HasFailedToReadOnce, LeavesFront, OfDevice}
 use Rattle.cmd_expand.specs.Expanding.{HoldsBegun, WritesRead}
 
 -- ---- what was read is closed before the output is completed
@@ -297,10 +298,10 @@ of_failed untold input path a c h k r made =
 
 -- or all was done, but the line could not be printed
 pub of_unprinted : (untold : List ℕ → Type 0) (input path : List ℕ) (a c : World) (h k : OpenFiles)
-    (r : SparseCommandFault) → FromHost r
+    (r : SparseCommandFault) → r ≡ faults.Host hosts.Write
     → ExpandsFile input path a c untold → RefusesFile r input path a c h k untold
 of_unprinted untold input path a c h k r made done =
-    subst (λ f. RefusesFile f input path a c h k untold) (sym made.1) (inr done)
+    subst (λ f. RefusesFile f input path a c h k untold) (sym made) (inr (refl, done))
 
 -- the call failed, or the end of the output did
 pub refuses : (untold : List ℕ → Type 0) (input path x old new : List ℕ) (h h1 h2 h3 k : OpenFiles)

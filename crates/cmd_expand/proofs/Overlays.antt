@@ -17,13 +17,14 @@ use Rattle.sys_disk.specs.World.{SparesInUse, counting}
 use Rattle.sys_disk.specs.Counts.{Cause, call, call_of, calls, Counts, HasNone, of_writing, reading, writes, writing}
 use Rattle.sys_disk.proofs.Failings.{counts_one}
 use Rattle.sys_refusals.specs.declared.refusal.HostFault.{HostFault}
+use Rattle.sys_refusals.specs.declared.refusal.HostFault.TheVariants as hosts
 use Rattle.sys_disk.proofs.Worlds.{spared_if_may, spares_trans}
 use Rattle.cmd_common_sparse.specs.declared.fault.SparseCommandFault.{SparseCommandFault}
 use Rattle.cmd_common_sparse.specs.declared.fault.SparseCommandFault.TheVariants as faults
 use Rattle.cmd_common_sparse.specs.declared.lines.Line.TheVariants as lines
 use Rattle.cmd_common_sparse.specs.Lines.{line_text}
 use Rattle.cmd_expand.specs.declared.open_images.Shape.{Shape}
-use Rattle.cmd_expand.specs.Expanding.{FromCall, FromHost}
+use Rattle.cmd_expand.specs.Expanding.{FromCall}
 use Rattle.cmd_expand.proofs.Files.{failed_first, no_writing}
 use Rattle.cmd_expand.specs.Overlaying.{AreImages, AreInTurn, IsImageOf, LeavesOverlaid, OverlaysFiles}
 use Rattle.cmd_expand.specs.Overlaying.{OverlaysInPart, RefusesOverlay, once_if_any}
@@ -358,9 +359,9 @@ from_laying untold (faults.Host f) inputs output a c h k r r' p p' read written 
 -- a fault of files, of a call that has failed, or after all was done
 pub from_files : (untold : List ℕ → Type 0) (f : SparseCommandFault) (inputs : List (List ℕ)) (output : List ℕ)
     (a c : World) (h k : OpenFiles)
-    → FromCall f h k ⊎ (FromHost f × OverlaysFiles inputs output a c untold)
+    → FromCall f h k ⊎ ((f ≡ faults.Host hosts.Write) × OverlaysFiles inputs output a c untold)
     → RefusesOverlay f inputs output a c h k untold
 from_files untold f inputs output a c h k (inl host) =
     subst (λ g. RefusesOverlay g inputs output a c h k untold) (sym host.1) (inl host.2)
 from_files untold f inputs output a c h k (inr host) =
-    subst (λ g. RefusesOverlay g inputs output a c h k untold) (sym host.0.1) (inr host.1)
+    subst (λ g. RefusesOverlay g inputs output a c h k untold) (sym host.0) (inr (refl, host.1))

@@ -13,6 +13,7 @@ use Rattle.sys_disk.specs.Among.{FileHolds, FileHoldsMost}
 use Rattle.sys_disk.specs.Counts.{Cause, call, of_reading, reading, writing}
 use Rattle.sys_disk.specs.World.{World, OpenFiles, KeepsFile, OnlyAt, Spares, SparesInUse, HasFailed, HasNotFailed}
 use Rattle.sys_refusals.specs.declared.refusal.HostFault.{HostFault}
+use Rattle.sys_refusals.specs.declared.refusal.HostFault.TheVariants as hosts
 use Rattle.cmd_common_sparse.specs.declared.fault.SparseCommandFault.{SparseCommandFault}
 use Rattle.cmd_common_sparse.specs.declared.fault.SparseCommandFault.TheVariants as faults
 use Rattle.cmd_common_sparse.specs.declared.lines.Line.TheVariants as lines
@@ -30,11 +31,7 @@ ExpandingSays (Err (faults.OtherBlocks image)) x old new = ⊥
 ExpandingSays (Err (faults.OtherCut image)) x old new = ⊥
 ExpandingSays (Err (faults.Host f)) x old new = ⊥
 
--- a fault of files
-abbrev pub FromHost : SparseCommandFault → Type 0
-FromHost f = (host : HostFault) × (f ≡ faults.Host host)
-
--- the same, of a call that has failed with it
+-- a fault of files, of a call that has failed with it
 abbrev pub FromCall : SparseCommandFault → OpenFiles → OpenFiles → Type 0
 FromCall f held held' = (host : HostFault) × (f ≡ faults.Host host) × HasFailed (call host) held held'
 
@@ -130,12 +127,13 @@ LeavesFront f input output old new held held' =
     HoldsBegun (FileHoldsMost new output) input held held' old
     × (HasNotFailed held held' → HoldsUpTo input output f old new)
 
--- why it fails: for a fault of the contents of IN; because a device or the system failed; or only its line failed
+-- why it fails: for a fault of the contents of IN; because a device or the system failed; or only the write of its
+-- line
 abbrev pub RefusesFile : SparseCommandFault → List ℕ → List ℕ → World → World → OpenFiles → OpenFiles
     → (List ℕ → Type 0) → Type 0
 RefusesFile (faults.Sparse f) input output old new held held' untold =
     OfDevice f (λ cause. HasFailed cause held held') (HasFault input old f)
     × LeavesFront f input output old new held held'
 RefusesFile (faults.Host f) input output old new held held' untold =
-    HasFailed (call f) held held' ⊎ ExpandsFile input output old new untold
+    HasFailed (call f) held held' ⊎ ((f ≡ hosts.Write) × ExpandsFile input output old new untold)
 RefusesFile f input output old new held held' untold = ⊥

@@ -14,6 +14,7 @@ use Rattle.abt_flash_faults.specs.declared.fault.FlashFault.TheVariants as flash
 use Rattle.sys_disk.specs.World.{World, OpenFiles, IsReading, KeepsFile, OnlyAt, Spares, SparesInUse, HasFailed}
 use Rattle.sys_disk.specs.World.{HasNotFailed}
 use Rattle.sys_disk.specs.Counts.{call, reading, writing}
+use Rattle.sys_refusals.specs.declared.refusal.HostFault.TheVariants as hosts
 use Rattle.cmd_common_sparse.specs.declared.fault.SparseCommandFault.{SparseCommandFault}
 use Rattle.cmd_common_sparse.specs.declared.fault.SparseCommandFault.TheVariants as faults
 use Rattle.cmd_common_sparse.specs.declared.lines.Line.TheVariants as lines
@@ -207,5 +208,5 @@ RefusesOverlay (faults.Flash (flashes.Write d)) inputs output old new held held'
 RefusesOverlay (faults.Flash (flashes.Sync d)) inputs output old new held held' untold =
     HasFailed writing held held' × OverlaysInPart (flashes.Sync d) inputs output old new
 RefusesOverlay (faults.Host f) inputs output old new held held' untold =
-    HasFailed (call f) held held' ⊎ OverlaysFiles inputs output old new untold
+    HasFailed (call f) held held' ⊎ ((f ≡ hosts.Write) × OverlaysFiles inputs output old new untold)
 RefusesOverlay f inputs output old new held held' untold = ⊥

@@ -2,6 +2,7 @@
 
 ghost use Rattle.std.specs.Prelude.{◌≡◌, ◌+◌, ◌-◌, ◌++◌, [], ◌∷◌, IsTrue, IfErr, OnOk, OnErr, if◌then◌else◌};
 ghost use Rattle.sys_refusals.specs.Paths.{path_in, path_out};
+ghost use Rattle.sys_refusals.specs.declared.refusal.HostFault.{HostFault};
 ghost use Rattle.sys_disk.specs.World.{IsReading};
 ghost use Rattle.sys_report.specs.Shows.{CannotPrint, ShowsBeside, Unprinted};
 ghost use Rattle.cmd_common_sparse.specs.Lines.{line_text};
@@ -74,6 +75,7 @@ pub(crate) fn printed<'a>(
     ensures shown { OnOk result (ShowsBeside is_on_output report.old report.new (line_text (Line.Expanded
         expanded.blocks expanded.bytes) ++ (10 ∷ []))) }
     ensures refused { OnErr result (CannotPrint report.old report.new) }
+    ensures fault { IfErr result (λ refusal. refusal.fault ≡ HostFault.Write) }
 {
     let Expanded { blocks, bytes } = expanded;
     report.line_beside(is_on_output, Line::Expanded { blocks, bytes })

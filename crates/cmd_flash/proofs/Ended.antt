@@ -13,6 +13,7 @@ use Rattle.cmd_common_sparse.specs.declared.fault.SparseCommandFault.{SparseComm
 use Rattle.cmd_common_sparse.specs.declared.fault.SparseCommandFault.TheVariants as faults
 use Rattle.cmd_flash.specs.Files.{OfFile}
 use Rattle.sys_refusals.specs.declared.refusal.HostFault.{HostFault}
+use Rattle.sys_refusals.specs.declared.refusal.HostFault.TheVariants as hosts
 use Rattle.cmd_common_sparse.specs.declared.lines.Line.TheVariants as lines
 use Rattle.cmd_common_sparse.specs.Lines.{line_text}
 use Rattle.cmd_flash.specs.InPieces.{Across, DeliversPieces, FlashesPieces, IsDelivered}
@@ -221,11 +222,11 @@ pieces_unopened untold e host raw limit before input path spool a c h h' is fail
     (inl (failed, inl kept))
 
 -- all was done, but the line
-pub pieces_untold : (untold : List ℕ → Type 0) (e : SparseCommandFault) (host : HostFault) (raw : Option ℕ)
+pub pieces_untold : (untold : List ℕ → Type 0) (e : SparseCommandFault) (raw : Option ℕ)
     (limit before : ℕ)
-    (input path spool : List ℕ) (a c : World) (h h' : OpenFiles) → e ≡ faults.Host host → h'.part ≡ None
+    (input path spool : List ℕ) (a c : World) (h h' : OpenFiles) → e ≡ faults.Host hosts.Write → h'.part ≡ None
     → FlashesPieces raw limit before input path spool a c h h' untold
     → RefusesPieces e raw limit before input path spool a c h h' untold
-pieces_untold untold e host raw limit before input path spool a c h h' is closed done =
+pieces_untold untold e raw limit before input path spool a c h h' is closed done =
     subst (λ (z : SparseCommandFault). RefusesPieces z raw limit before input path spool a c h h' untold) (sym is)
-    (inr (closed, done))
+    (inr (refl, (closed, done)))

@@ -2,6 +2,7 @@
 use Rattle.std.proofs.Common.{◌≡◌, ◌+◌, inl, inr, ℕ, List, refl, sym, subst}
 use Rattle.std.specs.Prelude.{None, Result, Ok, Err, OnOk, IfErr, IsErrAnd, IsOk}
 use Rattle.sys_refusals.specs.declared.refusal.HostFault.{HostFault}
+use Rattle.sys_refusals.specs.declared.refusal.HostFault.TheVariants as hosts
 use Rattle.abt_io.specs.Moment.{Past}
 use Rattle.sys_disk.specs.Counts.{Cause, Counts, call, reading, writing}
 use Rattle.sys_disk.specs.World.{World, OpenFiles, HasFailed}
@@ -221,19 +222,21 @@ pub handed_on : {X R : Type 0} (answer : Result X R) (P Q : R → Type 0) → ((
 handed_on (Ok x) P Q go is = tt
 handed_on (Err r) P Q go is = go r is
 
-pub flash_untold : (untold : List ℕ → Type 0) (e : SparseCommandFault) (host : HostFault) (input path : List ℕ)
+pub flash_untold : (untold : List ℕ → Type 0) (e : SparseCommandFault) (input path : List ℕ)
     (a c : World) (h h' : OpenFiles)
-    → e ≡ faults.Host host → h'.part ≡ None → FlashesFile input path a c h.syncs h'.syncs untold
+    → e ≡ faults.Host hosts.Write → h'.part ≡ None → FlashesFile input path a c h.syncs h'.syncs untold
     → RefusesFlash e input path a c h h' untold
-flash_untold untold e host input path a c h h' is closed done =
-    subst (λ (z : SparseCommandFault). RefusesFlash z input path a c h h' untold) (sym is) (inr (closed, done))
+flash_untold untold e input path a c h h' is closed done =
+    subst (λ (z : SparseCommandFault). RefusesFlash z input path a c h h' untold) (sym is)
+    (inr (refl, (closed, done)))
 
-pub raw_untold : (untold : List ℕ → Type 0) (e : SparseCommandFault) (host : HostFault) (b : ℕ) (input path : List ℕ)
+pub raw_untold : (untold : List ℕ → Type 0) (e : SparseCommandFault) (b : ℕ) (input path : List ℕ)
     (a c : World) (h h' : OpenFiles)
-    → e ≡ faults.Host host → h'.part ≡ None → FlashesRawFile b input path a c h.syncs h'.syncs untold
+    → e ≡ faults.Host hosts.Write → h'.part ≡ None → FlashesRawFile b input path a c h.syncs h'.syncs untold
     → RefusesFlashRaw e b input path a c h h' untold
-raw_untold untold e host b input path a c h h' is closed done =
-    subst (λ (z : SparseCommandFault). RefusesFlashRaw z b input path a c h h' untold) (sym is) (inr (closed, done))
+raw_untold untold e b input path a c h h' is closed done =
+    subst (λ (z : SparseCommandFault). RefusesFlashRaw z b input path a c h h' untold) (sym is)
+    (inr (refl, (closed, done)))
 
 -- closing the partition failed, which is counted in the run
 pub host_late : (answer : Result ℕ SparseCommandFault) (e : SparseCommandFault) (M : Type 0)

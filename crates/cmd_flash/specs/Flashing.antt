@@ -15,6 +15,7 @@ use Rattle.abt_flash_faults.specs.declared.fault.FlashFault.{FlashFault}
 use Rattle.abt_flash_faults.specs.declared.fault.FlashFault.TheVariants as flashes
 use Rattle.sys_disk.specs.Counts.{Cause, reading, writing}
 use Rattle.sys_disk.specs.World.{World, OpenFiles, HasFailed}
+use Rattle.sys_refusals.specs.declared.refusal.HostFault.TheVariants as hosts
 use Rattle.cmd_common_sparse.specs.declared.fault.SparseCommandFault.{SparseCommandFault}
 use Rattle.cmd_common_sparse.specs.declared.fault.SparseCommandFault.TheVariants as faults
 use Rattle.cmd_common_sparse.specs.declared.lines.Line.TheVariants as lines
@@ -99,14 +100,14 @@ abbrev pub FlashesUntold : List ℕ → List ℕ → World → World → OpenFil
 FlashesUntold input partition old new held held' untold =
     OnClosed held' (FlashesFile input partition old new held.syncs held'.syncs untold)
 
--- why the command fails: for what the files hold; or a file or a device has failed, or the report
+-- why the command fails: for what the files hold; or a file or a device has failed; or a write of the report
 abbrev pub RefusesFlash : SparseCommandFault → List ℕ → List ℕ → World → World → OpenFiles → OpenFiles
     → (List ℕ → Type 0) → Type 0
 RefusesFlash (faults.Flash f) input partition old new held held' untold =
     OnClosed held' (Between input partition old new (IsUnflashedThen held held' f))
 RefusesFlash (faults.Host f) input partition old new held held' untold =
     FailsAround f partition old new held held' (Between input partition old new IsFlashedWhole)
-    ⊎ FlashesUntold input partition old new held held' untold
+    ⊎ ((f ≡ hosts.Write) × FlashesUntold input partition old new held held' untold)
 RefusesFlash f input partition old new held held' untold = ⊥
 
 -- what the call returns of x, of which it read so many bytes, over a partition that held p and then holds p'

@@ -11,6 +11,7 @@ use Rattle.abt_flash_faults.specs.declared.fault.FlashFault.{FlashFault}
 use Rattle.abt_flash_faults.specs.declared.fault.FlashFault.TheVariants as flashes
 use Rattle.sys_disk.specs.Counts.{Cause, reading, writing}
 use Rattle.sys_disk.specs.World.{World, OpenFiles, HasFailed}
+use Rattle.sys_refusals.specs.declared.refusal.HostFault.TheVariants as hosts
 use Rattle.cmd_common_sparse.specs.declared.fault.SparseCommandFault.{SparseCommandFault}
 use Rattle.cmd_common_sparse.specs.declared.fault.SparseCommandFault.TheVariants as faults
 use Rattle.cmd_common_sparse.specs.declared.lines.Line.TheVariants as lines
@@ -91,11 +92,11 @@ abbrev pub FlashesRawUntold : ℕ → List ℕ → List ℕ → World → World 
 FlashesRawUntold size input partition old new held held' untold =
     OnClosed held' (FlashesRawFile size input partition old new held.syncs held'.syncs untold)
 
--- why the command fails: for what the files hold; or a file or a device has failed, or the report
+-- why the command fails: for what the files hold; or a file or a device has failed; or a write of the report
 abbrev pub RefusesFlashRaw : SparseCommandFault → ℕ → List ℕ → List ℕ → World → World → OpenFiles → OpenFiles
     → (List ℕ → Type 0) → Type 0
 RefusesFlashRaw (faults.Host f) size input partition old new held held' untold =
     FailsAround f partition old new held held' (Between input partition old new (IsFlashedWholeRaw size))
-    ⊎ FlashesRawUntold size input partition old new held held' untold
+    ⊎ ((f ≡ hosts.Write) × FlashesRawUntold size input partition old new held held' untold)
 RefusesFlashRaw f size input partition old new held held' untold =
     OnClosed held' (Between input partition old new (IsUnflashedRawThen held held' f size))

@@ -160,7 +160,7 @@ FlashesPiecesUntold raw limit before input partition spool old new held held' un
 abbrev pub IsUncuttable : Option ℕ → SparseCommandFault → ℕ → List ℕ → Type 0
 IsUncuttable raw fault limit x = (size : ℕ) × (raw ≡ Some size) × RefusedCut fault size (length x) limit
 
--- why the command fails: for what the files hold; or a file or a device has failed, or the report
+-- why the command fails: for what the files hold; or a file or a device has failed; or a write of the report
 abbrev pub RefusesPieces : SparseCommandFault → Option ℕ → ℕ → ℕ → List ℕ → List ℕ → List ℕ → World → World → OpenFiles
     → OpenFiles → (List ℕ → Type 0) → Type 0
 RefusesPieces (faults.Flash f) raw limit before input partition spool old new held held' untold =
@@ -169,6 +169,6 @@ RefusesPieces (faults.Flash f) raw limit before input partition spool old new he
 RefusesPieces (faults.Host f) raw limit before input partition spool old new held held' untold =
     FailsAround f partition old new held held'
     (Across input partition spool old new (IsDeliveredWhole raw limit before))
-    ⊎ FlashesPiecesUntold raw limit before input partition spool old new held held' untold
+    ⊎ ((f ≡ hosts.Write) × FlashesPiecesUntold raw limit before input partition spool old new held held' untold)
 RefusesPieces fault raw limit before input partition spool old new held held' untold =
     OfFile input old (IsUncuttable raw fault limit) × (new ≡ old)

@@ -12,6 +12,7 @@ use Rattle.abt_verify.specs.declared.fault.VerifyFault.{VerifyFault}
 use Rattle.abt_verify.specs.declared.fault.VerifyFault.TheVariants as verifies
 use Rattle.sys_disk.specs.Counts.{call, reading}
 use Rattle.sys_disk.specs.World.{World, OpenFiles, HasFailed}
+use Rattle.sys_refusals.specs.declared.refusal.HostFault.TheVariants as hosts
 use Rattle.cmd_common_sparse.specs.declared.fault.SparseCommandFault.{SparseCommandFault}
 use Rattle.cmd_common_sparse.specs.declared.fault.SparseCommandFault.TheVariants as faults
 use Rattle.cmd_common_sparse.specs.declared.lines.Line.TheVariants as lines
@@ -79,13 +80,14 @@ pub record VerifiesRawFile (size : ℕ) (input partition : List ℕ) (world : Wo
   pub both : OfBoth input partition world (IsThereRaw blocks size)
   pub shown : shows (line_text (lines.Blocks blocks) ++ (10 ∷ []))
 
--- why the command fails: for what both files hold; or a file or a device has failed; or only its line failed
+-- why the command fails: for what both files hold; or a file or a device has failed; or only the write of
+-- its line
 abbrev pub RefusesVerify : SparseCommandFault → List ℕ → List ℕ → World → OpenFiles → OpenFiles → (List ℕ → Type 0)
     → Type 0
 RefusesVerify (faults.Verify f) input partition world held held' untold =
     OfBoth input partition world (IsNotThere (HasFailed reading held held') f)
 RefusesVerify (faults.Host f) input partition world held held' untold =
-    HasFailed (call f) held held' ⊎ VerifiesFile input partition world untold
+    HasFailed (call f) held held' ⊎ ((f ≡ hosts.Write) × VerifiesFile input partition world untold)
 RefusesVerify f input partition world held held' untold = ⊥
 
 abbrev pub RefusesVerifyRaw : SparseCommandFault → ℕ → List ℕ → List ℕ → World → OpenFiles → OpenFiles
@@ -94,5 +96,5 @@ abbrev pub RefusesVerifyRaw : SparseCommandFault → ℕ → List ℕ → List �
 RefusesVerifyRaw (faults.Verify f) size input partition world held held' untold =
     OfBoth input partition world (IsNotThereRaw (HasFailed reading held held') f size)
 RefusesVerifyRaw (faults.Host f) size input partition world held held' untold =
-    HasFailed (call f) held held' ⊎ VerifiesRawFile size input partition world untold
+    HasFailed (call f) held held' ⊎ ((f ≡ hosts.Write) × VerifiesRawFile size input partition world untold)
 RefusesVerifyRaw f size input partition world held held' untold = ⊥

@@ -1,6 +1,7 @@
-use Rattle.std.proofs.Common.{rules, refl, true, Ok, subst}
+use Rattle.std.proofs.Common.{rules, ap, refl, true, Ok, subst, ◌∙◌}
 use Rattle.sys_disk.proofs.Worlds.{only_written}
 use Rattle.sys_report.proofs.Beside.{beside}
+use Rattle.cmd_common_sparse.specs.declared.fault.SparseCommandFault.TheVariants as faults
 use Rattle.cmd_expand.specs.Expanding.{ExpandingSays}
 use Rattle.sys_disk.specs.Counts.{added, reads, writes}
 use Rattle.cmd_expand.proofs.Files.{clean_behind, ends_behind, expands, failed_behind, failed_first, failed_second}
@@ -84,7 +85,8 @@ returns-in-Err-printed-clause-refused g c = λ t.
     (g.D.Onto.Output.written c.in_ok-onto.onto)
     (g.D.Onto.Output.written c.expanded-answer.new.onto)) c.in-Ok.ensures.done
     (c.expanded-answer.ensures.says (g.met.D.Disk.told t)) in
-    of_unprinted _ _ _ _ _ _ _ c.into.result.fault (_, c.into.ensures)
+    of_unprinted _ _ _ _ _ _ _ c.into.result.fault
+    (c.into.ensures ∙ ap faults.Host c.in-Err-printed.ensures.fault)
     (expands _ _ _ _ _ _ _ _ _ _ _ _ _ c.in-Ok.end.0 _ (c.in_ok-from.ensures.opened t)
     (c.in_ok-from.ensures.world t) (c.in_ok-onto.ensures.created t)
     (ends_behind _ _ _ _ _ _ _ (c.let_go.ensures.held t) (c.let_go.ensures.world t) (c.in-Ok.ensures.ended t))

@@ -110,7 +110,7 @@ returns-in-Err-printed-clause-leaves g c = λ t.
 pub returns-in-Err-printed-clause-refused : goal.returns-in-Err-printed-clause-refused
 returns-in-Err-printed-clause-refused g c = λ t.
     from_files _ c.into-in-Err-printed.result.fault _ _ _ _ _ _ (inr (
-      (_, c.into-in-Err-printed.ensures),
+      c.into-in-Err-printed.ensures ∙ ap faults.Host c.in-Err-printed.ensures.fault,
       overlays _ _ _ _ _ _ _ _ _ _ _ _ _ _ _ _ _ c.whole_of-blocks.ensures (c.in-Ok.ensures.opened t)
           (c.in-Ok.ensures.shape t) (c.in-Ok.ensures.turn t) (c.in_ok-zeros.ensures.made t)
           (c.open_all.ensures.alone t).world (c.in_ok-zeros.ensures.zeros t)

@@ -1,5 +1,6 @@
-use Rattle.std.proofs.Common.{rules, arith, refl}
+use Rattle.std.proofs.Common.{rules, ap, arith, refl, ◌∙◌}
 use Rattle.sys_report.proofs.Beside.{beside}
+use Rattle.cmd_common_sparse.specs.declared.fault.SparseCommandFault.TheVariants as faults
 use Rattle.cmd_flash.specs.FlashingRaw.{IsFlashedRaw}
 use Rattle.cmd_flash.proofs.Refusals.{raw_untold, handed_on, host_late, is_flashed_raw, on_ok, refuses_raw}
 use Rattle.cmd_flash.proofs.Written.{as_long, ran, ran_clean, ran_failed, ran_given, settled_once}
@@ -97,7 +98,8 @@ returns-in_err-line_beside-clause-refused g c = λ t.
     (c.let_go_source.ensures.world t)
     (c.closed.ensures.ended t) (c.closed.ensures.paths t) (c.in-Ok.ensures.closed t) in
     handed_on c.from_residual-in_err-line_beside.result _ _
-    (λ r made. raw_untold _ r.fault _ c.args.size _ _ _ _ _ _ made all.closed (record {
+    (λ r made. raw_untold _ r.fault c.args.size _ _ _ _ _ _
+    (made ∙ ap faults.Host c.in_err-line_beside.ensures.fault) all.closed (record {
       blocks = c.in-Ok.end.0;
       flashed = all.with_files (IsFlashedRaw c.in-Ok.end.0 c.args.size)
           (is_flashed_raw c.flash_blocks-answer.result c.in-Ok.end.0 c.args.size _ _ _ _ _ _ _ _ done

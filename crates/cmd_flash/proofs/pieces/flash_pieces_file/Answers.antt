@@ -3,6 +3,7 @@ use Rattle.sys_report.proofs.Beside.{beside}
 use Rattle.std.specs.Prelude.{max}
 use Rattle.abt_io.specs.Moment.{Past}
 use Rattle.sys_disk.specs.World.{OpenFiles}
+use Rattle.cmd_common_sparse.specs.declared.fault.SparseCommandFault.TheVariants as faults
 use Rattle.cmd_flash.proofs.Crossing.{as_long_across, crossed, only_both, only_kept, part_kept}
 use Rattle.cmd_flash.proofs.Ended.{clean_across, done_across, none_of, pieces_unopened, pieces_untold}
 use Rattle.cmd_flash.proofs.Ended.{refuses_across, refuses_uncuttable}
@@ -125,8 +126,8 @@ returns-in_err-line_beside-clause-refused g c = λ t.
     (c.delivered_through-answer.ensures.rest t) (c.let_go_source.ensures.held t) (c.let_go_source.ensures.world t)
     (c.closed.ensures.ended t) (c.closed.ensures.paths t) (c.in-Ok.ensures.closed t) in
     handed_on c.from_residual-in_err-line_beside.result _ _
-    (λ r made. pieces_untold _ r.fault _ c.args.raw c.args.limit _
-    _ _ _ _ _ _ _ made all.closed
+    (λ r made. pieces_untold _ r.fault c.args.raw c.args.limit _
+    _ _ _ _ _ _ _ (made ∙ ap faults.Host c.in_err-line_beside.ensures.fault) all.closed
     (done_across c.delivered_through-answer.result.0 c.in-Ok.end.0 _ _ _ c.args.raw c.args.limit _ _ _
     _ _
     _ _ _ _ _ _ _ _ _ _ _ _ _
