@@ -103,8 +103,8 @@ fn tell_all<'a, D: Disk>(
     ensures shown { IsTrue D.models → OnOk result (ShowsCount (naming_of files.entry.names) files.entry.count
         (D.world disk.old) report.old report.new) }
     ensures held { IsTrue D.models → OnOk result (D.held disk.new ≡ D.held disk.old) }
-    ensures refused { IsTrue D.models → IfErr result (λ refusal. CannotPrint report.old report.new
-        ⊎ ((refusal.fault ≡ HostFault.Memory)
+    ensures refused { IsTrue D.models → IfErr result (λ refusal. ((refusal.fault ≡ HostFault.Write)
+        × CannotPrint report.old report.new) ⊎ ((refusal.fault ≡ HostFault.Memory)
         × HasFailed (call HostFault.Memory) (D.held disk.old) (D.held disk.new))) }
     ensures keeps { IsTrue D.models → ChangesNoFile (D.held disk.old) (D.held disk.new) (D.world disk.old)
         (D.world disk.new) }
@@ -221,6 +221,7 @@ fn print_piece<'a>(
 ) -> Result<(), HostRefusal<'a>>
     ensures shown { OnOk result (ShowsBeside is_on_output report.old report.new (piece_line number piece)) }
     ensures refused { OnErr result (CannotPrint report.old report.new) }
+    ensures fault { IfErr result (λ refusal. refusal.fault ≡ HostFault.Write) }
     ensures rises { refusals report.old ≤ refusals report.new }
 {
     let line = Line::Piece {
