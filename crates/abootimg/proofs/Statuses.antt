@@ -28,7 +28,7 @@ does_as on (tasks.Expand inputs output) a w h r p is =
 does_as on (tasks.List input) a w h r p is = is
 does_as on (tasks.Sparse input output block tail) a w h r p is = is
 does_as on (tasks.Cut input limit prefix from_zero raw) a w h r p is =
-    cuts_as input.now limit (naming prefix.now from_zero) raw a w h r p is
+    cuts_as on input.now limit (naming prefix.now from_zero) raw a w h r p is
 does_as on (tasks.Flash input partition None None) a w h r p is = is
 does_as on (tasks.Flash input partition (Some size) None) a w h r p is = is
 does_as on (tasks.Flash input partition None (Some pieces)) a w h r p is = is

@@ -298,29 +298,31 @@ cuts_file_as (Ok x) raw raw' limit input names bytes h h' h'' a b c shows same n
 
 -- ---- what was printed, from a report whose streams are the same
 
-shows_from : (from_zero : Bool) (limit size : ℕ) (blocks : List Block) (n : ℕ) (a b z : Report) → IsSilent a b
-    → ShowsPieces from_zero limit size blocks n b z → ShowsPieces from_zero limit size blocks n a z
-shows_from from_zero limit size blocks zero a b z same silent =
+shows_from : (on_output : List ℕ → Bool) (names : Naming) (limit size : ℕ) (blocks : List Block) (n : ℕ)
+    (a b z : Report) → IsSilent a b → ShowsPieces on_output names limit size blocks n b z
+    → ShowsPieces on_output names limit size blocks n a z
+shows_from on_output names limit size blocks zero a b z same silent =
     ((silent.0.0 ∙ same.0.0, silent.0.1 ∙ same.0.1), silent.1 ∙ same.1)
-shows_from from_zero limit size blocks (suc n) a b z same p =
-    (p.0, (p.1.0, (shows_from from_zero limit size blocks n a b p.0 same p.1.1.0, p.1.1.1)))
+shows_from on_output names limit size blocks (suc n) a b z same p =
+    (p.0, (p.1.0, (shows_from on_output names limit size blocks n a b p.0 same p.1.1.0, p.1.1.1)))
 
-cut_shown : (names : Naming) (limit size : ℕ) (blocks : List Block) (world : World) (a b z : Report) → IsSilent a b
-    → ShowsCut names limit world b z size blocks → ShowsCut names limit world a z size blocks
-cut_shown names limit size blocks world a b z same s = record {
+cut_shown : (on_output : List ℕ → Bool) (names : Naming) (limit size : ℕ) (blocks : List Block) (world : World)
+    (a b z : Report) → IsSilent a b → ShowsCut on_output names limit world b z size blocks
+    → ShowsCut on_output names limit world a z size blocks
+cut_shown on_output names limit size blocks world a b z same s = record {
   count = s.count;
   all = s.all;
   between = s.between;
-  pieces_told = shows_from names.from_zero limit size blocks s.count a b s.between same s.pieces_told;
+  pieces_told = shows_from on_output names limit size blocks s.count a b s.between same s.pieces_told;
   count_told = s.count_told;
 }
 
-pub cuts_shown : {X E : Type 0} (r : Result X E) (raw : Option ℕ) (limit : ℕ) (input : List ℕ) (names : Naming)
-    (h h' : OpenFiles) (a c : World) (p q z : Report) → IsSilent p q
-    → OnOk r (CutsFile raw limit input names h h' a c (ShowsCut names limit c q z))
-    → OnOk r (CutsFile raw limit input names h h' a c (ShowsCut names limit c p z))
-cuts_shown (Err e) raw limit input names h h' a c p q z same cuts = tt
-cuts_shown (Ok x) raw limit input names h h' a c p q z same cuts = record {
+pub cuts_shown : {X E : Type 0} (on_output : List ℕ → Bool) (r : Result X E) (raw : Option ℕ) (limit : ℕ)
+    (input : List ℕ) (names : Naming) (h h' : OpenFiles) (a c : World) (p q z : Report) → IsSilent p q
+    → OnOk r (CutsFile raw limit input names h h' a c (ShowsCut on_output names limit c q z))
+    → OnOk r (CutsFile raw limit input names h h' a c (ShowsCut on_output names limit c p z))
+cuts_shown on_output (Err e) raw limit input names h h' a c p q z same cuts = tt
+cuts_shown on_output (Ok x) raw limit input names h h' a c p q z same cuts = record {
   from = cuts.from;
   there = cuts.there;
   size = cuts.size;
@@ -330,7 +332,7 @@ cuts_shown (Ok x) raw limit input names h h' a c p q z same cuts = record {
   count = cuts.count;
   all = cuts.all;
   first = cuts.first;
-  shown = cut_shown names limit cuts.size cuts.blocks c p q z same cuts.shown;
+  shown = cut_shown on_output names limit cuts.size cuts.blocks c p q z same cuts.shown;
 }
 
 pub refuses_file_as : (Unprinted : Type 0) (raw raw' : Option ℕ) (limit : ℕ) (input : List ℕ) (names : Naming)

@@ -40,7 +40,7 @@ use Rattle.cmd_common_sparse.specs.PieceNames.{Naming, number_in_turn}
 use Rattle.cmd_common_sparse.specs.declared.fault.SparseCommandFault.{SparseCommandFault}
 use Rattle.cmd_common_sparse.specs.declared.fault.SparseCommandFault.TheVariants as faults
 use Rattle.cmd_common_sparse.specs.declared.lines.Line.TheVariants as lines
-use Rattle.sys_report.specs.Shows.{IsNoted, IsSilent, Notes, Shows, ShowsHere}
+use Rattle.sys_report.specs.Shows.{IsNoted, IsSilent, Notes, ShowsBeside, ShowsHere}
 use Rattle.sys_report.specs.declared.report.Report.{Report}
 use Rattle.cmd_cut.specs.Sparsing.{IsOutsideSparse}
 use Rattle.sys_disk.specs.Among.{GoesAmong, IsMade, KeepsMade, OnlyAmong}
@@ -134,12 +134,14 @@ pub record NumbersOfPiece (limit size : ℕ) (blocks : List Block) (made : ℕ) 
 abbrev pub piece_line : ℕ → Piece → List ℕ
 piece_line number p = line_text (lines.Piece number p.first p.past p.bytes) ++ (10 ∷ [])
 
--- a line of each of the first n pieces went out, in turn
-abbrev pub ShowsPieces : Bool → ℕ → ℕ → List Block → ℕ → Report → Report → Type 0
-ShowsPieces from_zero limit size blocks zero old new = IsSilent old new
-ShowsPieces from_zero limit size blocks (suc n) old new =
-    (next : Report) × ((p : Piece) × (ShowsPieces from_zero limit size blocks n old next
-    × (NumbersOfPiece limit size blocks n p × Shows next new (piece_line (number_in_turn from_zero (suc n)) p))))
+-- A line of each of the first n pieces went out, in turn: to standard error once the file of a piece so far is where
+-- standard output goes, and else to standard output.
+abbrev pub ShowsPieces : (List ℕ → Bool) → Naming → ℕ → ℕ → List Block → ℕ → Report → Report → Type 0
+ShowsPieces on_output names limit size blocks zero old new = IsSilent old new
+ShowsPieces on_output names limit size blocks (suc n) old new =
+    (next : Report) × ((p : Piece) × (ShowsPieces on_output names limit size blocks n old next
+    × (NumbersOfPiece limit size blocks n p × ShowsBeside (on_output (path_in_turn names (suc n))) next new
+    (piece_line (number_in_turn names.from_zero (suc n)) p))))
 
 -- the number of the first file of an older cut that is left: the least one after this many pieces
 abbrev pub IsFirstLeft : Naming → ℕ → World → ℕ → Type 0
@@ -158,12 +160,12 @@ pub record ShowsCount (names : Naming) (count : ℕ) (world : World) (old new : 
       → Notes told new (left_over_line names.prefix n)
 
 -- the lines of a cut
-pub record ShowsCut (names : Naming) (limit : ℕ) (world : World) (old new : Report) (size : ℕ) (blocks : List Block)
-    : Type 0 where
+pub record ShowsCut (on_output : List ℕ → Bool) (names : Naming) (limit : ℕ) (world : World) (old new : Report)
+    (size : ℕ) (blocks : List Block) : Type 0 where
   pub count : ℕ
   pub all : count ≡ length (pieces limit size blocks)
   pub between : Report
-  pub pieces_told : ShowsPieces names.from_zero limit size blocks count old between
+  pub pieces_told : ShowsPieces on_output names limit size blocks count old between
   pub count_told : ShowsCount names count world between new
 
 -- all of them are stored, and their lines were printed

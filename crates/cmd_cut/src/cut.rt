@@ -62,7 +62,8 @@ pub fn cut_file<'a, D: Disk>(
     // each piece of the image that IN holds is stored under its name, in a file of its own
     ensures done { IsTrue D.models → OnOk result (CutsFile order.entry.raw order.entry.limit (path_of order.entry.input)
         (naming_of order.entry.names) (D.held disk.old) (D.held disk.new) (D.world disk.old) (D.world disk.new)
-        (ShowsCut (naming_of order.entry.names) order.entry.limit (D.world disk.new) report.old report.new)) }
+        (ShowsCut D.on_output (naming_of order.entry.names) order.entry.limit (D.world disk.new) report.old
+        report.new)) }
     // whatever the outcome, only such files were created or changed, and none where it is in use and that is not
     // allowed, IN holds what it held, and no output is open; after an Ok nothing has failed
     ensures leaves { IsTrue D.models → LeavesCut result (path_of order.entry.input) order.entry.names.prefix.now
@@ -109,7 +110,8 @@ fn cut_raw<'a, D: Disk>(
     ensures done { IsTrue D.models → OnOk result (CutsImage (Some size) order.entry.limit (naming_of order.entry.names)
         (D.At.content source)
         (D.held disk.old) (D.held disk.new) (D.world disk.old) (D.world disk.new)
-        (ShowsCut (naming_of order.entry.names) order.entry.limit (D.world disk.new) report.old report.new)) }
+        (ShowsCut D.on_output (naming_of order.entry.names) order.entry.limit (D.world disk.new) report.old
+        report.new)) }
     ensures leaves { IsTrue D.models → LeavesPieces result (MayWritePiece order.entry.names.prefix.now
         (D.held disk.old)) (D.held disk.old) (D.held disk.new) (D.world disk.old) (D.world disk.new) }
     ensures begins { IsTrue D.models → BeginsCut (Some size) order.entry.limit D.is_over (naming_of order.entry.names)
@@ -154,7 +156,8 @@ fn cut_sparse<'a, D: Disk>(
     requires fresh { IsTrue D.models → IsUnbegun (D.held disk.old) (D.At.read_faults source) }
     ensures done { IsTrue D.models → OnOk result (CutsImage None order.entry.limit (naming_of order.entry.names)
         (D.At.content source) (D.held disk.old) (D.held disk.new) (D.world disk.old) (D.world disk.new)
-        (ShowsCut (naming_of order.entry.names) order.entry.limit (D.world disk.new) report.old report.new)) }
+        (ShowsCut D.on_output (naming_of order.entry.names) order.entry.limit (D.world disk.new) report.old
+        report.new)) }
     ensures leaves { IsTrue D.models → LeavesPieces result (MayWritePiece order.entry.names.prefix.now
         (D.held disk.old)) (D.held disk.old) (D.held disk.new) (D.world disk.old) (D.world disk.new) }
     ensures begins { IsTrue D.models → BeginsCut None order.entry.limit D.is_over (naming_of order.entry.names)

@@ -7,7 +7,7 @@ ghost use Rattle.sys_disk.specs.World.{HasFailed, IsFree};
 ghost use Rattle.sys_refusals.specs.Blamed.{TellsRead, input_of};
 ghost use Rattle.sys_refusals.specs.Paths.{shown_place};
 ghost use Rattle.sys_refusals.specs.declared.told.Side.{Side};
-ghost use Rattle.sys_report.specs.Shows.{CannotPrint, IsNoted, Notes, Shows, refusals};
+ghost use Rattle.sys_report.specs.Shows.{CannotPrint, IsNoted, Notes, ShowsBeside, refusals};
 ghost use Rattle.cmd_common_sparse.specs.Fault.{side_of};
 ghost use Rattle.cmd_common_sparse.specs.Lines.{left_over_text};
 ghost use Rattle.cmd_common_sparse.specs.PieceNames.{naming_of};
@@ -48,8 +48,8 @@ pub(crate) fn cut_pieces<'a, D: Disk, B: BlockRuns + LaysPieces + Drop>(
     // each piece is stored under its name; a line of each was printed, and then their number
     ensures done { IsTrue D.models → OnOk result (CutsAll (naming_of names.entry) (cut_into pieces.cutter.limit
         (B.size pieces.cutter.runs) (B.list pieces.cutter.runs (D.At.content source))) (D.held disk.old)
-        (D.held disk.new) (D.world disk.old) (D.world disk.new) (ShowsCut (naming_of names.entry) pieces.cutter.limit
-        (D.world disk.new) report.old report.new (B.size pieces.cutter.runs)
+        (D.held disk.new) (D.world disk.old) (D.world disk.new) (ShowsCut D.on_output (naming_of names.entry)
+        pieces.cutter.limit (D.world disk.new) report.old report.new (B.size pieces.cutter.runs)
         (B.list pieces.cutter.runs (D.At.content source)))) }
     // whatever the outcome, only piece files were created or changed, and none is open; after an Ok nothing has failed
     ensures leaves { IsTrue D.models → LeavesPieces result (MayWritePiece names.entry.prefix.now (D.held disk.old))
@@ -158,8 +158,8 @@ fn write_pieces<'a, D: Disk, B: BlockRuns + LaysPieces + Drop>(
     ensures all { IsTrue D.models → IfOk result.1 (λ files. files.count ≡ length (cut_into pieces.cutter.limit
         (B.size pieces.cutter.runs) (B.list pieces.cutter.runs (D.At.content source)))) }
     ensures some { IfOk result.1 (λ files. 0 < files.count) }
-    ensures told { IsTrue D.models → IfOk result.1 (λ files. ShowsPieces names.entry.is_from_zero pieces.cutter.limit
-        (B.size pieces.cutter.runs) (B.list pieces.cutter.runs (D.At.content source)) files.count report.old
+    ensures told { IsTrue D.models → IfOk result.1 (λ files. ShowsPieces D.on_output (naming_of names.entry)
+        pieces.cutter.limit (B.size pieces.cutter.runs) (B.list pieces.cutter.runs (D.At.content source)) files.count report.old
         report.new) }
     ensures rises { refusals report.old ≤ refusals report.new }
     ensures named { IfOk result.1 (λ files. files.names ≡ names.entry) }
@@ -219,7 +219,7 @@ fn print_piece<'a>(
     piece: Piece,
     is_on_output: bool,
 ) -> Result<(), HostRefusal<'a>>
-    ensures shown { OnOk result (Shows report.old report.new (piece_line number piece)) }
+    ensures shown { OnOk result (ShowsBeside is_on_output report.old report.new (piece_line number piece)) }
     ensures refused { OnErr result (CannotPrint report.old report.new) }
     ensures fault { IfErr result (λ refusal. refusal.fault ≡ HostFault.Write) }
     ensures rises { refusals report.old ≤ refusals report.new }

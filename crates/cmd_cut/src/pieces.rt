@@ -55,6 +55,7 @@ pub(crate) fn put_piece<'a, D: Disk, B: BlockRuns + LaysPieces + Drop>(
     ensures told { IsTrue D.models → IfOk result (λ end. NumbersOfPiece pieces.old.cutter.limit
         (B.size pieces.old.cutter.runs) (B.list pieces.old.cutter.runs (D.At.content source.old.device))
         pieces.old.cutter.made end.0) }
+    ensures stream { IsTrue D.models → IfOk result (λ end. end.1 ≡ D.on_output (path_out place.entry)) }
     ensures cuts { CutsPiece result (λ end. end.0) B.BlockRuns D.At.Source pieces.old.cutter.runs
         pieces.new.cutter.runs source.old.device source.new.device pieces.old.cutter.limit pieces.new.cutter.limit
         pieces.old.cutter.made pieces.new.cutter.made pieces.old.cutter.start pieces.new.cutter.start
@@ -117,6 +118,7 @@ fn put_in_file<'a, D: Disk, B: BlockRuns + LaysPieces + Drop>(
     ensures told { IsTrue D.models → IfOk result (λ end. NumbersOfPiece pieces.old.cutter.limit
         (B.size pieces.old.cutter.runs) (B.list pieces.old.cutter.runs (D.At.content source.old.device))
         pieces.old.cutter.made end.0) }
+    ensures stream { IsTrue D.models → IfOk result (λ end. end.1 ≡ D.on_output (path_out place.entry)) }
     ensures cuts { CutsPiece result (λ end. end.0) B.BlockRuns D.At.Source pieces.old.cutter.runs
         pieces.new.cutter.runs source.old.device source.new.device pieces.old.cutter.limit pieces.new.cutter.limit
         pieces.old.cutter.made pieces.new.cutter.made pieces.old.cutter.start pieces.new.cutter.start
@@ -160,6 +162,7 @@ fn put_in_stream<'a, D: Disk, B: BlockRuns + LaysPieces + Drop>(
     ensures told { IsTrue D.models → IfOk result (λ end. NumbersOfPiece pieces.old.cutter.limit
         (B.size pieces.old.cutter.runs) (B.list pieces.old.cutter.runs (D.At.content source.old.device))
         pieces.old.cutter.made end.0) }
+    ensures stream { IsTrue D.models → IfOk result (λ end. end.1 ≡ D.on_output (path_out place.entry)) }
     ensures cuts { CutsPiece result (λ end. end.0) B.BlockRuns D.At.Source pieces.old.cutter.runs
         pieces.new.cutter.runs source.old.device source.new.device pieces.old.cutter.limit pieces.new.cutter.limit
         pieces.old.cutter.made pieces.new.cutter.made pieces.old.cutter.start pieces.new.cutter.start

@@ -68,9 +68,9 @@ Sparsifies on_output input output block tail a z =
     × SyncsOutputs (one_if_wanted a) a z
 
 -- an image is cut into pieces of at most this many bytes
-abbrev pub Cuts : List ℕ → ℕ → Naming → Option ℕ → State → State → Type 0
-Cuts input limit names raw a z =
-    CutsFile raw limit input names a.held z.held a.world z.world (ShowsCut names limit z.world a.report z.report)
+abbrev pub Cuts : (List ℕ → Bool) → List ℕ → ℕ → Naming → Option ℕ → State → State → Type 0
+Cuts on_output input limit names raw a z = CutsFile raw limit input names a.held z.held a.world z.world
+    (ShowsCut on_output names limit z.world a.report z.report)
 
 -- an image is flashed straight to a partition, or in pieces from one of them on
 abbrev pub FlashesImage : (List ℕ → Bool) → List ℕ → List ℕ → Option ℕ → Option Pieces → State → State → Type 0
@@ -98,7 +98,7 @@ DoesTask on_output (tasks.List input) a z = ListsImage input.now a z
 DoesTask on_output (tasks.Sparse input output block tail) a z =
     Sparsifies on_output input.now output.now block tail a z
 DoesTask on_output (tasks.Cut input limit prefix from_zero raw) a z =
-    Cuts input.now limit (naming prefix.now from_zero) raw a z
+    Cuts on_output input.now limit (naming prefix.now from_zero) raw a z
 DoesTask on_output (tasks.Flash input partition raw pieces) a z =
     FlashesImage on_output input.now partition.now raw pieces a z
 DoesTask on_output (tasks.Verify input partition raw) a z = VerifiesImage input.now partition.now raw a z

@@ -115,7 +115,7 @@ pub(crate) fn cut_image<'a, D: Disk>(
     m: &mut Meter,
 ) -> Result<(), SparseRefusal<'a>>
     requires first { IsTrue D.models → IsReading (D.held disk.old) }
-    ensures done { IsTrue D.models → OnOk result (Cuts input.now limit (naming_of names.entry) raw
+    ensures done { IsTrue D.models → OnOk result (Cuts D.on_output input.now limit (naming_of names.entry) raw
         (state (D.world disk.old) (D.held disk.old) report.old)
         (state (D.world disk.new) (D.held disk.new) report.new)) }
     ensures leaves { IsTrue D.models → LeavesSpared result (SparesCut input.now names.entry.prefix.now)

@@ -5,7 +5,7 @@ use Rattle.abt_pieces.specs.declared.stage.CutterStage.TheVariants.{Between}
 use Rattle.sys_refusals.specs.Paths.{path_out}
 use Rattle.abt_sparse.specs.Pieces.{pieces}
 use Rattle.cmd_common_sparse.specs.PieceNames.{naming_of, number_in_turn}
-use Rattle.sys_report.specs.Shows.{Shows}
+use Rattle.sys_report.specs.Shows.{ShowsBeside}
 use Rattle.sys_disk.specs.World.{OpenFiles}
 use Rattle.cmd_common_sparse.specs.declared.fault.SparseCommandFault.{SparseCommandFault}
 use Rattle.cmd_cut.specs.Cutting.{CutsSoFar, FailsBeside, IsOutsideCut, NoneFailsBeside, ShowsPieces, failed}
@@ -48,7 +48,7 @@ pieces-init g c = record {
       (g.D.At.Source.content c.args.source))) n n (g.D.Disk.held c.args.disk.now) (g.D.Disk.held c.args.disk.now)
       (g.D.Disk.world c.args.disk.now) (g.D.Disk.world c.args.disk.now)) (sym c.requires.ready.first)
       (cuts_none _ _ 0 _ _ (c.requires.one t));
-  shown = λ t. subst (λ n. ShowsPieces c.args.names.is_from_zero c.args.pieces.cutter.limit
+  shown = λ t. subst (λ n. ShowsPieces g.D.Disk.on_output (naming_of c.args.names) c.args.pieces.cutter.limit
       (g.B.BlockRuns.size c.args.pieces.cutter.runs) (g.B.BlockRuns.list c.args.pieces.cutter.runs
       (g.D.At.Source.content c.args.source)) n c.args.report.now c.args.report.now) (sym c.requires.ready.first)
       ((refl, refl), refl);
@@ -87,7 +87,11 @@ pieces-preserved g c =
           (cuts_more (naming_of c.args.names) _ cutter.made _ _ _ _ _ _ _ path (i.cuts t)
           (rw (i.runs, i.limit, i.kept (g.met.D.Disk.source_told t)) at (o.adds t))
           (c.put_piece-answer.ensures.left t).only);
-      shown = λ t. subst (λ n. ShowsPieces c.args.names.is_from_zero c.args.pieces.cutter.limit
+      shown = λ t.
+          let stream : c.in-Ok.end.1 ≡ g.D.Disk.on_output (path_in_turn (naming_of c.args.names) (suc cutter.made))
+          = o.stream t ∙ ap g.D.Disk.on_output (path ∙ ap (path_in_turn (naming_of c.args.names))
+          (sym (next_of cutter.made))) in
+          subst (λ n. ShowsPieces g.D.Disk.on_output (naming_of c.args.names) c.args.pieces.cutter.limit
           (g.B.BlockRuns.size c.args.pieces.cutter.runs) (g.B.BlockRuns.list c.args.pieces.cutter.runs
           (g.D.At.Source.content c.args.source)) n c.args.report.now c.print_piece.new.report)
           (next_of cutter.made ∙ sym p.one_more) (
@@ -98,8 +102,10 @@ pieces-preserved g c =
                 i.shown t,
                 (
                   rw (i.runs, i.limit, i.kept (g.met.D.Disk.source_told t)) at (o.told t),
-                  subst (λ n. Shows c.pieces.report c.print_piece.new.report
-                      (piece_line n c.in-Ok.end.0)) number c.in-Ok-print_piece.ensures.shown,
+                  subst (λ n. ShowsBeside (g.D.Disk.on_output (path_in_turn (naming_of c.args.names)
+                      (suc cutter.made))) c.pieces.report c.print_piece.new.report (piece_line n c.in-Ok.end.0)) number
+                      (subst (λ b. ShowsBeside b c.pieces.report c.print_piece.new.report
+                      (piece_line c.unwrap_or.result c.in-Ok.end.0)) stream c.in-Ok-print_piece.ensures.shown),
                 ),
               ),
             ),
@@ -129,7 +135,7 @@ put_piece-answer-requires-clause-ready g c =
 pub returns-then-not-more-clause-told : goal.returns-then-not-more-clause-told
 returns-then-not-more-clause-told g c = λ t.
     let i = c.pieces.invariant in
-    subst (λ n. ShowsPieces c.args.names.is_from_zero c.args.pieces.cutter.limit
+    subst (λ n. ShowsPieces g.D.Disk.on_output (naming_of c.args.names) c.args.pieces.cutter.limit
     (g.B.BlockRuns.size c.args.pieces.cutter.runs) (g.B.BlockRuns.list c.args.pieces.cutter.runs
     (g.D.At.Source.content c.args.source)) n c.args.report.now c.pieces.report) (sym i.counted) (i.shown t)
 

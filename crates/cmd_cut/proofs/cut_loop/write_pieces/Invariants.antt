@@ -30,8 +30,8 @@ invariant-pieces g l =
       cuts : IsTrue g.D.Disk.models → CutsSoFar (naming_of l.names) (pieces cutter.limit size list) l.pieces.cutter.made
           l.pieces.cutter.made
           (g.D.Disk.held l.fn.disk) (g.D.Disk.held l.disk) (g.D.Disk.world l.fn.disk) (g.D.Disk.world l.disk);
-      shown : IsTrue g.D.Disk.models → ShowsPieces l.names.is_from_zero cutter.limit size list l.pieces.cutter.made
-          l.fn.report l.report;
+      shown : IsTrue g.D.Disk.models → ShowsPieces g.D.Disk.on_output (naming_of l.names) cutter.limit size list
+          l.pieces.cutter.made l.fn.report l.report;
       rises : refusals l.fn.report ≤ refusals l.report;
       fails : IsTrue g.D.Disk.models → NoneFailsBeside (g.D.At.Source.read_faults l.fn.source)
           (g.D.At.Source.read_faults l.source) (g.D.Disk.held l.fn.disk) (g.D.Disk.held l.disk);

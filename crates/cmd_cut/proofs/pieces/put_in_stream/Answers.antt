@@ -23,6 +23,7 @@ returns g c =
                 (c.ended.ensures.host ok));
           };
       told = λ t. told_of _ _ _ (c.write_next-answer.ensures.told (g.met.D.Disk.source_told t)) c.ended.ensures.done;
+      stream = c.ended.ensures.stream;
       cuts = record {
         is_next = told_of _ _ _ cuts.is_next c.ended.ensures.done;
         cutter = cuts.cutter;
