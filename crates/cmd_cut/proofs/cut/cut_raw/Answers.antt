@@ -15,7 +15,8 @@ returns-in-Ok-clause-done g c = λ t.
     cut_of c.cut_pieces.result (Some c.args.size) c.args.size _ c.args.order.limit _ (classify c.args.size x) _
     (naming_of c.args.order.names) x _ _ _ _
     (λ n. ShowsCut g.D.Disk.on_output (naming_of c.args.order.names) n (g.D.Disk.world c.cut_pieces.new.disk)
-    c.args.report.now c.cut_pieces.new.report) (raw_image c.args.size x c.in-Ok.ensures.granted.0) c.in-Ok.ensures.granted.1 runs.0 runs.1
+    c.args.report.now c.cut_pieces.new.report) (raw_image c.args.size x c.in-Ok.ensures.granted.0)
+    c.in-Ok.ensures.granted.1 runs.0 runs.1
     (ap (λ n. classify n x) runs.0) (c.cut_pieces.ensures.done t)
 
 pub returns-in-Ok-clause-refused : goal.returns-in-Ok-clause-refused
