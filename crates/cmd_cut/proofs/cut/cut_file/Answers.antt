@@ -46,8 +46,8 @@ returns-in-Some-clause-refused g c = λ t.
 
 pub returns-in-None-clause-done : goal.returns-in-None-clause-done
 returns-in-None-clause-done g c = λ t.
-    cuts_shown g.D.Disk.on_output c.cut_sparse.result c.args.order.raw c.args.order.limit _ (naming_of c.args.order.names)
-    _ _ _ _ c.args.report.now _ _ ((refl, refl), refl)
+    cuts_shown g.D.Disk.on_output c.cut_sparse.result c.args.order.raw c.args.order.limit _
+    (naming_of c.args.order.names) _ _ _ _ c.args.report.now _ _ ((refl, refl), refl)
     (cuts_file_as c.cut_sparse.result c.args.order.raw _ _ _ _ _ _ _ _ _ _ _ _ c.in-None.is (c.requires.first t).begun
     (c.in-Ok.ensures.opened t) (c.in-Ok.ensures.world t) (c.cut_sparse.ensures.done t))
 

@@ -26,7 +26,8 @@ returns-in-Ok-clause-done g c = λ t.
     x _ _ _ _
     (λ n. ShowsCut g.D.Disk.on_output (naming_of c.args.order.names) n (g.D.Disk.world c.cut_pieces.new.disk)
     c.args.report.now c.cut_pieces.new.report) (sparse_image _ _ _ x
-    (is_so x (g.met.D.At.Source.are_bytes c.args.source told)) (c.in-Ok.ensures.opened told)) c.in-Ok.ensures.granted refl c.in-Ok.ensures.limit
+    (is_so x (g.met.D.At.Source.are_bytes c.args.source told)) (c.in-Ok.ensures.opened told))
+    c.in-Ok.ensures.granted refl c.in-Ok.ensures.limit
     (ap sparse_list (c.sparse_pieces.ensures.reads.content told)) (c.cut_pieces.ensures.done t)
 
 pub returns-in-Ok-clause-refused : goal.returns-in-Ok-clause-refused
