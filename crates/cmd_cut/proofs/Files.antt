@@ -12,6 +12,7 @@ use Rattle.sys_disk.specs.World.{ClosesOutput, HasFailed, HasNotFailed, SparesIn
 use Rattle.sys_disk.proofs.Worlds.{apart, kept_behind, may_behind, only_behind, only_written, spared_if_may}
 use Rattle.sys_disk.proofs.Worlds.{spares_trans}
 use Rattle.sys_refusals.specs.declared.refusal.HostFault.{HostFault}
+use Rattle.sys_refusals.specs.declared.refusal.HostFault.TheVariants as hosts
 use Rattle.cmd_common_sparse.specs.Blocks.{IsRawBlockSize}
 use Rattle.cmd_common_sparse.specs.Lines.{line_text}
 use Rattle.cmd_common_sparse.specs.declared.lines.Line.TheVariants as lines
@@ -155,9 +156,10 @@ refuses path size a b h h' Done (faults.OtherBlocks image) is = absurd is
 refuses path size a b h h' Done (faults.OtherCut image) is = absurd is
 refuses path size a b h h' Done (faults.Host f) is = inl is
 
--- a call of the disk returned the fault, or only the line could not be printed
+-- a call of the disk returned the fault, or it is `Write` and only the line could not be printed
 pub refuses_host : (path : List ℕ) (size : ℕ) (a b : World) (h h' : OpenFiles) (Done : Type 0) (f : SparseCommandFault)
-    (k : HostFault) → f ≡ faults.Host k → HasFailed (call k) h h' ⊎ Done → RefusesRaw path size a b h h' Done f
+    (k : HostFault) → f ≡ faults.Host k → HasFailed (call k) h h' ⊎ ((k ≡ hosts.Write) × Done)
+    → RefusesRaw path size a b h h' Done f
 refuses_host path size a b h h' Done f k told why =
     subst (λ e. RefusesRaw path size a b h h' Done e) (sym told) why
 

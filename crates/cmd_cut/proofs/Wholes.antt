@@ -141,7 +141,8 @@ stops_file Unprinted fault names path bytes ps h h' h'' a b c none o same (faile
     (since_opened path bytes h h' h'' a o) fault outside) n
     (first_stand names path bytes ps n (n + 1) h h' h'' a b c none o same cuts)
 stops_file Unprinted fault names path bytes ps h h' h'' a b c none o same (untold f told why n some cuts) =
-    untold f told (wider Unprinted (HasFailed (call hosts.Memory) h' h'') (HasFailed (call hosts.Memory) h h'')
+    untold f told (wider ((f ≡ hosts.Write) × Unprinted) (HasFailed (call hosts.Memory) h' h'')
+    (HasFailed (call hosts.Memory) h h'')
     (f ≡ hosts.Memory) (since_opened path bytes h h' h'' a o (call hosts.Memory)) why) n some
     (first_stand names path bytes ps n n h h' h'' a b c none o same cuts)
 stops_file Unprinted fault names path bytes ps h h' h'' a b c none o same (not_begun f told more cuts) =
@@ -267,7 +268,8 @@ stops_between Unprinted fault names ps g r r' h h1 h2 h3 a a1 b c held world non
     (cuts_between names ps n (n + 1) (reads g r') h h1 h2 h3 a a1 b c held world cuts later same)
 stops_between Unprinted fault names ps g r r' h h1 h2 h3 a a1 b c held world none (untold f told why n some cuts) later
     same =
-    untold f told (wider Unprinted (FailsBeside r r' h1 h2 (call hosts.Memory)) (HasFailed (call hosts.Memory) h h3)
+    untold f told (wider ((f ≡ hosts.Write) × Unprinted) (FailsBeside r r' h1 h2 (call hosts.Memory))
+    (HasFailed (call hosts.Memory) h h3)
     (f ≡ hosts.Memory) (since_read g r r' h h1 h2 h3 held none later (call hosts.Memory)) why) n some
     (cuts_between names ps n n (reads g r') h h1 h2 h3 a a1 b c held world cuts later same)
 stops_between Unprinted fault names ps g r r' h h1 h2 h3 a a1 b c held world none (not_begun f told more cuts) later

@@ -279,13 +279,14 @@ pub record AddsNone (held held' : OpenFiles) (old new : World) : Type 0 where
 -- - A call of the disk has returned the fault, before the first piece.
 -- - The device has failed that the fault is of, or a call of the disk has returned it, in the piece after those that
 --   are stored.
--- - A line could not be printed, or memory was refused to the look for an older piece.
+-- - It is `Write`, and a line could not be printed. Or memory was refused to the look for an older piece.
 pub data StopsCut (fault : SparseCommandFault) (Failed : Cause → Type 0) (Unprinted : Type 0) (Cut : ℕ → ℕ → Type 0)
     : Type 0 where
   not_begun : (f : HostFault) → fault ≡ faults.Host f → Failed (call f) → Cut 0 0
       → StopsCut fault Failed Unprinted Cut
   failed : IsOutsideCut Failed fault → (n : ℕ) → Cut n (n + 1) → StopsCut fault Failed Unprinted Cut
-  untold : (f : HostFault) → fault ≡ faults.Host f → Unprinted ⊎ ((f ≡ hosts.Memory) × Failed (call hosts.Memory))
+  untold : (f : HostFault) → fault ≡ faults.Host f
+      → ((f ≡ hosts.Write) × Unprinted) ⊎ ((f ≡ hosts.Memory) × Failed (call hosts.Memory))
       → (n : ℕ) → 0 < n → Cut n n → StopsCut fault Failed Unprinted Cut
 
 -- the first fault that x has as an image: of a sparse one, or for its blocks

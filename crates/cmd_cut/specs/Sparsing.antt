@@ -10,6 +10,7 @@ use Rattle.abt_pieces.specs.declared.fault.PieceFault.{PieceFault}
 use Rattle.abt_pieces.specs.declared.fault.PieceFault.TheVariants as pieces
 use Rattle.abt_placed.specs.Unfinished.{IsNoImage}
 use Rattle.abt_sparsify.specs.declared.count.Written.{Written}
+use Rattle.sys_refusals.specs.declared.refusal.HostFault.TheVariants as hosts
 use Rattle.sys_disk.specs.Counts.{Cause, Counts, call, reading, writing}
 use Rattle.sys_disk.specs.World.{World, OpenFiles, ClosesOutput, KeepsFile, OnlyAt, Spares, SparesRest, HasFailed}
 use Rattle.sys_disk.specs.World.{HasNotFailed, SparesInUse, ended}
@@ -106,12 +107,13 @@ IsOutsideSparse failed (faults.OtherCut image) = ⊥
 IsOutsideSparse failed (faults.Host f) = failed (call f)
 
 -- the block size doesn't fit the file at this path, and this is found before anything is changed; or the device failed
--- that the fault is of; or a call of the disk returned the fault; or everything was done and the line could not be
--- printed
+-- that the fault is of; or a call of the disk returned the fault; or it is `Write`, everything was done, and the line
+-- could not be printed
 abbrev pub RefusesRaw : List ℕ → ℕ → World → World → OpenFiles → OpenFiles → Type 0 → SparseCommandFault → Type 0
 RefusesRaw path size old new held held' Done (faults.Run f) = HasNoBlocks path size old new f
 RefusesRaw path size old new held held' Done (faults.Piece f) = IsOfPieceDevices (λ cause. HasFailed cause held held') f
-RefusesRaw path size old new held held' Done (faults.Host f) = HasFailed (call f) held held' ⊎ Done
+RefusesRaw path size old new held held' Done (faults.Host f) = HasFailed (call f) held held'
+    ⊎ ((f ≡ hosts.Write) × Done)
 RefusesRaw path size old new held held' Done (faults.Sparse f) = ⊥
 RefusesRaw path size old new held held' Done (faults.Flash f) = ⊥
 RefusesRaw path size old new held held' Done (faults.Verify f) = ⊥

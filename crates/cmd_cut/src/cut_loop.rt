@@ -1,7 +1,7 @@
 //! All pieces of an image, one after another.
 
 ghost use Rattle.std.specs.Prelude.{◌≡◌, ◌<◌, ◌≤◌, ◌+◌, ◌-◌, ◌^◌, ◌⊎◌, ◌++◌, ◌∷◌, [], None, length, IsTrue, IfOk};
-ghost use Rattle.std.specs.Prelude.{IfErr, OnOk, OnErr};
+ghost use Rattle.std.specs.Prelude.{IfErr, OnOk};
 ghost use Rattle.sys_disk.specs.Counts.{call};
 ghost use Rattle.sys_disk.specs.World.{HasFailed, IsFree};
 ghost use Rattle.sys_refusals.specs.Blamed.{TellsRead, input_of};
@@ -103,8 +103,8 @@ fn tell_all<'a, D: Disk>(
     ensures shown { IsTrue D.models → OnOk result (ShowsCount (naming_of files.entry.names) files.entry.count
         (D.world disk.old) report.old report.new) }
     ensures held { IsTrue D.models → OnOk result (D.held disk.new ≡ D.held disk.old) }
-    ensures refused { IsTrue D.models → IfErr result (λ refusal. CannotPrint report.old report.new
-        ⊎ ((refusal.fault ≡ HostFault.Memory)
+    ensures refused { IsTrue D.models → IfErr result (λ refusal. ((refusal.fault ≡ HostFault.Write)
+        × CannotPrint report.old report.new) ⊎ ((refusal.fault ≡ HostFault.Memory)
         × HasFailed (call HostFault.Memory) (D.held disk.old) (D.held disk.new))) }
     ensures keeps { IsTrue D.models → ChangesNoFile (D.held disk.old) (D.held disk.new) (D.world disk.old)
         (D.world disk.new) }
@@ -220,7 +220,8 @@ fn print_piece<'a>(
     is_on_output: bool,
 ) -> Result<(), HostRefusal<'a>>
     ensures shown { OnOk result (Shows report.old report.new (piece_line number piece)) }
-    ensures refused { OnErr result (CannotPrint report.old report.new) }
+    ensures refused { IfErr result (λ refusal. (refusal.fault ≡ HostFault.Write)
+        × CannotPrint report.old report.new) }
     ensures rises { refusals report.old ≤ refusals report.new }
 {
     let line = Line::Piece {

@@ -1,10 +1,11 @@
 //! The command `sparse`: writes the sparse image of a raw one.
 
-ghost use Rattle.std.specs.Prelude.{◌++◌, ◌∷◌, [], IsTrue, IfErr, OnOk, OnErr};
+ghost use Rattle.std.specs.Prelude.{◌≡◌, ◌++◌, ◌∷◌, [], IsTrue, IfErr, OnOk};
 ghost use Rattle.sys_disk.specs.World.{IsReading};
 ghost use Rattle.sys_report.specs.Shows.{CannotPrint, ShowsBeside, Unprinted};
 ghost use Rattle.sys_refusals.specs.Blamed.{TellsOf};
 ghost use Rattle.sys_refusals.specs.Paths.{path_of, path_out};
+ghost use Rattle.sys_refusals.specs.declared.refusal.HostFault.{HostFault};
 ghost use Rattle.cmd_common_sparse.specs.Fault.{side_of};
 ghost use Rattle.cmd_common_sparse.specs.Lines.{line_text};
 ghost use Rattle.cmd_cut.specs.Sparsing.{LeavesImage, RefusesRaw, SparsifiesFile};
@@ -91,7 +92,8 @@ fn printed<'a>(
 ) -> Result<(), HostRefusal<'a>>
     ensures shown { OnOk result (ShowsBeside is_on_output report.old report.new (line_text (Line.Sparse written.blocks
         written.chunks written.bytes) ++ (10 ∷ []))) }
-    ensures refused { OnErr result (CannotPrint report.old report.new) }
+    ensures refused { IfErr result (λ refusal. (refusal.fault ≡ HostFault.Write)
+        × CannotPrint report.old report.new) }
 {
     let line = Line::Sparse {
         blocks: written.blocks,

@@ -13,9 +13,10 @@ use Rattle.cmd_cut.proofs.Told.{host_output, reads_host, told_between}
 use Rattle.cmd_cut.proofs.cut_loop.cut_pieces.Goals as goal
 
 -- counts that rose after others have risen since they began
-later : (a b c p q r : ℕ) (M : Type 0) → a ≤ b → p ≡ q → (b < c) ⊎ (M × (q < r)) → (a < c) ⊎ (M × (p < r))
-later a b c p q r M first same (inl more) = inl (omega (arith, first, more))
-later a b c p q r M first same (inr why) = inr (why.0, omega (arith, same, why.1))
+later : (a b c p q r : ℕ) (W M : Type 0) → a ≤ b → p ≡ q → (W × (b < c)) ⊎ (M × (q < r))
+    → (W × (a < c)) ⊎ (M × (p < r))
+later a b c p q r W M first same (inl why) = inl (why.0, omega (arith, first, why.1))
+later a b c p q r W M first same (inr why) = inr (why.0, omega (arith, same, why.1))
 
 -- nothing has failed, once what was read is closed
 unfailed : (g r r' : ℕ) (h h1 h2 h3 : OpenFiles) → h1 ≡ h → NoneFailsBeside r r' h1 h2 → r ≡ 0
@@ -103,7 +104,7 @@ returns-in-Ok-tell_all-clause-done g c = λ t. record {
 pub returns-in-Err-tell_all-clause-refused : goal.returns-in-Err-tell_all-clause-refused
 returns-in-Err-tell_all-clause-refused g c = λ t.
     untold c.in-Err-tell_all.refusal.fault c.into-in-Err-tell_all.ensures
-    (later _ _ _ _ _ _ _ c.write_pieces-source.ensures.rises (sym (unfailed _ _ _ _ _ _ _ (c.in-Ok.ensures.held t)
+    (later _ _ _ _ _ _ _ _ c.write_pieces-source.ensures.rises (sym (unfailed _ _ _ _ _ _ _ (c.in-Ok.ensures.held t)
     (rw c.in-Ok-answer.is at (c.write_pieces-source.ensures.clean t)) (c.requires.fresh t).clean
     (c.let_go_source.ensures.held t) (call hosts.Memory))) (c.in-Err-tell_all.ensures.refused t))
     c.in-Ok-answer.files.count (rw c.in-Ok-answer.is at c.write_pieces-source.ensures.some)

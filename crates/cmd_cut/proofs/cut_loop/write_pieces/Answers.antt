@@ -225,8 +225,11 @@ returns-in-Err-print_piece-clause-refused g c = λ t.
     = path_behind c.next-place.result c.args.names _ _ _ (cutter.made + 1) c.next-place.ensures.folder
     c.next-place.ensures.number c.next-place.ensures.name c.next-place.ensures.begins i.named behind in
     untold c.in-Err-print_piece.refusal.fault c.into.ensures
-    (inl (omega (arith, i.rises, c.in-Err-print_piece.ensures.refused))) (cutter.made + 1) (omega arith) (cuts_more
-    (naming_of c.args.names) _ cutter.made _ _ _ _ _ _ _ path (i.cuts t)
+    (inl (
+      c.in-Err-print_piece.ensures.refused.0,
+      omega (arith, i.rises, c.in-Err-print_piece.ensures.refused.1),
+    ))
+    (cutter.made + 1) (omega arith) (cuts_more (naming_of c.args.names) _ cutter.made _ _ _ _ _ _ _ path (i.cuts t)
     (rw (i.runs, i.limit, i.kept (g.met.D.Disk.source_told t)) at (c.in-Ok.ensures.adds t))
     (c.put_piece-answer.ensures.left t).only)
 

@@ -96,10 +96,13 @@ pub returns-in-Err-printed-clause-refused : goal.returns-in-Err-printed-clause-r
 returns-in-Err-printed-clause-refused g c = λ t.
     refuses_host _ _ _ _ (g.D.Disk.held c.args.disk.now) (g.D.Disk.held c.write_whole.new.disk) _ _
     c.in-Err-printed.refusal.fault c.into.ensures
-    (inr (sparsifies _ _ _ _ _ _ c.in-Ok-write_whole.end.0 _ _ _ _ _ _ _ _ c.in-Ok.ensures.size
-    c.in-Ok.ensures.granted
-    (c.in_ok-source.ensures.opened t) (c.in_ok-source.ensures.world t) (c.in_ok-image.ensures.created t)
-    (c.in-Ok-write_whole.ensures.writes t).holds c.in-Err-printed.ensures.refused))
+    (inr (
+      c.in-Err-printed.ensures.refused.0,
+      sparsifies _ _ _ _ _ _ c.in-Ok-write_whole.end.0 _ _ _ _ _ _ _ _
+          c.in-Ok.ensures.size c.in-Ok.ensures.granted
+          (c.in_ok-source.ensures.opened t) (c.in_ok-source.ensures.world t) (c.in_ok-image.ensures.created t)
+          (c.in-Ok-write_whole.ensures.writes t).holds c.in-Err-printed.ensures.refused.1,
+    ))
 
 -- all is done
 
