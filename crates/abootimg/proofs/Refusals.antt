@@ -123,7 +123,7 @@ pack_same command w w' h h' Done fault (packing.no_path path given not is same) 
 pack_same command w w' h h' Done fault (packing.too_little is same) two = same
 pack_same command w w' h h' Done fault (packing.failed is) two =
     absurd (outside fault is.cause is.is_cause two)
-pack_same command w w' h h' Done fault (packing.untold f is done) two =
+pack_same command w w' h h' Done fault (packing.untold is done) two =
     absurd (one_is_two (sym (ap status_of_boot is) ∙ two))
 
 again_same : (command : PackCommand) (x : List ℕ) (header : Header) (w w' : World) (Failed : Cause → Type 0)
@@ -136,7 +136,7 @@ again_same command x header w w' Failed Done fault (again.no_text path given not
 again_same command x header w w' Failed Done fault (again.no_memory is same) two = same
 again_same command x header w w' Failed Done fault (again.failed is) two =
     absurd (outside fault is.cause is.is_cause two)
-again_same command x header w w' Failed Done fault (again.untold f is done) two =
+again_same command x header w w' Failed Done fault (again.untold is done) two =
     absurd (one_is_two (sym (ap status_of_boot is) ∙ two))
 
 repack_same : (input : List ℕ) (command : PackCommand) (w w' : World) (h h' : OpenFiles) (Done : Type 0)

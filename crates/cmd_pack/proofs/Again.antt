@@ -314,8 +314,8 @@ module _ (command : PackCommand) (x : List ℕ) (h : Header) (w w' : World) (k k
   writing_stops w'' k'' path shows fault named (writing.failed failure) =
       again.failed (failure_more fault (λ cause. HasFailed cause k' k'') (λ cause. HasFailed cause k k'') failure
       (failed_again k''))
-  writing_stops w'' k'' path shows fault named (writing.untold f same done) =
-      again.untold f same (packs_again w'' path shows named done)
+  writing_stops w'' k'' path shows fault named (writing.untold same done) =
+      again.untold same (packs_again w'' path shows named done)
 
 -- ---- before it is written
 
@@ -392,7 +392,7 @@ again_more command x h w w' P P' Q Q' fault (again.no_memory lacks same) p q =
     again.no_memory (record { told = lacks.told; counted = p (call hosts.Memory) lacks.counted }) same
 again_more command x h w w' P P' Q Q' fault (again.failed failure) p q =
     again.failed (failure_more fault P P' failure p)
-again_more command x h w w' P P' Q Q' fault (again.untold f told done) p q = again.untold f told (q done)
+again_more command x h w w' P P' Q Q' fault (again.untold told done) p q = again.untold told (q done)
 
 -- the image holds what it held before it was read
 pub content_done : (command : PackCommand) (x y : List ℕ) (h : Header) (read : List ℕ) (w w' : World)

@@ -287,5 +287,5 @@ refuses_writing content command w w' v h h' h'' given c Laid Done f same opens a
     refusing.failed (failure_more f (λ cause. HasFailed cause h' h'') (λ cause. HasFailed cause h h'') failure
     (λ cause more. failed_then (IsGivenPath command.texts (asked_kind command)) w h h' h'' cause opens more))
 refuses_writing content command w w' v h h' h'' given c Laid Done f same opens are_given kind asked done
-    (writing.untold k told laid) =
-    refusing.untold k told (done laid)
+    (writing.untold told laid) =
+    refusing.untold told (done laid)

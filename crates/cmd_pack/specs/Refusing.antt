@@ -2,7 +2,6 @@
 use Rattle.std.specs.Prelude.{◌≡◌, ℕ, List, length, Some}
 use Rattle.std.specs.Str.{IsUtf8}
 use Rattle.sys_disk.specs.World.{World, OpenFiles, HasFailed}
-use Rattle.sys_refusals.specs.declared.refusal.HostFault.{HostFault}
 use Rattle.sys_refusals.specs.declared.refusal.HostFault.TheVariants as hosts
 use Rattle.abt_sections.specs.Fields.{BootFields}
 use Rattle.abt_sections.specs.declared.fault.SectionFault.{SectionFault}
@@ -54,5 +53,5 @@ pub data RefusesPack (command : PackCommand) (old new : World) (held held' : Ope
       → RefusesPack command old new held held' Done fault
   -- a call of the disk has failed, or a device, and the fault is the one of that
   failed : IsFailure fault (λ cause. HasFailed cause held held') → RefusesPack command old new held held' Done fault
-  -- all is done, and the line could not be printed
-  untold : (f : HostFault) → fault ≡ faults.Host f → Done → RefusesPack command old new held held' Done fault
+  -- all is done, the line could not be printed, and the fault is that of a report
+  untold : fault ≡ faults.Host hosts.Write → Done → RefusesPack command old new held held' Done fault

@@ -3,7 +3,6 @@ use Rattle.std.specs.Prelude.{◌≡◌, ℕ, List, length, Some}
 use Rattle.std.specs.Str.{IsUtf8}
 use Rattle.sys_disk.specs.Counts.{Cause}
 use Rattle.sys_disk.specs.World.{World, OpenFiles, HasFailed}
-use Rattle.sys_refusals.specs.declared.refusal.HostFault.{HostFault}
 use Rattle.sys_refusals.specs.declared.refusal.HostFault.TheVariants as hosts
 use Rattle.abt_sections.specs.Fields.{BootFields}
 use Rattle.abt_sections.specs.Header.{Header}
@@ -63,8 +62,8 @@ pub data RefusesAgain (command : PackCommand) (x : List ℕ) (h : Header) (old n
   no_memory : LacksMemory fault Failed → new ≡ old → RefusesAgain command x h old new Failed Done fault
   -- a call of the disk has failed, or a device, and the fault is the one of that
   failed : IsFailure fault Failed → RefusesAgain command x h old new Failed Done fault
-  -- all is done, and the line could not be printed
-  untold : (f : HostFault) → fault ≡ faults.Host f → Done → RefusesAgain command x h old new Failed Done fault
+  -- all is done, the line could not be printed, and the fault is that of a report
+  untold : fault ≡ faults.Host hosts.Write → Done → RefusesAgain command x h old new Failed Done fault
 
 -- Why `repack` fails: IN could not be read or is no image, before anything is opened for writing; or the contents of
 -- its file are not packed again.

@@ -5,7 +5,6 @@ use Rattle.abt_sections.specs.Cause.{MoveCause}
 use Rattle.abt_sections.specs.declared.fault.SectionFault.{SectionFault}
 use Rattle.sys_disk.specs.World.{ClosesOutput, Ends, HasFailed, HasNotFailed, OpenFiles, OnlyAt, Spares, SparesRest}
 use Rattle.sys_disk.specs.World.{SparesInUse, World}
-use Rattle.sys_refusals.specs.declared.refusal.HostFault.{HostFault}
 use Rattle.sys_refusals.specs.declared.refusal.HostFault.TheVariants as hosts
 use Rattle.cmd_common_boot.specs.Parts.{IsBoot}
 use Rattle.cmd_common_boot.specs.declared.fault.BootCommandFault.{BootCommandFault}
@@ -110,7 +109,8 @@ pub record LeavesOut {X F : Type 0} (r : Result X F) (output : List ℕ) (is_ove
   pub synced : OnOk r (held'.syncs ≡ held.syncs + (if held.is_synced then 1 else 0))
 
 -- why an image is not written: packing has a fault, or memory was refused to find out, both before anything is
--- changed; or a call of the disk or a device failed; or everything was done, and the line could not be printed
+-- changed; or a call of the disk or a device failed; or it is `Write`, everything was done, and the line could not be
+-- printed
 pub data StopsWriting (refusal : Option SectionFault) (held held' : OpenFiles) (old new : World) (Done : Type 0)
     (fault : BootCommandFault) : Type 0 where
   refused : (f : SectionFault) → fault ≡ faults.Section f → refusal ≡ Some f → held' ≡ held → new ≡ old
@@ -119,4 +119,4 @@ pub data StopsWriting (refusal : Option SectionFault) (held held' : OpenFiles) (
       → StopsWriting refusal held held' old new Done fault
   failed : IsFailure fault (λ cause. HasFailed cause held held')
       → StopsWriting refusal held held' old new Done fault
-  untold : (f : HostFault) → fault ≡ faults.Host f → Done → StopsWriting refusal held held' old new Done fault
+  untold : fault ≡ faults.Host hosts.Write → Done → StopsWriting refusal held held' old new Done fault

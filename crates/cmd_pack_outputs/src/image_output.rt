@@ -85,6 +85,7 @@ pub fn write_image<'f, 't, 'a, D: Disk>(
 fn printed<'a>(bytes: u64, is_on_output: bool, report: &mut Report) -> Result<(), HostRefusal<'a>>
     ensures shown { OnOk result (ShowsBeside is_on_output report.old report.new (image_line bytes ++ (10 ∷ []))) }
     ensures refused { OnErr result (CannotPrint report.old report.new) }
+    ensures fault { IfErr result (λ refusal. refusal.fault ≡ HostFault.Write) }
 {
     report.line_beside(is_on_output, ImageLine(bytes))
 }

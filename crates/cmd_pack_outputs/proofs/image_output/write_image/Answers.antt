@@ -1,6 +1,7 @@
 use Rattle.std.proofs.Common.{ap, ◌∙◌}
 use Rattle.sys_disk.proofs.Worlds.{only_written}
 use Rattle.cmd_common_boot.specs.Sources.{faults_of}
+use Rattle.cmd_common_boot.specs.declared.fault.BootCommandFault.TheVariants as faults
 use Rattle.cmd_pack_outputs.specs.Writing.{failed, untold}
 use Rattle.cmd_common_boot.proofs.Causes.{source_failed}
 use Rattle.cmd_pack_outputs.proofs.Closes.{call_fails, closed_created, failed_created, left_unopened}
@@ -79,7 +80,7 @@ returns-in-Err-printed-clause-left g c = λ t.
 
 pub returns-in-Err-printed-clause-refused : goal.returns-in-Err-printed-clause-refused
 returns-in-Err-printed-clause-refused g c = λ t.
-    untold _ c.into-in-Err-printed.ensures
+    untold (c.into-in-Err-printed.ensures ∙ ap (λ f. faults.Host f) c.in-Err-printed.ensures.fault)
     (lays _ _ _ _ _ _ _ _ _ (c.in-Ok-image.ensures.created t) (c.in-Ok-write_to.ensures.writes t).ended
     (c.in-Ok-write_to.ensures.writes t).number c.in-Err-printed.ensures.refused)
 
