@@ -26,7 +26,7 @@ MORE_FUNCTIONS = {"abt_sections": 107, "mem_disk": 101, "cmd_unpack_aosp_texts":
 # How many functions have contracts of more clauses than this.
 LONG_CONTRACTS = {15: 3, 20: 1}
 # How many clauses are, to the letter, one that stands before, in any function of any crate.
-REPEATED_CLAUSES = 714
+REPEATED_CLAUSES = 715
 # The names that two files define, each with what it says in the one and in the other.
 NAMES_DEFINED_TWICE = {
     "Begins": "of a spool's and of a file's bytes, of which they are a front; of a text, which has grown by one",
