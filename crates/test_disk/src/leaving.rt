@@ -49,21 +49,16 @@ const ROWS: [Row; 23] = [
     ),
     (Command::FlashRaw, (RAW, DOTS), true, FLASHED_RAW),
     (Command::FlashRaw, (RAW, b"........."), false, b"........."),
-    (Command::FlashPieces, (&NO_GAP, DOTS), true, FLASHED_ALL),
-    (Command::FlashPieces, (RAW, DOTS), false, DOTS),
+    (Command::FlashFrom(1), (&NO_GAP, DOTS), true, FLASHED_ALL),
+    (Command::FlashFrom(1), (RAW, DOTS), false, DOTS),
     (
-        Command::FlashPieces,
+        Command::FlashFrom(1),
         (&NO_GAP, b"........."),
         false,
         b".........",
     ),
-    (
-        Command::FlashFromSecond,
-        (&NO_GAP, DOTS),
-        true,
-        FLASHED_REST,
-    ),
-    (Command::FlashRawPieces, (RAW, DOTS), true, FLASHED_RAW),
+    (Command::FlashFrom(2), (&NO_GAP, DOTS), true, FLASHED_REST),
+    (Command::FlashRawFrom(1), (RAW, DOTS), true, FLASHED_RAW),
     (Command::Verify, (&THREE_KINDS, FLASHED), true, FLASHED),
     (Command::Verify, (&THREE_KINDS, DOTS), false, DOTS),
     (Command::VerifyRaw, (RAW, FLASHED_RAW), true, FLASHED_RAW),
@@ -110,7 +105,7 @@ fn each_piece_stands_under_its_number(rt: HostRuntime) {
 #[test]
 fn the_spool_holds_the_last_piece(rt: HostRuntime) {
     let before = (NO_GAP.as_slice(), DOTS);
-    let (is_done, disk) = run(rt, Command::FlashPieces, "out", before, Faults::none()).expect(
+    let (is_done, disk) = run(rt, Command::FlashFrom(1), "out", before, Faults::none()).expect(
         &rt,
         "has memory",
     );
