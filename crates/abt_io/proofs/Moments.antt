@@ -56,10 +56,11 @@ pub since_last : (a b : List Moment) (last : Moment) (P : Moment → Type 0) →
 since_last a b last P p = since_weaker a b (λ m. m ≡ last) P (λ m e. subst P (sym e) p)
 
 pub keeps_same : (touched : ℕ → Bool) (m : Moment) → Keeps touched m m
-keeps_same touched m = record { size = refl; bytes = λ i t. refl; pending = λ i t p. p }
+keeps_same touched m = record { same = refl; size = refl; bytes = λ i t. refl; pending = λ i t p. p }
 
 pub keeps_then : (touched : ℕ → Bool) (a b c : Moment) → Keeps touched a b → Keeps touched b c → Keeps touched a c
 keeps_then touched a b c h k = record {
+  same = k.same ∙ h.same;
   size = k.size ∙ h.size;
   bytes = λ i t. k.bytes i t ∙ h.bytes i t;
   pending = λ i t p. k.pending i t (h.pending i t p);
@@ -68,6 +69,7 @@ keeps_then touched a b c h k = record {
 pub keeps_within : (touched more : ℕ → Bool) (a b : Moment) → ((i : ℕ) → more i ≡ false → touched i ≡ false)
     → Keeps touched a b → Keeps more a b
 keeps_within touched more a b f h = record {
+  same = h.same;
   size = h.size;
   bytes = λ i t. h.bytes i (f i t);
   pending = λ i t p. h.pending i (f i t) p;

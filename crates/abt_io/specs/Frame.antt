@@ -28,9 +28,10 @@ reads_alone = record {
   clear_faults = 0;
 }
 
--- of an output, what no write changes: where it is a spool, how much of what was written is gone, and every count but
--- those of writing
+-- of an output, what no write changes: the number of its file, or 0; where it is a spool, how much of what was written
+-- is gone, and every count but those of writing
 pub record WriteFrame : Type 0 where
+  pub file : ℕ
   pub gone : ℕ
   pub cuts : List ℕ
   pub capacity : ℕ
@@ -40,9 +41,10 @@ pub record WriteFrame : Type 0 where
   pub clears : ℕ
   pub clear_faults : ℕ
 
--- of an output that is nothing else
+-- of an output that is nothing else, and has no number
 abbrev pub writes_alone : WriteFrame
 writes_alone = record {
+  file = 0;
   gone = 0;
   cuts = [];
   capacity = 0;

@@ -3,24 +3,33 @@ use Rattle.std.specs.Prelude.{◌≡◌, ℕ, ◌+◌, Bool, true, false, ◌&&�
 use Rattle.std.specs.Prelude.{take, drop, slice_get}
 use Rattle.std.specs.List.{AllByRecursion}
 
--- a partition between calls: its bytes, the ranges (place, length) that a crash may change, how many syncs succeeded
+-- a partition between calls: the number of its file, its bytes, the ranges (place, length) that a crash may change, how
+-- many syncs succeeded
 pub record Moment : Type 0 where
+  pub file : ℕ
   pub content : List ℕ
   pub pending : List (ℕ × ℕ)
   pub synced : ℕ
 
--- beside a partition's content: what was written since the last good sync, the good syncs, its states, newest first
+-- beside a partition's content: the number of its file, what was written since the last good sync, the good syncs, its
+-- states, newest first
 pub record Past : Type 0 where
+  pub file : ℕ
   pub pending : List (ℕ × ℕ)
   pub synced : ℕ
   pub moments : List Moment
 
+-- of this file, before anything was written
+abbrev pub past_of_file : ℕ → Past
+past_of_file n = record { file = n; pending = []; synced = 0; moments = [] }
+
+-- of a file without a number
 abbrev pub no_past : Past
-no_past = record { pending = []; synced = 0; moments = [] }
+no_past = past_of_file 0
 
 -- the state with this content
 abbrev pub moment_of : Past → List ℕ → Moment
-moment_of p content = record { content = content; pending = p.pending; synced = p.synced }
+moment_of p content = record { file = p.file; content = content; pending = p.pending; synced = p.synced }
 
 -- with one more state, which is now
 abbrev pub seen_at : Past → List ℕ → Past
@@ -61,8 +70,9 @@ pub record MayLeave (m : Moment) (q : List ℕ) : Type 0 where
   pub size : length q ≡ length m.content
   pub kept : (i : ℕ) → is_pending m.pending i ≡ false → slice_get q i ≡ slice_get m.content i
 
--- each byte that isn't touched keeps its value from m to n, and doesn't become pending
+-- of the same file, each byte that isn't touched keeps its value from m to n, and doesn't become pending
 pub record Keeps (touched : ℕ → Bool) (m n : Moment) : Type 0 where
+  pub same : n.file ≡ m.file
   pub size : length n.content ≡ length m.content
   pub bytes : (i : ℕ) → touched i ≡ false → slice_get n.content i ≡ slice_get m.content i
   pub pending : (i : ℕ) → touched i ≡ false → is_pending m.pending i ≡ false → is_pending n.pending i ≡ false

@@ -248,6 +248,7 @@ pub trait Spool: Input + Output {
 
     /// What a write leaves.
     ghost writing: { (s : Self) → Self.write_frame s ≡ record {
+      file = 0;
       gone = gone s;
       cuts = cuts s;
       capacity = size s;

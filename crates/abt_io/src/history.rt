@@ -2,7 +2,7 @@
 
 ghost use Rattle.std.specs.Prelude.{◌≡◌};
 ghost use Rattle.std.specs.Borrow.{ftrue};
-ghost use Rattle.abt_io.specs.Moment.{Past, no_past, wrote, settled};
+ghost use Rattle.abt_io.specs.Moment.{Past, no_past, past_of_file, wrote, settled};
 
 use std::marker::Model;
 
@@ -23,6 +23,11 @@ impl History {
     {
         History {}
     }
+
+    /// Nothing has happened yet to the file of this number.
+    pub fn begins(&mut self, _file: u64)
+        ensures { self.new.past ≡ past_of_file _file }
+    {}
 
     /// `_len` bytes from `_at` on were written, or may have been; `_now` is what a read gives now.
     pub fn wrote(&mut self, _now: &[u8], _at: u64, _len: u64)

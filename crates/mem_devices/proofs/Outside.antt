@@ -72,6 +72,7 @@ pub kept_wrote : (old new : Past) (x b : List ℕ) (at : ℕ) → at + length b 
 kept_wrote old new x b at fits e =
     subst (λ (p : Past). Keeps (in_range at (length b)) (moment_of old x) (moment_of p (put_at x at b))) (sym e)
     (record {
+      same = refl;
       size = put_long x b at fits;
       bytes = λ i t. slice_outside x b at i fits t;
       pending = λ i t p. ap (λ (k : Bool). k || is_pending old.pending i) t ∙ p;

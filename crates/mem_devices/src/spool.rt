@@ -102,6 +102,7 @@ impl<'a> Output for SliceSpool<'a> {
     ghost full_faults = { λ s. s.full_faults.number };
 
     ghost write_frame = { λ s. record {
+      file = 0;
       gone = last_cut s.log.state.cuts + s.seen;
       cuts = s.log.state.cuts;
       capacity = length s.cells.bytes.now;

@@ -126,6 +126,7 @@ impl Output for MemorySpool {
     ghost full_faults = { λ s. s.full_faults.number };
 
     ghost write_frame = { λ s. record {
+      file = 0;
       gone = last_cut s.log.state.cuts + s.seen;
       cuts = s.log.state.cuts;
       capacity = s.limit;

@@ -209,6 +209,7 @@ impl<F: SystemFile + Drop> Output for GatheringSpool<F> {
     ghost full_faults = { λ s. s.counts.full_faults.number };
 
     ghost write_frame = { λ s. record {
+      file = 0;
       gone = last_cut s.log.state.cuts + s.seen;
       cuts = s.log.state.cuts;
       capacity = s.capacity;
