@@ -3,13 +3,13 @@
 -- was opened.
 use Rattle.std.specs.Prelude.{◌≡◌, ℕ, ◌+◌, List, [], None, Bool, IsTrue, Result, IfOk, IfErr, OnOk, OnErr, is_ok, false}
 use Rattle.std.specs.Prelude.{replicate}
-use Rattle.abt_io.specs.Moment.{Past, no_past}
+use Rattle.abt_io.specs.Moment.{Past, past_of_file}
 use Rattle.sys_disk.specs.Images.{Leaves}
-use Rattle.sys_disk.specs.InPlace.{OpensPart, MakesZeros}
+use Rattle.sys_disk.specs.InPlace.{OpensPart, MakesPlace}
 use Rattle.sys_disk.specs.Spools.{OpensSpool}
 use Rattle.sys_disk.specs.World.{World, OpenFiles, OpensFile, Creates, OnlyAt, KeepsBegun, KeepsFile, IsFree, Ends}
 use Rattle.sys_disk.specs.Counts.{Counts, HasNone, added, call_of, failure_of}
-use Rattle.sys_disk.specs.World.{SparesInUse, SparesRest, HasNotFailed, HoldsMost, counting}
+use Rattle.sys_disk.specs.World.{SparesInUse, SparesRest, HasNotFailed, HoldsMost, counting, number_of}
 use Rattle.sys_refusals.specs.declared.refusal.HostRefusal.{HostRefusal}
 use Rattle.sys_disk.specs.World as worlds
 
@@ -40,7 +40,7 @@ pub record OpensInPlace {A : Type 0} (models : Bool) (r : Result A HostRefusal) 
     (its_content : A → List ℕ) (its_past : A → Past) (its_faults : A → ℕ) (h h' : OpenFiles) (before after : World)
     : Type 0 where
   pub opened : IsTrue models → IfOk r (λ a. OpensPart before path (its_content a) h h')
-  pub past : IsTrue models → IfOk r (λ a. its_past a ≡ no_past)
+  pub past : IsTrue models → IfOk r (λ a. its_past a ≡ past_of_file (number_of h'.part))
   pub clean : IsTrue models → IfOk r (λ a. its_faults a ≡ 0)
   pub kept : IsTrue models → IfErr r (λ refusal. h' ≡ counting (call_of refusal.fault) h)
   pub world : IsTrue models → after ≡ before
@@ -50,9 +50,9 @@ pub record OpensInPlace {A : Type 0} (models : Bool) (r : Result A HostRefusal) 
 pub record MakesPart {A : Type 0} (models : Bool) (r : Result A HostRefusal) (n : ℕ) (path : List ℕ)
     (its_content : A → List ℕ) (its_past : A → Past) (its_faults : A → ℕ) (h h' : OpenFiles) (before after : World)
     : Type 0 where
-  pub made : IsTrue models → OnOk r (MakesZeros n path h h' before after)
+  pub made : IsTrue models → OnOk r (MakesPlace path h h' before after)
   pub zeros : IsTrue models → IfOk r (λ a. its_content a ≡ replicate n 0)
-  pub past : IsTrue models → IfOk r (λ a. its_past a ≡ no_past)
+  pub past : IsTrue models → IfOk r (λ a. its_past a ≡ past_of_file (number_of h'.part))
   pub clean : IsTrue models → IfOk r (λ a. its_faults a ≡ 0)
   pub kept : IsTrue models → IfErr r (λ refusal. h' ≡ counting (call_of refusal.fault) h)
   pub only : IsTrue models → OnErr r (OnlyAt h.read path before after)
@@ -77,9 +77,10 @@ pub record OpensThrough {A : Type 0} (models : Bool) (r : Result A HostRefusal) 
 
 -- the file at this path is the open output, or the call fails in the same way
 pub record CreatesOutput {A : Type 0} (models : Bool) (r : Result A HostRefusal) (path : List ℕ)
-    (its_written : A → List ℕ) (its_faults : A → ℕ) (h h' : OpenFiles) (before after : World) : Type 0 where
+    (its_written : A → List ℕ) (its_file its_faults : A → ℕ) (h h' : OpenFiles) (before after : World) : Type 0 where
   pub empty : IfOk r (λ a. its_written a ≡ [])
   pub clean : IsTrue models → IfOk r (λ a. its_faults a ≡ 0)
+  pub this : IsTrue models → IfOk r (λ a. its_file a ≡ number_of h'.output)
   pub created : IsTrue models → OnOk r (Creates path h h' before after)
   pub kept : IsTrue models → IfErr r (λ refusal. h' ≡ counting (call_of refusal.fault) h)
   pub only : IsTrue models → OnErr r (OnlyAt h.read path before after)

@@ -1,6 +1,6 @@
 -- A file that is written in place: it existed, is opened, and is closed.
-use Rattle.std.specs.Prelude.{◌≡◌, ℕ, ◌+◌, List, [], ◌∷◌, length, Option, Some, None, Bool, false, Contains, nat_lt}
-use Rattle.std.specs.Prelude.{◌<◌, IsTrue, if◌then◌else◌, replicate}
+use Rattle.std.specs.Prelude.{◌≡◌, ℕ, ◌+◌, List, [], ◌∷◌, Option, Some, None, Bool, false, Contains, nat_lt}
+use Rattle.std.specs.Prelude.{IsTrue, if◌then◌else◌}
 use Rattle.abt_io.specs.Moment.{Past}
 use Rattle.sys_disk.specs.Counts.{Counts, HasNone, added}
 use Rattle.sys_disk.specs.World.{World, OpenFiles, MayWrite, Spares, counting}
@@ -44,22 +44,16 @@ pub record ClosesPart (is_done : Bool) (past : Past) (failures : Counts) (old ne
   pub clean : IsTrue is_done → HasNone more
   pub unread : more.given ≡ 0
 
--- the file at this path, which may be written, was created or emptied, and is this many zeros, to be written in place:
--- none that is read or was begun, and all others are as before
-pub record MakesZeros (n : ℕ) (path : List ℕ) (held held' : OpenFiles) (old new : World) : Type 0 where
+-- the file at this path, which may be written, was created or emptied, to be written in place: none that is read or was
+-- begun, and all others are as before
+pub record MakesPlace (path : List ℕ) (held held' : OpenFiles) (old new : World) : Type 0 where
   pub allowed : MayWrite path held
   pub file : ℕ
   pub begins : held' ≡ in_place file held
   pub there : new.at path ≡ Some file
   pub free : ¬ Contains held.read file
   pub fresh : ¬ Contains held.begun file
-  pub holds : new.holds file ≡ replicate n 0
   pub spares : Spares file old new
-
--- these are as many bytes as the file holds
-abbrev pub IsAsLong : Option ℕ → List ℕ → World → Type 0
-IsAsLong None bytes world = Unit {0}
-IsAsLong (Some file) bytes world = length bytes ≡ length (world.holds file)
 
 -- every path leads where it led, and each file holds what it held, except perhaps the one at this path
 pub record SparesOthers (path : List ℕ) (old new : World) : Type 0 where

@@ -25,6 +25,11 @@ pub record OpenFiles : Type 0 where
   pub allows_mounted : Bool
   pub counts : Counts
 
+-- the number of an open file, which its device has, or 0 if none is open
+abbrev pub number_of : Option ℕ → ℕ
+number_of None = 0
+number_of (Some file) = file
+
 -- this path may be written: it leads to no device that is in use, or such devices may be written
 abbrev pub MayWrite : List ℕ → OpenFiles → Type 0
 MayWrite path held = IsTrue (held.in_use path) → IsTrue held.allows_mounted

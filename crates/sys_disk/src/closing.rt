@@ -1,9 +1,9 @@
 //! The result of a call that wrote a file in place, once that file is closed.
 
 ghost use Rattle.std.specs.Prelude.{◌≡◌, IsTrue, IsOk, IfOk, IfErr, Ok, is_ok};
-ghost use Rattle.sys_disk.specs.InPlace.{ClosesPart, IsAsLong};
+ghost use Rattle.sys_disk.specs.InPlace.{ClosesPart};
 ghost use Rattle.sys_disk.specs.Counts.{call, writes};
-ghost use Rattle.sys_disk.specs.World.{Ends, HasFailed, SparesRest};
+ghost use Rattle.sys_disk.specs.World.{Ends, HasFailed, SparesRest, number_of};
 ghost use Rattle.sys_refusals.specs.Paths.{path_of};
 ghost use Rattle.sys_refusals.specs.declared.refusal.HostFault.{HostFault};
 
@@ -19,7 +19,7 @@ pub fn closed<'a, D: Disk, T: Drop, F: Told + From<HostFault> + Drop>(
     place: FileArg<'a>,
     sides: Sides<'a>,
 ) -> Result<(T, bool), Refusal<'a, F>>
-    requires long { IsTrue D.models → IsAsLong (D.held disk.old).part (D.InPlace.content part) (D.world disk.old) }
+    requires this { IsTrue D.models → (D.InPlace.past part).file ≡ number_of (D.held disk.old).part }
     ensures done { IfOk result (λ end. answer ≡ Ok end.0) }
     ensures told { IfErr answer (λ fault. IfErr result (λ refusal. refusal.fault ≡ fault)) }
     ensures host { IsOk answer → IfErr result (λ refusal. (fault : HostFault) × F.from_gives fault refusal.fault

@@ -6,12 +6,12 @@ ghost use Rattle.sys_refusals.specs.Paths.{path_in, path_of, path_out};
 ghost use Rattle.sys_disk.specs.DiskCalls.{OpensToRead, FailsOnly, RefusesTaken, OpensInPlace, MakesPart, OpensThrough};
 ghost use Rattle.sys_disk.specs.DiskCalls.{CreatesOutput, FinishesOutput, LetsGo, LetsImageGo};
 ghost use Rattle.sys_disk.specs.Images.{is_file, OfImage, Leaves, EmptiesAt};
-ghost use Rattle.sys_disk.specs.InPlace.{IsAsLong, closed_part};
+ghost use Rattle.sys_disk.specs.InPlace.{closed_part};
 ghost use Rattle.sys_disk.specs.LeftOver.{IsNextLeft, path_with};
 ghost use Rattle.sys_disk.specs.Spools.{closed_spool, behind_clear};
 ghost use Rattle.sys_disk.specs.World.{World, OpenFiles, OpensFile, Creates, OnlyAt, Ends, SparesRest, ended};
 ghost use Rattle.sys_disk.specs.Counts.{added, call_of, failure_of, faults_through, memory_of, reads, writes};
-ghost use Rattle.sys_disk.specs.World.{KeepsBegun, SparesInUse, counting};
+ghost use Rattle.sys_disk.specs.World.{KeepsBegun, SparesInUse, counting, number_of};
 
 use crate::{ImageTo, Lasting, Late, NoMemory};
 use abt_io::{Input, Output, Overwrite, Partition, Source, Spool};
@@ -34,7 +34,8 @@ pub trait Measured {
 ///
 /// A clause under `IsTrue models` is about the content of files, and binds only a disk that models it. What was opened
 /// is given back: an output by `finish` or `give_up`, an input by `let_go` or `let_go_source`. So a disk counts the
-/// failures: each of its calls that failed, each fault of a device, and each refusal of memory.
+/// failures: each of its calls that failed, each fault of a device, and each refusal of memory. What is written has the
+/// number of its file, in its frame or its past. So what is given back is what is open.
 ///
 /// What is opened to be written is no block device that is in use, unless the run may write these. Otherwise the call
 /// fails, and changes no file.
@@ -66,7 +67,7 @@ pub trait Disk {
     /// What was opened.
     ghost held: { Self → OpenFiles };
 
-    /// Which paths lead to regular files, where an image can be overwritten.
+    /// Which paths lead to regular files. There an image can be overwritten.
     ghost is_over: { List ℕ → Bool };
 
     /// Which paths lead to where standard output goes.
@@ -144,7 +145,7 @@ pub trait Disk {
         part: Self::InPlace,
         place: FileArg<'a>,
     ) -> Result<bool, HostRefusal<'a>>
-        requires long { IsTrue models → IsAsLong (held self.old).part (Self.InPlace.content part) (world self.old) }
+        requires this { IsTrue models → (Self.InPlace.past part).file ≡ number_of (held self.old).part }
         ensures ended { IsTrue models → Ends (held self.old).part (Self.InPlace.content part) (world self.old)
             (world self.new) }
         ensures paths { IsTrue models → (world self.new).at ≡ (world self.old).at }
@@ -226,14 +227,16 @@ pub trait Disk {
     /// Creates or empties a file. `-` is a file of that name.
     fn plain<'a>(&mut self, place: FileArg<'a>) -> Result<Self::Onto, HostRefusal<'a>>
         requires one { IsTrue models → (held self.old).output ≡ None }
-        ensures { CreatesOutput models result (path_of place.entry) Self.Onto.written Self.Onto.write_faults
-            (held self.old) (held self.new) (world self.old) (world self.new) };
+        ensures { CreatesOutput models result (path_of place.entry) Self.Onto.written
+            (λ onto. (Self.Onto.write_frame onto).file) Self.Onto.write_faults (held self.old) (held self.new)
+            (world self.old) (world self.new) };
 
     /// Creates or empties the file of a raw image. `-` is standard output.
     fn raw<'a>(&mut self, place: FileArg<'a>) -> Result<Self::Onto, HostRefusal<'a>>
         requires one { IsTrue models → (held self.old).output ≡ None }
-        ensures { CreatesOutput models result (path_out place.entry) Self.Onto.written Self.Onto.write_faults
-            (held self.old) (held self.new) (world self.old) (world self.new) };
+        ensures { CreatesOutput models result (path_out place.entry) Self.Onto.written
+            (λ onto. (Self.Onto.write_frame onto).file) Self.Onto.write_faults (held self.old) (held self.new)
+            (world self.old) (world self.new) };
 
     /// Creates or empties the file of an image that has a magic. `-` is standard output. Where it is gathered, much of
     /// what it took may be buffered until its end. So that is for outputs that nobody waits for meanwhile.
@@ -247,7 +250,11 @@ pub trait Disk {
             (λ onto. Self.Onto.written onto ≡ [])) }
         ensures clean { IsTrue models → IfOk result (OfImage (λ file. Self.Image.Output.write_faults file ≡ 0)
             (λ onto. Self.Onto.write_faults onto ≡ 0)) }
-        ensures kind { IsTrue models → IfOk result (λ image. is_file image ≡ is_over (path_out place.entry)) }
+        ensures this { IsTrue models → IfOk result (OfImage
+            (λ file. (Self.Image.Output.write_frame file).file ≡ number_of (held self.new).output)
+            (λ onto. (Self.Onto.write_frame onto).file ≡ number_of (held self.new).output)) }
+        ensures kind { IsTrue models → IfOk result (λ image. IsTrue (is_over (path_out place.entry))
+            → IsTrue (is_file image)) }
         ensures created { IsTrue models → OnOk result (Creates (path_out place.entry) (held self.old) (held self.new)
             (world self.old) (world self.new)) }
         ensures kept { IsTrue models → IfErr result (λ refusal. held self.new ≡ counting (call_of refusal.fault)
@@ -265,12 +272,14 @@ pub trait Disk {
     /// where standard output goes. If that fails, its file begins with what it took, but for less than 65,536 bytes at
     /// the end of that.
     fn finish<'a>(&mut self, onto: Self::Onto, place: FileArg<'a>) -> Result<bool, HostRefusal<'a>>
+        requires this { IsTrue models → (Self.Onto.write_frame onto).file ≡ number_of (held self.old).output }
         ensures { FinishesOutput models result (on_output (path_out place.entry)) (Self.Onto.written onto)
             (writes (Self.Onto.write_faults onto)) (held self.old) (held self.new) (world self.old) (world self.new) };
 
     /// Closes the open output after the work before has failed. Its file holds what it took, unless a write failed, or
     /// the close did. Also then its file begins with what it took, but for less than 65,536 bytes at the end of that.
     fn give_up(&mut self, onto: Self::Onto)
+        requires this { IsTrue models → (Self.Onto.write_frame onto).file ≡ number_of (held self.old).output }
         ensures { IsTrue models → LetsGo (Self.Onto.written onto) (writes (Self.Onto.write_faults onto)) (held self.old)
             (held self.new) (world self.old) (world self.new) };
 
@@ -281,6 +290,8 @@ pub trait Disk {
         image: Self::Image,
         place: FileArg<'a>,
     ) -> Result<bool, HostRefusal<'a>>
+        requires this { IsTrue models → (Self.Image.Output.write_frame image).file
+            ≡ number_of (held self.old).output }
         ensures ended { IsTrue models → OnOk result (Ends (held self.old).output (Self.Image.Output.written image)
             (world self.old) (world self.new)) }
         ensures left { IsTrue models → OnErr result (Leaves (held self.old).output (Self.Image.Output.written image)
@@ -293,6 +304,8 @@ pub trait Disk {
     /// Closes the open image after the work before has failed. Its file holds what was written, or has no magic at its
     /// beginning.
     fn give_up_image(&mut self, image: Self::Image)
+        requires this { IsTrue models → (Self.Image.Output.write_frame image).file
+            ≡ number_of (held self.old).output }
         ensures { LetsImageGo models (Self.Image.Output.written image) (writes (Self.Image.Output.write_faults image))
             (held self.old) (held self.new) (world self.old) (world self.new) };
 

@@ -2,7 +2,7 @@
 
 ghost use Rattle.std.specs.Prelude.{◌≡◌, IsTrue, IsOk, IfOk, IfErr, OnOk, Ok, Some, is_ok, true};
 ghost use Rattle.sys_disk.specs.Counts.{call, writes};
-ghost use Rattle.sys_disk.specs.World.{Ends, EndsOutput, HasFailed, SparesRest, ended};
+ghost use Rattle.sys_disk.specs.World.{Ends, EndsOutput, HasFailed, SparesRest, ended, number_of};
 ghost use Rattle.sys_refusals.specs.Blamed.{TellsOf, input_of};
 ghost use Rattle.sys_refusals.specs.Paths.{path_out};
 ghost use Rattle.sys_refusals.specs.declared.refusal.HostFault.{HostFault};
@@ -20,6 +20,7 @@ pub fn ended<'a, D: Disk, T: Drop, F: Told + From<HostFault> + Drop>(
     output: FileArg<'a>,
     sides: Sides<'a>,
 ) -> Result<(T, bool), Refusal<'a, F>>
+    requires this { IsTrue D.models → (D.Onto.write_frame onto).file ≡ number_of (D.held disk.old).output }
     ensures done { IfOk result (λ end. answer ≡ Ok end.0) }
     ensures ended { IsTrue D.models → OnOk result (Ends (D.held disk.old).output (D.Onto.written onto)
         (D.world disk.old) (D.world disk.new)) }

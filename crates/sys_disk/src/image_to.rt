@@ -18,6 +18,7 @@ pub trait Late: Overwrite {
     /// Writes all that it took. If that fails, a write before the present call has failed.
     fn settle(&mut self) -> Result<(), DeviceFault>
         ensures kept { Self.written self.new ≡ Self.written self.old }
+        ensures frame { Self.write_frame self.new ≡ Self.write_frame self.old }
         ensures faults { Self.write_faults self.old ≤ Self.write_faults self.new }
         ensures cause { OnErr result (Self.write_faults self.old < Self.write_faults self.new) }
         ensures clean { OnOk result (Self.write_faults self.new ≡ Self.write_faults self.old) }
