@@ -1,5 +1,5 @@
 -- A target was given what its sink was given.
-use Rattle.std.specs.Prelude.{◌≡◌, ◌<◌, ◌≤◌, ℕ, List, [], ◌++◌, length, take}
+use Rattle.std.specs.Prelude.{◌≡◌, ◌<◌, ◌≤◌, ℕ, List, [], ◌++◌, Bool, true, length, take}
 use Rattle.std.specs.Prelude.{Result, IfOk, IfErr, OnOk, OnErr}
 use Rattle.std.specs.Io.{WritesAtMost}
 use Rattle.abt_io.specs.Count.{count_of}
@@ -19,6 +19,12 @@ given_to (Held held) = held.given.state.bytes
 abbrev pub Follows : {F : Type 0} {g : _} → Target F g → List ℕ → Type 0
 Follows target given = given_to target ≡ given
 
+-- its file may not begin with what it was given
+abbrev pub is_marred : {F : Type 0} {g : _} → Target F g → Bool
+is_marred (Stream stream) = stream.is_marred
+is_marred (Holes holes) = holes.is_marred
+is_marred (Held held) = true
+
 -- the system has all that it was given
 abbrev pub HoldsNothing : {F : Type 0} {g : _} → Target F g → Type 0
 HoldsNothing (Stream stream) = Unit {0}
@@ -28,6 +34,7 @@ HoldsNothing (Held held) = held.held.items ≡ []
 -- a target appends a prefix of these bytes to all that it was given, or nothing
 pub record PutsFront {E F : Type 0} {g : _} (r : Result ℕ E) (bytes : List ℕ) (old new : Target F g) : Type 0 where
   pub bound : WritesAtMost r bytes
+  pub still : is_marred new ≡ is_marred old
   pub taken : IfOk r (λ n. (given : List ℕ) → Follows old given → Follows new (given ++ take n bytes))
   pub kept : OnErr r ((given : List ℕ) → Follows old given → Follows new given)
 

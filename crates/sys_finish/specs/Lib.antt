@@ -1,3 +1,4 @@
 pub mod Ends
 pub mod Follows
 pub mod Given
+pub mod Gives

@@ -1,26 +1,29 @@
-//! An output that collects small writes. What it was given is what the system took, followed by its buffer.
+//! An output that collects small writes. What it was given is what the system took, followed by what is collected.
 
-ghost use Rattle.std.specs.Prelude.{◌≡◌, ◌+◌, false, IfOk, OnErr};
-ghost use Rattle.sys_finish.specs.Ends.{EndsWith};
+ghost use Rattle.std.specs.Prelude.{◌≡◌, ◌<◌, ◌+◌, false, IsTrue, IfOk, IfErr, OnErr, length, take, replicate};
+ghost use Rattle.abt_io.specs.Calls.{HasWritten};
+ghost use Rattle.abt_io.specs.Count.{count_of};
+ghost use Rattle.abt_io.specs.Frame.{writes_alone};
+ghost use Rattle.sys_disk.specs.World.{HasMost};
+ghost use Rattle.sys_finish.specs.Ends.{EndsWith, GivesUp};
+ghost use Rattle.sys_finish.specs.Follows.{is_marred};
 ghost use Rattle.sys_finish.specs.Given.{given_by_writer, PutsOver, SettlesWriter, LaysZeros};
-ghost use Rattle.sys_outputs.specs.Given.{LetsFileGo};
 
-use crate::sink::Sink;
+use crate::collecting::Collecting;
 use crate::target::Ended;
-use abt_io::{DeviceFault, Output, Tally};
-use std::io::{BufWriter, Write};
+use abt_io::{DeviceFault, Tally};
 use sys_file::SystemFile;
 
 /// A file, a pipe, a device or standard output, which is written from its beginning on.
 #[derive(Drop)]
 pub struct Gathered<F: SystemFile + Drop> {
-    pub writer: BufWriter<Sink<F>>,
+    pub writer: Collecting<F>,
     pub calls: Tally,
     pub faults: Tally,
 }
 
 impl<F: SystemFile + Drop> Gathered<F> {
-    pub(crate) fn new(writer: BufWriter<Sink<F>>) -> Gathered<F>
+    pub(crate) fn new(writer: Collecting<F>) -> Gathered<F>
         ensures { result.writer ≡ writer }
     {
         Gathered {
@@ -32,10 +35,60 @@ impl<F: SystemFile + Drop> Gathered<F> {
 
     /// Why its last call failed, where one did.
     pub fn why(&self) -> Option<i32> {
-        self.writer.get_ref().why
+        self.writer.sink.why
     }
 
-    /// Sends the buffer, and overwrites the bytes at an offset with a prefix of these. All of these have to fit there.
+    /// Takes a prefix of these bytes, as an output does.
+    #[inline(never)]
+    pub(crate) fn take(&mut self, bytes: &[u8]) -> Result<usize, DeviceFault>
+        ensures wrote { HasWritten (λ o. given_by_writer o.writer) (λ _. false) (λ o. o.calls.number)
+            (λ o. o.faults.number) (λ _. 0) (λ _. writes_alone) result self.old self.new (length bytes.now)
+            (take (count_of result) bytes.now) }
+        ensures still { is_marred self.new.writer.sink.target ≡ is_marred self.old.writer.sink.target }
+    {
+        self.calls.add(1);
+        match self.writer.write(bytes) {
+            Ok(n) if n > 0 || bytes.is_empty() => Ok(n),
+            _ => {
+                self.faults.add(1);
+                Err(DeviceFault::Failed)
+            }
+        }
+    }
+
+    /// Takes at most `n` zeros, as an output does. Many of them may be a hole.
+    pub(crate) fn take_zeros(&mut self, n: u64, zeros: &[u8]) -> Result<u64, DeviceFault>
+        requires some { 0 < length zeros.now }
+        requires zeros { zeros.now ≡ replicate (length zeros.now) 0 }
+        ensures wrote { HasWritten (λ o. given_by_writer o.writer) (λ _. false) (λ o. o.calls.number)
+            (λ o. o.faults.number) (λ _. 0) (λ _. writes_alone) result self.old self.new n
+            (replicate (count_of result) 0) }
+        ensures still { is_marred self.new.writer.sink.target ≡ is_marred self.old.writer.sink.target }
+    {
+        if self.writer.sink.takes_hole(n) {
+            match lay_through(&mut self.writer, n) {
+                Ok(laid) => {
+                    if laid > 0 {
+                        self.calls.add(1);
+                        return Ok(laid);
+                    }
+                }
+                Err(fault) => {
+                    self.calls.add(1);
+                    self.faults.add(1);
+                    return Err(fault);
+                }
+            }
+        }
+        let some = n.min(zeros.len() as u64) as usize;
+        match self.take(&zeros[..some]) {
+            Ok(k) => Ok(k as u64),
+            Err(fault) => Err(fault),
+        }
+    }
+
+    /// Sends what is collected, and overwrites the bytes at an offset with a prefix of these. All of these have to fit
+    /// there.
     pub(crate) fn put(&mut self, at: u64, bytes: &[u8]) -> Result<usize, DeviceFault>
         ensures puts { PutsOver result at bytes.now self.old.writer self.new.writer }
         ensures calls { self.new.calls.number ≡ self.old.calls.number + 1 }
@@ -57,120 +110,74 @@ impl<F: SystemFile + Drop> Gathered<F> {
         ensures settles { SettlesWriter result self.old.writer self.new.writer }
         ensures faults { self.new.faults ≡ self.old.faults }
     {
-        self.writer.get_mut().settle()
+        self.writer.sink.settle()
     }
 
-    /// Sends the buffer, after the work before has failed. Returns its file, and whether that holds all that was given.
+    /// Sends what is collected, after the work before has failed. Returns its file, and whether that holds all that was
+    /// given.
     pub(crate) fn give_up(self) -> (F, bool)
-        ensures { LetsFileGo F.models (F.stands result.0) result.1 (given_by_writer self.writer) }
+        ensures { GivesUp F.models (F.stands result.0) result.1 (is_marred self.writer.sink.target)
+            (given_by_writer self.writer) }
     {
         given_up(self.writer)
     }
 
-    /// Sends the buffer, and syncs the output if that is wanted. Returns all that it was given, and the file that holds
-    /// that, where there is one. On a failure it returns the number of the system's error; then the buffer is sent as
-    /// far as possible.
-    pub(crate) fn finish(self, is_synced: bool) -> Result<Ended<F>, Option<i32>>
-        ensures { IfOk result (EndsWith F.models F.stands F.past is_synced (given_by_writer self.writer)) }
+    /// Sends what is collected, and syncs the output if that is wanted. Returns all that it was given, and the file
+    /// that holds that. On a failure what is collected is sent as far as possible. Then it returns the file as it is,
+    /// and the number of the system's error.
+    pub(crate) fn finish(self, is_synced: bool) -> Result<Ended<F>, (F, Option<i32>)>
+        ensures ends { IfOk result (EndsWith F.models F.stands F.past is_synced (given_by_writer self.writer)) }
+        ensures most { IsTrue F.models → is_marred self.writer.sink.target ≡ false → IfErr result (λ refused.
+            HasMost (given_by_writer self.writer) (F.stands refused.0)) }
     {
-        match self.writer.into_inner() {
-            Ok(sink) => sink.end(is_synced),
-            Err(error) => Err(sent_again(error.into_inner())),
+        let mut writer = self.writer;
+        if writer.send().is_err() {
+            let why = writer.sink.why;
+            let (file, _) = given_up(writer);
+            return Err((file, why));
         }
+        let Collecting { sink, .. } = writer;
+        sink.end(is_synced)
     }
 }
 
-// Sends the buffer of a writer, as far as possible, and returns why its last call had failed.
-fn sent_again<F: SystemFile + Drop>(writer: BufWriter<Sink<F>>) -> Option<i32> {
-    let why = writer.get_ref().why;
-    let _ = given_up(writer);
-    why
-}
-
-// Sends the buffer of a writer, as far as possible. What could not be sent is tried once more. Returns its file, and
-// whether that holds all that was given.
-fn given_up<F: SystemFile + Drop>(writer: BufWriter<Sink<F>>) -> (F, bool)
-    ensures { LetsFileGo F.models (F.stands result.0) result.1 (given_by_writer writer) }
+// Sends what is collected, as far as possible. What could not be sent is tried once more. Returns its file, and whether
+// that holds all that was given.
+fn given_up<F: SystemFile + Drop>(writer: Collecting<F>) -> (F, bool)
+    ensures { GivesUp F.models (F.stands result.0) result.1 (is_marred writer.sink.target) (given_by_writer writer) }
 {
     let mut writer = writer;
-    let _ = writer.flush();
-    let _ = writer.get_mut().settle();
-    let is_sent = writer.flush().is_ok();
-    let (sink, _) = writer.into_parts();
+    let _ = writer.send();
+    let _ = writer.sink.settle();
+    let is_sent = writer.send().is_ok();
+    let Collecting { sink, .. } = writer;
     let (file, is_whole) = sink.let_go();
     (file, is_sent && is_whole)
 }
 
-// Sends the buffer of a writer, and writes at an offset.
+// Sends what is collected, and writes at an offset.
 fn put_through<F: SystemFile + Drop>(
-    writer: &mut BufWriter<Sink<F>>,
+    writer: &mut Collecting<F>,
     at: u64,
     bytes: &[u8],
 ) -> Result<usize, DeviceFault>
     ensures { PutsOver result at bytes.now writer.old writer.new }
 {
-    if writer.flush().is_err() {
+    if writer.send().is_err() {
         return Err(DeviceFault::Failed);
     }
-    writer.get_mut().put_at(at, bytes)
+    writer.sink.put_at(at, bytes)
 }
 
-// Sends the buffer of a writer, and extends its file by a hole. Returns how many zeros that gave it.
+// Sends what is collected, and extends the file by a hole. Returns how many zeros that gave it.
 fn lay_through<F: SystemFile + Drop>(
-    writer: &mut BufWriter<Sink<F>>,
+    writer: &mut Collecting<F>,
     n: u64,
 ) -> Result<u64, DeviceFault>
     ensures { LaysZeros result n writer.old writer.new }
 {
-    if writer.flush().is_err() {
+    if writer.send().is_err() {
         return Err(DeviceFault::Failed);
     }
-    Ok(writer.get_mut().lay_hole(n))
-}
-
-impl<F: SystemFile + Drop> Output for Gathered<F> {
-    ghost written = { λ o. given_by_writer o.writer };
-
-    ghost is_full = { λ _. false };
-
-    ghost writes = { λ o. o.calls.number };
-
-    ghost write_faults = { λ o. o.faults.number };
-
-    ghost full_faults = { λ _. 0 };
-
-    #[inline(never)]
-    fn write(&mut self, bytes: &[u8]) -> Result<usize, DeviceFault> {
-        self.calls.add(1);
-        match self.writer.write(bytes) {
-            Ok(n) if n > 0 || bytes.is_empty() => Ok(n),
-            _ => {
-                self.faults.add(1);
-                Err(DeviceFault::Failed)
-            }
-        }
-    }
-
-    fn write_zeros(&mut self, n: u64, zeros: &[u8]) -> Result<u64, DeviceFault> {
-        if self.writer.get_ref().takes_hole(n) {
-            match lay_through(&mut self.writer, n) {
-                Ok(laid) => {
-                    if laid > 0 {
-                        self.calls.add(1);
-                        return Ok(laid);
-                    }
-                }
-                Err(fault) => {
-                    self.calls.add(1);
-                    self.faults.add(1);
-                    return Err(fault);
-                }
-            }
-        }
-        let some = n.min(zeros.len() as u64) as usize;
-        match self.write(&zeros[..some]) {
-            Ok(k) => Ok(k as u64),
-            Err(fault) => Err(fault),
-        }
-    }
+    Ok(writer.sink.lay_hole(n))
 }

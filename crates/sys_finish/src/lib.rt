@@ -6,16 +6,20 @@
 //! | file | has |
 //! |---|---|
 //! | `target.rt`, `sink.rt` | where bytes go, with holes for zeros, or a buffer; a log of all that was given |
-//! | `gathered.rt` | small writes that are written together |
+//! | `collecting.rt`, `sending.rt` | a sink whose small writes are collected, and how they are sent |
+//! | `gathered.rt` | an output that collects small writes |
 //! | `output_file.rt`, `image_file.rt` | an output, and the output of an image with a magic; finishing them |
 #![tactic(auto)]
 
+mod collecting;
 mod gathered;
 mod image_file;
 mod output_file;
+mod sending;
 mod sink;
 mod target;
 
+pub use collecting::Collecting;
 pub use gathered::Gathered;
 pub use image_file::ImageFile;
 pub use output_file::{Finished, OutputFile};

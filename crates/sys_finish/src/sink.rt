@@ -1,18 +1,19 @@
 //! Where bytes go, and a log of all that was given.
 
-ghost use Rattle.std.specs.Prelude.{◌≡◌, [], Some, IsTrue, take, IfOk, OnErr};
+ghost use Rattle.std.specs.Prelude.{◌≡◌, ◌≤◌, [], IsTrue, false, length, take, IfOk, IfErr, OnErr};
 ghost use Rattle.abt_io.specs.Frame.{nothing_logged};
 ghost use Rattle.abt_io.specs.Over.{and_put};
 ghost use Rattle.sys_finish.specs.Ends.{EndsWith};
-ghost use Rattle.sys_finish.specs.Follows.{Follows, SettlesTarget, StartsAt};
-ghost use Rattle.sys_finish.specs.Follows.{WritesOrFails};
+ghost use Rattle.sys_file.specs.File.{Begins};
+ghost use Rattle.sys_finish.specs.Follows.{Follows, SettlesTarget, StartsAt, WritesOrFails, is_marred};
+ghost use Rattle.sys_finish.specs.Gives.{GivesFront, GivesMost};
 ghost use Rattle.sys_outputs.specs.Given.{LaysHole, LetsFileGo};
 
 use crate::target::{Ended, Target};
 use abt_io::{DeviceFault, Log};
 use std::alloc::Global;
 use std::io;
-use std::io::Write;
+use std::io::ErrorKind;
 use sys_file::SystemFile;
 use sys_outputs::{HeldFile, HoleFile, Room, StreamFile};
 
@@ -31,7 +32,8 @@ impl<F: SystemFile + Drop> Sink<F> {
     pub fn stream(file: F) -> Sink<F>
         requires empty { IsTrue F.models → F.stands file ≡ [] }
         requires front { IsTrue F.models → F.place file ≡ 0 }
-        ensures { result.log.state ≡ nothing_logged }
+        ensures given { result.log.state ≡ nothing_logged }
+        ensures front { is_marred result.target ≡ false }
     {
         Sink::of(Target::Stream(StreamFile::new(file)))
     }
@@ -39,7 +41,8 @@ impl<F: SystemFile + Drop> Sink<F> {
     /// An empty regular file, in which zeros may be holes.
     pub fn holes(file: F) -> Sink<F>
         requires { IsTrue F.models → F.stands file ≡ [] }
-        ensures { result.log.state ≡ nothing_logged }
+        ensures given { result.log.state ≡ nothing_logged }
+        ensures front { is_marred result.target ≡ false }
     {
         Sink::of(Target::Holes(HoleFile::new(file)))
     }
@@ -62,6 +65,39 @@ impl<F: SystemFile + Drop> Sink<F> {
             why: None,
             log: Log::new(),
         }
+    }
+
+    /// Takes some of these bytes, by one write.
+    pub(crate) fn put(&mut self, bytes: &[u8]) -> io::Result<usize>
+        ensures { GivesFront result bytes.now self.old.log.state self.new.log.state (is_marred self.old.target)
+            (is_marred self.new.target) }
+    {
+        match self.target.put(bytes) {
+            Ok(n) => {
+                self.log.append(&bytes[..n]);
+                Ok(n)
+            }
+            Err(error) => {
+                self.why = error.raw_os_error();
+                Err(error)
+            }
+        }
+    }
+
+    /// Takes all of these bytes, by as many writes as that needs. Returns how many it took.
+    pub(crate) fn put_all(&mut self, bytes: &[u8]) -> (usize, io::Result<()>)
+        ensures { GivesMost result.0 result.1 bytes.now self.old.log.state self.new.log.state
+            (is_marred self.old.target) (is_marred self.new.target) }
+    {
+        let mut done = 0;
+        while done < bytes.len() {
+            match self.put(&bytes[done..]) {
+                Ok(0) => return (done, Err(io::Error::from(ErrorKind::WriteZero))),
+                Ok(n) => done += n,
+                Err(error) => return (done, Err(error)),
+            }
+        }
+        (done, Ok(()))
     }
 
     /// Overwrites the bytes at an offset of a file with a prefix of these bytes.
@@ -90,7 +126,8 @@ impl<F: SystemFile + Drop> Sink<F> {
 
     /// Extends the file by a hole of at most this many zeros, and returns how many: 0 if that fails.
     pub(crate) fn lay_hole(&mut self, n: u64) -> u64
-        ensures { LaysHole n result self.old.log.state self.new.log.state }
+        ensures lays { LaysHole n result self.old.log.state self.new.log.state }
+        ensures still { is_marred self.new.target ≡ is_marred self.old.target }
     {
         let laid = self.target.lay_hole(n);
         self.log.append_zeros(laid);
@@ -99,7 +136,8 @@ impl<F: SystemFile + Drop> Sink<F> {
 
     /// Writes all that is buffered.
     pub(crate) fn settle(&mut self) -> Result<(), DeviceFault>
-        ensures { SettlesTarget result self.new.target self.old.log.state self.new.log.state }
+        ensures settles { SettlesTarget result self.new.target self.old.log.state self.new.log.state }
+        ensures still { is_marred self.new.target ≡ is_marred self.old.target }
     {
         match self.target.settle() {
             Ok(()) => Ok(()),
@@ -112,40 +150,21 @@ impl<F: SystemFile + Drop> Sink<F> {
 
     /// The file as it is, and whether it holds all that was given.
     pub(crate) fn let_go(self) -> (F, bool)
-        ensures { LetsFileGo F.models (F.stands result.0) result.1 self.log.state.bytes }
+        ensures { LetsFileGo F.models (F.stands result.0) result.1 (is_marred self.target) self.log.state.bytes }
     {
         self.target.let_go()
     }
 
     /// Writes all that is buffered, and syncs it if that is wanted. Returns all that it was given, and its file. On a
-    /// failure it returns the number of the system's error: then its file is closed. Standard output stays open.
-    pub(crate) fn end(self, is_synced: bool) -> Result<Ended<F>, Option<i32>>
-        ensures { IfOk result (EndsWith F.models F.stands F.past is_synced self.log.state.bytes) }
+    /// failure it returns the file as it is, and the number of the system's error.
+    pub(crate) fn end(self, is_synced: bool) -> Result<Ended<F>, (F, Option<i32>)>
+        ensures ends { IfOk result (EndsWith F.models F.stands F.past is_synced self.log.state.bytes) }
+        ensures front { IsTrue F.models → is_marred self.target ≡ false → IfErr result (λ refused. Begins
+            self.log.state.bytes (F.stands refused.0)) }
     {
         match self.target.end(self.log, is_synced) {
             Ok(ended) => Ok(ended),
-            Err(error) => Err(error.raw_os_error()),
+            Err((file, error)) => Err((file, error.raw_os_error())),
         }
-    }
-}
-
-impl<F: SystemFile + Drop> Write for Sink<F> {
-    ghost contents = { λ s. Some s.log.state.bytes };
-
-    fn write(&mut self, bytes: &[u8]) -> io::Result<usize> {
-        match self.target.put(bytes) {
-            Ok(n) => {
-                self.log.append(&bytes[..n]);
-                Ok(n)
-            }
-            Err(error) => {
-                self.why = error.raw_os_error();
-                Err(error)
-            }
-        }
-    }
-
-    fn flush(&mut self) -> io::Result<()> {
-        Ok(())
     }
 }

@@ -1,9 +1,10 @@
 //! The targets of writes: an output that is written from its beginning on, a file with holes for its zeros, or a file
 //! with a buffer.
 
-ghost use Rattle.std.specs.Prelude.{◌≡◌, ◌≤◌, ◌++◌, ℕ, List, IsTrue, replicate, IfOk, OnOk};
+ghost use Rattle.std.specs.Prelude.{◌≡◌, ◌≤◌, ◌++◌, ℕ, List, IsTrue, false, replicate, IfOk, IfErr, OnOk};
+ghost use Rattle.sys_file.specs.File.{Begins};
 ghost use Rattle.sys_finish.specs.Ends.{EndsWith};
-ghost use Rattle.sys_finish.specs.Follows.{Follows, HoldsNothing, PutsFront, PutsBelow};
+ghost use Rattle.sys_finish.specs.Follows.{Follows, HoldsNothing, PutsFront, PutsBelow, is_marred};
 ghost use Rattle.sys_outputs.specs.Given.{LetsFileGo};
 
 use abt_io::Log;
@@ -70,6 +71,7 @@ impl<F: SystemFile + Drop> Target<F> {
     pub(crate) fn lay_hole(&mut self, n: u64) -> u64
         ensures within { result ≤ n }
         ensures laid { (given : List ℕ) → Follows self.old given → Follows self.new (given ++ replicate result 0) }
+        ensures still { is_marred self.new ≡ is_marred self.old }
     {
         match self {
             Target::Holes(holes) => holes.lay_hole(n),
@@ -82,6 +84,7 @@ impl<F: SystemFile + Drop> Target<F> {
     pub(crate) fn settle(&mut self) -> io::Result<()>
         ensures none { OnOk result (HoldsNothing self.new) }
         ensures kept { (given : List ℕ) → Follows self.old given → Follows self.new given }
+        ensures still { is_marred self.new ≡ is_marred self.old }
     {
         match self {
             Target::Stream(_) => Ok(()),
@@ -92,7 +95,8 @@ impl<F: SystemFile + Drop> Target<F> {
 
     /// The file as it is, and whether it holds all that it was given.
     pub(crate) fn let_go(self) -> (F, bool)
-        ensures { (given : List ℕ) → Follows self given → LetsFileGo F.models (F.stands result.0) result.1 given }
+        ensures { (given : List ℕ) → Follows self given → LetsFileGo F.models (F.stands result.0) result.1 (is_marred self)
+            given }
     {
         match self {
             Target::Stream(stream) => stream.let_go(),
@@ -102,23 +106,25 @@ impl<F: SystemFile + Drop> Target<F> {
     }
 
     /// Writes all that is buffered, and syncs it if that is wanted. Returns all that it was given, which is this log,
-    /// and its file.
-    pub(crate) fn end(self, given: Log, is_synced: bool) -> io::Result<Ended<F>>
+    /// and its file. On a failure it returns the file as it is.
+    pub(crate) fn end(self, given: Log, is_synced: bool) -> Result<Ended<F>, (F, io::Error)>
         requires { Follows self given.state.bytes }
-        ensures { IfOk result (EndsWith F.models F.stands F.past is_synced given.state.bytes) }
+        ensures ends { IfOk result (EndsWith F.models F.stands F.past is_synced given.state.bytes) }
+        ensures front { IsTrue F.models → is_marred self ≡ false → IfErr result (λ refused. Begins given.state.bytes
+            (F.stands refused.0)) }
     {
         match self {
             Target::Stream(stream) => match stream.end() {
                 Ok(file) => end_file(file, given, is_synced),
-                Err(error) => Err(error),
+                Err(refused) => Err(refused),
             },
             Target::Held(held) => match held.end() {
                 Ok(file) => end_file(file, given, is_synced),
-                Err(error) => Err(error),
+                Err(refused) => Err(refused),
             },
             Target::Holes(holes) => match holes.end() {
                 Ok(file) => end_file(file, given, is_synced),
-                Err(error) => Err(error),
+                Err(refused) => Err(refused),
             },
         }
     }
@@ -126,13 +132,18 @@ impl<F: SystemFile + Drop> Target<F> {
 
 // The end of a file that holds what was given.
 #[inline(never)]
-fn end_file<F: SystemFile + Drop>(file: F, given: Log, is_synced: bool) -> io::Result<Ended<F>>
+fn end_file<F: SystemFile + Drop>(
+    file: F,
+    given: Log,
+    is_synced: bool,
+) -> Result<Ended<F>, (F, io::Error)>
     requires { IsTrue F.models → F.stands file ≡ given.state.bytes }
-    ensures { IfOk result (EndsWith F.models F.stands F.past is_synced given.state.bytes) }
+    ensures ends { IfOk result (EndsWith F.models F.stands F.past is_synced given.state.bytes) }
+    ensures same { IsTrue F.models → IfErr result (λ refused. F.stands refused.0 ≡ given.state.bytes) }
 {
     let mut file = file;
     if is_synced && let Err(error) = file.sync() {
-        return Err(error);
+        return Err((file, error));
     }
     Ok(Ended { sent: given, file })
 }

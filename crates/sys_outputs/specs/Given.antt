@@ -4,6 +4,7 @@ use Rattle.std.specs.Io.{WritesAtMost}
 use Rattle.abt_io.specs.Count.{count_of}
 use Rattle.abt_io.specs.Frame.{Logged, and_bytes}
 use Rattle.abt_io.specs.Over.{and_put}
+use Rattle.sys_file.specs.File.{Begins}
 
 -- a prefix of these bytes is appended to all that it was given, or nothing is
 pub record PutsBehind {E : Type 0} (r : Result ℕ E) (bytes : List ℕ) (log log' : Logged) : Type 0 where
@@ -38,6 +39,7 @@ pub record StaysGiven (log log' : Logged) (used used' : ℕ) (failed failed' : B
   pub same_used : used' ≡ used
   pub same_failed : failed' ≡ failed
 
--- the file holds all that it was given, if that is returned
-abbrev pub LetsFileGo : Bool → List ℕ → Bool → List ℕ → Type 0
-LetsFileGo models stands is_whole given = IsTrue models → IsTrue is_whole → stands ≡ given
+-- The file holds all that it was given, if that is returned. It begins with that, unless it may be marred.
+pub record LetsFileGo (models : Bool) (stands : List ℕ) (is_whole is_marred : Bool) (given : List ℕ) : Type 0 where
+  pub whole : IsTrue models → IsTrue is_whole → stands ≡ given
+  pub front : IsTrue models → is_marred ≡ false → Begins given stands

@@ -5,7 +5,7 @@
 //! before it. A header is taken back if not all of those bytes were written. `end` fails for a file of this kind. It
 //! also fails where a write of many bytes failed, or one over bytes that the file was given.
 
-ghost use Rattle.std.specs.Prelude.{◌≡◌, ◌<◌, ◌≤◌, ◌+◌, ◌^◌, [], false, IsTrue, length, IfOk, OnOk, OnErr};
+ghost use Rattle.std.specs.Prelude.{◌≡◌, ◌<◌, ◌≤◌, ◌+◌, ◌^◌, [], true, false, IsTrue, length, IfOk, OnOk, OnErr};
 ghost use Rattle.abt_io.specs.Frame.{nothing_logged, and_bytes};
 ghost use Rattle.abt_io.specs.Over.{and_put};
 ghost use Rattle.sys_outputs.specs.Given.{LetsFileGo, PutsBehind, PutsFrom, TakesOrKeeps};
@@ -250,24 +250,24 @@ impl<F: SystemFile + Drop> HeldFile<F> {
     }
 
     /// The file, if it took all that was given. If it did not, the buffered bytes are sent once more, as far as
-    /// possible.
-    pub fn end(self) -> io::Result<F>
+    /// possible, and it returns the file as it is.
+    pub fn end(self) -> Result<F, (F, io::Error)>
         ensures { IsTrue F.models → IfOk result (λ file. F.stands file ≡ self.given.state.bytes) }
     {
         let mut held = self;
         if let Err(error) = held.settle() {
             let _ = held.settle();
-            return Err(error);
+            return Err((held.file, error));
         }
         if held.is_failed {
-            return Err(io::Error::from(ErrorKind::WriteZero));
+            return Err((held.file, io::Error::from(ErrorKind::WriteZero)));
         }
         Ok(held.file)
     }
 
     /// The file as it is, and whether it holds all that was given.
     pub fn let_go(self) -> (F, bool)
-        ensures { LetsFileGo F.models (F.stands result.0) result.1 self.given.state.bytes }
+        ensures { LetsFileGo F.models (F.stands result.0) result.1 true self.given.state.bytes }
     {
         let is_whole = !self.is_failed && self.held.is_empty();
         (self.file, is_whole)

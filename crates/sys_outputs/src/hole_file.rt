@@ -2,10 +2,10 @@
 //!
 //! A hole is made by a change of the file's length, after all that it was given. Where that fails, or a write does, any
 //! bytes may be there. They are truncated before the next hole, and at the end. Where a write over given bytes failed,
-//! `end` fails.
+//! `end` fails. Else the file always begins with what it was given.
 
 ghost use Rattle.std.specs.Prelude.{◌≡◌, ◌<◌, ◌≤◌, ◌+◌, ◌^◌, [], false, IsTrue, length, replicate, max};
-ghost use Rattle.std.specs.Prelude.{IfOk, OnOk};
+ghost use Rattle.std.specs.Prelude.{IfOk, IfErr, OnOk};
 ghost use Rattle.abt_io.specs.Frame.{nothing_logged, and_bytes};
 ghost use Rattle.sys_file.specs.File.{Begins};
 ghost use Rattle.sys_outputs.specs.Given.{LetsFileGo, PutsBehind, PutsFrom, LaysHole, StaysGiven};
@@ -27,12 +27,12 @@ pub struct HoleFile<F: SystemFile + Drop> {
     /// Up to this offset any bytes may follow them, because a call failed.
     stale: u64,
     /// A write failed over bytes that it was given.
-    is_failed: bool,
+    pub is_marred: bool,
     /// All that it was given.
     pub given: Log,
     ghost place: { length given.state.bytes ≡ used },
     ghost reaches: { IsTrue F.models → used ≤ length (F.stands file) },
-    ghost stands: { IsTrue F.models → is_failed ≡ false → Begins given.state.bytes (F.stands file) },
+    ghost stands: { IsTrue F.models → is_marred ≡ false → Begins given.state.bytes (F.stands file) },
     ghost ends: { IsTrue F.models → length (F.stands file) ≤ max stale used },
 }
 
@@ -40,13 +40,14 @@ impl<F: SystemFile + Drop> HoleFile<F> {
     /// The file is empty.
     pub fn new(file: F) -> HoleFile<F>
         requires { IsTrue F.models → F.stands file ≡ [] }
-        ensures { result.given.state ≡ nothing_logged }
+        ensures given { result.given.state ≡ nothing_logged }
+        ensures marred { result.is_marred ≡ false }
     {
         HoleFile {
             file,
             used: 0,
             stale: 0,
-            is_failed: false,
+            is_marred: false,
             given: Log::new(),
         }
     }
@@ -54,7 +55,8 @@ impl<F: SystemFile + Drop> HoleFile<F> {
     /// Takes some of these bytes, by one write after all that it was given. Zeros become a hole, if the file can have
     /// one.
     pub fn put(&mut self, bytes: &[u8]) -> io::Result<usize>
-        ensures { PutsBehind result bytes.now self.old.given.state self.new.given.state }
+        ensures puts { PutsBehind result bytes.now self.old.given.state self.new.given.state }
+        ensures marred { self.new.is_marred ≡ self.old.is_marred }
     {
         if bytes.len() as u64 > u64::MAX - self.used {
             return Err(io::Error::from(ErrorKind::InvalidInput));
@@ -78,7 +80,8 @@ impl<F: SystemFile + Drop> HoleFile<F> {
     /// Extends the file by this many zeros at once, or if it cannot be that long by half as many, and so on. Returns by
     /// how many: 0 if not even by a page.
     pub fn lay_hole(&mut self, n: u64) -> u64
-        ensures { LaysHole n result self.old.given.state self.new.given.state }
+        ensures lays { LaysHole n result self.old.given.state self.new.given.state }
+        ensures marred { self.new.is_marred ≡ self.old.is_marred }
     {
         let mut some = n;
         while some >= PAGE {
@@ -96,6 +99,7 @@ impl<F: SystemFile + Drop> HoleFile<F> {
         ensures grown { IsTrue result → self.new.given.state ≡ and_bytes self.old.given.state (replicate n 0) }
         ensures kept { result ≡ false → self.new.given.state ≡ self.old.given.state }
         ensures used { result ≡ false → self.new.used ≡ self.old.used }
+        ensures marred { self.new.is_marred ≡ self.old.is_marred }
     {
         if self.cut_off().is_err() {
             return false;
@@ -114,7 +118,7 @@ impl<F: SystemFile + Drop> HoleFile<F> {
     fn cut_off(&mut self) -> io::Result<()>
         ensures cut { OnOk result (self.new.stale ≤ self.new.used) }
         ensures keeps { StaysGiven self.old.given.state self.new.given.state self.old.used self.new.used
-            self.old.is_failed self.new.is_failed }
+            self.old.is_marred self.new.is_marred }
     {
         if self.stale <= self.used {
             return Ok(());
@@ -142,31 +146,33 @@ impl<F: SystemFile + Drop> HoleFile<F> {
                 Ok(n)
             }
             Err(error) => {
-                self.is_failed = true;
+                self.is_marred = true;
                 Err(error.raw_os_error())
             }
         }
     }
 
-    /// The file, which holds all that was given and nothing after it.
-    pub fn end(self) -> io::Result<F>
-        ensures { IsTrue F.models → IfOk result (λ file. F.stands file ≡ self.given.state.bytes) }
+    /// The file, which holds all that was given and nothing after it. On a failure it returns the file as it is.
+    pub fn end(self) -> Result<F, (F, io::Error)>
+        ensures whole { IsTrue F.models → IfOk result (λ file. F.stands file ≡ self.given.state.bytes) }
+        ensures front { IsTrue F.models → self.is_marred ≡ false → IfErr result (λ refused. Begins
+            self.given.state.bytes (F.stands refused.0)) }
     {
         let mut ended = self;
-        if ended.is_failed {
-            return Err(io::Error::from(ErrorKind::WriteZero));
+        if ended.is_marred {
+            return Err((ended.file, io::Error::from(ErrorKind::WriteZero)));
         }
         match ended.cut_off() {
             Ok(()) => Ok(ended.file),
-            Err(error) => Err(error),
+            Err(error) => Err((ended.file, error)),
         }
     }
 
     /// The file as it is, and whether it holds all that was given and nothing after it.
     pub fn let_go(self) -> (F, bool)
-        ensures { LetsFileGo F.models (F.stands result.0) result.1 self.given.state.bytes }
+        ensures { LetsFileGo F.models (F.stands result.0) result.1 self.is_marred self.given.state.bytes }
     {
-        let is_whole = !self.is_failed && self.stale <= self.used;
+        let is_whole = !self.is_marred && self.stale <= self.used;
         (self.file, is_whole)
     }
 }

@@ -65,6 +65,7 @@ returns-then-is_err g c = record {
   grown = λ yes. absurd (false≢true yes);
   kept = λ no. c.cut_off.ensures.keeps.given;
   used = λ no. c.cut_off.ensures.keeps.same_used;
+  marred = c.cut_off.ensures.keeps.same_failed;
 }
 
 pub returns-then-is_err-2 : goal.returns-then-is_err-2
@@ -72,6 +73,7 @@ returns-then-is_err-2 g c = record {
   grown = λ yes. absurd (false≢true yes);
   kept = λ no. c.cut_off.ensures.keeps.given;
   used = λ no. c.cut_off.ensures.keeps.same_used;
+  marred = c.cut_off.ensures.keeps.same_failed;
 }
 
 pub returns : goal.returns
@@ -80,4 +82,5 @@ returns g c = record {
       c.append_zeros.ensures ∙ ap (λ (l : Logged). and_bytes l (replicate c.args.n 0)) c.cut_off.ensures.keeps.given;
   kept = λ no. absurd (true≢false no);
   used = λ no. absurd (true≢false no);
+  marred = c.cut_off.ensures.keeps.same_failed;
 }

@@ -50,18 +50,24 @@ invariant_of-self-in-Err g c =
     }
 
 pub returns-then-bytes-self : goal.returns-then-bytes-self
-returns-then-bytes-self g c = record { bound = tt; progress = tt; taken = tt; kept = refl }
+returns-then-bytes-self g c = record {
+  puts = record { bound = tt; progress = tt; taken = tt; kept = refl };
+  marred = refl;
+}
 
 pub returns-then-grows : goal.returns-then-grows
 returns-then-grows g c =
     let x = c.args.bytes.now in
     let all : take (length x) x ≡ x = take_all (length x) x (omega arith) in
     record {
-      bound = omega arith;
-      progress = λ some. some;
-      taken = c.if-grows.ensures.grown refl
-          ∙ ap (and_bytes c.args.self.now.given.state) (sym (all ∙ c.if-is_zero.ensures refl));
-      kept = tt;
+      puts = record {
+        bound = omega arith;
+        progress = λ some. some;
+        taken = c.if-grows.ensures.grown refl
+            ∙ ap (and_bytes c.args.self.now.given.state) (sym (all ∙ c.if-is_zero.ensures refl));
+        kept = tt;
+      };
+      marred = c.if-grows.ensures.marred;
     }
 
 pub returns-in-Ok : goal.returns-in-Ok
@@ -73,10 +79,16 @@ returns-in-Ok g c =
       | else-is_zero-via-else-is_zero w ↦ rw w.self-is refl
     ] in
     record {
-      bound = c.in-Ok.ensures.writes.within;
-      progress = c.in-Ok.ensures.progress;
-      taken = c.append.ensures ∙ ap (λ (l : Logged). and_bytes l x) same;
-      kept = tt;
+      puts = record {
+        bound = c.in-Ok.ensures.writes.within;
+        progress = c.in-Ok.ensures.progress;
+        taken = c.append.ensures ∙ ap (λ (l : Logged). and_bytes l x) same;
+        kept = tt;
+      };
+      marred = elim c.else-is_zero.branch [
+        | else-is_zero-via-then-is_zero+else-grows w ↦ rw w.self-is w.grows.ensures.marred
+        | else-is_zero-via-else-is_zero w ↦ rw w.self-is refl
+      ];
     }
 
 pub returns-in-Err : goal.returns-in-Err
@@ -86,4 +98,10 @@ returns-in-Err g c =
       | else-is_zero-via-then-is_zero+else-grows w ↦ rw w.self-is (w.grows.ensures.kept w.if-grows.false)
       | else-is_zero-via-else-is_zero w ↦ rw w.self-is refl
     ] in
-    record { bound = tt; progress = tt; taken = tt; kept = same }
+    record {
+      puts = record { bound = tt; progress = tt; taken = tt; kept = same };
+      marred = elim c.else-is_zero.branch [
+        | else-is_zero-via-then-is_zero+else-grows w ↦ rw w.self-is w.grows.ensures.marred
+        | else-is_zero-via-else-is_zero w ↦ rw w.self-is refl
+      ];
+    }

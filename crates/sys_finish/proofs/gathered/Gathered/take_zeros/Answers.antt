@@ -1,14 +1,14 @@
-use Rattle.std.proofs.Common.{◌≡◌, ◌≤◌, length, arith, refl, length-take, rules}
+use Rattle.std.proofs.Common.{◌≡◌, ◌∙◌, ◌≤◌, length, arith, refl, length-take, rules}
 use Rattle.sys_finish.specs.Given.{given_by_writer}
 use Rattle.sys_finish.proofs.Zeros.{none_laid, zeros_written}
-use Rattle.sys_finish.proofs.gathered.GatheredOutput.write_zeros.Goals as goal
-use Rattle.sys_finish.proofs.gathered.GatheredOutput.write_zeros.Goals.{then-takes_hole+in-Ok+else-laid-gt0}
-use Rattle.sys_finish.proofs.gathered.GatheredOutput.write_zeros.Goals.{else-takes_hole}
+use Rattle.sys_finish.proofs.gathered.Gathered.take_zeros.Goals as goal
+use Rattle.sys_finish.proofs.gathered.Gathered.take_zeros.Goals.{then-takes_hole+in-Ok+else-laid-gt0}
+use Rattle.sys_finish.proofs.gathered.Gathered.take_zeros.Goals.{else-takes_hole}
 
-pub returns-in-Ok-write : goal.returns-in-Ok-write
-returns-in-Ok-write g c =
-    let k = c.in-Ok-write.k in
-    let e = c.in-Ok-write.ensures.wrote in
+pub returns-in-Ok-take : goal.returns-in-Ok-take
+returns-in-Ok-take g c =
+    let k = c.in-Ok-take.k in
+    let e = c.in-Ok-take.ensures.wrote in
     let zeros = c.args.zeros.now in
     let some = c.min-some.result in
     let room : some ≤ length zeros = omega arith in
@@ -34,4 +34,8 @@ returns-in-Ok-write g c =
         full = search rules;
         still_full = search rules;
       };
+      still = c.in-Ok-take.ensures.still ∙ elim c.if-takes_hole.branch [
+        | then-takes_hole+in-Ok+else-laid-gt0 w ↦ rw w.self-is w.in-Ok.ensures.still
+        | else-takes_hole w ↦ rw w.self-is refl
+      ];
     }
