@@ -21,7 +21,7 @@ pub record BeginsOutput {E F : Type 0} {g : _} (r : Result (OutputFile F g) E) (
 pub record BeginsImage {E F : Type 0} {g : _} (r : Result (ImageTo (ImageFile F g) (OutputFile F g)) E)
     (streams : Streams) (taken taken' : Taken) : Type 0 where
   pub writes : OnOk r (WritesOne streams taken taken')
-  pub blank : IfOk r (OfImage (λ image. given_by_writer image.output.to.writer ≡ [])
+  pub blank : IfOk r (OfImage (λ image. given_by_writer image.to.writer ≡ [])
       (λ output. given_by_writer output.to.writer ≡ []))
 
 -- one more file is written, for pieces of at most this many bytes, and it holds no more than that

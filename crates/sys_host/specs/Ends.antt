@@ -11,3 +11,10 @@ pub record ClosesWith {F : Type 0} (which : F → ℕ) (stands : F → List ℕ)
   pub exact : stands file ≡ bytes
   pub settled : IsTrue is_synced → (past file).pending ≡ []
   pub closed : ClosesFile (which file) bytes at at' holds holds'
+
+-- One file is closed, whose bytes are so. All other files hold what they held, and every path leads where it led.
+pub record ClosesSo {F : Type 0} (which : F → ℕ) (stands : F → List ℕ) (AreSo : List ℕ → Type 0)
+    (at at' : List ℕ → Option ℕ) (holds holds' : ℕ → List ℕ) : Type 0 where
+  pub file : F
+  pub so : AreSo (stands file)
+  pub closed : ClosesFile (which file) (stands file) at at' holds holds'

@@ -1,9 +1,10 @@
 //! The end of what was written: it is finished, and closed.
 
-ghost use Rattle.std.specs.Prelude.{◌≡◌, IsTrue, OnOk};
+ghost use Rattle.std.specs.Prelude.{◌≡◌, IsTrue, OnOk, OnErr};
+ghost use Rattle.sys_disk.specs.World.{HasMost};
 ghost use Rattle.sys_file.specs.System.{ClosesFile};
 ghost use Rattle.sys_finish.specs.Given.{given_by_writer};
-ghost use Rattle.sys_host.specs.Ends.{ClosesWith};
+ghost use Rattle.sys_host.specs.Ends.{ClosesSo, ClosesWith};
 
 use crate::open_outputs::Writing;
 use sys_devices::FilePartition;
@@ -13,19 +14,26 @@ use sys_refusals::{FileArg, HostRefusal};
 
 impl<S: System + Drop> Writing<S> {
     /// Finishes an output: all that it was given is in its file, which is synced if that is wanted, and closed. Returns
-    /// whether data went to where standard output goes.
+    /// whether data went to where standard output goes. If that fails, its file is closed all the same, and begins with
+    /// most of what it was given.
     pub fn finish<'a>(
         &mut self,
         onto: OutputFile<S::File>,
         place: FileArg<'a>,
     ) -> Result<bool, HostRefusal<'a>>
-        ensures { IsTrue S.File.models → OnOk result (ClosesWith S.which S.File.stands S.File.past onto.is_synced
+        ensures ended { IsTrue S.File.models → OnOk result (ClosesWith S.which S.File.stands S.File.past onto.is_synced
             (given_by_writer onto.to.writer) (S.at self.old.reading.system) (S.at self.new.reading.system)
+            (S.holds self.old.reading.system) (S.holds self.new.reading.system)) }
+        ensures most { IsTrue S.File.models → OnErr result (ClosesSo S.which S.File.stands
+            (HasMost (given_by_writer onto.to.writer)) (S.at self.old.reading.system) (S.at self.new.reading.system)
             (S.holds self.old.reading.system) (S.holds self.new.reading.system)) }
     {
         match onto.finish(place) {
             Ok(finished) => self.close_finished(finished, place),
-            Err(not_written) => Err(not_written),
+            Err((file, refusal)) => {
+                self.reading.system.close(file);
+                Err(refusal)
+            }
         }
     }
 
@@ -35,13 +43,16 @@ impl<S: System + Drop> Writing<S> {
         image: ImageFile<S::File>,
         place: FileArg<'a>,
     ) -> Result<bool, HostRefusal<'a>>
-        ensures { IsTrue S.File.models → OnOk result (ClosesWith S.which S.File.stands S.File.past
-            image.output.is_synced (given_by_writer image.output.to.writer) (S.at self.old.reading.system)
-            (S.at self.new.reading.system) (S.holds self.old.reading.system) (S.holds self.new.reading.system)) }
+        ensures { IsTrue S.File.models → OnOk result (ClosesWith S.which S.File.stands S.File.past image.is_synced
+            (given_by_writer image.to.writer) (S.at self.old.reading.system) (S.at self.new.reading.system)
+            (S.holds self.old.reading.system) (S.holds self.new.reading.system)) }
     {
         match image.finish(place) {
             Ok(finished) => self.close_finished(finished, place),
-            Err(refusal) => Err(refusal),
+            Err((file, refusal)) => {
+                self.reading.system.close(file);
+                Err(refusal)
+            }
         }
     }
 

@@ -1,7 +1,8 @@
 //! The outputs of a command, which are opened once all its inputs are open.
 
-ghost use Rattle.std.specs.Prelude.{◌≡◌, ◌↔◌, ◌⊎◌, ◌≤◌, [], true, IsTrue, OnOk, OnErr, IfOk, IfErr, length, replicate};
+ghost use Rattle.std.specs.Prelude.{◌≡◌, ◌↔◌, ◌⊎◌, ◌≤◌, [], true, false, IsTrue, OnOk, OnErr, IfOk, IfErr, length, replicate};
 ghost use Rattle.std.specs.Prelude.{codes, is_some, ◌&&◌};
+ghost use Rattle.sys_finish.specs.Follows.{is_marred};
 ghost use Rattle.sys_finish.specs.Given.{given_by_writer};
 ghost use Rattle.abt_io.specs.Frame.{nothing_logged};
 ghost use Rattle.sys_file.specs.System.{KeepsFiles};
@@ -130,16 +131,20 @@ impl<S: System + Drop> Writing<S> {
             return Ok(ImageTo::Stream(self.standard(place)?));
         }
         let OpenedFile { file, found, .. } = self.created(place, Access::Create)?;
-        let sink = if is_gathered && found.is_file() {
+        if !found.is_file() {
+            let output = self.buffered(place, Sink::stream(file), found.identity.holds_data)?;
+            return Ok(ImageTo::Stream(output));
+        }
+        let sink = if is_gathered {
             Sink::gathered(self.alloc, file)
         } else {
             Sink::stream(file)
         };
-        let output = self.buffered(place, sink, found.identity.holds_data)?;
-        if found.is_file() {
-            Ok(ImageTo::File(ImageFile::new(output)))
-        } else {
-            Ok(ImageTo::Stream(output))
+        let is_synced = self.reading.is_synced && found.identity.holds_data;
+        let is_on_output = self.is_data_on_output;
+        match ImageFile::new(self.alloc, place, sink, is_synced, is_on_output) {
+            Ok(image) => Ok(ImageTo::File(image)),
+            Err(refusal) => Err(refusal),
         }
     }
 
@@ -350,7 +355,8 @@ impl<S: System + Drop> Writing<S> {
         sink: Sink<S::File>,
         holds_data: bool,
     ) -> Result<OutputFile<S::File>, HostRefusal<'a>>
-        requires { sink.log.state ≡ nothing_logged }
+        requires given { sink.log.state ≡ nothing_logged }
+        requires front { is_marred sink.target ≡ false }
         ensures empty { IfOk result (λ output. given_by_writer output.to.writer ≡ []) }
         ensures data { IfOk result (λ output. output.is_data_on_output ≡ self.now.is_data_on_output) }
         ensures synced { IfOk result (λ output. output.is_synced ≡ (self.now.reading.is_synced && holds_data)) }

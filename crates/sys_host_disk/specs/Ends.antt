@@ -9,9 +9,14 @@ pub record ClosesOne {F : Type 0} (which : F → ℕ) (stands : F → List ℕ) 
   pub file : F
   pub closed : ClosesFile (which file) (stands file) at at' holds holds'
 
--- the same, and this is so of its bytes, unless that is counted as lost
+-- nothing is said of the bytes
+abbrev pub HoldsAny : List ℕ → Type 0
+HoldsAny bytes = Unit {0}
+
+-- The same. One statement of its bytes is so, unless that is counted as lost, and another is so in any case.
 pub record ClosesGivenUp {F : Type 0} (which : F → ℕ) (stands : F → List ℕ) (lost lost' : Tally)
-    (HasBytes : List ℕ → Type 0) (at at' : List ℕ → Option ℕ) (holds holds' : ℕ → List ℕ) : Type 0 where
+    (HasBytes HasAlways : List ℕ → Type 0) (at at' : List ℕ → Option ℕ) (holds holds' : ℕ → List ℕ) : Type 0 where
   pub file : F
   pub closed : ClosesFile (which file) (stands file) at at' holds holds'
   pub whole : lost'.number ≡ lost.number → HasBytes (stands file)
+  pub always : HasAlways (stands file)

@@ -2,9 +2,10 @@
 
 ghost use Rattle.std.specs.Prelude.{◌≡◌, ◌+◌, IsTrue, false};
 ghost use Rattle.sys_disk.specs.Images.{HasNoFront};
+ghost use Rattle.sys_disk.specs.World.{HasMost};
 ghost use Rattle.sys_file.specs.System.{ClosesFile};
 ghost use Rattle.sys_finish.specs.Given.{given_by_writer};
-ghost use Rattle.sys_host_disk.specs.Ends.{ClosesGivenUp};
+ghost use Rattle.sys_host_disk.specs.Ends.{ClosesGivenUp, HoldsAny};
 ghost use Rattle.sys_host_disk.specs.Files.{system_of};
 
 use crate::host::Host;
@@ -16,11 +17,12 @@ use sys_finish::{ImageFile, OutputFile};
 const MAGIC: usize = 8;
 
 impl<S: System + Drop> Host<S> {
-    // Closes an output. Its file holds what the output took, unless a write failed.
+    // Closes an output. Its file holds what the output took, unless a write failed, and always begins with most of that.
     pub(crate) fn give_up_output(&mut self, onto: OutputFile<S::File>)
         ensures { IsTrue S.File.models → ClosesGivenUp S.which S.File.stands self.old.lost self.new.lost
-            (λ bytes. bytes ≡ given_by_writer onto.to.writer) (S.at (system_of self.old)) (S.at (system_of self.new))
-            (S.holds (system_of self.old)) (S.holds (system_of self.new)) }
+            (λ bytes. bytes ≡ given_by_writer onto.to.writer) (HasMost (given_by_writer onto.to.writer))
+            (S.at (system_of self.old)) (S.at (system_of self.new)) (S.holds (system_of self.old))
+            (S.holds (system_of self.new)) }
     {
         let (file, is_whole) = onto.give_up();
         self.close_file(file, is_whole);
@@ -29,7 +31,7 @@ impl<S: System + Drop> Host<S> {
     // The same for an image.
     pub(crate) fn give_up_whole(&mut self, image: ImageFile<S::File>)
         ensures { IsTrue S.File.models → ClosesGivenUp S.which S.File.stands self.old.lost self.new.lost
-            (λ bytes. bytes ≡ given_by_writer image.output.to.writer) (S.at (system_of self.old))
+            (λ bytes. bytes ≡ given_by_writer image.to.writer) HoldsAny (S.at (system_of self.old))
             (S.at (system_of self.new)) (S.holds (system_of self.old)) (S.holds (system_of self.new)) }
     {
         let (file, is_whole) = image.give_up();
@@ -39,7 +41,7 @@ impl<S: System + Drop> Host<S> {
     // Closes an image that must not be taken for one: zeros are written over its magic. Its file has no magic, unless a
     // write failed.
     pub(crate) fn give_up_blank(&mut self, image: ImageFile<S::File>)
-        ensures { IsTrue S.File.models → ClosesGivenUp S.which S.File.stands self.old.lost self.new.lost HasNoFront
+        ensures { IsTrue S.File.models → ClosesGivenUp S.which S.File.stands self.old.lost self.new.lost HasNoFront HoldsAny
             (S.at (system_of self.old)) (S.at (system_of self.new)) (S.holds (system_of self.old))
             (S.holds (system_of self.new)) }
     {
@@ -65,7 +67,7 @@ impl<S: System + Drop> Host<S> {
 
 // Writes zeros over the magic of an image. Returns whether it has none now.
 fn blank_front<F: SystemFile + Drop>(image: &mut ImageFile<F>) -> bool
-    ensures { IsTrue result → HasNoFront (given_by_writer image.new.output.to.writer) }
+    ensures { IsTrue result → HasNoFront (given_by_writer image.new.to.writer) }
 {
     let front = image.position().min(MAGIC as u64) as usize;
     let zeros = [0u8; MAGIC];

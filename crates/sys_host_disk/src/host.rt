@@ -1,18 +1,19 @@
 //! The files of the system as a disk.
 
-ghost use Rattle.std.specs.Prelude.{◌≡◌, ◌⊎◌, [], None, false, IsTrue, IfOk, IfErr, OnOk, codes, is_some, replicate};
+ghost use Rattle.std.specs.Prelude.{◌≡◌, ◌⊎◌, [], None, false, IsTrue, IfOk, IfErr, OnOk, OnErr, codes, is_some, replicate};
 ghost use Rattle.std.specs.Prelude.{option_map, IsOk};
 ghost use Rattle.abt_io.specs.Frame.{nothing_logged};
 ghost use Rattle.std.proofs.lemmas.Bool.{false≢true};
 ghost use Rattle.sys_devices.specs.Writes.{LeavesNoMagic, since_cut};
 ghost use Rattle.sys_disk.specs.Counts.{no_counts};
 ghost use Rattle.sys_disk.specs.Images.{HasNoFront, OfImage};
+ghost use Rattle.sys_disk.specs.World.{HasMost};
 ghost use Rattle.sys_disk.specs.LeftOver.{IsNextLeft, path_with};
 ghost use Rattle.sys_file.specs.System.{ClosesFile, KeepsFiles};
 ghost use Rattle.sys_finish.specs.Given.{given_by_writer};
-ghost use Rattle.sys_host.specs.Ends.{ClosesWith};
+ghost use Rattle.sys_host.specs.Ends.{ClosesSo, ClosesWith};
 ghost use Rattle.sys_host.specs.Places.{IsFreeAt, KeepsPaths, ReadsPlace, WritesOver, WritesPlace};
-ghost use Rattle.sys_host_disk.specs.Ends.{ClosesGivenUp, ClosesOne};
+ghost use Rattle.sys_host_disk.specs.Ends.{ClosesGivenUp, ClosesOne, HoldsAny};
 ghost use Rattle.sys_host_disk.specs.Files.{streams_of, system_of, taken_of};
 ghost use Rattle.sys_host_disk.specs.Sources.{shared_by};
 ghost use Rattle.sys_identity.specs.Identity.{IsIdentityOf};
@@ -386,8 +387,11 @@ impl<S: System + Drop> Disk for Host<S> {
         onto: OutputFile<S::File>,
         place: FileArg<'a>,
     ) -> Result<bool, HostRefusal<'a>>
-        ensures { IsTrue S.File.models → OnOk result (ClosesWith S.which S.File.stands S.File.past onto.is_synced
+        ensures ended { IsTrue S.File.models → OnOk result (ClosesWith S.which S.File.stands S.File.past onto.is_synced
             (given_by_writer onto.to.writer) (S.at (system_of self.old)) (S.at (system_of self.new))
+            (S.holds (system_of self.old)) (S.holds (system_of self.new))) }
+        ensures most { IsTrue S.File.models → OnErr result (ClosesSo S.which S.File.stands
+            (HasMost (given_by_writer onto.to.writer)) (S.at (system_of self.old)) (S.at (system_of self.new))
             (S.holds (system_of self.old)) (S.holds (system_of self.new))) }
     {
         if let Err(refusal) = self.writing.reading.unchanged() {
@@ -399,8 +403,9 @@ impl<S: System + Drop> Disk for Host<S> {
 
     fn give_up(&mut self, onto: OutputFile<S::File>)
         ensures { IsTrue S.File.models → ClosesGivenUp S.which S.File.stands self.old.lost self.new.lost
-            (λ bytes. bytes ≡ given_by_writer onto.to.writer) (S.at (system_of self.old)) (S.at (system_of self.new))
-            (S.holds (system_of self.old)) (S.holds (system_of self.new)) }
+            (λ bytes. bytes ≡ given_by_writer onto.to.writer) (HasMost (given_by_writer onto.to.writer))
+            (S.at (system_of self.old)) (S.at (system_of self.new)) (S.holds (system_of self.old))
+            (S.holds (system_of self.new)) }
     {
         self.give_up_output(onto)
     }
@@ -410,7 +415,7 @@ impl<S: System + Drop> Disk for Host<S> {
         place: FileArg<'a>,
         is_gathered: bool,
     ) -> Result<ImageTo<ImageFile<S::File>, OutputFile<S::File>>, HostRefusal<'a>>
-        ensures empty { IfOk result (OfImage (λ image. given_by_writer image.output.to.writer ≡ [])
+        ensures empty { IfOk result (OfImage (λ image. given_by_writer image.to.writer ≡ [])
             (λ output. given_by_writer output.to.writer ≡ [])) }
         ensures place { IsTrue S.File.models → IsIdentityOf S.number S.known S.stdout (streams_of self.old).out
             → OnOk result (WritesPlace S.number S.known (path_out place.entry)
@@ -425,8 +430,8 @@ impl<S: System + Drop> Disk for Host<S> {
         image: ImageFile<S::File>,
         place: FileArg<'a>,
     ) -> Result<bool, HostRefusal<'a>>
-        ensures { IsTrue S.File.models → OnOk result (ClosesWith S.which S.File.stands S.File.past image.output.is_synced
-            (given_by_writer image.output.to.writer) (S.at (system_of self.old)) (S.at (system_of self.new))
+        ensures { IsTrue S.File.models → OnOk result (ClosesWith S.which S.File.stands S.File.past image.is_synced
+            (given_by_writer image.to.writer) (S.at (system_of self.old)) (S.at (system_of self.new))
             (S.holds (system_of self.old)) (S.holds (system_of self.new))) }
     {
         if let Err(refusal) = self.writing.reading.unchanged() {
@@ -438,8 +443,9 @@ impl<S: System + Drop> Disk for Host<S> {
 
     fn give_up_image(&mut self, image: ImageFile<S::File>)
         ensures { IsTrue S.File.models → ClosesGivenUp S.which S.File.stands self.old.lost self.new.lost
-            (λ bytes. (bytes ≡ given_by_writer image.output.to.writer) ⊎ HasNoFront bytes) (S.at (system_of self.old))
-            (S.at (system_of self.new)) (S.holds (system_of self.old)) (S.holds (system_of self.new)) }
+            (λ bytes. (bytes ≡ given_by_writer image.to.writer) ⊎ HasNoFront bytes) HoldsAny
+            (S.at (system_of self.old)) (S.at (system_of self.new)) (S.holds (system_of self.old))
+            (S.holds (system_of self.new)) }
     {
         if self.writing.reading.unchanged().is_err() {
             self.give_up_blank(image);
