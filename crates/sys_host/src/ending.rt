@@ -30,9 +30,9 @@ impl<S: System + Drop> Writing<S> {
     {
         match onto.finish(place) {
             Ok(finished) => self.close_finished(finished, place),
-            Err((file, refusal)) => {
-                self.reading.system.close(file);
-                Err(refusal)
+            Err((not_written, why)) => {
+                self.reading.system.close(not_written);
+                Err(why)
             }
         }
     }
