@@ -21,3 +21,7 @@ returns-clause-clean g c = λ t.
 
 pub returns-clause-closed : goal.returns-clause-closed
 returns-clause-closed g c = λ t. record { failures = _; closed = c.close_spool.ensures.closed t }
+
+pub returns-clause-same : goal.returns-clause-same
+returns-clause-same g c = λ t.
+    c.delivered-answer.ensures.same (g.met.D.Disk.source_told t) (g.met.D.Disk.through_told t) (g.met.D.Disk.part_told t)
