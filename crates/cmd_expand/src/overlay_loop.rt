@@ -43,6 +43,7 @@ pub(crate) fn lay_all<'a, D: Disk>(
         ≡ (D.InPlace.past onto.old).synced + length kept.entry.items) }
     ensures settled { IsTrue D.models → (D.InPlace.past onto.old).pending ≡ [] →
         OnOk result ((D.InPlace.past onto.new).pending ≡ []) }
+    ensures same { IsTrue D.models → (D.InPlace.past onto.new).file ≡ (D.InPlace.past onto.old).file }
     // of the disk only what is counted has changed, and nothing has failed where all images were written
     ensures alone { LaysAlone D.models (D.InPlace.size onto.old) (D.InPlace.size onto.new) (D.held disk.old)
         (D.held disk.new)
@@ -89,6 +90,7 @@ fn lay_one<'a, D: Disk>(
         (D.At.content one.entry.source) (D.InPlace.content onto.old) (D.InPlace.content onto.new)) }
     ensures synced { OnOk result ((D.InPlace.past onto.new).synced ≡ (D.InPlace.past onto.old).synced + 1) }
     ensures settled { IsTrue D.models → OnOk result ((D.InPlace.past onto.new).pending ≡ []) }
+    ensures same { IsTrue D.models → (D.InPlace.past onto.new).file ≡ (D.InPlace.past onto.old).file }
     ensures alone { LaysAlone D.models (D.InPlace.size onto.old) (D.InPlace.size onto.new) (D.held disk.old)
         (D.held disk.new)
         (D.world disk.old) (D.world disk.new) }
@@ -154,6 +156,7 @@ fn flash_one<S: Source, P: Partition>(
         Holds result (S.given from.new.device.source - S.given from.old.device.source) (P.content onto.old)
         (P.content onto.new) (S.content from.old.device.source) }
     ensures size { P.size onto.new ≡ P.size onto.old }
+    ensures same { IsTrue S.models → IsTrue P.models → (P.past onto.new).file ≡ (P.past onto.old).file }
     ensures synced { OnOk result ((P.past onto.new).synced ≡ (P.past onto.old).synced + 1) }
     ensures settled { IsTrue P.models → OnOk result ((P.past onto.new).pending ≡ []) }
     ensures cause { FlashingRises result (S.read_faults from.old.device.source) (S.read_faults from.new.device.source)

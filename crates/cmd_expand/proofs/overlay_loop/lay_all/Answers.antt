@@ -9,6 +9,7 @@ use Rattle.cmd_expand.proofs.overlay_loop.lay_all.Goals as goal
 pub images-init : goal.images-init
 images-init g c = record {
   size = refl;
+  same = λ t. refl;
   synced = refl;
   laid = λ t. refl;
   before = λ t. laid_none _ _;
@@ -26,6 +27,7 @@ images-preserved g c =
     let long = ap length items in
     record {
       size = c.lay_one.ensures.alone.size ∙ i.size;
+      same = λ t. c.lay_one.ensures.same t ∙ i.same t;
       synced = omega (arith, c.in-Ok.ensures.synced, long, i.synced);
       laid = λ t. laid_next _ _ _ _ _ _ (ap (map (λ one. g.D.At.Source.content one.source)) items) (i.laid t)
           (c.in-Ok.ensures.laid t);
@@ -90,3 +92,6 @@ returns-in-None-clause-synced g c =
     let none = nothing_left c.images.kept.items _ c.in-None.ensures.items c.pop_front.ensures.rest in
     let long = ap length none in
     omega (arith, long, c.images.invariant.synced)
+
+pub returns-in-Err-clause-same : goal.returns-in-Err-clause-same
+returns-in-Err-clause-same g c = λ t. c.lay_one.ensures.same t ∙ c.images.invariant.same t

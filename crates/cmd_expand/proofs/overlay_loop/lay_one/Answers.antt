@@ -71,3 +71,9 @@ returns-in-Err-clause-refused g c = λ t blocks block sized image.
     (g.D.InPlace.Partition.put_faults c.args.onto.now)
     (g.D.InPlace.Partition.put_faults c.flash_one-answer.new.onto))) same
     (c.flash_one-answer.ensures.refused told blocks block sized (subst (IsImageOf blocks block) (sym content) image)))
+
+pub returns-in-Ok-clause-same : goal.returns-in-Ok-clause-same
+returns-in-Ok-clause-same g c = λ t. c.flash_one-answer.ensures.same (g.met.D.Disk.source_told t) (g.met.D.Disk.part_told t)
+
+pub returns-in-Err-clause-same : goal.returns-in-Err-clause-same
+returns-in-Err-clause-same g c = λ t. c.flash_one-answer.ensures.same (g.met.D.Disk.source_told t) (g.met.D.Disk.part_told t)
