@@ -110,7 +110,7 @@ returns-in-File-clause-broken g c = λ t over.
 
 pub returns-in-Stream-clause-broken : goal.returns-in-Stream-clause-broken
 returns-in-Stream-clause-broken g c = λ t over.
-    absurd (false≢true (rw c.in-Stream.is at (c.in_ok-image.ensures.kind t) ∙ over))
+    absurd (false≢true ((rw c.in-Stream.is at (c.in_ok-image.ensures.kind t)) over))
 
 pub returns-in_err-image-clause-outside : goal.returns-in_err-image-clause-outside
 returns-in_err-image-clause-outside g c = λ t.
@@ -120,3 +120,11 @@ returns-in_err-image-clause-outside g c = λ t.
 pub returns-in_err-image-clause-told_of : goal.returns-in_err-image-clause-told_of
 returns-in_err-image-clause-told_of g c =
     tells_given (λ r. r.fault) (λ r. r.about.place) c.from_residual.result _ _ _ c.from_residual.ensures.1
+
+-- what is given back
+
+pub put_in_file-requires-clause-this : goal.put_in_file-requires-clause-this
+put_in_file-requires-clause-this g c = λ t. rw c.in-File.is at (c.in_ok-image.ensures.this t)
+
+pub put_in_stream-requires-clause-this : goal.put_in_stream-requires-clause-this
+put_in_stream-requires-clause-this g c = λ t. rw c.in-Stream.is at (c.in_ok-image.ensures.this t)
