@@ -108,8 +108,7 @@ fn put_in_file<'a, D: Disk, B: BlockRuns + LaysPieces + Drop>(
     w: &mut Window,
     m: &mut Meter,
 ) -> Result<(Piece, bool), SparseRefusal<'a>>
-    requires output { ReadyOutput D.models (D.Image.Output.written image) (D.Image.Output.write_faults image) }
-    requires this { IsTrue D.models → (D.Image.Output.write_frame image).file ≡ number_of (D.held disk.old).output }
+    requires output { ReadyOutput D.models D.Image.Output image (D.held disk.old).output }
     requires ready { ReadyPiece B.BlockRuns D.At.Source pieces.old.cutter.runs source.old.device
         pieces.old.cutter.limit pieces.old.cutter.made pieces.old.cutter.start pieces.old.cutter.stage }
     ensures puts { IsTrue D.models → PutsPiece result (λ refusal. refusal.fault) (cut_into pieces.old.cutter.limit
@@ -153,8 +152,7 @@ fn put_in_stream<'a, D: Disk, B: BlockRuns + LaysPieces + Drop>(
     w: &mut Window,
     m: &mut Meter,
 ) -> Result<(Piece, bool), SparseRefusal<'a>>
-    requires output { ReadyOutput D.models (D.Onto.written onto) (D.Onto.write_faults onto) }
-    requires this { IsTrue D.models → (D.Onto.write_frame onto).file ≡ number_of (D.held disk.old).output }
+    requires output { ReadyOutput D.models D.Onto.Output onto (D.held disk.old).output }
     requires ready { ReadyPiece B.BlockRuns D.At.Source pieces.old.cutter.runs source.old.device
         pieces.old.cutter.limit pieces.old.cutter.made pieces.old.cutter.start pieces.old.cutter.stage }
     ensures puts { IsTrue D.models → PutsPiece result (λ refusal. refusal.fault) (cut_into pieces.old.cutter.limit

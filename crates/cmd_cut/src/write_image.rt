@@ -96,8 +96,7 @@ fn write_over<'a, D: Disk>(
     m: &mut Meter,
 ) -> Result<(Written, bool), SparseRefusal<'a>>
     requires ready { ReadyToWrite D.models as_img2simg blocks (D.At.size source) (D.At.read_faults source)
-        (D.Image.Output.written image) (D.Image.Output.write_faults image) }
-    requires this { IsTrue D.models → (D.Image.Output.write_frame image).file ≡ number_of (D.held disk.old).output }
+        D.Image.Output image (D.held disk.old).output }
     ensures writes { IsTrue D.models → WritesSparseImage result (λ refusal. refusal.fault) as_img2simg blocks.size
         (D.At.content source) (D.held disk.old) (D.held disk.new) (D.world disk.old) (D.world disk.new) }
     ensures stream { IsTrue D.models → IfOk result (λ end. end.1 ≡ D.on_output (path_out output.entry)) }
@@ -138,8 +137,7 @@ fn write_through<'a, D: Disk>(
     m: &mut Meter,
 ) -> Result<(Written, bool), SparseRefusal<'a>>
     requires ready { ReadyToWrite D.models as_img2simg blocks (D.At.size source) (D.At.read_faults source)
-        (D.Onto.written onto) (D.Onto.write_faults onto) }
-    requires this { IsTrue D.models → (D.Onto.write_frame onto).file ≡ number_of (D.held disk.old).output }
+        D.Onto.Output onto (D.held disk.old).output }
     ensures writes { IsTrue D.models → WritesSparseImage result (λ refusal. refusal.fault) as_img2simg blocks.size
         (D.At.content source) (D.held disk.old) (D.held disk.new) (D.world disk.old) (D.world disk.new) }
     ensures stream { IsTrue D.models → IfOk result (λ end. end.1 ≡ D.on_output (path_out output.entry)) }

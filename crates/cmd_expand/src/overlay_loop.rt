@@ -43,11 +43,9 @@ pub(crate) fn lay_all<'a, D: Disk>(
         ≡ (D.InPlace.past onto.old).synced + length kept.entry.items) }
     ensures settled { IsTrue D.models → (D.InPlace.past onto.old).pending ≡ [] →
         OnOk result ((D.InPlace.past onto.new).pending ≡ []) }
-    ensures same { IsTrue D.models → (D.InPlace.past onto.new).file ≡ (D.InPlace.past onto.old).file }
     // of the disk only what is counted has changed, and nothing has failed where all images were written
-    ensures alone { LaysAlone D.models (D.InPlace.size onto.old) (D.InPlace.size onto.new) (D.held disk.old)
-        (D.held disk.new)
-        (D.world disk.old) (D.world disk.new) }
+    ensures alone { LaysAlone D.models D.InPlace.Source D.InPlace.Partition.own onto.old onto.new (D.held disk.old)
+        (D.held disk.new) (D.world disk.old) (D.world disk.new) }
     ensures clean { IsTrue D.models → AllByRecursion (λ one. D.At.read_faults one.source ≡ 0) kept.entry.items →
         OnOk result (HasNotFailed (D.held disk.old) (D.held disk.new)
         × (D.InPlace.put_faults onto.new ≡ D.InPlace.put_faults onto.old)) }
@@ -90,10 +88,8 @@ fn lay_one<'a, D: Disk>(
         (D.At.content one.entry.source) (D.InPlace.content onto.old) (D.InPlace.content onto.new)) }
     ensures synced { OnOk result ((D.InPlace.past onto.new).synced ≡ (D.InPlace.past onto.old).synced + 1) }
     ensures settled { IsTrue D.models → OnOk result ((D.InPlace.past onto.new).pending ≡ []) }
-    ensures same { IsTrue D.models → (D.InPlace.past onto.new).file ≡ (D.InPlace.past onto.old).file }
-    ensures alone { LaysAlone D.models (D.InPlace.size onto.old) (D.InPlace.size onto.new) (D.held disk.old)
-        (D.held disk.new)
-        (D.world disk.old) (D.world disk.new) }
+    ensures alone { LaysAlone D.models D.InPlace.Source D.InPlace.Partition.own onto.old onto.new (D.held disk.old)
+        (D.held disk.new) (D.world disk.old) (D.world disk.new) }
     ensures clean { IsTrue D.models → OnOk result (((cause : Cause) → (D.held disk.new).counts.failed cause
         ≡ (D.held disk.old).counts.failed cause + of_reading (D.At.read_faults one.entry.source) cause)
         × (D.InPlace.put_faults onto.new ≡ D.InPlace.put_faults onto.old)) }

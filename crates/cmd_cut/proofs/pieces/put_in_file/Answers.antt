@@ -78,11 +78,11 @@ returns-in-Err-Host-clause-told_of g c = tells_host _ _ _ _ _ c.unended.ensures.
 
 pub finish_image-requires : goal.finish_image-requires
 finish_image-requires g c = record {
-  this = λ t. this_still _ _ _ (c.requires.this t) c.lay_next-image.ensures.frame;
+  this = λ t. this_still _ _ _ (c.requires.output.this t) c.lay_next-image.ensures.frame;
 }
 
 pub unended-requires : goal.unended-requires
-unended-requires g c = record { this = λ t. this_still _ _ _ (c.requires.this t) c.lay_next-image.ensures.frame }
+unended-requires g c = record { this = λ t. this_still _ _ _ (c.requires.output.this t) c.lay_next-image.ensures.frame }
 
 pub stopped-requires : goal.stopped-requires
-stopped-requires g c = record { this = λ t. this_still _ _ _ (c.requires.this t) c.lay_next-image.ensures.frame }
+stopped-requires g c = record { this = λ t. this_still _ _ _ (c.requires.output.this t) c.lay_next-image.ensures.frame }

@@ -38,5 +38,5 @@ returns g c =
 
 pub ended-requires : goal.ended-requires
 ended-requires g c = record {
-  this = λ t. this_still _ _ _ (c.requires.this t) c.write_next-answer.ensures.frame;
+  this = λ t. this_still _ _ _ (c.requires.output.this t) c.write_next-answer.ensures.frame;
 }

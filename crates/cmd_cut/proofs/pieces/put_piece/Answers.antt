@@ -123,8 +123,16 @@ returns-in_err-image-clause-told_of g c =
 
 -- what is given back
 
-pub put_in_file-requires-clause-this : goal.put_in_file-requires-clause-this
-put_in_file-requires-clause-this g c = λ t. rw c.in-File.is at (c.in_ok-image.ensures.this t)
+pub put_in_file-requires-clause-output : goal.put_in_file-requires-clause-output
+put_in_file-requires-clause-output g c = record {
+  empty = rw c.in-File.is at c.in_ok-image.ensures.empty;
+  clean = λ t. rw c.in-File.is at (c.in_ok-image.ensures.clean t);
+  this = λ t. rw c.in-File.is at (c.in_ok-image.ensures.this t);
+}
 
-pub put_in_stream-requires-clause-this : goal.put_in_stream-requires-clause-this
-put_in_stream-requires-clause-this g c = λ t. rw c.in-Stream.is at (c.in_ok-image.ensures.this t)
+pub put_in_stream-requires-clause-output : goal.put_in_stream-requires-clause-output
+put_in_stream-requires-clause-output g c = record {
+  empty = rw c.in-Stream.is at c.in_ok-image.ensures.empty;
+  clean = λ t. rw c.in-Stream.is at (c.in_ok-image.ensures.clean t);
+  this = λ t. rw c.in-Stream.is at (c.in_ok-image.ensures.this t);
+}

@@ -70,12 +70,12 @@ returns-in-Err-clause-told_of g c = c.stopped.ensures.told_of
 
 pub finish_image-requires : goal.finish_image-requires
 finish_image-requires g c = record {
-  this = λ t. this_behind (g.D.Image.Output.write_frame c.args.image) _ _ _ _ (c.requires.this t)
+  this = λ t. this_behind (g.D.Image.Output.write_frame c.args.image) _ _ _ _ (c.requires.ready.output.this t)
       c.lay_image-answer.ensures.frame (c.let_go_source.ensures.held t);
 }
 
 pub stopped-requires : goal.stopped-requires
 stopped-requires g c = record {
-  this = λ t. this_behind (g.D.Image.Output.write_frame c.args.image) _ _ _ _ (c.requires.this t)
+  this = λ t. this_behind (g.D.Image.Output.write_frame c.args.image) _ _ _ _ (c.requires.ready.output.this t)
       c.lay_image-answer.ensures.frame (c.let_go_source.ensures.held t);
 }

@@ -31,6 +31,6 @@ returns g c = record {
 
 pub ended-requires : goal.ended-requires
 ended-requires g c = record {
-  this = λ t. this_behind (g.D.Onto.Output.write_frame c.args.onto) _ _ _ _ (c.requires.this t)
+  this = λ t. this_behind (g.D.Onto.Output.write_frame c.args.onto) _ _ _ _ (c.requires.ready.output.this t)
       c.write_image-answer.ensures.frame (c.let_go_source.ensures.held t);
 }

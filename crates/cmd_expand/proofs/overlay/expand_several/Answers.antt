@@ -39,7 +39,7 @@ returns-in_err-zeros-clause-refused g c = λ t.
 pub close-end-requires : goal.close-end-requires
 close-end-requires g c = record {
   this = λ t. this_place (g.D.InPlace.Partition.past c.in_ok-zeros.zeros) _ _ _ (c.in_ok-zeros.ensures.past t)
-      (c.lay_all-answer.ensures.same t) (c.lay_all-answer.ensures.alone.held t);
+      (c.lay_all-answer.ensures.alone.same t) (c.lay_all-answer.ensures.alone.held t);
 }
 
 pub returns-in-Err-answer-clause-leaves : goal.returns-in-Err-answer-clause-leaves

@@ -27,7 +27,7 @@ images-preserved g c =
     let long = ap length items in
     record {
       size = c.lay_one.ensures.alone.size ∙ i.size;
-      same = λ t. c.lay_one.ensures.same t ∙ i.same t;
+      same = λ t. c.lay_one.ensures.alone.same t ∙ i.same t;
       synced = omega (arith, c.in-Ok.ensures.synced, long, i.synced);
       laid = λ t. laid_next _ _ _ _ _ _ (ap (map (λ one. g.D.At.Source.content one.source)) items) (i.laid t)
           (c.in-Ok.ensures.laid t);
@@ -75,6 +75,7 @@ returns-in-Err-clause-broken g c = λ t.
 
 pub returns-in-Err-clause-alone : goal.returns-in-Err-clause-alone
 returns-in-Err-clause-alone g c = record {
+  same = λ t. c.lay_one.ensures.alone.same t ∙ c.images.invariant.same t;
   size = c.lay_one.ensures.alone.size ∙ c.images.invariant.size;
   world = λ t. c.lay_one.ensures.alone.world t ∙ c.images.invariant.world t;
   held = λ t. fails_then _ _ _ (c.images.invariant.held t) (c.lay_one.ensures.alone.held t);
@@ -92,6 +93,3 @@ returns-in-None-clause-synced g c =
     let none = nothing_left c.images.kept.items _ c.in-None.ensures.items c.pop_front.ensures.rest in
     let long = ap length none in
     omega (arith, long, c.images.invariant.synced)
-
-pub returns-in-Err-clause-same : goal.returns-in-Err-clause-same
-returns-in-Err-clause-same g c = λ t. c.lay_one.ensures.same t ∙ c.images.invariant.same t

@@ -24,4 +24,4 @@ returns-clause-closed g c = λ t. record { failures = _; closed = c.close_spool.
 
 pub returns-clause-same : goal.returns-clause-same
 returns-clause-same g c = λ t.
-    c.delivered-answer.ensures.same (g.met.D.Disk.source_told t) (g.met.D.Disk.through_told t) (g.met.D.Disk.part_told t)
+    let d = g.met.D.Disk in c.delivered-answer.ensures.same (d.source_told t) (d.through_told t) (d.part_told t)
