@@ -2,14 +2,13 @@
 use Rattle.std.proofs.Common.{inl, inr, arith, ◌⊎◌, ◌+◌, ◌≡◌, ◌<◌, ℕ, List, [], ◌∷◌, ◌++◌, length, Option, Some}
 use Rattle.std.proofs.Common.{None, Bool, true, sym, ◌∙◌, ap, subst}
 use Rattle.std.specs.Prelude.{unwrap_or, if◌then◌else◌, OnOk, Result, Err}
-use Rattle.abt_io.specs.Frame.{WriteFrame}
 use Rattle.abt_runs.specs.declared.part.RunFault.{RunFault}
 use Rattle.abt_runs.specs.Raw.{RefusedRaw}
 use Rattle.abt_sparsify.specs.declared.count.Written.{Written}
-use Rattle.sys_disk.specs.Counts.{Counts, call}
+use Rattle.sys_disk.specs.Counts.{call}
 use Rattle.sys_disk.specs.Images.{EmptiesAt}
 use Rattle.sys_disk.specs.World.{World, OpenFiles, Spares, OpensFile, Creates, untouched, SparesRest}
-use Rattle.sys_disk.specs.World.{ClosesOutput, HasFailed, HasNotFailed, SparesInUse, counting, number_of}
+use Rattle.sys_disk.specs.World.{ClosesOutput, HasFailed, HasNotFailed, SparesInUse}
 use Rattle.sys_disk.proofs.Worlds.{apart, kept_behind, may_behind, only_behind, only_written, spared_if_may}
 use Rattle.sys_disk.proofs.Worlds.{spares_trans}
 use Rattle.sys_refusals.specs.declared.refusal.HostFault.{HostFault}
@@ -36,17 +35,6 @@ after path h h' a b c made rest = subst (λ k. SparesRest k.output b c) made.beg
 pub none_open : (input bytes : List ℕ) (h h' : OpenFiles) (a : World) → OpensFile a input bytes h h' → h.output ≡ None
     → h'.output ≡ None
 none_open input bytes h h' a opened none = ap (λ k. k.output) opened.taken ∙ none
-
--- the output that is ended is the one that was created
-pub this_still : (frame frame' : WriteFrame) (n : ℕ) → frame.file ≡ n → frame' ≡ frame → frame'.file ≡ n
-this_still frame frame' n this same = ap (λ (f : WriteFrame). f.file) same ∙ this
-
--- also where an input was closed meanwhile
-pub this_behind : (frame frame' : WriteFrame) (h h' : OpenFiles) (n : Counts) → frame.file ≡ number_of h.output
-    → frame' ≡ frame → h' ≡ counting n h → frame'.file ≡ number_of h'.output
-this_behind frame frame' h h' n this same gone =
-    this_still frame frame' (number_of h.output) this same
-    ∙ sym (ap (λ (k : OpenFiles). number_of k.output) gone)
 
 -- ---- what OUT holds
 

@@ -145,16 +145,16 @@ pub record ReadyRawImage (models t : Bool) (blocks : Blocks) (bytes reads : ℕ)
   pub read : IsTrue models → reads ≡ 0
 
 -- nothing was written yet to the output that is open, and nothing has failed
-pub record ReadyOutput {B : Type 0} (models : Bool) (o : outputs.Ghosts B) (onto : B) (output : Option ℕ) : Type 0 where
+pub record ReadyOutput {B : Type 0} (models : Bool) (o : outputs.Ghosts B) (onto : B) (is_open : Option ℕ) : Type 0 where
   pub empty : o.written onto ≡ []
   pub clean : IsTrue models → o.write_faults onto ≡ 0
-  pub this : IsTrue models → (o.write_frame onto).file ≡ number_of output
+  pub this : IsTrue models → (o.write_frame onto).file ≡ number_of is_open
 
 -- both
 pub record ReadyToWrite {B : Type 0} (models t : Bool) (blocks : Blocks) (bytes reads : ℕ) (o : outputs.Ghosts B)
-    (onto : B) (output : Option ℕ) : Type 0 where
+    (onto : B) (is_open : Option ℕ) : Type 0 where
   pub image : ReadyRawImage models t blocks bytes reads
-  pub output : ReadyOutput models o onto output
+  pub output : ReadyOutput models o onto is_open
 
 -- such an image can be written to an empty output
 pub record ReadyToLay (t : Bool) (blocks : Blocks) (bytes : ℕ) (written : List ℕ) : Type 0 where

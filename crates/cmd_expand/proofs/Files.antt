@@ -3,7 +3,6 @@ use Rattle.std.proofs.Common.{inl, inr, arith, ◌≡◌, ◌<◌, ℕ, ◌+◌,
 use Rattle.std.proofs.Common.{refl, sym, ◌∙◌, ap, subst, None}
 use Rattle.std.specs.Prelude.{Result, Ok, Err, IsOk, IfErr, OnOk, IsErrAnd, is_ok, if◌then◌else◌}
 use Rattle.std.proofs.lemmas.Bool.{false≢true}
-use Rattle.abt_io.specs.Frame.{WriteFrame}
 use Rattle.abt_sparse.specs.Block.{expansion, laid}
 use Rattle.abt_sparse.specs.Chunk.{classed}
 use Rattle.abt_sparse.specs.Fails.{Fails, Spells}
@@ -16,7 +15,7 @@ use Rattle.abt_chunks.specs.Whole.{Expansion, Refusal}
 use Rattle.sys_disk.specs.World.{World, OpenFiles, Spares, OpensFile, Creates, Ends, SparesRest, HasFailed}
 use Rattle.sys_disk.specs.World.{EndsOutput, HasNotFailed, HoldsMost}
 use Rattle.sys_disk.specs.Among.{FileHolds, FileHoldsMost}
-use Rattle.sys_disk.specs.World.{OnlyAt, SparesInUse, counting, ended, number_of}
+use Rattle.sys_disk.specs.World.{OnlyAt, SparesInUse, counting, ended}
 use Rattle.sys_disk.specs.Counts.{Cause, call, reading, writing, Counts, HasNone, added, call_of, calls, reads, writes}
 use Rattle.sys_disk.specs.Counts.{of_reading, of_writing}
 use Rattle.sys_disk.proofs.Failings.{counts_one}
@@ -42,12 +41,6 @@ pub ends_behind : (bytes : List ℕ) (n : Counts) (h h' : OpenFiles) (a b c : Wo
     → Ends h'.output bytes b c → Ends h.output bytes a c
 ends_behind bytes n h h' a b c gone same ends =
     subst (λ w. Ends h.output bytes w c) same (subst (λ k. Ends k.output bytes b c) gone ends)
-
--- the output that is ended is the one that was created
-pub this_output : (frame frame' : WriteFrame) (h h' : OpenFiles) (n : Counts) → frame.file ≡ number_of h.output
-    → frame' ≡ frame → h' ≡ counting n h → frame'.file ≡ number_of h'.output
-this_output frame frame' h h' n opened same gone =
-    ap (λ (f : WriteFrame). f.file) same ∙ opened ∙ sym (ap (λ (k : OpenFiles). number_of k.output) gone)
 
 pub synced_once : (input path bytes : List ℕ) (h h1 h2 h3 h4 : OpenFiles) (w a b : World) (r n : Counts)
     → OpensFile w input bytes h h1 → Creates path h1 h2 a b → h3 ≡ counting r h2 → h4 ≡ ended true n h3

@@ -1,5 +1,4 @@
 use Rattle.cmd_cut.proofs.Beside.{beside_done, beside_refused, beside_stopped, beside_undone, beside_unended}
-use Rattle.cmd_cut.proofs.Files.{this_still}
 use Rattle.cmd_cut.proofs.Leavings.{none_left, whole_left}
 use Rattle.cmd_cut.proofs.Told.{tells_host}
 use Rattle.cmd_cut.proofs.pieces.put_in_file.Goals as goal
@@ -73,16 +72,3 @@ returns-in-Err-finish_image-clause-told_of g c = tells_host _ c.in-Err-finish_im
 
 pub returns-in-Err-Host-clause-told_of : goal.returns-in-Err-Host-clause-told_of
 returns-in-Err-Host-clause-told_of g c = tells_host _ _ _ _ _ c.unended.ensures.host
-
--- what is given back
-
-pub finish_image-requires : goal.finish_image-requires
-finish_image-requires g c = record {
-  this = λ t. this_still _ _ _ (c.requires.output.this t) c.lay_next-image.ensures.frame;
-}
-
-pub unended-requires : goal.unended-requires
-unended-requires g c = record { this = λ t. this_still _ _ _ (c.requires.output.this t) c.lay_next-image.ensures.frame }
-
-pub stopped-requires : goal.stopped-requires
-stopped-requires g c = record { this = λ t. this_still _ _ _ (c.requires.output.this t) c.lay_next-image.ensures.frame }

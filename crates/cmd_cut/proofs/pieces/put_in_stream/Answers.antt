@@ -1,6 +1,5 @@
 use Rattle.cmd_cut.proofs.Beside.{beside_answer, beside_outside, holds_piece, told_of}
 use Rattle.cmd_cut.proofs.Counted.{answered}
-use Rattle.cmd_cut.proofs.Files.{this_still}
 use Rattle.cmd_cut.proofs.Opened.{if_err}
 use Rattle.cmd_cut.proofs.Told.{tells_end}
 use Rattle.cmd_cut.proofs.pieces.put_in_stream.Goals as goal
@@ -35,8 +34,3 @@ returns g c =
           c.ended.ensures.told c.ended.ensures.told_of
           (λ ok. if_err c.ended.result _ _ (λ e host. (host.0, host.1)) (c.ended.ensures.host ok));
     }
-
-pub ended-requires : goal.ended-requires
-ended-requires g c = record {
-  this = λ t. this_still _ _ _ (c.requires.output.this t) c.write_next-answer.ensures.frame;
-}

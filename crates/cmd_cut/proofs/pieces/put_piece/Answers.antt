@@ -120,19 +120,3 @@ returns-in_err-image-clause-outside g c = λ t.
 pub returns-in_err-image-clause-told_of : goal.returns-in_err-image-clause-told_of
 returns-in_err-image-clause-told_of g c =
     tells_given (λ r. r.fault) (λ r. r.about.place) c.from_residual.result _ _ _ c.from_residual.ensures.1
-
--- what is given back
-
-pub put_in_file-requires-clause-output : goal.put_in_file-requires-clause-output
-put_in_file-requires-clause-output g c = record {
-  empty = rw c.in-File.is at c.in_ok-image.ensures.empty;
-  clean = λ t. rw c.in-File.is at (c.in_ok-image.ensures.clean t);
-  this = λ t. rw c.in-File.is at (c.in_ok-image.ensures.this t);
-}
-
-pub put_in_stream-requires-clause-output : goal.put_in_stream-requires-clause-output
-put_in_stream-requires-clause-output g c = record {
-  empty = rw c.in-Stream.is at c.in_ok-image.ensures.empty;
-  clean = λ t. rw c.in-Stream.is at (c.in_ok-image.ensures.clean t);
-  this = λ t. rw c.in-Stream.is at (c.in_ok-image.ensures.this t);
-}

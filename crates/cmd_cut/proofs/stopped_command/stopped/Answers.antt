@@ -10,7 +10,6 @@ use Rattle.cmd_cut.specs.Sparsing.{TellsFirst, earlier, itself}
 use Rattle.sys_refusals.specs.Blamed.{place_on}
 use Rattle.sys_refusals.proofs.Blames.{tells_begun}
 use Rattle.cmd_common_sparse.specs.Fault.{side_of}
-use Rattle.cmd_cut.proofs.Files.{this_still}
 use Rattle.cmd_cut.proofs.stopped_command.stopped.Goals as goal
 
 -- that the image could not be settled is the failure of an earlier write
@@ -35,6 +34,3 @@ returns-clause-told g c =
     first_told c.settle.result c.args.fault c.first_of-fault.result _ _ _ g.D.Disk.models
     (g.D.Disk.held c.args.disk.now) (g.D.Disk.held c.give_up_image.new.self) c.first_of-fault.ensures.settled
     c.first_of-fault.ensures.refused c.refuse.ensures.fault c.settle.ensures.cause c.give_up_image.ensures.closed
-
-pub give_up_image-requires : goal.give_up_image-requires
-give_up_image-requires g c = record { this = λ t. this_still _ _ _ (c.requires.this t) c.settle.ensures.frame }

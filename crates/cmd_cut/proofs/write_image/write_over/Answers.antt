@@ -2,7 +2,6 @@ use Rattle.std.proofs.Common.{refl, ◌∙◌}
 use Rattle.sys_disk.specs.Counts.{no_counts}
 use Rattle.cmd_cut.proofs.Answered.{holds, left_whole, left_broken}
 use Rattle.cmd_cut.proofs.Counted.{closes_done, closes_undone, none_behind, outside_refusal, outside_stopped}
-use Rattle.cmd_cut.proofs.Files.{this_behind}
 use Rattle.cmd_cut.proofs.Told.{tells_host}
 use Rattle.cmd_cut.proofs.write_image.write_over.Goals as goal
 
@@ -65,17 +64,3 @@ returns-in-Err-finish_image-clause-told_of g c = tells_host _ c.in-Err-finish_im
 
 pub returns-in-Err-clause-told_of : goal.returns-in-Err-clause-told_of
 returns-in-Err-clause-told_of g c = c.stopped.ensures.told_of
-
--- what is given back
-
-pub finish_image-requires : goal.finish_image-requires
-finish_image-requires g c = record {
-  this = λ t. this_behind (g.D.Image.Output.write_frame c.args.image) _ _ _ _ (c.requires.ready.output.this t)
-      c.lay_image-answer.ensures.frame (c.let_go_source.ensures.held t);
-}
-
-pub stopped-requires : goal.stopped-requires
-stopped-requires g c = record {
-  this = λ t. this_behind (g.D.Image.Output.write_frame c.args.image) _ _ _ _ (c.requires.ready.output.this t)
-      c.lay_image-answer.ensures.frame (c.let_go_source.ensures.held t);
-}

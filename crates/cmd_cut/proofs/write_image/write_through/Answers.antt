@@ -1,6 +1,5 @@
 use Rattle.cmd_cut.proofs.Answered.{holds_end}
 use Rattle.cmd_cut.proofs.Counted.{answered, closes_answer, outside_answer}
-use Rattle.cmd_cut.proofs.Files.{this_behind}
 use Rattle.cmd_cut.proofs.Opened.{if_err}
 use Rattle.cmd_cut.proofs.Told.{tells_end}
 use Rattle.cmd_cut.proofs.write_image.write_through.Goals as goal
@@ -27,10 +26,4 @@ returns g c = record {
   told_of = tells_end (λ r. r.fault) (λ r. r.about.place) c.write_image-answer.result c.ended.result _ _
       c.ended.ensures.told c.ended.ensures.told_of
       (λ ok. if_err c.ended.result _ _ (λ e host. (host.0, host.1)) (c.ended.ensures.host ok));
-}
-
-pub ended-requires : goal.ended-requires
-ended-requires g c = record {
-  this = λ t. this_behind (g.D.Onto.Output.write_frame c.args.onto) _ _ _ _ (c.requires.ready.output.this t)
-      c.write_image-answer.ensures.frame (c.let_go_source.ensures.held t);
 }

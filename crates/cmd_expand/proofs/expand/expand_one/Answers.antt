@@ -6,7 +6,7 @@ use Rattle.cmd_expand.specs.Expanding.{ExpandingSays}
 use Rattle.sys_disk.specs.Counts.{added, reads, writes}
 use Rattle.cmd_expand.proofs.Files.{clean_behind, ends_behind, expands, failed_behind, failed_first, failed_second}
 use Rattle.cmd_expand.proofs.Files.{handed_on, leaves_expanded, of_failed, of_unprinted, refuses, rest_behind}
-use Rattle.cmd_expand.proofs.Files.{spared_created, synced_once, this_output}
+use Rattle.cmd_expand.proofs.Files.{spared_created, synced_once}
 use Rattle.cmd_expand.proofs.expand.expand_one.Goals as goal
 
 pub returns-in_err-from-clause-refused : goal.returns-in_err-from-clause-refused
@@ -30,12 +30,6 @@ returns-in_err-onto-clause-refused g c = λ t.
       failed_second _ _ _ _ _ _ _ (c.in_ok-from.ensures.opened t) (c.in_err-onto.ensures.kept t),
     ))
     c.from_residual-in_err-onto.ensures.1
-
-pub ended-requires : goal.ended-requires
-ended-requires g c = record {
-  this = λ t. this_output (g.D.Onto.Output.write_frame c.in_ok-onto.onto) _ _ _ _ (c.in_ok-onto.ensures.this t)
-      c.expanded-answer.ensures.frame (c.let_go.ensures.held t);
-}
 
 pub returns-in-Err-clause-leaves : goal.returns-in-Err-clause-leaves
 returns-in-Err-clause-leaves g c = λ t.

@@ -7,7 +7,7 @@ use Rattle.cmd_common_sparse.specs.declared.fault.SparseCommandFault.TheVariants
 use Rattle.cmd_expand.proofs.Overlays.{breaks_over, clean_closing, counts_in_all, failed_closing}
 use Rattle.cmd_expand.proofs.Overlays.{failed_reading, failed_writing, failed_zeros, from_files, from_laying}
 use Rattle.cmd_expand.proofs.Overlays.{from_opening, lands, leaves_overlaid, overlays, sized, synced}
-use Rattle.cmd_expand.proofs.Overlays.{spared_made, this_place, zeros_long}
+use Rattle.cmd_expand.proofs.Overlays.{spared_made, zeros_long}
 use Rattle.cmd_expand.proofs.Lists.{keeps_all_same}
 use Rattle.cmd_expand.proofs.overlay.expand_several.Goals as goal
 
@@ -35,12 +35,6 @@ returns-in_err-zeros-clause-refused g c = λ t.
     (λ r made. from_files _ r.fault _ _ _ _ _ _
     (inl (_, made, failed_zeros _ _ _ _ _ _ _ (c.in-Ok.ensures.opened t) (c.in_err-zeros.ensures.kept t))))
     c.from_residual.ensures.1
-
-pub close-end-requires : goal.close-end-requires
-close-end-requires g c = record {
-  this = λ t. this_place (g.D.InPlace.Partition.past c.in_ok-zeros.zeros) _ _ _ (c.in_ok-zeros.ensures.past t)
-      (c.lay_all-answer.ensures.alone.same t) (c.lay_all-answer.ensures.alone.held t);
-}
 
 pub returns-in-Err-answer-clause-leaves : goal.returns-in-Err-answer-clause-leaves
 returns-in-Err-answer-clause-leaves g c = λ t.
