@@ -13,7 +13,7 @@ use Rattle.abt_flash.specs.Flashing.{Holds}
 use Rattle.abt_flash_faults.specs.declared.fault.FlashFault.TheVariants as flashes
 use Rattle.sys_disk.specs.InPlace.{MakesPlace, closed_part, is_settled, is_settled_in}
 use Rattle.sys_disk.specs.World.{World, OpenFiles, Spares, Ends, OnlyAt, in_output, KeepsFile, HasFailed, HasNotFailed}
-use Rattle.sys_disk.specs.World.{SparesInUse, counting, number_of}
+use Rattle.sys_disk.specs.World.{SparesInUse, counting}
 use Rattle.sys_disk.specs.Counts.{Cause, call, call_of, calls, Counts, HasNone, of_writing, reading, writes, writing}
 use Rattle.sys_disk.proofs.Failings.{counts_one}
 use Rattle.sys_refusals.specs.declared.refusal.HostFault.{HostFault}
@@ -217,12 +217,6 @@ leaves_overlaid r a a1 c inputs xs output h h1 k all same only guarded closed cl
   closed = closed;
   clean = clean;
 }
-
--- what is closed is what was made
-pub this_place : (past past' : Past) (h h' : OpenFiles) → past ≡ past_of_file (number_of h.part)
-    → past'.file ≡ past.file → FailsAlone h h' → past'.file ≡ number_of h'.part
-this_place past past' h h' made same alone =
-    same ∙ ap (λ (p : Past). p.file) made ∙ sym (ap (λ (k : OpenFiles). number_of k.part) alone.same)
 
 -- ---- syncs
 
