@@ -109,6 +109,7 @@ staying_last limit b l p made synced now s old past content count order blocks h
 pub stays_none : (limit b : ℕ) (l : List Block) (made : ℕ) (past : Past) (content : List ℕ)
     → StaysMendable limit b l made past past content content
 stays_none limit b l made past content = record {
+  same = refl;
   since = λ p done le h. none_since past.moments (MendableThen limit b l p made past.synced);
   now = λ p done le h. staying_last limit b l p made past.synced made
       (blocks_in_first limit b l made) past.moments past content refl (omega arith) refl

@@ -107,9 +107,10 @@ abbrev pub MendableThen : ℕ → ℕ → List Block → List ℕ → ℕ → �
 MendableThen limit b l p made synced m = LeavesMendable limit b l p (made + (m.synced - synced)) m
 
 -- In every intermediate state of a call that began after so many pieces, and after it, a stop leaves what a delivery
--- mends, where as much or more was whole before.
+-- mends, where as much or more was whole before. The file stays the same.
 pub record StaysMendable (limit b : ℕ) (l : List Block) (made : ℕ) (old new : Past)
     (before after : List ℕ) : Type 0 where
+  pub same : new.file ≡ old.file
   pub since : (p : List ℕ) (done : ℕ) → made ≤ done → LeavesMendable limit b l p done (moment_of old before)
       → EachSince old.moments new.moments (MendableThen limit b l p made old.synced)
   pub now : (p : List ℕ) (done : ℕ) → made ≤ done → LeavesMendable limit b l p done (moment_of old before)

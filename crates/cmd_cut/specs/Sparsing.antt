@@ -3,6 +3,7 @@ use Rattle.std.specs.Prelude.{◌≡◌, ◌≢◌, ◌<◌, ◌≤◌, ◌⊎�
 use Rattle.std.specs.Prelude.{Option, Some, None, IsTrue, Result, OnOk, IfOk, IfErr, is_ok, if◌then◌else◌}
 use Rattle.abt_sparse.specs.Chunk.{chunks_of, spelling}
 use Rattle.abt_io.specs.declared.device.DeviceFault.{DeviceFault}
+use Rattle.abt_io.specs.declared.device.Output as outputs
 use Rattle.abt_runs.specs.declared.part.RunFault.{RunFault}
 use Rattle.abt_runs.specs.Raw.{RefusedRaw}
 use Rattle.abt_runs.specs.Tail.{raw_list}
@@ -13,7 +14,7 @@ use Rattle.abt_sparsify.specs.declared.count.Written.{Written}
 use Rattle.sys_refusals.specs.declared.refusal.HostFault.TheVariants as hosts
 use Rattle.sys_disk.specs.Counts.{Cause, Counts, call, reading, writing}
 use Rattle.sys_disk.specs.World.{World, OpenFiles, ClosesOutput, KeepsFile, OnlyAt, Spares, SparesRest, HasFailed}
-use Rattle.sys_disk.specs.World.{HasNotFailed, SparesInUse, ended}
+use Rattle.sys_disk.specs.World.{HasNotFailed, SparesInUse, ended, number_of}
 use Rattle.cmd_common_sparse.specs.Blocks.{IsRawBlockSize, most_of}
 use Rattle.cmd_common_sparse.specs.declared.blocks.Blocks.{Blocks}
 use Rattle.cmd_common_sparse.specs.Lines.{line_text}
@@ -143,16 +144,17 @@ pub record ReadyRawImage (models t : Bool) (blocks : Blocks) (bytes reads : ℕ)
   pub fits : FitsBlocks t blocks bytes
   pub read : IsTrue models → reads ≡ 0
 
--- nothing was written yet, and nothing has failed
-pub record ReadyOutput (models : Bool) (written : List ℕ) (faults : ℕ) : Type 0 where
-  pub empty : written ≡ []
-  pub clean : IsTrue models → faults ≡ 0
+-- nothing was written yet to the output that is open, and nothing has failed
+pub record ReadyOutput {B : Type 0} (models : Bool) (o : outputs.Ghosts B) (onto : B) (is_open : Option ℕ) : Type 0 where
+  pub empty : o.written onto ≡ []
+  pub clean : IsTrue models → o.write_faults onto ≡ 0
+  pub this : IsTrue models → (o.write_frame onto).file ≡ number_of is_open
 
 -- both
-pub record ReadyToWrite (models t : Bool) (blocks : Blocks) (bytes reads : ℕ) (written : List ℕ) (faults : ℕ)
-    : Type 0 where
+pub record ReadyToWrite {B : Type 0} (models t : Bool) (blocks : Blocks) (bytes reads : ℕ) (o : outputs.Ghosts B)
+    (onto : B) (is_open : Option ℕ) : Type 0 where
   pub image : ReadyRawImage models t blocks bytes reads
-  pub output : ReadyOutput models written faults
+  pub output : ReadyOutput models o onto is_open
 
 -- such an image can be written to an empty output
 pub record ReadyToLay (t : Bool) (blocks : Blocks) (bytes : ℕ) (written : List ℕ) : Type 0 where

@@ -1,6 +1,6 @@
 //! The engine's calls that write the sparse image of a raw one, with the progress of the command.
 
-ghost use Rattle.std.specs.Prelude.{OnErr};
+ghost use Rattle.std.specs.Prelude.{◌≡◌, OnErr};
 ghost use Rattle.cmd_cut.specs.Sparsing.{HoldsNoSparse, LaysSparseImage, ReadyToLay};
 
 use abt_io::{Meter, Output, Overwrite, Source, Window};
@@ -22,6 +22,7 @@ pub(crate) fn lay_image<S: Source, O: Overwrite>(
     ensures lays { LaysSparseImage result S.models as_img2simg blocks.size (S.content source.old.device)
         (O.written output.new) (S.read_faults source.old.device) (S.read_faults source.new.device)
         (O.write_faults output.old) (O.write_faults output.new) }
+    ensures frame { O.write_frame output.new ≡ O.write_frame output.old }
     ensures broken { OnErr result (HoldsNoSparse (O.written output.new)) }
 {
     let Blocks { size, most } = blocks;
@@ -44,6 +45,7 @@ pub(crate) fn write_image<S: Source, O: Output>(
     ensures lays { LaysSparseImage result S.models as_img2simg blocks.size (S.content source.old.device)
         (O.written output.new) (S.read_faults source.old.device) (S.read_faults source.new.device)
         (O.write_faults output.old) (O.write_faults output.new) }
+    ensures frame { O.write_frame output.new ≡ O.write_frame output.old }
 {
     let Blocks { size, most } = blocks;
     match sparsify(source, size, as_img2simg, most, output, w, m) {

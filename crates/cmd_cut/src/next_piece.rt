@@ -39,6 +39,7 @@ pub(crate) fn write_next<B: BlockRuns + Drop, S: Lasting, O: Output>(
     // it fails where the device has failed that the fault is of
     ensures fails { OnlyDevicesFail result S.models (S.read_faults source.old.device) (S.read_faults source.new.device)
         (O.write_faults output.old) (O.write_faults output.new) }
+    ensures frame { O.write_frame output.new ≡ O.write_frame output.old }
 {
     let answer = cutter.next_piece(source, output, w, m);
     match changed(source.device.shorter()) {
@@ -91,6 +92,7 @@ pub(crate) trait LaysPieces: BlockRuns + Drop {
             × (O.write_faults result.0 ≡ O.write_faults image)) }
         ensures cause { IsTrue S.models → IfErr result.1 (IsOutsideCut (DevicesFail (S.read_faults source.old.device)
             (S.read_faults source.new.device) (O.write_faults image) (O.write_faults result.0))) }
+        ensures frame { O.write_frame result.0 ≡ O.write_frame image }
         // then what was written is no image
         ensures broken { IsTrue S.models → OnErr result.1 (HoldsNoSparse (O.written result.0)) };
 }

@@ -9,7 +9,7 @@ ghost use Rattle.cmd_cut.specs.Cutting.{FailsBeside, IsOutsideCut, NoneFailsBesi
 ghost use Rattle.cmd_cut.specs.Leaving.{HoldsNoneOrPiece, KeepsOrHolds};
 ghost use Rattle.cmd_cut.specs.Sparsing.{GivesUp, ReadyOutput};
 ghost use Rattle.sys_disk.specs.Images.{Leaves};
-ghost use Rattle.sys_disk.specs.World.{MayWrite};
+ghost use Rattle.sys_disk.specs.World.{MayWrite, number_of};
 
 use crate::next_piece::{LaysPieces, write_next};
 use crate::stopped_command::stopped;
@@ -108,7 +108,7 @@ fn put_in_file<'a, D: Disk, B: BlockRuns + LaysPieces + Drop>(
     w: &mut Window,
     m: &mut Meter,
 ) -> Result<(Piece, bool), SparseRefusal<'a>>
-    requires output { ReadyOutput D.models (D.Image.Output.written image) (D.Image.Output.write_faults image) }
+    requires output { ReadyOutput D.models D.Image.Output image (D.held disk.old).output }
     requires ready { ReadyPiece B.BlockRuns D.At.Source pieces.old.cutter.runs source.old.device
         pieces.old.cutter.limit pieces.old.cutter.made pieces.old.cutter.start pieces.old.cutter.stage }
     ensures puts { IsTrue D.models → PutsPiece result (λ refusal. refusal.fault) (cut_into pieces.old.cutter.limit
@@ -152,7 +152,7 @@ fn put_in_stream<'a, D: Disk, B: BlockRuns + LaysPieces + Drop>(
     w: &mut Window,
     m: &mut Meter,
 ) -> Result<(Piece, bool), SparseRefusal<'a>>
-    requires output { ReadyOutput D.models (D.Onto.written onto) (D.Onto.write_faults onto) }
+    requires output { ReadyOutput D.models D.Onto.Output onto (D.held disk.old).output }
     requires ready { ReadyPiece B.BlockRuns D.At.Source pieces.old.cutter.runs source.old.device
         pieces.old.cutter.limit pieces.old.cutter.made pieces.old.cutter.start pieces.old.cutter.stage }
     ensures puts { IsTrue D.models → PutsPiece result (λ refusal. refusal.fault) (cut_into pieces.old.cutter.limit
@@ -178,6 +178,7 @@ fn put_in_stream<'a, D: Disk, B: BlockRuns + LaysPieces + Drop>(
 
 // Closes an image whose magic could not be written.
 fn unended<'a, D: Disk>(disk: &mut D, image: D::Image, place: FileArg<'a>) -> SparseRefusal<'a>
+    requires this { IsTrue D.models → (D.Image.Output.write_frame image).file ≡ number_of (D.held disk.old).output }
     ensures holds { IsTrue D.models → Leaves (D.held disk.old).output (D.Image.Output.written image) (D.world disk.new) }
     ensures closed { IsTrue D.models → GivesUp (D.Image.Output.write_faults image) (D.held disk.old) (D.held disk.new)
         (D.world disk.old) (D.world disk.new) }

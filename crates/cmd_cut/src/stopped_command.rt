@@ -3,7 +3,7 @@
 ghost use Rattle.std.specs.Prelude.{◌≡◌, ◌≤◌, false, IsTrue, IfErr, IfOk, OnOk};
 ghost use Rattle.sys_disk.specs.Counts.{writing};
 ghost use Rattle.sys_disk.specs.Images.{Leaves};
-ghost use Rattle.sys_disk.specs.World.{HasFailed};
+ghost use Rattle.sys_disk.specs.World.{HasFailed, number_of};
 ghost use Rattle.sys_refusals.specs.Blamed.{TellsOf, input_of};
 ghost use Rattle.cmd_common_sparse.specs.Fault.{side_of};
 ghost use Rattle.cmd_cut.specs.Sparsing.{GivesUp, TellsFirst};
@@ -22,6 +22,7 @@ pub(crate) fn stopped<'a, D: Disk>(
     output: FileArg<'a>,
     sides: Sides<'a>,
 ) -> SparseRefusal<'a>
+    requires this { IsTrue D.models → (D.Image.Output.write_frame image).file ≡ number_of (D.held disk.old).output }
     ensures left { IsTrue D.models → Leaves (D.held disk.old).output (D.Image.Output.written image) (D.world disk.new) }
     ensures closed { IsTrue D.models → GivesUp (D.Image.Output.write_faults image) (D.held disk.old) (D.held disk.new)
         (D.world disk.old) (D.world disk.new) }

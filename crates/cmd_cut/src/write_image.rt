@@ -2,6 +2,7 @@
 
 ghost use Rattle.std.specs.Prelude.{◌≡◌, [], IsTrue, IfErr, IfOk, OnErr};
 ghost use Rattle.sys_disk.specs.Images.{OfImage, is_file};
+ghost use Rattle.sys_disk.specs.World.{number_of};
 ghost use Rattle.sys_refusals.specs.Blamed.{TellsOf, input_of};
 ghost use Rattle.sys_refusals.specs.Paths.{path_out};
 ghost use Rattle.cmd_common_sparse.specs.Fault.{side_of};
@@ -38,6 +39,9 @@ pub(crate) fn write_whole<'a, D: Disk>(
     requires empty { OfImage (λ file. D.Image.Output.written file ≡ []) (λ onto. D.Onto.written onto ≡ []) image }
     requires clean { IsTrue D.models → OfImage (λ file. D.Image.Output.write_faults file ≡ 0)
         (λ onto. D.Onto.write_faults onto ≡ 0) image }
+    requires this { IsTrue D.models → OfImage
+        (λ file. (D.Image.Output.write_frame file).file ≡ number_of (D.held disk.old).output)
+        (λ onto. (D.Onto.write_frame onto).file ≡ number_of (D.held disk.old).output) image }
     ensures writes { IsTrue D.models → WritesSparseImage result (λ refusal. refusal.fault) as_img2simg blocks.size
         (D.At.content source) (D.held disk.old) (D.held disk.new) (D.world disk.old) (D.world disk.new) }
     ensures stream { IsTrue D.models → IfOk result (λ end. end.1 ≡ D.on_output (path_out output.entry)) }
@@ -92,7 +96,7 @@ fn write_over<'a, D: Disk>(
     m: &mut Meter,
 ) -> Result<(Written, bool), SparseRefusal<'a>>
     requires ready { ReadyToWrite D.models as_img2simg blocks (D.At.size source) (D.At.read_faults source)
-        (D.Image.Output.written image) (D.Image.Output.write_faults image) }
+        D.Image.Output image (D.held disk.old).output }
     ensures writes { IsTrue D.models → WritesSparseImage result (λ refusal. refusal.fault) as_img2simg blocks.size
         (D.At.content source) (D.held disk.old) (D.held disk.new) (D.world disk.old) (D.world disk.new) }
     ensures stream { IsTrue D.models → IfOk result (λ end. end.1 ≡ D.on_output (path_out output.entry)) }
@@ -133,7 +137,7 @@ fn write_through<'a, D: Disk>(
     m: &mut Meter,
 ) -> Result<(Written, bool), SparseRefusal<'a>>
     requires ready { ReadyToWrite D.models as_img2simg blocks (D.At.size source) (D.At.read_faults source)
-        (D.Onto.written onto) (D.Onto.write_faults onto) }
+        D.Onto.Output onto (D.held disk.old).output }
     ensures writes { IsTrue D.models → WritesSparseImage result (λ refusal. refusal.fault) as_img2simg blocks.size
         (D.At.content source) (D.held disk.old) (D.held disk.new) (D.world disk.old) (D.world disk.new) }
     ensures stream { IsTrue D.models → IfOk result (λ end. end.1 ≡ D.on_output (path_out output.entry)) }

@@ -5,13 +5,13 @@ use Rattle.std.specs.Prelude.{Contains, if◌then◌else◌, nat_lt, Result, Err
 use Rattle.std.specs.List.{AllByRecursion}
 use Rattle.std.proofs.lemmas.Bool.{lt-ltb}
 use Rattle.std.proofs.lemmas.List.{length-map, length-replicate}
-use Rattle.abt_io.specs.Moment.{Past, no_past}
+use Rattle.abt_io.specs.Moment.{Past, past_of_file}
 use Rattle.abt_sparse.specs.Pieces.{flashed_in_turn}
 use Rattle.abt_chunks.specs.declared.progress.Expanded.{Expanded}
 use Rattle.abt_runs.specs.declared.part.RunFault.TheVariants as of_runs
 use Rattle.abt_flash.specs.Flashing.{Holds}
 use Rattle.abt_flash_faults.specs.declared.fault.FlashFault.TheVariants as flashes
-use Rattle.sys_disk.specs.InPlace.{IsAsLong, MakesZeros, closed_part, is_settled, is_settled_in}
+use Rattle.sys_disk.specs.InPlace.{MakesPlace, closed_part, is_settled, is_settled_in}
 use Rattle.sys_disk.specs.World.{World, OpenFiles, Spares, Ends, OnlyAt, in_output, KeepsFile, HasFailed, HasNotFailed}
 use Rattle.sys_disk.specs.World.{SparesInUse, counting}
 use Rattle.sys_disk.specs.Counts.{Cause, call, call_of, calls, Counts, HasNone, of_writing, reading, writes, writing}
@@ -40,10 +40,10 @@ pub record CountsInAll (h h2 h3 h4 : OpenFiles) (m : ℕ) (u : Counts) : Type 0 
   pub since : (cause : Cause) → h4.counts.failed cause
       ≡ h3.counts.failed cause + of_writing m cause + u.failed cause
 
-pub counts_in_all : (a a1 b : World) (inputs xs : List (List ℕ)) (output : List ℕ) (n m : ℕ) (u : Counts) (past : Past)
-    (h h1 h2 h3 h4 : OpenFiles) → AreOpened a inputs xs h h1 → MakesZeros n output h1 h2 a1 b
+pub counts_in_all : (a a1 b : World) (inputs xs : List (List ℕ)) (output : List ℕ) (m : ℕ) (u : Counts) (past : Past)
+    (h h1 h2 h3 h4 : OpenFiles) → AreOpened a inputs xs h h1 → MakesPlace output h1 h2 a1 b
     → h4 ≡ counting u (closed_part past (writes m) h3) → CountsInAll h h2 h3 h4 m u
-counts_in_all a a1 b inputs xs output n m u past h h1 h2 h3 h4 all made closed = record {
+counts_in_all a a1 b inputs xs output m u past h h1 h2 h3 h4 all made closed = record {
   before = λ cause. ap (λ (k : OpenFiles). k.counts.failed cause) made.begins
       ∙ ap (λ (k : OpenFiles). k.counts.failed cause) all.taken;
   since = λ cause. ap (λ (k : OpenFiles). k.counts.failed cause) closed;
@@ -98,10 +98,9 @@ clean_closing h h2 h3 h4 p p' u counts none clean same zero cause =
 
 -- ---- what the output holds
 
-spared : (a a1 b b' c : World) (n : ℕ) (output y : List ℕ) (h1 h2 h3 : OpenFiles)
-    (made : MakesZeros n output h1 h2 a1 b)
+spared : (a a1 b b' c : World) (output y : List ℕ) (h1 h2 h3 : OpenFiles) (made : MakesPlace output h1 h2 a1 b)
     → a1 ≡ a → b' ≡ b → FailsAlone h2 h3 → Ends h3.part y b' c → (c.holds made.file ≡ y) × Spares made.file a c
-spared a a1 b b' c n output y h1 h2 h3 made same same' alone ends =
+spared a a1 b b' c output y h1 h2 h3 made same same' alone ends =
     let part : h3.part ≡ Some made.file = ap (λ k. k.part) alone.same ∙ ap (λ k. k.part) made.begins in
     let end : (c.holds made.file ≡ y) × Spares made.file b c
     = subst (λ w. Ends (Some made.file) y w c) same' (subst (λ p. Ends p y b' c) part ends) in
@@ -112,11 +111,11 @@ pub zeros_long : (z : List ℕ) (size n m : ℕ) → size ≡ length z → z ≡
 zeros_long z size n m is zeros same = is ∙ ap length zeros ∙ length-replicate n 0 ∙ same
 
 -- its position
-pub lands : (a a1 b b' c : World) (n : ℕ) (output y : List ℕ) (h1 h2 h3 : OpenFiles) → MakesZeros n output h1 h2 a1 b
+pub lands : (a a1 b b' c : World) (output y : List ℕ) (h1 h2 h3 : OpenFiles) → MakesPlace output h1 h2 a1 b
     → a1 ≡ a → b' ≡ b → FailsAlone h2 h3 → Ends h3.part y b' c → c.at ≡ b'.at → OnlyAt h1.read output a c
-lands a a1 b b' c n output y h1 h2 h3 made same same' alone ends paths =
+lands a a1 b b' c output y h1 h2 h3 made same same' alone ends paths =
     in_output made.file (ap (λ g. g output) paths ∙ ap (λ w. w.at output) same' ∙ made.there) made.free
-    (spared a a1 b b' c n output y h1 h2 h3 made same same' alone ends).1
+    (spared a a1 b b' c output y h1 h2 h3 made same same' alone ends).1
 
 -- the images' blocks, and how many bytes they take
 pub record Sized (e : Expanded) (inputs xs : List (List ℕ)) : Type 0 where
@@ -157,14 +156,14 @@ sized (Some s) e a inputs xs h h1 whole all is = record {
 pub overlays : (shape : Option Shape) (e : Expanded) (a a1 b b' c : World) (inputs xs : List (List ℕ))
     (output y z : List ℕ) (h h1 h2 h3 : OpenFiles) (shows : List ℕ → Type 0) → e ≡ whole_of_shape shape
     → AreOpened a inputs xs h h1 → IsShapeOf shape xs → AreInTurn inputs a
-    → MakesZeros e.bytes output h1 h2 a1 b → a1 ≡ a → z ≡ replicate e.bytes 0
+    → MakesPlace output h1 h2 a1 b → a1 ≡ a → z ≡ replicate e.bytes 0
     → y ≡ flashed_in_turn z xs → b' ≡ b → FailsAlone h2 h3 → Ends h3.part y b' c → c.at ≡ b'.at
     → shows (line_text (lines.Expanded e.blocks e.bytes) ++ (10 ∷ []))
     → OverlaysFiles inputs output a c shows
 overlays shape e a a1 b b' c inputs xs output y z h h1 h2 h3 shows whole all is turn made same zeros laid same' alone
     ends paths shown =
     let s = sized shape e a inputs xs h h1 whole all is in
-    let end = spared a a1 b b' c e.bytes output y h1 h2 h3 made same same' alone ends in
+    let end = spared a a1 b b' c output y h1 h2 h3 made same same' alone ends in
     record {
       blocks = s.number;
       size = s.size;
@@ -203,10 +202,10 @@ ins_kept a a1 c inputs xs output h h1 all same only =
     (subst (λ k. AllByRecursion (λ f. Contains k.read f) all.files) (sym all.taken) (each_read h.read all.files))
     (subst (λ w. OnlyAt h1.read output w c) same only)
 
--- a path at which a file of zeros was made may be written
-pub spared_made : (n : ℕ) (path : List ℕ) (h h' : OpenFiles) (a b u v : World) → MakesZeros n path h h' a b
+-- a path at which a file was made may be written
+pub spared_made : (path : List ℕ) (h h' : OpenFiles) (a b u v : World) → MakesPlace path h h' a b
     → SparesInUse path h u v
-spared_made n path h h' a b u v made = spared_if_may path h u v made.allowed
+spared_made path h h' a b u v made = spared_if_may path h u v made.allowed
 
 pub leaves_overlaid : {X F : Type 0} (r : Result X F) (a a1 c : World) (inputs xs : List (List ℕ)) (output : List ℕ)
     (h h1 k : OpenFiles) → AreOpened a inputs xs h h1 → a1 ≡ a → OnlyAt h1.read output a1 c
@@ -219,13 +218,6 @@ leaves_overlaid r a a1 c inputs xs output h h1 k all same only guarded closed cl
   clean = clean;
 }
 
--- it is closed as long as it was made
-pub as_long : (a1 b b' : World) (n : ℕ) (output y z : List ℕ) (h1 h2 h3 : OpenFiles) → MakesZeros n output h1 h2 a1 b
-    → b' ≡ b → FailsAlone h2 h3 → length y ≡ length z → z ≡ replicate n 0 → IsAsLong h3.part y b'
-as_long a1 b b' n output y z h1 h2 h3 made same alone long zeros =
-    subst (λ p. IsAsLong p y b') (sym (ap (λ k. k.part) alone.same ∙ ap (λ k. k.part) made.begins))
-    (long ∙ ap length zeros ∙ ap length (sym made.holds) ∙ ap (λ w. length (w.holds made.file)) (sym same))
-
 -- ---- syncs
 
 once : {X : Type 0} (xs : List X) → (if nat_lt 0 (length xs) then 1 else 0) ≡ once_if_any xs
@@ -234,12 +226,11 @@ once (x ∷ xs) =
     let more : 0 < suc (length xs) = omega arith in
     ap (λ b. if b then 1 else 0) (lt-ltb 0 (suc (length xs)) more)
 
-pub synced : (a a1 b : World) (inputs xs : List (List ℕ)) (output : List ℕ) (n k : ℕ) (m u : Counts)
-    (past past' : Past)
-    (h h1 h2 h3 h4 : OpenFiles) → AreOpened a inputs xs h h1 → MakesZeros n output h1 h2 a1 b → FailsAlone h2 h3
-    → h4 ≡ counting u (closed_part past' m h3) → past ≡ no_past → past'.pending ≡ [] → past'.synced ≡ past.synced + k
-    → length xs ≡ k → h4.syncs ≡ h.syncs + once_if_any inputs
-synced a a1 b inputs xs output n k m u past past' h h1 h2 h3 h4 all made alone closed fresh empty counted items =
+pub synced : {file : ℕ} (a a1 b : World) (inputs xs : List (List ℕ)) (output : List ℕ) (k : ℕ) (m u : Counts)
+    (past past' : Past) (h h1 h2 h3 h4 : OpenFiles) → AreOpened a inputs xs h h1 → MakesPlace output h1 h2 a1 b
+    → FailsAlone h2 h3 → h4 ≡ counting u (closed_part past' m h3) → past ≡ past_of_file file → past'.pending ≡ []
+    → past'.synced ≡ past.synced + k → length xs ≡ k → h4.syncs ≡ h.syncs + once_if_any inputs
+synced a a1 b inputs xs output k m u past past' h h1 h2 h3 h4 all made alone closed fresh empty counted items =
     let none : past.synced ≡ 0 = ap (λ q. q.synced) fresh in
     let long : length xs ≡ length inputs = as_long_as a inputs xs h h1 all in
     let many : past'.synced ≡ length inputs
@@ -301,13 +292,13 @@ breaks_in (faults.Host f) number size inputs xs output z onto a c ins here bytes
 
 pub breaks_over : (f : SparseCommandFault) (shape : Option Shape) (e : Expanded) (a a1 b b' c : World)
     (inputs xs : List (List ℕ)) (output y z : List ℕ) (h h1 h2 h3 : OpenFiles) → e ≡ whole_of_shape shape
-    → AreOpened a inputs xs h h1 → IsShapeOf shape xs → MakesZeros e.bytes output h1 h2 a1 b → a1 ≡ a
+    → AreOpened a inputs xs h h1 → IsShapeOf shape xs → MakesPlace output h1 h2 a1 b → a1 ≡ a
     → z ≡ replicate e.bytes 0 → BreaksAmong f xs z y → b' ≡ b → FailsAlone h2 h3 → Ends h3.part y b' c
     → c.at ≡ b'.at → BreaksOver f inputs output a c
 breaks_over f shape e a a1 b b' c inputs xs output y z h h1 h2 h3 whole all is made same zeros broken same' alone
     ends paths =
     let s = sized shape e a inputs xs h h1 whole all is in
-    let end = spared a a1 b b' c e.bytes output y h1 h2 h3 made same same' alone ends in
+    let end = spared a a1 b b' c output y h1 h2 h3 made same same' alone ends in
     breaks_in f s.number s.size inputs xs output z made.file a c record {
       files = all.files;
       there = all.there;

@@ -2,6 +2,8 @@
 use Rattle.std.specs.Prelude.{◌≡◌, ℕ, ◌*◌, ◌<◌, ◌≤◌, List, [], ◌∷◌, ◌++◌, length, map, Option, Some, None}
 use Rattle.std.specs.List.{AllByRecursion}
 use Rattle.std.specs.Prelude.{Bool, true, IsTrue, ◌==◌, ◌&&◌, Err}
+use Rattle.abt_io.specs.declared.device.Partition as partitions
+use Rattle.abt_io.specs.declared.device.Source as sources
 use Rattle.abt_sparse.specs.Fails.{Fails}
 use Rattle.abt_sparse.specs.Pieces.{flashed_in_turn}
 use Rattle.abt_chunks.specs.declared.progress.Expanded.{Expanded}
@@ -139,8 +141,10 @@ pub record FailsAlone (held held' : OpenFiles) : Type 0 where
   pub grown : (cause : Cause) → held.counts.failed cause ≤ held'.counts.failed cause
   pub read : held.counts.given ≤ held'.counts.given
 
--- The file that is overwritten keeps its length, and of the disk only what is counted has changed.
-pub record LaysAlone (models : Bool) (long long' : ℕ) (before after : OpenFiles) (old new : World) : Type 0 where
-  pub size : long' ≡ long
+-- The file that is overwritten stays the same and keeps its length, and of the disk only what is counted has changed.
+pub record LaysAlone {C : Type 0} (models : Bool) (s : sources.Ghosts C) (p : partitions.Ghosts C) (onto onto' : C)
+    (before after : OpenFiles) (old new : World) : Type 0 where
+  pub same : IsTrue models → (p.past onto').file ≡ (p.past onto).file
+  pub size : s.size onto' ≡ s.size onto
   pub world : IsTrue models → new ≡ old
   pub held : IsTrue models → FailsAlone before after

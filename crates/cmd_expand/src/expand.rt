@@ -91,6 +91,7 @@ fn expanded<I: Input, O: Output>(
         (O.written onto.new) }
     ensures begun { IsTrue I.models → WritesRead (I.given from.new.device - I.given from.old.device)
         (I.remaining from.old.device) (O.written onto.old) (O.written onto.new) }
+    ensures frame { O.write_frame onto.new ≡ O.write_frame onto.old }
     ensures blames { Blames result (I.read_faults from.old.device) (I.read_faults from.new.device)
         (O.write_faults onto.old) (O.write_faults onto.new) }
 {

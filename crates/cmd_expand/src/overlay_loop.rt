@@ -44,9 +44,8 @@ pub(crate) fn lay_all<'a, D: Disk>(
     ensures settled { IsTrue D.models → (D.InPlace.past onto.old).pending ≡ [] →
         OnOk result ((D.InPlace.past onto.new).pending ≡ []) }
     // of the disk only what is counted has changed, and nothing has failed where all images were written
-    ensures alone { LaysAlone D.models (D.InPlace.size onto.old) (D.InPlace.size onto.new) (D.held disk.old)
-        (D.held disk.new)
-        (D.world disk.old) (D.world disk.new) }
+    ensures alone { LaysAlone D.models D.InPlace.Source D.InPlace.Partition.own onto.old onto.new (D.held disk.old)
+        (D.held disk.new) (D.world disk.old) (D.world disk.new) }
     ensures clean { IsTrue D.models → AllByRecursion (λ one. D.At.read_faults one.source ≡ 0) kept.entry.items →
         OnOk result (HasNotFailed (D.held disk.old) (D.held disk.new)
         × (D.InPlace.put_faults onto.new ≡ D.InPlace.put_faults onto.old)) }
@@ -89,9 +88,8 @@ fn lay_one<'a, D: Disk>(
         (D.At.content one.entry.source) (D.InPlace.content onto.old) (D.InPlace.content onto.new)) }
     ensures synced { OnOk result ((D.InPlace.past onto.new).synced ≡ (D.InPlace.past onto.old).synced + 1) }
     ensures settled { IsTrue D.models → OnOk result ((D.InPlace.past onto.new).pending ≡ []) }
-    ensures alone { LaysAlone D.models (D.InPlace.size onto.old) (D.InPlace.size onto.new) (D.held disk.old)
-        (D.held disk.new)
-        (D.world disk.old) (D.world disk.new) }
+    ensures alone { LaysAlone D.models D.InPlace.Source D.InPlace.Partition.own onto.old onto.new (D.held disk.old)
+        (D.held disk.new) (D.world disk.old) (D.world disk.new) }
     ensures clean { IsTrue D.models → OnOk result (((cause : Cause) → (D.held disk.new).counts.failed cause
         ≡ (D.held disk.old).counts.failed cause + of_reading (D.At.read_faults one.entry.source) cause)
         × (D.InPlace.put_faults onto.new ≡ D.InPlace.put_faults onto.old)) }
@@ -154,6 +152,7 @@ fn flash_one<S: Source, P: Partition>(
         Holds result (S.given from.new.device.source - S.given from.old.device.source) (P.content onto.old)
         (P.content onto.new) (S.content from.old.device.source) }
     ensures size { P.size onto.new ≡ P.size onto.old }
+    ensures same { IsTrue S.models → IsTrue P.models → (P.past onto.new).file ≡ (P.past onto.old).file }
     ensures synced { OnOk result ((P.past onto.new).synced ≡ (P.past onto.old).synced + 1) }
     ensures settled { IsTrue P.models → OnOk result ((P.past onto.new).pending ≡ []) }
     ensures cause { FlashingRises result (S.read_faults from.old.device.source) (S.read_faults from.new.device.source)

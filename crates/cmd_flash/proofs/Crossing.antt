@@ -3,12 +3,12 @@ use Rattle.std.proofs.Common.{◌≡◌, ◌≢◌, ℕ, ◌+◌, ◌≤◌, ari
 use Rattle.std.proofs.Common.{None, Some, sym, ◌∙◌, ap, subst}
 use Rattle.std.specs.Prelude.{Contains, if◌then◌else◌, unwrap_or}
 use Rattle.std.proofs.lemmas.List.Elements.{Contains-append_left, Contains-push}
-use Rattle.abt_io.specs.Moment.{Past}
+use Rattle.abt_io.specs.Moment.{Past, past_of_file}
 use Rattle.sys_disk.specs.Counts.{Cause, Counts}
-use Rattle.sys_disk.specs.InPlace.{ClosesPart, OpensPart, IsAsLong, in_place, is_settled}
+use Rattle.sys_disk.specs.InPlace.{ClosesPart, OpensPart, in_place, is_settled}
 use Rattle.sys_disk.specs.Spools.{OpensSpool, closed_spool, through}
 use Rattle.sys_disk.specs.World.{World, OpenFiles, Spares, OpensFile, OnlyAt, untouched, in_output, Ends, SparesRest}
-use Rattle.sys_disk.specs.World.{KeepsFile, MayWrite, SparesInUse, counting, reading}
+use Rattle.sys_disk.specs.World.{KeepsFile, MayWrite, SparesInUse, counting, number_of, reading}
 use Rattle.sys_disk.proofs.Closings.{apart_from}
 use Rattle.sys_disk.proofs.Worlds.{apart, may_behind, spared_behind, spared_if_may, spares_trans}
 use Rattle.cmd_flash.specs.InPieces.{Across, SparesBoth}
@@ -63,19 +63,15 @@ spared spool a a' a'' a3 a4 a5 h'' h3 same same' s rest last =
     subst (λ (w : World). Spares s.file w a5) (same' ∙ same)
     (subst (λ (w : World). Spares s.file a'' w) (sym last) (spares_trans s.file a'' a3 a4 s.spares closed))
 
--- the partition is returned with its length unchanged
-pub as_long_across : {k : Bool} (input path spool x p p' : List ℕ) (a a' a'' a3 a4 a5 : World)
-    (h h' h'' h3 h4 h5 : OpenFiles) (n : Counts)
-    → OpensFile a input x h h' → a' ≡ a → OpensPart a' path p h' h'' → a'' ≡ a' → OpensSpool k spool h'' h3 a'' a3
-    → ClosesSpool h3 h4 → SparesRest h3.spool a3 a4 → h5 ≡ counting n h4 → a5 ≡ a4 → length p' ≡ length p
-    → IsAsLong h5.part p' a5
-as_long_across input path spool x p p' a a' a'' a3 a4 a5 h h' h'' h3 h4 h5 n r same o same' s cs rest l last long =
-    let opened : OpensPart a path p h' h'' = subst (λ (w : World). OpensPart w path p h' h'') same o in
-    let one = spared spool a a' a'' a3 a4 a5 h'' h3 same same' s rest last in
-    subst (λ (q : Option ℕ). IsAsLong q p' a5)
-    (sym (part_then _ h' h'' h3 h4 h5 opened.file s.file cs.failures n opened.taken s.begins cs.closed l))
-    (long ∙ ap length opened.held ∙ ap length (sym (one.files opened.file
-    (apart_third h' h'' opened.file s.file opened.taken s.fresh))))
+-- the partition that is closed is the one that was opened
+pub this_across : {keeping : Bool} (spool : List ℕ) (past past' : Past) (a b : World) (h h3 h4 h5 : OpenFiles)
+    (n : Counts) → past ≡ past_of_file (number_of h.part) → past'.file ≡ past.file → OpensSpool keeping spool h h3 a b
+    → ClosesSpool h3 h4 → h5 ≡ counting n h4 → past'.file ≡ number_of h5.part
+this_across spool past past' a b h h3 h4 h5 n opened same s cs gone =
+    let part : h5.part ≡ h.part =
+    ap (λ (q : OpenFiles). q.part) gone ∙ ap (λ (q : OpenFiles). q.part) cs.closed
+    ∙ ap (λ (q : OpenFiles). q.part) s.begins in
+    same ∙ ap (λ (q : Past). q.file) opened ∙ sym (ap number_of part)
 
 failed_then : (h4 h5 h6 : OpenFiles) (n k : Counts) (past : Past) (d : Bool) (cause : Cause) → h5 ≡ counting n h4
     → (c : ClosesPart d past k h5 h6)

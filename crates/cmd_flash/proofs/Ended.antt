@@ -3,7 +3,7 @@ use Rattle.std.proofs.Common.{◌≡◌, ◌<◌, ◌+◌, ℕ, List, [], ◌∷
 use Rattle.std.proofs.Common.{inl, inr}
 use Rattle.std.specs.Prelude.{None, Result, Ok, Err, IfOk, IfErr, IsOk, OnOk, is_some, true}
 use Rattle.std.proofs.lemmas.Bool.{lt-ltb}
-use Rattle.abt_io.specs.Moment.{Past, no_past}
+use Rattle.abt_io.specs.Moment.{Past, past_of_file}
 use Rattle.sys_disk.specs.InPlace.{is_settled, is_settled_in}
 use Rattle.sys_disk.specs.Counts as runs
 use Rattle.sys_disk.specs.World.{World, OpenFiles, HasFailed, HasNotFailed, KeepsFile}
@@ -68,15 +68,15 @@ when_done (Ok d) n P is so = so
 when_done (Err fault) n P is so = absurd (subst IsFault is tt)
 
 -- at least one sync, after the last byte
-settled_by : (past past' : Past) (n : ℕ) → past ≡ no_past → past'.synced ≡ past.synced + n → 0 < n → past'.pending ≡ []
-    → is_settled past' ≡ true
+settled_by : {file : ℕ} (past past' : Past) (n : ℕ) → past ≡ past_of_file file → past'.synced ≡ past.synced + n → 0 < n
+    → past'.pending ≡ [] → is_settled past' ≡ true
 settled_by past past' n fresh more one none =
     let was : past.synced ≡ 0 = ap (λ (q : Past). q.synced) fresh in
     ap (λ (l : List (ℕ × ℕ)). is_settled_in l past'.synced) none
     ∙ lt-ltb 0 past'.synced (omega (arith, more, one, was))
 
-pub settled_pieces : (r : Result Delivered FlashFault) (n : ℕ) (past past' : Past) → count_delivered r ≡ Ok n
-    → past ≡ no_past
+pub settled_pieces : {file : ℕ} (r : Result Delivered FlashFault) (n : ℕ) (past past' : Past)
+    → count_delivered r ≡ Ok n → past ≡ past_of_file file
     → IfOk r (λ d. 0 < d.pieces) → IfOk r (λ d. past'.synced ≡ past.synced + d.pieces) → OnOk r (past'.pending ≡ [])
     → is_settled past' ≡ true
 settled_pieces (Ok d) n past past' is fresh some synced none = settled_by past past' d.pieces fresh synced some none
@@ -187,12 +187,12 @@ refuses_across untold q r e M none g s t m raw limit before before' input path s
     refuses_ended untold q r e G raw limit before input path spool x p p' a c h h' is told late all.closed go
     all.across (subst (λ (k : ℕ). DeliversPieces G raw r limit k x p p') same delivers)
 
-pub done_across : (r : Result Delivered FlashFault) (n none s t : ℕ) (raw : Option ℕ)
+pub done_across : {file : ℕ} (r : Result Delivered FlashFault) (n none s t : ℕ) (raw : Option ℕ)
     (limit before before' : ℕ)
     (input path spool x p p' : List ℕ) (a c : World) (h h3 h4 h5 h' : OpenFiles)
     (o k m : runs.Counts) (past past' : Past) (shows : List ℕ → Type 0)
     → Crossed input path spool x p p' a c h h3 h4 h5 h' o k m past' → count_delivered r ≡ Ok n
-    → past ≡ no_past → IfOk r (λ d. 0 < d.pieces) → IfOk r (λ d. past'.synced ≡ past.synced + d.pieces)
+    → past ≡ past_of_file file → IfOk r (λ d. 0 < d.pieces) → IfOk r (λ d. past'.synced ≡ past.synced + d.pieces)
     → OnOk r (past'.pending ≡ []) → before' ≡ before
     → DeliversPieces (λ k. none ≡ 0 → HasFailedWith s t h3 h4 k) raw r limit before' x p p'
     → h3.keeps ≡ is_some raw → shows (line_text (lines.Pieces n) ++ (10 ∷ []))

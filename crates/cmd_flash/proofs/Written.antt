@@ -2,11 +2,11 @@
 use Rattle.std.proofs.Common.{◌≡◌, ℕ, ◌+◌, ◌<◌, ◌≤◌, arith, List, [], Bool, true, length, Option}
 use Rattle.std.proofs.Common.{◌-◌, None, refl, sym, ◌∙◌, ap, subst}
 use Rattle.std.specs.Prelude.{if◌then◌else◌}
-use Rattle.abt_io.specs.Moment.{Past, no_past}
-use Rattle.sys_disk.specs.InPlace.{ClosesPart, OpensPart, IsAsLong, SparesOthers, in_place, is_settled, is_settled_in}
+use Rattle.abt_io.specs.Moment.{Past, past_of_file}
+use Rattle.sys_disk.specs.InPlace.{ClosesPart, OpensPart, SparesOthers, in_place, is_settled, is_settled_in}
 use Rattle.sys_disk.specs.Counts as counts
 use Rattle.sys_disk.specs.World.{World, OpenFiles, HasFailed, HasNotFailed, OpensFile, Ends, KeepsFile, counting}
-use Rattle.sys_disk.specs.World.{reading}
+use Rattle.sys_disk.specs.World.{number_of, reading}
 use Rattle.sys_disk.proofs.Closings.{ends_in, apart_from, others_spared, keeps_read}
 use Rattle.sys_disk.proofs.Worlds.{may_behind, spared_if_may}
 use Rattle.cmd_flash.specs.Files.{Between, DeviceFailed, NeitherFailed, OfBoth, OfFile, SparesAround}
@@ -25,18 +25,15 @@ unwritten n counts.writing none = none
 
 -- ---- the files
 
--- a partition is returned with its length unchanged
-pub as_long : (path p p' : List ℕ) (a b c : World) (h h' h'' : OpenFiles) (n : counts.Counts)
-    → OpensPart a path p h h' → b ≡ a
-    → h'' ≡ counting n h' → c ≡ b → length p' ≡ length p → IsAsLong h''.part p' c
-as_long path p p' a b c h h' h'' n o same gone same' long =
-    subst (λ (q : Option ℕ). IsAsLong q p' c) (sym (ap (λ (k : OpenFiles). k.part) gone))
-    (subst (λ (g : OpenFiles). IsAsLong g.part p' c) (sym o.taken)
-    (long ∙ ap length o.held ∙ ap (λ (w : World). length (w.holds o.file)) (sym (same' ∙ same))))
+-- the partition that is closed is the one that was opened
+pub this_part : (past past' : Past) (h h' : OpenFiles) (n : counts.Counts) → past ≡ past_of_file (number_of h.part)
+    → past'.file ≡ past.file → h' ≡ counting n h → past'.file ≡ number_of h'.part
+this_part past past' h h' n opened same gone =
+    same ∙ ap (λ (q : Past). q.file) opened ∙ sym (ap (λ (k : OpenFiles). number_of k.part) gone)
 
 -- one sync, after the last byte
-pub settled_once : (past past' : Past) → past ≡ no_past → past'.synced ≡ past.synced + 1 → past'.pending ≡ []
-    → is_settled past' ≡ true
+pub settled_once : {file : ℕ} (past past' : Past) → past ≡ past_of_file file → past'.synced ≡ past.synced + 1
+    → past'.pending ≡ [] → is_settled past' ≡ true
 settled_once past past' fresh one empty =
     ap (λ (l : List (ℕ × ℕ)). is_settled_in l past'.synced) empty
     ∙ ap (is_settled_in []) (one ∙ ap (λ (q : Past). q.synced + 1) fresh)

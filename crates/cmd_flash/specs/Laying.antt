@@ -1,5 +1,5 @@
 -- Why writing a source over the beginning of a partition may fail.
-use Rattle.std.specs.Prelude.{◌≡◌, ◌+◌, ℕ, Bool, false, Result, OnOk, IfErr}
+use Rattle.std.specs.Prelude.{◌≡◌, ◌+◌, ℕ, Bool, false, IsTrue, Result, OnOk, IfErr}
 use Rattle.abt_io.specs.declared.device.Source as sources
 use Rattle.abt_io.specs.declared.device.Partition as partitions
 use Rattle.abt_runs.specs.declared.part.RunFault.TheVariants as of_runs
@@ -29,11 +29,12 @@ unlaid (copies.Read d) = faults.Run (of_runs.Read d)
 unlaid (copies.Write d) = faults.Flash (flashes.Write d)
 unlaid copies.Changed = faults.Run of_runs.SourceChanged
 
--- Writing a source's bytes over a partition keeps its length, and syncs nothing. It fails where one of the two has
--- failed, and after an Ok none has.
+-- Writing a source's bytes over a partition keeps its file and its length, and syncs nothing. It fails where one of the
+-- two has failed, and after an Ok none has.
 pub record OnlyLays {X : Type 0} (r : Result X CopyFault) {A C : Type 0} (s : sources.Ghosts A) (t : sources.Ghosts C)
     (p : partitions.Ghosts C) (source source' : A) (onto onto' : C) : Type 0 where
   pub synced : (p.past onto').synced ≡ (p.past onto).synced
+  pub same : IsTrue t.models → (p.past onto').file ≡ (p.past onto).file
   pub size : t.size onto' ≡ t.size onto
   pub refused : IfErr r (IsOfDevices s.models
       (DeviceFailed (s.read_faults source) (s.read_faults source') (p.put_faults onto) (p.put_faults onto')))

@@ -37,6 +37,7 @@ pub(crate) fn flash_blocks<S: Source, P: Partition>(
     ensures clean { OnOk result (NeitherFailed (S.read_faults source.old) (S.read_faults source.new)
         (P.put_faults onto.old) (P.put_faults onto.new)) }
     ensures syncs { SyncsOnce result P.Source P.Partition.own onto.old onto.new }
+    ensures same { IsTrue P.models → (P.past onto.new).file ≡ (P.past onto.old).file }
 {
     let runs = match RawRuns::open(source, size) {
         Ok(runs) => runs,

@@ -33,6 +33,8 @@ pub(crate) fn delivered<S: Source, L: Spool + Overwrite, P: Partition>(
         (P.put_faults onto.new + (L.write_faults spool.new + L.clear_faults spool.new)) cause)
         raw result limit (from - 1) (S.content source.old.device) (P.content onto.old) (P.content onto.new) }
     ensures syncs { SyncsPieces result P.Source P.Partition.own onto.old onto.new }
+    ensures same { IsTrue S.models → IsTrue L.models → IsTrue P.models
+        → (P.past onto.new).file ≡ (P.past onto.old).file }
     ensures clean { OnOk result (NeitherFailed
         (S.read_faults source.old.device + L.read_faults spool.old)
         (S.read_faults source.new.device + L.read_faults spool.new)

@@ -1,6 +1,6 @@
 //! The command `flash` of a sparse image that is written straight to a partition.
 
-ghost use Rattle.std.specs.Prelude.{◌-◌, IsTrue, OnOk, IfErr};
+ghost use Rattle.std.specs.Prelude.{◌≡◌, ◌-◌, IsTrue, OnOk, IfErr};
 ghost use Rattle.sys_refusals.specs.Paths.{path_in, path_of};
 ghost use Rattle.sys_report.specs.Shows.{ShowsBeside, Unprinted};
 ghost use Rattle.sys_disk.specs.DiskCalls.{HasNoPart};
@@ -77,6 +77,7 @@ fn flashed<I: Input, P: Partition>(
     ensures clean { OnOk result (NeitherFailed (I.read_faults from.old.device) (I.read_faults from.new.device)
         (P.put_faults onto.old) (P.put_faults onto.new)) }
     ensures syncs { SyncsOnce result P.Source P.Partition.own onto.old onto.new }
+    ensures same { IsTrue I.models → IsTrue P.models → (P.past onto.new).file ≡ (P.past onto.old).file }
 {
     match flash(from, onto, w, m) {
         Ok(flashed) => Ok(flashed.blocks),

@@ -38,6 +38,7 @@ pub(crate) fn delivered_through<'a, D: Disk>(
         (D.InPlace.put_faults onto.new) (D.held disk.old) (D.held disk.new) cause) raw result.0 limit (from - 1)
         (D.At.content source.old.device) (D.InPlace.content onto.old) (D.InPlace.content onto.new) }
     ensures syncs { SyncsPieces result.0 D.InPlace.Source D.InPlace.Partition.own onto.old onto.new }
+    ensures same { IsTrue D.models → (D.InPlace.past onto.new).file ≡ (D.InPlace.past onto.old).file }
     ensures clean { IsTrue D.models → OnOk result.0 (D.At.read_faults source.old.device + D.InPlace.put_faults onto.old
         + (D.Through.Output.write_faults through + (D.Through.Input.read_faults through
         + D.Through.Spool.clear_faults through)) ≡ 0 → HasNotFailedWith (D.At.read_faults source.new.device)

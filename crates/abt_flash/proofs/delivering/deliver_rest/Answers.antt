@@ -57,6 +57,7 @@ pieces-init g c =
       some = λ d. absurd (let z = sym is ∙ d in cc);
       capacity = refl;
       size = refl;
+      same = λ models spool partition. refl;
       unread = (refl, refl);
       fits = fits_none _ _ _;
       written = λ models. ap (λ (st : CutterStage). g.L.Output.written c.args.spool.now
@@ -136,6 +137,8 @@ pieces-preserved g c =
       some = λ d. some_on _ _ _ i.order o.behind.made;
       capacity = e.spool.capacity ∙ i.capacity;
       size = e.partition.size ∙ i.size;
+      same = λ models spool partition. (e.partition.touches models spool partition).kept.same
+          ∙ i.same models spool partition;
       unread = (e.partition.unread.0 ∙ i.unread.0, e.partition.unread.1 ∙ i.unread.1);
       fits = fits_then _ _ _ _ _ _ _ i.fits (rw i.limit at e.spool.fits);
       written = λ models.
@@ -379,6 +382,7 @@ returns-then-not-more-clause-stays g c models spool partition =
     (rw (i.limit, is) at (i.told models).cuts) (inr (refl, omega (arith, long, end)))
     (omega (arith, long, within)) in
     record {
+      same = i.same models spool partition;
       since = λ p done le entry. (i.stays models spool partition p done le entry).since;
       now = λ p done le entry. staying_last most b all p c.args.cutter.now.made
           (g.P.Partition.past c.args.partition.now).synced c.pieces.cutter.made c.pieces.cutter.start.block
@@ -599,6 +603,7 @@ returns-in-Err-clause-stays g c models spool partition =
     let syncs : (g.P.Partition.past c.deliver_piece.new.partition).synced ≡
     (g.P.Partition.past c.pieces.partition).synced = omega (arith, c.in-Err.ensures.partition.synced) in
     record {
+      same = kept.same ∙ i.same models spool partition;
       since = λ p done le entry. staying_stop most b all p c.args.cutter.now.made
           (g.P.Partition.past c.args.partition.now).synced c.pieces.cutter.made s
           (g.P.Partition.past c.args.partition.now).moments

@@ -45,6 +45,8 @@ invariant-pieces g l =
       some : l.cutter.stage ≡ Done → l.fn.cutter.made < l.cutter.made;
       capacity : g.L.Spool.size l.spool ≡ g.L.Spool.size l.fn.spool;
       size : g.P.Source.size l.partition ≡ g.P.Source.size l.fn.partition;
+      same : IsTrue g.S.Source.models → IsTrue g.L.Input.models → IsTrue g.P.Source.models
+          → (past l.partition).file ≡ (past l.fn.partition).file;
       unread : (g.P.Source.reads l.partition ≡ g.P.Source.reads l.fn.partition)
           × (g.P.Source.given l.partition ≡ g.P.Source.given l.fn.partition);
       fits : PiecesFit most (clears l.fn.spool) (clears l.spool) (length (bytes l.fn.spool)) (length (bytes l.spool));

@@ -12,6 +12,7 @@ returns-in-Ok g c = record {
       cause = λ t. tt;
     };
   };
+  frame = c.in-Ok.ensures.does.writes.frame;
 }
 
 pub returns-in-Err : goal.returns-in-Err
@@ -26,4 +27,5 @@ returns-in-Err g c =
           cause = λ t. outside _ _ _ _ _ _ _ _ t fits.sized fits.few e.cause;
         };
       };
+      frame = e.writes.frame;
     }

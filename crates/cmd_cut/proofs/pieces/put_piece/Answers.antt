@@ -110,7 +110,7 @@ returns-in-File-clause-broken g c = λ t over.
 
 pub returns-in-Stream-clause-broken : goal.returns-in-Stream-clause-broken
 returns-in-Stream-clause-broken g c = λ t over.
-    absurd (false≢true (rw c.in-Stream.is at (c.in_ok-image.ensures.kind t) ∙ over))
+    absurd (false≢true ((rw c.in-Stream.is at (c.in_ok-image.ensures.kind t)) over))
 
 pub returns-in_err-image-clause-outside : goal.returns-in_err-image-clause-outside
 returns-in_err-image-clause-outside g c = λ t.

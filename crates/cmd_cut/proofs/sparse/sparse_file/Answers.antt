@@ -71,7 +71,7 @@ returns-in-Err-write_whole-clause-left g c = λ t.
       closed = ap (λ k. k.output) (c.in-Err-write_whole.ensures.writes t).closed.closed;
       whole = λ o. part_left _ _ _ _ _ _ _ _ _ _ _ _ _ c.in-Ok.ensures.size (c.in_ok-source.ensures.opened t) made
           (c.in-Err-write_whole.ensures.writes t).rest
-          (c.in-Err-write_whole.ensures.broken t (c.in_ok-image.ensures.kind t ∙ o));
+          (c.in-Err-write_whole.ensures.broken t (c.in_ok-image.ensures.kind t o));
       clean = tt;
     }
 

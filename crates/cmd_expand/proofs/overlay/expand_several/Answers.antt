@@ -4,7 +4,7 @@ use Rattle.sys_report.proofs.Beside.{beside}
 use Rattle.cmd_expand.proofs.Files.{handed_on}
 use Rattle.sys_disk.specs.Counts.{no_counts}
 use Rattle.cmd_common_sparse.specs.declared.fault.SparseCommandFault.TheVariants as faults
-use Rattle.cmd_expand.proofs.Overlays.{as_long, breaks_over, clean_closing, counts_in_all, failed_closing}
+use Rattle.cmd_expand.proofs.Overlays.{breaks_over, clean_closing, counts_in_all, failed_closing}
 use Rattle.cmd_expand.proofs.Overlays.{failed_reading, failed_writing, failed_zeros, from_files, from_laying}
 use Rattle.cmd_expand.proofs.Overlays.{from_opening, lands, leaves_overlaid, overlays, sized, synced}
 use Rattle.cmd_expand.proofs.Overlays.{spared_made, zeros_long}
@@ -36,22 +36,12 @@ returns-in_err-zeros-clause-refused g c = λ t.
     (inl (_, made, failed_zeros _ _ _ _ _ _ _ (c.in-Ok.ensures.opened t) (c.in_err-zeros.ensures.kept t))))
     c.from_residual.ensures.1
 
-pub close-end-requires : goal.close-end-requires
-close-end-requires g c = record {
-  long = λ t.
-      let told = g.met.D.Disk.part_told t in
-      as_long _ _ _ _ _ _ _ _ _ _ (c.in_ok-zeros.ensures.made t) (c.lay_all-answer.ensures.alone.world t)
-      (c.lay_all-answer.ensures.alone.held t) (sym (g.met.D.InPlace.Source.sized c.lay_all-answer.new.onto told)
-      ∙ c.lay_all-answer.ensures.alone.size ∙ g.met.D.InPlace.Source.sized c.in_ok-zeros.zeros told)
-      (c.in_ok-zeros.ensures.zeros t);
-}
-
 pub returns-in-Err-answer-clause-leaves : goal.returns-in-Err-answer-clause-leaves
 returns-in-Err-answer-clause-leaves g c = λ t.
-    leaves_overlaid _ _ _ _ _ _ _ _ _ _ (c.in-Ok.ensures.opened t) refl (lands _ _ _ _ _ _ _ _ _ _ _
+    leaves_overlaid _ _ _ _ _ _ _ _ _ _ (c.in-Ok.ensures.opened t) refl (lands _ _ _ _ _ _ _ _ _ _
     (c.in_ok-zeros.ensures.made t) (c.open_all.ensures.alone t).world
     (c.lay_all-answer.ensures.alone.world t) (c.lay_all-answer.ensures.alone.held t) (c.close-end.ensures.ended t)
-    (c.close-end.ensures.paths t)) (spared_made _ _ _ _ _ _ _ _ (c.in_ok-zeros.ensures.made t))
+    (c.close-end.ensures.paths t)) (spared_made _ _ _ _ _ _ _ (c.in_ok-zeros.ensures.made t))
     (search rules) tt
 
 pub returns-in-Err-answer-clause-refused : goal.returns-in-Err-answer-clause-refused
@@ -65,7 +55,7 @@ returns-in-Err-answer-clause-refused g c = λ t.
     let h3 = g.D.Disk.held c.lay_all-answer.new.disk in
     let h4 = g.D.Disk.held c.close-end.new.self in
     let failures = g.D.InPlace.Partition.put_faults c.lay_all-answer.new.onto in
-    let counts = counts_in_all _ _ _ _ _ _ _ failures _ (g.D.InPlace.Partition.past c.lay_all-answer.new.onto) h _ h2
+    let counts = counts_in_all _ _ _ _ _ _ failures _ (g.D.InPlace.Partition.past c.lay_all-answer.new.onto) h _ h2
     h3 h4 opened (c.in_ok-zeros.ensures.made t) (c.close-end.ensures.closed t) in
     from_laying _ c.in-Err-answer.refusal.fault _ _ _ _ h h4 _ _ _ _ (failed_reading h h2 h3 h4 failures _ counts)
     (failed_writing h h2 h3 h4 _ failures _ counts (c.in_ok-zeros.ensures.clean t))
@@ -77,10 +67,10 @@ returns-in-Err-answer-clause-refused g c = λ t.
 
 pub returns-in-Err-end-clause-leaves : goal.returns-in-Err-end-clause-leaves
 returns-in-Err-end-clause-leaves g c = λ t.
-    leaves_overlaid _ _ _ _ _ _ _ _ _ _ (c.in-Ok.ensures.opened t) refl (lands _ _ _ _ _ _ _ _ _ _ _
+    leaves_overlaid _ _ _ _ _ _ _ _ _ _ (c.in-Ok.ensures.opened t) refl (lands _ _ _ _ _ _ _ _ _ _
     (c.in_ok-zeros.ensures.made t) (c.open_all.ensures.alone t).world
     (c.lay_all-answer.ensures.alone.world t) (c.lay_all-answer.ensures.alone.held t) (c.close-end.ensures.ended t)
-    (c.close-end.ensures.paths t)) (spared_made _ _ _ _ _ _ _ _ (c.in_ok-zeros.ensures.made t))
+    (c.close-end.ensures.paths t)) (spared_made _ _ _ _ _ _ _ (c.in_ok-zeros.ensures.made t))
     (search rules) tt
 
 pub returns-in-Err-end-clause-refused : goal.returns-in-Err-end-clause-refused
@@ -91,7 +81,7 @@ returns-in-Err-end-clause-refused g c = λ t.
     let h3 = g.D.Disk.held c.lay_all-answer.new.disk in
     let h4 = g.D.Disk.held c.close-end.new.self in
     let failures = g.D.InPlace.Partition.put_faults c.lay_all-answer.new.onto in
-    let counts = counts_in_all _ _ _ _ _ _ _ failures _ (g.D.InPlace.Partition.past c.lay_all-answer.new.onto) h _ h2
+    let counts = counts_in_all _ _ _ _ _ _ failures _ (g.D.InPlace.Partition.past c.lay_all-answer.new.onto) h _ h2
     h3 h4 opened (c.in_ok-zeros.ensures.made t) (c.in-Err-end.ensures.closed t) in
     from_files _ c.into.result.fault _ _ _ _ _ _ (inl (
       _,
@@ -101,10 +91,10 @@ returns-in-Err-end-clause-refused g c = λ t.
 
 pub returns-in-Err-printed-clause-leaves : goal.returns-in-Err-printed-clause-leaves
 returns-in-Err-printed-clause-leaves g c = λ t.
-    leaves_overlaid _ _ _ _ _ _ _ _ _ _ (c.in-Ok.ensures.opened t) refl (lands _ _ _ _ _ _ _ _ _ _ _
+    leaves_overlaid _ _ _ _ _ _ _ _ _ _ (c.in-Ok.ensures.opened t) refl (lands _ _ _ _ _ _ _ _ _ _
     (c.in_ok-zeros.ensures.made t) (c.open_all.ensures.alone t).world
     (c.lay_all-answer.ensures.alone.world t) (c.lay_all-answer.ensures.alone.held t) (c.close-end.ensures.ended t)
-    (c.close-end.ensures.paths t)) (spared_made _ _ _ _ _ _ _ _ (c.in_ok-zeros.ensures.made t))
+    (c.close-end.ensures.paths t)) (spared_made _ _ _ _ _ _ _ (c.in_ok-zeros.ensures.made t))
     (search rules) tt
 
 pub returns-in-Err-printed-clause-refused : goal.returns-in-Err-printed-clause-refused
@@ -127,19 +117,19 @@ returns-in-Ok-printed-clause-leaves g c = λ t.
     let h3 = g.D.Disk.held c.lay_all-answer.new.disk in
     let h4 = g.D.Disk.held c.close-end.new.self in
     let failures = g.D.InPlace.Partition.put_faults c.lay_all-answer.new.onto in
-    let counts = counts_in_all _ _ _ _ _ _ _ failures _ (g.D.InPlace.Partition.past c.lay_all-answer.new.onto) h _ h2
+    let counts = counts_in_all _ _ _ _ _ _ failures _ (g.D.InPlace.Partition.past c.lay_all-answer.new.onto) h _ h2
     h3 h4 opened (c.in_ok-zeros.ensures.made t) (c.in-Ok-end.ensures.closed t) in
     let laid = c.in-Ok-answer.ensures.clean t (c.in-Ok.ensures.clean t) in
-    leaves_overlaid _ _ _ _ _ _ _ _ _ _ (c.in-Ok.ensures.opened t) refl (lands _ _ _ _ _ _ _ _ _ _ _
+    leaves_overlaid _ _ _ _ _ _ _ _ _ _ (c.in-Ok.ensures.opened t) refl (lands _ _ _ _ _ _ _ _ _ _
     (c.in_ok-zeros.ensures.made t) (c.open_all.ensures.alone t).world
     (c.lay_all-answer.ensures.alone.world t) (c.lay_all-answer.ensures.alone.held t) (c.close-end.ensures.ended t)
-    (c.close-end.ensures.paths t)) (spared_made _ _ _ _ _ _ _ _ (c.in_ok-zeros.ensures.made t))
+    (c.close-end.ensures.paths t)) (spared_made _ _ _ _ _ _ _ (c.in_ok-zeros.ensures.made t))
     (search rules) (clean_closing h h2 h3 h4 _ failures no_counts counts (c.in_ok-zeros.ensures.clean t) laid.0 laid.1
     (λ cause. refl))
 
 pub returns-in-Ok-printed-clause-synced : goal.returns-in-Ok-printed-clause-synced
 returns-in-Ok-printed-clause-synced g c = λ t.
-    synced _ _ _ _ _ _ _ _ _ _ (g.D.InPlace.Partition.past c.in_ok-zeros.zeros)
+    synced _ _ _ _ _ _ _ _ _ (g.D.InPlace.Partition.past c.in_ok-zeros.zeros)
     (g.D.InPlace.Partition.past c.lay_all-answer.new.onto) _ _ _ _ _ (c.in-Ok.ensures.opened t)
     (c.in_ok-zeros.ensures.made t)
     (c.lay_all-answer.ensures.alone.held t) (c.in-Ok-end.ensures.closed t) (c.in_ok-zeros.ensures.past t)

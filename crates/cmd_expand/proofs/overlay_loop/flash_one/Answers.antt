@@ -23,3 +23,6 @@ returns-clause-synced g c = synced_if c.flash.result _ _ c.flash.ensures.syncs.s
 
 pub returns-clause-settled : goal.returns-clause-settled
 returns-clause-settled g c = λ t. c.flash.ensures.syncs.settled t
+
+pub returns-clause-same : goal.returns-clause-same
+returns-clause-same g c = λ t u. (c.flash.ensures.seen t u).same

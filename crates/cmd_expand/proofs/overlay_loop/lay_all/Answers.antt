@@ -9,6 +9,7 @@ use Rattle.cmd_expand.proofs.overlay_loop.lay_all.Goals as goal
 pub images-init : goal.images-init
 images-init g c = record {
   size = refl;
+  same = λ t. refl;
   synced = refl;
   laid = λ t. refl;
   before = λ t. laid_none _ _;
@@ -26,6 +27,7 @@ images-preserved g c =
     let long = ap length items in
     record {
       size = c.lay_one.ensures.alone.size ∙ i.size;
+      same = λ t. c.lay_one.ensures.alone.same t ∙ i.same t;
       synced = omega (arith, c.in-Ok.ensures.synced, long, i.synced);
       laid = λ t. laid_next _ _ _ _ _ _ (ap (map (λ one. g.D.At.Source.content one.source)) items) (i.laid t)
           (c.in-Ok.ensures.laid t);
@@ -73,6 +75,7 @@ returns-in-Err-clause-broken g c = λ t.
 
 pub returns-in-Err-clause-alone : goal.returns-in-Err-clause-alone
 returns-in-Err-clause-alone g c = record {
+  same = λ t. c.lay_one.ensures.alone.same t ∙ c.images.invariant.same t;
   size = c.lay_one.ensures.alone.size ∙ c.images.invariant.size;
   world = λ t. c.lay_one.ensures.alone.world t ∙ c.images.invariant.world t;
   held = λ t. fails_then _ _ _ (c.images.invariant.held t) (c.lay_one.ensures.alone.held t);

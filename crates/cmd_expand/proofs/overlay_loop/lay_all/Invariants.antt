@@ -13,6 +13,8 @@ decreases-images g l = length l.kept.items
 abbrev pub invariant-images : goal.invariant-images
 invariant-images g l = record {
   size : g.D.InPlace.Source.size l.onto ≡ g.D.InPlace.Source.size l.initial.onto;
+  same : IsTrue g.D.Disk.models
+      → (g.D.InPlace.Partition.past l.onto).file ≡ (g.D.InPlace.Partition.past l.initial.onto).file;
   synced : (g.D.InPlace.Partition.past l.onto).synced + length l.kept.items
       ≡ (g.D.InPlace.Partition.past l.initial.onto).synced + length l.initial.kept.items;
   laid : IsTrue g.D.Disk.models → flashed_in_turn (g.D.InPlace.Source.content l.onto)

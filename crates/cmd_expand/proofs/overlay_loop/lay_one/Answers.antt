@@ -24,6 +24,7 @@ returns-in-Ok-clause-settled g c = λ t.
 
 pub returns-in-Ok-clause-alone : goal.returns-in-Ok-clause-alone
 returns-in-Ok-clause-alone g c = record {
+  same = λ t. c.flash_one-answer.ensures.same (g.met.D.Disk.source_told t) (g.met.D.Disk.part_told t);
   size = c.flash_one-answer.ensures.size;
   world = λ t. c.let_go_source.ensures.world t;
   held = λ t. let_go_fails _ _ _ (c.let_go_source.ensures.held t);
@@ -50,6 +51,7 @@ returns-in-Err-clause-broken g c = λ t.
 
 pub returns-in-Err-clause-alone : goal.returns-in-Err-clause-alone
 returns-in-Err-clause-alone g c = record {
+  same = λ t. c.flash_one-answer.ensures.same (g.met.D.Disk.source_told t) (g.met.D.Disk.part_told t);
   size = c.flash_one-answer.ensures.size;
   world = λ t. c.let_go_source.ensures.world t;
   held = λ t. let_go_fails _ _ _ (c.let_go_source.ensures.held t);

@@ -25,3 +25,9 @@ returns-in-None-clause-delivers g c = λ s l p none.
     e.image.delivers.early (e.image.delivers.counted s) e.image.partition (e.image.mends s l p) in
     rw c.in-None.is (in_order _ _ _ _ _ _ _ _ _ _ None c.resume.result c.args.limit (c.args.from - 1) _ _ _
     (delivers None c.args.limit (c.args.from - 1) c.resume.result _ _ _ _ _ none all))
+
+pub returns-in-Some-clause-same : goal.returns-in-Some-clause-same
+returns-in-Some-clause-same g c = λ s l p. (c.resume_raw_at.ensures.delivered.image.mends s l p).stays.same
+
+pub returns-in-None-clause-same : goal.returns-in-None-clause-same
+returns-in-None-clause-same g c = λ s l p. (c.resume.ensures.delivered.image.mends s l p).stays.same

@@ -1,9 +1,9 @@
-use Rattle.std.proofs.Common.{rules, ap, arith, refl, ◌∙◌}
+use Rattle.std.proofs.Common.{rules, ap, refl, ◌∙◌}
 use Rattle.sys_report.proofs.Beside.{beside}
 use Rattle.cmd_common_sparse.specs.declared.fault.SparseCommandFault.TheVariants as faults
 use Rattle.cmd_flash.specs.FlashingRaw.{IsFlashedRaw}
 use Rattle.cmd_flash.proofs.Refusals.{raw_untold, handed_on, host_late, is_flashed_raw, on_ok, refuses_raw}
-use Rattle.cmd_flash.proofs.Written.{as_long, ran, ran_clean, ran_failed, ran_given, settled_once}
+use Rattle.cmd_flash.proofs.Written.{ran, ran_clean, ran_failed, ran_given, settled_once, this_part}
 use Rattle.cmd_flash.proofs.flash_raw.flash_raw_file.Goals as goal
 
 pub returns-in-Err-clause-leaves : goal.returns-in-Err-clause-leaves
@@ -114,10 +114,6 @@ returns-in_err-line_beside-clause-refused g c = λ t.
 
 pub closed-requires : goal.closed-requires
 closed-requires g c = record {
-  long = λ t.
-      let one = g.met.D.InPlace.Source.sized c.flash_blocks-answer.new.onto (g.met.D.Disk.part_told t) in
-      let two = g.met.D.InPlace.Source.sized c.in_ok-onto.onto (g.met.D.Disk.part_told t) in
-      let size = c.flash_blocks-answer.ensures.syncs.size in
-      as_long _ _ _ _ _ _ _ _ _ _ (c.in_ok-onto.ensures.opened t) (c.in_ok-onto.ensures.world t)
-      (c.let_go_source.ensures.held t) (c.let_go_source.ensures.world t) (omega (arith, one, two, size));
+  this = λ t. this_part (g.D.InPlace.Partition.past c.in_ok-onto.onto) _ _ _ _ (c.in_ok-onto.ensures.past t)
+      (c.flash_blocks-answer.ensures.same (g.met.D.Disk.part_told t)) (c.let_go_source.ensures.held t);
 }

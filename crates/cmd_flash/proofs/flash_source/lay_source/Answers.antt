@@ -10,6 +10,7 @@ loop-at-preserved g c =
       within = omega (arith, e.some, c.min-ask.ensures);
       size = e.lays.size ∙ i.size;
       synced = e.lays.synced ∙ i.synced;
+      same = λ p. e.lays.same p ∙ i.same p;
       read = e.lays.clean.0 ∙ i.read;
       put = e.lays.clean.1 ∙ i.put;
       given = omega (arith, i.given, e.moves.given);
@@ -29,6 +30,7 @@ returns-in-Err-clause-lays g c =
     let e = c.in-Err.ensures.lays in
     record {
       synced = e.synced ∙ i.synced;
+      same = λ p. e.same p ∙ i.same p;
       size = e.size ∙ i.size;
       refused = rw (i.read, i.put) at e.refused;
       clean = tt;
@@ -37,7 +39,7 @@ returns-in-Err-clause-lays g c =
 pub returns-clause-lays : goal.returns-clause-lays
 returns-clause-lays g c =
     let i = c.loop-at.invariant in
-    record { synced = i.synced; size = i.size; refused = tt; clean = (i.read, i.put) }
+    record { synced = i.synced; same = i.same; size = i.size; refused = tt; clean = (i.read, i.put) }
 
 pub returns-clause-moves : goal.returns-clause-moves
 returns-clause-moves g c =

@@ -8,6 +8,7 @@ invariant-loop-at g l = record {
   within : l.at ≤ l.held;
   size : g.P.Source.size l.onto ≡ g.P.Source.size l.fn.onto;
   synced : (g.P.Partition.past l.onto).synced ≡ (g.P.Partition.past l.fn.onto).synced;
+  same : IsTrue g.P.Source.models → (g.P.Partition.past l.onto).file ≡ (g.P.Partition.past l.fn.onto).file;
   read : g.S.Source.read_faults l.source ≡ g.S.Source.read_faults l.fn.source;
   put : g.P.Partition.put_faults l.onto ≡ g.P.Partition.put_faults l.fn.onto;
   given : g.S.Source.given l.source ≡ g.S.Source.given l.fn.source + l.at;

@@ -4,7 +4,7 @@ use Rattle.std.specs.Prelude.{max}
 use Rattle.abt_io.specs.Moment.{Past}
 use Rattle.sys_disk.specs.World.{OpenFiles}
 use Rattle.cmd_common_sparse.specs.declared.fault.SparseCommandFault.TheVariants as faults
-use Rattle.cmd_flash.proofs.Crossing.{as_long_across, crossed, only_both, only_kept, part_kept}
+use Rattle.cmd_flash.proofs.Crossing.{crossed, only_both, only_kept, part_kept, this_across}
 use Rattle.cmd_flash.proofs.Ended.{clean_across, done_across, none_of, pieces_unopened, pieces_untold}
 use Rattle.cmd_flash.proofs.Ended.{refuses_across, refuses_uncuttable}
 use Rattle.cmd_flash.proofs.Refusals.{handed_on}
@@ -142,15 +142,9 @@ returns-in_err-line_beside-clause-refused g c = λ t.
 
 pub closed-requires : goal.closed-requires
 closed-requires g c = record {
-  long = λ t.
-      let one = g.met.D.InPlace.Source.sized c.delivered_through-answer.new.onto (g.met.D.Disk.part_told t) in
-      let two = g.met.D.InPlace.Source.sized c.in_ok-onto.onto (g.met.D.Disk.part_told t) in
-      let size = c.delivered_through-answer.ensures.syncs.size in
-      as_long_across _ _ _ _ _ _ _ _ _ _ _ _ _ _ _ _ _ _ _ (c.in_ok-source.ensures.opened t)
-      (c.in_ok-source.ensures.world t) (c.in_ok-onto.ensures.opened t) (c.in_ok-onto.ensures.world t)
-      (c.in_ok-through.ensures.opened t) (c.delivered_through-answer.ensures.closed t)
-      (c.delivered_through-answer.ensures.rest t) (c.let_go_source.ensures.held t) (c.let_go_source.ensures.world t)
-      (omega (arith, one, two, size));
+  this = λ t. this_across _ (g.D.InPlace.Partition.past c.in_ok-onto.onto) _ _ _ _ _ _ _ _ (c.in_ok-onto.ensures.past t)
+      (c.delivered_through-answer.ensures.same t) (c.in_ok-through.ensures.opened t)
+      (c.delivered_through-answer.ensures.closed t) (c.let_go_source.ensures.held t);
 }
 
 -- ---- the third file was not opened

@@ -21,3 +21,7 @@ returns-clause-clean g c = λ t.
 
 pub returns-clause-closed : goal.returns-clause-closed
 returns-clause-closed g c = λ t. record { failures = _; closed = c.close_spool.ensures.closed t }
+
+pub returns-clause-same : goal.returns-clause-same
+returns-clause-same g c = λ t.
+    let d = g.met.D.Disk in c.delivered-answer.ensures.same (d.source_told t) (d.through_told t) (d.part_told t)
