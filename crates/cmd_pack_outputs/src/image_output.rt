@@ -4,6 +4,7 @@ ghost use Rattle.std.specs.Prelude.{◌≡◌, ◌++◌, ◌∷◌, [], None, Is
 ghost use Rattle.sys_disk.specs.Counts.{writes};
 ghost use Rattle.sys_disk.specs.DiskCalls.{LetsImageGo};
 ghost use Rattle.sys_disk.specs.Images.{OfImage, is_file};
+ghost use Rattle.sys_disk.specs.World.{number_of};
 ghost use Rattle.sys_report.specs.Shows.{CannotPrint, ShowsBeside, Unprinted};
 ghost use Rattle.sys_refusals.specs.Paths.{path_out};
 ghost use Rattle.cmd_common_boot.specs.NotJudged.{IsOfPacking, OfFault};
@@ -123,6 +124,9 @@ fn write_to<'f, 't, 'a, D: Disk>(
         (D.Image.Output.write_faults file)) (λ onto. IsReady D.models ⟦<PartSource<'t, D::At> as Source>⟧.size
         ⟦<PartSource<'t, D::At> as Source>⟧.read_faults contents (D.Onto.written onto) (D.Onto.write_faults onto))
         image }
+    requires this { IsTrue D.models → OfImage
+        (λ file. (D.Image.Output.write_frame file).file ≡ number_of (D.held disk.old).output)
+        (λ onto. (D.Onto.write_frame onto).file ≡ number_of (D.held disk.old).output) image }
     ensures writes { IsTrue D.models → WritesBytes result (λ refusal. refusal.fault) (is_file image)
         (D.on_output (path_out output.entry)) (packed_image ⟦<PartSource<'t, D::At> as Source>⟧.content contents.entry)
         (D.held disk.old) (D.held disk.new) (D.world disk.old) (D.world disk.new) }
@@ -145,6 +149,7 @@ fn write_through<'f, 't, 'a, D: Disk>(
 ) -> Result<(u64, bool), Refusal<'t, BootCommandFault<'a>>>
     requires ready { IsReady D.models ⟦<PartSource<'t, D::At> as Source>⟧.size
         ⟦<PartSource<'t, D::At> as Source>⟧.read_faults contents (D.Onto.written onto) (D.Onto.write_faults onto) }
+    requires this { IsTrue D.models → (D.Onto.write_frame onto).file ≡ number_of (D.held disk.old).output }
     ensures writes { IsTrue D.models → WritesBytes result (λ refusal. refusal.fault) false
         (D.on_output (path_out output.entry)) (packed_image ⟦<PartSource<'t, D::At> as Source>⟧.content contents.entry)
         (D.held disk.old) (D.held disk.new) (D.world disk.old) (D.world disk.new) }
@@ -180,6 +185,8 @@ fn write_over<'f, 't, 'a, D: Disk>(
     requires ready { IsReady D.models ⟦<PartSource<'t, D::At> as Source>⟧.size
         ⟦<PartSource<'t, D::At> as Source>⟧.read_faults contents (D.Image.Output.written file)
         (D.Image.Output.write_faults file) }
+    requires this { IsTrue D.models → (D.Image.Output.write_frame file).file
+        ≡ number_of (D.held disk.old).output }
     ensures writes { IsTrue D.models → WritesBytes result (λ refusal. refusal.fault) true
         (D.on_output (path_out output.entry)) (packed_image ⟦<PartSource<'t, D::At> as Source>⟧.content contents.entry)
         (D.held disk.old) (D.held disk.new) (D.world disk.old) (D.world disk.new) }
@@ -205,6 +212,8 @@ fn stopped<'t, 'a, D: Disk>(
     output: FileArg<'t>,
     sides: Sides<'t>,
 ) -> Refusal<'t, BootCommandFault<'a>>
+    requires this { IsTrue D.models → (D.Image.Output.write_frame file).file
+        ≡ number_of (D.held disk.old).output }
     ensures gone { LetsImageGo D.models (D.Image.Output.written file) (writes (D.Image.Output.write_faults file))
         (D.held disk.old) (D.held disk.new) (D.world disk.old) (D.world disk.new) }
     ensures told { result.fault ≡ lay_fault fault }

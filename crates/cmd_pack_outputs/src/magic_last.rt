@@ -40,6 +40,7 @@ impl<O: Overwrite> MagicLast<O> {
         ensures broken { OnErr result.1 (HoldsNone (O.written result.0)) }
         ensures cause { OnErr result.1 (O.write_faults self.output < O.write_faults result.0) }
         ensures clean { OnOk result.1 (O.write_faults result.0 ≡ O.write_faults self.output) }
+        ensures frame { O.write_frame result.0 ≡ O.write_frame self.output }
     {
         let MagicLast {
             mut output,

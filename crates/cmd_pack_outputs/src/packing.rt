@@ -59,6 +59,7 @@ pub(crate) fn pack_once<P: Source + Drop, O: Overwrite>(
     ensures packs { PacksBytes result MoveCause P.models (packed_image P.content contents.old) (O.written output.old)
         (O.written output.new) (faults_in P.read_faults contents.old) (faults_in P.read_faults contents.new)
         (O.write_faults output.old) (O.write_faults output.new) }
+    ensures frame { O.write_frame output.new ≡ O.write_frame output.old }
     ensures broken { OnErr result (IsBrokenOff (O.written output.old) (O.written output.new)) }
 {
     let parts = contents.parts.as_mut_slice();
@@ -79,6 +80,7 @@ pub(crate) fn pack_contents<P: Source + Drop, O: Output>(
     ensures packs { PacksBytes result MoveCause P.models (packed_image P.content contents.old) (O.written output.old)
         (O.written output.new) (faults_in P.read_faults contents.old) (faults_in P.read_faults contents.new)
         (O.write_faults output.old) (O.write_faults output.new) }
+    ensures frame { O.write_frame output.new ≡ O.write_frame output.old }
 {
     let bytes = match pack_parts(contents, output, w, m) {
         Ok(bytes) => bytes,
@@ -108,6 +110,7 @@ fn pack_parts<P: Source + Drop, O: Output>(
     ensures cause { IfErr result (λ fault. MoveCause fault (faults_in P.read_faults contents.old)
         (faults_in P.read_faults contents.new) (O.write_faults output.old) (O.write_faults output.new)
         (IsTrue P.models → ⊥)) }
+    ensures frame { O.write_frame output.new ≡ O.write_frame output.old }
 {
     let parts = contents.parts.as_mut_slice();
     let specs = contents.specs.as_slice();
@@ -132,6 +135,7 @@ fn copy_behind<P: Source, O: Output>(
         × (O.write_faults output.new ≡ O.write_faults output.old)) }
     ensures cause { IfErr result (λ fault. MoveCause fault (P.read_faults trailing.old) (P.read_faults trailing.new)
         (O.write_faults output.old) (O.write_faults output.new) (IsTrue P.models → ⊥)) }
+    ensures frame { O.write_frame output.new ≡ O.write_frame output.old }
 {
     let behind = trailing.length();
     match copy_range(trailing, 0, behind, output, w, m) {

@@ -37,6 +37,7 @@ pub(crate) fn lay_image<'t, S: Source + Lasting + Drop, O: Overwrite>(
         (O.written result.0) (faults_in ⟦<PartSource<'t, S> as Source>⟧.read_faults contents.old)
         (faults_in ⟦<PartSource<'t, S> as Source>⟧.read_faults contents.new) (O.write_faults file)
         (O.write_faults result.0) }
+    ensures frame { O.write_frame result.0 ≡ O.write_frame file }
 {
     if is_read_once(contents) {
         lay_once(contents, file, progress, w, m)
@@ -59,6 +60,7 @@ fn lay_once<'t, S: Source + Lasting + Drop, O: Overwrite>(
         (O.written result.0) (faults_in ⟦<PartSource<'t, S> as Source>⟧.read_faults contents.old)
         (faults_in ⟦<PartSource<'t, S> as Source>⟧.read_faults contents.new) (O.write_faults file)
         (O.write_faults result.0) }
+    ensures frame { O.write_frame result.0 ≡ O.write_frame file }
 {
     let mut carried = Carried {
         device: file,
@@ -86,6 +88,7 @@ fn lay_magic_last<'t, S: Source + Lasting + Drop, O: Overwrite>(
         (O.written result.0) (faults_in ⟦<PartSource<'t, S> as Source>⟧.read_faults contents.old)
         (faults_in ⟦<PartSource<'t, S> as Source>⟧.read_faults contents.new) (O.write_faults file)
         (O.write_faults result.0) }
+    ensures frame { O.write_frame result.0 ≡ O.write_frame file }
 {
     let mut carried = Carried {
         device: MagicLast::new(file),

@@ -140,12 +140,13 @@ pub guarded_then : (path : List ℕ) (a b : MemoryDisk) (c : World) → c ≡ wo
 guarded_then path a b c e at used refused = e ∙ at.guarded used refused
 
 -- and the refusal is counted
-pub creates_path : {A : Type 0} (e : HostRefusal) (path : List ℕ) (written : A → List ℕ) (faults : A → ℕ)
+pub creates_path : {A : Type 0} (e : HostRefusal) (path : List ℕ) (written : A → List ℕ) (file faults : A → ℕ)
     (a b c : MemoryDisk) → RefusesAt path a b → CountsMore (call_of e.fault) b c
-    → CreatesOutput true (Err e) path written faults (held_of a) (held_of c) (world_of a) (world_of c)
-creates_path e path written faults a b c refused counted = record {
+    → CreatesOutput true (Err e) path written file faults (held_of a) (held_of c) (world_of a) (world_of c)
+creates_path e path written file faults a b c refused counted = record {
   empty = tt;
   clean = λ _. tt;
+  this = λ _. tt;
   created = λ _. tt;
   kept = λ _. counted.held ∙ ap (counting (call_of e.fault)) refused.kept;
   only = λ _. only_then a.read.items path (world_of a) (world_of b) (world_of c) counted.world refused.only;

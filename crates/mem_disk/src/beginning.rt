@@ -3,7 +3,7 @@
 ghost use Rattle.std.specs.Prelude.{◌≡◌, [], Some, None, string_bytes, ◌<◌, IfOk, OnErr, Contains, false, length};
 ghost use Rattle.sys_disk.specs.Counts.{no_counts};
 ghost use Rattle.sys_disk.specs.Images.{HoldsSame, Leaves};
-ghost use Rattle.sys_disk.specs.World.{OnlyAt, Spares, Ends, SparesRest, ended};
+ghost use Rattle.sys_disk.specs.World.{OnlyAt, Spares, Ends, SparesRest, ended, number_of};
 ghost use Rattle.mem_disk.specs.Memory.{world_of, held_of, Starts, Fills, RefusesAt, OpensOutput};
 ghost use Rattle.mem_files.specs.Stored.{leads};
 
@@ -12,15 +12,17 @@ use mem_files::{MemoryFile, MemoryPath};
 use sys_refusals::HostFault;
 
 impl MemoryDisk {
-    // Begins an output at this path. The file is created if there is none, and else emptied.
-    pub(crate) fn begin(&mut self, path: String) -> Result<(), HostFault>
+    // Begins an output at this path, and returns the number of its file. That is created if there is none, and else
+    // emptied.
+    pub(crate) fn begin(&mut self, path: String) -> Result<u64, HostFault>
         requires { self.old.output ≡ None }
         ensures begins { OpensOutput result (string_bytes path) self.old self.new }
+        ensures file { IfOk result (λ file. file ≡ number_of self.new.output) }
     {
         match self.start(path, Vec::new(self.alloc)) {
             Ok(file) => {
                 self.output = Some(file);
-                Ok(())
+                Ok(file)
             }
             Err(fault) => Err(fault),
         }

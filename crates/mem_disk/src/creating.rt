@@ -3,7 +3,7 @@
 ghost use Rattle.std.specs.Prelude.{◌≡◌, [], None, IfOk, OnOk, OnErr};
 ghost use Rattle.sys_refusals.specs.Paths.{path_of, path_out};
 ghost use Rattle.sys_disk.specs.Images.{is_file, is_over, OfImage, EmptiesAt};
-ghost use Rattle.sys_disk.specs.World.{IsFree};
+ghost use Rattle.sys_disk.specs.World.{IsFree, number_of};
 ghost use Rattle.mem_disk.specs.Made.{CreatesMemory};
 ghost use Rattle.mem_disk.specs.Memory.{world_of, held_of, OpensOutput, IsUnused};
 
@@ -43,7 +43,7 @@ impl MemoryDisk {
             return Err(HostRefusal::memory());
         };
         match self.begin(path) {
-            Ok(()) => Ok(MemoryOutput::new(Vec::new(self.alloc), self.faults.writes)),
+            Ok(file) => Ok(MemoryOutput::new(file, Vec::new(self.alloc), self.faults.writes)),
             Err(fault) => Err(HostRefusal::at(fault, place, None)),
         }
     }
@@ -60,7 +60,7 @@ impl MemoryDisk {
             return Err(HostRefusal::memory());
         };
         match self.begin(path) {
-            Ok(()) => Ok(MemoryOutput::new(Vec::new(self.alloc), self.faults.writes)),
+            Ok(file) => Ok(MemoryOutput::new(file, Vec::new(self.alloc), self.faults.writes)),
             Err(fault) => Err(HostRefusal::at(fault, place, None)),
         }
     }
@@ -73,6 +73,8 @@ impl MemoryDisk {
         requires { self.old.output ≡ None }
         ensures unused { IfOk result (OfImage (λ file. IsUnused [] file.bytes.items file.failed)
             (λ onto. IsUnused [] onto.bytes.items onto.failed)) }
+        ensures this { IfOk result (OfImage (λ image. image.file ≡ number_of self.new.output)
+            (λ onto. onto.file ≡ number_of self.new.output)) }
         ensures kind { IfOk result (λ image. is_file image ≡ is_over (path_out place.entry)) }
         ensures begins { OpensOutput result (path_out place.entry) self.old self.new }
         ensures empties { OnErr result (EmptiesAt (path_out place.entry) (world_of self.old) (world_of self.new)) }
@@ -87,8 +89,8 @@ impl MemoryDisk {
         let bytes = Vec::new(self.alloc);
         let writes = self.faults.writes;
         match self.begin(path) {
-            Ok(()) if is_over => Ok(ImageTo::File(MemoryImage::new(bytes, writes))),
-            Ok(()) => Ok(ImageTo::Stream(MemoryOutput::new(bytes, writes))),
+            Ok(file) if is_over => Ok(ImageTo::File(MemoryImage::new(file, bytes, writes))),
+            Ok(file) => Ok(ImageTo::Stream(MemoryOutput::new(file, bytes, writes))),
             Err(fault) => Err(HostRefusal::at(fault, place, None)),
         }
     }

@@ -30,6 +30,8 @@ pub struct MemoryDisk {
     pub failed: u64,
     /// The open output is a file.
     ghost there: { (file : ℕ) → output ≡ Some file → file < length files.items },
+    /// What is open in place is one.
+    ghost in_place: { (file : ℕ) → part ≡ Some file → file < length files.items },
 }
 
 impl MemoryDisk {

@@ -1,6 +1,7 @@
 //! The output of an image on a disk in memory, which can be overwritten.
 
 ghost use Rattle.std.specs.Prelude.{◌≡◌, ◌≤◌, ◌+◌, false, length};
+ghost use Rattle.abt_io.specs.Frame.{writes_alone};
 ghost use Rattle.sys_disk.specs.Images.{HasNoFront};
 ghost use Rattle.mem_disk.specs.Memory.{IsUnused};
 
@@ -11,6 +12,8 @@ use sys_disk::{Late, Reasons};
 /// Bytes that were written, and that can be overwritten. A write fails if there is no memory for it.
 #[derive(Drop)]
 pub struct MemoryImage {
+    /// The number of its file.
+    pub file: u64,
     pub bytes: Vec<u8>,
     pub calls: Tally,
     pub failed: Failures,
@@ -18,11 +21,13 @@ pub struct MemoryImage {
 }
 
 impl MemoryImage {
-    /// These bytes, where a write may fail.
-    pub fn new(bytes: Vec<u8>, faults: Countdown) -> MemoryImage
+    /// These bytes of the file of this number, where a write may fail.
+    pub fn new(file: u64, bytes: Vec<u8>, faults: Countdown) -> MemoryImage
+        ensures file { result.file ≡ file }
         ensures unused { IsUnused bytes result.bytes result.failed }
     {
         MemoryImage {
+            file,
             bytes,
             calls: Tally::new(),
             failed: Failures::none(),
@@ -41,6 +46,8 @@ impl Output for MemoryImage {
     ghost write_faults = { λ o. o.failed.tally.number };
 
     ghost full_faults = { λ _. 0 };
+
+    ghost write_frame = { λ o. record writes_alone { file = o.file } };
 
     fn write(&mut self, bytes: &[u8]) -> Result<usize, DeviceFault> {
         self.calls.add(1);

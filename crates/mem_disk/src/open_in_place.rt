@@ -1,11 +1,11 @@
 //! How a disk in memory opens a file to be written in place, and closes it.
 
-ghost use Rattle.std.specs.Prelude.{◌≡◌, None, IfOk, length, replicate};
-ghost use Rattle.abt_io.specs.Moment.{no_past};
+ghost use Rattle.std.specs.Prelude.{◌≡◌, ◌<◌, None, IfOk, length, replicate};
+ghost use Rattle.abt_io.specs.Moment.{past_of_file};
 ghost use Rattle.sys_refusals.specs.Paths.{path_of};
 ghost use Rattle.sys_disk.specs.Counts.{writes};
-ghost use Rattle.sys_disk.specs.InPlace.{OpensPart, IsAsLong, closed_part};
-ghost use Rattle.sys_disk.specs.World.{Spares, Ends, SparesRest};
+ghost use Rattle.sys_disk.specs.InPlace.{OpensPart, closed_part};
+ghost use Rattle.sys_disk.specs.World.{Spares, Ends, SparesRest, number_of};
 ghost use Rattle.mem_disk.specs.Made.{MakesMemory};
 ghost use Rattle.mem_disk.specs.Memory.{world_of, held_of, OpensOnly, IsUnused};
 
@@ -21,7 +21,8 @@ impl MemoryDisk {
     ) -> Result<MemoryPartition, HostRefusal<'a>>
         ensures opened { IfOk result (λ part. OpensPart (world_of self.old) (path_of place.entry) part.bytes.items
             (held_of self.old) (held_of self.new)) }
-        ensures unused { IfOk result (λ part. IsUnused no_past part.history.past part.failed) }
+        ensures unused { IfOk result (λ part. IsUnused (past_of_file (number_of self.new.part)) part.history.past
+            part.failed) }
         ensures leaves { OpensOnly result self.old self.new }
     {
         if self.faults.calls.is_over() {
@@ -39,6 +40,9 @@ impl MemoryDisk {
         if self.is_taken(file) {
             return Err(HostRefusal::at(HostFault::SameFile, place, None));
         }
+        if file >= self.files.len() as u64 {
+            return Err(HostRefusal::at(HostFault::CannotOpen, place, None));
+        }
         let Ok(bytes) = self.copy_of(file) else {
             return Err(HostRefusal::memory());
         };
@@ -46,7 +50,7 @@ impl MemoryDisk {
             return Err(HostRefusal::memory());
         }
         self.part = Some(file);
-        Ok(MemoryPartition::new(bytes, self.faults.reads, self.faults.writes))
+        Ok(MemoryPartition::new(file, bytes, self.faults.reads, self.faults.writes))
     }
 
     // Creates or empties a file, makes it this many zeros, and opens it to be written in place.
@@ -72,7 +76,7 @@ impl MemoryDisk {
         match self.start(path, zeros) {
             Ok(file) => {
                 self.part = Some(file);
-                Ok(MemoryPartition::new(same, self.faults.reads, self.faults.writes))
+                Ok(MemoryPartition::new(file, same, self.faults.reads, self.faults.writes))
             }
             Err(fault) => Err(HostRefusal::at(fault, place, None)),
         }
@@ -80,7 +84,6 @@ impl MemoryDisk {
 
     // Closes the file that is open in place, which holds what the partition holds.
     pub(crate) fn put_back(&mut self, part: MemoryPartition)
-        requires { IsAsLong self.old.part part.bytes.items (world_of self.old) }
         ensures ended { Ends self.old.part part.bytes.items (world_of self.old) (world_of self.new) }
         ensures paths { (world_of self.new).at ≡ (world_of self.old).at }
         ensures closed { held_of self.new ≡ closed_part part.history.past (writes part.failed.tally.number)
@@ -96,17 +99,15 @@ impl MemoryDisk {
         }
     }
 
-    // A file holds these bytes, if it exists; one that does not exist holds none.
+    // A file, which exists, holds these bytes.
     fn lay(&mut self, file: u64, bytes: Vec<u8>)
-        requires { length bytes.items ≡ length ((world_of self.old).holds file) }
+        requires { file < length self.old.files.items }
         ensures holds { (world_of self.new).holds file ≡ bytes.items }
         ensures spares { Spares file (world_of self.old) (world_of self.new) }
         ensures paths { self.new.paths ≡ self.old.paths }
         ensures held { held_of self.new ≡ held_of self.old }
     {
-        if file < self.files.len() as u64 {
-            self.files[file as usize] = MemoryFile { bytes };
-        }
+        self.files[file as usize] = MemoryFile { bytes };
     }
 }
 

@@ -2,7 +2,7 @@
 
 ghost use Rattle.std.specs.Prelude.{◌≡◌, ◌≤◌, ◌+◌, true, refl, length};
 ghost use Rattle.abt_io.specs.Bytes.{AreBytes};
-ghost use Rattle.abt_io.specs.Moment.{no_past, put_at};
+ghost use Rattle.abt_io.specs.Moment.{past_of_file, put_at};
 ghost use Rattle.sys_disk.specs.InPlace.{is_settled};
 ghost use Rattle.mem_disk.specs.Memory.{IsUnused};
 
@@ -33,19 +33,22 @@ pub struct MemoryPartition {
 }
 
 impl MemoryPartition {
-    /// These bytes, where a read may fail, and a write or a sync.
+    /// These bytes of the file of this number, where a read may fail, and a write or a sync.
     pub fn new(
+        file: u64,
         bytes: Vec<u8>,
         read_countdown: Countdown,
         write_countdown: Countdown,
     ) -> MemoryPartition
-        ensures history { result.history.past ≡ no_past }
+        ensures history { result.history.past ≡ past_of_file file }
         ensures unused { IsUnused bytes result.bytes result.failed }
     {
         are_bytes(bytes.as_slice());
+        let mut history = History::new();
+        history.begins(file);
         MemoryPartition {
             bytes,
-            history: History::new(),
+            history,
             failed: Failures::none(),
             is_stable: false,
             reads: Tally::new(),

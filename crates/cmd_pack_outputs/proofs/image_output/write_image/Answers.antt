@@ -31,6 +31,7 @@ write_to-requires g c = record {
       g.D.Image.Output.write_faults g.D.Onto.Output.written g.D.Onto.Output.write_faults
       (record { accepted = c.in-Ok.ensures.accepted; nothing = c.requires.nothing }) c.requires.unread
       c.in-Ok-image.ensures.empty c.in-Ok-image.ensures.clean;
+  this = c.in-Ok-image.ensures.this;
 }
 
 -- OUT cannot be opened
@@ -60,7 +61,7 @@ returns-in-Err-write_to-clause-left g c = λ t.
       guarded = spared_made _ _ _ _ _ _ made;
       closed = closed_created _ _ _ wrote.closed;
       whole = λ o. part_left _ _ _ _ _ _ _ made wrote.rest
-          (wrote.broken (c.in-Ok-image.ensures.kind t ∙ o));
+          (wrote.broken (c.in-Ok-image.ensures.kind t o));
       clean = tt;
       synced = tt;
     }

@@ -8,4 +8,5 @@ returns-in-Err g c = record {
     packs = search rules;
     broken = broken_none (g.O.Output.written c.args.file) _ c.requires.empty c.in-Err.ensures.broken;
   };
+  frame = search rules;
 }

@@ -5,6 +5,7 @@ use Rattle.mem_disk.proofs.disk.MemoryDisk.plain_at.Goals as goal
 pub returns-in-Err : goal.returns-in-Err
 returns-in-Err c = record {
   unused = tt;
+  this = tt;
   begins = record {
     created = tt;
     refused = refuses_at _ _ _ _ _ refl refl c.in-Ok.ensures c.in-Err.ensures.begins.refused;
