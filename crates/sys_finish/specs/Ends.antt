@@ -14,6 +14,6 @@ pub record EndsWith {F : Type 0} (models : Bool) (stands : F → List ℕ) (past
 
 -- The file of an output as it is after a failure. It holds all that was given, if that is returned. It begins with most
 -- of that, unless it may be marred.
-pub record GivesUp (models : Bool) (stands : List ℕ) (is_whole is_marred : Bool) (given : List ℕ) : Type 0 where
+pub record LetsMostGo (models : Bool) (stands : List ℕ) (is_whole is_marred : Bool) (given : List ℕ) : Type 0 where
   pub whole : IsTrue models → IsTrue is_whole → stands ≡ given
   pub most : IsTrue models → is_marred ≡ false → HasMost given stands

@@ -15,7 +15,8 @@ given_by_writer writer = writer.sink.log.state.bytes ++ writer.held.items
 abbrev pub IsSettled : {F : Type 0} {g : _} → Collecting F g → Type 0
 IsSettled writer = HoldsNothing writer.sink.target
 
--- A prefix of these bytes is appended to what it was given, or nothing. Its file begins with what it was sent, if it did.
+-- A prefix of these bytes is appended to what it was given, or nothing. Its file begins with what it was sent, if it
+-- did before.
 pub record TakesFront {E F : Type 0} {g : _} (r : Result ℕ E) (bytes : List ℕ) (old new : Collecting F g) : Type 0
   where
     pub within : count_of r ≤ length bytes

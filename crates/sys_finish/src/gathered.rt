@@ -5,7 +5,7 @@ ghost use Rattle.abt_io.specs.Calls.{HasWritten};
 ghost use Rattle.abt_io.specs.Count.{count_of};
 ghost use Rattle.abt_io.specs.Frame.{writes_alone};
 ghost use Rattle.sys_disk.specs.World.{HasMost};
-ghost use Rattle.sys_finish.specs.Ends.{EndsWith, GivesUp};
+ghost use Rattle.sys_finish.specs.Ends.{EndsWith, LetsMostGo};
 ghost use Rattle.sys_finish.specs.Follows.{is_marred};
 ghost use Rattle.sys_finish.specs.Given.{given_by_writer, PutsOver, SettlesWriter, LaysZeros};
 
@@ -116,7 +116,7 @@ impl<F: SystemFile + Drop> Gathered<F> {
     /// Sends what is collected, after the work before has failed. Returns its file, and whether that holds all that was
     /// given.
     pub(crate) fn give_up(self) -> (F, bool)
-        ensures { GivesUp F.models (F.stands result.0) result.1 (is_marred self.writer.sink.target)
+        ensures { LetsMostGo F.models (F.stands result.0) result.1 (is_marred self.writer.sink.target)
             (given_by_writer self.writer) }
     {
         given_up(self.writer)
@@ -144,7 +144,7 @@ impl<F: SystemFile + Drop> Gathered<F> {
 // Sends what is collected, as far as possible. What could not be sent is tried once more. Returns its file, and whether
 // that holds all that was given.
 fn given_up<F: SystemFile + Drop>(writer: Collecting<F>) -> (F, bool)
-    ensures { GivesUp F.models (F.stands result.0) result.1 (is_marred writer.sink.target) (given_by_writer writer) }
+    ensures { LetsMostGo F.models (F.stands result.0) result.1 (is_marred writer.sink.target) (given_by_writer writer) }
 {
     let mut writer = writer;
     let _ = writer.send();
@@ -170,10 +170,7 @@ fn put_through<F: SystemFile + Drop>(
 }
 
 // Sends what is collected, and extends the file by a hole. Returns how many zeros that gave it.
-fn lay_through<F: SystemFile + Drop>(
-    writer: &mut Collecting<F>,
-    n: u64,
-) -> Result<u64, DeviceFault>
+fn lay_through<F: SystemFile + Drop>(writer: &mut Collecting<F>, n: u64) -> Result<u64, DeviceFault>
     ensures { LaysZeros result n writer.old writer.new }
 {
     if writer.send().is_err() {

@@ -2,7 +2,7 @@
 //! overwritten.
 
 ghost use Rattle.std.specs.Prelude.{◌≡◌, [], false, length, IfOk};
-ghost use Rattle.sys_finish.specs.Ends.{EndsWith, GivesUp};
+ghost use Rattle.sys_finish.specs.Ends.{EndsWith, LetsMostGo};
 ghost use Rattle.sys_finish.specs.Follows.{is_marred};
 ghost use Rattle.sys_finish.specs.Given.{given_by_writer};
 ghost use Rattle.abt_io.specs.Frame.{nothing_logged};
@@ -69,7 +69,7 @@ impl<F: SystemFile + Drop> ImageFile<F> {
     /// Sends what is collected, after the work before has failed. Returns its file, and whether that holds all that was
     /// given.
     pub fn give_up(self) -> (F, bool)
-        ensures { GivesUp F.models (F.stands result.0) result.1 (is_marred self.to.writer.sink.target)
+        ensures { LetsMostGo F.models (F.stands result.0) result.1 (is_marred self.to.writer.sink.target)
             (given_by_writer self.to.writer) }
     {
         self.to.give_up()

@@ -10,8 +10,8 @@ pub record ClosesOne {F : Type 0} (which : F → ℕ) (stands : F → List ℕ) 
   pub closed : ClosesFile (which file) (stands file) at at' holds holds'
 
 -- nothing is said of the bytes
-abbrev pub HoldsAny : List ℕ → Type 0
-HoldsAny bytes = Unit {0}
+abbrev pub IsAnything : List ℕ → Type 0
+IsAnything bytes = Unit {0}
 
 -- The same. One statement of its bytes is so, unless that is counted as lost, and another is so in any case.
 pub record ClosesGivenUp {F : Type 0} (which : F → ℕ) (stands : F → List ℕ) (lost lost' : Tally)

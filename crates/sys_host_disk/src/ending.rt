@@ -5,7 +5,7 @@ ghost use Rattle.sys_disk.specs.Images.{HasNoFront};
 ghost use Rattle.sys_disk.specs.World.{HasMost};
 ghost use Rattle.sys_file.specs.System.{ClosesFile};
 ghost use Rattle.sys_finish.specs.Given.{given_by_writer};
-ghost use Rattle.sys_host_disk.specs.Ends.{ClosesGivenUp, HoldsAny};
+ghost use Rattle.sys_host_disk.specs.Ends.{ClosesGivenUp, IsAnything};
 ghost use Rattle.sys_host_disk.specs.Files.{system_of};
 
 use crate::host::Host;
@@ -31,7 +31,7 @@ impl<S: System + Drop> Host<S> {
     // The same for an image.
     pub(crate) fn give_up_whole(&mut self, image: ImageFile<S::File>)
         ensures { IsTrue S.File.models → ClosesGivenUp S.which S.File.stands self.old.lost self.new.lost
-            (λ bytes. bytes ≡ given_by_writer image.to.writer) HoldsAny (S.at (system_of self.old))
+            (λ bytes. bytes ≡ given_by_writer image.to.writer) IsAnything (S.at (system_of self.old))
             (S.at (system_of self.new)) (S.holds (system_of self.old)) (S.holds (system_of self.new)) }
     {
         let (file, is_whole) = image.give_up();
@@ -41,7 +41,7 @@ impl<S: System + Drop> Host<S> {
     // Closes an image that must not be taken for one: zeros are written over its magic. Its file has no magic, unless a
     // write failed.
     pub(crate) fn give_up_blank(&mut self, image: ImageFile<S::File>)
-        ensures { IsTrue S.File.models → ClosesGivenUp S.which S.File.stands self.old.lost self.new.lost HasNoFront HoldsAny
+        ensures { IsTrue S.File.models → ClosesGivenUp S.which S.File.stands self.old.lost self.new.lost HasNoFront IsAnything
             (S.at (system_of self.old)) (S.at (system_of self.new)) (S.holds (system_of self.old))
             (S.holds (system_of self.new)) }
     {

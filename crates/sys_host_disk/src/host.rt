@@ -13,7 +13,7 @@ ghost use Rattle.sys_file.specs.System.{ClosesFile, KeepsFiles};
 ghost use Rattle.sys_finish.specs.Given.{given_by_writer};
 ghost use Rattle.sys_host.specs.Ends.{ClosesSo, ClosesWith};
 ghost use Rattle.sys_host.specs.Places.{IsFreeAt, KeepsPaths, ReadsPlace, WritesOver, WritesPlace};
-ghost use Rattle.sys_host_disk.specs.Ends.{ClosesGivenUp, ClosesOne, HoldsAny};
+ghost use Rattle.sys_host_disk.specs.Ends.{ClosesGivenUp, ClosesOne, IsAnything};
 ghost use Rattle.sys_host_disk.specs.Files.{streams_of, system_of, taken_of};
 ghost use Rattle.sys_host_disk.specs.Sources.{shared_by};
 ghost use Rattle.sys_identity.specs.Identity.{IsIdentityOf};
@@ -443,7 +443,7 @@ impl<S: System + Drop> Disk for Host<S> {
 
     fn give_up_image(&mut self, image: ImageFile<S::File>)
         ensures { IsTrue S.File.models → ClosesGivenUp S.which S.File.stands self.old.lost self.new.lost
-            (λ bytes. (bytes ≡ given_by_writer image.to.writer) ⊎ HasNoFront bytes) HoldsAny
+            (λ bytes. (bytes ≡ given_by_writer image.to.writer) ⊎ HasNoFront bytes) IsAnything
             (S.at (system_of self.old)) (S.at (system_of self.new)) (S.holds (system_of self.old))
             (S.holds (system_of self.new)) }
     {
