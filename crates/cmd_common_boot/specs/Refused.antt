@@ -62,7 +62,7 @@ pub record FitsKind (kind : ImageKind) (fields : BootSpec) (parts told ramdisks 
   pub paired : told ≡ ramdisks
 
 -- Packing fails for the fault of the fields and sizes, if there is one, or for a device whose count of faults rose. The
--- faults of all sources are counted together. After an Ok no count has risen.
+-- faults of all sources are counted together. After an Ok no count has risen. What no write changes is as it was.
 pub record PacksParts {X : Type 0} (r : Result X SectionFault) (refusal : Option SectionFault) {A : Type 0}
     (s : sources.Ghosts A) (reads reads' : ℕ) {B : Type 0} (o : outputs.Ghosts B) (old new : B) : Type 0 where
   pub faults : reads ≤ reads'
@@ -70,6 +70,7 @@ pub record PacksParts {X : Type 0} (r : Result X SectionFault) (refusal : Option
       (IsTrue s.models → ⊥))
   pub clean : OnOk r ((reads' ≡ reads) × (o.write_faults new ≡ o.write_faults old))
   pub write_faults : o.write_faults old ≤ o.write_faults new
+  pub frame : o.write_frame new ≡ o.write_frame old
 
 -- a fault of moving bytes, rather than of the fields and sizes
 abbrev pub IsOfMoving : SectionFault → Type 0
