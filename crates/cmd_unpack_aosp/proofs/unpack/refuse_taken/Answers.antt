@@ -1,11 +1,17 @@
 use Rattle.std.proofs.Common.{◌∙◌, arith, refl, rules, sym}
+use Rattle.abt_sections.specs.Header.{view_of}
 use Rattle.sys_disk.specs.Counts.{no_counts}
 use Rattle.cmd_common_boot.proofs.Calls.{same_counting}
 use Rattle.cmd_unpack_aosp.proofs.Files.{free_more, none_looked_at}
 use Rattle.cmd_unpack_aosp.proofs.unpack.refuse_taken.Goals as goal
 
 pub loop-i-init : goal.loop-i-init
-loop-i-init g c = λ t. record { held = refl; world = refl; free = none_looked_at _ _ _ _ }
+loop-i-init g c = λ t. record {
+  held = refl;
+  world = refl;
+  free = none_looked_at c.args.folder.now (view_of c.args.image.now.header) (g.D.Disk.held c.args.disk.now)
+      (g.D.Disk.world c.args.disk.now);
+}
 
 pub loop-i-preserved : goal.loop-i-preserved
 loop-i-preserved g c = λ t.
@@ -13,7 +19,8 @@ loop-i-preserved g c = λ t.
     record {
       held = c.in-Ok.ensures.clean t ∙ i.held;
       world = c.in-Ok.ensures.world t ∙ i.world;
-      free = free_more _ _ _ _ _ i.free (rw (i.held, i.world) at (c.in-Ok.ensures.free t));
+      free = free_more c.args.folder.now (view_of c.args.image.now.header) c.loop-i.i (g.D.Disk.held c.args.disk.now)
+          (g.D.Disk.world c.args.disk.now) i.free (rw (i.held, i.world) at (c.in-Ok.ensures.free t));
     }
 
 pub returns-clause-free : goal.returns-clause-free
