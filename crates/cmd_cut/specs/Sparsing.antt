@@ -145,7 +145,8 @@ pub record ReadyRawImage (models t : Bool) (blocks : Blocks) (bytes reads : ℕ)
   pub read : IsTrue models → reads ≡ 0
 
 -- nothing was written yet to the output that is open, and nothing has failed
-pub record ReadyOutput {B : Type 0} (models : Bool) (o : outputs.Ghosts B) (onto : B) (is_open : Option ℕ) : Type 0 where
+pub record ReadyOutput {B : Type 0} (models : Bool) (o : outputs.Ghosts B) (onto : B) (is_open : Option ℕ)
+    : Type 0 where
   pub empty : o.written onto ≡ []
   pub clean : IsTrue models → o.write_faults onto ≡ 0
   pub this : IsTrue models → (o.write_frame onto).file ≡ number_of is_open

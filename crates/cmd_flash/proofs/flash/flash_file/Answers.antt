@@ -107,6 +107,7 @@ returns-in_err-line_beside-clause-refused g c = λ t.
 
 pub closed-requires : goal.closed-requires
 closed-requires g c = record {
-  this = λ t. this_part (g.D.InPlace.Partition.past c.in_ok-onto.onto) _ _ _ _ (c.in_ok-onto.ensures.past t)
+  this = λ t. this_part (g.D.InPlace.Partition.past c.in_ok-onto.onto)
+      (g.D.InPlace.Partition.past c.flashed-answer.new.onto) _ _ _ (c.in_ok-onto.ensures.past t)
       (c.flashed-answer.ensures.same (g.met.D.Disk.told t) (g.met.D.Disk.part_told t)) (c.let_go.ensures.held t);
 }

@@ -142,7 +142,8 @@ returns-in_err-line_beside-clause-refused g c = λ t.
 
 pub closed-requires : goal.closed-requires
 closed-requires g c = record {
-  this = λ t. this_across _ (g.D.InPlace.Partition.past c.in_ok-onto.onto) _ _ _ _ _ _ _ _ (c.in_ok-onto.ensures.past t)
+  this = λ t. this_across _ (g.D.InPlace.Partition.past c.in_ok-onto.onto)
+      (g.D.InPlace.Partition.past c.delivered_through-answer.new.onto) _ _ _ _ _ _ _ (c.in_ok-onto.ensures.past t)
       (c.delivered_through-answer.ensures.same t) (c.in_ok-through.ensures.opened t)
       (c.delivered_through-answer.ensures.closed t) (c.let_go_source.ensures.held t);
 }
