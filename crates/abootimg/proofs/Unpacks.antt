@@ -96,44 +96,56 @@ same_count : (a b : Stored) (cause : Cause) → b.counts ≡ a.counts → b.coun
 same_count a b cause same = ap (λ (n : Counts). n.failed cause) same
 
 pub clean_none : (a : Stored) → NothingFails a a
-clean_none a = λ cause. refl
+clean_none a = record { stays = λ cause. refl }
 
 pub clean_then : (a b z : Stored) → NothingFails a b → NothingFails b z → NothingFails a z
-clean_then a b z first next = λ cause. next cause ∙ first cause
+clean_then a b z first next = record { stays = λ cause. next.stays cause ∙ first.stays cause }
 
 -- what is done on a disk that is given back
 pub clean_from : (a z : Stored) (w w' : World) (h h' : OpenFiles) → h.counts ≡ a.counts
     → NothingFails (stored w h) (stored w' h') → z ≡ stored w' h' → NothingFails a z
-clean_from a z w w' h h' begins clean back = λ cause.
-    ap (λ (s : Stored). s.counts.failed cause) back ∙ (clean cause ∙ same_count a (stored w h) cause begins)
+clean_from a z w w' h h' begins clean back = record {
+  stays = λ cause. ap (λ (s : Stored). s.counts.failed cause) back
+      ∙ (clean.stays cause ∙ same_count a (stored w h) cause begins);
+}
 
 pub clean_opening : (w w' : World) (path x : List ℕ) (h h' : OpenFiles) → OpensFile w path x h h'
     → NothingFails (stored w h) (stored w' h')
-clean_opening w w' path x h h' opens = λ cause. ap (λ (k : OpenFiles). k.counts.failed cause) opens.taken
+clean_opening w w' path x h h' opens = record {
+  stays = λ cause. ap (λ (k : OpenFiles). k.counts.failed cause) opens.taken;
+}
 
 -- a call of a storage that has counted nothing more
 pub clean_counted : (a z : Stored) (n : Counts) → z ≡ counting_more n a → ((cause : Cause) → n.failed cause ≡ 0)
     → NothingFails a z
-clean_counted a z n counted none = λ cause.
-    let more : z.counts.failed cause ≡ a.counts.failed cause + n.failed cause
-    = ap (λ (s : Stored). s.counts.failed cause) counted in
-    let no : n.failed cause ≡ 0 = none cause in
-    omega (arith, more, no)
+clean_counted a z n counted none = record {
+  stays = λ cause.
+      let more : z.counts.failed cause ≡ a.counts.failed cause + n.failed cause
+      = ap (λ (s : Stored). s.counts.failed cause) counted in
+      let no : n.failed cause ≡ 0 = none cause in
+      omega (arith, more, no);
+}
 
 -- a call of a disk that has counted nothing more
 pub clean_counting : (w w' : World) (h h' : OpenFiles) (n : Counts) → h' ≡ counting n h
     → ((cause : Cause) → n.failed cause ≡ 0) → NothingFails (stored w h) (stored w' h')
-clean_counting w w' h h' n counted none = λ cause.
-    let more : h'.counts.failed cause ≡ h.counts.failed cause + n.failed cause
-    = ap (λ (k : OpenFiles). k.counts.failed cause) counted in
-    let no : n.failed cause ≡ 0 = none cause in
-    omega (arith, more, no)
+clean_counting w w' h h' n counted none = record {
+  stays = λ cause.
+      let more : h'.counts.failed cause ≡ h.counts.failed cause + n.failed cause
+      = ap (λ (k : OpenFiles). k.counts.failed cause) counted in
+      let no : n.failed cause ≡ 0 = none cause in
+      omega (arith, more, no);
+}
 
--- a device is closed that has not failed
-pub clean_closing : (w w' : World) (h h' : OpenFiles) (given faults : ℕ) → h' ≡ counting (reads given faults) h
-    → faults ≡ 0 → NothingFails (stored w h) (stored w' h')
-clean_closing w w' h h' given faults closed none = clean_counting w w' h h' (reads given faults) closed
-    (λ cause. ap (λ n. of_reading n cause) none ∙ no_reading cause)
+-- a device that has not failed
+pub none_read : (faults : ℕ) → faults ≡ 0 → (cause : Cause) → of_reading faults cause ≡ 0
+none_read faults none cause = ap (λ n. of_reading n cause) none ∙ no_reading cause
+
+-- what has not failed on the disk of the parts
+pub clean_parts : (a z : Stored) (h h' : OpenFiles) (w w' : World) → h.counts ≡ a.counts → HasNotFailed h h'
+    → z ≡ stored w' h' → NothingFails a z
+clean_parts a z h h' w w' begins clean back =
+    clean_from a z w w' h h' begins (record { stays = λ cause. clean cause }) back
 
 -- ---- something fails
 

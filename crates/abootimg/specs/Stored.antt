@@ -33,8 +33,8 @@ pub record SomeFails (a z : Stored) : Type 0 where
   pub rises : FailsBetween a z cause
 
 -- nothing has failed
-abbrev pub NothingFails : Stored → Stored → Type 0
-NothingFails a z = (cause : Cause) → z.counts.failed cause ≡ a.counts.failed cause
+pub record NothingFails (a z : Stored) : Type 0 where
+  pub stays : (cause : Cause) → z.counts.failed cause ≡ a.counts.failed cause
 
 -- no file has changed, the same devices are in use, and perhaps more has failed
 pub record KeepsStored (a z : Stored) : Type 0 where

@@ -160,7 +160,7 @@ fn refusal_in<'t>(
 
 // Writes the parts to their files.
 #[inline(never)]
-#[tactic(auto, using(crate::proofs::Unpacks::parts_from))]
+#[tactic(auto, using(crate::proofs::Unpacks::parts_from, crate::proofs::Unpacks::clean_parts))]
 fn write_parts<S: Storage>(
     rt: HostRuntime,
     image: UnpackImage<'_>,

@@ -6,13 +6,14 @@ use Rattle.abootimg.proofs.Unpacks.{some_counted}
 use Rattle.abootimg.proofs.unpack_links.replace_links.Goals as goal
 
 pub loop-link-init : goal.loop-link-init
-loop-link-init g c = record { kept = λ t. kept_none _; clean = λ t. clean_none _ }
+loop-link-init g c = record { kept = λ t. kept_none _; clean = λ t. clean_none (g.S.Storage.its c.args.storage.now) }
 
 pub loop-link-preserved : goal.loop-link-preserved
 loop-link-preserved g c = record {
-  kept = λ t. kept_then _ _ _ (c.loop-link.invariant.kept t) (kept_counted _ _ no_counts (c.replace_link.ensures t));
+  kept = λ t. kept_then _ _ _ (c.loop-link.invariant.kept t)
+      (kept_counted _ _ no_counts (rw c.in-Ok.is at (c.replace_link.ensures t)));
   clean = λ t. clean_then _ _ _ (c.loop-link.invariant.clean t)
-      (clean_counted _ _ no_counts (c.replace_link.ensures t) (λ cause. refl));
+      (clean_counted _ _ no_counts (rw c.in-Ok.is at (c.replace_link.ensures t)) (λ cause. refl));
 }
 
 pub returns-in-Err-clause-kept : goal.returns-in-Err-clause-kept
@@ -21,4 +22,4 @@ returns-in-Err-clause-kept g c = λ t.
 
 pub returns-in-Err-clause-refused : goal.returns-in-Err-clause-refused
 returns-in-Err-clause-refused g c = λ t.
-    fails_then _ _ _ (c.loop-link.invariant.kept t) (some_counted _ _ CannotOpen (c.replace_link.ensures t))
+    fails_then _ _ _ (c.loop-link.invariant.kept t) (some_counted _ _ CannotOpen (rw c.in-Err.is at (c.replace_link.ensures t)))
