@@ -202,7 +202,6 @@ fn parts_on<D: Disk>(
 
 // Prints what is asked for.
 #[inline(never)]
-#[tactic(auto, using(crate::proofs::Unpacks::text_from))]
 fn print_text<S: Storage>(
     rt: HostRuntime,
     image: UnpackImage<'_>,
