@@ -51,8 +51,8 @@ TextCause fault x r r' old new = RefusedAs x fault
 
 -- ---- the steps
 
--- A step that changes no file: the image is looked at, a folder is made, or links are. If it is done, it prints nothing,
--- and nothing has failed.
+-- A step that changes no file: the image is looked at, a folder is made, or links are. If it is done, it prints
+-- nothing, and nothing has failed.
 pub record StepStays (a : Stored) (report : Report) (z : Stored) (report' : Report) (status : ℕ) : Type 0 where
   pub kept : KeepsStored a z
   pub status_is : status ≤ 1

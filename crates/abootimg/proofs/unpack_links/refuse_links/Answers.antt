@@ -13,7 +13,8 @@ loop-link-init g c = record {
 pub loop-link-preserved : goal.loop-link-preserved
 loop-link-preserved g c = record {
   kept = λ t. kept_then _ _ _ (c.loop-link.invariant.kept t)
-      (kept_counting _ _ _ _ no_counts (c.refuse_taken.ensures.world t) (rw c.in-Ok.is at (c.refuse_taken.ensures.held t)));
+      (kept_counting _ _ _ _ no_counts (c.refuse_taken.ensures.world t)
+      (rw c.in-Ok.is at (c.refuse_taken.ensures.held t)));
   clean = λ t. clean_then _ _ _ (c.loop-link.invariant.clean t)
       (clean_counting _ _ _ _ no_counts (rw c.in-Ok.is at (c.refuse_taken.ensures.held t)) (λ cause. refl));
 }

@@ -1,8 +1,8 @@
 use Rattle.std.proofs.Common.{refl}
 use Rattle.sys_disk.specs.Counts.{no_counts}
 use Rattle.sys_refusals.specs.declared.refusal.HostFault.TheVariants.{CannotOpen}
-use Rattle.abootimg.proofs.Unpacks.{clean_counted, clean_none, clean_then, fails_then, kept_counted, kept_none, kept_then}
-use Rattle.abootimg.proofs.Unpacks.{some_counted}
+use Rattle.abootimg.proofs.Unpacks.{clean_counted, clean_none, clean_then, fails_then, kept_counted}
+use Rattle.abootimg.proofs.Unpacks.{kept_none, kept_then, some_counted}
 use Rattle.abootimg.proofs.unpack_links.replace_links.Goals as goal
 
 pub loop-link-init : goal.loop-link-init
@@ -22,4 +22,5 @@ returns-in-Err-clause-kept g c = λ t.
 
 pub returns-in-Err-clause-refused : goal.returns-in-Err-clause-refused
 returns-in-Err-clause-refused g c = λ t.
-    fails_then _ _ _ (c.loop-link.invariant.kept t) (some_counted _ _ CannotOpen (rw c.in-Err.is at (c.replace_link.ensures t)))
+    fails_then _ _ _ (c.loop-link.invariant.kept t)
+    (some_counted _ _ CannotOpen (rw c.in-Err.is at (c.replace_link.ensures t)))
