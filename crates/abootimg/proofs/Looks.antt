@@ -15,7 +15,7 @@ use Rattle.abootimg.specs.LooksAhead.{IsReadAhead, LooksAhead, OpensThese, file_
 pub reads_none : (h : OpenFiles) → OpensThese h h
 reads_none h = record { files = []; taken = ap (λ (l : List ℕ). record h { read = l }) (sym (append-nil h.read)) }
 
-no_reading : (cause : Cause) → of_reading 0 cause ≡ 0
+pub no_reading : (cause : Cause) → of_reading 0 cause ≡ 0
 no_reading (call fault) = refl
 no_reading reading = refl
 no_reading writing = refl

@@ -1,4 +1,5 @@
 pub mod BootDone
+pub mod EmptyFiles
 pub mod InTurn
 pub mod LooksAhead
 pub mod OrderDone

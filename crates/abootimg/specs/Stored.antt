@@ -1,5 +1,5 @@
 -- What contracts know of where the files of a run are.
-use Rattle.std.specs.Prelude.{◌≡◌, ◌≤◌, ◌+◌, ℕ, List, Bool, true, false}
+use Rattle.std.specs.Prelude.{◌≡◌, ◌<◌, ◌≤◌, ◌+◌, ℕ, List, Bool, true, false}
 use Rattle.sys_disk.specs.Counts.{Cause, Counts, added, call_of, no_counts}
 use Rattle.sys_disk.specs.World.{World, OpenFiles}
 use Rattle.sys_refusals.specs.declared.refusal.HostFault.TheVariants as faults
@@ -22,6 +22,19 @@ making false = call_of faults.CannotOpen
 -- this much more is counted, and no file has changed
 abbrev pub counting_more : Counts → Stored → Stored
 counting_more n s = record s { counts = added s.counts n }
+
+-- from the one to the other this has failed
+abbrev pub FailsBetween : Stored → Stored → Cause → Type 0
+FailsBetween a z cause = a.counts.failed cause < z.counts.failed cause
+
+-- this is so of a call, or of a device
+pub record SomeFails (a z : Stored) : Type 0 where
+  pub cause : Cause
+  pub rises : FailsBetween a z cause
+
+-- nothing has failed
+pub record NothingFails (a z : Stored) : Type 0 where
+  pub stays : (cause : Cause) → z.counts.failed cause ≡ a.counts.failed cause
 
 -- no file has changed, the same devices are in use, and perhaps more has failed
 pub record KeepsStored (a z : Stored) : Type 0 where

@@ -17,6 +17,7 @@ use Rattle.words_program.specs.Mistake.{IsMistake}
 use Rattle.cmd_sparse_dispatch.specs.Commands.{State, state}
 use Rattle.abootimg.specs.OrderDone.{IsReadyForOrder}
 use Rattle.abootimg.specs.LooksAhead.{LooksAhead, files_given}
+use Rattle.abootimg.specs.EmptyFiles.{HasEmptyFile}
 use Rattle.abootimg.specs.InTurn.{TurnsEnd, IsPlainOrder}
 use Rattle.abootimg.specs.Stored.{Stored, stored}
 use Rattle.abootimg.specs.UnpackEnds.{UnpackEnds}
@@ -27,11 +28,12 @@ use Rattle.abootimg.specs.UnpackEnds.{UnpackEnds}
 abbrev pub ArePlain : Orders → Type 0
 ArePlain orders = IsPlainOrder orders.first × IsPlainOrder orders.second
 
--- No order is begun: no image is made of such files, or a file of the second order can't be read. Every file is as
--- before.
-pub record NoneBegun (a z : State) (status : ℕ) : Type 0 where
+-- No order is begun: an order of `pack` is given an empty file that no image is made of, or a file of the second order
+-- can't be read. Every file is as before.
+pub record NoneBegun (orders : Orders) (a z : State) (status : ℕ) : Type 0 where
   pub same : z.world ≡ a.world
-  pub cause : (z.held ≡ a.held) ⊎ ((fault : HostFault) × HasFailed (call fault) a.held z.held)
+  pub cause : ((HasEmptyFile a.world orders.first ⊎ HasEmptyFile a.world orders.second) × (z.held ≡ a.held))
+      ⊎ ((fault : HostFault) × HasFailed (call fault) a.held z.held)
   pub status_is : status ≢ 0
 
 -- Regular files that the second order reads are opened once, before any order is begun. Both are carried out in turn.
@@ -48,7 +50,7 @@ pub record OrdersCarriedOut (on_output is_file : List ℕ → Bool) (orders : Or
 
 abbrev pub OrdersEnd : (List ℕ → Bool) → (List ℕ → Bool) → Orders → State → State → ℕ → Type 0
 OrdersEnd on_output is_file orders a z status =
-    NoneBegun a z status ⊎ OrdersCarriedOut on_output is_file orders a z status
+    NoneBegun orders a z status ⊎ OrdersCarriedOut on_output is_file orders a z status
 
 -- ---- from the words
 

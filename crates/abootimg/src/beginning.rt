@@ -2,9 +2,10 @@
 
 ghost use Rattle.std.specs.Prelude.{◌≡◌, ℕ, List, Bool, IsTrue, false, true};
 ghost use Rattle.abootimg.specs.OrderDone.{mounted_if, synced_if};
+ghost use Rattle.abootimg.specs.EmptyFiles.{IsEmptyAt};
 ghost use Rattle.abootimg.specs.InTurn.{next_held};
 
-use crate::tool::is_regular_file;
+use crate::tool::{is_empty_file, is_regular_file};
 use sys_disk::Disk;
 use sys_host_disk::Host;
 use sys_std::OsSystem;
@@ -17,6 +18,10 @@ pub trait Beginning: Disk {
     /// Whether a path leads to a regular file.
     fn leads_to_file(&self, rt: HostRuntime, path: &str) -> bool
         ensures { IsTrue Self.models → result ≡ is_file path.now };
+
+    /// Whether a path leads to a regular file that is empty.
+    fn leads_to_empty_file(&self, rt: HostRuntime, path: &str) -> bool
+        ensures { IsTrue Self.models → IsTrue result → IsEmptyAt (Self.world self.now) path.now };
 
     /// Each output that is a file or a block device is going to be synced at its end.
     fn sync_outputs(&mut self)
@@ -40,6 +45,10 @@ impl Beginning for Host<OsSystem> {
 
     fn leads_to_file(&self, rt: HostRuntime, path: &str) -> bool {
         is_regular_file(rt, path)
+    }
+
+    fn leads_to_empty_file(&self, rt: HostRuntime, path: &str) -> bool {
+        is_empty_file(rt, path)
     }
 
     fn sync_outputs(&mut self) {

@@ -1,11 +1,12 @@
 //! Where the files of a run are, whose disks are opened once the words are read.
 
 ghost use Rattle.std.specs.Prelude.{◌≡◌, [], IsTrue, None, false, is_ok};
-ghost use Rattle.sys_disk.specs.Counts.{no_counts};
+ghost use Rattle.sys_disk.specs.Counts.{memory_of, no_counts};
 ghost use Rattle.abootimg.specs.OrderDone.{IsReadyForOrder};
 ghost use Rattle.abootimg.specs.Stored.{Stored, counting_more, making, stored};
 
 use crate::beginning::Beginning;
+use std::alloc::AllocError;
 use std::io;
 use sys_file::System;
 use sys_host::Reading;
@@ -37,6 +38,10 @@ pub trait Storage {
     fn give_back(&mut self, disk: Self::Disk)
         ensures { IsTrue Self.Disk.models → its self.new ≡ stored (Self.Disk.world disk) (Self.Disk.held disk) };
 
+    /// The path of a file in a folder. A refusal of memory is counted.
+    fn path_in(&mut self, folder: &str, name: &str) -> Result<String, AllocError>
+        ensures { IsTrue Self.Disk.models → its self.new ≡ counting_more (memory_of result) (its self.old) };
+
     /// Creates a folder and the folders above it, where they do not exist.
     fn make_folder(&mut self, path: &str) -> io::Result<()>
         ensures { IsTrue Self.Disk.models → its self.new ≡ counting_more (making (is_ok result)) (its self.old) };
@@ -66,6 +71,10 @@ impl Storage for SystemStorage {
     }
 
     fn give_back(&mut self, _disk: Host<OsSystem>) {}
+
+    fn path_in(&mut self, folder: &str, name: &str) -> Result<String, AllocError> {
+        format!(in self.rt.alloc(); "{folder}/{name}")
+    }
 
     fn make_folder(&mut self, path: &str) -> io::Result<()> {
         (OsSystem { rt: self.rt }).make_folders(path)

@@ -1,6 +1,8 @@
 //! Doing what the words of one of AOSP's tools ask for, and the exit status.
 
-ghost use Rattle.std.specs.Prelude.{◌≡◌, ◌≢◌, [], IfErr, IfOk, IsTrue, OnOk, map, option_map, string_bytes};
+ghost use Rattle.std.specs.Prelude.{◌≡◌, ◌≢◌, ◌⊎◌, [], IfErr, IfOk, IfSome, IsTrue, OnOk, map, option_map};
+ghost use Rattle.std.specs.Prelude.{string_bytes};
+ghost use Rattle.std.specs.Option.{IsSomeAnd};
 ghost use Rattle.sys_refusals.specs.Paths.{path_of};
 ghost use Rattle.sys_disk.specs.Counts.{call};
 ghost use Rattle.sys_disk.specs.World.{HasFailed};
@@ -9,6 +11,7 @@ ghost use Rattle.words_tools.specs.Rejected.{AreRejected, RejectsPartsFor};
 ghost use Rattle.words_tools.specs.Tools.{AreOrdersOf, ArePartedFor};
 ghost use Rattle.cmd_sparse_dispatch.specs.Commands.{state};
 ghost use Rattle.abootimg.specs.OrderDone.{IsReadyForOrder};
+ghost use Rattle.abootimg.specs.EmptyFiles.{HasEmptyFile, IsEmptyAt, IsNotToBeEmpty, TaskHasEmptyFile};
 ghost use Rattle.abootimg.specs.LooksAhead.{IsReadAhead, LooksAhead, OpensThese, file_word, files_given};
 ghost use Rattle.abootimg.specs.ToolEnds.{ArePlain, CalledEnds, OrdersEnd, OrdersFoundEnd, PartedEnds, ToolEnds, status_as};
 
@@ -224,7 +227,7 @@ fn do_orders<D: Beginning>(
         id_of,
         ..
     } = orders;
-    if let Some(instead) = refusal_of_orders(rt, &first, &second) {
+    if let Some(instead) = refusal_of_orders(rt, &*disk, &first, &second) {
         return not_taken(rt, instead, how, report);
     }
     silence(rt, report);
@@ -259,40 +262,75 @@ fn not_taken(rt: HostRuntime, instead: &'static str, how: Telling, report: &mut 
 // ---- before they begin
 
 // Why images are not made of their files.
-fn refusal_of_orders(
+fn refusal_of_orders<D: Beginning>(
     rt: HostRuntime,
+    disk: &D,
     first: &Option<Order<'_>>,
     second: &Option<Order<'_>>,
-) -> Option<&'static str> {
-    if let Some(order) = first
-        && let Some(instead) = refusal_of_parts(rt, &order.task)
-    {
+) -> Option<&'static str>
+    ensures { IsTrue D.models → IfSome result (λ _.
+        HasEmptyFile (D.world disk.now) first.now ⊎ HasEmptyFile (D.world disk.now) second.now) }
+{
+    if let Some(instead) = refusal_of_order(rt, disk, first) {
         return Some(instead);
     }
-    if let Some(order) = second {
-        return refusal_of_parts(rt, &order.task);
+    refusal_of_order(rt, disk, second)
+}
+
+fn refusal_of_order<D: Beginning>(
+    rt: HostRuntime,
+    disk: &D,
+    order: &Option<Order<'_>>,
+) -> Option<&'static str>
+    ensures { IsTrue D.models → IfSome result (λ _. HasEmptyFile (D.world disk.now) order.now) }
+{
+    match order {
+        Some(order) => refusal_of_parts(rt, disk, &order.task),
+        None => None,
     }
-    None
 }
 
 // Why an image is not made of its files: for one of them that is empty, mkbootimg fails, or reserves a place anyway.
-fn refusal_of_parts(rt: HostRuntime, task: &Task<'_>) -> Option<&'static str> {
+fn refusal_of_parts<D: Beginning>(
+    rt: HostRuntime,
+    disk: &D,
+    task: &Task<'_>,
+) -> Option<&'static str>
+    ensures { IsTrue D.models → IfSome result (λ _. TaskHasEmptyFile (D.world disk.now) task.now) }
+{
     let Task::Boot(BootTask::Pack(order)) = task else {
         return None;
     };
+    let version = order.version;
     for given in order.given.as_slice() {
-        if let Some(instead) = refusal_of_empty(given.row.name, order.version)
-            && let Some(word) = given.word
-            && is_empty_file(rt, word)
-        {
+        if let Some(instead) = refusal_of_given(rt, disk, given, version) {
             return Some(instead);
         }
     }
     None
 }
 
+fn refusal_of_given<D: Beginning>(
+    rt: HostRuntime,
+    disk: &D,
+    given: &Given<'_>,
+    version: u32,
+) -> Option<&'static str>
+    ensures option { IfSome result (λ _. IsNotToBeEmpty version given.now.row.now.name.now) }
+    ensures named { IsTrue D.models → IfSome result (λ _.
+        IsSomeAnd given.now.word (λ word. IsEmptyAt (D.world disk.now) word.now)) }
+{
+    let instead = refusal_of_empty(given.row.name, version)?;
+    match given.word {
+        Some(word) if disk.leads_to_empty_file(rt, word) => Some(instead),
+        _ => None,
+    }
+}
+
 // The message about an empty file of this option, if it is rejected.
-fn refusal_of_empty(name: &str, version: u32) -> Option<&'static str> {
+fn refusal_of_empty(name: &str, version: u32) -> Option<&'static str>
+    ensures { IfSome result (λ _. IsNotToBeEmpty version name.now) }
+{
     if name == "recovery-dtbo" {
         return Some("the recovery DTBO is not empty: leave it out");
     }
@@ -302,7 +340,7 @@ fn refusal_of_empty(name: &str, version: u32) -> Option<&'static str> {
     None
 }
 
-fn is_empty_file(rt: HostRuntime, path: &str) -> bool {
+pub(crate) fn is_empty_file(rt: HostRuntime, path: &str) -> bool {
     match fs::metadata(&rt, path) {
         Ok(found) => found.is_file() && found.len() == 0,
         Err(_) => false,

@@ -8,12 +8,13 @@
 //! - links are made to its ramdisk fragments;
 //! - its text is printed.
 
-ghost use Rattle.std.specs.Prelude.{◌≡◌, [], IsTrue, OnOk};
+ghost use Rattle.std.specs.Prelude.{◌≡◌, [], IfErr, IsTrue, OnOk};
 ghost use Rattle.sys_refusals.specs.Paths.{path_of};
 ghost use Rattle.sys_disk.specs.World.{IsReading};
 ghost use Rattle.sys_host.specs.Answering.{PrintsNothing};
-ghost use Rattle.abootimg.specs.Stored.{stored};
-ghost use Rattle.abootimg.specs.UnpackEnds.{PartsEnd, PartsOn, PrintsText, StepStays, TextStep, UnpackEnds, text_wanted};
+ghost use Rattle.abootimg.specs.Stored.{NothingFails, stored};
+ghost use Rattle.abootimg.specs.UnpackEnds.{PartsEnd, PartsOn, PrintsText, StepStays, TextCause, TextStep};
+ghost use Rattle.abootimg.specs.UnpackEnds.{UnpackEnds, text_wanted};
 
 use crate::outcome::told_at_most;
 use crate::storage::Storage;
@@ -133,8 +134,9 @@ fn look_into<D: Disk>(
     w: &mut Window,
     m: &mut Meter,
 ) -> u8
-    ensures { IsTrue D.models → StepStays (stored (D.world disk.old) (D.held disk.old)) report.old
+    ensures stays { IsTrue D.models → StepStays (stored (D.world disk.old) (D.held disk.old)) report.old
         (stored (D.world disk.new) (D.held disk.new)) report.new result }
+    ensures read { result ≡ 0 → D.At.read_faults source.new ≡ D.At.read_faults source.old }
 {
     match find_links(rt.alloc(), &image, source, w, m) {
         Ok(found) => {
@@ -158,7 +160,7 @@ fn refusal_in<'t>(
 
 // Writes the parts to their files.
 #[inline(never)]
-#[tactic(auto, using(crate::proofs::Unpacks::parts_from))]
+#[tactic(auto, using(crate::proofs::Unpacks::parts_from, crate::proofs::Unpacks::clean_parts))]
 fn write_parts<S: Storage>(
     rt: HostRuntime,
     image: UnpackImage<'_>,
@@ -170,6 +172,7 @@ fn write_parts<S: Storage>(
 ) -> u8
     ensures parts { IsTrue S.Disk.models → PartsEnd image.entry (S.its storage.old) (S.its storage.new) result }
     ensures quiet { result ≡ 0 → PrintsNothing report.old report.new }
+    ensures clean { IsTrue S.Disk.models → result ≡ 0 → NothingFails (S.its storage.old) (S.its storage.new) }
 {
     let mut disk = storage.disk();
     let status = parts_on(rt, image, how, &mut disk, report, w, m);
@@ -199,7 +202,6 @@ fn parts_on<D: Disk>(
 
 // Prints what is asked for.
 #[inline(never)]
-#[tactic(auto, using(crate::proofs::Unpacks::text_from))]
 fn print_text<S: Storage>(
     rt: HostRuntime,
     image: UnpackImage<'_>,
@@ -267,7 +269,12 @@ fn write_text<S: Source>(
     w: &mut Window,
     m: &mut Meter,
 ) -> Result<(), SectionFault>
-    ensures { IsTrue S.models → OnOk result (PrintsText image.now (S.content source.old) report.old report.new) }
+    ensures printed { IsTrue S.models → OnOk result (PrintsText image.now (S.content source.old) report.old
+        report.new) }
+    ensures clean { OnOk result (S.read_faults source.new ≡ S.read_faults source.old) }
+    // it fails if the source holds no image, or a device fails
+    ensures refused { IsTrue S.models → IfErr result (λ f. TextCause f (S.content source.old)
+        (S.read_faults source.old) (S.read_faults source.new) report.old report.new) }
 {
     let opened = match open(source, w, m) {
         Ok(opened) => opened,

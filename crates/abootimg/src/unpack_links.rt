@@ -1,12 +1,12 @@
 //! The links that unpack_bootimg makes to the ramdisk fragments of an image.
 
-ghost use Rattle.std.specs.Prelude.{◌<◌, IsTrue};
+ghost use Rattle.std.specs.Prelude.{◌≡◌, ◌≢◌, ◌<◌, IsTrue, OnErr, OnOk};
 ghost use Rattle.abt_sections.specs.Header.{fragment_count, view_of};
-ghost use Rattle.abootimg.specs.Stored.{KeepsStored, stored};
+ghost use Rattle.abootimg.specs.Stored.{KeepsStored, NothingFails, SomeFails, stored};
 ghost use Rattle.abootimg.specs.UnpackEnds.{StepStays};
 
 use crate::storage::Storage;
-use crate::unpack_steps::{cannot_make, make_folder, refused_step};
+use crate::unpack_steps::{cannot_make, make_folder_at, refused_step};
 use abt_io::{Meter, Source, Window};
 use abt_sections::{Image, SectionFault, fragment, fragments, open};
 use cmd_common_boot::BootCommandFault;
@@ -40,7 +40,9 @@ pub(crate) fn find_links<S: Source>(
     source: &mut S,
     w: &mut Window,
     m: &mut Meter,
-) -> Result<Option<Vec<Link>>, BootCommandFault<'static>> {
+) -> Result<Option<Vec<Link>>, BootCommandFault<'static>>
+    ensures { OnOk result (S.read_faults source.new ≡ S.read_faults source.old) }
+{
     let opened = match open(source, w, m) {
         Ok(opened) => opened,
         Err(fault) => return Err(BootCommandFault::Section(fault)),
@@ -69,6 +71,7 @@ fn link_to<S: Source>(
     m: &mut Meter,
 ) -> Result<Link, BootCommandFault<'static>>
     requires { index < fragment_count (view_of image.now.header) }
+    ensures { OnOk result (S.read_faults source.new ≡ S.read_faults source.old) }
 {
     let entry = match fragment(image, index, source, w, m) {
         Ok(entry) => entry,
@@ -98,7 +101,7 @@ fn link_of(alloc: Global, folder: &str, name: &str, file: &str) -> Result<Link, 
 }
 
 /// Fails if a link would replace the image.
-#[tactic(auto, using(crate::proofs::Unpacks::kept_none, crate::proofs::Unpacks::step_done, crate::proofs::Unpacks::step_refused))]
+#[tactic(auto, using(crate::proofs::Unpacks::kept_none, crate::proofs::Unpacks::clean_none, crate::proofs::Unpacks::step_done, crate::proofs::Unpacks::step_refused))]
 pub(crate) fn spare_input<D: Disk>(
     rt: HostRuntime,
     disk: &mut D,
@@ -119,8 +122,10 @@ pub(crate) fn spare_input<D: Disk>(
 }
 
 fn refuse_links<'a, D: Disk>(disk: &mut D, links: &'a [Link]) -> Result<(), HostRefusal<'a>>
-    ensures { IsTrue D.models → KeepsStored (stored (D.world disk.old) (D.held disk.old))
+    ensures kept { IsTrue D.models → KeepsStored (stored (D.world disk.old) (D.held disk.old))
         (stored (D.world disk.new) (D.held disk.new)) }
+    ensures clean { IsTrue D.models → OnOk result (NothingFails (stored (D.world disk.old) (D.held disk.old))
+        (stored (D.world disk.new) (D.held disk.new))) }
 {
     for link in links {
         match disk.refuse_taken(FileArg::new("LINK", link.path.as_str())) {
@@ -133,7 +138,7 @@ fn refuse_links<'a, D: Disk>(disk: &mut D, links: &'a [Link]) -> Result<(), Host
 
 /// Makes each link, replacing one that exists, in a folder of their own.
 #[inline(never)]
-#[tactic(auto, using(crate::proofs::Unpacks::kept_none, crate::proofs::Unpacks::step_done, crate::proofs::Unpacks::step_refused))]
+#[tactic(auto, using(crate::proofs::Unpacks::kept_none, crate::proofs::Unpacks::clean_none, crate::proofs::Unpacks::step_done, crate::proofs::Unpacks::step_refused))]
 pub(crate) fn make_links<S: Storage>(
     rt: HostRuntime,
     folder: &str,
@@ -142,16 +147,19 @@ pub(crate) fn make_links<S: Storage>(
     storage: &mut S,
     report: &mut Report,
 ) -> u8
-    ensures { IsTrue S.Disk.models → StepStays (S.its storage.old) report.old (S.its storage.new) report.new
+    ensures stays { IsTrue S.Disk.models → StepStays (S.its storage.old) report.old (S.its storage.new) report.new
         result }
+    // it fails since a call fails
+    ensures refused { IsTrue S.Disk.models → result ≢ 0 → SomeFails (S.its storage.old) (S.its storage.new) }
 {
     let Some(links) = links else {
         return DONE;
     };
-    let Ok(by_name) = format!(in rt.alloc(); "{folder}/{BY_NAME}") else {
-        return refused_step(rt, HostRefusal::memory(), how, report);
+    let by_name = match storage.path_in(folder, BY_NAME) {
+        Ok(by_name) => by_name,
+        Err(_) => return refused_step(rt, HostRefusal::memory(), how, report),
     };
-    let made = make_folder(rt, by_name.as_str(), how, storage, report);
+    let made = make_folder_at(rt, by_name.as_str(), how, storage, report);
     if made != DONE {
         return made;
     }
@@ -162,7 +170,9 @@ pub(crate) fn make_links<S: Storage>(
 }
 
 fn replace_links<'a, S: Storage>(storage: &mut S, links: &'a [Link]) -> Result<(), HostRefusal<'a>>
-    ensures { IsTrue S.Disk.models → KeepsStored (S.its storage.old) (S.its storage.new) }
+    ensures kept { IsTrue S.Disk.models → KeepsStored (S.its storage.old) (S.its storage.new) }
+    ensures clean { IsTrue S.Disk.models → OnOk result (NothingFails (S.its storage.old) (S.its storage.new)) }
+    ensures refused { IsTrue S.Disk.models → OnErr result (SomeFails (S.its storage.old) (S.its storage.new)) }
 {
     for link in links {
         match storage.replace_link(link.target.as_str(), link.path.as_str()) {

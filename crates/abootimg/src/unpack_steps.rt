@@ -1,6 +1,10 @@
 //! What the steps of unpacking an image share: a folder is made, and a step is refused.
 
-ghost use Rattle.std.specs.Prelude.{◌≡◌, IsTrue};
+ghost use Rattle.std.specs.Prelude.{◌≡◌, ◌≢◌, ◌⊎◌, [], IsTrue};
+ghost use Rattle.sys_disk.specs.Counts.{call};
+ghost use Rattle.sys_refusals.specs.declared.refusal.HostFault.TheVariants.{CannotOpen};
+ghost use Rattle.sys_report.specs.Shows.{IsNoted};
+ghost use Rattle.abootimg.specs.Stored.{FailsBetween};
 ghost use Rattle.abootimg.specs.UnpackEnds.{StepStays};
 
 use crate::outcome::told_at_most;
@@ -23,12 +27,31 @@ pub(crate) fn make_folder<S: Storage>(
     storage: &mut S,
     report: &mut Report,
 ) -> u8
-    ensures { IsTrue S.Disk.models → StepStays (S.its storage.old) report.old (S.its storage.new) report.new
+    ensures stays { IsTrue S.Disk.models → StepStays (S.its storage.old) report.old (S.its storage.new) report.new
         result }
+    // it fails if the path is empty, or since the call fails
+    ensures refused { IsTrue S.Disk.models → result ≢ 0 → (path.now ≡ [])
+        ⊎ FailsBetween (S.its storage.old) (S.its storage.new) (call CannotOpen) }
 {
     if path.is_empty() {
         return refused_step(rt, cannot_make(path, Some(NOT_THERE)), how, report);
     }
+    make_folder_at(rt, path, how, storage, report)
+}
+
+/// Makes a folder at a path that is not empty.
+pub(crate) fn make_folder_at<S: Storage>(
+    rt: HostRuntime,
+    path: &str,
+    how: Telling,
+    storage: &mut S,
+    report: &mut Report,
+) -> u8
+    ensures stays { IsTrue S.Disk.models → StepStays (S.its storage.old) report.old (S.its storage.new) report.new
+        result }
+    ensures refused { IsTrue S.Disk.models → result ≢ 0 → FailsBetween (S.its storage.old) (S.its storage.new)
+        (call CannotOpen) }
+{
     match storage.make_folder(path) {
         Ok(()) => DONE,
         Err(error) => refused_step(rt, cannot_make(path, error.raw_os_error()), how, report),
@@ -59,7 +82,8 @@ pub(crate) fn refused_image(
     how: Telling,
     report: &mut Report,
 ) -> u8
-    ensures { result ≡ 1 }
+    ensures status { result ≡ 1 }
+    ensures noted { IsNoted report.old report.new }
 {
     let _status = told_at_most(Err(refusal), REFUSED, how, rt, report);
     REFUSED

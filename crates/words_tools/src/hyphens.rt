@@ -50,6 +50,7 @@ fn is_stop(tool: Tool, word: &str) -> bool
 
 /// Whether a word can be the value of the option before it. One that begins with a hyphen is a number below zero or has
 /// a space, and does not begin as an option.
+#[inline(never)]
 pub(crate) fn is_value(rows: &[Row], word: &str) -> bool
     ensures { result ≡ false → (value : List ℕ) × (word.now ≡ 45 ∷ value) }
 {
@@ -95,6 +96,7 @@ fn is_option(rows: &[Row], behind: &str) -> bool {
 }
 
 // Whether this is a letter's name, and what may follow it in its word.
+#[inline(never)]
 fn is_letter(rows: &[Row], behind: &str) -> bool
     ensures { IsTrue result → BeginsLetter (map shape_of rows.now) behind.now }
 {
@@ -109,6 +111,7 @@ fn is_letter(rows: &[Row], behind: &str) -> bool
 }
 
 // Whether a name of an option is this or begins so, or a name of a flag.
+#[inline(never)]
 fn is_long(rows: &[Row], short: &str, has_flags: bool) -> bool
     ensures { IsTrue result → has_flags ≡ false → BeginsOption (map shape_of rows.now) short.now }
 {
@@ -126,6 +129,7 @@ fn is_long(rows: &[Row], short: &str, has_flags: bool) -> bool
 }
 
 // Whether a word is an option whose value is the next word.
+#[inline(never)]
 fn awaits_value(rows: &[Row], word: &str) -> bool
     ensures { IsTrue result → AwaitsNext (map shape_of rows.now) word.now }
 {

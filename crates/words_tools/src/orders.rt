@@ -90,6 +90,7 @@ fn fault_for<'a, S: AsStr>(
 }
 
 // The orders that the words give; none if they give none.
+#[inline(never)]
 fn orders_in<'a, S: AsStr>(
     alloc: Global,
     tool: Tool,
@@ -175,6 +176,7 @@ fn unpack_orders<'a>(answers: &Answers<'a>) -> Orders<'a>
 }
 
 // Clap read the words differently, which no correct parser does.
+#[inline(never)]
 fn misread(alloc: Global, tool: Tool) -> Result<Error, AllocError> {
     let no_words: [&str; 0] = [];
     let mut program = tool_program(alloc, tool, &no_words)?;
@@ -289,6 +291,7 @@ fn refusal_of_said(said: &[Answer<'_>], version: u32) -> Option<&'static str>
 }
 
 // The order of an image, where it is asked for.
+#[inline(never)]
 fn image_order<'a>(
     alloc: Global,
     answers: &Answers<'a>,

@@ -9,6 +9,7 @@ use words_orders::with_rows;
 
 /// The parser of a tool's words. If each value of mkbootimg with a hyphen is one by the rules of argparse, it takes them
 /// all.
+#[inline(never)]
 pub(crate) fn tool_program<'a, S: AsStr>(
     alloc: Global,
     tool: Tool,
