@@ -1,6 +1,6 @@
 //! Writes one part of an image to a file of its own.
 
-ghost use Rattle.std.specs.Prelude.{◌≡◌, ◌<◌, ◌≤◌, ◌+◌, None, Ok, Err, Bool, ℕ, true, MatchResult, IsTrue, IsOk};
+ghost use Rattle.std.specs.Prelude.{◌≡◌, ◌<◌, ◌≤◌, ◌+◌, None, Ok, Err, Bool, true, MatchResult, IsTrue, IsOk};
 ghost use Rattle.std.specs.Prelude.{IfOk, IfErr, OnOk, Some, length, slice_index_or};
 ghost use Rattle.abt_headers.specs.declared.sections.SectionPlace.{SectionPlace};
 ghost use Rattle.sys_refusals.specs.Blamed.{TellsOf, TellsRead};
@@ -141,8 +141,8 @@ pub(crate) fn write_pack_words<'t, 'a, D: Disk>(
     ensures done { IsTrue D.models → OnOk result (WordsDone folder.now (view_of image.now.header)
         (D.At.content source.old) (D.held disk.new) (D.world disk.new)) }
     ensures shown { IsTrue D.models → OnOk result (ShowsLineOf (λ part. D.on_output (path_of_part folder.now part))
-        (told_text (words_text (image_words folder.now (D.At.content source.old) (view_of image.now.header)))) report.old
-        report.new) }
+        (told_text (words_text (image_words folder.now (D.At.content source.old) (view_of image.now.header))))
+        report.old report.new) }
     ensures refused { IsTrue D.models → IsOpened (D.At.content source.old) image.now → IfErr result (λ refusal.
         IsRefusedOver (D.At.content source.old) (SomeFailed (D.held disk.old) (D.At.read_faults source.old)
         (D.held disk.new) (D.At.read_faults source.new)) (WordsDone folder.now (view_of image.now.header)

@@ -114,17 +114,6 @@ no_file folder h x i held world none =
 
 -- ---- the look at all names
 
-pub free_file : (folder path name : List ℕ) (h : Header) (i : ℕ) (held : OpenFiles) (w : World) → name_at h i ≡ Some name
-    → path ≡ path_in_folder folder name → IsFree path held w → HasFreeFile folder h held w i
-free_file folder path name h i held w found is_path free =
-    subst (λ o. IfSome o (λ n. IsFree (path_in_folder folder n) held w)) (sym found)
-    (subst (λ p. IsFree p held w) is_path free)
-
-pub no_free_file : (folder : List ℕ) (h : Header) (i : ℕ) (held : OpenFiles) (w : World) → name_at h i ≡ None
-    → HasFreeFile folder h held w i
-no_free_file folder h i held w none =
-    subst (λ o. IfSome o (λ n. IsFree (path_in_folder folder n) held w)) (sym none) tt
-
 pub none_looked_at : (folder : List ℕ) (h : Header) (held : OpenFiles) (w : World) → HaveFreeFiles folder h 0 held w
 none_looked_at folder h held w = λ j below. absurd (omega (arith, below))
 
