@@ -1,5 +1,6 @@
 -- What a writer was given that collects small writes.
-use Rattle.std.specs.Prelude.{◌≡◌, ◌<◌, ◌≤◌, ℕ, List, [], ◌++◌, length, take, replicate, Result, IfOk, IfErr, OnOk, OnErr}
+use Rattle.std.specs.Prelude.{◌≡◌, ◌<◌, ◌≤◌, ℕ, List, [], ◌++◌, length, take, replicate}
+use Rattle.std.specs.Prelude.{Result, IfOk, IfErr, OnOk, OnErr}
 use Rattle.abt_io.specs.Count.{count_of}
 use Rattle.abt_io.specs.Moment.{put_at}
 use Rattle.abt_io.specs.declared.device.DeviceFault.{DeviceFault}
