@@ -91,6 +91,14 @@ module _ {O : Type 0} (written : O → List ℕ) (faults : O → ℕ) where
   writes_clean s t u a old new p q none from to =
       sym to ∙ (both_printed written faults s t u a [] p q).clean none ∙ from
 
+  -- whatever was printed, what was written before stays in front
+  pub writes_more : (s t u : Text O) (a : List ℕ) (old new : List ℕ) → Prints written faults s t a
+      → Prints written faults t u [] → written s.output.now ≡ old → written u.output.now ≡ new
+      → (more : List ℕ) × (new ≡ old ++ more)
+  writes_more s t u a old new p q from to =
+      let grown = (both_printed written faults s t u a [] p q).grown in
+      (grown.0, sym to ∙ grown.1 ∙ ap (λ x. x ++ grown.0) from)
+
   -- all of it does
   pub reports_all : (o : Notation) (x y : List ℕ) (h : Header) (s t u : Text O) (old new : List ℕ) → y ≡ x
       → HasImage x h

@@ -1,6 +1,6 @@
 //! The arguments that pack an image again: the values of its header and its table, each as an option of `pack`.
 
-ghost use Rattle.std.specs.Prelude.{◌≡◌, ◌++◌, ◌∷◌, [], Some, None, MatchOption, IsTrue, IfErr, OnOk};
+ghost use Rattle.std.specs.Prelude.{◌≡◌, ◌++◌, ◌∷◌, [], ℕ, List, Some, None, MatchOption, IsTrue, IfErr, OnOk};
 ghost use Rattle.std.specs.List.{flat_map};
 ghost use Rattle.abt_sections.specs.Check.{all_zero};
 ghost use Rattle.abt_sections.specs.Open.{IsOpened};
@@ -34,6 +34,7 @@ pub fn write_words<S: Source, O: Output>(
     ensures written { IsTrue S.models →
         OnOk result (O.written out.new ≡ O.written out.old ++ words.words_text
         (words.image_words folder.now (S.content source.old) (view_of image.now.header))) }
+    ensures grown { (more : List ℕ) × (O.written out.new ≡ O.written out.old ++ more) }
     ensures refused { IsTrue S.models → IsOpened (S.content source.old) image.now →
         IfErr result (λ f. info.PrintCause f (S.read_faults source.old) (S.read_faults source.new)) }
 {
