@@ -13,9 +13,9 @@ use Rattle.sys_report.specs.declared.report.Report.{Report}
 use Rattle.abt_sections.specs.Header.{Header, places_of, fragment_count}
 use Rattle.abt_sections.specs.declared.fault.SectionFault.{SectionFault}
 use Rattle.cmd_common_boot.specs.declared.part_names.ImagePart.{ImagePart}
-use Rattle.cmd_common_boot.specs.declared.part_names.ImagePart.TheVariants as parts
+use Rattle.cmd_common_texts.specs.Words.{image_words, words_text}
 use Rattle.cmd_unpack.specs.Lines.{ShowsEach, ShowsLineOf, ToldPart, told_fragment, told_fragments, told_part}
-use Rattle.cmd_unpack.specs.Lines.{told_parts, told_section}
+use Rattle.cmd_unpack.specs.Lines.{told_parts, told_section, told_text}
 
 pub silent : (a : Report) → IsSilent a a
 silent a = ((refl, refl), refl)
@@ -75,15 +75,6 @@ shown_part on beside (Ok n) a b part m same done shows count =
     (subst (λ k. ShowsBeside beside a b (told_part part k)) count shows)
 shown_part on beside (Err e) a b part m same done shows count = absurd (false≢true done)
 
--- with the number that was printed
-pub shown_some : (on : ImagePart → Bool) (beside : Bool) (answer : Result ℕ SectionFault) (a b : Report)
-    (part : ImagePart) → beside ≡ on part → IsOk answer
-    → IfOk answer (λ n. ShowsBeside beside a b (told_part part n))
-    → (n : ℕ) × ShowsLineOf on (record { part = part; bytes = n }) a b
-shown_some on beside (Ok n) a b part same done shows =
-    (n, subst (λ k. ShowsBeside k a b (told_part part n)) same shows)
-shown_some on beside (Err e) a b part same done shows = absurd (false≢true done)
-
 some_place : SectionPlace
 some_place = record { kind = kinds.Kernel; at = 0; size = 0 }
 
@@ -125,22 +116,21 @@ sections_then on x y h more a b c d same sections fragments rest =
     (each_then on (told_fragments x h (fragment_count h)) more b c d
     (subst (λ z. ShowsEach on (told_fragments z h (fragment_count h)) b c) same fragments) rest)
 
-pub all_but_words : (on : ImagePart → Bool) (x y : List ℕ) (h : Header) (with_words : Bool) (a b c : Report) → y ≡ x
-    → with_words ≡ false → ShowsEach on (map told_section (places_of h)) a b
-    → ShowsEach on (told_fragments y h (fragment_count h)) b c
-    → (n : ℕ) × ShowsEach on (told_parts x h with_words n) a c
-all_but_words on x y h true a b c same none sections fragments = absurd (true≢false none)
-all_but_words on x y h false a b c same none sections fragments =
-    (0, sections_then on x y h [] a b c c same sections fragments (silent c))
+pub all_but_words : (on : ImagePart → Bool) (x y : List ℕ) (h : Header) (with_words : Bool) (text : List ℕ)
+    (a b c : Report) → y ≡ x → with_words ≡ false → ShowsEach on (map told_section (places_of h)) a b
+    → ShowsEach on (told_fragments y h (fragment_count h)) b c → ShowsEach on (told_parts x h with_words text) a c
+all_but_words on x y h true text a b c same none sections fragments = absurd (true≢false none)
+all_but_words on x y h false text a b c same none sections fragments =
+    sections_then on x y h [] a b c c same sections fragments (silent c)
 
-pub all_shown : (on : ImagePart → Bool) (x y : List ℕ) (h : Header) (with_words : Bool) (a b c d : Report) → y ≡ x
-    → with_words ≡ true → ShowsEach on (map told_section (places_of h)) a b
+pub all_shown : (on : ImagePart → Bool) (folder x y z : List ℕ) (h : Header) (with_words : Bool) (a b c d : Report)
+    → y ≡ x → z ≡ x → with_words ≡ true → ShowsEach on (map told_section (places_of h)) a b
     → ShowsEach on (told_fragments y h (fragment_count h)) b c
-    → ((n : ℕ) × ShowsLineOf on (record { part = parts.Words; bytes = n }) c d)
-    → (n : ℕ) × ShowsEach on (told_parts x h with_words n) a d
-all_shown on x y h true a b c d same wanted sections fragments words =
-    let last : ToldPart = record { part = parts.Words; bytes = words.0 } in (
-      words.0,
-      sections_then on x y h (last ∷ []) a b c d same sections fragments (each_one on last c d words.1),
-    )
-all_shown on x y h false a b c d same wanted sections fragments words = absurd (true≢false (sym wanted))
+    → ShowsLineOf on (told_text (words_text (image_words folder z h))) c d
+    → ShowsEach on (told_parts x h with_words (words_text (image_words folder x h))) a d
+all_shown on folder x y z h true a b c d same still wanted sections fragments words =
+    let last = told_text (words_text (image_words folder x h)) in
+    sections_then on x y h (last ∷ []) a b c d same sections fragments (each_one on last c d
+    (subst (λ q. ShowsLineOf on (told_text (words_text (image_words folder q h))) c d) still words))
+all_shown on folder x y z h false a b c d same still wanted sections fragments words =
+    absurd (true≢false (sym wanted))

@@ -28,7 +28,8 @@ pub unpacks : (path folder x : List ℕ) (with_words : Bool) (header : Header) (
     → SectionsDone folder header x (length (places_of header)) h'' c
     → FragmentsDone folder header x (fragment_count header) h'' c
     → (IsTrue with_words → WordsDone folder header x h'' c)
-    → ((n : ℕ) × shows (told_parts x header with_words n)) → Unpacks path folder with_words a c shows
+    → shows (told_parts x header with_words (words_text (image_words folder x header)))
+    → Unpacks path folder with_words a c shows
 unpacks path folder x with_words header h h' h'' a c shows opens image sections fragments words shown = record {
   from = opens.file;
   there = opens.there;
@@ -42,7 +43,8 @@ unpacks path folder x with_words header h h' h'' a c shows opens image sections 
   words = λ wanted.
       subst (λ z. FileHolds c (path_of_part folder parts.Words) (words_text (image_words folder z header))) opens.held
       (stands h'' c _ _ (words wanted));
-  shown = (shown.0, subst (λ z. shows (told_parts z header with_words shown.0)) opens.held shown.1);
+  shown = subst (λ z. shows (told_parts z header with_words (words_text (image_words folder z header)))) opens.held
+      shown;
 }
 
 pub syncs_parts : (path x : List ℕ) (with_words : Bool) (header : Header) (h h' h'' : OpenFiles) (a : World)

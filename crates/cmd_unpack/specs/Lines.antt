@@ -1,6 +1,6 @@
 -- What is printed of the parts that were written.
-use Rattle.std.specs.Prelude.{◌≡◌, ℕ, zero, suc, Bool, true, false, List, [], ◌∷◌, ◌++◌, map, codes, decimal}
-use Rattle.std.specs.Prelude.{slice_index_or}
+use Rattle.std.specs.Prelude.{◌≡◌, ℕ, zero, suc, ◌-◌, ◌^◌, Bool, true, false, List, [], ◌∷◌, ◌++◌, map, codes, decimal}
+use Rattle.std.specs.Prelude.{length, min, slice_index_or}
 use Rattle.abt_headers.specs.declared.sections.SectionPlace.{SectionPlace}
 use Rattle.abt_headers.specs.Places.{section_name}
 use Rattle.sys_report.specs.Shows.{IsSilent, ShowsBeside}
@@ -36,15 +36,19 @@ abbrev pub told_fragments : List ℕ → Header → ℕ → List ToldPart
 told_fragments x h zero = []
 told_fragments x h (suc n) = told_fragments x h n ++ (told_fragment x h n ∷ [])
 
--- of the arguments, where they are requested
-abbrev pub told_words : Bool → ℕ → List ToldPart
-told_words true bytes = record { part = parts.Words; bytes = bytes } ∷ []
-told_words false bytes = []
+-- of the arguments, which are this text: its length as far as 64 bits count
+abbrev pub told_text : List ℕ → ToldPart
+told_text text = record { part = parts.Words; bytes = min (length text) (2 ^ 64 - 1) }
+
+-- where they are requested
+abbrev pub told_words : Bool → List ℕ → List ToldPart
+told_words true text = told_text text ∷ []
+told_words false text = []
 
 -- of all parts, one after another
-abbrev pub told_parts : List ℕ → Header → Bool → ℕ → List ToldPart
-told_parts x h with_words bytes =
-    map told_section (places_of h) ++ (told_fragments x h (fragment_count h) ++ told_words with_words bytes)
+abbrev pub told_parts : List ℕ → Header → Bool → List ℕ → List ToldPart
+told_parts x h with_words text =
+    map told_section (places_of h) ++ (told_fragments x h (fragment_count h) ++ told_words with_words text)
 
 -- Its line was printed: to standard error if data goes to standard output, as it does from now on if the part's file is
 -- where that goes.

@@ -161,7 +161,7 @@ TellsOfPart fault place folder part = boot_side_of fault ≡ sides.Output → Is
 
 -- The file at a path held a boot image or a vendor boot image. In the folder there is a file for each of its sections
 -- and one for each of its ramdisk fragments, under its name. It holds exactly its bytes. Where they are requested,
--- one file holds the arguments that pack the image again. A line was printed of each.
+-- one file holds the arguments that pack the image again. A line was printed of each, with the number of its bytes.
 pub record Unpacks (input folder : List ℕ) (with_words : Bool) (old new : World) (shows : List ToldPart → Type 0)
     : Type 0 where
   pub from : ℕ
@@ -174,7 +174,8 @@ pub record Unpacks (input folder : List ℕ) (with_words : Bool) (old new : Worl
       → FileHolds new (path_of_part folder (parts.Fragment i)) (fragment_of (old.holds from) header i)
   pub words : IsTrue with_words
       → FileHolds new (path_of_part folder parts.Words) (words_text (image_words folder (old.holds from) header))
-  pub shown : (bytes : ℕ) × shows (told_parts (old.holds from) header with_words bytes)
+  pub shown : shows (told_parts (old.holds from) header with_words
+      (words_text (image_words folder (old.holds from) header)))
 
 -- how many parts an image has
 abbrev pub part_total : Bool → Header → ℕ

@@ -1,12 +1,14 @@
 //! Copies the bytes of a part from the image to an output.
 
-ghost use Rattle.std.specs.Prelude.{◌≡◌, ◌<◌, IsTrue, IfOk, length, slice_index_or};
+ghost use Rattle.std.specs.Prelude.{◌≡◌, ◌<◌, [], IsTrue, IfOk, length, slice_index_or};
 ghost use Rattle.abt_headers.specs.declared.sections.SectionPlace.{SectionPlace};
 ghost use Rattle.abt_sections.specs.Header.{entry_of, fragment_count, fragment_of, places_of, view_of};
 ghost use Rattle.abt_sections.specs.Layout.{part_of};
 ghost use Rattle.cmd_unpack.specs.Copying.{CopiesPart};
+ghost use Rattle.cmd_unpack.specs.Lines.{told_text};
 ghost use Rattle.cmd_common_texts.specs.Words.{image_words, words_text};
 
+use crate::counted::Counted;
 use abt_io::{Meter, Output, Source, Window};
 use abt_sections::{Image, SectionFault, fragment, section, unpack, unpack_fragment};
 use cmd_common_texts::write_words;
@@ -73,7 +75,7 @@ pub fn copy_fragment<S: Source, O: Output>(
     }
 }
 
-/// Writes the arguments that pack the image again, and returns the output and the number of their bytes.
+/// Writes the arguments that pack the image again to an empty output, and returns this and the number of their bytes.
 pub(crate) fn copy_words<S: Source, O: Output>(
     image: &Image,
     folder: &str,
@@ -83,21 +85,24 @@ pub(crate) fn copy_words<S: Source, O: Output>(
     w: &mut Window,
     m: &mut Meter,
 ) -> (O, Result<u64, SectionFault>)
-    ensures { CopiesPart result.1 S.Source source.old source.new O.Output onto result.0 image.now
+    requires { O.written onto ≡ [] }
+    ensures copies { CopiesPart result.1 S.Source source.old source.new O.Output onto result.0 image.now
         (words_text (image_words folder.now (S.content source.old) (view_of image.now.header))) }
+    ensures count { IsTrue S.models → IfOk result.1 (λ bytes. bytes ≡ (told_text (words_text (image_words folder.now
+        (S.content source.old) (view_of image.now.header)))).bytes) }
 {
-    let before = progress.done;
-    let mut carried = Carried {
-        device: onto,
-        progress,
+    let mut counted = Counted {
+        device: Carried {
+            device: onto,
+            progress,
+        },
+        bytes: 0,
     };
-    let answer = write_words(image, folder, source, &mut carried, w, m);
-    let Carried {
-        device: onto,
-        progress,
-    } = carried;
+    let answer = write_words(image, folder, source, &mut counted, w, m);
+    let Counted { device, bytes } = counted;
+    let Carried { device: onto, .. } = device;
     match answer {
-        Ok(()) => (onto, Ok(progress.done.saturating_sub(before))),
+        Ok(()) => (onto, Ok(bytes)),
         Err(fault) => (onto, Err(fault)),
     }
 }

@@ -8,10 +8,12 @@
 //! | `parts.rt` | writing all parts, one after another |
 //! | `write_part.rt` | writing one part to a file of its own |
 //! | `copying.rt` | copying the bytes of a part from the image to an output |
+//! | `counted.rt` | an output whose bytes are counted |
 //! | `names.rt`, `lines.rt` | the file of a part, and the line that is printed of it |
 #![tactic(auto)]
 
 mod copying;
+mod counted;
 mod lines;
 mod names;
 mod parts;

@@ -6,6 +6,7 @@ ghost use Rattle.abt_headers.specs.declared.sections.SectionPlace.{SectionPlace}
 ghost use Rattle.sys_refusals.specs.Blamed.{TellsRead};
 ghost use Rattle.cmd_common_boot.specs.Fault.{boot_side_of};
 ghost use Rattle.cmd_common_boot.specs.declared.part_names.ImagePart.TheVariants as parts;
+ghost use Rattle.cmd_common_texts.specs.Words.{image_words, words_text};
 ghost use Rattle.abt_sections.specs.Header.{fragment_count, places_of, view_of};
 ghost use Rattle.abt_sections.specs.Open.{IsOpened};
 ghost use Rattle.sys_disk.specs.Among.{GoesAmong};
@@ -52,9 +53,9 @@ pub(crate) fn write_parts<'t, 'a, D: Disk>(
         (D.At.content source.old) (TellsOfPart refusal.fault refusal.about.place folder.now) (D.held disk.new)
         (D.world disk.new) (λ named. GoesAmong named (D.held disk.old) (D.held disk.new) (D.world disk.old)
         (D.world disk.new))) }
-    ensures shown { IsTrue D.models → OnOk result ((bytes : ℕ) × ShowsEach (λ part. D.on_output (path_of_part folder.now
-        part)) (told_parts (D.At.content source.old) (view_of image.now.header) with_words bytes) report.old
-        report.new) }
+    ensures shown { IsTrue D.models → OnOk result (ShowsEach (λ part. D.on_output (path_of_part folder.now part))
+        (told_parts (D.At.content source.old) (view_of image.now.header) with_words (words_text (image_words folder.now
+        (D.At.content source.old) (view_of image.now.header)))) report.old report.new) }
     ensures refused { IsTrue D.models → IsOpened (D.At.content source.old) image.now → IfErr result (λ refusal.
         IsRefusedOver (D.At.content source.old) (SomeFailed (D.held disk.old) (D.At.read_faults source.old)
         (D.held disk.new) (D.At.read_faults source.new)) (PartsBegun folder.now with_words (view_of

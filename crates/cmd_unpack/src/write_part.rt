@@ -1,23 +1,24 @@
 //! Writes one part of an image to a file of its own.
 
-ghost use Rattle.std.specs.Prelude.{◌≡◌, ◌<◌, ◌≤◌, ◌+◌, None, Ok, Err, Bool, ℕ, true, MatchResult, IsTrue, IsOk};
+ghost use Rattle.std.specs.Prelude.{◌≡◌, ◌<◌, ◌≤◌, ◌+◌, None, Ok, Err, Bool, true, MatchResult, IsTrue, IsOk};
 ghost use Rattle.std.specs.Prelude.{IfOk, IfErr, OnOk, Some, length, slice_index_or};
 ghost use Rattle.abt_headers.specs.declared.sections.SectionPlace.{SectionPlace};
 ghost use Rattle.sys_refusals.specs.Blamed.{TellsOf, TellsRead};
 ghost use Rattle.cmd_common_boot.specs.Fault.{boot_side_of};
 ghost use Rattle.sys_disk.specs.Counts.{Cause, Counts, of_writing, writes};
-ghost use Rattle.sys_disk.specs.World.{Ends, ended};
+ghost use Rattle.sys_disk.specs.World.{Ends, ended, number_of};
 ghost use Rattle.sys_report.specs.Shows.{CannotPrint, ShowsBeside, refusals};
 ghost use Rattle.abt_sections.specs.Header.{fragment_count, fragment_of, places_of, view_of};
 ghost use Rattle.abt_sections.specs.Open.{IsOpened};
 ghost use Rattle.sys_disk.specs.Among.{IsMade};
 ghost use Rattle.cmd_common_boot.specs.ImageFaults.{IsAnswerOf, IsRefusedOver, SomeFailed};
-ghost use Rattle.cmd_unpack.specs.Lines.{ShowsLineOf, ShowsSection, told_fragment, told_part};
+ghost use Rattle.cmd_unpack.specs.Lines.{ShowsLineOf, ShowsSection, told_fragment, told_part, told_text};
 ghost use Rattle.sys_refusals.specs.Paths.{path_out};
 ghost use Rattle.cmd_unpack.specs.Unpacking.{IsFragmentPath, IsSectionPath, SectionDone, TellsOfPart, WordsDone};
 ghost use Rattle.cmd_unpack.specs.Unpacking.{path_of_part};
 ghost use Rattle.cmd_unpack.specs.Writing.{EndsPart, WritesParts};
 ghost use Rattle.cmd_common_boot.specs.declared.part_names.ImagePart.TheVariants as parts;
+ghost use Rattle.cmd_common_texts.specs.Words.{image_words, words_text};
 
 use crate::copying::{copy_fragment, copy_section, copy_words};
 use crate::lines::PartLine;
@@ -139,8 +140,9 @@ pub(crate) fn write_pack_words<'t, 'a, D: Disk>(
         D.At.Source source.old source.new (D.held disk.old) (D.held disk.new) (D.world disk.old) (D.world disk.new) }
     ensures done { IsTrue D.models → OnOk result (WordsDone folder.now (view_of image.now.header)
         (D.At.content source.old) (D.held disk.new) (D.world disk.new)) }
-    ensures shown { IsTrue D.models → OnOk result ((bytes : ℕ) × ShowsLineOf (λ part. D.on_output (path_of_part
-        folder.now part)) (record { part = parts.Words; bytes = bytes }) report.old report.new) }
+    ensures shown { IsTrue D.models → OnOk result (ShowsLineOf (λ part. D.on_output (path_of_part folder.now part))
+        (told_text (words_text (image_words folder.now (D.At.content source.old) (view_of image.now.header))))
+        report.old report.new) }
     ensures refused { IsTrue D.models → IsOpened (D.At.content source.old) image.now → IfErr result (λ refusal.
         IsRefusedOver (D.At.content source.old) (SomeFailed (D.held disk.old) (D.At.read_faults source.old)
         (D.held disk.new) (D.At.read_faults source.new)) (WordsDone folder.now (view_of image.now.header)
@@ -174,6 +176,7 @@ fn finish<'t, 'a, D: Disk>(
     part: ImagePart,
     report: &mut Report,
 ) -> BootOutcome<'t, 'a>
+    requires this { IsTrue D.models → (D.Onto.write_frame onto).file ≡ number_of (D.held disk.old).output }
     ensures done { OnOk result (IsOk answer) }
     ensures ends { EndsPart D.models result (D.Onto.written onto) (D.held disk.old) (D.world disk.old)
         (D.world disk.new) }

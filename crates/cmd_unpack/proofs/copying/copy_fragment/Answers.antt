@@ -1,4 +1,4 @@
-use Rattle.std.proofs.Common.{◌∙◌, rules, sym, subst}
+use Rattle.std.proofs.Common.{◌∙◌, ap, refl, rules, sym, subst}
 use Rattle.abt_sections.specs.Open.{IsOpened}
 use Rattle.cmd_common_boot.proofs.Causes.{moved_behind, read_first}
 use Rattle.cmd_unpack.proofs.copying.copy_fragment.Goals as goal
@@ -7,6 +7,7 @@ pub returns-in-Err-clause-copies : goal.returns-in-Err-clause-copies
 returns-in-Err-clause-copies g c =
     let e = c.in-Err.ensures.reads in
     record {
+      this = refl;
       written = search rules;
       content = λ models. tt;
       clean = tt;
@@ -19,6 +20,7 @@ returns-in-Ok-answer-clause-copies g c =
     let k = c.in-Ok.ensures.reads.only in
     let e = c.in-Ok-answer.ensures.moves in
     record {
+      this = ap (λ f. f.file) e.writes.frame;
       written = search rules;
       content = λ models. e.reads.content models ∙ k.content models;
       clean = (e.reads.clean ∙ k.clean, e.writes.clean);
@@ -30,6 +32,7 @@ returns-in-Err-answer-clause-copies g c =
     let k = c.in-Ok.ensures.reads.only in
     let e = c.in-Err-answer.ensures.moves in
     record {
+      this = ap (λ f. f.file) e.writes.frame;
       written = search rules;
       content = λ models. tt;
       clean = tt;

@@ -18,20 +18,11 @@ printed X sections.CommandLine r r' w w' x cause reads writes = absurd cause
 printed X (sections.SectionTruncated s) r r' w w' x cause reads writes = absurd cause
 printed X (sections.SectionTooLarge s) r r' w w' x cause reads writes = absurd cause
 
-pub returns-in-Ok : goal.returns-in-Ok
-returns-in-Ok g c =
-    let e = c.in-Ok.ensures in
-    record {
-      written = search rules;
-      content = e.leaves.content;
-      clean = (e.leaves.reads, e.leaves.clean);
-      refused = λ models opened. tt;
-    }
-
-pub returns-in-Err : goal.returns-in-Err
-returns-in-Err g c =
+pub returns-in-Err-clause-copies : goal.returns-in-Err-clause-copies
+returns-in-Err-clause-copies g c =
     let e = c.in-Err.ensures in
     record {
+      this = search rules;
       written = search rules;
       content = λ models. tt;
       clean = tt;

@@ -1,4 +1,4 @@
-use Rattle.std.proofs.Common.{ap, true}
+use Rattle.std.proofs.Common.{◌∙◌, ap, true}
 use Rattle.cmd_common_boot.proofs.Causes.{host_refused, ok_gives, told_so}
 use Rattle.cmd_unpack.proofs.Counts.{copy_failed, end_failed, none_created}
 use Rattle.cmd_common_boot.specs.declared.part_names.ImagePart.{ImagePart}
@@ -81,4 +81,10 @@ returns-in-Err-finish g c = record {
     is_named = c.in-Err-finish.ensures.told_of.written on;
     leads = c.place_of-place.ensures.path;
   };
+}
+
+-- what is given back is what was created
+pub finish-requires : goal.finish-requires
+finish-requires g c = record {
+  this = λ t. c.copy_fragment-onto.ensures.copies.this ∙ c.in-Ok.ensures.this t;
 }

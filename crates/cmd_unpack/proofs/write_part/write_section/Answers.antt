@@ -90,3 +90,10 @@ returns-in-Err-finish g c =
             c.section.ensures.value found;
       };
     }
+
+-- what is given back is what was created
+pub finish-requires : goal.finish-requires
+finish-requires g c = record {
+  this = λ t.
+      (c.copy_section-onto.ensures.copies c.section.result c.section.ensures.value).this ∙ c.in-Ok.ensures.this t;
+}
