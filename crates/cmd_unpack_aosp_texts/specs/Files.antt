@@ -1,7 +1,6 @@
 -- The names of the files that unpack_bootimg writes.
-use Rattle.std.specs.Prelude.{ℕ, ◌==◌, Bool, true, false, if◌then◌else◌, List, ◌++◌, Option, Some, None, codes}
-use Rattle.std.specs.Prelude.{decimal}
-use Rattle.std.specs.Prelude.{nat_lt}
+use Rattle.std.specs.Prelude.{ℕ, suc, ◌==◌, Bool, true, false, ◌&&◌, if◌then◌else◌, List, [], ◌∷◌, ◌++◌, Option, Some}
+use Rattle.std.specs.Prelude.{None, bytes_eq, codes, decimal, nat_lt}
 use Rattle.abt_headers.specs.declared.sections.SectionPlace.{SectionPlace}
 use Rattle.abt_headers.specs.declared.sections.Section.{Section}
 use Rattle.abt_headers.specs.declared.sections.Section.TheVariants.{Kernel, Ramdisk, Second, RecoveryDtbo, Dtb}
@@ -34,3 +33,8 @@ fragment_front i = if nat_lt i 10 then codes "vendor_ramdisk0" else codes "vendo
 -- `vendor_ramdisk00`
 abbrev pub name_of_fragment : ℕ → List ℕ
 name_of_fragment i = fragment_front i ++ decimal i
+
+-- these are the names of the fragments from number k on
+abbrev pub are_names : List (List ℕ) → ℕ → Bool
+are_names [] k = true
+are_names (x ∷ xs) k = bytes_eq x (name_of_fragment k) && are_names xs (suc k)

@@ -1,9 +1,10 @@
 //! The names of the files that unpack_bootimg writes.
 
-ghost use Rattle.std.specs.Prelude.{◌≡◌, ◌++◌, IfSome, IsTrue, option_map};
+ghost use Rattle.std.specs.Prelude.{◌≡◌, ◌≤◌, MatchOption, length, map, option_map, true};
 ghost use Rattle.abt_sections.specs.Header.{view_of};
 ghost use Rattle.cmd_common_texts.specs.Words.{has_table};
-ghost use Rattle.cmd_unpack_aosp_texts.specs.Files.{fragment_front, name_of_fragment, name_of_section, unless_empty};
+ghost use Rattle.cmd_unpack_aosp_texts.specs.Files.{are_names, fragment_front, name_of_fragment, name_of_section};
+ghost use Rattle.cmd_unpack_aosp_texts.specs.Files.{unless_empty};
 
 use abt_headers::{Section, SectionPlace, VendorHeader};
 use abt_sections::ImageHeader;
@@ -86,36 +87,17 @@ static FRAGMENTS: [&str; 100] = [
 /// The file of a ramdisk fragment, which the first hundred have.
 #[inline(never)]
 pub fn fragment_file(index: u32) -> Option<&'static str>
-    ensures { IfSome result (λ name. name.now ≡ name_of_fragment index) }
+    ensures { MatchOption result (100 ≤ index) (λ name. name.now ≡ name_of_fragment index) }
 {
-    let name = listed(index)?;
-    if is_name_of(name, index) {
-        Some(name)
-    } else {
-        None
+    match listed().get(index as usize) {
+        Some(name) => Some(*name),
+        None => None,
     }
 }
 
-fn listed(index: u32) -> Option<&'static str> {
-    Some(*FRAGMENTS.get(index as usize)?)
-}
-
-// Whether this is the name of a fragment's file: it isn't trusted that the list has them in order.
-fn is_name_of(name: &str, index: u32) -> bool
-    ensures { IsTrue result → name.now ≡ name_of_fragment index }
+fn listed() -> &'static [&'static str]
+    ensures names { are_names (map (λ name. name.now) result.now) 0 ≡ true }
+    ensures count { length result.now ≡ 100 }
 {
-    match behind(name, fragment_front(index)) {
-        Some(digits) => {
-            let mut number = itoa::Buffer::new();
-            digits == number.format(index)
-        }
-        None => false,
-    }
-}
-
-// What follows a prefix.
-fn behind<'a>(name: &'a str, front: &str) -> Option<&'a str>
-    ensures { IfSome result (λ rest. name.now ≡ front.now ++ rest.now) }
-{
-    name.strip_prefix(front)
+    &FRAGMENTS
 }
