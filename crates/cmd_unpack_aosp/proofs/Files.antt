@@ -2,11 +2,12 @@
 use Rattle.std.proofs.Common.{◌≡◌, ℕ, ◌+◌, ◌-◌, ◌<◌, ◌≤◌, List, [], Option, Some, None, IfSome, length, refl}
 use Rattle.std.proofs.Common.{sym, ap, ◌∙◌, subst}
 use Rattle.std.proofs.Common.{arith, rules, nat_lt, below_more, inl, inr, Err}
-use Rattle.std.specs.Prelude.{slice_index_or, true, false, if◌then◌else◌}
+use Rattle.std.specs.Prelude.{Contains, slice_index_or, true, false, if◌then◌else◌}
 use Rattle.std.proofs.lemmas.List.{get_or_default}
+use Rattle.std.proofs.lemmas.List.Elements.{Contains-push}
 use Rattle.abt_headers.specs.declared.sections.SectionPlace.{SectionPlace}
 use Rattle.sys_disk.specs.Counts.{Cause, Counts, call}
-use Rattle.sys_disk.specs.World.{World, OpenFiles, OpensFile, HasFailed, counting}
+use Rattle.sys_disk.specs.World.{World, OpenFiles, OpensFile, HasFailed, IsFree, counting}
 use Rattle.sys_disk.specs.Among.{GoesAmong, IsMade, KeepsMade, FileHolds, OnlyAmong}
 use Rattle.sys_disk.proofs.Amongs.{among_behind, goes_none, goes_then, made_later, stands}
 use Rattle.abt_sections.specs.Header.{Header, places_of, fragment_count, fragment_of}
@@ -20,7 +21,8 @@ use Rattle.cmd_unpack.proofs.UnpackSteps.{Allowed, allowed_as, allowed_more, gua
 use Rattle.cmd_unpack.proofs.UnpackSteps.{parts_none}
 use Rattle.cmd_common_texts.specs.Words.{has_table}
 use Rattle.cmd_unpack_aosp_texts.specs.Files.{name_of_fragment, name_of_section}
-use Rattle.cmd_unpack_aosp.specs.AospFiles.{FileDone, FilesDone, IsFileOf, IsFilePath, IsUnnamed, IsUnnamedAt}
+use Rattle.cmd_unpack_aosp.specs.AospFiles.{FileDone, FilesDone, HasFreeFile, HaveFreeFiles, IsFileOf, IsFilePath}
+use Rattle.cmd_unpack_aosp.specs.AospFiles.{IsUnnamed, IsUnnamedAt, LooksAtFiles, none_taken}
 use Rattle.cmd_unpack_aosp.specs.AospFiles.{RefusesName, RefusesPart, RefusesUnpack}
 use Rattle.cmd_unpack_aosp.specs.AospFiles.{UnpacksAsAosp}
 use Rattle.cmd_unpack_aosp.specs.AospFiles.{part_bytes_at, file_count, name_at, no_place, path_in_folder, place_at}
@@ -109,6 +111,26 @@ pub no_file : (folder : List ℕ) (h : Header) (x : List ℕ) (i : ℕ) (held : 
     → FileDone folder h x i held world
 no_file folder h x i held world none =
     subst (λ o. IfSome o (λ n. IsMade held world (path_in_folder folder n) (part_bytes_at x h i))) (sym none) tt
+
+-- ---- the look at all names
+
+pub none_looked_at : (folder : List ℕ) (h : Header) (held : OpenFiles) (w : World) → HaveFreeFiles folder h 0 held w
+none_looked_at folder h held w = λ j below. absurd (omega (arith, below))
+
+pub free_more : (folder : List ℕ) (h : Header) (i : ℕ) (held : OpenFiles) (w : World)
+    → HaveFreeFiles folder h i held w → HasFreeFile folder h held w i → HaveFreeFiles folder h (i + 1) held w
+free_more folder h i held w all free = below_more (HasFreeFile folder h held w) i all free
+
+-- no file of a part is the image's
+pub looks : (path folder x : List ℕ) (header : Header) (h h' : OpenFiles) (a b c : World) → OpensFile a path x h h'
+    → b ≡ a → HasImage x header → HaveFreeFiles folder header (file_count header) h' b → LooksAtFiles path folder a c
+looks path folder x header h h' a b c opens same image all =
+    none_taken opens.file opens.there header (subst (λ z. HasImage z header) opens.held image)
+    (λ p is at.
+    let free : IsFree (path_in_folder folder is.name) h' b =
+    subst (λ o. IfSome o (λ n. IsFree (path_in_folder folder n) h' b)) is.found (all is.index is.there) in
+    (free opens.file (ap b.at (sym is.is_path) ∙ subst (λ w. w.at p ≡ Some opens.file) (sym same) at)).0
+    (subst (λ k. Contains k.read opens.file) (sym opens.taken) (Contains-push h.read opens.file)))
 
 -- ---- one after others
 

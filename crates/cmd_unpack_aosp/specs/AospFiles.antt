@@ -1,5 +1,5 @@
 -- What unpack_bootimg leaves of files.
-use Rattle.std.specs.Prelude.{◌≡◌, ◌<◌, ◌⊎◌, ℕ, ◌+◌, ◌-◌, List, Option, Some, IfSome, if◌then◌else◌}
+use Rattle.std.specs.Prelude.{◌≡◌, ◌<◌, ◌≤◌, ◌⊎◌, ℕ, ◌+◌, ◌-◌, List, Option, Some, IfSome, if◌then◌else◌}
 use Rattle.std.specs.Prelude.{length, nat_lt}
 use Rattle.std.specs.Prelude.{get_or}
 use Rattle.abt_headers.specs.declared.sections.SectionPlace.{SectionPlace}
@@ -11,7 +11,7 @@ use Rattle.abt_sections.specs.Open.{HasImage}
 use Rattle.sys_refusals.specs.Paths.{in_folder}
 use Rattle.sys_refusals.specs.declared.refusal.HostFault.{HostFault}
 use Rattle.sys_disk.specs.Counts.{Cause, call}
-use Rattle.sys_disk.specs.World.{World, OpenFiles}
+use Rattle.sys_disk.specs.World.{World, OpenFiles, IsFree}
 use Rattle.sys_disk.specs.Among.{FileHolds, IsMade}
 use Rattle.cmd_common_boot.specs.ImageFaults.{IsRefusedOver, RefusesImage}
 use Rattle.cmd_common_boot.specs.declared.fault.BootCommandFault.{BootCommandFault}
@@ -62,6 +62,23 @@ pub record IsFileOf (input folder : List ℕ) (world : World) (path : List ℕ) 
   pub image : HasImage (world.holds from) header
   pub is_file : IsFilePath folder header (file_count header) path
 
+-- ---- the look at all names, before the first part
+
+-- part i has no file, or a name that leads to no file that is read or was begun
+abbrev pub HasFreeFile : List ℕ → Header → OpenFiles → World → ℕ → Type 0
+HasFreeFile folder h held world i = IfSome (name_at h i) (λ name. IsFree (path_in_folder folder name) held world)
+
+-- so have the first m parts
+abbrev pub HaveFreeFiles : List ℕ → Header → ℕ → OpenFiles → World → Type 0
+HaveFreeFiles folder h m held world = (i : ℕ) → i < m → HasFreeFile folder h held world i
+
+-- Nothing was changed; or the file at a path held an image, and the name of none of its parts leads to that file.
+pub data LooksAtFiles (input folder : List ℕ) (old new : World) : Type 0 where
+  unchanged : new ≡ old → LooksAtFiles input folder old new
+  none_taken : (from : ℕ) → old.at input ≡ Some from → (header : Header) → HasImage (old.holds from) header
+      → ((path : List ℕ) → IsFilePath folder header (file_count header) path → ¬ (old.at path ≡ Some from))
+      → LooksAtFiles input folder old new
+
 -- ---- on the way
 
 -- part i of an image x is in its file, where it has one
@@ -75,9 +92,10 @@ FilesDone folder h x n held world = (k : ℕ) → k < n → FileDone folder h x 
 
 -- ---- why it fails
 
--- a fragment that the image has is without a name: only the first hundred have one
+-- a fragment that the image has is without a name: it is behind the first hundred
 pub record IsUnnamed (h : Header) (fault : BootCommandFault) : Type 0 where
   pub index : ℕ
+  pub behind : 100 ≤ index
   pub there : index < fragment_count h
   pub told : fault ≡ faults.Section (section_faults.Entry index)
 

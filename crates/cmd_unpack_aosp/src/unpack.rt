@@ -10,7 +10,8 @@ ghost use Rattle.sys_disk.specs.Among.{OnlyAmong};
 ghost use Rattle.sys_disk.specs.DiskCalls.{KeepsInput};
 ghost use Rattle.cmd_common_boot.specs.ImageFaults.{SomeFailed};
 ghost use Rattle.cmd_unpack.specs.Writing.{WritesParts};
-ghost use Rattle.cmd_unpack_aosp.specs.AospFiles.{FilesDone, IsFileOf, IsFilePath, RefusesName, RefusesPart};
+ghost use Rattle.cmd_unpack_aosp.specs.AospFiles.{FilesDone, HasFreeFile, HaveFreeFiles, IsFileOf, IsFilePath};
+ghost use Rattle.cmd_unpack_aosp.specs.AospFiles.{LooksAtFiles, RefusesName, RefusesPart};
 ghost use Rattle.cmd_unpack_aosp.specs.AospFiles.{RefusesUnpack, UnpacksAsAosp, file_count};
 
 use crate::names::{name_at, place_in};
@@ -45,6 +46,9 @@ pub fn unpack_as_aosp<'t, 'a, D: Disk>(
     // IN holds what it held; no call failed where all was done
     ensures keeps { KeepsInput D.models result (path_of input.entry) (D.held disk.old) (D.held disk.new)
         (D.world disk.old) (D.world disk.new) }
+    // where the name of a part leads to IN's file, nothing was changed
+    ensures looks { IsTrue D.models → LooksAtFiles (path_of input.entry) folder.now (D.world disk.old)
+        (D.world disk.new) }
     // it fails for a fault of IN, or of what has failed: a device, or a call with this fault; or for a fragment without
     // a name
     ensures refused { IsTrue D.models → IfErr result (λ refusal. RefusesUnpack (path_of input.entry) (D.world disk.old)
@@ -98,6 +102,8 @@ fn refuse_taken<'t, 'a, D: Disk>(
     input: FileArg<'t>,
     folder: &'t str,
 ) -> BootOutcome<'t, 'a>
+    ensures free { IsTrue D.models → OnOk result (HaveFreeFiles folder.now (view_of image.now.header)
+        (file_count (view_of image.now.header)) (D.held disk.old) (D.world disk.old)) }
     ensures held { IsTrue D.models → (n : Counts) × (D.held disk.new ≡ counting n (D.held disk.old)) }
     ensures clean { IsTrue D.models → OnOk result (D.held disk.new ≡ D.held disk.old) }
     ensures world { IsTrue D.models → D.world disk.new ≡ D.world disk.old }
@@ -121,6 +127,8 @@ fn refuse_part<'t, 'a, D: Disk>(
     folder: &'t str,
 ) -> BootOutcome<'t, 'a>
     requires there { i < file_count (view_of image.now.header) }
+    ensures free { IsTrue D.models → OnOk result (HasFreeFile folder.now (view_of image.now.header) (D.held disk.old)
+        (D.world disk.old) i) }
     ensures held { IsTrue D.models → (n : Counts) × (D.held disk.new ≡ counting n (D.held disk.old)) }
     ensures clean { IsTrue D.models → OnOk result (D.held disk.new ≡ D.held disk.old) }
     ensures world { IsTrue D.models → D.world disk.new ≡ D.world disk.old }

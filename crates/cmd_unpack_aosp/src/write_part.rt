@@ -2,7 +2,7 @@
 
 ghost use Rattle.std.specs.Prelude.{◌≡◌, ◌<◌, ◌≤◌, ◌+◌, ◌⊎◌, None, Bool, ℕ, true, IsTrue, IsOk, IfErr, OnOk, length};
 ghost use Rattle.sys_disk.specs.Counts.{Cause, Counts, of_writing, writes};
-ghost use Rattle.sys_disk.specs.World.{Ends, ended};
+ghost use Rattle.sys_disk.specs.World.{Ends, ended, number_of};
 ghost use Rattle.abt_sections.specs.Header.{fragment_count, places_of, view_of};
 ghost use Rattle.abt_sections.specs.Open.{IsOpened};
 ghost use Rattle.cmd_common_boot.specs.ImageFaults.{IsAnswerOf, SomeFailed};
@@ -142,6 +142,7 @@ fn finish<'t, 'a, D: Disk>(
     place: FileArg<'t>,
     input: FileArg<'t>,
 ) -> BootOutcome<'t, 'a>
+    requires this { IsTrue D.models → (D.Onto.write_frame onto).file ≡ number_of (D.held disk.old).output }
     ensures done { OnOk result (IsOk answer) }
     ensures ends { EndsPart D.models result (D.Onto.written onto) (D.held disk.old) (D.world disk.old)
         (D.world disk.new) }

@@ -6,8 +6,8 @@ use Rattle.cmd_common_boot.proofs.Causes.{section_refused}
 use Rattle.cmd_common_boot.proofs.Calls.{same_counting}
 use Rattle.cmd_unpack.proofs.Counts.{clean_within, failed_within, unopened}
 use Rattle.cmd_unpack.proofs.Wholes.{has_as, keeps_let_go, keeps_same, only_opened, twice}
-use Rattle.cmd_unpack_aosp.specs.AospFiles.{UnpacksAsAosp}
-use Rattle.cmd_unpack_aosp.proofs.Files.{only_files, taken_refused, unpack_refused, unpacks_all}
+use Rattle.cmd_unpack_aosp.specs.AospFiles.{UnpacksAsAosp, unchanged}
+use Rattle.cmd_unpack_aosp.proofs.Files.{looks, only_files, taken_refused, unpack_refused, unpacks_all}
 use Rattle.cmd_unpack_aosp.proofs.unpack.unpack_as_aosp.Goals as goal
 
 -- IN could not be opened
@@ -20,6 +20,7 @@ returns-in-Err g c = record {
     input = λ t. keeps_same _ _ _ (c.in-Err.ensures.world t);
     clean = λ t. tt;
   };
+  looks = λ t. unchanged (c.in-Err.ensures.world t);
   refused = λ t.
       inl (unopened (path_of c.args.input) (g.D.Disk.world c.args.disk.now) _ _ _ _ _ c.into.ensures
       (c.in-Err.ensures.kept t));
@@ -38,6 +39,7 @@ returns-in-Err-open g c = record {
         keeps_same _ _ _ (c.let_go_source.ensures.world t ∙ c.in-Ok.ensures.world t);
     clean = λ t. tt;
   };
+  looks = λ t. unchanged (c.let_go_source.ensures.world t ∙ c.in-Ok.ensures.world t);
   refused = λ t.
       let told = g.met.D.Disk.source_told t in
       inl (refuses_file _ _ _ _ _ _ _ _ _ _ (c.in-Ok.ensures.opened t)
@@ -66,6 +68,9 @@ returns-in-Err-refuse_taken g c = record {
         ∙ c.in-Ok.ensures.world t);
     clean = λ t. tt;
   };
+  looks = λ t.
+      unchanged (c.let_go_source-in-Err-refuse_taken.ensures.world t ∙ c.in-Err-refuse_taken.ensures.world t
+      ∙ c.in-Ok.ensures.world t);
   refused = λ t.
       let told = g.met.D.Disk.source_told t in
       let same = c.in-Ok-open.ensures.reads.only.content told in
@@ -105,6 +110,11 @@ returns-in-Ok-write_files g c = record {
         (c.in-Ok-refuse_taken.ensures.clean t ∙ sym (same_counting _)) (c.in-Ok-write_files.ensures.writes t).1.clean
         (c.let_go_source-in-Ok-write_files.ensures.held t);
   };
+  looks = λ t.
+      let told = g.met.D.Disk.source_told t in
+      let same = c.in-Ok-open.ensures.reads.only.content told in
+      looks _ _ _ _ _ _ _ _ _ (opens_as _ _ _ _ _ _ same (c.in-Ok.ensures.opened t)) (c.in-Ok.ensures.world t)
+      (has_as _ _ c.in-Ok-open.image same (c.in-Ok-open.ensures.opens told)) (c.in-Ok-refuse_taken.ensures.free t);
   refused = λ t. tt;
   quiet = refl;
 }
@@ -127,6 +137,11 @@ returns-in-Err-write_files g c = record {
         (c.let_go_source-in-Err-write_files.ensures.held t) (c.let_go_source-in-Err-write_files.ensures.world t);
     clean = λ t. tt;
   };
+  looks = λ t.
+      let told = g.met.D.Disk.source_told t in
+      let same = c.in-Ok-open.ensures.reads.only.content told in
+      looks _ _ _ _ _ _ _ _ _ (opens_as _ _ _ _ _ _ same (c.in-Ok.ensures.opened t)) (c.in-Ok.ensures.world t)
+      (has_as _ _ c.in-Ok-open.image same (c.in-Ok-open.ensures.opens told)) (c.in-Ok-refuse_taken.ensures.free t);
   refused = λ t.
       let told = g.met.D.Disk.source_told t in
       let same = c.in-Ok-open.ensures.reads.only.content told in

@@ -1,4 +1,4 @@
-use Rattle.std.proofs.Common.{true, inl, inr}
+use Rattle.std.proofs.Common.{◌∙◌, true, inl, inr}
 use Rattle.cmd_common_boot.proofs.Causes.{host_refused, ok_gives, told_so}
 use Rattle.cmd_unpack.proofs.Counts.{copy_failed, end_failed, none_created}
 use Rattle.cmd_unpack.proofs.Loops.{part_done}
@@ -12,7 +12,13 @@ pub returns-in-None : goal.returns-in-None
 returns-in-None g c = record {
   writes = λ t. (0, nothing_begun (c.requires.one t));
   done = λ t. tt;
-  refused = λ t opened. inr (record { index = c.args.index; there = c.requires.there; told = c.of.ensures });
+  refused = λ t opened.
+      inr (record {
+        index = c.args.index;
+        behind = c.in-None.ensures;
+        there = c.requires.there;
+        told = c.of.ensures;
+      });
 }
 
 -- it could not be created
@@ -79,4 +85,10 @@ returns-in-Err-finish g c = record {
       (λ cause failed. copy_failed _ _ _ _ _ _ _ _ _ _ (c.in-Ok.ensures.created t) (c.in-Ok.ensures.clean t)
       (c.in-Err-finish.ensures.counts t) cause failed)
       (λ done none. none));
+}
+
+-- what is given back is what was created
+pub finish-requires : goal.finish-requires
+finish-requires g c = record {
+  this = λ t. c.copy_fragment-onto.ensures.copies.this ∙ c.in-Ok.ensures.this t;
 }

@@ -91,3 +91,10 @@ returns-in-Err-finish g c = record {
       (c.in-Err-finish.ensures.counts t) cause failed)
       (λ done none. none));
 }
+
+-- what is given back is what was created
+pub finish-requires : goal.finish-requires
+finish-requires g c = record {
+  this = λ t.
+      (c.copy_section-onto.ensures.copies c.section.result c.section.ensures.value).this ∙ c.in-Ok.ensures.this t;
+}
