@@ -49,7 +49,7 @@ unpacks_of input folder t a b shows u = record {
   sections = u.sections;
   fragments = u.fragments;
   words = u.words;
-  shown = (u.shown.0, tt);
+  shown = tt;
 }
 
 packs_of : (command : PackCommand) (a b : World) (shows : List ℕ → Type 0) → PacksFile command a b shows
