@@ -1,6 +1,8 @@
 -- How an order ends, whatever its status.
 use Rattle.std.specs.Prelude.{◌≡◌, ◌≢◌, ◌⊎◌, ℕ, List, Bool}
-use Rattle.sys_disk.specs.World.{World, OpenFiles, HasNotFailed}
+use Rattle.sys_disk.specs.Counts.{call}
+use Rattle.sys_disk.specs.World.{World, OpenFiles, HasFailed, HasNotFailed}
+use Rattle.sys_refusals.specs.declared.refusal.HostFault.TheVariants.{Memory}
 use Rattle.sys_report.specs.declared.report.Report.{Report}
 use Rattle.words_orders.specs.declared.order.Order.{Order}
 use Rattle.words_orders.specs.declared.order.SparseTask.{SparseTask}
@@ -52,14 +54,20 @@ pub record BootTaskRefused (kind : BootCommandKind) (world : World) (held : Open
   pub refuses : RefusesKind fault kind world held report world' held' told
   pub status_is : status ≡ status_of_boot fault
 
--- its command refuses it; or there is no memory for the arguments of that, or the completions are not printed, and
--- every file is as before
+-- memory was refused for the arguments of its command, which is counted, and every file is as before
+pub record ArgumentsRefused (world : World) (held : OpenFiles) (world' : World) (held' : OpenFiles) (status : ℕ)
+    : Type 0 where
+  pub counted : HasFailed (call Memory) held held'
+  pub same : world' ≡ world
+  pub status_is : status ≡ 1
+
+-- its command refuses it, or memory is refused for that; or the completions are not printed, and every file is as before
 abbrev pub TaskRefused : Task → World → OpenFiles → Report → World → OpenFiles → ℕ → Type 0
 TaskRefused (tasks.Sparse task) world held report world' held' status =
     SparseTaskRefused task world held report world' held' status
 TaskRefused (tasks.Boot task) world held report world' held' status =
     ((kind : BootCommandKind) × (IsKindOf task kind × BootTaskRefused kind world held report world' held' status))
-    ⊎ ((status ≡ 1) × (world' ≡ world))
+    ⊎ ArgumentsRefused world held world' held' status
 TaskRefused (tasks.Completions shell) world held report world' held' status = world' ≡ world
 
 -- ---- what stays, whatever the status

@@ -200,6 +200,7 @@ pub(crate) fn carry_out<D: Beginning>(
 }
 
 // Does the task of an order, on a disk that has its settings.
+#[tactic(auto, using(crate::proofs::Orders::lacks_arguments))]
 fn do_task<D: Beginning>(
     rt: HostRuntime,
     order: Order<'_>,
@@ -218,12 +219,13 @@ fn do_task<D: Beginning>(
 {
     match order.task {
         Task::Sparse(task) => do_sparse(disk, task, how, rt, report, w, m),
-        Task::Boot(task) => {
-            let Ok(command) = BootCommand::new(rt.alloc(), task) else {
-                return refused(rt, HostRefusal::memory(), how, report);
-            };
-            do_boot(disk, &command, how, rt, report, w, m)
-        }
+        Task::Boot(task) => match BootCommand::new(rt.alloc(), task) {
+            Ok(command) => do_boot(disk, &command, how, rt, report, w, m),
+            Err(lack) => {
+                disk.no_memory(lack);
+                refused(rt, HostRefusal::memory(), how, report)
+            }
+        },
         Task::Completions(shell) => print(rt, shell.completions(), how, report),
     }
 }

@@ -11,8 +11,8 @@ use cmd_common_boot::{BootOutcome, PackCommand};
 use cmd_info::info_file;
 use cmd_pack::{pack_file, repack_file};
 use cmd_unpack::unpack_file;
-use std::alloc::{AllocError, Global};
-use sys_disk::Disk;
+use std::alloc::Global;
+use sys_disk::{Disk, NoMemory};
 use sys_refusals::FileArg;
 use sys_report::Report;
 use words_orders::BootTask;
@@ -45,17 +45,17 @@ pub enum BootCommandKind<'a> {
 
 impl<'a> BootCommand<'a> {
     /// Decodes the arguments that encode bytes.
-    pub fn new(alloc: Global, task: BootTask<'a>) -> Result<BootCommand<'a>, AllocError>
+    pub fn new(alloc: Global, task: BootTask<'a>) -> Result<BootCommand<'a>, NoMemory>
         ensures { IfOk result (λ command. IsKindOf task.entry command.kind) }
     {
         let kind = match task {
             BootTask::Pack(order) => match command_of(alloc, order) {
                 Ok(command) => BootCommandKind::Pack(command),
-                Err(error) => return Err(error),
+                Err(refused) => return Err(refused),
             },
             BootTask::Repack { input, order } => match command_of(alloc, order) {
                 Ok(command) => BootCommandKind::Repack { input, command },
-                Err(error) => return Err(error),
+                Err(refused) => return Err(refused),
             },
             BootTask::Unpack {
                 input,

@@ -8,14 +8,15 @@ ghost use Rattle.cmd_boot_dispatch.specs.Ordered.{command_option, command_option
 use abt_sections::FragmentSpec;
 use cmd_common_boot::{FragmentText, OptionText, PackCommand, PackTexts};
 use cmd_common_fields::{FragmentWord, unescaped};
-use std::alloc::{AllocError, Global};
+use std::alloc::Global;
+use sys_disk::{NoMemory, append, push};
 use words_orders::{Given, PackOrder};
 
 /// Reads the value of each option of the table, and the arguments of the fragments.
 pub(crate) fn command_of<'a>(
     alloc: Global,
     order: PackOrder<'a>,
-) -> Result<PackCommand<'a>, AllocError>
+) -> Result<PackCommand<'a>, NoMemory>
     ensures { IfOk result (IsCommandOf order.entry) }
 {
     let PackOrder {
@@ -53,7 +54,7 @@ fn options_of<'a>(
     alloc: Global,
     given: &[Given<'a>],
     is_escaped: bool,
-) -> Result<Vec<OptionText<'a>>, AllocError>
+) -> Result<Vec<OptionText<'a>>, NoMemory>
     ensures { IfOk result (λ options. command_options options.items ≡ ordered_options is_escaped given.now) }
 {
     let mut options = Vec::new(alloc);
@@ -62,7 +63,7 @@ fn options_of<'a>(
             continue;
         };
         let option = option_of(alloc, *given, word, is_escaped)?;
-        options.push(option)?;
+        push(&mut options, option)?;
     }
     Ok(options)
 }
@@ -73,7 +74,7 @@ fn option_of<'a>(
     given: Given<'a>,
     word: &'a str,
     is_escaped: bool,
-) -> Result<OptionText<'a>, AllocError>
+) -> Result<OptionText<'a>, NoMemory>
     requires { given.word ≡ Some word }
     ensures { IfOk result (λ option. ordered_option is_escaped given.entry ≡ Some (command_option option)) }
 {
@@ -90,7 +91,7 @@ fn fragments_of<'a>(
     alloc: Global,
     words: &[&'a str],
     is_escaped: bool,
-) -> Result<Vec<FragmentText<'a>>, AllocError>
+) -> Result<Vec<FragmentText<'a>>, NoMemory>
     ensures words { IfOk result (λ fragments.
         map (λ f. f.word.now) fragments.items ≡ map (λ s. s.now) words.now) }
     ensures each { IfOk result (λ fragments. All (IsOfItsWord is_escaped) fragments.items) }
@@ -98,7 +99,7 @@ fn fragments_of<'a>(
     let mut fragments = Vec::new(alloc);
     for word in words {
         let fragment = fragment_of(alloc, *word, is_escaped)?;
-        fragments.push(fragment)?;
+        push(&mut fragments, fragment)?;
     }
     Ok(fragments)
 }
@@ -107,7 +108,7 @@ fn fragment_of<'a>(
     alloc: Global,
     word: &'a str,
     is_escaped: bool,
-) -> Result<FragmentText<'a>, AllocError>
+) -> Result<FragmentText<'a>, NoMemory>
     ensures word { IfOk result (λ fragment. fragment.word.now ≡ word.entry.now) }
     ensures said { IfOk result (IsOfItsWord is_escaped) }
 {
@@ -124,7 +125,7 @@ fn fragment_word<'a>(
     alloc: Global,
     word: &'a str,
     is_escaped: bool,
-) -> Result<Option<FragmentWord<'a>>, AllocError>
+) -> Result<Option<FragmentWord<'a>>, NoMemory>
     ensures { IfOk result (IsReadOf is_escaped word.entry.now) }
 {
     if is_escaped {
@@ -134,12 +135,13 @@ fn fragment_word<'a>(
     }
 }
 
-fn bytes_of(alloc: Global, word: &str, is_escaped: bool) -> Result<Vec<u8>, AllocError>
+fn bytes_of(alloc: Global, word: &str, is_escaped: bool) -> Result<Vec<u8>, NoMemory>
     ensures { IfOk result (λ bytes. bytes.items ≡ bytes_for is_escaped word.now) }
 {
     if is_escaped {
-        unescaped(alloc, word)
-    } else {
-        Vec::from_slice(alloc, word.as_bytes())
+        return unescaped(alloc, word);
     }
+    let mut bytes = Vec::new(alloc);
+    append(&mut bytes, word.as_bytes())?;
+    Ok(bytes)
 }

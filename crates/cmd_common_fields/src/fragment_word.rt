@@ -8,7 +8,8 @@ ghost use Rattle.cmd_common_fields.specs.Fragment.{IsEscapedFragment, IsFragment
 use crate::os_word::number;
 use crate::unescaping::unescaped;
 use abt_sections::FragmentSpec;
-use std::alloc::{AllocError, Global};
+use std::alloc::Global;
+use sys_disk::NoMemory;
 
 // The bytes of a name in the table of fragments, of which the last is zero.
 const NAME_BYTES: usize = 32;
@@ -40,7 +41,7 @@ impl<'a> FragmentWord<'a> {
 
     /// The same for an argument in which `\x` and two hexadecimal digits encode a byte. NAME encodes at most 32
     /// bytes, any of which may be zero. FILE is taken as it is written.
-    pub fn escaped(alloc: Global, word: &'a str) -> Result<Option<FragmentWord<'a>>, AllocError>
+    pub fn escaped(alloc: Global, word: &'a str) -> Result<Option<FragmentWord<'a>>, NoMemory>
         ensures value { IfOk result (λ o. IfSome o (λ f. IsEscapedFragment word.entry.now f.spec f.path.now)) }
         ensures accepts { (spec : FragmentSpec) (path : List ℕ) → IsEscapedFragment word.entry.now spec path →
             IfOk result (λ o. IsSomeAnd o (λ f. (f.spec ≡ spec) × (f.path.now ≡ path))) }

@@ -4,10 +4,11 @@ ghost use Rattle.std.specs.Prelude.{◌≡◌, ◌<◌, ◌≤◌, ◌∷◌, If
 ghost use Rattle.hex.specs.Hex.{hex_digit_value};
 ghost use Rattle.cmd_common_fields.specs.Unescaped as spec;
 
-use std::alloc::{AllocError, Global};
+use std::alloc::Global;
+use sys_disk::{NoMemory, push};
 
 /// The bytes that a text encodes: `\x` and two hexadecimal digits encode that byte, and each other character itself.
-pub fn unescaped(alloc: Global, text: &str) -> Result<Vec<u8>, AllocError>
+pub fn unescaped(alloc: Global, text: &str) -> Result<Vec<u8>, NoMemory>
     ensures { IfOk result (λ bytes. bytes.items ≡ spec.unescaped text.now) }
 {
     let text = text.as_bytes();
@@ -15,8 +16,9 @@ pub fn unescaped(alloc: Global, text: &str) -> Result<Vec<u8>, AllocError>
     let mut at = 0;
     while at < text.len() {
         let (byte, past) = next_byte(text, at);
-        if bytes.push(byte).is_err() {
-            return Err(AllocError);
+        match push(&mut bytes, byte) {
+            Ok(()) => {}
+            Err(refused) => return Err(refused),
         }
         at = past;
     }
