@@ -2,6 +2,7 @@
 use Rattle.std.proofs.Common.{arith, ◌≡◌, ◌≢◌, ℕ, List, Bool, true, false, ap, refl, sym, ◌∙◌, cond, min}
 use Rattle.std.specs.Prelude.{Result, Ok, Err, IfErr, OnOk}
 use Rattle.sys_disk.specs.World.{World, OpenFiles}
+use Rattle.sys_report.specs.Shows.{IsTold}
 use Rattle.sys_report.specs.declared.report.Report.{Report}
 use Rattle.sys_refusals.specs.Host.{is_not_text}
 use Rattle.words_orders.specs.declared.order.SparseTask.{SparseTask}
@@ -67,14 +68,15 @@ sparse_statuses (Ok x) n wrong is = tt
 sparse_statuses (Err e) n wrong is = is ∙ capped (wrong e)
 
 pub sparse_refused : {X E : Type 0} (fault : E → SparseCommandFault) (r : Result X E) (n : ℕ) (task : SparseTask)
-    (w w' : World) (h h' : OpenFiles) (report told : Report)
+    (w w' : World) (h h' : OpenFiles) (report told report' : Report)
     → OnOk r (n ≡ 0) → IfErr r (λ e. n ≡ 1)
-    → IfErr r (λ e. RefusesTask (fault e) task (state w h report) (state w' h' told)) → n ≢ 0
-    → SparseTaskRefused task w h report w' h' n
-sparse_refused fault (Ok x) n task w w' h h' report told none is refuses not = absurd (not none)
-sparse_refused fault (Err e) n task w w' h h' report told none is refuses not = record {
+    → IfErr r (λ e. RefusesTask (fault e) task (state w h report) (state w' h' told)) → IsTold told report' → n ≢ 0
+    → SparseTaskRefused task w h report w' h' report' n
+sparse_refused fault (Ok x) n task w w' h h' report told report' none is refuses behind not = absurd (not none)
+sparse_refused fault (Err e) n task w w' h h' report told report' none is refuses behind not = record {
   fault = fault e;
   told = told;
+  behind = behind;
   refuses = refuses;
   status_is = is;
 }
@@ -88,14 +90,15 @@ boot_statuses fault (Ok x) n most m is = tt
 boot_statuses fault (Err e) n most m is = boot_status (fault e) n most m is
 
 pub boot_refused : {X E : Type 0} (fault : E → BootCommandFault) (r : Result X E) (n : ℕ) (kind : BootCommandKind)
-    (w w' : World) (h h' : OpenFiles) (report told : Report)
+    (w w' : World) (h h' : OpenFiles) (report told report' : Report)
     → OnOk r (n ≡ 0) → IfErr r (λ e. n ≡ status_of_boot (fault e))
-    → IfErr r (λ e. RefusesKind (fault e) kind w h report w' h' told) → n ≢ 0
-    → BootTaskRefused kind w h report w' h' n
-boot_refused fault (Ok x) n kind w w' h h' report told none is refuses not = absurd (not none)
-boot_refused fault (Err e) n kind w w' h h' report told none is refuses not = record {
+    → IfErr r (λ e. RefusesKind (fault e) kind w h report w' h' told) → IsTold told report' → n ≢ 0
+    → BootTaskRefused kind w h report w' h' report' n
+boot_refused fault (Ok x) n kind w w' h h' report told report' none is refuses behind not = absurd (not none)
+boot_refused fault (Err e) n kind w w' h h' report told report' none is refuses behind not = record {
   fault = fault e;
   told = told;
+  behind = behind;
   refuses = refuses;
   status_is = is;
 }

@@ -12,7 +12,7 @@ use Rattle.sys_disk.specs.Counts.{Cause, Counts, call, call_of, calls, of_readin
 use Rattle.sys_disk.proofs.Failings.{counts_one}
 use Rattle.sys_refusals.specs.declared.refusal.HostFault.{HostFault}
 use Rattle.sys_disk.specs.Among.{OnlyAmong}
-use Rattle.sys_report.specs.Shows.{CannotPrint, IsNoted}
+use Rattle.sys_report.specs.Shows.{CannotPrint, IsTold}
 use Rattle.sys_report.specs.declared.report.Report.{Report}
 use Rattle.sys_host.specs.Answering.{PrintsNothing}
 use Rattle.words_tools.specs.declared.unpack_bootimg.UnpackImage.{UnpackImage}
@@ -414,7 +414,7 @@ none_there image path x w u h k f at opens same unread is = record {
 
 pub why_of_text : (image : UnpackImage) (path x : List ℕ) (w u : World) (h k l : OpenFiles) (given n m : ℕ)
     (r q r' : Report) (f : SectionFault) → path ≡ image.input.now → OpensFile w path x h k → n ≡ 0 → u ≡ w
-    → l ≡ counting (reads given m) k → IsNoted q r' → TextCause f x n m r q
+    → l ≡ counting (reads given m) k → IsTold q r' → TextCause f x n m r q
     → WhyRefused image (stored w h) r (stored u l) r'
 why_of_text image path x w u h k l given n m r q r' (faults.Read d) at opens none same closed noted is =
     failed (reading_failed w u h k l given n m (ap (λ (i : OpenFiles). i.counts) opens.taken) none is closed)

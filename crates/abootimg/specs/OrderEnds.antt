@@ -3,6 +3,7 @@ use Rattle.std.specs.Prelude.{◌≡◌, ◌≢◌, ◌⊎◌, ℕ, List, Bool}
 use Rattle.sys_disk.specs.Counts.{call}
 use Rattle.sys_disk.specs.World.{World, OpenFiles, HasFailed, HasNotFailed}
 use Rattle.sys_refusals.specs.declared.refusal.HostFault.TheVariants.{Memory}
+use Rattle.sys_report.specs.Shows.{IsTold}
 use Rattle.sys_report.specs.declared.report.Report.{Report}
 use Rattle.words_orders.specs.declared.order.Order.{Order}
 use Rattle.words_orders.specs.declared.order.SparseTask.{SparseTask}
@@ -40,17 +41,19 @@ status_of_boot faults.CheckFailed = 1
 
 -- The command refuses it for a fault that it may have, with status 1. The report is the one before the message.
 pub record SparseTaskRefused (task : SparseTask) (world : World) (held : OpenFiles) (report : Report) (world' : World)
-    (held' : OpenFiles) (status : ℕ) : Type 0 where
+    (held' : OpenFiles) (report' : Report) (status : ℕ) : Type 0 where
   pub fault : SparseCommandFault
   pub told : Report
+  pub behind : IsTold told report'
   pub refuses : RefusesTask fault task (state world held report) (state world' held' told)
   pub status_is : status ≡ 1
 
 -- the same of a command over boot images, with the status of the fault
 pub record BootTaskRefused (kind : BootCommandKind) (world : World) (held : OpenFiles) (report : Report)
-    (world' : World) (held' : OpenFiles) (status : ℕ) : Type 0 where
+    (world' : World) (held' : OpenFiles) (report' : Report) (status : ℕ) : Type 0 where
   pub fault : BootCommandFault
   pub told : Report
+  pub behind : IsTold told report'
   pub refuses : RefusesKind fault kind world held report world' held' told
   pub status_is : status ≡ status_of_boot fault
 
@@ -62,13 +65,14 @@ pub record ArgumentsRefused (world : World) (held : OpenFiles) (world' : World) 
   pub status_is : status ≡ 1
 
 -- its command refuses it, or memory is refused for that; or the completions are not printed, and every file is as before
-abbrev pub TaskRefused : Task → World → OpenFiles → Report → World → OpenFiles → ℕ → Type 0
-TaskRefused (tasks.Sparse task) world held report world' held' status =
-    SparseTaskRefused task world held report world' held' status
-TaskRefused (tasks.Boot task) world held report world' held' status =
-    ((kind : BootCommandKind) × (IsKindOf task kind × BootTaskRefused kind world held report world' held' status))
+abbrev pub TaskRefused : Task → World → OpenFiles → Report → World → OpenFiles → Report → ℕ → Type 0
+TaskRefused (tasks.Sparse task) world held report world' held' report' status =
+    SparseTaskRefused task world held report world' held' report' status
+TaskRefused (tasks.Boot task) world held report world' held' report' status =
+    ((kind : BootCommandKind)
+    × (IsKindOf task kind × BootTaskRefused kind world held report world' held' report' status))
     ⊎ ArgumentsRefused world held world' held' status
-TaskRefused (tasks.Completions shell) world held report world' held' status = world' ≡ world
+TaskRefused (tasks.Completions shell) world held report world' held' report' status = world' ≡ world
 
 -- ---- what stays, whatever the status
 
@@ -88,7 +92,7 @@ pub record TaskEnds (on_output : List ℕ → Bool) (task : Task) (world : World
   pub done : status ≡ 0 → TaskDone on_output task world held report world' held' report'
   pub clean : status ≡ 0 → HasNotFailed held held'
   -- else it is refused
-  pub refused : status ≢ 0 → TaskRefused task world held report world' held' status
+  pub refused : status ≢ 0 → TaskRefused task world held report world' held' report' status
   -- whatever the status, only its outputs may have changed; after status 2 every file is as before
   pub spares : TaskSpares task world held report world' held' report'
   pub wrong : status ≡ 2 → world' ≡ world

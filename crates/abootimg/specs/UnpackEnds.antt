@@ -7,7 +7,7 @@ use Rattle.abt_sections.specs.declared.fault.SectionFault.TheVariants as faults
 use Rattle.sys_disk.specs.Counts.{Cause}
 use Rattle.sys_disk.specs.World.{World, OpenFiles, HasFailed, HasNotFailed, KeepsFile, MayWrite}
 use Rattle.sys_disk.specs.Among.{OnlyAmong}
-use Rattle.sys_report.specs.Shows.{CannotPrint, IsNoted}
+use Rattle.sys_report.specs.Shows.{CannotPrint, IsTold}
 use Rattle.sys_report.specs.declared.report.Report.{Report}
 use Rattle.sys_host.specs.Answering.{PrintsNothing}
 use Rattle.words_tools.specs.declared.unpack_bootimg.UnpackImage.{UnpackImage}
@@ -72,7 +72,7 @@ pub record HoldsNoImage (path : List ℕ) (world : World) : Type 0 where
 pub data WhyRefused (image : UnpackImage) (a : Stored) (report : Report) (z : Stored) (report' : Report) : Type 0 where
   failed : SomeFails a z → WhyRefused image a report z report'
   no_image : HoldsNoImage image.input.now z.world → WhyRefused image a report z report'
-  unprinted : (told : Report) → CannotPrint report told → IsNoted told report' → WhyRefused image a report z report'
+  unprinted : (told : Report) → CannotPrint report told → IsTold told report' → WhyRefused image a report z report'
 
 -- the command refuses the parts, for a fault of the image or since a call failed
 pub record PartsRefused (image : UnpackImage) (world : World) (held held' : OpenFiles) : Type 0 where

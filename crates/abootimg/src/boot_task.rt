@@ -32,7 +32,7 @@ pub fn do_boot<D: Disk>(
     ensures clean { IsTrue D.models → result ≡ 0 → HasNotFailed (D.held disk.old) (D.held disk.new) }
     // else its command refuses it
     ensures refused { IsTrue D.models → result ≢ 0 → BootTaskRefused command.now.kind (D.world disk.old)
-        (D.held disk.old) report.old (D.world disk.new) (D.held disk.new) result }
+        (D.held disk.old) report.old (D.world disk.new) (D.held disk.new) report.new result }
     // it is 2 only if every file is as before
     ensures wrong { IsTrue D.models → result ≡ 2 → D.world disk.new ≡ D.world disk.old }
     // whatever the status, what it reads holds what it held, and nothing has changed but what it is to write

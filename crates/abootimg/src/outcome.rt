@@ -2,7 +2,7 @@
 
 ghost use Rattle.std.specs.Prelude.{◌≡◌, IfErr, OnOk, if◌then◌else◌, min};
 ghost use Rattle.sys_host.specs.Answering.{PrintsNothing};
-ghost use Rattle.sys_report.specs.Shows.{IsNoted};
+ghost use Rattle.sys_report.specs.Shows.{IsTold};
 
 use sys_host::{Telling, answer};
 use sys_refusals::{Refusal, Told};
@@ -20,7 +20,7 @@ pub(crate) fn told_at_most<F: Told + Drop>(
 ) -> u8
     ensures done { OnOk end.entry (result ≡ 0) }
     ensures quiet { OnOk end.entry (PrintsNothing report.old report.new) }
-    ensures noted { IsNoted report.old report.new }
+    ensures noted { IsTold report.old report.new }
     ensures refused { IfErr end.entry (λ refusal. result ≡ min (if F.wrong_words refusal.fault then 2 else 1) most) }
 {
     answer(end, how, rt, report).min(most)

@@ -35,7 +35,7 @@ pub fn do_sparse<D: Disk>(
     ensures clean { IsTrue D.models → result ≡ 0 → HasNotFailed (D.held disk.old) (D.held disk.new) }
     // else its command refuses it
     ensures refused { IsTrue D.models → result ≢ 0 → SparseTaskRefused task.entry (D.world disk.old) (D.held disk.old)
-        report.old (D.world disk.new) (D.held disk.new) result }
+        report.old (D.world disk.new) (D.held disk.new) report.new result }
     // whatever the status, what it reads holds what it held, and nothing has changed but what it is to write
     ensures spares { IsTrue D.models → SparesFiles task.entry (state (D.world disk.old) (D.held disk.old) report.old)
         (state (D.world disk.new) (D.held disk.new) report.new) }

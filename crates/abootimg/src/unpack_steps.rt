@@ -3,7 +3,7 @@
 ghost use Rattle.std.specs.Prelude.{◌≡◌, ◌≢◌, ◌⊎◌, [], IsTrue};
 ghost use Rattle.sys_disk.specs.Counts.{call};
 ghost use Rattle.sys_refusals.specs.declared.refusal.HostFault.TheVariants.{CannotOpen};
-ghost use Rattle.sys_report.specs.Shows.{IsNoted};
+ghost use Rattle.sys_report.specs.Shows.{IsTold};
 ghost use Rattle.abootimg.specs.Stored.{FailsBetween};
 ghost use Rattle.abootimg.specs.UnpackEnds.{StepStays};
 
@@ -83,7 +83,7 @@ pub(crate) fn refused_image(
     report: &mut Report,
 ) -> u8
     ensures status { result ≡ 1 }
-    ensures noted { IsNoted report.old report.new }
+    ensures noted { IsTold report.old report.new }
 {
     let _status = told_at_most(Err(refusal), REFUSED, how, rt, report);
     REFUSED

@@ -3,7 +3,7 @@
 ghost use Rattle.std.specs.Prelude.{◌≡◌, ◌++◌, IfErr, IfOk, OnOk, if◌then◌else◌, string_bytes};
 ghost use Rattle.sys_host.specs.Answering.{Answers, IsMessage, IsSecondLine, PrintsNothing, is_of_room, mending};
 ghost use Rattle.sys_host.specs.Answering.{of_place, unfinished_text};
-ghost use Rattle.sys_report.specs.Shows.{IsNoted, NotesOne};
+ghost use Rattle.sys_report.specs.Shows.{IsTold, NotesOne};
 
 use crate::origin::Origin;
 use std::alloc::{AllocError, Global};
@@ -44,7 +44,7 @@ pub fn answer<F: Told + Drop>(
     ensures done { OnOk outcome.entry (result ≡ 0) }
     ensures quiet { OnOk outcome.entry (PrintsNothing report.old report.new) }
     ensures refused { IfErr outcome.entry (λ refusal. result ≡ (if F.wrong_words refusal.fault then 2 else 1)) }
-    ensures noted { IsNoted report.old report.new }
+    ensures noted { IsTold report.old report.new }
     ensures told { IfErr outcome.entry (λ refusal. Answers refusal.about.is_untold report.old report.new
         (IsMessage (F.says refusal.fault) (F.mended_from refusal.fault) how refusal.about)) }
 {
@@ -69,7 +69,7 @@ fn tell<F: Told, S: System>(
     system: &mut S,
     report: &mut Report,
 )
-    ensures noted { IsNoted report.old report.new }
+    ensures noted { IsTold report.old report.new }
     ensures told { NotesOne report.old report.new (IsMessage (F.says refusal.now.fault) (F.mended_from
         refusal.now.fault) how refusal.now.about) }
 {
@@ -80,7 +80,7 @@ fn tell<F: Told, S: System>(
     let second = second_line(system, refusal);
     report.refused(how.program, &refusal.fault, refusal.about.place);
     match second {
-        Ok(line) => report.note(line.as_str()),
+        Ok(line) => report.note_text(line.as_str()),
         Err(_) => report.lose(),
     }
 }

@@ -1,5 +1,6 @@
 -- What a report shows.
-use Rattle.std.specs.Prelude.{◌≡◌, ◌<◌, ◌+◌, ◌||◌, ◌⊎◌, ℕ, List, [], ◌∷◌, ◌++◌, Bool, IsTrue, true, false, codes}
+use Rattle.std.specs.Prelude.{◌≡◌, ◌<◌, ◌≤◌, ◌+◌, ◌||◌, ◌⊎◌, ℕ, List, [], ◌∷◌, ◌++◌, Bool, IsTrue, true, false}
+use Rattle.std.specs.Prelude.{codes}
 use Rattle.sys_report.specs.declared.report.Report.{Report}
 
 -- these bytes more were written to one stream, and none to the other: of standard output and of standard error what was
@@ -56,6 +57,10 @@ IsFirstLine program Says line =
 -- how often a line failed: in standard output, in standard error, or because it is no text of a line
 abbrev pub refusals : Report → ℕ
 refusals report = report.out.faults.number + report.err.faults.number + report.unshown.number
+
+-- nothing was written to standard output, and what failed before is not forgotten
+abbrev pub IsTold : Report → Report → Type 0
+IsTold old new = IsNoted old new × (refusals old ≤ refusals new)
 
 -- a line could not be printed
 abbrev pub CannotPrint : Report → Report → Type 0

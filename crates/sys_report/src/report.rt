@@ -1,6 +1,6 @@
 //! What a command prints.
 
-ghost use Rattle.std.specs.Prelude.{◌≡◌, ◌<◌, ◌≤◌, OnOk, OnErr, IfErr, IfSome};
+ghost use Rattle.std.specs.Prelude.{◌≡◌, ◌<◌, ◌≤◌, ◌++◌, ◌∷◌, [], OnOk, OnErr, IfErr, IfSome};
 ghost use Rattle.std.specs.Fmt.{with_newline};
 ghost use Rattle.sys_report.specs.Shows.{CannotPrint, IsFirstLine, IsNoted, IsSilent, Notes, NotesOne, ShowsBeside};
 ghost use Rattle.sys_report.specs.Shows.{ShowsHere, refusals};
@@ -110,10 +110,27 @@ impl Report {
         }
     }
 
+    /// Prints a text as a line to standard error. No result depends on it.
+    #[inline(never)]
+    pub fn note_text(&mut self, text: &str)
+        ensures noted { IsNoted self.old self.new }
+        ensures rises { refusals self.old ≤ refusals self.new }
+        ensures told { Notes self.old self.new (text.now ++ (10 ∷ [])) }
+    {
+        self.progress.erase();
+        let mut line = Text::new(&mut self.err);
+        line.word(text);
+        line.end_line();
+        if line.finish().is_err() {
+            self.unshown.add(1);
+        }
+    }
+
     /// Prints the first line about a fault to standard error, with the name of the program before it.
     #[inline(never)]
     pub fn refused<F: Told>(&mut self, program: &str, fault: &F, place: Option<FileArg<'_>>)
         ensures noted { IsNoted self.old self.new }
+        ensures rises { refusals self.old ≤ refusals self.new }
         ensures told { NotesOne self.old self.new (IsFirstLine program.now (F.says fault.now place.entry)) }
     {
         self.progress.erase();
@@ -131,6 +148,7 @@ impl Report {
     /// Counts a line for which there is no memory.
     pub fn lose(&mut self)
         ensures noted { IsSilent self.old self.new }
+        ensures rises { refusals self.old ≤ refusals self.new }
         ensures counted { self.old.unshown.number < self.new.unshown.number }
     {
         self.unshown.add(1);

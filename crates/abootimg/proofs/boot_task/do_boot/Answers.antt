@@ -20,9 +20,10 @@ returns-clause-clean g c = λ t zero_is. zero_of c.boot_command-outcome.result c
 
 pub returns-clause-refused : goal.returns-clause-refused
 returns-clause-refused g c = λ t not. boot_refused (λ e. e.fault) c.boot_command-outcome.result c.told_at_most.result
-    _ _ _ _ _ _ _ c.told_at_most.ensures.done
+    _ _ _ _ _ _ _ _ c.told_at_most.ensures.done
     (boot_statuses (λ e. e.fault) c.boot_command-outcome.result c.told_at_most.result c.highest_of-most.result
-    c.highest_of-most.ensures c.told_at_most.ensures.refused) (c.boot_command-outcome.ensures.refused t) not
+    c.highest_of-most.ensures c.told_at_most.ensures.refused) (c.boot_command-outcome.ensures.refused t)
+    c.told_at_most.ensures.noted not
 
 pub returns-clause-wrong : goal.returns-clause-wrong
 returns-clause-wrong g c = λ t two. boot_same (λ e. e.fault) c.boot_command-outcome.result c.told_at_most.result

@@ -23,9 +23,9 @@ returns-clause-clean g c = λ t zero_is. zero_of c.sparse_command-outcome.result
 
 pub returns-clause-refused : goal.returns-clause-refused
 returns-clause-refused g c = λ t not. sparse_refused (λ e. e.fault) c.sparse_command-outcome.result
-    c.told_at_most.result c.args.task _ _ _ _ _ _ c.told_at_most.ensures.done
+    c.told_at_most.result c.args.task _ _ _ _ _ _ _ c.told_at_most.ensures.done
     (sparse_statuses c.sparse_command-outcome.result c.told_at_most.result (λ e. wrong_words e.fault)
-    c.told_at_most.ensures.refused) (c.sparse_command-outcome.ensures.refused t) not
+    c.told_at_most.ensures.refused) (c.sparse_command-outcome.ensures.refused t) c.told_at_most.ensures.noted not
 
 pub returns-clause-spares : goal.returns-clause-spares
 returns-clause-spares g c = λ t. spares_as c.args.task
