@@ -5,7 +5,7 @@
 
 Of docs/claims.tsv, whose head explains its columns:
   - each definition that must be believed is defined in the file of specs/ that is named, and all of them together have fewer
-    than 1550 lines, with the comments above them;
+    than 1556 lines, with the comments above them;
   - each claim's function is public (in a crate that only the program depends on it may be private), its contract has a
     clause of each name, the definitions are there, and so is each must-fail edit, in the function's crate or one below it
     (further edits in its more-edits/); where a function names no edit, words say why; a claim with further edits has one
@@ -31,7 +31,7 @@ import subprocess
 import sys
 
 HERE = os.path.dirname(os.path.dirname(os.path.abspath(__file__)))
-MOST_LINES = 1550
+MOST_LINES = 1556
 MOST_PAGE_LINES = 400
 PAGE, ROWS = "docs/CLAIMS.md", "docs/claims.tsv"
 # How many columns a row has, by its first one. A number there is that of a claim, whose rows may leave columns empty.

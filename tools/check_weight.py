@@ -22,11 +22,11 @@ from repository import HERE, crate_lines
 
 # The most functions of a crate, and those that have more; docs/DECISIONS.md says why these are not taken apart.
 FUNCTIONS = 100
-MORE_FUNCTIONS = {"abt_sections": 107, "mem_disk": 101, "cmd_unpack_aosp_texts": 106, "words_tools": 101}
+MORE_FUNCTIONS = {"abt_sections": 107, "mem_disk": 101, "cmd_unpack_aosp_texts": 104, "words_tools": 101}
 # How many functions have contracts of more clauses than this.
 LONG_CONTRACTS = {15: 3, 20: 1}
 # How many clauses are, to the letter, one that stands before, in any function of any crate.
-REPEATED_CLAUSES = 715
+REPEATED_CLAUSES = 746
 # The names that two files define, each with what it says in the one and in the other.
 NAMES_DEFINED_TWICE = {
     "Begins": "of a spool's and of a file's bytes, of which they are a front; of a text, which has grown by one",
@@ -43,6 +43,7 @@ NAMES_DEFINED_TWICE = {
     "laid": "cells over zeros; parts one after another, each padded",
     "left_of": "of a chunk; of a byte after a crash; of words that were met",
     "number_at": "the same in `abt_sparse` and `abt_headers`, which depend on nothing of ours together",
+    "number_of": "of a fault; of an open file, or 0 where none is open",
     "says": "of a fault and its text; of the words of a command line",
     "text_of": "the same: `cmd_common_texts` hands on that of `cmd_common_fields`",
     "writes": "where a sparse image writes; of a device that was written, how often it failed",
@@ -72,15 +73,15 @@ FAMILIES = {
         "test_spool test_disk test_system speed",
 }
 LINES = {
-    "devices": 112,
+    "devices": 113,
     "definitions and reading": 177,
     "writing": 186,
     "flashing and verifying": 139,
     "boot images": 244,
-    "system": 107,
-    "words": 143,
+    "system": 111,
+    "words": 148,
     "commands over sparse images": 164,
-    "commands over boot images": 152,
+    "commands over boot images": 154,
     "laws": 83,
     "memory": 47,
     "for programs in C": 25,

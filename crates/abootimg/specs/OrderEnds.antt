@@ -64,7 +64,8 @@ pub record ArgumentsRefused (world : World) (held : OpenFiles) (world' : World) 
   pub same : world' ≡ world
   pub status_is : status ≡ 1
 
--- its command refuses it, or memory is refused for that; or the completions are not printed, and every file is as before
+-- its command refuses it, or memory is refused for that; or the completions are not printed, and every file is as
+-- before
 abbrev pub TaskRefused : Task → World → OpenFiles → Report → World → OpenFiles → Report → ℕ → Type 0
 TaskRefused (tasks.Sparse task) world held report world' held' report' status =
     SparseTaskRefused task world held report world' held' report' status
