@@ -3,7 +3,7 @@
 use crate::made::{Random, bytes, part};
 use crate::spools::same;
 use abt_io::{DeviceFault, Output, Overwrite, WINDOW};
-use sys_disk::ImageTo;
+use sys_disk::{ImageTo, Late};
 use sys_finish::{ImageFile, OutputFile};
 use sys_host::{Reading, Writing};
 use sys_refusals::FileArg;
@@ -106,7 +106,7 @@ fn a_gathered_image_has_the_bytes_of_one_that_is_not(rt: HostRuntime) {
             let _ = one.give_up();
             let _ = other.give_up();
         } else {
-            assert!(rt; other.output.settle() == Ok(()));
+            assert!(rt; other.settle() == Ok(()));
             assert!(rt; one.finish(alone).is_ok());
             assert!(rt; other.finish(together).is_ok());
         }
