@@ -161,7 +161,7 @@ impl Source for Board {
 
     ghost read_frame = { λ s. record {
       size = s.size;
-      past = record { pending = []; synced = s.syncs.number; moments = [] };
+      past = record { file = 0; pending = []; synced = s.syncs.number; moments = [] };
       puts = s.puts.number;
       taken = s.taken.number;
       syncs = s.syncs.number;
@@ -183,7 +183,7 @@ impl Source for Board {
 }
 
 impl Partition for Board {
-    ghost past = { λ s. record { pending = []; synced = s.syncs.number; moments = [] } };
+    ghost past = { λ s. record { file = 0; pending = []; synced = s.syncs.number; moments = [] } };
 
     ghost puts = { λ s. s.puts.number };
 
